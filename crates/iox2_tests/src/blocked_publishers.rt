@@ -104,7 +104,8 @@ fn two_publishers_wait_for_one_subscriber(rt: HostRuntime) {
     let mut domain = waiting_domain(&rt, rt.alloc());
     let subscriber = subscriber_of(&rt, &mut domain, 1);
     let first = waiting_publisher(&rt, &mut domain);
-    let second = waiting_publisher(&rt, &mut domain);
+    let factory = domain.publisher_builder();
+    let second = factory.create(&mut domain).expect(&rt, "a publisher");
     let sent = first.send_copy(&mut domain, Reading { celsius: 1 });
     let first_takers = delivered(&rt, sent);
     let sent = first.send_copy(&mut domain, Reading { celsius: 2 });

@@ -1,5 +1,5 @@
 //! What becomes of the slots and of the history of a publisher that waits.
-ghost use Rattle.iox2_pubsub.specs.Live.{IsBlockedSend, IsLiveSample, IsLiveSubscriber, IsReadyPublisher, IsSingleValued, IsUnblocked, Stays, StaysBut, blocked_key, blocked_send, lender_key};
+ghost use Rattle.iox2_pubsub.specs.Live.{IsBlockedSend, IsLiveSample, IsLiveSubscriber, IsNewIn, IsReadyPublisher, IsSingleValued, IsUnblocked, Stays, StaysBut, blocked_key, blocked_send, lender_key, received_sample};
 
 use crate::fixtures::{Reading, Station, next_reading, settings};
 use crate::waiting_publishers::{
@@ -57,6 +57,7 @@ fn a_given_up_message_frees_its_slot(rt: HostRuntime) {
 fn take(rt: &impl Abort, domain: &mut Domain<Reading, Station>, subscriber: &Subscriber) -> Sample
     requires { IsLiveSubscriber domain.old subscriber.now }
     ensures live { IsLiveSample domain.new result }
+    ensures new { IsNewIn domain.old (received_sample result) }
     ensures stays { Stays domain.old domain.new }
 {
     let received = subscriber.receive(domain).expect(rt, "an answer");
@@ -132,10 +133,10 @@ fn all_slots_come_back_while_a_send_waits(rt: HostRuntime) {
     let four = send_freely(&rt, &mut domain, &publisher, 4);
     let sent = publisher.send_copy(&mut domain, Reading { celsius: 5 });
     let waiting = blocked(&rt, sent);
-    first_borrowed.release(&mut domain);
-    second_borrowed.release(&mut domain);
-    first_later.release(&mut domain);
     second_later.release(&mut domain);
+    first_later.release(&mut domain);
+    second_borrowed.release(&mut domain);
+    first_borrowed.release(&mut domain);
     let first_read = next_readings(&rt, &mut domain, &first);
     let second_read = next_readings(&rt, &mut domain, &second);
     let five = delivered(&rt, waiting.retry(&mut domain, Duration::ZERO));

@@ -1,0 +1,106 @@
+//! A thermometer sends its readings to a display that is slow, and waits for it where it is full.
+//!
+//! This is how a program handles a send that is blocked: it matches on what came of the send, and
+//! spends the blocked send by another try or by giving up. Nothing else is tested when it runs.
+#![tactic(auto)]
+
+ghost use Rattle.iox2_pubsub.specs.Live.{A_blocked_send, IsLiveSubscriber, IsReadyPublisher, IsSingleValued, StaysBut};
+ghost use Rattle.std.specs.Prelude.{OnOk};
+
+mod display;
+mod failure;
+mod sending;
+
+use display::show_all;
+use failure::Failure;
+use iox2_pubsub::{Domain, Publisher, ServiceConfig, Subscriber};
+use sending::{give_up, send_until_full, try_again};
+
+fn main(rt: HostRuntime) -> Result<(), Failure> {
+    let config = ServiceConfig {
+        max_publishers: 1,
+        max_subscribers: 1,
+        enable_safe_overflow: false,
+        ..ServiceConfig::new(1)
+    };
+    let mut domain = Domain::<u32, ()>::new(rt.alloc(), config)?;
+    let display = domain.subscriber_builder().create(&mut domain)?;
+    let outcome = run(&rt, &mut domain, &display);
+    display.close(&mut domain);
+    outcome
+}
+
+// Makes the thermometer's publisher, which waits for a full display as the settings say, and reports
+// with it. A publisher that waits is left so.
+fn run(rt: &HostRuntime, domain: &mut Domain<u32, ()>, display: &Subscriber) -> Result<(), Failure>
+    requires single_valued { IsSingleValued domain.old }
+    requires display { IsLiveSubscriber domain.old display.now }
+    ensures { IsLiveSubscriber domain.new display.now }
+{
+    let publisher = domain.publisher_builder().create(domain)?;
+    let outcome = report(rt, domain, &publisher, display);
+    if outcome.is_ok() {
+        publisher.close(domain);
+    } else {
+        publisher.disown();
+    }
+    outcome
+}
+
+// Has readings wait for the display twice: for the first it shows what waits and gets it then, and for
+// the second it is given up.
+fn report(
+    rt: &HostRuntime,
+    domain: &mut Domain<u32, ()>,
+    publisher: &Publisher,
+    display: &Subscriber,
+) -> Result<(), Failure>
+    requires single_valued { IsSingleValued domain.old }
+    requires publisher { IsReadyPublisher domain.old publisher.now }
+    requires display { IsLiveSubscriber domain.old display.now }
+    ensures ready { OnOk result (IsReadyPublisher domain.new publisher.now) }
+    ensures stays { StaysBut (A_blocked_send publisher.now.id) domain.old domain.new }
+{
+    send_all(rt, domain, publisher, display, &[17, 18, 19])?;
+    send_some(domain, publisher, &[21, 22])?;
+    show_all(rt, domain, display)
+}
+
+// Sends the readings until one has to wait. For that one the display shows what waits.
+fn send_all(
+    rt: &HostRuntime,
+    domain: &mut Domain<u32, ()>,
+    publisher: &Publisher,
+    display: &Subscriber,
+    readings: &[u32],
+) -> Result<(), Failure>
+    requires single_valued { IsSingleValued domain.old }
+    requires publisher { IsReadyPublisher domain.old publisher.now }
+    requires display { IsLiveSubscriber domain.old display.now }
+    ensures ready { OnOk result (IsReadyPublisher domain.new publisher.now) }
+    ensures stays { StaysBut (A_blocked_send publisher.now.id) domain.old domain.new }
+{
+    let Some(waiting) = send_until_full(domain, publisher, readings)? else {
+        return Ok(());
+    };
+    let shown = show_all(rt, domain, display);
+    try_again(domain, waiting)?;
+    shown
+}
+
+// Sends the readings until one has to wait, which the display isn't given.
+fn send_some(
+    domain: &mut Domain<u32, ()>,
+    publisher: &Publisher,
+    readings: &[u32],
+) -> Result<(), Failure>
+    requires single_valued { IsSingleValued domain.old }
+    requires publisher { IsReadyPublisher domain.old publisher.now }
+    ensures ready { OnOk result (IsReadyPublisher domain.new publisher.now) }
+    ensures stays { StaysBut (A_blocked_send publisher.now.id) domain.old domain.new }
+{
+    if let Some(waiting) = send_until_full(domain, publisher, readings)? {
+        give_up(domain, waiting)?;
+    }
+    Ok(())
+}
