@@ -1,9 +1,12 @@
 //! What goes on while a publisher waits for a full subscriber.
-use crate::fixtures::{Reading, factory_for, next_reading, publish};
+ghost use Rattle.std.specs.Prelude.{◌≡◌};
+ghost use Rattle.iox2_pubsub.specs.Live.{IsSingleValued, IsWritten, StaysBut, written_loan};
+
+use crate::fixtures::{Reading, Station, factory_for, next_reading, publish};
 use crate::waiting_publishers::{
     blocked, delivered, next_readings, subscriber_of, waiting_domain, waiting_publisher,
 };
-use iox2_pubsub::SampleMut;
+use iox2_pubsub::{Domain, SampleMut};
 use iox2_store::BackpressureStrategy;
 use std::time::Duration;
 
@@ -61,6 +64,18 @@ fn other_ports_go_on(rt: HostRuntime) {
     assert!(rt; after == [2, 2, 0]);
 }
 
+// Sets the reading of a written loan, and the number of its station.
+fn change(domain: &mut Domain<Reading, Station>, message: &mut SampleMut, celsius: u64, number: u32)
+    requires single_valued { IsSingleValued domain.old }
+    requires message { IsWritten domain.old message.old }
+    ensures same { message.new ≡ message.old }
+    ensures out { IsWritten domain.new message.new }
+    ensures stays { StaysBut (written_loan message.old) domain.old domain.new }
+{
+    SampleMut::payload_mut(domain, message).celsius = celsius;
+    SampleMut::user_header_mut(domain, message).number = number;
+}
+
 // While a send of its publisher is blocked, a loan is written, changed and given back; it is sent
 // once that send has ended.
 #[test]
@@ -76,11 +91,10 @@ fn loans_of_a_blocked_publisher_are_written_and_given_back(rt: HostRuntime) {
     let spare = publisher.loan_uninit(&mut domain).expect(&rt, "a loan");
     let message = loan.write_payload(&mut domain, Reading { celsius: 21 });
     let waiting = blocked(&rt, message.send(&mut domain));
-    let mut message = later.write_payload(&mut domain, Reading { celsius: 22 });
-    SampleMut::payload_mut(&mut domain, &mut message).celsius = 23;
-    SampleMut::user_header_mut(&mut domain, &mut message).number = 5;
-    let station = message.user_header(&domain).number;
     spare.discard(&mut domain);
+    let mut message = later.write_payload(&mut domain, Reading { celsius: 22 });
+    change(&mut domain, &mut message, 23, 5);
+    let station = message.user_header(&domain).number;
     let before = message.is_blocked(&domain);
     let read = next_reading(&rt, &mut domain, &subscriber);
     let second = delivered(&rt, waiting.retry(&mut domain, Duration::ZERO));

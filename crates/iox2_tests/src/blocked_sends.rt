@@ -144,26 +144,26 @@ fn giving_up_passes_a_full_subscriber_over(rt: HostRuntime) {
 #[test]
 fn a_closed_subscriber_blocks_no_more(rt: HostRuntime) {
     let mut domain = waiting_domain(&rt, rt.alloc());
-    let first = subscriber_of(&rt, &mut domain, 1);
-    let second = subscriber_of(&rt, &mut domain, 2);
+    let wide = subscriber_of(&rt, &mut domain, 2);
+    let narrow = subscriber_of(&rt, &mut domain, 1);
     let publisher = waiting_publisher(&rt, &mut domain);
     let sent = publisher.send_copy(&mut domain, Reading { celsius: 20 });
     let to_both = delivered(&rt, sent);
     let sent = publisher.send_copy(&mut domain, Reading { celsius: 21 });
     let waiting = blocked(&rt, sent);
-    first.close(&mut domain);
+    narrow.close(&mut domain);
     let is_blocked = publisher.is_blocked(&domain);
     let takers = delivered(&rt, waiting.retry(&mut domain, Duration::ZERO));
     let sent = publisher.send_copy(&mut domain, Reading { celsius: 22 });
     publisher.disown();
     let waiting = blocked(&rt, sent);
     let read = [
-        next_reading(&rt, &mut domain, &second),
-        next_reading(&rt, &mut domain, &second),
+        next_reading(&rt, &mut domain, &wide),
+        next_reading(&rt, &mut domain, &wide),
     ];
     let later = delivered(&rt, waiting.retry(&mut domain, Duration::ZERO));
-    let last = next_reading(&rt, &mut domain, &second);
-    second.disown();
+    let last = next_reading(&rt, &mut domain, &wide);
+    wide.disown();
     drop(domain);
     assert!(rt; is_blocked);
     assert!(rt; [to_both, takers, later] == [2, 1, 1]);

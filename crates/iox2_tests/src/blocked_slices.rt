@@ -48,11 +48,11 @@ fn a_slice_waits_and_arrives_as_it_was_written(rt: HostRuntime) {
     let strategy = publisher.backpressure_strategy();
     let loan = publisher.loan_slice_uninit(&mut domain, 3);
     let loan = loan.expect(&rt, "a loan");
-    let later = publisher.loan_slice_uninit(&mut domain, 2);
-    let later = later.expect(&rt, "a loan");
     let message = loan.write_from_slice(&mut domain, &[1, 2, 3]);
     let first = delivered(&rt, message.send(&mut domain));
-    let message = later.write_from_slice(&mut domain, &[4, 5]);
+    let loan = publisher.loan_slice_uninit(&mut domain, 2);
+    let loan = loan.expect(&rt, "a loan");
+    let message = loan.write_from_slice(&mut domain, &[4, 5]);
     let before = message.is_blocked(&domain);
     let waiting = blocked(&rt, message.send(&mut domain));
     let is_blocked = publisher.is_blocked(&domain);

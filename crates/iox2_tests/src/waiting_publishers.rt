@@ -1,7 +1,7 @@
 //! What tests of publishers that wait for a full subscriber start from.
 ghost use Rattle.std.specs.Prelude.{◌≡◌};
 ghost use Rattle.std.specs.declared.result.Result.TheVariants.{Ok};
-ghost use Rattle.iox2_pubsub.specs.Live.{A_blocked_send, IsLiveSubscriber, IsReadyPublisher, IsSingleValued, Stays, StaysBut};
+ghost use Rattle.iox2_pubsub.specs.Live.{A_blocked_send, IsLiveSubscriber, IsNewIn, IsReadyPublisher, IsSingleValued, Stays, StaysBut, subscriber_port};
 
 use crate::fixtures::{Reading, Station, next_reading, settings};
 use iox2_pubsub::{BlockedSend, Domain, LoanError, Publisher, SendError, SendOutcome, Subscriber};
@@ -38,6 +38,7 @@ pub(crate) fn subscriber_of(
     buffer_size: usize,
 ) -> Subscriber
     ensures live { IsLiveSubscriber domain.new result }
+    ensures new { IsNewIn domain.old (subscriber_port result) }
     ensures stays { Stays domain.old domain.new }
 {
     let factory = domain.subscriber_builder().buffer_size(buffer_size);
