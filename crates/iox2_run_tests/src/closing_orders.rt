@@ -3,8 +3,8 @@ ghost use Rattle.std.specs.Prelude.{IfOk};
 ghost use Rattle.std.specs.List.{All};
 ghost use Rattle.iox2_runs.specs.Supported.{IsSupportedCommand};
 
-use crate::fixtures::settings;
 use crate::runs::{CREATE_SUBSCRIBER, create_publisher, replies_to_numbers};
+use iox2_fixtures::settings;
 use iox2_pubsub::Domain;
 use iox2_runs::{Command, Reply};
 use iox2_store::{ServiceConfig, UniquePublisherId, UniqueSubscriberId};

@@ -4,7 +4,7 @@ ghost use Rattle.std.specs.List.{All};
 ghost use Rattle.iox2_commands.specs.Refusals.{TellNoRefusal};
 ghost use Rattle.iox2_runs.specs.Supported.{IsSupportedCommand};
 
-use crate::fixtures::settings;
+use iox2_fixtures::settings;
 use iox2_pubsub::Domain;
 use iox2_runs::{Command, Reply, compare_runs};
 use iox2_store::{

@@ -11,8 +11,6 @@ mod commands;
 #[cfg(test)]
 mod comparisons;
 #[cfg(test)]
-mod fixtures;
-#[cfg(test)]
 mod laws;
 #[cfg(test)]
 mod loan_commands;

@@ -1,7 +1,7 @@
 //! Runs in which loans are changed where they lie, and values are lent and sent at once.
 use crate::comparisons::PUBLISHER;
-use crate::fixtures::settings;
 use crate::runs::{CREATE_SUBSCRIBER, create_publisher, replies_to_numbers};
+use iox2_fixtures::settings;
 use iox2_pubsub::Domain;
 use iox2_runs::{Command, Reply};
 use iox2_store::{

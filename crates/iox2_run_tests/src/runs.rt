@@ -6,7 +6,7 @@ ghost use Rattle.iox2_runs.specs.DomainRuns.{RunsOnDomain};
 ghost use Rattle.iox2_runs.specs.Supported.{IsSupportedCommand};
 ghost use Rattle.iox2_store.specs.machine.State.{State, Messages};
 
-use crate::fixtures::settings;
+use iox2_fixtures::settings;
 use iox2_pubsub::Domain;
 use iox2_runs::{Command, Reply, run};
 use iox2_store::{

@@ -1,6 +1,6 @@
 //! Runs in which messages are slices.
-use crate::fixtures::settings;
 use crate::runs::{CREATE_SUBSCRIBER, create_publisher, replies_to_numbers};
+use iox2_fixtures::settings;
 use iox2_pubsub::Domain;
 use iox2_runs::{Command, Reply};
 use iox2_store::{

@@ -1,4 +1,4 @@
-use crate::fixtures::settings;
+use iox2_fixtures::settings;
 use iox2_pubsub::Domain;
 use iox2_runs::{Command, Reply, filling_is_supported, run, worst_case_commands};
 use iox2_store::{

@@ -1,4 +1,5 @@
-use crate::fixtures::{Reading, domain, factory_for, publish, receiver_count};
+use crate::fixtures::domain;
+use iox2_fixtures::{Reading, factory_for, publish, receiver_count};
 use iox2_pubsub::{SendError, SubscriberCreateError};
 
 // The loans of a publisher that was closed can be read and given back, and are lost at a send.

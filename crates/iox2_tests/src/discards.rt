@@ -1,6 +1,7 @@
 ghost use Rattle.iox2_pubsub.specs.Live.{IsLivePublisher, IsSingleValued, Stays};
 
-use crate::fixtures::{Reading, Station, domain, factory_for, lend, publish};
+use crate::fixtures::{domain, lend};
+use iox2_fixtures::{Reading, Station, factory_for, publish};
 use iox2_pubsub::{Domain, Publisher};
 
 #[test]

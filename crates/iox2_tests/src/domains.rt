@@ -1,6 +1,7 @@
 ghost use Rattle.iox2_pubsub.specs.Slices.{IsSliced};
 
-use crate::fixtures::{Reading, Station, domain, factory_for, settings};
+use crate::fixtures::domain;
+use iox2_fixtures::{Reading, Station, factory_for, settings};
 use iox2_pubsub::{Domain, UpdateConnections};
 use iox2_store::{ServiceConfig, TypeVariant};
 use std::alloc::Global;

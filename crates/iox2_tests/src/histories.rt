@@ -1,6 +1,6 @@
 ghost use Rattle.iox2_pubsub.specs.Live.{IsSingleValued};
 
-use crate::fixtures::{Reading, Station, factory_for, next_reading, publish, settings};
+use iox2_fixtures::{Reading, Station, factory_for, next_reading, publish, settings};
 use iox2_pubsub::Domain;
 use iox2_store::ServiceConfig;
 use std::alloc::Global;
@@ -34,9 +34,9 @@ fn late_readings(
     let subscriber = factory.create(&mut domain).expect(rt, "a subscriber");
     publish(&mut domain, &publisher, 24);
     publisher.disown();
-    let first = next_reading(rt, &mut domain, &subscriber);
-    let second = next_reading(rt, &mut domain, &subscriber);
-    let third = next_reading(rt, &mut domain, &subscriber);
+    let first = next_reading(&mut domain, &subscriber).expect(rt, "an answer");
+    let second = next_reading(&mut domain, &subscriber).expect(rt, "an answer");
+    let third = next_reading(&mut domain, &subscriber).expect(rt, "an answer");
     subscriber.disown();
     drop(domain);
     [first, second, third]

@@ -1,23 +1,9 @@
-//! Tests of the ends and of the calls of `iox2_pubsub`, which call their public items as a user does.
+//! Tests of the calls of `iox2_pubsub` on single values, which call its public items as a user does.
 //! It holds nothing else: a crate with tests is proved twice, so the libraries have none.
 #![tactic(auto)]
 
 #[cfg(test)]
-mod blocked_publishers;
-#[cfg(test)]
-mod blocked_sends;
-#[cfg(test)]
-mod blocked_slices;
-#[cfg(test)]
-mod blocked_slots;
-#[cfg(test)]
 mod closes;
-#[cfg(test)]
-mod copies;
-#[cfg(test)]
-mod custom_payloads;
-#[cfg(test)]
-mod deliveries;
 #[cfg(test)]
 mod discards;
 #[cfg(test)]
@@ -26,8 +12,6 @@ mod domains;
 mod fixtures;
 #[cfg(test)]
 mod histories;
-#[cfg(test)]
-mod in_place;
 #[cfg(test)]
 mod loans;
 #[cfg(test)]
@@ -41,12 +25,8 @@ mod samples;
 #[cfg(test)]
 mod sends;
 #[cfg(test)]
-mod slices;
-#[cfg(test)]
 mod stays;
 #[cfg(test)]
 mod subscribers;
 #[cfg(test)]
 mod updates;
-#[cfg(test)]
-mod waiting_publishers;

@@ -1,7 +1,8 @@
 ghost use Rattle.std.specs.Prelude.{◌≡◌, ℕ, [], ◌∷◌};
 ghost use Rattle.iox2_pubsub.specs.Live.{IsLiveSample, IsLiveSubscriber, IsSingleValued, IsUnwrittenLoan, StaysBut, Stays, unwritten_loan};
 
-use crate::fixtures::{Reading, Station, domain, factory_for, lend, publish};
+use crate::fixtures::{domain, lend};
+use iox2_fixtures::{Reading, Station, factory_for, publish};
 use iox2_pubsub::{Domain, Sample, SampleMutUninit, Subscriber};
 
 // Writes into the loan, and returns what is read of it then: what was written.

@@ -1,4 +1,5 @@
-use crate::fixtures::{domain, factory_for, publish};
+use crate::fixtures::domain;
+use iox2_fixtures::{factory_for, publish};
 
 #[test]
 fn a_subscriber_is_told_whether_messages_wait(rt: HostRuntime) {

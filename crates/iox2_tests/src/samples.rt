@@ -1,7 +1,8 @@
 ghost use Rattle.std.specs.Prelude.{IfSome};
 ghost use Rattle.iox2_pubsub.specs.Live.{IsLiveSample, IsLiveSubscriber, IsSingleValued, Stays};
 
-use crate::fixtures::{Reading, Station, domain, factory_for, publish, settings};
+use crate::fixtures::domain;
+use iox2_fixtures::{Reading, Station, factory_for, publish, settings};
 use iox2_pubsub::{Domain, Sample, Subscriber};
 use iox2_store::ServiceConfig;
 use std::process::Abort;

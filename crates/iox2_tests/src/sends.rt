@@ -1,4 +1,5 @@
-use crate::fixtures::{Reading, domain, factory_for, lend, publish, receiver_count};
+use crate::fixtures::{domain, lend};
+use iox2_fixtures::{Reading, factory_for, publish, receiver_count};
 
 #[test]
 fn a_message_without_subscribers_goes_to_nobody(rt: HostRuntime) {

@@ -1,7 +1,8 @@
 //! What a user's functions know of handles after other calls, with nothing tested when they run.
 ghost use Rattle.iox2_pubsub.specs.Live.{HasLender, IsLivePublisher, IsLiveSample, IsLiveSubscriber, IsSingleValued, IsUnwrittenLoan, Stays, StaysBut, unwritten_key, unwritten_loan};
 
-use crate::fixtures::{Reading, Station, domain, factory_for, publish};
+use crate::fixtures::domain;
+use iox2_fixtures::{Reading, Station, factory_for, publish};
 use iox2_pubsub::{
     ConnectionFailure, Domain, Publisher, Sample, SampleMutUninit, Subscriber, UpdateConnections,
 };

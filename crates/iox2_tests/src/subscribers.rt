@@ -1,4 +1,5 @@
-use crate::fixtures::{Reading, Station, domain, factory_for};
+use crate::fixtures::domain;
+use iox2_fixtures::{Reading, Station, factory_for};
 use iox2_pubsub::Domain;
 use iox2_store::{Key, SubscriberCreateError};
 

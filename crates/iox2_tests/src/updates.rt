@@ -1,6 +1,7 @@
 ghost use Rattle.iox2_pubsub.specs.Live.{Stays};
 
-use crate::fixtures::{Reading, Station, domain, factory_for, publish};
+use crate::fixtures::domain;
+use iox2_fixtures::{Reading, Station, factory_for, publish};
 use iox2_pubsub::{ConnectionFailure, Domain, UpdateConnections};
 
 // Updates a port of either kind.

@@ -10,7 +10,7 @@ use Rattle.iox2_ends.specs.Counters.{stands, IsCovered, HoldsItself}
 use Rattle.iox2_ends.specs.Takes.{SameStands, ReceivesSlot}
 use Rattle.iox2_ends.specs.declared.receiver.Taken.{Taken}
 use Rattle.iox2_ends.proofs.Counts.{IsCovered-follows}
-use Rattle.iox2_tests.proofs.deliveries.a_message_goes_there_and_back.Goals as goal
+use Rattle.iox2_ends_tests.proofs.deliveries.a_message_goes_there_and_back.Goals as goal
 
 -- a sum of nothing
 sum-zero : {A : Type 0} (f : Option A → ℕ) (xs : List (Option A)) → ((i : ℕ) → f (get_or xs i None) ≡ 0) → sum_by f xs ≡ 0

@@ -1,5 +1,5 @@
 //! Values that are lent or sent at once.
-use crate::fixtures::{Reading, Station, factory_for, receiver_count, settings};
+use iox2_fixtures::{Reading, Station, factory_for, receiver_count, settings};
 use iox2_pubsub::{Domain, LoanError, SendError};
 use iox2_store::ServiceConfig;
 

@@ -5,8 +5,8 @@ ghost use Rattle.iox2_store.specs.declared.service_config.TypeVariant.TheVariant
 ghost use Rattle.iox2_pubsub.specs.Live.{IsLiveSubscriber, Stays};
 ghost use Rattle.iox2_pubsub.specs.Slices.{IsSliced};
 
-use crate::fixtures::settings;
 use crate::waiting_publishers::{blocked, delivered};
+use iox2_fixtures::settings;
 use iox2_pubsub::slice::Subscriber;
 use iox2_pubsub::{BackpressureStrategy, Domain};
 use iox2_store::{ServiceConfig, TypeVariant};

@@ -2,7 +2,8 @@
 ghost use Rattle.std.specs.Prelude.{◌≡◌};
 ghost use Rattle.iox2_store.specs.declared.service_config.TypeVariant.TheVariants.{Dynamic};
 
-use crate::fixtures::{receiver_count, settings, slice_factory};
+use crate::fixtures::slice_factory;
+use iox2_fixtures::{receiver_count, settings};
 use iox2_pubsub::{CustomHeaderMarker, CustomPayloadMarker, Domain};
 use iox2_store::{LoanError, ServiceConfig, TypeVariant};
 

@@ -3,7 +3,7 @@ ghost use Rattle.std.specs.Prelude.{◌≡◌};
 ghost use Rattle.std.specs.declared.result.Result.TheVariants.{Ok};
 ghost use Rattle.iox2_pubsub.specs.Live.{A_blocked_send, IsLiveSubscriber, IsNewIn, IsReadyPublisher, IsSingleValued, Stays, StaysBut, subscriber_port};
 
-use crate::fixtures::{Reading, Station, next_reading, settings};
+use iox2_fixtures::{Reading, Station, settings};
 use iox2_pubsub::{BlockedSend, Domain, LoanError, Publisher, SendError, SendOutcome, Subscriber};
 use iox2_store::ServiceConfig;
 use std::alloc::Global;
@@ -68,6 +68,19 @@ pub(crate) fn delivered(rt: &impl Abort, sent: Result<SendOutcome, SendError>) -
         }
         Err(_) => panic!(rt; "the send is refused"),
     }
+}
+
+/// Reads and releases what the subscriber receives next. `None` where no message waits.
+pub(crate) fn next_reading(
+    rt: &impl Abort,
+    domain: &mut Domain<Reading, Station>,
+    subscriber: &Subscriber,
+) -> Option<u64>
+    requires single_valued { IsSingleValued domain.old }
+    requires live { IsLiveSubscriber domain.old subscriber.now }
+    ensures { Stays domain.old domain.new }
+{
+    iox2_fixtures::next_reading(domain, subscriber).expect(rt, "an answer")
 }
 
 /// What the subscriber receives next, up to four messages.

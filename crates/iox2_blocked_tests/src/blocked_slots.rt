@@ -1,11 +1,11 @@
 //! What becomes of the slots and of the history of a publisher that waits.
 ghost use Rattle.iox2_pubsub.specs.Live.{IsBlockedSend, IsLiveSample, IsLiveSubscriber, IsNewIn, IsReadyPublisher, IsSingleValued, IsUnblocked, Stays, StaysBut, blocked_key, blocked_send, lender_key, received_sample};
 
-use crate::fixtures::{Reading, Station, next_reading, settings};
 use crate::waiting_publishers::{
-    blocked, delivered, lend_one, next_readings, send_past, subscriber_of, waiting_domain,
-    waiting_publisher,
+    blocked, delivered, lend_one, next_reading, next_readings, send_past, subscriber_of,
+    waiting_domain, waiting_publisher,
 };
+use iox2_fixtures::{Reading, Station, settings};
 use iox2_pubsub::{BlockedSend, Domain, Publisher, Sample, Subscriber, UpdateConnections};
 use iox2_store::{LoanError, ServiceConfig};
 use std::alloc::Global;

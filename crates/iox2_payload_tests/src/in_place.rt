@@ -2,7 +2,7 @@
 ghost use Rattle.std.specs.Prelude.{◌≡◌};
 ghost use Rattle.iox2_pubsub.specs.Live.{IsUnwrittenLoan, IsWrittenLoan, StaysBut, unwritten_loan};
 
-use crate::fixtures::{Reading, Station, factory_for, receiver_count, settings};
+use iox2_fixtures::{Reading, Station, factory_for, receiver_count, settings};
 use iox2_pubsub::{Domain, SampleMut, SampleMutUninit};
 use iox2_store::ServiceConfig;
 use std::process::Abort;

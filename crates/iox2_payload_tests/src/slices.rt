@@ -4,7 +4,8 @@ ghost use Rattle.iox2_store.specs.Defaults.{default_config};
 ghost use Rattle.iox2_store.specs.declared.service_config.TypeVariant.TheVariants.{Dynamic};
 ghost use Rattle.iox2_pubsub.specs.Live.{IsLivePublisher, IsUnwrittenLoan, IsWrittenLoan, Stays, StaysBut, unwritten_loan};
 
-use crate::fixtures::{receiver_count, settings, slice_factory};
+use crate::fixtures::slice_factory;
+use iox2_fixtures::{receiver_count, settings};
 use iox2_pubsub::slice::{Publisher, SampleMut, SampleMutUninit, Subscriber};
 use iox2_pubsub::{Domain, UpdateConnections};
 use iox2_store::{LoanError, ServiceConfig, TypeVariant};

@@ -1,8 +1,8 @@
 //! Sends that wait for a full subscriber are tried again and given up.
-use crate::fixtures::{Reading, Station, next_reading, settings};
 use crate::waiting_publishers::{
-    blocked, delivered, subscriber_of, waiting_domain, waiting_publisher,
+    blocked, delivered, next_reading, subscriber_of, waiting_domain, waiting_publisher,
 };
+use iox2_fixtures::{Reading, Station, settings};
 use iox2_pubsub::Domain;
 use iox2_store::{BackpressureStrategy, ServiceConfig};
 use std::time::Duration;

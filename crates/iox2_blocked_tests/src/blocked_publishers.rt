@@ -2,10 +2,11 @@
 ghost use Rattle.std.specs.Prelude.{◌≡◌};
 ghost use Rattle.iox2_pubsub.specs.Live.{IsSingleValued, IsWritten, StaysBut, written_loan};
 
-use crate::fixtures::{Reading, Station, factory_for, next_reading, publish};
 use crate::waiting_publishers::{
-    blocked, delivered, next_readings, subscriber_of, waiting_domain, waiting_publisher,
+    blocked, delivered, next_reading, next_readings, subscriber_of, waiting_domain,
+    waiting_publisher,
 };
+use iox2_fixtures::{Reading, Station, factory_for, publish};
 use iox2_pubsub::{Domain, SampleMut};
 use iox2_store::BackpressureStrategy;
 use std::time::Duration;

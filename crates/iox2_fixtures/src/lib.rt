@@ -1,0 +1,91 @@
+//! What tests of `iox2_pubsub` and of runs start from. No crate but those of tests stands on it.
+#![tactic(auto)]
+
+ghost use Rattle.std.specs.Prelude.{◌≡◌, false};
+ghost use Rattle.iox2_store.specs.Defaults.{default_config};
+ghost use Rattle.iox2_pubsub.specs.Live.{IsLivePublisher, IsLiveSubscriber, IsSingleValued, Stays};
+
+use iox2_pubsub::{Domain, PortFactoryPublisher, Publisher, SendOutcome, Subscriber};
+use iox2_store::{BackpressureStrategy, ReceiveError, ServiceConfig};
+
+/// A payload that is neither `Copy` nor `Clone`.
+#[derive(Drop)]
+pub struct Reading {
+    /// The temperature.
+    pub celsius: u64,
+}
+
+/// A user header that is neither `Copy` nor `Clone`.
+#[derive(Default, Drop)]
+pub struct Station {
+    /// Which station it is.
+    pub number: u32,
+}
+
+/// One publisher and one subscriber, without overflow.
+pub fn settings() -> ServiceConfig
+    ensures { result ≡ record (default_config 7) { node_id = 3; max_publishers = 1; max_subscribers = 1; enable_safe_overflow = false } }
+{
+    ServiceConfig {
+        node_id: 3,
+        max_publishers: 1,
+        max_subscribers: 1,
+        enable_safe_overflow: false,
+        ..ServiceConfig::new(7)
+    }
+}
+
+/// A factory of publishers that discard what a full subscriber doesn't take.
+pub fn factory_for<T: Drop, U: Default + Drop>(domain: &Domain<T, U>) -> PortFactoryPublisher
+    ensures { result.backpressure_strategy ≡ BackpressureStrategy.DiscardData }
+{
+    domain
+        .publisher_builder()
+        .backpressure_strategy(BackpressureStrategy::DiscardData)
+}
+
+/// Lends, writes and sends a message, and returns how many subscribers took it. `None` where the
+/// publisher may not lend.
+pub fn publish(
+    domain: &mut Domain<Reading, Station>,
+    publisher: &Publisher,
+    celsius: u64,
+) -> Option<usize>
+    requires single_valued { IsSingleValued domain.old }
+    requires publisher { IsLivePublisher domain.old publisher.now }
+    ensures { Stays domain.old domain.new }
+{
+    let loan = publisher.loan_uninit(domain).ok()?;
+    let message = loan.write_payload(domain, Reading { celsius });
+    Some(message.send(domain).ok()?.delivered())
+}
+
+/// Reads and releases what the subscriber receives next. `None` where no message waits.
+///
+/// Fails where the receive does.
+pub fn next_reading(
+    domain: &mut Domain<Reading, Station>,
+    subscriber: &Subscriber,
+) -> Result<Option<u64>, ReceiveError>
+    requires single_valued { IsSingleValued domain.old }
+    requires live { IsLiveSubscriber domain.old subscriber.now }
+    ensures { Stays domain.old domain.new }
+{
+    let Some(sample) = subscriber.receive(domain)? else {
+        return Ok(None);
+    };
+    let celsius = sample.payload(domain).celsius;
+    sample.release(domain);
+    Ok(Some(celsius))
+}
+
+/// How many subscribers took a message. `None` where its send is blocked.
+pub fn receiver_count(outcome: SendOutcome) -> Option<usize> {
+    match outcome {
+        SendOutcome::Delivered(count) => Some(count),
+        SendOutcome::Blocked(blocked) => {
+            blocked.disown();
+            None
+        }
+    }
+}
