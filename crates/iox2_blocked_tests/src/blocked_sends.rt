@@ -4,7 +4,7 @@ use crate::waiting_publishers::{
 };
 use iox2_fixtures::{Reading, Station, settings};
 use iox2_pubsub::Domain;
-use iox2_store::{BackpressureStrategy, ServiceConfig};
+use iox2_store::{BackpressureStrategy, Key, ServiceConfig};
 use std::time::Duration;
 
 #[test]
@@ -37,6 +37,41 @@ fn a_full_subscriber_blocks_the_send_until_it_has_room(rt: HostRuntime) {
     assert!(rt; names_its_loan && !is_loan);
     assert!(rt; [before, meanwhile, until_retried, after] == [false, true, true, false]);
     assert!(rt; [read, nothing, last] == [Some(20), None, Some(21)]);
+}
+
+#[test]
+fn a_blocked_send_is_held_until_it_has_ended(rt: HostRuntime) {
+    let mut domain = waiting_domain(&rt, rt.alloc());
+    let subscriber = subscriber_of(&rt, &mut domain, 1);
+    let publisher = waiting_publisher(&rt, &mut domain);
+    let sent = publisher.send_copy(&mut domain, Reading { celsius: 20 });
+    let first = delivered(&rt, sent);
+    let sent = publisher.send_copy(&mut domain, Reading { celsius: 21 });
+    let waiting = blocked(&rt, sent);
+    let key = waiting.key();
+    let delivered_one = Key { message: 0, ..key };
+    let of_the_subscriber = Key {
+        port: subscriber.key().port,
+        ..key
+    };
+    let elsewhere = Key {
+        service_id: key.service_id + 1,
+        ..key
+    };
+    let before = [
+        domain.holds_blocked(key),
+        domain.holds_blocked(delivered_one),
+        domain.holds_blocked(of_the_subscriber),
+        domain.holds_blocked(elsewhere),
+    ];
+    let second = delivered(&rt, waiting.give_up(&mut domain));
+    let after = domain.holds_blocked(key);
+    subscriber.disown();
+    publisher.disown();
+    drop(domain);
+    assert!(rt; [first, second] == [1, 0]);
+    assert!(rt; before == [true, false, false, false]);
+    assert!(rt; !after);
 }
 
 #[test]

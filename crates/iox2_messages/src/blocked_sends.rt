@@ -1,8 +1,9 @@
 //! A blocked send is tried again, or given up.
-ghost use Rattle.std.specs.Prelude.{◌≡◌, ◌≤◌, ◌+◌, None, Some, slice_index_or, is_some};
+ghost use Rattle.std.specs.Prelude.{◌≡◌, ◌≤◌, ◌+◌, ◌↔◌, IsTrue, None, Some, slice_index_or, is_some};
 ghost use Rattle.iox2_store.specs.SlotBook.{IsInUse};
 ghost use Rattle.iox2_store.specs.machine.Environments.{fixed_handlers};
 ghost use Rattle.iox2_store.specs.machine.Sends.{more_retries};
+ghost use Rattle.iox2_store.specs.machine.SingleCalls.{HoldsBlocked};
 ghost use Rattle.iox2_store.specs.machine.State.{is_blocked};
 ghost use Rattle.iox2_ends.specs.Counters.{times, with_counters};
 ghost use Rattle.iox2_ends.specs.Receivers.{HasReclaimed};
@@ -197,4 +198,39 @@ pub fn is_waiting<T: Drop, U: Default + Drop>(
         return false;
     };
     waits_at(state, place)
+}
+
+// Whether the publisher that stands at a place waits with the message with this number.
+fn waits_with<T: Drop, U: Default + Drop>(
+    state: &DomainState<T, U>,
+    place: usize,
+    number: u128,
+) -> bool
+    requires agrees { IsDomain state.now }
+    requires stands { (x : PublisherFields) × (slice_index_or state.now.publishers place None ≡ Some x) }
+    ensures { (x : PublisherFields) → slice_index_or state.now.publishers place None ≡ Some x
+        → IsTrue result ↔ HoldsBlocked (state_of (kept_of state.now)) x.id number }
+{
+    let Some(publisher) = &state.publishers[place] else {
+        unreachable!();
+    };
+    let Some(blocked) = publisher.blocked else {
+        return false;
+    };
+    state.books[publisher.book].number(blocked.slot) == number
+}
+
+/// Whether a publisher waits with the message with this number.
+pub fn has_blocked_send<T: Drop, U: Default + Drop>(
+    state: &DomainState<T, U>,
+    publisher: UniquePublisherId,
+    number: u128,
+) -> bool
+    requires { IsDomain state.now }
+    ensures { IsTrue result ↔ HoldsBlocked (state_of (kept_of state.now)) publisher number }
+{
+    let Some(place) = state.find_publisher(publisher, 0) else {
+        return false;
+    };
+    waits_with(state, place, number)
 }

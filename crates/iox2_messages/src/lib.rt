@@ -17,7 +17,7 @@ mod sample_reads;
 mod send_end;
 mod sends;
 
-pub use blocked_sends::{give_up_send, is_waiting, retry_send};
+pub use blocked_sends::{give_up_send, has_blocked_send, is_waiting, retry_send};
 pub use contents::{cell_at_mut, cells_at_mut, user_header_at_mut, value_at_mut, values_at_mut};
 pub use discards::discard_loan;
 pub use loan_calls::{
