@@ -55,7 +55,7 @@ fn a_blocked_send_is_held_until_it_has_ended(rt: HostRuntime) {
         ..key
     };
     let elsewhere = Key {
-        service_id: key.service_id + 1,
+        service_id: 8,
         ..key
     };
     let before = [

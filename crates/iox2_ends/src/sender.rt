@@ -262,8 +262,8 @@ fn reception_of<F: BackpressureFn>(
 // Whether the subscriber with that id stands at the place, and is open.
 #[cold]
 #[inline(never)]
-fn stands_open<R: Receiver>(receivers: &[Option<R>], place: usize, id: u128) -> bool
-    ensures { result ≡ is_open_at (map (option_map R.details_of) receivers.now) place id }
+fn stands_open<R: Receiver>(receivers: &Vec<Option<R>>, place: usize, id: u128) -> bool
+    ensures { result ≡ is_open_at (map (option_map R.details_of) receivers.now.items) place id }
 {
     match receivers.get(place) {
         Some(Some(receiver)) => {
@@ -276,9 +276,9 @@ fn stands_open<R: Receiver>(receivers: &[Option<R>], place: usize, id: u128) -> 
 
 // Whether the subscriber of a connection, which the publisher knows at the place, is open. The mark of
 // the connection mostly says so.
-fn is_open<R: Receiver>(connection: &Connection, receivers: &[Option<R>], place: usize) -> bool
-    requires { connection.now.is_open ≡ true → is_open_at (map (option_map R.details_of) receivers.now) place connection.now.home.subscriber ≡ true }
-    ensures value { result ≡ is_open_at (map (option_map R.details_of) receivers.now) place connection.now.home.subscriber }
+fn is_open<R: Receiver>(connection: &Connection, receivers: &Vec<Option<R>>, place: usize) -> bool
+    requires { connection.now.is_open ≡ true → is_open_at (map (option_map R.details_of) receivers.now.items) place connection.now.home.subscriber ≡ true }
+    ensures value { result ≡ is_open_at (map (option_map R.details_of) receivers.now.items) place connection.now.home.subscriber }
     ensures bounded { IsBounded connection.now }
 {
     connection.is_open() || stands_open(receivers, place, connection.home().subscriber)
@@ -311,15 +311,15 @@ fn deliver_at<R: Receiver, F: BackpressureFn>(
     connections: &mut Slab<Connection>,
     book: &mut SlotBook,
     keys: &[Option<usize>],
-    receivers: &[Option<R>],
+    receivers: &Vec<Option<R>>,
     place: usize,
 ) -> Reception
     requires at { place < length keys.now }
-    requires ready { IsReadyToDeliver delivery.now.publisher connections.old keys.now (map (option_map R.details_of) receivers.now) }
+    requires ready { IsReadyToDeliver delivery.now.publisher connections.old keys.now (map (option_map R.details_of) receivers.now.items) }
     requires own { HoldsItself delivery.now.publisher delivery.now.slot book.old.holders connections.old.slots }
     requires fits { holders_at book.old delivery.now.slot + 1 < 2 ^ 64 }
     requires covered { IsCovered delivery.now.publisher book.old.holders connections.old.slots }
-    ensures puts { PutsSlot (asked F.allows handler.now) config.now delivery.now handler.now (map (option_map R.details_of) receivers.now) place (slice_index_or keys.now place None)
+    ensures puts { PutsSlot (asked F.allows handler.now) config.now delivery.now handler.now (map (option_map R.details_of) receivers.now.items) place (slice_index_or keys.now place None)
         connections.old result connections.new }
     ensures book { book.new ≡ with_counters book.old book.new.holders }
     ensures recounts { Recounts delivery.now.publisher book.old.holders connections.old book.new.holders connections.new }
@@ -348,8 +348,9 @@ fn deliver_at<R: Receiver, F: BackpressureFn>(
 /// that receiver, with what it came to so far.
 ///
 /// `keys` has at each subscriber's place the key of the publisher's connection to it, and
-/// `receivers` the subscriber that stands there now. The count of holders of each slot in `book` follows:
-/// it grows with each connection that takes the slot, and shrinks for a slot that is overwritten or
+/// `receivers` the subscriber that stands there now. It is the vector itself, which is read only
+/// for a subscriber that may be closed. The count of holders of each slot in `book` follows: it
+/// grows with each connection that takes the slot, and shrinks for a slot that is overwritten or
 /// reclaimed.
 ///
 /// iceoryx2's `Sender::deliver_offset` (`src/port/details/sender.rs`).
@@ -361,15 +362,15 @@ pub fn deliver<R: Receiver, F: BackpressureFn>(
     connections: &mut Slab<Connection>,
     book: &mut SlotBook,
     keys: &[Option<usize>],
-    receivers: &[Option<R>],
+    receivers: &Vec<Option<R>>,
 ) -> DeliveryOutcome
-    requires ready { IsReadyToDeliver delivery.now.publisher connections.old keys.now (map (option_map R.details_of) receivers.now) }
+    requires ready { IsReadyToDeliver delivery.now.publisher connections.old keys.now (map (option_map R.details_of) receivers.now.items) }
     requires own { HoldsItself delivery.now.publisher delivery.now.slot book.old.holders connections.old.slots }
     requires start { delivery.now.start.place ≤ length keys.now }
     requires counted { delivery.now.start.count ≤ delivery.now.start.place }
     requires fits { holders_at book.old delivery.now.slot + length keys.now < 2 ^ 64 + delivery.now.start.place }
     requires covered { IsCovered delivery.now.publisher book.old.holders connections.old.slots }
-    ensures delivers { DeliversSlot (asked F.allows handler.now) config.now delivery.now handler.now (map (option_map R.details_of) receivers.now) keys.now
+    ensures delivers { DeliversSlot (asked F.allows handler.now) config.now delivery.now handler.now (map (option_map R.details_of) receivers.now.items) keys.now
         connections.old result connections.new }
     ensures book { book.new ≡ with_counters book.old book.new.holders }
     ensures recounts { Recounts delivery.now.publisher book.old.holders connections.old book.new.holders connections.new }

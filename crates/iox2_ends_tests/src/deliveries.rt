@@ -50,6 +50,8 @@ fn a_message_goes_there_and_back(rt: HostRuntime) -> Result<(), Fail> {
         start: Progress::begun(),
         elapsed: Duration::ZERO,
     };
+    let mut receivers = Vec::new(rt.alloc());
+    receivers.push(Some(receiver))?;
     let handler: Option<BackpressureHandler> = None;
 
     let outcome = deliver(
@@ -59,7 +61,7 @@ fn a_message_goes_there_and_back(rt: HostRuntime) -> Result<(), Fail> {
         &mut connections,
         &mut book,
         &keys,
-        &[Some(receiver)],
+        &receivers,
     );
     let mut last_place = 0;
     let answer = receive(&mut connections, &[], &keys, &mut last_place).expect(&rt, "an answer");

@@ -1,6 +1,6 @@
 use Rattle.std.specs.Prelude.{◌&&◌, ◌==◌}
 use Rattle.std.specs.Option.{option_map}
-use Rattle.std.proofs.Common.{ap, sym, ◌∙◌, Bool, None, le_refl}
+use Rattle.std.proofs.Common.{ap, sym, ◌∙◌, Bool, List, Option, None, get_or, le_refl}
 use Rattle.std.proofs.Math.ListN.{get_or-map}
 use Rattle.std.proofs.lemmas.Bool.{eq-eqb}
 use Rattle.iox2_ends.specs.Receivers.{is_open_one}
@@ -14,4 +14,5 @@ returns-then-receiver-id g c =
     ∙ ap (λ (y : ReceiverDetails). (y.port_id == c.args.id) && y.is_open) c.details-receiver.ensures
     ∙ ap (is_open_one c.args.id)
     (ap details (sym c.in-Some-Some.field-0-is ∙ c.in-Some-Some.ensures.lookup.4 (le_refl c.args.place) None)
-    ∙ sym (get_or-map details c.args.receivers.now c.args.place None))
+    ∙ ap (λ (ys : List (Option g.row.R.Denot)). details (get_or ys c.args.place None)) c.deref.ensures.value
+    ∙ sym (get_or-map details c.args.receivers.now.items c.args.place None))

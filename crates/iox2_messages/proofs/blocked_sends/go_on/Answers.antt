@@ -17,7 +17,7 @@ index_mut-book-requires g c = book-there _ (subst (IsDomain {T = g.row.T.Denot} 
 
 pub deliver-outcome-requires-clause-ready : goal.deliver-outcome-requires-clause-ready
 deliver-outcome-requires-clause-ready g c =
-    rw (c.value.ensures, c.deref.ensures.value, c.deref-2.ensures.value) (ready-to-deliver _ (subst (IsDomain {T = g.row.T.Denot} {U = g.row.U.Denot}) (sym c.state.view_is) c.requires.agrees).parts c.args.place _ (read-there _ c.args.place _ _ (ap (λ (f : Fields g.row.T.Denot g.row.U.Denot). slice_index_or f.publishers c.args.place None) c.state.view_is ∙ c.requires.waits.stands) c.index_mut.ensures.value ∙ c.in-Some.is ∙ ap Some (sym c.publisher.view_is)))
+    rw (c.value.ensures, c.deref.ensures.value) (ready-to-deliver _ (subst (IsDomain {T = g.row.T.Denot} {U = g.row.U.Denot}) (sym c.state.view_is) c.requires.agrees).parts c.args.place _ (read-there _ c.args.place _ _ (ap (λ (f : Fields g.row.T.Denot g.row.U.Denot). slice_index_or f.publishers c.args.place None) c.state.view_is ∙ c.requires.waits.stands) c.index_mut.ensures.value ∙ c.in-Some.is ∙ ap Some (sym c.publisher.view_is)))
 
 pub deliver-outcome-requires-clause-own : goal.deliver-outcome-requires-clause-own
 deliver-outcome-requires-clause-own g c =
@@ -57,7 +57,7 @@ returns g c = λ x w at waits.
     let is : c.in-Some-blocked.blocked ≡ w = cc in
     goes-slot fixed_handlers _ _ c.state.view_is c.args.place _ (read-there _ c.args.place _ _ (ap (λ (f : Fields g.row.T.Denot g.row.U.Denot). slice_index_or f.publishers c.args.place None) c.state.view_is ∙ c.requires.waits.stands) c.index_mut.ensures.value ∙ c.in-Some.is ∙ ap Some (sym c.publisher.view_is)) _ _ c.index_mut-book.ensures.value _ c.deliver-outcome.ensures.book
     (rw c.value.ensures at c.deliver-outcome.ensures.recounts) c.in-Some-blocked.blocked.slot c.args.start c.args.elapsed c.deliver-outcome.result c.deliver-outcome.ensures.alone
-    (rw (c.value.ensures, c.deref.ensures.value, c.deref-2.ensures.value) at c.deliver-outcome.ensures.delivers)
+    (rw (c.value.ensures, c.deref.ensures.value) at c.deliver-outcome.ensures.delivers)
     w (ap (λ (v : BlockedDelivery). v.slot) (sym is))
     _ (c.conclude_blocked.ensures.publisher ∙ ap (with_outcome c.deliver-outcome.result c.in-Some-blocked.blocked.slot) (sym c.publisher.view_is))
     _ c.conclude_blocked.ensures.book

@@ -11,7 +11,7 @@ use Rattle.iox2_messages.proofs.deliveries.send_slot.Goals as goal
 
 pub deliver-outcome-requires-clause-ready : goal.deliver-outcome-requires-clause-ready
 deliver-outcome-requires-clause-ready g c =
-    rw (c.value.ensures, c.deref.ensures.value, c.deref-2.ensures.value)
+    rw (c.value.ensures, c.deref.ensures.value)
     (ready-to-deliver _ (subst (IsDomain {T = g.row.T.Denot} {U = g.row.U.Denot}) (sym c.state.view_is) c.requires.agrees).parts c.args.place _
     (read-there _ c.args.place _ _ (ap (λ (f : Fields g.row.T.Denot g.row.U.Denot). slice_index_or f.publishers c.args.place None) c.state.view_is ∙ c.requires.can.1) c.index_mut.ensures.value ∙ c.in-Some.is ∙ ap Some (sym c.publisher.view_is)))
 
@@ -81,7 +81,7 @@ returns g c = λ x at.
     let history = ap (λ (y : PublisherFields). y.history) delivered ∙ delivered-history c.deliver-outcome.result c.args.slot _ in
     sends-slot fixed_handlers _ _ c.state.view_is c.args.place _ (read-there _ c.args.place _ _ (ap (λ (f : Fields g.row.T.Denot g.row.U.Denot). slice_index_or f.publishers c.args.place None) c.state.view_is ∙ c.requires.can.1) c.index_mut.ensures.value ∙ c.in-Some.is ∙ ap Some (sym c.publisher.view_is)) _ _ c.index_mut-book.ensures.value _ c.deliver-outcome.ensures.book
     (rw c.value.ensures at c.deliver-outcome.ensures.recounts) c.args.slot c.deliver-outcome.result c.deliver-outcome.ensures.alone
-    (rw (c.value.ensures, c.deref.ensures.value, c.deref-2.ensures.value, c.begun.ensures) at c.deliver-outcome.ensures.delivers)
+    (rw (c.value.ensures, c.deref.ensures.value, c.begun.ensures) at c.deliver-outcome.ensures.delivers)
     _ (c.remember.ensures.publisher ∙ (λ t. record (delivered t) { history = pushed (history t) c.args.slot }))
     _ (c.remember.ensures.book ∙ (λ t. with_left (leaving (history t) c.args.slot) (with_sent c.args.slot (c.conclude.ensures.book t))))
     x at

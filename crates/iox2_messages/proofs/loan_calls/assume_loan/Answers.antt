@@ -1,4 +1,3 @@
-use Rattle.std.proofs.Common.{refl}
 use Rattle.iox2_domain.proofs.lemmas.loans.LoanCalls.{contents-there, assume-allowed, assume-refused, assume-done}
 use Rattle.iox2_messages.proofs.loan_calls.assume_loan.Goals as goal
 

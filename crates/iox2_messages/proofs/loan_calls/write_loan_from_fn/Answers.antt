@@ -1,5 +1,3 @@
-use Rattle.std.proofs.Common.{sym}
-use Rattle.iox2_domain.proofs.lemmas.loans.ChangedLoan.{one-cell}
 use Rattle.iox2_domain.proofs.lemmas.loans.LoanCalls.{contents-still, all-writable, many-written}
 use Rattle.iox2_messages.proofs.loan_calls.write_loan_from_fn.Goals as goal
 

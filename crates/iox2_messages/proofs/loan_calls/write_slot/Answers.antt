@@ -1,4 +1,3 @@
-use Rattle.std.proofs.Common.{sym}
 use Rattle.iox2_domain.proofs.lemmas.loans.ChangedLoan.{one-cell}
 use Rattle.iox2_domain.proofs.lemmas.loans.LoanCalls.{contents-still, one-writable, one-written}
 use Rattle.iox2_messages.proofs.loan_calls.write_slot.Goals as goal

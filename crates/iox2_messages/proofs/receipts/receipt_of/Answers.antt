@@ -1,4 +1,4 @@
-use Rattle.std.proofs.Common.{List, None, ap, sym, slice_set, ◌≡◌, ◌∙◌}
+use Rattle.std.proofs.Common.{List, None, ap, sym, slice_set, ◌∙◌}
 use Rattle.std.proofs.lemmas.List.{set-get_or}
 use Rattle.std.specs.declared.option.Option.{Option}
 use Rattle.slab.specs.Slab.{Slab}
