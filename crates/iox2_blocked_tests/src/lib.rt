@@ -11,4 +11,6 @@ mod blocked_slices;
 #[cfg(test)]
 mod blocked_slots;
 #[cfg(test)]
+mod handlers;
+#[cfg(test)]
 mod waiting_publishers;

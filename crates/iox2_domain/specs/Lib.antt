@@ -1,3 +1,4 @@
+pub mod Handlers
 pub mod Ports
 pub mod Kept
 pub mod Shows

@@ -8,10 +8,11 @@ use Rattle.std.specs.declared.result.Result.TheVariants.{Ok, Err}
 use Rattle.slab.specs.Slab.{Slab, get, Updates}
 use Rattle.circular_buffer.specs.Buffer.{Buffer}
 use Rattle.iox2_store.specs.machine.Limits.{last_number}
-use Rattle.iox2_store.specs.machine.Records.{PublisherSettings, Fixed}
+use Rattle.iox2_store.specs.machine.Records.{PublisherSettings, Handler, Fixed}
 use Rattle.iox2_store.specs.SlotBook.{Book, IsAligned}
 use Rattle.iox2_store.specs.SlotContents.{ContentState}
 use Rattle.iox2_store.specs.declared.allocation.AllocationStrategy.TheVariants.{Static}
+use Rattle.iox2_store.specs.declared.backpressure.BackpressureAction.{BackpressureAction}
 use Rattle.iox2_store.specs.declared.backpressure.BackpressureStrategy.{BackpressureStrategy}
 use Rattle.iox2_store.specs.declared.degradation.DegradationAction.TheVariants.{Warn}
 use Rattle.iox2_store.specs.declared.errors.PublisherCreateError.{PublisherCreateError}
@@ -20,30 +21,35 @@ use Rattle.iox2_domain.specs.Ports.{PublisherFields, SubscriberFields}
 use Rattle.iox2_domain.specs.Fields.{Fields}
 use Rattle.iox2_domain.specs.Placed.{lowest_empty}
 
--- The settings of a publisher that follows this strategy, has one segment for messages of so many elements, and no handlers.
-abbrev pub plain_publisher : (max_loaned_samples : ℕ) → BackpressureStrategy → (initial_max_slice_len : ℕ) → PublisherSettings
-plain_publisher max_loaned_samples strategy initial_max_slice_len = record {
+-- The settings of a publisher that follows this strategy, has this handler of full buffers, and one segment for messages of so
+-- many elements.
+abbrev pub static_publisher : (max_loaned_samples : ℕ) → BackpressureStrategy → Option (Handler BackpressureAction) → (initial_max_slice_len : ℕ) → PublisherSettings
+static_publisher max_loaned_samples strategy handler initial_max_slice_len = record {
   max_loaned_samples = max_loaned_samples;
   backpressure_strategy = strategy;
   allocation_strategy = Static;
   initial_max_slice_len = initial_max_slice_len;
   asked_slots = None;
   degradation_handler = Fixed Warn;
-  backpressure_handler = None;
+  backpressure_handler = handler;
 }
 
--- A publisher that was just made, without handlers, with these slots for messages of so many elements, and with room for so many
+-- Those of one without handlers.
+abbrev pub plain_publisher : (max_loaned_samples : ℕ) → BackpressureStrategy → (initial_max_slice_len : ℕ) → PublisherSettings
+plain_publisher max_loaned_samples strategy initial_max_slice_len = static_publisher max_loaned_samples strategy None initial_max_slice_len
+
+-- A publisher that was just made, with this handler of full buffers, with these slots for messages of so many elements, and with room for so many
 -- loans and connections.
-abbrev pub entering_publisher : (id place book max_loaned_samples slots : ℕ) → BackpressureStrategy → (initial_max_slice_len loan_room : ℕ) (history : Buffer ℕ) (key_room : ℕ)
+abbrev pub entering_publisher : (id place book max_loaned_samples slots : ℕ) → BackpressureStrategy → Option (Handler BackpressureAction) → (initial_max_slice_len loan_room : ℕ) (history : Buffer ℕ) (key_room : ℕ)
     → PublisherFields
-entering_publisher id place book max_loaned_samples slots strategy initial_max_slice_len loan_room history key_room = record {
+entering_publisher id place book max_loaned_samples slots strategy handler initial_max_slice_len loan_room history key_room = record {
   id = id;
   place = place;
   book = book;
   max_loaned_samples = max_loaned_samples;
   slots = slots;
   strategy = strategy;
-  backpressure_handler = None;
+  backpressure_handler = handler;
   degradation_handler = Fixed Warn;
   allocation = Static;
   initial_max_slice_len = initial_max_slice_len;

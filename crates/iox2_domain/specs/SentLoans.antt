@@ -1,13 +1,14 @@
 -- A loan is sent.
-use Rattle.std.specs.Prelude.{◌≡◌, ◌⊎◌, ℕ, slice_index_or}
+use Rattle.std.specs.Prelude.{◌≡◌, ◌≢◌, ◌⊎◌, ℕ, false, slice_index_or}
 use Rattle.std.specs.declared.option.Option.TheVariants.{None, Some}
 use Rattle.iox2_store.specs.machine.Loans.{entry_of}
 use Rattle.iox2_store.specs.machine.Numbers.{put_at}
-use Rattle.iox2_store.specs.machine.Records.{Entry, Loan, Environment}
+use Rattle.iox2_store.specs.machine.Records.{Entry, Loan, Publisher, Environment}
 use Rattle.iox2_store.specs.machine.Sends.{SendResult, Send, Send_error}
 use Rattle.iox2_store.specs.declared.errors.SendError.{SendError}
 use Rattle.iox2_store.specs.declared.errors.SendError.TheVariants.{UnableToDeliver}
 use Rattle.iox2_ends.specs.LookUp.{look_up}
+use Rattle.iox2_domain.specs.Handlers.{may_fail}
 use Rattle.iox2_domain.specs.Kept.{state_of, entries_of}
 use Rattle.iox2_domain.specs.Fields.{Fields, kept_of}
 use Rattle.iox2_domain.specs.Connects.{UpdatesPublisher}
@@ -38,7 +39,7 @@ pub record SendsLoan {T U : Type 0} (environment : Environment) (old new : Field
   pub loans : (state_of (kept_of new)).loans ≡ put_at (state_of (kept_of old)).loans n None
   pub entries : (m : ℕ) (entry : Entry T U) → entries_of (kept_of new) m ≡ Some entry
       → ((m ≡ n) × (entry ≡ entry_of loan)) ⊎ (entries_of (kept_of old) m ≡ Some entry)
-  -- After an error no entry is newly kept.
-  pub lost : (error : SendError) → result ≡ Send_error error → (m : ℕ) (entry : Entry T U) → entries_of (kept_of new) m ≡ Some entry → entries_of (kept_of old) m ≡ Some entry
-  -- Without a handler no receiver fails a send.
-  pub unfailed : result ≡ Send_error UnableToDeliver → ⊥
+  -- After an error no entry is newly kept, but where the message was sent and a handler failed the send.
+  pub lost : (error : SendError) → error ≢ UnableToDeliver → result ≡ Send_error error → (m : ℕ) (entry : Entry T U) → entries_of (kept_of new) m ≡ Some entry → entries_of (kept_of old) m ≡ Some entry
+  -- A handler that fails no send fails none.
+  pub unfailed : ((x : Publisher) → (state_of (kept_of old)).publishers loan.publisher ≡ Some x → may_fail x.backpressure_handler ≡ false) → result ≡ Send_error UnableToDeliver → ⊥

@@ -5,6 +5,7 @@
 //! `iox2_pubsub` keeps the state in its `Domain`, behind the handles of ports and messages.
 #![tactic(auto)]
 
+mod handlers;
 mod left_books;
 mod loan_slots;
 mod message_slots;
@@ -18,6 +19,7 @@ mod subscriber_state;
 mod units;
 mod warnings;
 
+pub use handlers::NoBackpressureFn;
 pub use loan_slots::LoanAt;
 pub use message_slots::MessageSlot;
 pub use places::{free_place, put_at_place, reserve_place, stands_at};

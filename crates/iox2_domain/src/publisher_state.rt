@@ -3,12 +3,16 @@ ghost use Rattle.std.specs.Prelude.{◌≡◌, ◌<◌, ◌≤◌, [], length, v
 ghost use Rattle.iox2_store.specs.machine.Numbers.{without};
 ghost use Rattle.iox2_ends.specs.Counters.{times};
 
+use crate::handlers::NoBackpressureFn;
 use crate::places::{clear_in, put_at_place, reserve_place};
 use crate::ports::Port;
 use circular_buffer::HeapCircularBuffer;
 use iox2_ends::receiver::key_in;
 use iox2_ends::sender::Progress;
-use iox2_store::{AllocationStrategy, BackpressureStrategy, ServiceConfig, UniquePublisherId};
+use iox2_store::{
+    AllocationStrategy, BackpressureAction, BackpressureHandler, BackpressureStrategy,
+    ServiceConfig, UniquePublisherId,
+};
 use std::alloc::{AllocError, Global};
 use std::marker::Model;
 
@@ -34,6 +38,8 @@ pub struct PublisherState {
     pub max_loaned_samples: usize,
     pub slots: usize,
     pub strategy: BackpressureStrategy,
+    // What its handler answers at a full buffer.
+    pub backpressure_handler: Option<BackpressureAction>,
     pub allocation: AllocationStrategy,
     pub initial_max_slice_len: usize,
     pub longest_granted: usize,
@@ -51,9 +57,9 @@ pub struct PublisherState {
 
 impl Model for PublisherState {
     ghost use Rattle.std.specs.Prelude.{vec_capacity};
-    ghost use Rattle.std.specs.declared.option.Option.TheVariants.{None};
     ghost use Rattle.iox2_store.specs.machine.Records.{Fixed};
     ghost use Rattle.iox2_store.specs.declared.degradation.DegradationAction.TheVariants.{Warn};
+    ghost use Rattle.iox2_domain.specs.Handlers.{fixed_handler};
     ghost use Rattle.iox2_domain.specs.Ports.{PublisherFields};
 
     ghost Value = { PublisherFields };
@@ -65,7 +71,7 @@ impl Model for PublisherState {
       max_loaned_samples = x.max_loaned_samples;
       slots = x.slots;
       strategy = x.strategy;
-      backpressure_handler = None;
+      backpressure_handler = fixed_handler x.backpressure_handler;
       degradation_handler = Fixed Warn;
       allocation = x.allocation;
       initial_max_slice_len = x.initial_max_slice_len;
@@ -86,6 +92,7 @@ impl PublisherState {
     ghost use Rattle.iox2_domain.specs.Invariant.{HasPublisherRoom};
     ghost use Rattle.std.specs.Prelude.{true};
     ghost use Rattle.iox2_store.specs.machine.Limits.{segment_fits};
+    ghost use Rattle.iox2_domain.specs.Handlers.{fixed_handler};
     ghost use Rattle.iox2_domain.specs.NewPublisher.{entering_publisher};
 
     /// A publisher that enters at a place, with a book at a key of so many slots for messages of so
@@ -100,10 +107,11 @@ impl PublisherState {
         max_loaned_samples: usize,
         slots: usize,
         strategy: BackpressureStrategy,
+        handler: Option<BackpressureAction>,
         initial_max_slice_len: usize,
     ) -> Result<Self, AllocError>
         requires { segment_fits config.now slots initial_max_slice_len ≡ true }
-        ensures enters { IfOk result (λ x. x ≡ entering_publisher id place book max_loaned_samples slots strategy initial_max_slice_len x.loan_room (buffer [] (config.now).history_size) x.key_room) }
+        ensures enters { IfOk result (λ x. x ≡ entering_publisher id place book max_loaned_samples slots strategy (fixed_handler handler) initial_max_slice_len x.loan_room (buffer [] (config.now).history_size) x.key_room) }
         ensures room { IfOk result (HasPublisherRoom config.now) }
     {
         let loans = Vec::with_capacity(alloc, max_loaned_samples)?;
@@ -115,6 +123,7 @@ impl PublisherState {
             max_loaned_samples,
             slots,
             strategy,
+            backpressure_handler: handler,
             allocation: AllocationStrategy::Static,
             initial_max_slice_len,
             longest_granted: 0,
@@ -125,6 +134,21 @@ impl PublisherState {
             is_due: true,
             blocked: None,
         })
+    }
+}
+
+impl PublisherState {
+    ghost use Rattle.iox2_ends.specs.Handlers.{marks_of};
+
+    /// What answers for it at a full buffer.
+    #[inline(always)]
+    pub fn handler(&self) -> Option<BackpressureHandler<NoBackpressureFn>>
+        ensures { marks_of result ≡ self.now.backpressure_handler }
+    {
+        match self.backpressure_handler {
+            Some(action) => Some(BackpressureHandler::Fixed(action)),
+            None => None,
+        }
     }
 }
 

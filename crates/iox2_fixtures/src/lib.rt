@@ -1,7 +1,7 @@
 //! What tests of `iox2_pubsub` and of runs start from. No crate but those of tests stands on it.
 #![tactic(auto)]
 
-ghost use Rattle.std.specs.Prelude.{◌≡◌, false};
+ghost use Rattle.std.specs.Prelude.{◌≡◌, None, false};
 ghost use Rattle.iox2_store.specs.Defaults.{default_config};
 ghost use Rattle.iox2_pubsub.specs.Live.{IsLivePublisher, IsLiveSubscriber, IsSingleValued, Stays};
 
@@ -37,7 +37,8 @@ pub fn settings() -> ServiceConfig
 
 /// A factory of publishers that discard what a full subscriber doesn't take.
 pub fn factory_for<T: Drop, U: Default + Drop>(domain: &Domain<T, U>) -> PortFactoryPublisher
-    ensures { result.backpressure_strategy ≡ BackpressureStrategy.DiscardData }
+    ensures strategy { result.backpressure_strategy ≡ BackpressureStrategy.DiscardData }
+    ensures handler { result.backpressure_handler ≡ None }
 {
     domain
         .publisher_builder()

@@ -19,7 +19,7 @@ use crate::reclaims::reclaim;
 use crate::send_end::SendEnd;
 use iox2_domain::{BlockedDelivery, DomainState, PublisherState};
 use iox2_ends::sender::{Delivery, DeliveryOutcome, Progress, deliver};
-use iox2_store::{BackpressureHandler, SlotBook, UniquePublisherId};
+use iox2_store::{SlotBook, UniquePublisherId};
 use std::time::Duration;
 
 // One retry more; the greatest number stays.
@@ -86,7 +86,7 @@ fn go_on<T: Drop, U: Default + Drop>(
         start,
         elapsed,
     };
-    let handler: Option<BackpressureHandler> = None;
+    let handler = publisher.handler();
     let outcome = deliver(
         &state.config,
         &delivery,

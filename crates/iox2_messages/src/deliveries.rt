@@ -3,11 +3,15 @@ ghost use Rattle.std.specs.Prelude.{◌≡◌, ℕ, ◌+◌, ◌<◌, ◌≤◌,
 ghost use Rattle.iox2_store.specs.SlotBook.{IsInUse, holders_at};
 ghost use Rattle.iox2_store.specs.machine.Environments.{fixed_handlers};
 ghost use Rattle.iox2_ends.specs.Counters.{times};
+ghost use Rattle.iox2_ends.specs.Handlers.{marks_of};
 ghost use Rattle.iox2_domain.specs.Ports.{PublisherFields};
 ghost use Rattle.iox2_domain.specs.Invariant.{IsDomain};
-ghost use Rattle.iox2_domain.specs.Deliveries.{CanSend, SendsSlot, with_delivered, with_history_holder, pushed, leaving, with_left, with_sent};
+ghost use Rattle.iox2_domain.specs.Deliveries.{CanSend, SendsSlot, with_delivered, with_history_holder, pushed, leaving, result_of_send, with_left, with_sent};
+ghost use Rattle.iox2_ends.specs.declared.sender.DeliveryOutcome.{DeliveryOutcome};
+ghost use Rattle.iox2_messages.specs.SendEnds.{IsKept, end_result};
 
-use iox2_domain::{BlockedDelivery, DomainState, PublisherState};
+use crate::send_end::SendEnd;
+use iox2_domain::{BlockedDelivery, DomainState, NoBackpressureFn, PublisherState};
 use iox2_ends::sender::{Delivery, DeliveryOutcome, Progress, deliver};
 use iox2_store::{BackpressureHandler, SlotBook, SlotMark};
 use std::time::Duration;
@@ -51,16 +55,33 @@ fn remember(publisher: &mut PublisherState, book: &mut SlotBook, slot: usize)
     }
 }
 
-/// Delivers the loan in a slot of the publisher at a place. Where it reached all receivers it is out
-/// no more afterwards, else its publisher waits for a receiver.
+// What answers for the publisher at a place at a full buffer.
 #[inline(always)]
-pub(crate) fn send_slot<T: Drop, U: Default + Drop>(
+fn handler_at<T: Drop, U: Default + Drop>(
+    state: &DomainState<T, U>,
+    place: usize,
+) -> Option<BackpressureHandler<NoBackpressureFn>>
+    requires { (x : PublisherFields) × (slice_index_or state.now.publishers place None ≡ Some x) }
+    ensures { (x : PublisherFields) → slice_index_or state.now.publishers place None ≡ Some x → marks_of result ≡ x.backpressure_handler }
+{
+    let Some(publisher) = &state.publishers[place] else {
+        unreachable!();
+    };
+    publisher.handler()
+}
+
+// Delivers the loan in a slot of the publisher at a place, for which the handler answers. Where it
+// reached all receivers it is out no more afterwards, else its publisher waits for a receiver.
+#[inline(always)]
+fn send_slot<T: Drop, U: Default + Drop>(
     state: &mut DomainState<T, U>,
     place: usize,
     slot: usize,
+    handler: &Option<BackpressureHandler<NoBackpressureFn>>,
 ) -> DeliveryOutcome
     requires agrees { IsDomain state.old }
     requires can { (x : PublisherFields) × (slice_index_or state.old.publishers place None ≡ Some x) × CanSend state.old x slot }
+    requires handler { (x : PublisherFields) → slice_index_or state.old.publishers place None ≡ Some x → marks_of handler.now ≡ x.backpressure_handler }
     ensures { (x : PublisherFields) → slice_index_or state.old.publishers place None ≡ Some x → SendsSlot fixed_handlers state.old place x slot result state.new }
 {
     let Some(publisher) = &mut state.publishers[place] else {
@@ -74,11 +95,10 @@ pub(crate) fn send_slot<T: Drop, U: Default + Drop>(
         start: Progress::begun(),
         elapsed: Duration::ZERO,
     };
-    let handler: Option<BackpressureHandler> = None;
     let outcome = deliver(
         &state.config,
         &delivery,
-        &handler,
+        handler,
         &mut state.connections,
         book,
         &publisher.keys,
@@ -87,4 +107,42 @@ pub(crate) fn send_slot<T: Drop, U: Default + Drop>(
     conclude(publisher, book, slot, outcome);
     remember(publisher, book, slot);
     outcome
+}
+
+// Sends the loan in a slot of the publisher at a place, whatever answers for it at a full buffer.
+#[inline(never)]
+fn send_by_handler<T: Drop, U: Default + Drop>(
+    state: &mut DomainState<T, U>,
+    place: usize,
+    slot: usize,
+) -> SendEnd
+    requires agrees { IsDomain state.old }
+    requires can { (x : PublisherFields) × (slice_index_or state.old.publishers place None ≡ Some x) × CanSend state.old x slot }
+    ensures sends { (outcome : DeliveryOutcome) × (end_result result ≡ result_of_send outcome)
+        × ((x : PublisherFields) → slice_index_or state.old.publishers place None ≡ Some x → SendsSlot fixed_handlers state.old place x slot outcome state.new) }
+    ensures kept { IsKept result }
+{
+    let handler = handler_at(state, place);
+    SendEnd::of(send_slot(state, place, slot, &handler))
+}
+
+/// Delivers the loan in a slot of the publisher at a place. Where it reached all receivers it is out
+/// no more afterwards, else its publisher waits for a receiver. Of a publisher without a handler
+/// nothing of one is on the path of the message.
+#[inline(always)]
+pub(crate) fn send_ready<T: Drop, U: Default + Drop>(
+    state: &mut DomainState<T, U>,
+    place: usize,
+    slot: usize,
+) -> SendEnd
+    requires agrees { IsDomain state.old }
+    requires can { (x : PublisherFields) × (slice_index_or state.old.publishers place None ≡ Some x) × CanSend state.old x slot }
+    ensures sends { (outcome : DeliveryOutcome) × (end_result result ≡ result_of_send outcome)
+        × ((x : PublisherFields) → slice_index_or state.old.publishers place None ≡ Some x → SendsSlot fixed_handlers state.old place x slot outcome state.new) }
+    ensures kept { IsKept result }
+{
+    match handler_at(state, place) {
+        Some(_) => send_by_handler(state, place, slot),
+        None => SendEnd::of(send_slot(state, place, slot, &None)),
+    }
 }

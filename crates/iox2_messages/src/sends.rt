@@ -10,7 +10,7 @@ ghost use Rattle.iox2_domain.specs.SentLoans.{IsLeftLoan, IsReadyToSend, SendsLo
 ghost use Rattle.iox2_store.specs.machine.State.{is_blocked};
 ghost use Rattle.iox2_messages.specs.SendEnds.{IsKept, end_result};
 
-use crate::deliveries::send_slot;
+use crate::deliveries::send_ready;
 use crate::send_end::SendEnd;
 use iox2_domain::{DomainState, LoanAt};
 use iox2_ports::update_publisher;
@@ -79,7 +79,7 @@ fn update_and_send<T: Drop, U: Default + Drop>(
         state.let_go(at.book, at.slot);
         return SendEnd::Lost;
     };
-    SendEnd::of(send_slot(state, ready.place, ready.slot))
+    send_ready(state, ready.place, ready.slot)
 }
 
 /// Sends a publisher's written loan to its receivers, and returns how that ended. The publisher's
@@ -96,7 +96,7 @@ pub fn send_loan<T: Drop, U: Default + Drop>(state: &mut DomainState<T, U>, loan
     ensures kept { HoldsPublisher (state_of (kept_of state.old)) loan.publisher → IsKept result }
 {
     if is_ready(state, &loan) {
-        return SendEnd::of(send_slot(state, loan.place, loan.slot));
+        return send_ready(state, loan.place, loan.slot);
     }
     update_and_send(state, loan.publisher, loan.number)
 }

@@ -1,6 +1,6 @@
 //! What several tests start from.
 
-ghost use Rattle.std.specs.Prelude.{◌≡◌};
+ghost use Rattle.std.specs.Prelude.{◌≡◌, None};
 
 use iox2_pubsub::{Domain, slice};
 use iox2_store::BackpressureStrategy;
@@ -9,7 +9,8 @@ use iox2_store::BackpressureStrategy;
 pub(crate) fn slice_factory<T: Drop, U: Default + Drop>(
     domain: &Domain<T, U>,
 ) -> slice::PortFactoryPublisher
-    ensures { result.backpressure_strategy ≡ BackpressureStrategy.DiscardData }
+    ensures strategy { result.backpressure_strategy ≡ BackpressureStrategy.DiscardData }
+    ensures handler { result.backpressure_handler ≡ None }
 {
     domain
         .slice_publisher_builder()

@@ -8,14 +8,17 @@ ghost use Rattle.iox2_store.specs.machine.State.{State};
 ghost use Rattle.iox2_domain.specs.Ports.{PublisherFields};
 ghost use Rattle.iox2_domain.specs.Kept.{state_of};
 ghost use Rattle.iox2_domain.specs.Fields.{kept_of};
+ghost use Rattle.iox2_domain.specs.Handlers.{fixed_handler};
 ghost use Rattle.iox2_domain.specs.Invariant.{IsDomain};
-ghost use Rattle.iox2_domain.specs.NewPublisher.{place_for_publisher, plain_publisher};
+ghost use Rattle.iox2_domain.specs.NewPublisher.{place_for_publisher, static_publisher};
 ghost use Rattle.iox2_domain.specs.Reaches.{Reaches};
 
 use crate::segments::{Segment, add_segment, first_segment, room_for};
 use crate::updates::update_publisher;
 use iox2_domain::{DomainState, PortAt, PublisherState, free_place, make_all_due, put_at_place};
-use iox2_store::{BackpressureStrategy, PublisherCreateError, UniquePublisherId};
+use iox2_store::{
+    BackpressureAction, BackpressureStrategy, PublisherCreateError, UniquePublisherId,
+};
 
 /// The place for a new publisher, or why it is refused.
 pub(crate) fn place_for_publisher<T: Drop, U: Default + Drop>(
@@ -42,6 +45,7 @@ pub(crate) fn admit_publisher<T: Drop, U: Default + Drop>(
     max_loaned_samples: usize,
     slots: usize,
     strategy: BackpressureStrategy,
+    handler: Option<BackpressureAction>,
     initial_max_slice_len: usize,
 ) -> Result<UniquePublisherId, PublisherCreateError>
     requires agrees { IsDomain state.old }
@@ -51,7 +55,7 @@ pub(crate) fn admit_publisher<T: Drop, U: Default + Drop>(
     ensures stands { OnOk result ((x : PublisherFields) × (slice_index_or state.new.publishers place None ≡ Some x) × (x.id ≡ state.old.next_port) × (x.blocked ≡ None)) }
     ensures id { IfOk result (λ id. id ≡ state.old.next_port) }
     ensures step { MatchResult result
-        (λ _. Reaches state.old state.new (with_new_publisher (state_of (kept_of state.old)) (plain_publisher max_loaned_samples strategy initial_max_slice_len) place))
+        (λ _. Reaches state.old state.new (with_new_publisher (state_of (kept_of state.old)) (static_publisher max_loaned_samples strategy (fixed_handler handler) initial_max_slice_len) place))
         (λ e. Reaches state.old state.new (state_of (kept_of state.old)) × ((e ≡ UnableToCreateDataSegment) ⊎ (e ≡ FailedToDeployThreadsafetyPolicy))) }
 {
     let id = UniquePublisherId::new(state.next_port);
@@ -70,6 +74,7 @@ pub(crate) fn admit_publisher<T: Drop, U: Default + Drop>(
         max_loaned_samples,
         slots,
         strategy,
+        handler,
         initial_max_slice_len,
     );
     let Ok(publisher) = entering else {
@@ -89,7 +94,7 @@ pub(crate) fn admit_publisher<T: Drop, U: Default + Drop>(
 
 /// Makes a publisher that may have so many loans out, each of so many elements at most where the
 /// length of a loan counts, and connects it with the subscribers that there are. Where a receiver is
-/// full, it follows the strategy. Returns its id, which was the next, and its place.
+/// full, the handler answers, or without one it follows the strategy. Returns its id, which was the next, and its place.
 ///
 /// `UnableToCreatePortTag` where no id is left, then `ExceedsMaxSupportedPublishers` where no
 /// place is free, then `UnableToCreateDataSegment` where the segment's size doesn't fit `usize`.
@@ -100,14 +105,15 @@ pub fn create_publisher<T: Drop, U: Default + Drop>(
     state: &mut DomainState<T, U>,
     max_loaned_samples: usize,
     strategy: BackpressureStrategy,
+    handler: Option<BackpressureAction>,
     initial_max_slice_len: usize,
 ) -> Result<PortAt<UniquePublisherId>, PublisherCreateError>
     requires { IsDomain state.old }
     ensures id { IfOk result (λ port. port.id ≡ state.old.next_port) }
     ensures stands { IfOk result (λ port. (x : PublisherFields) × (slice_index_or state.new.publishers port.place None ≡ Some x) × (x.id ≡ port.id)) }
     ensures step { MatchResult result
-        (λ _. (s' : State T U) × CreatePublisher fixed_handlers (state_of (kept_of state.old)) (plain_publisher max_loaned_samples strategy initial_max_slice_len) s' None × Reaches state.old state.new s')
-        (λ e. CreatePublisher fixed_handlers (state_of (kept_of state.old)) (plain_publisher max_loaned_samples strategy initial_max_slice_len) (state_of (kept_of state.old)) (Some e)
+        (λ _. (s' : State T U) × CreatePublisher fixed_handlers (state_of (kept_of state.old)) (static_publisher max_loaned_samples strategy (fixed_handler handler) initial_max_slice_len) s' None × Reaches state.old state.new s')
+        (λ e. CreatePublisher fixed_handlers (state_of (kept_of state.old)) (static_publisher max_loaned_samples strategy (fixed_handler handler) initial_max_slice_len) (state_of (kept_of state.old)) (Some e)
         × Reaches state.old state.new (state_of (kept_of state.old))) }
 {
     let place = place_for_publisher(state)?;
@@ -120,6 +126,7 @@ pub fn create_publisher<T: Drop, U: Default + Drop>(
         max_loaned_samples,
         slots,
         strategy,
+        handler,
         initial_max_slice_len,
     )?;
     update_publisher(state, place);

@@ -41,6 +41,7 @@ use Rattle.iox2_pubsub.specs.declared.publisher.Publisher.{Publisher as Handle}
 use Rattle.iox2_pubsub.specs.declared.sample_mut.SampleMut.{SampleMut}
 use Rattle.iox2_pubsub.specs.Slices.{HasUnwrittenCells, HasValues}
 use Rattle.iox2_pubsub.proofs.AlwaysShows.{shows_itself}
+use Rattle.iox2_pubsub.proofs.SentMessages.{after-error}
 use Rattle.iox2_pubsub.proofs.LiveParts.{publisher-parts, subscriber-parts, loan-parts, sample-parts, origin-parts, blocked-parts, unblocked-parts}
 use Rattle.iox2_pubsub.proofs.SliceParts.{cells-parts, values-parts}
 use Rattle.iox2_pubsub.proofs.StaysBut.{IsSpared, PortsRemainBut, SamplesStayBut, ports-remain, stays-between, stays-on, stays-on-but}
@@ -255,7 +256,10 @@ module _ {T U : Type 0} (old new : Kept T U) (m : Messages T U) (s : State T U) 
   sent-stays loan l out its free (Err error) s' shown' h =
       sent-keeps loan.loan.number l out (Send_error error) s' h (A_loan loan.loan.number) (λ k other. other)
       (unblocked-waits loan.loan.number l out (Send_error error) s' h (IsSpared (A_loan loan.loan.number)) (λ e. let clash : Send_error error ≡ Blocked_send = e in cc) free)
-      _ shown' (λ k entry at. at)
+      _ shown' (λ k entry at. elim (after-error m loan.loan.number l error) [
+        | inl sent ↦ ap (λ (f : Messages T U). f k) sent.1 ∙ sent-before loan.loan.number l out (Send_error error) s' h k (entry_of l) entry at
+        | inr lost ↦ ap (λ (f : Messages T U). f k) lost.1 ∙ at
+      ])
 
   -- it is out no more
   pub send-spends : (environment : Environment) (key : Key) (l : Loan T U) (result : SendResult) (m' : Messages T U) (s' : State T U) → Shows new m' s'

@@ -11,6 +11,7 @@ pub mod DefaultSlices
 pub mod SliceParts
 pub mod FilledLengths
 pub mod FilledLoans
+pub mod SentMessages
 pub mod SendShown
 pub mod AlwaysShows
 pub mod PublishersShown

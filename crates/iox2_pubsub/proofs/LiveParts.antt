@@ -10,9 +10,10 @@ use Rattle.iox2_store.specs.declared.backpressure.BackpressureStrategy.TheVarian
 use Rattle.iox2_store.specs.declared.header.Header.{Header}
 use Rattle.iox2_store.specs.declared.key.Key.{Key}
 use Rattle.iox2_store.specs.declared.service_config.TypeVariant.TheVariants.{FixedSize}
+use Rattle.iox2_domain.specs.Handlers.{may_fail}
 use Rattle.iox2_domain.specs.Kept.{Kept, state_of, entries_of}
 use Rattle.iox2_domain.specs.LoanCalls.{HasCell, HasLoanHeader, HasLoanUserHeader, HoldsUnwritten, HoldsWritten}
-use Rattle.iox2_pubsub.specs.Live.{IsSingleValued, IsPublisherKey, IsSubscriberKey, IsLoanKey, IsSampleKey, IsBlockedKey, IsUnblocked, Discards, NeverWaits, HasMark, IsFromOrigin, UnwrittenReads, LoanReads, SampleReads, LoanHasHeader, LoanHasUserHeader, SampleHasHeader, SampleHasUserHeader, IsUnwritten, IsWritten}
+use Rattle.iox2_pubsub.specs.Live.{IsSingleValued, IsPublisherKey, IsSubscriberKey, IsLoanKey, IsSampleKey, IsBlockedKey, IsUnblocked, Discards, NeverFails, NeverWaits, HasMark, IsFromOrigin, UnwrittenReads, LoanReads, SampleReads, LoanHasHeader, LoanHasUserHeader, SampleHasHeader, SampleHasUserHeader, IsUnwritten, IsWritten}
 use Rattle.iox2_pubsub.specs.Slices.{HasUnwrittenCells, HasValues, SampleHasValues}
 use Rattle.iox2_pubsub.specs.declared.sample.Sample.{Sample}
 use Rattle.iox2_pubsub.specs.declared.sample_mut.SampleMut.{SampleMut}
@@ -108,11 +109,20 @@ module _ {T U : Type 0} (kept : Kept T U) where
   unblocked-alike key key' same free =
       unblocked-free key' (let has = unblocked-parts key free in (subst (λ (p : ℕ). p < (state_of kept).next_port) (sym same) has.0, λ x at. has.1 x (ap (state_of kept).publishers (sym same) ∙ at)))
 
+  pub unfailed-parts : (p : ℕ) → NeverFails kept p → (p < (state_of kept).next_port) × ((x : Publisher) → (state_of kept).publishers p ≡ Some x → may_fail x.backpressure_handler ≡ false)
+  unfolding NeverFails
+  unfailed-parts p has = has
+
+  pub unfailed-from : (p : ℕ) → (p < (state_of kept).next_port) × ((x : Publisher) → (state_of kept).publishers p ≡ Some x → may_fail x.backpressure_handler ≡ false) → NeverFails kept p
+  unfolding NeverFails
+  unfailed-from p parts = parts
+
   -- who never waits doesn't, whatever the rest of the key
   pub never-waits-alike : (key key' : Key) → key'.port ≡ key.port → NeverWaits kept key → NeverWaits kept key'
   never-waits-alike key key' same never = record {
     discards = discards-from key' (let has = discards-parts key never.discards in (subst (λ (p : ℕ). p < (state_of kept).next_port) (sym same) has.0, λ x at. has.1 x (ap (state_of kept).publishers (sym same) ∙ at)));
     unblocked = unblocked-alike key key' same never.unblocked;
+    never_fails = subst (NeverFails kept) (sym same) never.never_fails;
   }
 
   -- ---- loans and their marks

@@ -1,47 +1,49 @@
 -- The creation of a publisher, seen from outside.
-use Rattle.std.proofs.Common.{◌≡◌, ◌<◌, ℕ, refl, ap, sym, subst, ◌∙◌}
+use Rattle.std.proofs.Common.{◌≡◌, ◌<◌, ℕ, false, refl, ap, sym, subst, ◌∙◌}
 use Rattle.std.proofs.lemmas.Option.{same_Some}
 use Rattle.std.specs.declared.option.Option.{Option}
 use Rattle.std.specs.declared.option.Option.TheVariants.{None, Some}
 use Rattle.iox2_store.specs.machine.Ports.{CreatePublisher}
-use Rattle.iox2_store.specs.machine.Records.{Environment, Publisher as Record}
+use Rattle.iox2_store.specs.machine.Records.{Environment, Handler, Publisher as Record}
 use Rattle.iox2_store.specs.machine.SingleCalls.{HoldsPublisher}
 use Rattle.iox2_store.specs.machine.State.{State, Messages}
+use Rattle.iox2_store.specs.declared.backpressure.BackpressureAction.{BackpressureAction}
 use Rattle.iox2_store.specs.declared.backpressure.BackpressureStrategy.{BackpressureStrategy}
 use Rattle.iox2_store.specs.declared.backpressure.BackpressureStrategy.TheVariants.{DiscardData}
 use Rattle.iox2_store.specs.declared.errors.PublisherCreateError.{PublisherCreateError}
 use Rattle.iox2_store.specs.declared.service_config.ServiceConfig.{ServiceConfig}
 use Rattle.iox2_laws.proofs.SendsRemain.{created_as}
+use Rattle.iox2_domain.specs.Handlers.{may_fail}
 use Rattle.iox2_domain.specs.Kept.{state_of}
 use Rattle.iox2_domain.specs.Fields.{Fields, kept_of}
-use Rattle.iox2_domain.specs.NewPublisher.{plain_publisher}
-use Rattle.iox2_pubsub.specs.Live.{IsReadyPublisher, NeverWaits, publisher_key}
+use Rattle.iox2_domain.specs.NewPublisher.{static_publisher}
+use Rattle.iox2_pubsub.specs.Live.{IsReadyPublisher, NeverFails, NeverWaits, publisher_key}
 use Rattle.iox2_pubsub.specs.declared.publisher.Publisher.{Publisher}
-use Rattle.iox2_pubsub.proofs.LiveParts.{publisher-live, unblocked-free, discards-from}
+use Rattle.iox2_pubsub.proofs.LiveParts.{publisher-live, unblocked-free, unfailed-from, discards-from}
 use Rattle.iox2_domain.specs.Reaches.{Reaches}
 use Rattle.iox2_domain.specs.Shows.{Shows}
 use Rattle.iox2_domain.proofs.lemmas.fields.ReachesShows.{reaches-shows-same}
 use Rattle.iox2_domain.proofs.lemmas.creations.PublisherCreations.{create-keeps, create-holds}
 
-module _ {T U : Type 0} (f g : Fields T U) (loans : ℕ) (strategy : BackpressureStrategy) (len : ℕ) (environment : Environment) where
+module _ {T U : Type 0} (f g : Fields T U) (loans : ℕ) (strategy : BackpressureStrategy) (handler : Option (Handler BackpressureAction)) (len : ℕ) (environment : Environment) where
   -- a domain that shows a state shows the one that a creation comes to
   pub created-shows : (m : Messages T U) (s t : State T U) (refusal : Option PublisherCreateError) → Shows (kept_of f) m s
-      → CreatePublisher environment (state_of (kept_of f)) (plain_publisher loans strategy len) t refusal → Reaches f g t
-      → Shows (kept_of g) m t × CreatePublisher environment s (plain_publisher loans strategy len) t refusal
+      → CreatePublisher environment (state_of (kept_of f)) (static_publisher loans strategy handler len) t refusal → Reaches f g t
+      → Shows (kept_of g) m t × CreatePublisher environment s (static_publisher loans strategy handler len) t refusal
   created-shows m s t refusal shown made reached =
-      let keeps = create-keeps environment (state_of (kept_of f)) (plain_publisher loans strategy len) t refusal made in (
+      let keeps = create-keeps environment (state_of (kept_of f)) (static_publisher loans strategy handler len) t refusal made in (
         reaches-shows-same f g m s t shown reached
             (keeps.next_message ∙ sym (ap (λ (u : State T U). u.next_message) shown.state)) (keeps.loans ∙ sym (ap (λ (u : State T U). u.loans) shown.state)),
-        subst (λ (u : State T U). CreatePublisher environment u (plain_publisher loans strategy len) t refusal) (sym shown.state) made,
+        subst (λ (u : State T U). CreatePublisher environment u (static_publisher loans strategy handler len) t refusal) (sym shown.state) made,
       )
 
   -- the publisher that was made stands so
-  created-stands : (t : State T U) → CreatePublisher environment (state_of (kept_of f)) (plain_publisher loans strategy len) t None → Reaches f g t
+  created-stands : (t : State T U) → CreatePublisher environment (state_of (kept_of f)) (static_publisher loans strategy handler len) t None → Reaches f g t
       → (publisher : Publisher) → publisher.id ≡ f.next_port
       → (publisher.id < (state_of (kept_of g)).next_port)
-      × ((x : Record) → (state_of (kept_of g)).publishers publisher.id ≡ Some x → (x.backpressure_strategy ≡ strategy) × (x.backpressure_handler ≡ None) × (x.blocked ≡ None))
+      × ((x : Record) → (state_of (kept_of g)).publishers publisher.id ≡ Some x → (x.backpressure_strategy ≡ strategy) × (x.backpressure_handler ≡ handler) × (x.blocked ≡ None))
   created-stands t made reached publisher id =
-      let new = created_as environment (state_of (kept_of f)) (plain_publisher loans strategy len) t made in
+      let new = created_as environment (state_of (kept_of f)) (static_publisher loans strategy handler len) t made in
       let at : (state_of (kept_of g)).publishers publisher.id ≡ Some new.0 =
       ap (state_of (kept_of g)).publishers id ∙ ap (λ (u : State T U). u.publishers f.next_port) reached.state ∙ new.1 in
       let one : (x : Record) → (state_of (kept_of g)).publishers publisher.id ≡ Some x → x ≡ new.0 = λ x here. same_Some x new.0 (sym here ∙ at) in (
@@ -50,27 +52,35 @@ module _ {T U : Type 0} (f g : Fields T U) (loans : ℕ) (strategy : Backpressur
       )
 
   -- it is ready
-  pub created-ready : (t : State T U) → CreatePublisher environment (state_of (kept_of f)) (plain_publisher loans strategy len) t None → Reaches f g t
+  pub created-ready : (t : State T U) → CreatePublisher environment (state_of (kept_of f)) (static_publisher loans strategy handler len) t None → Reaches f g t
       → (publisher : Publisher) → publisher.service_id ≡ (f.config).service_id → publisher.id ≡ f.next_port → IsReadyPublisher (kept_of g) publisher
   created-ready t made reached publisher service id =
-      let keeps = create-keeps environment (state_of (kept_of f)) (plain_publisher loans strategy len) t None made in
+      let keeps = create-keeps environment (state_of (kept_of f)) (static_publisher loans strategy handler len) t None made in
       let stands = created-stands t made reached publisher id in
       record {
         there = publisher-live (kept_of g) _ (
           refl,
           service ∙ ap (λ (c : ServiceConfig). c.service_id) (sym (ap (λ (u : State T U). u.config) reached.state ∙ keeps.config)),
           subst (HoldsPublisher (state_of (kept_of g))) (sym id)
-              (subst (λ (u : State T U). HoldsPublisher u f.next_port) (sym reached.state) (create-holds environment (state_of (kept_of f)) (plain_publisher loans strategy len) t made)),
+              (subst (λ (u : State T U). HoldsPublisher u f.next_port) (sym reached.state) (create-holds environment (state_of (kept_of f)) (static_publisher loans strategy handler len) t made)),
         );
         unblocked = unblocked-free (kept_of g) _ (stands.0, λ x here. (stands.1 x here).2);
       }
 
-  -- and never waits where it discards
-  pub created-never-waits : (t : State T U) → CreatePublisher environment (state_of (kept_of f)) (plain_publisher loans strategy len) t None → Reaches f g t
-      → (publisher : Publisher) → publisher.id ≡ f.next_port → strategy ≡ DiscardData → NeverWaits (kept_of g) (publisher_key publisher)
-  created-never-waits t made reached publisher id discards =
+  -- no handler fails a send of it
+  pub created-never-fails : (t : State T U) → CreatePublisher environment (state_of (kept_of f)) (static_publisher loans strategy handler len) t None → Reaches f g t
+      → (publisher : Publisher) → publisher.id ≡ f.next_port → may_fail handler ≡ false → NeverFails (kept_of g) publisher.id
+  created-never-fails t made reached publisher id none =
+      let stands = created-stands t made reached publisher id in
+      unfailed-from (kept_of g) _ (stands.0, λ x here. ap may_fail (stands.1 x here).1 ∙ none)
+
+  -- and it never waits where it discards
+  pub created-never-waits : (t : State T U) → CreatePublisher environment (state_of (kept_of f)) (static_publisher loans strategy handler len) t None → Reaches f g t
+      → (publisher : Publisher) → publisher.id ≡ f.next_port → strategy ≡ DiscardData → handler ≡ None → NeverWaits (kept_of g) (publisher_key publisher)
+  created-never-waits t made reached publisher id discards none =
       let stands = created-stands t made reached publisher id in
       record {
-        discards = discards-from (kept_of g) _ (stands.0, λ x here. ((stands.1 x here).0 ∙ discards, (stands.1 x here).1));
+        discards = discards-from (kept_of g) _ (stands.0, λ x here. ((stands.1 x here).0 ∙ discards, (stands.1 x here).1 ∙ none));
         unblocked = unblocked-free (kept_of g) _ (stands.0, λ x here. (stands.1 x here).2);
+        never_fails = created-never-fails t made reached publisher id (ap may_fail none);
       }

@@ -1,5 +1,5 @@
 -- A send of a loan, seen from outside.
-use Rattle.std.proofs.Common.{◌≡◌, ℕ, ◌<◌, eqb, refl, ap, sym, subst, ◌∙◌, inl, inr, arith, true, false, Bool}
+use Rattle.std.proofs.Common.{◌≡◌, ◌≢◌, ◌⊎◌, ℕ, ◌<◌, eqb, refl, ap, sym, subst, ◌∙◌, inl, inr, arith, true, false, Bool}
 use Rattle.std.proofs.lemmas.Bool.{eqb-true, cases_eq, ne_eqb}
 use Rattle.std.specs.declared.option.Option.{Option}
 use Rattle.std.specs.declared.option.Option.TheVariants.{None, Some}
@@ -20,8 +20,11 @@ use Rattle.iox2_store.specs.declared.backpressure.BackpressureStrategy.TheVarian
 use Rattle.iox2_store.specs.declared.key.Key.{Key}
 use Rattle.iox2_laws.proofs.Waits.{waits_trans, update_publisher_waits, published_waits}
 use Rattle.iox2_domain.proofs.lemmas.sends.DeliverySteps.{never-waits}
+use Rattle.iox2_domain.specs.Handlers.{may_fail}
 use Rattle.iox2_domain.specs.Kept.{Kept}
-use Rattle.iox2_pubsub.specs.Live.{IsBlockedSend, blocked_key}
+use Rattle.iox2_pubsub.specs.Live.{IsBlockedSend, NeverFails, blocked_key}
+use Rattle.iox2_pubsub.proofs.LiveParts.{unfailed-parts}
+use Rattle.iox2_pubsub.proofs.SentMessages.{after-error}
 use Rattle.iox2_pubsub.specs.declared.blocked_send.BlockedSend.{BlockedSend}
 use Rattle.iox2_pubsub.specs.declared.send_outcome.SendOutcome.TheVariants.{Delivered, Blocked}
 use Rattle.iox2_store.specs.machine.State.{State, Messages, receiving_buffer}
@@ -62,12 +65,12 @@ module _ {T U : Type 0} (environment : Environment) (f g : Fields T U) (n : ℕ)
     by true e = absurd (away (eqb-true k n e))
     by false e = refl
 
-  -- what the domain shows after an error
-  pub lost-shown : (error : SendError) → result ≡ Send_error error → Shows (kept_of g) m (state_of (kept_of g))
-  lost-shown error failed = record {
+  -- what the domain shows after an error, where no handler failed the send
+  pub lost-shown : (error : SendError) → error ≢ UnableToDeliver → result ≡ Send_error error → Shows (kept_of g) m (state_of (kept_of g))
+  lost-shown error other failed = record {
     state = refl;
     well_formed = sends.agrees.well_formed;
-    entries = λ k entry e. shown.entries k entry (sends.lost error failed k entry e);
+    entries = λ k entry e. shown.entries k entry (sends.lost error other failed k entry e);
     complete = sends.agrees.entries;
     below = λ k le.
         let rises = (send_advances environment s n l (state_of (kept_of g)) result machine-sends).next_message in
@@ -114,7 +117,10 @@ module _ {T U : Type 0} (environment : Environment) (f g : Fields T U) (n : ℕ)
   -- either way
   pub sent-shown : (outcome : Result SendOutcome SendError) → result ≡ result_of_send outcome → Shows (kept_of g) (messages_after m n l outcome) (state_of (kept_of g))
   sent-shown (Ok delivered) is = send-shown
-  sent-shown (Err error) is = lost-shown error is
+  sent-shown (Err error) is = elim (after-error m n l error) [
+    | inl sent ↦ subst (λ (k : Messages T U). Shows (kept_of g) k (state_of (kept_of g))) (sym sent.1) send-shown
+    | inr lost ↦ subst (λ (k : Messages T U). Shows (kept_of g) k (state_of (kept_of g))) (sym lost.1) (lost-shown error lost.0 is)
+  ]
 
 -- a send that hadn't failed succeeds
 pub only-ok : (end : SendEnd) → IsKept end → (end_result end ≡ Send_error UnableToDeliver → ⊥) → (outcome : Result SendOutcome SendError) → result_of_send outcome ≡ end_result end
@@ -125,15 +131,40 @@ only-ok SendEnd.Undelivered kept unfailed (Err error) is = absurd (unfailed refl
 only-ok SendEnd.Blocked kept unfailed (Err error) is = let clash : Send_error error ≡ Blocked_send = is in absurd cc
 only-ok SendEnd.Lost kept unfailed (Err error) is = absurd kept
 
--- a send whose publisher is there succeeds, and so each error is that it is gone
+-- a loan's publisher, where no handler fails a send of it
+pub never-fails-here : {T U : Type 0} (old : Kept T U) (f : Fields T U) → kept_of f ≡ old → (p : ℕ) → NeverFails old p → (l : Loan T U) → l.publisher ≡ p
+    → (x : Publisher) → (state_of (kept_of f)).publishers l.publisher ≡ Some x → may_fail x.backpressure_handler ≡ false
+never-fails-here {T} {U} old f same p never l its x at =
+    (unfailed-parts old p never).1 x (ap (λ (k : Kept T U). (state_of k).publishers p) (sym same) ∙ ap (state_of (kept_of f)).publishers (sym its) ∙ at)
+
+-- where its publisher is there, only a handler fails a send
+pub handler-error : (end : SendEnd) → IsKept end → (outcome : Result SendOutcome SendError) → result_of_send outcome ≡ end_result end → IfErr outcome (λ error. error ≡ UnableToDeliver)
+handler-error end kept (Ok came) is = tt
+handler-error (SendEnd.Delivered count) kept (Err error) is = let clash : Send_error error ≡ Delivered_to count = is in absurd cc
+handler-error SendEnd.Undelivered kept (Err error) is = let same : Send_error error ≡ Send_error UnableToDeliver = is in cc
+handler-error SendEnd.Blocked kept (Err error) is = let clash : Send_error error ≡ Blocked_send = is in absurd cc
+handler-error SendEnd.Lost kept (Err error) is = absurd kept
+
+-- and else that it is gone
+pub either-error : {T U : Type 0} (f g : Fields T U) (n p : ℕ) (end : SendEnd) → (HoldsPublisher (state_of (kept_of f)) p → IsKept end)
+    → (sends : SendsLoan fixed_handlers f g n (end_result end)) → sends.loan.publisher ≡ p
+    → (outcome : Result SendOutcome SendError) → result_of_send outcome ≡ end_result end → IfErr outcome (λ error. (error ≡ ConnectionBrokenSinceSenderNoLongerExists) ⊎ (error ≡ UnableToDeliver))
+either-error {T} {U} f g n p end kept sends its (Ok delivered) is = tt
+either-error {T} {U} f g n p end kept sends its (Err error) is =
+    by_option ((error ≡ ConnectionBrokenSinceSenderNoLongerExists) ⊎ (error ≡ UnableToDeliver)) ((state_of (kept_of f)).publishers sends.loan.publisher) _ _ sends.sends
+    (λ _ gone. inl (let same : Send_error error ≡ Send_error ConnectionBrokenSinceSenderNoLongerExists = is ∙ gone.1 in cc))
+    (λ x there _. inr (handler-error end (kept (x, ap (state_of (kept_of f)).publishers (sym its) ∙ there)) (Err error) is))
+
+-- a send whose publisher is there, and whose handler fails none, succeeds, and so each error is that it is gone
 pub only-error : {T U : Type 0} (f g : Fields T U) (n p : ℕ) (end : SendEnd) → (HoldsPublisher (state_of (kept_of f)) p → IsKept end)
     → (sends : SendsLoan fixed_handlers f g n (end_result end)) → sends.loan.publisher ≡ p
+    → ((x : Publisher) → (state_of (kept_of f)).publishers sends.loan.publisher ≡ Some x → may_fail x.backpressure_handler ≡ false)
     → (outcome : Result SendOutcome SendError) → result_of_send outcome ≡ end_result end → IfErr outcome (λ error. error ≡ ConnectionBrokenSinceSenderNoLongerExists)
-only-error {T} {U} f g n p end kept sends its (Ok delivered) is = tt
-only-error {T} {U} f g n p end kept sends its (Err error) is =
+only-error {T} {U} f g n p end kept sends its never (Ok delivered) is = tt
+only-error {T} {U} f g n p end kept sends its never (Err error) is =
     by_option (error ≡ ConnectionBrokenSinceSenderNoLongerExists) ((state_of (kept_of f)).publishers sends.loan.publisher) _ _ sends.sends
     (λ _ gone. let same : Send_error error ≡ Send_error ConnectionBrokenSinceSenderNoLongerExists = is ∙ gone.1 in cc)
-    (λ x there _. absurd (let no : false ≡ true = only-ok end (kept (x, ap (state_of (kept_of f)).publishers (sym its) ∙ there)) sends.unfailed (Err error) is in cc))
+    (λ x there _. absurd (let no : false ≡ true = only-ok end (kept (x, ap (state_of (kept_of f)).publishers (sym its) ∙ there)) (sends.unfailed never) (Err error) is in cc))
 
 -- ---- a send that is blocked
 
@@ -182,4 +213,9 @@ pub sent-entry : {T U : Type 0} (m : Messages T U) (n : ℕ) (l : Loan T U) (out
 sent-entry m n l (Ok delivered) unsent entry at =
     let both : Some entry ≡ Some (entry_of l) = sym at ∙ put_at-same m n (Some (entry_of l)) in
     cc
-sent-entry m n l (Err error) unsent entry at = absurd (let no : None ≡ Some entry = sym unsent ∙ at in cc)
+sent-entry {T} {U} m n l (Err error) unsent entry at = elim (after-error m n l error) [
+  | inl sent ↦
+      let both : Some entry ≡ Some (entry_of l) = sym at ∙ ap (λ (k : Messages T U). k n) sent.1 ∙ put_at-same m n (Some (entry_of l)) in
+      cc
+  | inr lost ↦ absurd (let no : None ≡ Some entry = sym unsent ∙ sym (ap (λ (k : Messages T U). k n) lost.1) ∙ at in cc)
+]

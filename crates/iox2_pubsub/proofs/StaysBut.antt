@@ -12,9 +12,10 @@ use Rattle.iox2_laws.proofs.PortsStay.{Remain}
 use Rattle.iox2_laws.proofs.Waits.{Waits}
 use Rattle.iox2_store.specs.Stored.{In_mailbox}
 use Rattle.iox2_laws.proofs.NumberLemmas.{contains_right}
+use Rattle.iox2_domain.specs.Handlers.{may_fail}
 use Rattle.iox2_domain.specs.Kept.{Kept, state_of, entries_of}
 use Rattle.iox2_domain.specs.Shows.{Shows}
-use Rattle.iox2_pubsub.specs.Live.{IsSingleValued, IsPublisherKey, IsSubscriberKey, IsLoanKey, IsSampleKey, IsBlockedKey, HasMark, IsFromOrigin, LoanHasHeader, LoanHasUserHeader, SampleHasHeader, SampleHasUserHeader, Item, No_item, A_publisher, A_blocked_send, Both, IsOtherPublisher, IsOtherSubscriber, IsOtherLoan, IsOtherSample, IsUnblocked, Discards, NeverWaits, IsOtherBlocked, StaysBut, Stays, IsNewIn, unwritten_key, written_key}
+use Rattle.iox2_pubsub.specs.Live.{IsSingleValued, IsPublisherKey, IsSubscriberKey, IsLoanKey, IsSampleKey, IsBlockedKey, HasMark, IsFromOrigin, LoanHasHeader, LoanHasUserHeader, SampleHasHeader, SampleHasUserHeader, Item, No_item, A_publisher, A_blocked_send, Both, IsOtherPublisher, IsOtherSubscriber, IsOtherLoan, IsOtherSample, IsUnblocked, Discards, NeverFails, NeverWaits, IsOtherBlocked, StaysBut, Stays, IsNewIn, unwritten_key, written_key}
 use Rattle.iox2_pubsub.specs.Slices.{IsSliced, HasUnwrittenCells, HasValues, SampleHasValues}
 use Rattle.iox2_pubsub.specs.declared.sample.Sample.{Sample}
 
@@ -144,6 +145,15 @@ module _ {T U : Type 0} (spent : Item) (old new : Kept T U) (remain : PortsRemai
         (before.2.strategy ∙ has.0, before.2.handler ∙ has.1),
   )
 
+  unfailed : (publisher : ℕ) → NeverFails old publisher → NeverFails new publisher
+  unfolding NeverFails
+  unfailed publisher was = (
+    more publisher was.0,
+    λ x' at.
+        let before = waits.publishers publisher x' was.0 at in
+        ap may_fail before.2.handler ∙ was.1 before.0 before.1,
+  )
+
   blocked : (key : Key) → IsBlockedKey old key → IsOtherPublisher spent key.port → IsOtherBlocked spent key.port → IsBlockedKey new key
   unfolding IsBlockedKey
   blocked key live other apart =
@@ -167,7 +177,8 @@ module _ {T U : Type 0} (spent : Item) (old new : Kept T U) (remain : PortsRemai
     samples = sample;
     origins = origin;
     unblocked = free;
-    never_wait = λ key was other. record { discards = discards key was.discards; unblocked = free key was.unblocked other };
+    never_wait = λ key was other. record { discards = discards key was.discards; unblocked = free key was.unblocked other; never_fails = unfailed key.port was.never_fails };
+    never_fail = unfailed;
     blocked_sends = blocked;
     loan_cells = loan-cells;
     loan_payloads = loan-values;
@@ -228,6 +239,7 @@ module _ {T U : Type 0} (start old : Kept T U) (before : Stays start old) (item 
     origins = λ it from other. next.origins it (before.origins it from other) (apart.origins it from);
     unblocked = λ key free other. next.unblocked key (before.unblocked key free other) (apart.unblocked key free).1;
     never_wait = λ key was other. next.never_wait key (before.never_wait key was other) (apart.unblocked key was.unblocked).1;
+    never_fail = λ publisher was. next.never_fail publisher (before.never_fail publisher was);
     blocked_sends = λ key live other alike.
         next.blocked_sends key (before.blocked_sends key live other alike) (apart.blocked_sends key live).0 (apart.blocked_sends key live).1;
     loan_cells = λ n cells has other. next.loan_cells n cells (before.loan_cells n cells has other) (apart.cells n cells has);
@@ -258,6 +270,7 @@ module _ {T U : Type 0} (start old : Kept T U) (before : Stays start old) (item 
     origins = λ it from other. next.origins it (before.origins it from tt) (apart.origins it from, other);
     unblocked = λ key free other. next.unblocked key (before.unblocked key free tt) ((apart.unblocked key free).1, other);
     never_wait = λ key was other. next.never_wait key (before.never_wait key was tt) ((apart.unblocked key was.unblocked).1, other);
+    never_fail = λ publisher was. next.never_fail publisher (before.never_fail publisher was);
     blocked_sends = λ key live other alike.
         next.blocked_sends key (before.blocked_sends key live tt tt) ((apart.blocked_sends key live).0, other) ((apart.blocked_sends key live).1, alike);
     loan_cells = λ n cells has other. next.loan_cells n cells (before.loan_cells n cells has tt) (apart.cells n cells has, other);
@@ -304,6 +317,7 @@ unchanged-stays spent kept = record {
   origins = λ it from other. from;
   unblocked = λ key free other. free;
   never_wait = λ key was other. was;
+  never_fail = λ publisher was. was;
   blocked_sends = λ key live other alike. live;
   loan_cells = λ n cells has other. has;
   loan_payloads = λ n values has other. has;
@@ -398,6 +412,7 @@ stays-but-more first second old new stays = record {
   origins = λ it from other. stays.origins it from other.0;
   unblocked = λ key free other. stays.unblocked key free other.0;
   never_wait = λ key was other. stays.never_wait key was other.0;
+  never_fail = stays.never_fail;
   blocked_sends = λ key live other alike. stays.blocked_sends key live other.0 alike.0;
   loan_cells = λ n cells has other. stays.loan_cells n cells has other.0;
   loan_payloads = λ n values has other. stays.loan_payloads n values has other.0;

@@ -1,10 +1,10 @@
 -- A value or a slice is loaned and written, and it may be sent at once.
 use Rattle.std.specs.List.{All}
-use Rattle.std.proofs.Common.{◌≡◌, ℕ, List, true, false, cond, refl, ap, sym, subst, ◌∙◌, Result, Ok, Err, None, Some}
+use Rattle.std.proofs.Common.{◌≡◌, ℕ, List, true, false, cond, refl, ap, sym, subst, ◌∙◌, inl, Result, Ok, Err, None, Some}
 use Rattle.std.proofs.lemmas.Bool.{eq-eqb}
 use Rattle.std.specs.declared.option.Option.{Option}
 use Rattle.std.specs.Option.{MatchOption}
-use Rattle.std.specs.Prelude.{IsOk}
+use Rattle.std.specs.Prelude.{IfErr}
 use Rattle.iox2_store.specs.machine.Environments.{ample_memory}
 use Rattle.iox2_store.specs.machine.Loans.{GrantLoan, written}
 use Rattle.iox2_store.specs.machine.Records.{Loan}
@@ -12,8 +12,9 @@ use Rattle.iox2_store.specs.machine.SingleCalls.{GrantWrittenLoan, GrantDefaultS
 use Rattle.iox2_store.specs.machine.State.{State, Messages, with_loan}
 use Rattle.iox2_store.specs.declared.errors.LoanError.{LoanError}
 use Rattle.iox2_store.specs.declared.errors.SendError.{SendError}
+use Rattle.iox2_store.specs.declared.errors.SendError.TheVariants.{UnableToDeliver}
 use Rattle.iox2_pubsub.specs.SendCalls.{Sends, messages_after}
-use Rattle.iox2_pubsub.specs.WrittenLoans.{SendsCopy}
+use Rattle.iox2_pubsub.specs.WrittenLoans.{SendsCopy, SendsGranted}
 use Rattle.iox2_pubsub.specs.declared.send_outcome.SendOutcome.{SendOutcome}
 
 module _ {T U : Type 0} (s mid : State T U) (p n : ℕ) (next : n ≡ s.next_message) (l : Loan T U) (out : mid.loans n ≡ Some l) (value : T) (user_header : U)
@@ -35,19 +36,24 @@ module _ {T U : Type 0} (s mid : State T U) (p n : ℕ) (next : n ≡ s.next_mes
   written-out = ap (λ b. cond b (Some (written l value)) (mid.loans n)) (eq-eqb n n refl)
 
   -- and sent
-  pub copy-sent : (is_default : U → Type 0) → is_default user_header → (m : Messages T U) (number : ℕ) → number ≡ n → (result : Result SendOutcome SendError) → IsOk result → (s' : State T U)
-      → Sends with_value number (written l value) result s' → SendsCopy is_default m s p value result (messages_after m number (written l value) result) s'
-  copy-sent is_default default m number same (Ok outcome) ok s' sends = record {
+  copy-granted : (is_default : U → Type 0) → is_default user_header → (m : Messages T U) (number : ℕ) → number ≡ n → (result : Result SendOutcome SendError) (s' : State T U)
+      → Sends with_value number (written l value) result s' → SendsGranted is_default m s p value result (messages_after m number (written l value) result) s'
+  copy-granted is_default default m number same result s' sends = record {
     user_header = user_header;
     default = default;
     granted = with_value;
     grants = written-grants;
     loan = written l value;
     out = ap with_value.loans (sym next) ∙ written-out;
-    sends = subst (λ (k : ℕ). Sends with_value k (written l value) (Ok outcome) s') (same ∙ next) sends;
-    messages = ap (λ (k : ℕ). messages_after m k (written l value) (Ok outcome)) (same ∙ next);
+    sends = subst (λ (k : ℕ). Sends with_value k (written l value) result s') (same ∙ next) sends;
+    messages = ap (λ (k : ℕ). messages_after m k (written l value) result) (same ∙ next);
   }
-  copy-sent is_default default m number same (Err e) ok s' sends = absurd (let no : false ≡ true = ok in cc)
+
+  pub copy-sent : (is_default : U → Type 0) → is_default user_header → (m : Messages T U) (number : ℕ) → number ≡ n → (result : Result SendOutcome SendError)
+      → IfErr result (λ error. error ≡ UnableToDeliver) → (s' : State T U)
+      → Sends with_value number (written l value) result s' → SendsCopy is_default m s p value result (messages_after m number (written l value) result) s'
+  copy-sent is_default default m number same (Ok outcome) failed s' sends = copy-granted is_default default m number same (Ok outcome) s' sends
+  copy-sent is_default default m number same (Err e) failed s' sends = inl (failed, copy-granted is_default default m number same (Err e) s' sends)
 
 -- a loan that is refused is refused with any value
 pub written-refused : {T U : Type 0} (s s' : State T U) (p : ℕ) (e : LoanError) → ((user_header : U) → GrantLoan ample_memory user_header false 1 s p s' (Some e))

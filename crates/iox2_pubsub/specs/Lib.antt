@@ -9,3 +9,4 @@ pub mod ChangedLoans
 pub mod LoanLends
 pub mod Slices
 pub mod WrittenLoans
+pub mod Handlers

@@ -10,6 +10,7 @@ use Rattle.iox2_store.specs.declared.backpressure.BackpressureStrategy.TheVarian
 use Rattle.iox2_store.specs.declared.header.Header.{Header}
 use Rattle.iox2_store.specs.declared.key.Key.{Key}
 use Rattle.iox2_store.specs.declared.service_config.TypeVariant.TheVariants.{FixedSize}
+use Rattle.iox2_domain.specs.Handlers.{may_fail}
 use Rattle.iox2_domain.specs.Kept.{Kept, state_of, entries_of}
 use Rattle.iox2_domain.specs.LoanCalls.{HasLoanHeader, HasLoanUserHeader}
 use Rattle.iox2_pubsub.specs.Payloads.{payloads_for}
@@ -58,6 +59,12 @@ module _ {T U : Type 0} (domain : Kept T U) where
   unfoldable pub IsSingleValued : Type 0
   IsSingleValued = ((domain.config).variant ≡ FixedSize) × ((domain.config).units_per_element ≡ 1)
 
+  -- No handler of the publisher with this id fails a send. One that was closed has none.
+  unfoldable pub NeverFails : (publisher : ℕ) → Type 0
+  NeverFails publisher =
+      (publisher < (state_of domain).next_port)
+      × ((x : MachinePublisher) → (state_of domain).publishers publisher ≡ Some x → may_fail x.backpressure_handler ≡ false)
+
   module _ (key : Key) where
     -- The key names a publisher of the domain that wasn't closed.
     unfoldable pub IsPublisherKey : Type 0
@@ -81,10 +88,11 @@ module _ {T U : Type 0} (domain : Kept T U) where
         (key.port < (state_of domain).next_port)
         × ((x : MachinePublisher) → (state_of domain).publishers key.port ≡ Some x → (x.backpressure_strategy ≡ DiscardData) × (x.backpressure_handler ≡ None))
 
-    -- No send of the publisher with the key's port is ever blocked.
+    -- No send of the publisher with the key's port is ever blocked, nor does a handler fail one.
     pub record NeverWaits : Type 0 where
       pub discards : Discards
       pub unblocked : IsUnblocked
+      pub never_fails : NeverFails key.port
 
     -- The key names a send of the domain that is blocked.
     unfoldable pub IsBlockedKey : Type 0
@@ -296,7 +304,7 @@ AreApart first (Both second third) = AreApart first second × AreApart first thi
 
 module _ {T U : Type 0} where
   -- The settings stay, and each port, loan, sample and blocked send that was live is live and reads as it did, but for the
-  -- item that was spent. A publisher none of whose sends is blocked, or ever is, stays so.
+  -- item that was spent. A publisher none of whose sends is blocked, or ever is, stays so, and one that no handler fails.
   pub record StaysBut (spent : Item) (old new : Kept T U) : Type 0 where
     pub settings : new.config ≡ old.config
     pub single_valued : IsSingleValued old → IsSingleValued new
@@ -310,6 +318,7 @@ module _ {T U : Type 0} where
     pub origins : (sample : Sample) → IsFromOrigin old sample → IsOtherSample spent sample.sample.subscriber sample.sample.number → IsFromOrigin new sample
     pub unblocked : (key : Key) → IsUnblocked old key → IsOtherBlocked spent key.port → IsUnblocked new key
     pub never_wait : (key : Key) → NeverWaits old key → IsOtherBlocked spent key.port → NeverWaits new key
+    pub never_fail : (publisher : ℕ) → NeverFails old publisher → NeverFails new publisher
     pub blocked_sends : (key : Key) → IsBlockedKey old key → IsOtherPublisher spent key.port → IsOtherBlocked spent key.port → IsBlockedKey new key
     pub loan_cells : (number : ℕ) (cells : List (Option T)) → HasUnwrittenCells old number cells → IsOtherLoan spent number → HasUnwrittenCells new number cells
     pub loan_payloads : (number : ℕ) (values : List T) → HasValues old number values → IsOtherLoan spent number → HasValues new number values

@@ -10,6 +10,7 @@ use Rattle.iox2_store.specs.machine.Records.{Loan}
 use Rattle.iox2_store.specs.machine.Sends.{SendResult, Delivered_to, Blocked_send, Send_error, Send}
 use Rattle.iox2_store.specs.machine.State.{State, Messages}
 use Rattle.iox2_store.specs.declared.errors.SendError.{SendError}
+use Rattle.iox2_store.specs.declared.errors.SendError.TheVariants.{UnableToDeliver}
 use Rattle.iox2_pubsub.specs.declared.send_outcome.SendOutcome.{SendOutcome}
 use Rattle.iox2_pubsub.specs.declared.send_outcome.SendOutcome.TheVariants.{Delivered, Blocked}
 use Rattle.iox2_pubsub.specs.declared.blocked_send.BlockedSend.{BlockedSend}
@@ -53,7 +54,9 @@ result_of_send (Err error) = Send_error error
 abbrev pub Sends : {T U : Type 0} → State T U → (n : ℕ) → Loan T U → Result SendOutcome SendError → State T U → Type 0
 Sends s n l result s' = Send fixed_handlers s n l s' (result_of_send result)
 
--- The messages after a send of the loan n, which is one of them from then on. After an error it is none.
+-- The messages after a send of the loan n, which is one of them from then on. After an error it is none, but where a handler
+-- failed the send.
 abbrev pub messages_after : {T U : Type 0} → Messages T U → (n : ℕ) → Loan T U → Result SendOutcome SendError → Messages T U
 messages_after m n l (Ok outcome) = put_at m n (Some (entry_of l))
+messages_after m n l (Err UnableToDeliver) = put_at m n (Some (entry_of l))
 messages_after m n l (Err error) = m

@@ -1,15 +1,15 @@
 -- Calls that loan a value or a slice and write it at once.
-use Rattle.std.specs.Prelude.{◌≡◌, ℕ, List, false, Result, MatchResult}
+use Rattle.std.specs.Prelude.{◌≡◌, ◌⊎◌, ℕ, List, false, Result, MatchResult}
 use Rattle.std.specs.List.{All}
 use Rattle.std.specs.declared.option.Option.TheVariants.{None, Some}
-use Rattle.std.specs.declared.result.Result.TheVariants.{Ok}
+use Rattle.std.specs.declared.result.Result.TheVariants.{Ok, Err}
 use Rattle.iox2_store.specs.machine.Environments.{ample_memory}
 use Rattle.iox2_store.specs.machine.Records.{Loan}
 use Rattle.iox2_store.specs.machine.SingleCalls.{GrantWrittenLoan, GrantDefaultSlice}
 use Rattle.iox2_store.specs.machine.State.{State, Messages}
 use Rattle.iox2_store.specs.declared.errors.LoanError.{LoanError}
 use Rattle.iox2_store.specs.declared.errors.SendError.{SendError}
-use Rattle.iox2_store.specs.declared.errors.SendError.TheVariants.{LoanError as NotLoaned}
+use Rattle.iox2_store.specs.declared.errors.SendError.TheVariants.{LoanError as NotLoaned, UnableToDeliver}
 use Rattle.iox2_pubsub.specs.declared.send_outcome.SendOutcome.{SendOutcome}
 use Rattle.iox2_pubsub.specs.SendCalls.{Sends, messages_after}
 
@@ -30,16 +30,16 @@ module _ {T U : Type 0} where
       (λ _. (values : List T) × (user_header : U) × is_default user_header × GrantDefaultSlice ample_memory IsValue values user_header len s p s' None)
       (λ e. (s' ≡ s) × ((values : List T) (user_header : U) → All IsValue values → GrantDefaultSlice ample_memory IsValue values user_header len s p s' (Some e)))
 
-  -- The publisher p was lent this value, and the loan is sent, with this outcome.
-  pub record SendsGranted (is_default : U → Type 0) (m : Messages T U) (s : State T U) (p : ℕ) (value : T) (outcome : SendOutcome) (m' : Messages T U) (s' : State T U) : Type 0 where
+  -- The publisher p was lent this value, and the loan is sent, with this outcome or error.
+  pub record SendsGranted (is_default : U → Type 0) (m : Messages T U) (s : State T U) (p : ℕ) (value : T) (outcome : Result SendOutcome SendError) (m' : Messages T U) (s' : State T U) : Type 0 where
     pub user_header : U
     pub default : is_default user_header
     pub granted : State T U
     pub grants : GrantWrittenLoan ample_memory value user_header false 1 s p granted None
     pub loan : Loan T U
     pub out : granted.loans s.next_message ≡ Some loan
-    pub sends : Sends granted s.next_message loan (Ok outcome) s'
-    pub messages : m' ≡ messages_after m s.next_message loan (Ok outcome)
+    pub sends : Sends granted s.next_message loan outcome s'
+    pub messages : m' ≡ messages_after m s.next_message loan outcome
 
   -- The publisher p lends nothing, for this reason, and nothing changes.
   pub record RefusesLoan (m : Messages T U) (s : State T U) (p : ℕ) (error : SendError) (m' : Messages T U) (s' : State T U) : Type 0 where
@@ -49,7 +49,10 @@ module _ {T U : Type 0} where
     pub state : s' ≡ s
     pub refused : (value : T) (user_header : U) → GrantWrittenLoan ample_memory value user_header false 1 s p s' (Some reason)
 
-  -- The publisher p is asked to send this value: a loan with it is granted and sent, or refused.
+  -- The publisher p is asked to send this value: a loan with it is granted and sent, or refused. Where a handler failed the
+  -- send, it was sent.
   abbrev pub SendsCopy : (is_default : U → Type 0) → Messages T U → State T U → (p : ℕ) → (value : T) → Result SendOutcome SendError → Messages T U → State T U → Type 0
   SendsCopy is_default m s p value result m' s' =
-      MatchResult result (λ outcome. SendsGranted is_default m s p value outcome m' s') (λ error. RefusesLoan m s p error m' s')
+      MatchResult result
+      (λ outcome. SendsGranted is_default m s p value (Ok outcome) m' s')
+      (λ error. ((error ≡ UnableToDeliver) × SendsGranted is_default m s p value (Err error) m' s') ⊎ RefusesLoan m s p error m' s')

@@ -18,11 +18,11 @@ pub use blocked_send::BlockedSend;
 pub use custom_markers::{CustomHeaderMarker, CustomPayloadMarker};
 pub use domain::Domain;
 pub use iox2_store::{
-    AllocationStrategy, BackpressureAction, BackpressureFn, BackpressureInfo, BackpressureStrategy,
-    ConnectionFailure, DegradationAction, DegradationCause, DegradationFn, DegradationInfo,
-    DomainCreateError, Header, Key, LoanError, PublisherCreateError, ReceiveError, SendError,
-    ServiceConfig, SharedMemoryOpenError, SubscriberCreateError, TypeVariant, UniqueNodeId,
-    UniquePublisherId, UniqueSubscriberId, ZeroCopyCreationError, worst_case_slots,
+    AllocationStrategy, BackpressureAction, BackpressureFn, BackpressureHandler, BackpressureInfo,
+    BackpressureStrategy, ConnectionFailure, DegradationAction, DegradationCause, DegradationFn,
+    DegradationInfo, DomainCreateError, Header, Key, LoanError, PublisherCreateError, ReceiveError,
+    SendError, ServiceConfig, SharedMemoryOpenError, SubscriberCreateError, TypeVariant,
+    UniqueNodeId, UniquePublisherId, UniqueSubscriberId, ZeroCopyCreationError, worst_case_slots,
 };
 pub use port_factory::publisher::PortFactoryPublisher;
 pub use port_factory::subscriber::PortFactorySubscriber;

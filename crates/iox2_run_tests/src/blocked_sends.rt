@@ -14,8 +14,8 @@ use std::alloc::Global;
 use std::process::Abort;
 use std::time::Duration;
 
-// A service whose subscribers borrow one message each of a publisher.
-fn service(max_subscribers: usize, history_size: usize) -> ServiceConfig {
+/// A service whose subscribers borrow one message each of a publisher.
+pub(crate) fn service(max_subscribers: usize, history_size: usize) -> ServiceConfig {
     ServiceConfig {
         max_publishers: 2,
         max_subscribers,
@@ -40,8 +40,8 @@ fn waiting_publisher(loans: usize) -> Command<u64, u8>
     }
 }
 
-// The commands of a run on a new domain get these replies.
-fn check(
+/// The commands of a run on a new domain get these replies.
+pub(crate) fn check(
     rt: &impl Abort,
     alloc: Global,
     config: ServiceConfig,

@@ -1,5 +1,5 @@
 -- Commands that loan a value and write it at once, with what a run holds.
-use Rattle.std.proofs.Common.{◌≡◌, ℕ, true, false, List, [], ◌∷◌, ◌++◌, map, refl, sym, ap, subst, ◌∙◌, None, Some}
+use Rattle.std.proofs.Common.{◌≡◌, ◌⊎◌, inl, inr, ℕ, true, false, List, [], ◌∷◌, ◌++◌, map, refl, sym, ap, subst, ◌∙◌, None, Some}
 use Rattle.std.proofs.lemmas.Option.{same_Some}
 use Rattle.std.specs.Prelude.{IfOk, slice_get, slice_index_or}
 use Rattle.std.specs.declared.result.Result.{Result}
@@ -10,17 +10,18 @@ use Rattle.iox2_store.specs.machine.State.{State, Messages}
 use Rattle.iox2_store.specs.machine.Environments.{ample_memory, fixed_handlers}
 use Rattle.iox2_store.specs.machine.Numbers.{put_at}
 use Rattle.iox2_store.specs.machine.Loans.{entry_of}
-use Rattle.iox2_store.specs.machine.Sends.{Send, Delivered_to, Blocked_send}
+use Rattle.iox2_store.specs.machine.Sends.{Send, Delivered_to, Blocked_send, Send_error}
 use Rattle.iox2_store.specs.machine.SingleCalls.{GrantWrittenLoan, HoldsBlocked}
 use Rattle.iox2_store.specs.declared.errors.LoanError.{LoanError}
 use Rattle.iox2_store.specs.declared.errors.SendError.{SendError}
+use Rattle.iox2_store.specs.declared.errors.SendError.TheVariants.{UnableToDeliver}
 use Rattle.iox2_domain.specs.Kept.{Kept as Domain}
 use Rattle.iox2_domain.specs.Shows.{Shows}
 use Rattle.iox2_store.specs.declared.key.Key.{Key}
 use Rattle.iox2_pubsub.specs.Live.{IsBlockedSend, blocked_key, lender_key, publisher_key}
 use Rattle.iox2_pubsub.proofs.LiveParts.{blocked-parts}
 use Rattle.iox2_laws.proofs.SendsRemain.{send_waits_with}
-use Rattle.iox2_pubsub.specs.SendCalls.{IfBlocked, sent_result}
+use Rattle.iox2_pubsub.specs.SendCalls.{IfBlocked, Sends, messages_after, sent_result}
 use Rattle.iox2_pubsub.specs.WrittenLoans.{SendsCopy, SendsGranted, RefusesLoan}
 use Rattle.iox2_pubsub.specs.declared.publisher.Publisher.{Publisher as PublisherHandle}
 use Rattle.iox2_pubsub.specs.declared.sample_mut.SampleMut.{SampleMut}
@@ -74,6 +75,14 @@ module _ {T U : Type 0} (defaults : Defaults T U) (new : Domain T U) (table : Li
       (ap (λ (p : ℕ). record { reply = Blocked; handle = Blocked_handle p s.next_message; event = Message_sent l.publisher s.next_message (entry_of l); state = s' }) (sym lender)) refl
       (λ k e. let clash : Blocked_handle h.id s.next_message ≡ Loan_handle k = e in absurd cc) (λ p q k e. let clash : Blocked_handle h.id s.next_message ≡ Sample_handle p q k = e in absurd cc)
       (λ p k e. let same : Blocked_handle h.id s.next_message ≡ Blocked_handle p k = e in (cc, cc)) shown (blocked_entry new _ s' shown blocked waits.0 key is)
+
+  -- a handler failed it
+  copied-failing : (s' : State T U) → Send fixed_handlers mid s.next_message l s' (Send_error UnableToDeliver) → Shows new (put_at m s.next_message (Some (entry_of l))) s'
+      → Comes fixed_handlers defaults (Shows new) m s handles events (SendCopy of value) (SendRefused UnableToDeliver) (map entry_for table ++ No_entry ∷ [])
+  copied-failing s' sends shown =
+      copy_comes fixed_handlers defaults (Shows new) m s handles events (map entry_for table) w default_value default_header is_value is_header of h.service_id h.id value stand unblocked alone
+      header is_default mid grants l out s' (Send_error UnableToDeliver) sends (SendRefused UnableToDeliver) No_handle (Message_sent l.publisher s.next_message (entry_of l)) No_entry refl refl
+      (λ k e. let clash : No_handle ≡ Loan_handle k = e in absurd cc) (λ p q k e. let clash : No_handle ≡ Sample_handle p q k = e in absurd cc) (λ p k e. let clash : No_handle ≡ Blocked_handle p k = e in absurd cc) shown tt
 
 module _ {T U : Type 0} (defaults : Defaults T U) (old new : Domain T U) (table : List Made) (of : ℕ) where
   -- ---- a default value
@@ -144,7 +153,7 @@ module _ {T U : Type 0} (defaults : Defaults T U) (old new : Domain T U) (table 
   -- the copy is sent: to all receivers, or it waits for one
   pub copy_carried : (h : PublisherHandle) (value : T) (outcome : SendOutcome) → slice_index_or table of Nothing ≡ MadePublisher h → ((m : Messages T U) (s : State T U) → Shows old m s → IsUnblocked s h.id)
       → is_single_valued old.config ≡ true
-      → ((m : Messages T U) (s : State T U) → Shows old m s → (m' : Messages T U) × (s' : State T U) × Shows new m' s' × SendsGranted defaults.IsDefaultHeader m s h.id value outcome m' s')
+      → ((m : Messages T U) (s : State T U) → Shows old m s → (m' : Messages T U) × (s' : State T U) × Shows new m' s' × SendsGranted defaults.IsDefaultHeader m s h.id value (Ok outcome) m' s')
       → IfBlocked outcome (λ blocked. IsBlockedSend new blocked × (lender_key (blocked_key blocked) ≡ publisher_key h))
       → Carries fixed_handlers defaults old new table (SendCopy of value) (reply_to_send (Ok outcome)) table (made_by_send (Ok outcome))
   copy_carried h value outcome at free single sends blocked = λ m s handles events shown w default_value default_header is_value is_header.
@@ -157,16 +166,27 @@ module _ {T U : Type 0} (defaults : Defaults T U) (old new : Domain T U) (table 
 
   pub copy_denied : (h : PublisherHandle) (value : T) (error : SendError) → slice_index_or table of Nothing ≡ MadePublisher h → ((m : Messages T U) (s : State T U) → Shows old m s → IsUnblocked s h.id)
       → is_single_valued old.config ≡ true
-      → ((m : Messages T U) (s : State T U) → Shows old m s → (m' : Messages T U) × (s' : State T U) × Shows new m' s' × RefusesLoan m s h.id error m' s')
+      → ((m : Messages T U) (s : State T U) → Shows old m s → (m' : Messages T U) × (s' : State T U) × Shows new m' s'
+      × (((error ≡ UnableToDeliver) × SendsGranted defaults.IsDefaultHeader m s h.id value (Err error) m' s') ⊎ RefusesLoan m s h.id error m' s'))
       → Carries fixed_handlers defaults old new table (SendCopy of value) (SendRefused error) table Nothing
   copy_denied h value error at free single sends = λ m s handles events shown w default_value default_header is_value is_header.
-      let refused = sends m s shown in
-      let it = refused.3 in
-      subst (λ (e : SendError). Comes fixed_handlers defaults (Shows new) m s handles events (SendCopy of value) (SendRefused e) (map entry_for table ++ No_entry ∷ [])) (sym it.is)
-      (copy_refused_comes fixed_handlers defaults (Shows new) m s handles events (map entry_for table) w default_value default_header is_value is_header of h.service_id h.id value
-      (entry-stands table of (MadePublisher h) at (λ e. let clash : MadePublisher h ≡ Nothing = e in cc)) (free m s shown) (ap (λ (t : State T U). is_single_valued t.config) shown.state ∙ single)
-      refused.1 it.reason (written_any fixed_handlers value default_header s h.id refused.1 (Some it.reason) (it.refused value default_header))
-      (subst (λ (k : Messages T U). Shows new k refused.1) it.messages refused.2))
+      let came = sends m s shown in
+      elim came.3 [
+        | inl failed ↦
+            let it = failed.1 in
+            subst (λ (e : SendError). Comes fixed_handlers defaults (Shows new) m s handles events (SendCopy of value) (SendRefused e) (map entry_for table ++ No_entry ∷ [])) (sym failed.0)
+            (copied-failing defaults new table of h value m s handles events w default_value default_header is_value is_header
+            (entry-stands table of (MadePublisher h) at (λ e. let clash : MadePublisher h ≡ Nothing = e in cc)) (free m s shown) (ap (λ (t : State T U). is_single_valued t.config) shown.state ∙ single)
+            it.user_header it.default it.granted (written_any fixed_handlers value it.user_header s h.id it.granted None it.grants) it.loan it.out came.1
+            (subst (λ (e : SendError). Sends it.granted s.next_message it.loan (Err e) came.1) failed.0 it.sends)
+            (subst (λ (k : Messages T U). Shows new k came.1) (it.messages ∙ ap (λ (e : SendError). messages_after m s.next_message it.loan (Err e)) failed.0) came.2))
+        | inr it ↦
+            subst (λ (e : SendError). Comes fixed_handlers defaults (Shows new) m s handles events (SendCopy of value) (SendRefused e) (map entry_for table ++ No_entry ∷ [])) (sym it.is)
+            (copy_refused_comes fixed_handlers defaults (Shows new) m s handles events (map entry_for table) w default_value default_header is_value is_header of h.service_id h.id value
+            (entry-stands table of (MadePublisher h) at (λ e. let clash : MadePublisher h ≡ Nothing = e in cc)) (free m s shown) (ap (λ (t : State T U). is_single_valued t.config) shown.state ∙ single)
+            came.1 it.reason (written_any fixed_handlers value default_header s h.id came.1 (Some it.reason) (it.refused value default_header))
+            (subst (λ (k : Messages T U). Shows new k came.1) it.messages came.2))
+      ]
 
   -- whichever it is
   pub copy_came : (h : PublisherHandle) (value : T) (result : Result SendOutcome SendError) → slice_index_or table of Nothing ≡ MadePublisher h

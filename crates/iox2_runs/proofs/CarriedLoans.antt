@@ -1,5 +1,5 @@
 -- Commands on loans, with what a run holds.
-use Rattle.std.proofs.Common.{◌≡◌, ℕ, true, false, List, [], ◌∷◌, ◌++◌, map, refl, sym, ap, subst, ◌∙◌, None, Some}
+use Rattle.std.proofs.Common.{◌≡◌, ◌⊎◌, inl, inr, ℕ, true, false, List, [], ◌∷◌, ◌++◌, map, refl, sym, ap, subst, ◌∙◌, None, Some}
 use Rattle.std.specs.Prelude.{IfOk, IfErr, slice_get, slice_set, slice_index_or}
 use Rattle.std.specs.declared.result.Result.{Result}
 use Rattle.std.specs.declared.result.Result.TheVariants.{Ok, Err}
@@ -11,7 +11,7 @@ use Rattle.iox2_store.specs.machine.Loans.{GrantLoan, written, entry_of}
 use Rattle.iox2_store.specs.machine.Sends.{Delivered_to, Blocked_send, Send_error}
 use Rattle.iox2_store.specs.declared.errors.LoanError.{LoanError}
 use Rattle.iox2_store.specs.declared.errors.SendError.{SendError}
-use Rattle.iox2_store.specs.declared.errors.SendError.TheVariants.{ConnectionBrokenSinceSenderNoLongerExists}
+use Rattle.iox2_store.specs.declared.errors.SendError.TheVariants.{ConnectionBrokenSinceSenderNoLongerExists, UnableToDeliver}
 use Rattle.iox2_domain.specs.Kept.{Kept as Domain}
 use Rattle.iox2_domain.specs.Shows.{Shows}
 use Rattle.iox2_pubsub.specs.Live.{IsBlockedSend, blocked_key, written_key}
@@ -141,7 +141,7 @@ module _ {T U : Type 0} (defaults : Defaults T U) (new : Domain T U) (table : Li
     (stand : slice_get (map entry_for table) of ≡ Some (Written_entry h.service_id h.loan.publisher h.loan.number)) (unblocked : IsUnblocked s h.loan.publisher)
     (l : Loan T U) (out : s.loans h.loan.number ≡ Some l) (lender : l.publisher ≡ h.loan.publisher) where
   sent-by : (came : Result SendOutcome SendError) → IfOk came (λ it. IfBlocked it (λ blocked. IsBlockedSend new blocked × (blocked_key blocked ≡ written_key h)))
-      → IfErr came (λ error. error ≡ ConnectionBrokenSinceSenderNoLongerExists) → (s' : State T U) → Shows new (messages_after m h.loan.number l came) s' → Sends s h.loan.number l came s'
+      → IfErr came (λ error. (error ≡ ConnectionBrokenSinceSenderNoLongerExists) ⊎ (error ≡ UnableToDeliver)) → (s' : State T U) → Shows new (messages_after m h.loan.number l came) s' → Sends s h.loan.number l came s'
       → Comes fixed_handlers defaults (Shows new) m s handles events (SendLoan of) (reply_to_send came) (slice_set (map entry_for table) of No_entry ++ entry_for (made_by_send came) ∷ [])
   sent-by (Ok (WasDelivered count)) waits broken s' shown sends =
       send_comes fixed_handlers defaults (Shows new) m s handles events (map entry_for table) w default_value default_header is_value is_header of h.service_id h.loan.publisher h.loan.number stand unblocked l out
@@ -153,21 +153,29 @@ module _ {T U : Type 0} (defaults : Defaults T U) (new : Domain T U) (table : Li
       (ap (λ (p : ℕ). record { reply = Blocked; handle = Blocked_handle p h.loan.number; event = Message_sent l.publisher h.loan.number (entry_of l); state = s' }) (sym lender)) refl
       (λ k e. let clash : Blocked_handle h.loan.publisher h.loan.number ≡ Loan_handle k = e in absurd cc) (λ p q k e. let clash : Blocked_handle h.loan.publisher h.loan.number ≡ Sample_handle p q k = e in absurd cc)
       (λ p k e. let same : Blocked_handle h.loan.publisher h.loan.number ≡ Blocked_handle p k = e in (cc, cc)) shown (blocked_entry new _ s' shown blocked waits.0 (written_key h) waits.1)
-  sent-by (Err error) waits broken s' shown sends =
+  sent-by (Err error) waits (inr failed) s' shown sends =
+      let so : Sends s h.loan.number l (Err UnableToDeliver) s' = subst (λ (e : SendError). Sends s h.loan.number l (Err e) s') failed sends in
+      let there : Shows new (messages_after m h.loan.number l (Err UnableToDeliver)) s' = subst (λ (e : SendError). Shows new (messages_after m h.loan.number l (Err e)) s') failed shown in
+      subst (λ (e : SendError). Comes fixed_handlers defaults (Shows new) m s handles events (SendLoan of) (SendRefused e) (slice_set (map entry_for table) of No_entry ++ No_entry ∷ [])) (sym failed)
+      (send_comes fixed_handlers defaults (Shows new) m s handles events (map entry_for table) w default_value default_header is_value is_header of h.service_id h.loan.publisher h.loan.number stand unblocked l out
+      s' (Send_error UnableToDeliver) so (SendRefused UnableToDeliver) No_handle (Message_sent l.publisher h.loan.number (entry_of l)) No_entry refl refl
+      (λ k e. let clash : No_handle ≡ Loan_handle k = e in absurd cc) (λ p q k e. let clash : No_handle ≡ Sample_handle p q k = e in absurd cc) (λ p k e. let clash : No_handle ≡ Blocked_handle p k = e in absurd cc) there tt)
+  sent-by (Err error) waits (inl broken) s' shown sends =
       let so : Sends s h.loan.number l (Err ConnectionBrokenSinceSenderNoLongerExists) s' = subst (λ (e : SendError). Sends s h.loan.number l (Err e) s') broken sends in
+      let there : Shows new m s' = subst (λ (e : SendError). Shows new (messages_after m h.loan.number l (Err e)) s') broken shown in
       subst (λ (e : SendError). Comes fixed_handlers defaults (Shows new) m s handles events (SendLoan of) (SendRefused e) (slice_set (map entry_for table) of No_entry ++ No_entry ∷ [])) (sym broken)
       (send_comes fixed_handlers defaults (Shows new) m s handles events (map entry_for table) w default_value default_header is_value is_header of h.service_id h.loan.publisher h.loan.number stand unblocked l out
       s' (Send_error ConnectionBrokenSinceSenderNoLongerExists) so (SendRefused ConnectionBrokenSinceSenderNoLongerExists) No_handle No_event No_entry refl refl
-      (λ k e. let clash : No_handle ≡ Loan_handle k = e in absurd cc) (λ p q k e. let clash : No_handle ≡ Sample_handle p q k = e in absurd cc) (λ p k e. let clash : No_handle ≡ Blocked_handle p k = e in absurd cc) shown tt)
+      (λ k e. let clash : No_handle ≡ Loan_handle k = e in absurd cc) (λ p q k e. let clash : No_handle ≡ Sample_handle p q k = e in absurd cc) (λ p k e. let clash : No_handle ≡ Blocked_handle p k = e in absurd cc) there tt)
 
 module _ {T U : Type 0} (defaults : Defaults T U) (old new : Domain T U) (table table' : List Made) (of : ℕ) where
-  -- the loan is sent: to all receivers, or it waits for one, or its publisher is gone
+  -- the loan is sent: to all receivers, or it waits for one, or its publisher is gone, or a handler failed the send
   pub send_carried : (h : SampleMut) (outcome : Result SendOutcome SendError) → slice_index_or table of Nothing ≡ Written h
       → ((m : Messages T U) (s : State T U) → Shows old m s → IsUnblocked s h.loan.publisher)
       → ((m : Messages T U) (s : State T U) (l : Loan T U) → Shows old m s → s.loans h.loan.number ≡ Some l
       → (s' : State T U) × Shows new (messages_after m h.loan.number l outcome) s' × Sends s h.loan.number l outcome s')
       → IfOk outcome (λ came. IfBlocked came (λ blocked. IsBlockedSend new blocked × (blocked_key blocked ≡ written_key h)))
-      → IfErr outcome (λ error. error ≡ ConnectionBrokenSinceSenderNoLongerExists)
+      → IfErr outcome (λ error. (error ≡ ConnectionBrokenSinceSenderNoLongerExists) ⊎ (error ≡ UnableToDeliver))
       → table' ≡ slice_set table of Nothing
       → Carries fixed_handlers defaults old new table (SendLoan of) (reply_to_send outcome) table' (made_by_send outcome)
   send_carried h outcome at free sends blocked gone is = λ m s handles events shown w default_value default_header is_value is_header.

@@ -5,6 +5,7 @@ use Rattle.iox2_store.specs.machine.Records.{PublisherSettings, SubscriberSettin
 use Rattle.iox2_store.specs.machine.State.{State, Messages}
 use Rattle.iox2_store.specs.machine.Ports.{CreatePublisher, CreateSubscriber}
 use Rattle.iox2_store.specs.declared.allocation.AllocationStrategy.TheVariants.{Static}
+use Rattle.iox2_store.specs.declared.backpressure.BackpressureAction.{BackpressureAction}
 use Rattle.iox2_store.specs.declared.backpressure.BackpressureStrategy.{BackpressureStrategy}
 use Rattle.iox2_store.specs.declared.degradation.DegradationAction.TheVariants.{Warn}
 use Rattle.iox2_store.specs.declared.errors.PublisherCreateError.{PublisherCreateError}
@@ -14,7 +15,8 @@ use Rattle.iox2_store.specs.declared.service_config.TypeVariant.TheVariants.{Fix
 use Rattle.iox2_laws.proofs.PortLaws.{create_publisher_advances, create_subscriber_advances}
 use Rattle.iox2_domain.specs.Kept.{Kept as Domain}
 use Rattle.iox2_domain.specs.Shows.{Shows}
-use Rattle.iox2_domain.specs.NewPublisher.{plain_publisher}
+use Rattle.iox2_domain.specs.Handlers.{fixed_handler}
+use Rattle.iox2_domain.specs.NewPublisher.{static_publisher}
 use Rattle.iox2_pubsub.specs.declared.publisher.Publisher.{Publisher as PublisherHandle}
 use Rattle.iox2_pubsub.specs.declared.subscriber.Subscriber.{Subscriber as SubscriberHandle}
 use Rattle.iox2_commands.specs.Runs.{Defaults}
@@ -33,45 +35,47 @@ abbrev pub given_for : (limit : ℕ) → Option ℕ → SubscriberSettings
 given_for limit buffer = record { buffer_size = elim buffer [ None ↦ limit | Some asked ↦ asked ]; degradation_handler = Fixed Warn }
 
 -- what the command says of a publisher
-abbrev pub settings_of : {T U : Type 0} → (loans : ℕ) → BackpressureStrategy → (len : ℕ) → State T U → PublisherSettings
-settings_of loans strategy len s = publisher_settings (s.config).variant loans strategy Static len None Warn None
+abbrev pub settings_of : {T U : Type 0} → (loans : ℕ) → BackpressureStrategy → (len : ℕ) → Option BackpressureAction → State T U → PublisherSettings
+settings_of loans strategy len backpressure s = publisher_settings (s.config).variant loans strategy Static len None Warn backpressure
 
 module _ {T U : Type 0} (old : Domain T U) where
   -- what a factory was told is what the command says, where messages are single values
-  pub fixed-settings : (loans : ℕ) (strategy : BackpressureStrategy) (len : ℕ) (told : PublisherSettings) → told ≡ plain_publisher loans strategy 1 → (old.config).variant ≡ FixedSize
-      → (m : Messages T U) (s : State T U) → Shows old m s → told ≡ settings_of loans strategy len s
-  fixed-settings loans strategy len told is variant = λ m s shown.
-      is ∙ ap (λ (v : TypeVariant). publisher_settings v loans strategy Static len None Warn None) (sym (ap (λ (t : State T U). (t.config).variant) shown.state ∙ variant))
+  pub fixed-settings : (loans : ℕ) (strategy : BackpressureStrategy) (len : ℕ) (backpressure : Option BackpressureAction) (told : PublisherSettings)
+      → told ≡ static_publisher loans strategy (fixed_handler backpressure) 1 → (old.config).variant ≡ FixedSize
+      → (m : Messages T U) (s : State T U) → Shows old m s → told ≡ settings_of loans strategy len backpressure s
+  fixed-settings loans strategy len backpressure told is variant = λ m s shown.
+      is ∙ ap (λ (v : TypeVariant). publisher_settings v loans strategy Static len None Warn backpressure) (sym (ap (λ (t : State T U). (t.config).variant) shown.state ∙ variant))
 
   -- and so where they are slices
-  pub slice-settings : (loans : ℕ) (strategy : BackpressureStrategy) (len : ℕ) (told : PublisherSettings) → told ≡ plain_publisher loans strategy len → (old.config).variant ≡ Dynamic
-      → (m : Messages T U) (s : State T U) → Shows old m s → told ≡ settings_of loans strategy len s
-  slice-settings loans strategy len told is variant = λ m s shown.
-      is ∙ ap (λ (v : TypeVariant). publisher_settings v loans strategy Static len None Warn None) (sym (ap (λ (t : State T U). (t.config).variant) shown.state ∙ variant))
+  pub slice-settings : (loans : ℕ) (strategy : BackpressureStrategy) (len : ℕ) (backpressure : Option BackpressureAction) (told : PublisherSettings)
+      → told ≡ static_publisher loans strategy (fixed_handler backpressure) len → (old.config).variant ≡ Dynamic
+      → (m : Messages T U) (s : State T U) → Shows old m s → told ≡ settings_of loans strategy len backpressure s
+  slice-settings loans strategy len backpressure told is variant = λ m s shown.
+      is ∙ ap (λ (v : TypeVariant). publisher_settings v loans strategy Static len None Warn backpressure) (sym (ap (λ (t : State T U). (t.config).variant) shown.state ∙ variant))
 
 module _ {T U : Type 0} (environment : Environment) (defaults : Defaults T U) (old new : Domain T U) (table : List Made) where
-  pub publisher_carried : (loans : ℕ) (strategy : BackpressureStrategy) (len : ℕ) (h : PublisherHandle) (id : ℕ)
-      → ((m : Messages T U) (s : State T U) → Shows old m s → (s' : State T U) × Shows new m s' × ((h.id ≡ s.next_port) × CreatePublisher environment s (settings_of loans strategy len s) s' None))
+  pub publisher_carried : (loans : ℕ) (strategy : BackpressureStrategy) (len : ℕ) (backpressure : Option BackpressureAction) (h : PublisherHandle) (id : ℕ)
+      → ((m : Messages T U) (s : State T U) → Shows old m s → (s' : State T U) × Shows new m s' × ((h.id ≡ s.next_port) × CreatePublisher environment s (settings_of loans strategy len backpressure s) s' None))
       → h.service_id ≡ (new.config).service_id → id ≡ h.id
-      → Carries environment defaults old new table (PublisherCommand loans strategy Static len None Warn None) (PublisherMade id) table (MadePublisher h)
-  publisher_carried loans strategy len h id creates service same = λ m s handles events shown w default_value default_header is_value is_header.
+      → Carries environment defaults old new table (PublisherCommand loans strategy Static len None Warn backpressure) (PublisherMade id) table (MadePublisher h)
+  publisher_carried loans strategy len backpressure h id creates service same = λ m s handles events shown w default_value default_header is_value is_header.
       let made = creates m s shown in
       let create = (made.2).1 in
-      let Arrives : (a b : ℕ) → Type 0 = λ a b. Comes environment defaults (Shows new) m s handles events (PublisherCommand loans strategy Static len None Warn None) (PublisherMade a)
+      let Arrives : (a b : ℕ) → Type 0 = λ a b. Comes environment defaults (Shows new) m s handles events (PublisherCommand loans strategy Static len None Warn backpressure) (PublisherMade a)
       (map entry_for table ++ Publisher_entry h.service_id b ∷ []) in
       subst (λ (a : ℕ). Arrives a h.id) (sym (made.2).0 ∙ sym same) (subst (Arrives s.next_port) (sym (made.2).0)
-      (publisher_comes environment defaults (Shows new) m s handles events (map entry_for table) w default_value default_header is_value is_header loans strategy Static len None Warn None
-      made.0 create (create_publisher_advances environment s (settings_of loans strategy len s) made.0 None create).next_message made.1 h.service_id
+      (publisher_comes environment defaults (Shows new) m s handles events (map entry_for table) w default_value default_header is_value is_header loans strategy Static len None Warn backpressure
+      made.0 create (create_publisher_advances environment s (settings_of loans strategy len backpressure s) made.0 None create).next_message made.1 h.service_id
       (service ∙ sym (ap (λ (t : State T U). (t.config).service_id) (made.1).state))))
 
-  pub publisher_denied : (loans : ℕ) (strategy : BackpressureStrategy) (len : ℕ) (e : PublisherCreateError)
-      → ((m : Messages T U) (s : State T U) → Shows old m s → (s' : State T U) × Shows new m s' × CreatePublisher environment s (settings_of loans strategy len s) s' (Some e))
-      → Carries environment defaults old new table (PublisherCommand loans strategy Static len None Warn None) (PublisherRefused e) table Nothing
-  publisher_denied loans strategy len e refuses = λ m s handles events shown w default_value default_header is_value is_header.
+  pub publisher_denied : (loans : ℕ) (strategy : BackpressureStrategy) (len : ℕ) (backpressure : Option BackpressureAction) (e : PublisherCreateError)
+      → ((m : Messages T U) (s : State T U) → Shows old m s → (s' : State T U) × Shows new m s' × CreatePublisher environment s (settings_of loans strategy len backpressure s) s' (Some e))
+      → Carries environment defaults old new table (PublisherCommand loans strategy Static len None Warn backpressure) (PublisherRefused e) table Nothing
+  publisher_denied loans strategy len backpressure e refuses = λ m s handles events shown w default_value default_header is_value is_header.
       let refused = refuses m s shown in
       let create = refused.2 in
-      publisher_refused_comes environment defaults (Shows new) m s handles events (map entry_for table) w default_value default_header is_value is_header loans strategy Static len None Warn None
-      refused.0 e create (create_publisher_advances environment s (settings_of loans strategy len s) refused.0 (Some e) create).next_message refused.1
+      publisher_refused_comes environment defaults (Shows new) m s handles events (map entry_for table) w default_value default_header is_value is_header loans strategy Static len None Warn backpressure
+      refused.0 e create (create_publisher_advances environment s (settings_of loans strategy len backpressure s) refused.0 (Some e) create).next_message refused.1
 
   pub subscriber_carried : (buffer : Option ℕ) (given : SubscriberSettings) → given ≡ given_for (buffer_limit old.config) buffer
       → (h : SubscriberHandle) (id : ℕ)

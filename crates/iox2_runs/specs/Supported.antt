@@ -9,11 +9,11 @@ use Rattle.iox2_commands.specs.FillingCommands.{filling_commands}
 use Rattle.iox2_commands.specs.declared.command.Command.{Command}
 use Rattle.iox2_commands.specs.declared.command.Command.TheVariants.{CreatePublisher, CreateSubscriber}
 
--- The command sets nothing of a port that a factory can't be told yet: a publisher has one segment, as many slots as it needs, and
--- no handler; and refused connections are warnings.
+-- The command sets nothing of a port that a factory can't be told yet: a publisher has one segment and as many slots as it needs,
+-- and refused connections are warnings.
 abbrev pub IsSupportedCommand : {T U : Type 0} → Command T U → Type 0
 IsSupportedCommand (CreatePublisher loans strategy allocation len override_slots degradation backpressure) =
-    (allocation ≡ Static) × (override_slots ≡ None) × (degradation ≡ Warn) × (backpressure ≡ None)
+    (allocation ≡ Static) × (override_slots ≡ None) × (degradation ≡ Warn)
 IsSupportedCommand (CreateSubscriber buffer degradation) = degradation ≡ Warn
 IsSupportedCommand _ = Unit {0}
 

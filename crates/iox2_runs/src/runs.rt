@@ -79,8 +79,16 @@ fn carry_out<
             loans,
             strategy,
             initial_max_slice_len,
+            backpressure,
             ..
-        } => ports::create_publisher(domain, table, loans, strategy, initial_max_slice_len),
+        } => ports::create_publisher(
+            domain,
+            table,
+            loans,
+            strategy,
+            initial_max_slice_len,
+            backpressure,
+        ),
         Command::CreateSubscriber { buffer, .. } => {
             ports::create_subscriber(domain, table, buffer)
         }
@@ -142,10 +150,10 @@ fn carry_out<
 /// sends stay so and messages stay borrowed. The memory for the replies and for what the commands make is taken
 /// first. Where it is refused the commands are handed back, and none was carried out.
 ///
-/// So far each port that a command makes answers a refused connection with a warning, and a
-/// publisher has one segment, as many slots as it needs, and no backpressure handler. The domain may
-/// have messages of either variant: those of `FixedSize` are single values, those of `Dynamic`
-/// slices.
+/// A publisher follows its strategy at a full buffer, or the backpressure handler that its command
+/// names. So far each port that a command makes answers a refused connection with a warning, and a
+/// publisher has one segment and as many slots as it needs. The domain may have messages of either
+/// variant: those of `FixedSize` are single values, those of `Dynamic` slices.
 pub fn run<T: Copy + Default + Drop, U: Copy + Default + Drop, F: BackpressureFn, G: DegradationFn>(
     alloc: Global,
     domain: &mut Domain<T, U, F, G>,

@@ -2,7 +2,7 @@
 use crate::chance::Chance;
 use crate::moods::Wish;
 use crate::positions::{any, live, live_or_any};
-use crate::words::{HAS_HANDLERS, is_word};
+use crate::words::is_word;
 use iox2_commands::Command;
 use iox2_model::{Kind, Model};
 use iox2_store::{
@@ -96,9 +96,6 @@ fn strategy(chance: &mut Chance) -> BackpressureStrategy {
 
 // Mostly there is none, so that the strategy decides.
 fn handler(chance: &mut Chance) -> Option<BackpressureAction> {
-    if !HAS_HANDLERS {
-        return None;
-    }
     match chance.below(8) {
         0 => Some(BackpressureAction::FollowBackpressureyStrategy),
         1 => Some(BackpressureAction::Retry),

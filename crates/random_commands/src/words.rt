@@ -5,10 +5,6 @@ ghost use Rattle.iox2_runs.specs.Supported.{IsSupportedCommand};
 use iox2_commands::Command;
 use iox2_store::{AllocationStrategy, DegradationAction};
 
-/// Whether scripts have publishers whose backpressure handler decides what becomes of a full receiver.
-/// `run` doesn't carry these out yet.
-pub(crate) const HAS_HANDLERS: bool = false;
-
 /// Whether the command is one that `run` carries out so far. This is the list of all words that
 /// random scripts have.
 pub fn is_word(command: &Command<u64, u64>) -> bool
@@ -19,15 +15,8 @@ pub fn is_word(command: &Command<u64, u64>) -> bool
             allocation: AllocationStrategy::Static,
             override_slots: None,
             degradation: DegradationAction::Warn,
-            backpressure: None,
             ..
         } => true,
-        Command::CreatePublisher {
-            allocation: AllocationStrategy::Static,
-            override_slots: None,
-            degradation: DegradationAction::Warn,
-            ..
-        } => HAS_HANDLERS,
         Command::CreateSubscriber {
             degradation: DegradationAction::Warn,
             ..

@@ -7,7 +7,7 @@ use iox2_pubsub::{
 use iox2_runs::{Command, Reply};
 
 // The kinds of replies that the words can give with ample memory.
-const KINDS: [&str; 30] = [
+const KINDS: [&str; 31] = [
     "Done",
     "Skipped",
     "PublisherMade",
@@ -26,6 +26,7 @@ const KINDS: [&str; 30] = [
     "Blocked",
     "SendRefused(ConnectionBrokenSinceSenderNoLongerExists)",
     "SendRefused(LoanError(ExceedsMaxLoans))",
+    "SendRefused(UnableToDeliver)",
     "UpdateRefused",
     "Sample",
     "NoSample",
@@ -41,19 +42,19 @@ const KINDS: [&str; 30] = [
 ];
 
 // The position of the count of all other replies, which no command should have.
-const OTHER: usize = 30;
+const OTHER: usize = 31;
 
 /// How often each kind of reply was met.
 #[derive(Drop)]
 pub(crate) struct Tally {
-    counts: [u64; 31],
+    counts: [u64; 32],
     words: WordTally,
 }
 
 impl Tally {
     pub(crate) fn new() -> Tally {
         Tally {
-            counts: [0; 31],
+            counts: [0; 32],
             words: WordTally::new(),
         }
     }
@@ -116,6 +117,7 @@ fn kind_of(reply: &Reply<u64, u64>) -> usize {
         Reply::Blocked => 15,
         Reply::SendRefused(SendError::ConnectionBrokenSinceSenderNoLongerExists) => 16,
         Reply::SendRefused(SendError::LoanError(LoanError::ExceedsMaxLoans)) => 17,
+        Reply::SendRefused(SendError::UnableToDeliver) => 18,
         _ => kind_of_use(reply),
     }
 }
@@ -123,18 +125,18 @@ fn kind_of(reply: &Reply<u64, u64>) -> usize {
 // The same for what is received and read.
 fn kind_of_use(reply: &Reply<u64, u64>) -> usize {
     match *reply {
-        Reply::UpdateRefused(_) => 18,
-        Reply::Sample(_) => 19,
-        Reply::NoSample => 20,
-        Reply::ReceiveRefused(ReceiveError::ExceedsMaxBorrows) => 21,
-        Reply::ReceiveRefused(ReceiveError::ConnectionFailure(_)) => 22,
-        Reply::Has(false) => 23,
-        Reply::Has(true) => 24,
-        Reply::Cell(None) => 25,
-        Reply::Cell(Some(_)) => 26,
-        Reply::Unwritten => 27,
-        Reply::Header(_) => 28,
-        Reply::UserHeader(_) => 29,
+        Reply::UpdateRefused(_) => 19,
+        Reply::Sample(_) => 20,
+        Reply::NoSample => 21,
+        Reply::ReceiveRefused(ReceiveError::ExceedsMaxBorrows) => 22,
+        Reply::ReceiveRefused(ReceiveError::ConnectionFailure(_)) => 23,
+        Reply::Has(false) => 24,
+        Reply::Has(true) => 25,
+        Reply::Cell(None) => 26,
+        Reply::Cell(Some(_)) => 27,
+        Reply::Unwritten => 28,
+        Reply::Header(_) => 29,
+        Reply::UserHeader(_) => 30,
         _ => OTHER,
     }
 }

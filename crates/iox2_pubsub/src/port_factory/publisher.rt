@@ -1,18 +1,24 @@
 //! The factory of publishers.
-ghost use Rattle.std.specs.Prelude.{◌≡◌, ◌≤◌, ℕ, None, Some, IfOk, OnErr, MatchResult};
+ghost use Rattle.std.specs.Prelude.{◌≡◌, ◌≤◌, ℕ, false, None, Some, IfOk, OnErr, MatchResult};
 ghost use Rattle.iox2_store.specs.machine.Environments.{fixed_handlers};
 ghost use Rattle.iox2_store.specs.machine.Ports.{CreatePublisher};
 ghost use Rattle.iox2_store.specs.machine.State.{State, Messages};
-ghost use Rattle.iox2_pubsub.specs.Live.{IsNewIn, IsReadyPublisher, NeverWaits, Stays, publisher_key, publisher_port, payloads, waiting};
+ghost use Rattle.iox2_pubsub.specs.Live.{IsNewIn, IsReadyPublisher, NeverFails, NeverWaits, Stays, publisher_key, publisher_port, payloads, waiting};
 ghost use Rattle.iox2_pubsub.specs.LoansLeft.{HasLoansLeft, LoansLeftStay};
-ghost use Rattle.iox2_domain.specs.NewPublisher.{plain_publisher};
+ghost use Rattle.iox2_domain.specs.NewPublisher.{plain_publisher, static_publisher};
+ghost use Rattle.iox2_domain.specs.Handlers.{fixed_handler, may_fail};
+ghost use Rattle.iox2_ends.specs.Handlers.{mark_of};
+ghost use Rattle.iox2_pubsub.specs.Handlers.{IsFixed};
 ghost use Rattle.iox2_pubsub.specs.declared.subscriber.Subscriber.{Subscriber};
 ghost use Rattle.iox2_domain.specs.Shows.{Shows};
 
 use crate::domain::Domain;
 use crate::publisher::Publisher;
 use iox2_ports::create_publisher;
-use iox2_store::{BackpressureFn, BackpressureStrategy, DegradationFn, PublisherCreateError};
+use iox2_store::{
+    BackpressureAction, BackpressureFn, BackpressureHandler, BackpressureStrategy, DegradationFn,
+    PublisherCreateError,
+};
 use std::marker::Model;
 
 /// Makes a publisher. It begins with the loans that the domain's settings allow a publisher, and with
@@ -24,15 +30,17 @@ use std::marker::Model;
 pub struct PortFactoryPublisher {
     max_loaned_samples: usize,
     backpressure_strategy: BackpressureStrategy,
+    backpressure_handler: Option<BackpressureAction>,
 }
 
 impl Model for PortFactoryPublisher {
     ghost use Rattle.iox2_store.specs.machine.Records.{PublisherSettings};
-    ghost use Rattle.iox2_domain.specs.NewPublisher.{plain_publisher};
+    ghost use Rattle.iox2_domain.specs.Handlers.{fixed_handler};
+    ghost use Rattle.iox2_domain.specs.NewPublisher.{static_publisher};
 
     ghost Value = { PublisherSettings };
 
-    ghost view = { λ factory. plain_publisher factory.max_loaned_samples factory.backpressure_strategy 1 };
+    ghost view = { λ factory. static_publisher factory.max_loaned_samples factory.backpressure_strategy (fixed_handler factory.backpressure_handler) 1 };
 }
 
 impl<T: Drop, U: Default + Drop, F: BackpressureFn, G: DegradationFn> Domain<T, U, F, G> {
@@ -46,6 +54,7 @@ impl<T: Drop, U: Default + Drop, F: BackpressureFn, G: DegradationFn> Domain<T, 
         PortFactoryPublisher {
             max_loaned_samples: self.state.config().publisher_max_loaned_samples,
             backpressure_strategy: self.state.config().backpressure_strategy,
+            backpressure_handler: None,
         }
     }
 }
@@ -61,6 +70,7 @@ impl PortFactoryPublisher {
         PortFactoryPublisher {
             max_loaned_samples: value,
             backpressure_strategy: self.backpressure_strategy,
+            backpressure_handler: self.backpressure_handler,
         }
     }
 
@@ -75,6 +85,28 @@ impl PortFactoryPublisher {
         PortFactoryPublisher {
             max_loaned_samples: self.max_loaned_samples,
             backpressure_strategy: value,
+            backpressure_handler: self.backpressure_handler,
+        }
+    }
+
+    /// Sets what answers where the buffer of a subscriber is full and the service doesn't overflow,
+    /// in place of the strategy: the send is blocked, or the subscriber doesn't get the message, and
+    /// then the send may fail. The handler has to be one with a fixed answer, as
+    /// `BackpressureHandler::new_with` makes it.
+    ///
+    /// iceoryx2's `PortFactoryPublisher::set_backpressure_handler`
+    /// (`src/service/port_factory/publisher.rs`).
+    pub fn set_backpressure_handler(self, handler: BackpressureHandler) -> Self
+        requires fixed { IsFixed handler }
+        ensures { result ≡ record self { backpressure_handler = Some (mark_of handler) } }
+    {
+        match handler {
+            BackpressureHandler::Fixed(action) => PortFactoryPublisher {
+                max_loaned_samples: self.max_loaned_samples,
+                backpressure_strategy: self.backpressure_strategy,
+                backpressure_handler: Some(action),
+            },
+            BackpressureHandler::Custom(_) => unreachable!(),
         }
     }
 
@@ -100,7 +132,8 @@ impl PortFactoryPublisher {
             (λ publisher. (publisher.id ≡ s.next_port) × CreatePublisher fixed_handlers s self s' None)
             (λ e. CreatePublisher fixed_handlers s self s' (Some e)) }
         ensures ready { IfOk result (λ publisher. IsReadyPublisher domain.new publisher) }
-        ensures discards { self.backpressure_strategy ≡ BackpressureStrategy.DiscardData → IfOk result (λ publisher. NeverWaits domain.new (publisher_key publisher)) }
+        ensures discards { self.backpressure_strategy ≡ BackpressureStrategy.DiscardData → self.backpressure_handler ≡ None → IfOk result (λ publisher. NeverWaits domain.new (publisher_key publisher)) }
+        ensures never_fails { may_fail self.backpressure_handler ≡ false → IfOk result (λ publisher. NeverFails domain.new publisher.id) }
         ensures strategy { IfOk result (λ publisher. publisher.strategy ≡ self.backpressure_strategy) }
         ensures new { IfOk result (λ publisher. IsNewIn domain.old (publisher_port publisher)) }
         ensures refused { OnErr result (payloads domain.new ≡ payloads domain.old) }
@@ -113,25 +146,28 @@ impl PortFactoryPublisher {
             domain,
             self.max_loaned_samples,
             self.backpressure_strategy,
+            self.backpressure_handler,
             1,
         )
     }
 }
 
-// Makes a publisher that may have so many loans out, each of so many elements at most, and follows the
-// strategy.
+// Makes a publisher that may have so many loans out, each of so many elements at most, follows the
+// strategy, and answers full buffers so.
 pub(crate) fn create_plain<T: Drop, U: Default + Drop, F: BackpressureFn, G: DegradationFn>(
     domain: &mut Domain<T, U, F, G>,
     max_loaned_samples: usize,
     strategy: BackpressureStrategy,
+    handler: Option<BackpressureAction>,
     initial_max_slice_len: usize,
 ) -> Result<Publisher, PublisherCreateError>
     ensures creates { (m : Messages T U) (s : State T U) → Shows domain.old m s → (s' : State T U) × Shows domain.new m s'
         × MatchResult result
-        (λ publisher. (publisher.id ≡ s.next_port) × CreatePublisher fixed_handlers s (plain_publisher max_loaned_samples strategy initial_max_slice_len) s' None)
-        (λ e. CreatePublisher fixed_handlers s (plain_publisher max_loaned_samples strategy initial_max_slice_len) s' (Some e)) }
+        (λ publisher. (publisher.id ≡ s.next_port) × CreatePublisher fixed_handlers s (static_publisher max_loaned_samples strategy (fixed_handler handler) initial_max_slice_len) s' None)
+        (λ e. CreatePublisher fixed_handlers s (static_publisher max_loaned_samples strategy (fixed_handler handler) initial_max_slice_len) s' (Some e)) }
     ensures ready { IfOk result (λ publisher. IsReadyPublisher domain.new publisher) }
-    ensures discards { strategy ≡ BackpressureStrategy.DiscardData → IfOk result (λ publisher. NeverWaits domain.new (publisher_key publisher)) }
+    ensures discards { strategy ≡ BackpressureStrategy.DiscardData → fixed_handler handler ≡ None → IfOk result (λ publisher. NeverWaits domain.new (publisher_key publisher)) }
+    ensures never_fails { may_fail (fixed_handler handler) ≡ false → IfOk result (λ publisher. NeverFails domain.new publisher.id) }
     ensures strategy { IfOk result (λ publisher. publisher.strategy ≡ strategy) }
     ensures longest { IfOk result (λ publisher. publisher.initial_max_slice_len ≡ initial_max_slice_len) }
     ensures new { IfOk result (λ publisher. IsNewIn domain.old (publisher_port publisher)) }
@@ -146,6 +182,7 @@ pub(crate) fn create_plain<T: Drop, U: Default + Drop, F: BackpressureFn, G: Deg
         &mut domain.state,
         max_loaned_samples,
         strategy,
+        handler,
         initial_max_slice_len,
     )?;
     Ok(Publisher {

@@ -1,5 +1,5 @@
 //! A publisher sends a value.
-ghost use Rattle.std.specs.Prelude.{◌≡◌, ◌+◌, ℕ, IfErr, IfOk, IsOk};
+ghost use Rattle.std.specs.Prelude.{◌≡◌, ◌⊎◌, ◌+◌, ℕ, IfErr, IfOk, IsOk};
 ghost use Rattle.iox2_store.specs.declared.errors.LoanError.{LoanError};
 
 use crate::domain::Domain;
@@ -10,13 +10,14 @@ use iox2_store::{BackpressureFn, DegradationFn, SendError};
 impl Publisher {
     ghost use Rattle.iox2_store.specs.machine.State.{State, Messages};
     ghost use Rattle.iox2_domain.specs.Shows.{Shows};
-    ghost use Rattle.iox2_pubsub.specs.Live.{AddAtMost, IsBlockedSend, IsReadyPublisher, IsSingleValued, NeverWaits, StaysBut, UpToDateStay, blocked_key, lender_key, publisher_key};
+    ghost use Rattle.iox2_pubsub.specs.Live.{AddAtMost, IsBlockedSend, IsReadyPublisher, IsSingleValued, NeverFails, NeverWaits, StaysBut, UpToDateStay, blocked_key, lender_key, publisher_key};
     ghost use Rattle.iox2_pubsub.specs.LoansLeft.{HasLoansLeft, HasNumbersLeft, TakesOneLeft};
     ghost use Rattle.iox2_pubsub.specs.SendCalls.{IfBlocked, IsDelivered, spent_by_copy};
     ghost use Rattle.iox2_pubsub.specs.WrittenLoans.{SendsCopy};
 
-    /// Lends a message, moves the value into it, and sends it, as `send` does. Refused as `loan_uninit` is, with
-    /// `SendError::LoanError`. The value is dropped then, and nothing changes.
+    /// Lends a message, moves the value into it, and sends it, as `send` does. Refused as
+    /// `loan_uninit` is, with `SendError::LoanError`: the value is dropped then, and nothing changes.
+    /// Fails with `UnableToDeliver` as `send` does.
     ///
     /// iceoryx2's `Publisher::send_copy` (`src/port/publisher.rs`).
     pub fn send_copy<T: Drop, U: Default + Drop, F: BackpressureFn, G: DegradationFn>(
@@ -30,10 +31,12 @@ impl Publisher {
             → (m' : Messages T U) × (s' : State T U) × Shows domain.new m' s' × SendsCopy U.is_default m s self.now.id value result m' s' }
         ensures delivered { NeverWaits domain.old (publisher_key self.now) → IfOk result IsDelivered }
         ensures blocked { IfOk result (λ outcome. IfBlocked outcome (λ blocked. IsBlockedSend domain.new blocked × (lender_key (blocked_key blocked) ≡ publisher_key self.now))) }
-        ensures refused { IfErr result (λ error. (reason : LoanError) × (error ≡ SendError.LoanError reason)) }
+        ensures refused { NeverFails domain.old self.now.id → IfErr result (λ error. (reason : LoanError) × (error ≡ SendError.LoanError reason)) }
+        ensures errors { IfErr result (λ error. (error ≡ SendError.UnableToDeliver) ⊎ ((reason : LoanError) × (error ≡ SendError.LoanError reason))) }
         ensures adds { AddAtMost ((domain.old.config).history_size + 1) domain.old domain.new }
         ensures up_to_date { UpToDateStay domain.old domain.new }
-        ensures granted { (loans numbers : ℕ) → HasLoansLeft domain.old self.now (loans + 1) → HasNumbersLeft domain.old (numbers + 1) → IsOk result }
+        ensures granted { (loans numbers : ℕ) → HasLoansLeft domain.old self.now (loans + 1) → HasNumbersLeft domain.old (numbers + 1)
+            → NeverFails domain.old self.now.id → IsOk result }
         ensures loans_left { TakesOneLeft self.now domain.old domain.new }
         ensures given_back { IfOk result IsDelivered → (loans : ℕ) → HasLoansLeft domain.old self.now (loans + 1) → HasLoansLeft domain.new self.now (loans + 1) }
         ensures stays { StaysBut (spent_by_copy self.now result) domain.old domain.new }

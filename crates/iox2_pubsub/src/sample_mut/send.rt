@@ -1,5 +1,5 @@
 //! A message is sent.
-ghost use Rattle.std.specs.Prelude.{◌≡◌, IfErr, IfOk, IsOk, ◌+◌};
+ghost use Rattle.std.specs.Prelude.{◌≡◌, ◌⊎◌, IfErr, IfOk, IsOk, ◌+◌};
 ghost use Rattle.iox2_messages.specs.SendEnds.{end_result};
 ghost use Rattle.iox2_pubsub.specs.SendCalls.{IfBlocked, result_of_send};
 
@@ -15,7 +15,7 @@ impl SampleMut {
     ghost use Rattle.std.specs.Prelude.{List, Some};
     ghost use Rattle.iox2_store.specs.machine.Records.{Loan};
     ghost use Rattle.iox2_store.specs.machine.State.{State, Messages};
-    ghost use Rattle.iox2_pubsub.specs.Live.{HasLender, IsBlockedSend, IsLoanKey, IsUnblocked, IsWritten, NeverWaits, StaysBut, blocked_key, written_key, AddAtMost, AreAllSlices, UpToDateStay, payloads, waiting};
+    ghost use Rattle.iox2_pubsub.specs.Live.{HasLender, IsBlockedSend, IsLoanKey, IsUnblocked, IsWritten, NeverFails, NeverWaits, StaysBut, blocked_key, written_key, AddAtMost, AreAllSlices, UpToDateStay, payloads, waiting};
     ghost use Rattle.iox2_pubsub.specs.LoansLeft.{HasOneMoreLeft, LoansLeftStay};
     ghost use Rattle.iox2_pubsub.specs.Slices.{HasValues};
     ghost use Rattle.iox2_pubsub.specs.SendCalls.{IsDelivered, Sends, messages_after, spent_by_send};
@@ -27,12 +27,14 @@ impl SampleMut {
     /// blocked, and waits for this subscriber. Returns how many subscribers took it, or the blocked
     /// send.
     ///
-    /// No error is returned by a publisher without handlers that wasn't closed. The loan of one that
-    /// is gone is lost, and the error says so. The loan counts among the publisher's loans until the
-    /// send has ended. Its slot is free again when, besides, every subscriber that took the message
-    /// has released it and no history keeps it. Memory is asked for only where the publisher gets a
-    /// connection with a new subscriber: where it is refused, that subscriber doesn't get the message,
-    /// and the domain keeps a warning.
+    /// Fails with `ConnectionBrokenSinceSenderNoLongerExists` where the publisher is gone: the message
+    /// is lost. Fails with `UnableToDeliver` where the publisher's handler failed the send at some
+    /// subscriber: the message was sent, and the others may have got it. No other error is returned.
+    ///
+    /// The loan counts among the publisher's loans until the send has ended. Its slot is free again
+    /// when, besides, every subscriber that took the message has released it and no history keeps it.
+    /// Memory is asked for only where the publisher gets a connection with a new subscriber: where it
+    /// is refused, that subscriber doesn't get the message, and the domain keeps a warning.
     ///
     /// iceoryx2's `SampleMut::send` (`src/sample_mut.rs`).
     pub fn send<T: Drop, U: Default + Drop, F: BackpressureFn, G: DegradationFn>(
@@ -41,8 +43,10 @@ impl SampleMut {
     ) -> Result<SendOutcome, SendError>
         requires live { IsWritten domain.old self }
         requires unblocked { IsUnblocked domain.old (written_key self) }
-        ensures ok { HasLender domain.old (written_key self) → IsOk result }
-        ensures gone { IfErr result (λ error. error ≡ SendError.ConnectionBrokenSinceSenderNoLongerExists) }
+        ensures ok { HasLender domain.old (written_key self) → NeverFails domain.old self.loan.publisher → IsOk result }
+        ensures gone { NeverFails domain.old self.loan.publisher → IfErr result (λ error. error ≡ SendError.ConnectionBrokenSinceSenderNoLongerExists) }
+        ensures failed { HasLender domain.old (written_key self) → IfErr result (λ error. error ≡ SendError.UnableToDeliver) }
+        ensures errors { IfErr result (λ error. (error ≡ SendError.ConnectionBrokenSinceSenderNoLongerExists) ⊎ (error ≡ SendError.UnableToDeliver)) }
         ensures sent { (m : Messages T U) (s : State T U) (l : Loan T U) → Shows domain.old m s → s.loans self.loan.number ≡ Some l
             → (s' : State T U) × Shows domain.new (messages_after m self.loan.number l result) s' × Sends s self.loan.number l result s' }
         ensures delivered { NeverWaits domain.old (written_key self) → IfOk result IsDelivered }

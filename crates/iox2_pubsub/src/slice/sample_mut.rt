@@ -18,12 +18,12 @@ pub struct SampleMut {
 }
 
 impl SampleMut {
-    ghost use Rattle.std.specs.Prelude.{IfErr, IfOk, IsOk, List, Some, false, ◌+◌, ◌↔◌};
+    ghost use Rattle.std.specs.Prelude.{IfErr, IfOk, IsOk, List, Some, false, ◌+◌, ◌⊎◌, ◌↔◌};
     ghost use Rattle.iox2_store.specs.machine.Loans.{loan_discarded};
     ghost use Rattle.iox2_store.specs.machine.Records.{Loan};
     ghost use Rattle.iox2_store.specs.machine.State.{State, Messages};
     ghost use Rattle.iox2_domain.specs.Shows.{Shows};
-    ghost use Rattle.iox2_pubsub.specs.Live.{AddAtMost, AreAllSlices, HasLender, IsBlockedSend, IsLoanKey, IsUnblocked, IsWritten, LoanHasHeader, LoanHasUserHeader, NeverWaits, StaysBut, blocked_key, UpToDateStay, payloads, waiting, written_key, written_loan};
+    ghost use Rattle.iox2_pubsub.specs.Live.{AddAtMost, AreAllSlices, HasLender, IsBlockedSend, IsLoanKey, IsUnblocked, IsWritten, LoanHasHeader, LoanHasUserHeader, NeverFails, NeverWaits, StaysBut, blocked_key, UpToDateStay, payloads, waiting, written_key, written_loan};
     ghost use Rattle.iox2_pubsub.specs.declared.subscriber.Subscriber.{Subscriber};
     ghost use Rattle.iox2_pubsub.specs.LoansLeft.{HasOneMoreLeft, LoansLeftStay};
     ghost use Rattle.iox2_pubsub.specs.SendCalls.{IfBlocked, IsDelivered, Sends, messages_after, spent_by_send};
@@ -51,8 +51,10 @@ impl SampleMut {
     ) -> Result<SendOutcome, SendError>
         requires live { IsWritten domain.old self.sample }
         requires unblocked { IsUnblocked domain.old (written_key self.sample) }
-        ensures ok { HasLender domain.old (written_key self.sample) → IsOk result }
-        ensures gone { IfErr result (λ error. error ≡ SendError.ConnectionBrokenSinceSenderNoLongerExists) }
+        ensures ok { HasLender domain.old (written_key self.sample) → NeverFails domain.old self.sample.loan.publisher → IsOk result }
+        ensures gone { NeverFails domain.old self.sample.loan.publisher → IfErr result (λ error. error ≡ SendError.ConnectionBrokenSinceSenderNoLongerExists) }
+        ensures failed { HasLender domain.old (written_key self.sample) → IfErr result (λ error. error ≡ SendError.UnableToDeliver) }
+        ensures errors { IfErr result (λ error. (error ≡ SendError.ConnectionBrokenSinceSenderNoLongerExists) ⊎ (error ≡ SendError.UnableToDeliver)) }
         ensures sent { (m : Messages T U) (s : State T U) (l : Loan T U) → Shows domain.old m s → s.loans self.sample.loan.number ≡ Some l
             → (s' : State T U) × Shows domain.new (messages_after m self.sample.loan.number l result) s' × Sends s self.sample.loan.number l result s' }
         ensures delivered { NeverWaits domain.old (written_key self.sample) → IfOk result IsDelivered }

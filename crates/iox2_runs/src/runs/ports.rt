@@ -11,10 +11,10 @@ use super::made::Made;
 use super::publishers::make_publisher;
 use iox2_commands::Reply;
 use iox2_pubsub::Domain;
-use iox2_store::{BackpressureFn, BackpressureStrategy, DegradationFn};
+use iox2_store::{BackpressureAction, BackpressureFn, BackpressureStrategy, DegradationFn};
 
-/// Makes a publisher with so many loans, with that strategy, and for slices up to that length, and
-/// returns it too.
+/// Makes a publisher with so many loans, with that strategy, for slices up to that length, and with a
+/// handler that answers so where there is one, and returns it too.
 pub(crate) fn create_publisher<
     T: Default + Drop,
     U: Default + Drop,
@@ -26,13 +26,14 @@ pub(crate) fn create_publisher<
     loans: usize,
     strategy: BackpressureStrategy,
     len: usize,
+    backpressure: Option<BackpressureAction>,
 ) -> (Reply<T, U>, Made)
     requires { IsLiveTable domain.old table.now }
     ensures carries { Carries fixed_handlers (defaults_of T.is_default U.is_default) domain.old domain.new table.now
-        (CreatePublisher loans strategy Static len None Warn None) result.0 table.now result.1 }
+        (CreatePublisher loans strategy Static len None Warn backpressure) result.0 table.now result.1 }
     ensures leaves { Leaves domain.old domain.new table.now table.now result.1 }
 {
-    match make_publisher(domain, loans, strategy, len) {
+    match make_publisher(domain, loans, strategy, len, backpressure) {
         Ok(publisher) => (
             Reply::PublisherMade(publisher.id()),
             Made::Publisher(publisher),

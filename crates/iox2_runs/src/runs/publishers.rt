@@ -6,45 +6,84 @@ ghost use Rattle.iox2_store.specs.machine.Ports.{CreatePublisher};
 ghost use Rattle.iox2_store.specs.machine.State.{State, Messages};
 ghost use Rattle.iox2_store.specs.declared.allocation.AllocationStrategy.TheVariants.{Static};
 ghost use Rattle.iox2_store.specs.declared.degradation.DegradationAction.TheVariants.{Warn};
+ghost use Rattle.iox2_domain.specs.Handlers.{fixed_handler};
+ghost use Rattle.iox2_domain.specs.NewPublisher.{static_publisher};
 ghost use Rattle.iox2_domain.specs.Shows.{Shows};
 ghost use Rattle.iox2_pubsub.specs.Live.{IsNewIn, IsReadyPublisher, Stays, publisher_port};
 ghost use Rattle.iox2_commands.specs.Step.{publisher_settings};
 
-use iox2_pubsub::{Domain, Publisher};
+use iox2_pubsub::{Domain, PortFactoryPublisher, Publisher, slice};
 use iox2_store::{
-    BackpressureFn, BackpressureStrategy, DegradationFn, PublisherCreateError, TypeVariant,
+    BackpressureAction, BackpressureFn, BackpressureHandler, BackpressureStrategy, DegradationFn,
+    PublisherCreateError, TypeVariant,
 };
 
-/// Makes a publisher with so many loans, which follows the strategy. Where messages are slices, each of its loans may have so
-/// many elements.
+// A factory of publishers of single values, with so many loans, which follow the strategy, or the
+// handler with that answer where there is one.
+fn value_factory<T: Drop, U: Default + Drop, F: BackpressureFn, G: DegradationFn>(
+    domain: &Domain<T, U, F, G>,
+    loans: usize,
+    strategy: BackpressureStrategy,
+    backpressure: Option<BackpressureAction>,
+) -> PortFactoryPublisher
+    ensures { result ≡ static_publisher loans strategy (fixed_handler backpressure) 1 }
+{
+    let factory = domain
+        .publisher_builder()
+        .max_loaned_samples(loans)
+        .backpressure_strategy(strategy);
+    match backpressure {
+        Some(action) => factory.set_backpressure_handler(BackpressureHandler::new_with(action)),
+        None => factory,
+    }
+}
+
+// The same for publishers of slices, each of whose loans may have so many elements.
+fn slice_factory<T: Drop, U: Default + Drop, F: BackpressureFn, G: DegradationFn>(
+    domain: &Domain<T, U, F, G>,
+    loans: usize,
+    strategy: BackpressureStrategy,
+    len: usize,
+    backpressure: Option<BackpressureAction>,
+) -> slice::PortFactoryPublisher
+    ensures { result ≡ static_publisher loans strategy (fixed_handler backpressure) len }
+{
+    let factory = domain
+        .slice_publisher_builder()
+        .max_loaned_samples(loans)
+        .backpressure_strategy(strategy)
+        .initial_max_slice_len(len);
+    match backpressure {
+        Some(action) => factory.set_backpressure_handler(BackpressureHandler::new_with(action)),
+        None => factory,
+    }
+}
+
+/// Makes a publisher with so many loans, which follows the strategy, or the handler with that answer
+/// where there is one. Where messages are slices, each of its loans may have so many elements.
 pub(crate) fn make_publisher<T: Drop, U: Default + Drop, F: BackpressureFn, G: DegradationFn>(
     domain: &mut Domain<T, U, F, G>,
     loans: usize,
     strategy: BackpressureStrategy,
     len: usize,
+    backpressure: Option<BackpressureAction>,
 ) -> Result<Publisher, PublisherCreateError>
     ensures creates { (m : Messages T U) (s : State T U) → Shows domain.old m s → (s' : State T U) × Shows domain.new m s'
         × MatchResult result
         (λ publisher. (publisher.id ≡ s.next_port)
-        × CreatePublisher fixed_handlers s (publisher_settings (s.config).variant loans strategy Static len None Warn None) s' None)
-        (λ e. CreatePublisher fixed_handlers s (publisher_settings (s.config).variant loans strategy Static len None Warn None) s' (Some e)) }
+        × CreatePublisher fixed_handlers s (publisher_settings (s.config).variant loans strategy Static len None Warn backpressure) s' None)
+        (λ e. CreatePublisher fixed_handlers s (publisher_settings (s.config).variant loans strategy Static len None Warn backpressure) s' (Some e)) }
     ensures ready { IfOk result (λ publisher. IsReadyPublisher domain.new publisher) }
     ensures new { IfOk result (λ publisher. IsNewIn domain.old (publisher_port publisher)) }
     ensures stays { Stays domain.old domain.new }
 {
     match domain.variant() {
-        TypeVariant::FixedSize => domain
-            .publisher_builder()
-            .max_loaned_samples(loans)
-            .backpressure_strategy(strategy)
-            .create(domain),
+        TypeVariant::FixedSize => {
+            value_factory(domain, loans, strategy, backpressure).create(domain)
+        }
         TypeVariant::Dynamic => {
-            let publisher = domain
-                .slice_publisher_builder()
-                .max_loaned_samples(loans)
-                .backpressure_strategy(strategy)
-                .initial_max_slice_len(len)
-                .create(domain)?;
+            let factory = slice_factory(domain, loans, strategy, len, backpressure);
+            let publisher = factory.create(domain)?;
             Ok(publisher.into_inner())
         }
     }

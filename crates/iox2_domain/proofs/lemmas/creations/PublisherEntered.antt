@@ -6,41 +6,44 @@ use Rattle.std.specs.declared.option.Option.TheVariants.{None, Some}
 use Rattle.std.specs.Option.{option_map, option_and_then}
 use Rattle.slab.specs.Slab.{Slab}
 use Rattle.circular_buffer.specs.Buffer.{buffer}
+use Rattle.iox2_store.specs.declared.backpressure.BackpressureAction.{BackpressureAction}
 use Rattle.iox2_store.specs.declared.backpressure.BackpressureStrategy.{BackpressureStrategy}
 use Rattle.iox2_store.specs.machine.Limits.{worst_case}
 use Rattle.iox2_store.specs.machine.Numbers.{put_at}
 use Rattle.iox2_store.specs.machine.Places.{set_place}
-use Rattle.iox2_store.specs.machine.Records.{Publisher}
+use Rattle.iox2_store.specs.machine.Records.{Publisher, Handler}
 use Rattle.iox2_store.specs.machine.Ports.{new_publisher}
 use Rattle.iox2_store.specs.SlotBook.{Book}
 use Rattle.iox2_store.specs.SlotContents.{ContentState}
 use Rattle.iox2_store.specs.machine.Mailbox.{Mailbox}
 use Rattle.iox2_ends.specs.LookUp.{look_up, IsOnly}
 use Rattle.iox2_laws.proofs.PortLaws.{no_publisher_yet}
+use Rattle.iox2_domain.specs.Handlers.{HasNoBox}
 use Rattle.iox2_domain.specs.Ports.{PublisherFields, slot_length}
 use Rattle.iox2_domain.specs.Kept.{Named, Between, state_of, port_named, ids, is_named, loan_in, stands_between, box_if_any}
 use Rattle.iox2_domain.specs.Fields.{Fields, kept_of, publisher_of}
 use Rattle.iox2_domain.specs.Invariant.{IsDomain, HasForms, is_publisher}
 use Rattle.iox2_domain.specs.Placed.{placed}
-use Rattle.iox2_domain.specs.NewPublisher.{BookEnters, entering_publisher, plain_publisher}
+use Rattle.iox2_domain.specs.NewPublisher.{BookEnters, entering_publisher, static_publisher}
 use Rattle.iox2_domain.proofs.lemmas.containers.LookUps.{look_up-map, look_up-written, IsOnly-inserted}
 use Rattle.iox2_domain.proofs.lemmas.containers.Placed.{placed-here, placed-others, map-placed, placed-ids}
 use Rattle.iox2_domain.proofs.lemmas.slots.NewBook.{messages-same, publishers-shown, connections-shown}
 use mathlib.Core.Path.{fun_ext}
 
 -- A new publisher enters these fields at the place, with so many slots for messages of so many elements, and the book at the key.
-pub record PublisherEnters {T U : Type 0} (f : Fields T U) (place loans : ℕ) (strategy : BackpressureStrategy) (len loan_room key_room key : ℕ)
+pub record PublisherEnters {T U : Type 0} (f : Fields T U) (place loans : ℕ) (strategy : BackpressureStrategy) (handler : Option (Handler BackpressureAction)) (len loan_room key_room key : ℕ)
     (books : Slab Book) (contents : List (Option (List (ContentState T U)))) : Type 0 where
   pub sound : IsDomain f
   pub free : get_or f.publishers place None ≡ None
   pub book : BookEnters f.next_port (worst_case f.config loans) (slot_length len * (f.config).units_per_element) key f.books f.contents books contents
   pub forms : HasForms f.config contents
+  pub no_box : HasNoBox handler
 
-module _ {T U : Type 0} (f : Fields T U) (place loans : ℕ) (strategy : BackpressureStrategy) (len loan_room key_room key : ℕ) (books : Slab Book) (contents : List (Option (List (ContentState T U))))
-    (enters : PublisherEnters f place loans strategy len loan_room key_room key books contents) where
+module _ {T U : Type 0} (f : Fields T U) (place loans : ℕ) (strategy : BackpressureStrategy) (handler : Option (Handler BackpressureAction)) (len loan_room key_room key : ℕ) (books : Slab Book) (contents : List (Option (List (ContentState T U))))
+    (enters : PublisherEnters f place loans strategy handler len loan_room key_room key books contents) where
   -- the publisher that enters
   abbrev pub newcomer : PublisherFields
-  newcomer = entering_publisher f.next_port place key loans (worst_case f.config loans) strategy len loan_room (buffer [] (f.config).history_size) key_room
+  newcomer = entering_publisher f.next_port place key loans (worst_case f.config loans) strategy handler len loan_room (buffer [] (f.config).history_size) key_room
 
   -- the fields with it and its book
   abbrev pub with_entered_publisher : Fields T U
@@ -89,7 +92,7 @@ module _ {T U : Type 0} (f : Fields T U) (place loans : ℕ) (strategy : Backpre
 
   -- the machine's new publisher
   abbrev made : Publisher
-  made = new_publisher (state_of (kept_of f)) (plain_publisher loans strategy len) place
+  made = new_publisher (state_of (kept_of f)) (static_publisher loans strategy handler len) place
 
   -- what publishers look like with the new book
   abbrev shown : PublisherFields → Named Publisher

@@ -8,24 +8,32 @@ use Rattle.std.specs.declared.result.Result.TheVariants.{Ok, Err}
 use Rattle.std.specs.Option.{option_map}
 use Rattle.slab.specs.Slab.{Slab, get, Updates}
 use Rattle.circular_buffer.specs.Buffer.{buffer}
+use Rattle.iox2_store.specs.declared.backpressure.BackpressureAction.{BackpressureAction}
 use Rattle.iox2_store.specs.declared.backpressure.BackpressureStrategy.{BackpressureStrategy}
 use Rattle.iox2_store.specs.machine.Limits.{worst_case, last_number}
 use Rattle.iox2_store.specs.machine.Ports.{with_new_publisher}
+use Rattle.iox2_store.specs.machine.Records.{Handler}
 use Rattle.iox2_store.specs.SingleValues.{is_single_valued}
 use Rattle.iox2_store.specs.SlotBook.{Book, IsAligned}
 use Rattle.iox2_store.specs.SlotContents.{ContentState}
 use Rattle.iox2_store.specs.declared.errors.PublisherCreateError.TheVariants.{UnableToCreatePortTag, ExceedsMaxSupportedPublishers}
+use Rattle.iox2_domain.specs.Handlers.{HasNoBox, fixed_handler}
 use Rattle.iox2_domain.specs.Ports.{PublisherFields, slot_length}
 use Rattle.iox2_domain.specs.Kept.{state_of}
 use Rattle.iox2_domain.specs.Fields.{Fields, kept_of}
 use Rattle.iox2_domain.specs.Invariant.{IsDomain, IsLinked, HasBooks, HasNumber, IsNumbered, HasForms, HasPublisherRoom}
-use Rattle.iox2_domain.specs.NewPublisher.{BookEnters, entering_publisher, plain_publisher, subscriber_due, place_for_publisher}
+use Rattle.iox2_domain.specs.NewPublisher.{BookEnters, entering_publisher, static_publisher, subscriber_due, place_for_publisher}
 use Rattle.iox2_domain.specs.Placed.{placed, lowest_empty}
 use Rattle.iox2_domain.specs.Reaches.{Reaches}
 use Rattle.iox2_domain.proofs.lemmas.fields.NamedBooks.{names-books}
 use Rattle.iox2_domain.proofs.lemmas.containers.FreePlaces.{lowest_empty-low, lowest_empty-free}
 use Rattle.iox2_domain.proofs.lemmas.containers.Placed.{placed-here, placed-others}
 use Rattle.iox2_domain.proofs.lemmas.creations.PublisherAdmitted.{with_admitted, admitted-reaches}
+
+-- a handler with a fixed answer is no box
+pub fixed-no_box : (answer : Option BackpressureAction) → HasNoBox (fixed_handler answer)
+fixed-no_box None = tt
+fixed-no_box (Some action) = tt
 
 -- the tests of a place that a publisher has, in their order
 pub record HasPlace {T U : Type 0} (f : Fields T U) (place : ℕ) : Type 0 where
@@ -119,9 +127,10 @@ module _ {T U : Type 0} (f : Fields T U) where
   -- ---- it enters
 
   -- A publisher entered these fields, with its book and its contents.
-  pub record HasEntered (loans slots : ℕ) (strategy : BackpressureStrategy) (len place : ℕ) (x : PublisherFields) (book : Book) (slot_contents : List (ContentState T U)) (books : Slab Book) (before new : Fields T U) : Type 0 where
-    pub publisher : x ≡ entering_publisher before.next_port place (before.books).vacant_key loans slots strategy len x.loan_room (buffer [] (before.config).history_size) x.key_room
+  pub record HasEntered (loans slots : ℕ) (strategy : BackpressureStrategy) (handler : Option (Handler BackpressureAction)) (len place : ℕ) (x : PublisherFields) (book : Book) (slot_contents : List (ContentState T U)) (books : Slab Book) (before new : Fields T U) : Type 0 where
+    pub publisher : x ≡ entering_publisher before.next_port place (before.books).vacant_key loans slots strategy handler len x.loan_room (buffer [] (before.config).history_size) x.key_room
     pub room : HasPublisherRoom before.config x
+    pub no_box : HasNoBox handler
     pub is_its : book.publisher ≡ before.next_port
     pub unused : book.holders ≡ replicate slots 0
     pub aligned : IsAligned book
@@ -138,10 +147,10 @@ module _ {T U : Type 0} (f : Fields T U) where
       contents = placed before.contents (before.books).vacant_key slot_contents;
     }
 
-  entered-reaches : IsDomain f → (new : Fields T U) (loans slots : ℕ) (strategy : BackpressureStrategy) (len place : ℕ) (x : PublisherFields) (book : Book) (slot_contents : List (ContentState T U)) (books : Slab Book)
-      → place_for_publisher f ≡ Ok place → slots ≡ worst_case f.config loans → HasEntered loans slots strategy len place x book slot_contents books f new
-      → Reaches f new (with_new_publisher (state_of (kept_of f)) (plain_publisher loans strategy len) place)
-  entered-reaches sound new loans slots strategy len place x book slot_contents books h count e =
+  entered-reaches : IsDomain f → (new : Fields T U) (loans slots : ℕ) (strategy : BackpressureStrategy) (handler : Option (Handler BackpressureAction)) (len place : ℕ) (x : PublisherFields) (book : Book) (slot_contents : List (ContentState T U)) (books : Slab Book)
+      → place_for_publisher f ≡ Ok place → slots ≡ worst_case f.config loans → HasEntered loans slots strategy handler len place x book slot_contents books f new
+      → Reaches f new (with_new_publisher (state_of (kept_of f)) (static_publisher loans strategy handler len) place)
+  entered-reaches sound new loans slots strategy handler len place x book slot_contents books h count e =
       let has = has_place place h in
       let free : get_or f.publishers place None ≡ None = subst (λ (p : ℕ). get_or f.publishers p None ≡ None) has.lowest (lowest_empty-free f.publishers) in
       let next : place ≤ length f.publishers = subst (λ (p : ℕ). p ≤ length f.publishers) has.lowest (lowest_empty-low f.publishers) in
@@ -160,8 +169,8 @@ module _ {T U : Type 0} (f : Fields T U) where
         contents_length = e.contents_length ∙ count;
         has_room = e.contents_room;
       } in
-      let is : x ≡ entering_publisher f.next_port place key loans (worst_case f.config loans) strategy len x.loan_room (buffer [] (f.config).history_size) x.key_room =
-      e.publisher ∙ ap (λ n. entering_publisher f.next_port place key loans n strategy len x.loan_room (buffer [] (f.config).history_size) x.key_room) count in
+      let is : x ≡ entering_publisher f.next_port place key loans (worst_case f.config loans) strategy handler len x.loan_room (buffer [] (f.config).history_size) x.key_room =
+      e.publisher ∙ ap (λ n. entering_publisher f.next_port place key loans n strategy handler len x.loan_room (buffer [] (f.config).history_size) x.key_room) count in
       let forms : HasForms f.config contents = record {
         at = λ several k zs there. elim (cases_eq k key) [
           | inl here ↦
@@ -171,7 +180,7 @@ module _ {T U : Type 0} (f : Fields T U) where
           | inr away ↦ sound.parts.forms.at several k zs (sym (placed-others slot_contents f.contents key k away) ∙ there)
         ];
       } in
-      let after : Fields T U = with_admitted f sound place loans strategy len x.loan_room x.key_room key books contents free enters forms in
+      let after : Fields T U = with_admitted f sound place loans strategy handler len x.loan_room x.key_room key books contents free enters forms e.no_box in
       let same : new ≡ after = e.changed ∙ ap (λ (z : PublisherFields). record f {
         next_port = f.next_port + 1;
         publishers = placed f.publishers place z;
@@ -179,17 +188,17 @@ module _ {T U : Type 0} (f : Fields T U) where
         books = books;
         contents = contents;
       }) is in
-      subst (λ (g : Fields T U). Reaches f g (with_new_publisher (state_of (kept_of f)) (plain_publisher loans strategy len) place)) (sym same)
-      (admitted-reaches f sound place loans strategy len x.loan_room x.key_room key books contents free enters forms (subst (HasPublisherRoom f.config) is e.room)
+      subst (λ (g : Fields T U). Reaches f g (with_new_publisher (state_of (kept_of f)) (static_publisher loans strategy handler len) place)) (sym same)
+      (admitted-reaches f sound place loans strategy handler len x.loan_room x.key_room key books contents free enters forms e.no_box (subst (HasPublisherRoom f.config) is e.room)
       (subst (λ (p : ℕ). suc p ≤ (f.config).max_publishers) has.lowest (ltb-true _ _ has.low)) next)
 
   -- the same, where the fields are known by another name
-  pub entered-reaches-as : (before new : Fields T U) → before ≡ f → IsDomain f → (loans slots : ℕ) (strategy : BackpressureStrategy) (len place : ℕ) (x : PublisherFields) (book : Book) (slot_contents : List (ContentState T U)) (books : Slab Book)
-      → place_for_publisher f ≡ Ok place → slots ≡ worst_case f.config loans → HasEntered loans slots strategy len place x book slot_contents books before new
-      → Reaches f new (with_new_publisher (state_of (kept_of f)) (plain_publisher loans strategy len) place)
-  entered-reaches-as before new e sound loans slots strategy len place x book slot_contents books h count entered =
-      entered-reaches sound new loans slots strategy len place x book slot_contents books h count
-      (subst (λ (g : Fields T U). HasEntered loans slots strategy len place x book slot_contents books g new) e entered)
+  pub entered-reaches-as : (before new : Fields T U) → before ≡ f → IsDomain f → (loans slots : ℕ) (strategy : BackpressureStrategy) (handler : Option (Handler BackpressureAction)) (len place : ℕ) (x : PublisherFields) (book : Book) (slot_contents : List (ContentState T U)) (books : Slab Book)
+      → place_for_publisher f ≡ Ok place → slots ≡ worst_case f.config loans → HasEntered loans slots strategy handler len place x book slot_contents books before new
+      → Reaches f new (with_new_publisher (state_of (kept_of f)) (static_publisher loans strategy handler len) place)
+  entered-reaches-as before new e sound loans slots strategy handler len place x book slot_contents books h count entered =
+      entered-reaches sound new loans slots strategy handler len place x book slot_contents books h count
+      (subst (λ (g : Fields T U). HasEntered loans slots strategy handler len place x book slot_contents books g new) e entered)
 
   -- ---- a number for it
 

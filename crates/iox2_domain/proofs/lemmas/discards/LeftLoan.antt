@@ -237,8 +237,8 @@ module _ {T U : Type 0} (f : Fields T U) (sound : IsDomain f) (p n key slot : �
     sends = match-none (was.publishers at.loan.publisher) _ _ absent ((left-reaches new l).state ∙ discarded-is, refl);
     loans = ap (λ (s : State T U). s.loans) ((left-reaches new l).state ∙ discarded-is);
     entries = λ m entry e. inr ((left-reaches new l).entries m entry e);
-    lost = λ error is. (left-reaches new l).entries;
-    unfailed = λ is. absurd cc;
+    lost = λ error other is. (left-reaches new l).entries;
+    unfailed = λ quiet is. absurd cc;
   } where
     match-none : {X : Type 0} (o : Option X) (P : Type 0) (Q : X → Type 0) → o ≡ None → P → MatchOption o P Q
     match-none None P Q e h = h

@@ -6,12 +6,14 @@ use Rattle.std.specs.declared.time.Duration.{Duration}
 use Rattle.std.specs.Option.{option_map}
 use Rattle.std.specs.Prelude.{slice_get, nat_lt}
 use Rattle.slab.specs.Slab.{Slab, get, with_value}
-use Rattle.iox2_store.specs.machine.Delivery.{PutResult, DeliveryEnd, Complete, Suspended, Put, PutAtEnd, Deliver, by_strategy, is_blocking, is_failed, accepted_count, no_time}
+use Rattle.iox2_store.specs.machine.Delivery.{PutResult, DeliveryEnd, Complete, Suspended, Decides, Put, PutAtEnd, Deliver, by_strategy, by_action, is_blocking, is_failed, accepted_count, no_time}
 use Rattle.iox2_store.specs.Link.{Link}
 use Rattle.iox2_store.specs.machine.Mailbox.{Mailbox, has_room}
-use Rattle.iox2_store.specs.machine.Records.{Environment, BlockedSend, Handler}
+use Rattle.iox2_store.specs.machine.Records.{Environment, BlockedSend, Handler, Fixed, Custom}
 use Rattle.iox2_store.specs.SlotBook.{Book, holders_at, IsInUse}
 use Rattle.iox2_store.specs.declared.backpressure.BackpressureAction.{BackpressureAction}
+use Rattle.iox2_store.specs.declared.backpressure.BackpressureAction.TheVariants as actions
+use Rattle.iox2_store.specs.declared.backpressure.BackpressureInfo.{BackpressureInfo}
 use Rattle.iox2_store.specs.declared.backpressure.BackpressureStrategy.{BackpressureStrategy}
 use Rattle.iox2_store.specs.declared.backpressure.BackpressureStrategy.TheVariants.{DiscardData, RetryUntilDelivered}
 use Rattle.iox2_store.specs.declared.service_config.ServiceConfig.{ServiceConfig}
@@ -20,6 +22,7 @@ use Rattle.iox2_ends.specs.Mailboxes.{mailboxes_of, sender_ends}
 use Rattle.iox2_ends.specs.Receivers.{IsReadyToDeliver, buffers_of, has_id}
 use Rattle.iox2_ends.specs.Recounts.{Recounts}
 use Rattle.iox2_laws.proofs.Cases.{by_bool}
+use Rattle.iox2_domain.specs.Handlers.{HasNoBox, is_failing, may_fail}
 use Rattle.iox2_domain.specs.Ports.{PublisherFields}
 use Rattle.iox2_domain.specs.Fields.{Fields}
 use Rattle.iox2_domain.specs.Invariant.{IsDomain, IsCounted, details_of, is_subscriber, holders_of, HasParts}
@@ -31,6 +34,7 @@ use Rattle.iox2_domain.proofs.lemmas.slots.HeldMessages.{own-in_use as held-itse
 use Rattle.iox2_domain.proofs.lemmas.slots.RecountedLoans.{recounted_fields, parts-recounted}
 use Rattle.std.proofs.lemmas.List.{get_or-set_same, length-set}
 use Rattle.iox2_ends.proofs.MailboxChanges.{within_if_some}
+use Rattle.iox2_ends.proofs.AnyEnvironment.{AllowsAsMuch, Deliver-any}
 use Rattle.iox2_ends.proofs.Counts.{in_range, times-cons, one_if_same, get_or-one_holder_more}
 use Rattle.iox2_ends.proofs.ReclaimedPuts.{own-in_use, own-still}
 use Rattle.iox2_domain.proofs.lemmas.fields.OpenReceivers.{open-seen}
@@ -62,52 +66,84 @@ module _ (e : Environment) (c : ServiceConfig) (p : ℕ) (buffers : ℕ → Opti
       (λ blocks _. absurd (let no : true ≡ false = sym blocks ∙ goes in cc))
       (λ _ k. delivery-completes 0 no_time (place + 1) rest (count + accepted_count h.0) (has_failed || is_failed h.0) h.1 how boxes' k)
 
-module _ (e : Environment) (c : ServiceConfig) (p : ℕ) (strategy : BackpressureStrategy) (buffers : ℕ → Option ℕ) (n : ℕ) where
+module _ (e : Environment) (c : ServiceConfig) (p : ℕ) (strategy : BackpressureStrategy) (handler : Option (Handler BackpressureAction)) (passes : may_fail handler ≡ false)
+    (buffers : ℕ → Option ℕ) (n : ℕ) where
   strategy-passes : (s : BackpressureStrategy) → is_failed (by_strategy s) ≡ false
   strategy-passes RetryUntilDelivered = refl
   strategy-passes DiscardData = refl
 
+  action-passes : (s : BackpressureStrategy) (action : BackpressureAction) → is_failing action ≡ false → is_failed (by_action s action) ≡ false
+  action-passes s actions.FollowBackpressureyStrategy none = strategy-passes s
+  action-passes s actions.Retry none = refl
+  action-passes s actions.DiscardData none = refl
+  action-passes s actions.DiscardDataAndFail none = none
+
+  decides-passes : (h : Option (Handler BackpressureAction)) → may_fail h ≡ false → (info : BackpressureInfo) (result : PutResult) → Decides e p h strategy info result → is_failed result ≡ false
+  decides-passes None none info result d = ap is_failed d ∙ strategy-passes strategy
+  decides-passes (Some (Fixed action)) none info result d = ap is_failed d ∙ action-passes strategy action none
+  decides-passes (Some Custom) none info result d = absurd (let no : true ≡ false = none in cc)
+
   put-passes : (q retries : ℕ) (elapsed : Duration) (buffer : Option ℕ) (box : Mailbox) (result : PutResult) (box' : Mailbox)
-      → Put e c p strategy None buffers n q retries elapsed buffer box result box' → is_failed result ≡ false
+      → Put e c p strategy handler buffers n q retries elapsed buffer box result box' → is_failed result ≡ false
   put-passes q retries elapsed None box result box' h = ap is_failed h.0
   put-passes q retries elapsed (Some buffer) box result box' h =
-      by_bool (is_failed result ≡ false) (has_room buffer box || c.enable_safe_overflow) _ _ h (λ _ k. ap is_failed k.0) (λ _ k. ap is_failed k.0 ∙ strategy-passes strategy)
+      by_bool (is_failed result ≡ false) (has_room buffer box || c.enable_safe_overflow) _ _ h (λ _ k. ap is_failed k.0) (λ _ k. decides-passes handler passes _ result k.0)
 
   put_at_end-passes : (retries : ℕ) (elapsed : Duration) (end : Option ℕ) (boxes : ℕ → Mailbox) (result : PutResult) (boxes' : ℕ → Mailbox)
-      → PutAtEnd e c p strategy None buffers n retries elapsed end boxes result boxes' → is_failed result ≡ false
+      → PutAtEnd e c p strategy handler buffers n retries elapsed end boxes result boxes' → is_failed result ≡ false
   put_at_end-passes retries elapsed None boxes result boxes' h = ap is_failed h.0
   put_at_end-passes retries elapsed (Some q) boxes result boxes' h = put-passes q retries elapsed (buffers q) (boxes q) result h.0 h.1
 
-  -- without a handler no receiver fails the delivery
+  -- where the handler fails no send, no receiver fails the delivery
   pub delivery-passes : (retries : ℕ) (elapsed : Duration) (place : ℕ) (ends : List (Option ℕ)) (count : ℕ) (has_failed : Bool) (boxes : ℕ → Mailbox) (boxes' : ℕ → Mailbox)
-      → has_failed ≡ false → (took : ℕ) (failed : Bool) → Deliver e c p strategy None buffers n retries elapsed place ends count has_failed boxes (Complete took failed) boxes' → failed ≡ false
+      → has_failed ≡ false → (took : ℕ) (failed : Bool) → Deliver e c p strategy handler buffers n retries elapsed place ends count has_failed boxes (Complete took failed) boxes' → failed ≡ false
   delivery-passes retries elapsed place [] count has_failed boxes boxes' none took failed h =
       let same : Complete took failed ≡ Complete count has_failed = h.0 in
       let is : failed ≡ has_failed = cc in
       is ∙ none
   delivery-passes retries elapsed place (end ∷ rest) count has_failed boxes boxes' none took failed h =
-      let passes : is_failed h.0 ≡ false = put_at_end-passes retries elapsed end boxes h.0 h.1 h.2 in
+      let passed : is_failed h.0 ≡ false = put_at_end-passes retries elapsed end boxes h.0 h.1 h.2 in
       by_bool (failed ≡ false) (is_blocking h.0) _ _ h.3
       (λ _ k. absurd (let no : Complete took failed ≡ Suspended _ = k.0 in cc))
-      (λ _ k. delivery-passes 0 no_time (place + 1) rest (count + accepted_count h.0) (has_failed || is_failed h.0) h.1 boxes' (λ t. none t || passes t) took failed k)
+      (λ _ k. delivery-passes 0 no_time (place + 1) rest (count + accepted_count h.0) (has_failed || is_failed h.0) h.1 boxes' (λ t. none t || passed t) took failed k)
 
--- a delivery of a publisher without a handler, which hadn't failed so far, doesn't fail
+-- a delivery of a publisher whose handler fails no send, which hadn't failed so far, doesn't fail
 pub never-fails : {T U : Type 0} (environment : Environment) (f : Fields T U) (x : PublisherFields) (slot : ℕ) (start : Progress) (elapsed : Duration) (outcome : DeliveryOutcome) (new : Fields T U)
-    → DeliversFrom environment f x slot start elapsed outcome new → x.backpressure_handler ≡ None → start.has_failed ≡ false
+    → DeliversFrom environment f x slot start elapsed outcome new → may_fail x.backpressure_handler ≡ false → start.has_failed ≡ false
     → (count : ℕ) (has_failed : Bool) → outcome ≡ DeliveryOutcome.Complete count has_failed → has_failed ≡ false
 never-fails environment f x slot start elapsed outcome new d none so_far count has_failed is =
-    delivery-passes environment f.config x.id x.strategy (buffers_of (map (option_map details_of) f.subscribers)) 0
+    delivery-passes environment f.config x.id x.strategy x.backpressure_handler none (buffers_of (map (option_map details_of) f.subscribers)) 0
     start.retries elapsed start.place (drop start.place (sender_ends f.connections x.keys)) start.count start.has_failed (mailboxes_of number f.connections x.id) (mailboxes_of number d.connections x.id)
     so_far count has_failed
-    (subst (λ (h : Option (Handler BackpressureAction)). Deliver environment f.config x.id x.strategy h (buffers_of (map (option_map details_of) f.subscribers)) 0
-    start.retries elapsed start.place (drop start.place (sender_ends f.connections x.keys)) start.count start.has_failed (mailboxes_of number f.connections x.id)
-    (Complete count has_failed) (mailboxes_of number d.connections x.id)) none
     (subst (λ (o : DeliveryOutcome). Deliver environment f.config x.id x.strategy x.backpressure_handler (buffers_of (map (option_map details_of) f.subscribers)) 0
     start.retries elapsed start.place (drop start.place (sender_ends f.connections x.keys)) start.count start.has_failed (mailboxes_of number f.connections x.id)
-    (end_of 0 (sender_ends f.connections x.keys) o) (mailboxes_of number d.connections x.id)) is (d.delivers number)))
+    (end_of 0 (sender_ends f.connections x.keys) o) (mailboxes_of number d.connections x.id)) is (d.delivers number))
   where
     number : ℕ → ℕ → ℕ
     number p slot = 0
+
+-- where the handler is no box, nothing depends on what a box may answer
+pub as-much : (e e' : Environment) (p : ℕ) (h : Option (Handler BackpressureAction)) → HasNoBox h → AllowsAsMuch e e' p h
+as-much e e' p None no_box = tt
+as-much e e' p (Some (Fixed action)) no_box = tt
+as-much e e' p (Some Custom) no_box = absurd no_box
+
+module _ {T U : Type 0} (f : Fields T U) (parts : HasParts f) (i : ℕ) (y : PublisherFields) (stands : get_or f.publishers i None ≡ Some y)
+    (slot : ℕ) (start : Progress) (elapsed : Duration) (outcome : DeliveryOutcome) (new : Slab Link) where
+  -- the publisher's slot is delivered where this handler answers for it
+  abbrev pub DeliversWith : Environment → Option (Handler BackpressureAction) → Type 0
+  DeliversWith environment h = (number : ℕ → ℕ → ℕ)
+      → Deliver environment f.config y.id y.strategy h (buffers_of (map (option_map details_of) f.subscribers)) (number y.id slot)
+      start.retries elapsed start.place (drop start.place (sender_ends f.connections y.keys)) start.count start.has_failed (mailboxes_of number f.connections y.id)
+      (end_of (number y.id slot) (sender_ends f.connections y.keys) outcome) (mailboxes_of number new y.id)
+
+  -- the publisher's own is no box, and so answers in any environment
+  pub delivers-alike : (e e' : Environment) (h : Option (Handler BackpressureAction)) → h ≡ y.backpressure_handler → DeliversWith e h → DeliversWith e' y.backpressure_handler
+  delivers-alike e e' h same delivers number =
+      Deliver-any e e' f.config y.id y.strategy y.backpressure_handler (buffers_of (map (option_map details_of) f.subscribers)) (number y.id slot) (as-much e e' y.id y.backpressure_handler (parts.plain i y stands).backpressure)
+      start.retries elapsed start.place (drop start.place (sender_ends f.connections y.keys)) start.count start.has_failed (mailboxes_of number f.connections y.id)
+      (end_of (number y.id slot) (sender_ends f.connections y.keys) outcome) (mailboxes_of number new y.id)
+      (subst (λ (o : Option (Handler BackpressureAction)). DeliversWith e o) same delivers number)
 
 -- a delivery of one that discards waits for nobody
 pub never-waits : (e : Environment) (c : ServiceConfig) (p : ℕ) (strategy : BackpressureStrategy) (buffers : ℕ → Option ℕ) (n : ℕ) (ends : List (Option ℕ)) (boxes : ℕ → Mailbox) (b : BlockedSend) (boxes' : ℕ → Mailbox)

@@ -1,5 +1,5 @@
 -- A loan is sent: update, delivery and the end of the send, one after the other.
-use Rattle.std.proofs.Common.{◌≡◌, ℕ, Bool, false, cond, refl, get_or, ap, sym, subst, ◌∙◌, inl, inr, arith}
+use Rattle.std.proofs.Common.{◌≡◌, ◌≢◌, ℕ, Bool, true, false, cond, refl, get_or, ap, sym, subst, ◌∙◌, inl, inr, arith}
 use Rattle.std.proofs.lemmas.Bool.{eq-eqb}
 use Rattle.std.proofs.lemmas.List.{get_or-set_same}
 use Rattle.std.specs.declared.option.Option.{Option}
@@ -22,6 +22,7 @@ use Rattle.iox2_laws.proofs.PublisherUpdates.{update_publisher_leaves}
 use Rattle.iox2_domain.specs.Connects.{UpdatesPublisher}
 use Rattle.iox2_domain.specs.Deliveries.{CanSend, SendsSlot, Publishes, result_of_send}
 use Rattle.iox2_domain.specs.Fields.{Fields, kept_of, publisher_of}
+use Rattle.iox2_domain.specs.Handlers.{may_fail}
 use Rattle.iox2_domain.specs.Invariant.{IsDomain}
 use Rattle.iox2_domain.specs.Kept.{Lent_message, state_of}
 use Rattle.iox2_domain.specs.LoanCalls.{HoldsWritten}
@@ -120,19 +121,25 @@ module _ {T U : Type 0} (environment : Environment) (f0 : Fields T U) (sound : I
         | inl new ↦ inl new
         | inr old ↦ inr (u.reaches.entries m entry old)
       ];
-      lost = λ error failed. absurd (goes outcome refl error failed);
-      unfailed = λ failed. goes outcome refl UnableToDeliver failed;
+      lost = λ error other failed. absurd (goes outcome error other failed);
+      unfailed = λ quiet failed. fails outcome refl (quiet _ (ap (state_of (kept_of f0)).publishers holds.2 ∙ present)) failed;
     }
       where
         d : SendsSlot environment f1 place sender slot outcome f2
         d = sends sender sender-stands
 
-        -- a publisher without a handler has no receiver that fails the send
-        goes : (o : DeliveryOutcome) → outcome ≡ o → (error : SendError) → result_of_send o ≡ Send_error error → ⊥
-        goes (DeliveryOutcome.Suspended progress) is error failed = absurd (let no : Blocked_send ≡ Send_error error = failed in cc)
-        goes (DeliveryOutcome.Complete count has_failed) is error failed =
-            let none : has_failed ≡ false = never-fails environment f1 sender slot begun no_time outcome d.delivered d.delivers (updated-agrees.parts.plain place sender sender-stands).backpressure refl count has_failed is in
-            absurd (let no : Delivered_to count ≡ Send_error error = sym (ap (λ (t : Bool). cond t (Send_error UnableToDeliver) (Delivered_to count)) none) ∙ failed in cc)
+        -- nothing but a handler fails a send that was begun
+        goes : (o : DeliveryOutcome) (error : SendError) → error ≢ UnableToDeliver → result_of_send o ≡ Send_error error → ⊥
+        goes (DeliveryOutcome.Suspended progress) error other failed = absurd (let no : Blocked_send ≡ Send_error error = failed in cc)
+        goes (DeliveryOutcome.Complete count true) error other failed = other (let same : Send_error UnableToDeliver ≡ Send_error error = failed in cc)
+        goes (DeliveryOutcome.Complete count false) error other failed = absurd (let no : Delivered_to count ≡ Send_error error = failed in cc)
+
+        -- and the publisher's own doesn't, where it fails none
+        fails : (o : DeliveryOutcome) → outcome ≡ o → may_fail sender.backpressure_handler ≡ false → result_of_send o ≡ Send_error UnableToDeliver → ⊥
+        fails (DeliveryOutcome.Suspended progress) is quiet failed = absurd (let no : Blocked_send ≡ Send_error UnableToDeliver = failed in cc)
+        fails (DeliveryOutcome.Complete count has_failed) is quiet failed =
+            let none : has_failed ≡ false = never-fails environment f1 sender slot begun no_time outcome d.delivered d.delivers quiet refl count has_failed is in
+            absurd (let no : Delivered_to count ≡ Send_error UnableToDeliver = sym (ap (λ (t : Bool). cond t (Send_error UnableToDeliver) (Delivered_to count)) none) ∙ failed in cc)
 
         published : Publishes environment f1 f2 sender.id n holds.0 (result_of_send outcome)
         published = send-publishes environment f1 updated-agrees place sender sender-stands slot n holds.0 lies holds.3 free outcome f2 d

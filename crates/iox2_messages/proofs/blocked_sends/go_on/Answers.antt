@@ -4,11 +4,12 @@ use Rattle.iox2_store.specs.machine.Environments.{fixed_handlers}
 use Rattle.iox2_ends.specs.Receivers.{HasReclaimed}
 use Rattle.iox2_domain.specs.declared.publisher_state.BlockedDelivery.{BlockedDelivery}
 use Rattle.iox2_domain.specs.BlockedSends.{with_outcome}
+use Rattle.iox2_ends.specs.Handlers.{asked, marks_of}
 use Rattle.iox2_domain.specs.Ports.{PublisherFields}
 use Rattle.iox2_domain.specs.Fields.{Fields}
 use Rattle.iox2_domain.specs.Invariant.{IsDomain}
 use Rattle.iox2_domain.proofs.lemmas.slots.PublisherBooks.{read-there, book-there, book-covers}
-use Rattle.iox2_domain.proofs.lemmas.sends.DeliverySteps.{ready-to-deliver, goes-slot}
+use Rattle.iox2_domain.proofs.lemmas.sends.DeliverySteps.{ready-to-deliver, delivers-alike, goes-slot}
 use Rattle.iox2_domain.proofs.lemmas.sends.BlockedSteps.{waits-own, waits-once, waits-few, waits-in_use}
 use Rattle.iox2_messages.proofs.blocked_sends.go_on.Goals as goal
 
@@ -57,7 +58,11 @@ returns g c = λ x w at waits.
     let is : c.in-Some-blocked.blocked ≡ w = cc in
     goes-slot fixed_handlers _ _ c.state.view_is c.args.place _ (read-there _ c.args.place _ _ (ap (λ (f : Fields g.row.T.Denot g.row.U.Denot). slice_index_or f.publishers c.args.place None) c.state.view_is ∙ c.requires.waits.stands) c.index_mut.ensures.value ∙ c.in-Some.is ∙ ap Some (sym c.publisher.view_is)) _ _ c.index_mut-book.ensures.value _ c.deliver-outcome.ensures.book
     (rw c.value.ensures at c.deliver-outcome.ensures.recounts) c.in-Some-blocked.blocked.slot c.args.start c.args.elapsed c.deliver-outcome.result c.deliver-outcome.ensures.alone
-    (rw (c.value.ensures, c.deref.ensures.value) at c.deliver-outcome.ensures.delivers)
+    (delivers-alike _ (subst (IsDomain {T = g.row.T.Denot} {U = g.row.U.Denot}) (sym c.state.view_is) c.requires.agrees).parts c.args.place _
+    (read-there _ c.args.place _ _ (ap (λ (f : Fields g.row.T.Denot g.row.U.Denot). slice_index_or f.publishers c.args.place None) c.state.view_is ∙ c.requires.waits.stands) c.index_mut.ensures.value ∙ c.in-Some.is ∙ ap Some (sym c.publisher.view_is))
+    c.in-Some-blocked.blocked.slot c.args.start c.args.elapsed c.deliver-outcome.result c.deliver-outcome.new.connections (asked (λ function info answer. ⊥) c.handler-handler.result) fixed_handlers (marks_of c.handler-handler.result)
+    (c.handler-handler.ensures ∙ ap (λ (y : PublisherFields). y.backpressure_handler) (sym c.publisher.view_is))
+    (rw (c.value.ensures, c.deref.ensures.value) at c.deliver-outcome.ensures.delivers))
     w (ap (λ (v : BlockedDelivery). v.slot) (sym is))
     _ (c.conclude_blocked.ensures.publisher ∙ ap (with_outcome c.deliver-outcome.result c.in-Some-blocked.blocked.slot) (sym c.publisher.view_is))
     _ c.conclude_blocked.ensures.book

@@ -14,13 +14,13 @@ use Rattle.iox2_domain.proofs.lemmas.sends.SendSteps.{sender-stands, updated-agr
 use Rattle.iox2_domain.proofs.lemmas.fields.ConnectionEnds.{free-of}
 use Rattle.iox2_messages.proofs.sends.update_and_send.Goals as goal
 
-pub send_slot-requires-clause-agrees : goal.send_slot-requires-clause-agrees
-send_slot-requires-clause-agrees g c =
+pub send_ready-requires-clause-agrees : goal.send_ready-requires-clause-agrees
+send_ready-requires-clause-agrees g c =
     let r = c.in-Some.ensures in
     updated-agrees fixed_handlers c.args.state.now c.requires.agrees c.args.publisher c.args.number c.in-Some.ready.place c.requires.live (r.publisher, r.stands, r.is_its) (free-of c.args.state.now c.requires.agrees.parts c.args.publisher c.in-Some.ready.place r.publisher r.stands r.is_its c.requires.unblocked) c.update_and_find.new.state r.updated
 
-pub send_slot-requires-clause-can : goal.send_slot-requires-clause-can
-send_slot-requires-clause-can g c =
+pub send_ready-requires-clause-can : goal.send_ready-requires-clause-can
+send_ready-requires-clause-can g c =
     let r = c.in-Some.ensures in (
       _,
       sender-stands fixed_handlers c.args.state.now c.requires.agrees c.args.publisher c.args.number c.in-Some.ready.place c.requires.live (r.publisher, r.stands, r.is_its) (free-of c.args.state.now c.requires.agrees.parts c.args.publisher c.in-Some.ready.place r.publisher r.stands r.is_its c.requires.unblocked) c.update_and_find.new.state r.updated,
@@ -31,8 +31,8 @@ send_slot-requires-clause-can g c =
 pub returns-clause-sends : goal.returns-clause-sends
 returns-clause-sends g c =
     let r = c.in-Some.ensures in
-    rw c.of.ensures.same (sends-loan fixed_handlers c.args.state.now c.requires.agrees c.args.publisher c.args.number c.in-Some.ready.place c.requires.live (r.publisher, r.stands, r.is_its) (free-of c.args.state.now c.requires.agrees.parts c.args.publisher c.in-Some.ready.place r.publisher r.stands r.is_its c.requires.unblocked) c.update_and_find.new.state r.updated
-    r.key c.in-Some.ready.slot r.lies c.send_slot.result c.send_slot.new.state c.send_slot.ensures)
+    rw c.send_ready.ensures.sends.1 (sends-loan fixed_handlers c.args.state.now c.requires.agrees c.args.publisher c.args.number c.in-Some.ready.place c.requires.live (r.publisher, r.stands, r.is_its) (free-of c.args.state.now c.requires.agrees.parts c.args.publisher c.in-Some.ready.place r.publisher r.stands r.is_its c.requires.unblocked) c.update_and_find.new.state r.updated
+    r.key c.in-Some.ready.slot r.lies c.send_ready.ensures.sends.0 c.send_ready.new.state c.send_ready.ensures.sends.2)
 
 -- ---- of a publisher that is gone
 

@@ -1,18 +1,24 @@
 //! The factory of publishers of slices.
-ghost use Rattle.std.specs.Prelude.{◌≡◌, ◌≤◌, None, Some, IfOk, OnErr, MatchResult};
+ghost use Rattle.std.specs.Prelude.{◌≡◌, ◌≤◌, false, None, Some, IfOk, OnErr, MatchResult};
 ghost use Rattle.iox2_store.specs.machine.Environments.{fixed_handlers};
 ghost use Rattle.iox2_store.specs.machine.Ports.{CreatePublisher};
 ghost use Rattle.iox2_store.specs.machine.State.{State, Messages};
-ghost use Rattle.iox2_pubsub.specs.Live.{IsNewIn, IsReadyPublisher, NeverWaits, Stays, publisher_key, publisher_port, payloads, waiting};
+ghost use Rattle.iox2_pubsub.specs.Live.{IsNewIn, IsReadyPublisher, NeverFails, NeverWaits, Stays, publisher_key, publisher_port, payloads, waiting};
 ghost use Rattle.iox2_pubsub.specs.LoansLeft.{HasLoansLeft, LoansLeftStay};
 ghost use Rattle.iox2_domain.specs.NewPublisher.{plain_publisher};
+ghost use Rattle.iox2_domain.specs.Handlers.{may_fail};
+ghost use Rattle.iox2_ends.specs.Handlers.{mark_of};
+ghost use Rattle.iox2_pubsub.specs.Handlers.{IsFixed};
 ghost use Rattle.iox2_pubsub.specs.declared.subscriber.Subscriber.{Subscriber};
 ghost use Rattle.iox2_domain.specs.Shows.{Shows};
 
 use crate::domain::Domain;
 use crate::port_factory::publisher::create_plain;
 use crate::slice::Publisher;
-use iox2_store::{BackpressureFn, BackpressureStrategy, DegradationFn, PublisherCreateError};
+use iox2_store::{
+    BackpressureAction, BackpressureFn, BackpressureHandler, BackpressureStrategy, DegradationFn,
+    PublisherCreateError,
+};
 use std::marker::Model;
 
 /// Makes a publisher of slices. It begins with the loans that the domain's settings allow a
@@ -24,16 +30,18 @@ use std::marker::Model;
 pub struct PortFactoryPublisher {
     max_loaned_samples: usize,
     backpressure_strategy: BackpressureStrategy,
+    backpressure_handler: Option<BackpressureAction>,
     initial_max_slice_len: usize,
 }
 
 impl Model for PortFactoryPublisher {
     ghost use Rattle.iox2_store.specs.machine.Records.{PublisherSettings};
-    ghost use Rattle.iox2_domain.specs.NewPublisher.{plain_publisher};
+    ghost use Rattle.iox2_domain.specs.Handlers.{fixed_handler};
+    ghost use Rattle.iox2_domain.specs.NewPublisher.{static_publisher};
 
     ghost Value = { PublisherSettings };
 
-    ghost view = { λ factory. plain_publisher factory.max_loaned_samples factory.backpressure_strategy factory.initial_max_slice_len };
+    ghost view = { λ factory. static_publisher factory.max_loaned_samples factory.backpressure_strategy (fixed_handler factory.backpressure_handler) factory.initial_max_slice_len };
 }
 
 impl<T: Drop, U: Default + Drop, F: BackpressureFn, G: DegradationFn> Domain<T, U, F, G> {
@@ -47,6 +55,7 @@ impl<T: Drop, U: Default + Drop, F: BackpressureFn, G: DegradationFn> Domain<T, 
         PortFactoryPublisher {
             max_loaned_samples: self.state.config().publisher_max_loaned_samples,
             backpressure_strategy: self.state.config().backpressure_strategy,
+            backpressure_handler: None,
             initial_max_slice_len: 1,
         }
     }
@@ -63,6 +72,7 @@ impl PortFactoryPublisher {
         PortFactoryPublisher {
             max_loaned_samples: value,
             backpressure_strategy: self.backpressure_strategy,
+            backpressure_handler: self.backpressure_handler,
             initial_max_slice_len: self.initial_max_slice_len,
         }
     }
@@ -78,7 +88,30 @@ impl PortFactoryPublisher {
         PortFactoryPublisher {
             max_loaned_samples: self.max_loaned_samples,
             backpressure_strategy: value,
+            backpressure_handler: self.backpressure_handler,
             initial_max_slice_len: self.initial_max_slice_len,
+        }
+    }
+
+    /// Sets what answers where the buffer of a subscriber is full and the service doesn't overflow,
+    /// in place of the strategy: the send is blocked, or the subscriber doesn't get the message, and
+    /// then the send may fail. The handler has to be one with a fixed answer, as
+    /// `BackpressureHandler::new_with` makes it.
+    ///
+    /// iceoryx2's `PortFactoryPublisher::set_backpressure_handler`
+    /// (`src/service/port_factory/publisher.rs`).
+    pub fn set_backpressure_handler(self, handler: BackpressureHandler) -> Self
+        requires fixed { IsFixed handler }
+        ensures { result ≡ record self { backpressure_handler = Some (mark_of handler) } }
+    {
+        match handler {
+            BackpressureHandler::Fixed(action) => PortFactoryPublisher {
+                max_loaned_samples: self.max_loaned_samples,
+                backpressure_strategy: self.backpressure_strategy,
+                backpressure_handler: Some(action),
+                initial_max_slice_len: self.initial_max_slice_len,
+            },
+            BackpressureHandler::Custom(_) => unreachable!(),
         }
     }
 
@@ -92,6 +125,7 @@ impl PortFactoryPublisher {
         PortFactoryPublisher {
             max_loaned_samples: self.max_loaned_samples,
             backpressure_strategy: self.backpressure_strategy,
+            backpressure_handler: self.backpressure_handler,
             initial_max_slice_len: value,
         }
     }
@@ -117,7 +151,8 @@ impl PortFactoryPublisher {
             (λ publisher. (publisher.publisher.id ≡ s.next_port) × CreatePublisher fixed_handlers s self s' None)
             (λ e. CreatePublisher fixed_handlers s self s' (Some e)) }
         ensures ready { IfOk result (λ publisher. IsReadyPublisher domain.new publisher.publisher) }
-        ensures discards { self.backpressure_strategy ≡ BackpressureStrategy.DiscardData → IfOk result (λ publisher. NeverWaits domain.new (publisher_key publisher.publisher)) }
+        ensures discards { self.backpressure_strategy ≡ BackpressureStrategy.DiscardData → self.backpressure_handler ≡ None → IfOk result (λ publisher. NeverWaits domain.new (publisher_key publisher.publisher)) }
+        ensures never_fails { may_fail self.backpressure_handler ≡ false → IfOk result (λ publisher. NeverFails domain.new publisher.publisher.id) }
         ensures strategy { IfOk result (λ publisher. publisher.publisher.strategy ≡ self.backpressure_strategy) }
         ensures longest { IfOk result (λ publisher. publisher.publisher.initial_max_slice_len ≡ self.initial_max_slice_len) }
         ensures new { IfOk result (λ publisher. IsNewIn domain.old (publisher_port publisher.publisher)) }
@@ -131,6 +166,7 @@ impl PortFactoryPublisher {
             domain,
             self.max_loaned_samples,
             self.backpressure_strategy,
+            self.backpressure_handler,
             self.initial_max_slice_len,
         ) {
             Ok(publisher) => Ok(Publisher { publisher }),

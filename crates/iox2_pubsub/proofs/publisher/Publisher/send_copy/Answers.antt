@@ -1,4 +1,4 @@
-use Rattle.std.proofs.Common.{ap, refl, sym, ◌∙◌}
+use Rattle.std.proofs.Common.{ap, inr, refl, sym, ◌∙◌}
 use Rattle.std.proofs.lemmas.Result.{err_from_is_err_and}
 use Rattle.iox2_store.specs.declared.key.Key.{Key}
 use Rattle.iox2_store.specs.machine.Loans.{written}
@@ -14,13 +14,13 @@ returns-in_err-loan-clause-sends g c = λ m s shown.
       m,
       lends.0,
       lends.1,
-      record {
+      inr (record {
         reason = c.in_err-loan.field-0.0;
         is = refused.2;
         messages = refl;
         state = (lends.2).0;
         refused = written-refused s lends.0 c.args.self.now.id c.in_err-loan.field-0.0 (lends.2).1;
-      },
+      }),
     )
 
 pub returns-clause-sends : goal.returns-clause-sends
@@ -36,7 +36,7 @@ returns-clause-sends g c = λ m s shown.
       sent.0,
       sent.1,
       copy-sent s lends.0 c.args.self.now.id c.in_ok-loan.loan.loan.number next wrote.0 wrote.1 c.args.value (lends.2).0 (lends.2).2
-          g.U.Default.is_default (lends.2).1 m c.write_payload.result.loan.number same c.send.result (c.send.ensures.ok (c.write_payload.ensures.lent c.in_ok-loan.ensures.lent)) sent.0 sent.2,
+          g.U.Default.is_default (lends.2).1 m c.write_payload.result.loan.number same c.send.result (c.send.ensures.failed (c.write_payload.ensures.lent c.in_ok-loan.ensures.lent)) sent.0 sent.2,
     )
 
 pub send-requires-clause-unblocked : goal.send-requires-clause-unblocked

@@ -40,7 +40,7 @@ pub returns-else-is_blocked-clause-carries : goal.returns-else-is_blocked-clause
 returns-else-is_blocked-clause-carries g c =
     rw (c.send_reply.ensures.reply, c.send_reply.ensures.made)
     (send_carried {T = g.row.T.Denot} {U = g.row.U.Denot} _ c.args.domain.now c.send.new.domain c.args.table.now.items c.take.new.table.items c.args.of c.in-Written.sample c.send.result (sym c.take.ensures.made ∙ c.in-Written.is)
-    (shown_free {T = g.row.T.Denot} {U = g.row.U.Denot} c.args.domain.now (written_key c.in-Written.sample) (c.is_blocked.ensures.0 c.if-is_blocked.false)) c.send.ensures.sent c.send.ensures.blocked c.send.ensures.gone c.take.ensures.items)
+    (shown_free {T = g.row.T.Denot} {U = g.row.U.Denot} c.args.domain.now (written_key c.in-Written.sample) (c.is_blocked.ensures.0 c.if-is_blocked.false)) c.send.ensures.sent c.send.ensures.blocked c.send.ensures.errors c.take.ensures.items)
 
 pub returns-else-is_blocked-clause-leaves : goal.returns-else-is_blocked-clause-leaves
 returns-else-is_blocked-clause-leaves g c =

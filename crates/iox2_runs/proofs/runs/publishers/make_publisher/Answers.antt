@@ -4,31 +4,25 @@ use Rattle.std.proofs.lemmas.Result.{err_from_is_err_and}
 use Rattle.iox2_store.specs.machine.Environments.{fixed_handlers}
 use Rattle.iox2_store.specs.machine.Ports.{CreatePublisher}
 use Rattle.iox2_store.specs.machine.Records.{PublisherSettings}
-use Rattle.iox2_domain.specs.NewPublisher.{plain_publisher}
 use Rattle.iox2_pubsub.specs.declared.publisher.Publisher.{Publisher}
 use Rattle.iox2_runs.proofs.CarriedPorts.{fixed-settings, slice-settings}
 use Rattle.iox2_runs.proofs.runs.publishers.make_publisher.Goals as goal
 
 pub returns-in-FixedSize-clause-creates : goal.returns-in-FixedSize-clause-creates
 returns-in-FixedSize-clause-creates g c = λ m s shown.
-    let told : c.backpressure_strategy.result ≡ plain_publisher c.args.loans c.args.strategy 1 =
-    c.backpressure_strategy.ensures ∙ ap (λ (given : PublisherSettings). record given { backpressure_strategy = c.args.strategy })
-    (c.max_loaned_samples.ensures ∙ ap (λ (given : PublisherSettings). record given { max_loaned_samples = c.args.loans }) c.publisher_builder.ensures) in
     let made = c.create.ensures.creates m s shown in (
       made.0,
       made.1,
       subst (λ (given : PublisherSettings). MatchResult c.create.result
           (λ publisher. (publisher.id ≡ s.next_port) × CreatePublisher fixed_handlers s given made.0 None) (λ e. CreatePublisher fixed_handlers s given made.0 (Some e)))
-          (fixed-settings {T = g.row.T.Denot} {U = g.row.U.Denot} c.args.domain.now c.args.loans c.args.strategy c.args.len _ told (sym c.variant.ensures ∙ c.in-FixedSize.is) m s shown) made.2,
+          (fixed-settings {T = g.row.T.Denot} {U = g.row.U.Denot} c.args.domain.now c.args.loans c.args.strategy c.args.len c.args.backpressure _ c.value_factory.ensures
+          (sym c.variant.ensures ∙ c.in-FixedSize.is) m s shown) made.2,
     )
 
 pub returns-in_ok-publisher-in-Dynamic-clause-creates : goal.returns-in_ok-publisher-in-Dynamic-clause-creates
 returns-in_ok-publisher-in-Dynamic-clause-creates g c = λ m s shown.
-    let told : c.initial_max_slice_len.result ≡ plain_publisher c.args.loans c.args.strategy c.args.len =
-    c.initial_max_slice_len.ensures ∙ ap (λ (given : PublisherSettings). record given { initial_max_slice_len = c.args.len })
-    (c.backpressure_strategy-in-Dynamic.ensures ∙ ap (λ (given : PublisherSettings). record given { backpressure_strategy = c.args.strategy })
-    (c.max_loaned_samples-in-Dynamic.ensures ∙ ap (λ (given : PublisherSettings). record given { max_loaned_samples = c.args.loans }) c.slice_publisher_builder.ensures)) in
-    let is = slice-settings {T = g.row.T.Denot} {U = g.row.U.Denot} c.args.domain.now c.args.loans c.args.strategy c.args.len _ told (sym c.variant.ensures ∙ c.in-Dynamic.is) m s shown in
+    let is = slice-settings {T = g.row.T.Denot} {U = g.row.U.Denot} c.args.domain.now c.args.loans c.args.strategy c.args.len c.args.backpressure _ c.slice_factory-factory.ensures
+    (sym c.variant.ensures ∙ c.in-Dynamic.is) m s shown in
     let made = c.in_ok-publisher-in-Dynamic.ensures.creates m s shown in (
       made.0,
       made.1,
@@ -40,11 +34,8 @@ returns-in_ok-publisher-in-Dynamic-clause-creates g c = λ m s shown.
 
 pub returns-in_err-publisher-in-Dynamic-clause-creates : goal.returns-in_err-publisher-in-Dynamic-clause-creates
 returns-in_err-publisher-in-Dynamic-clause-creates g c = λ m s shown.
-    let told : c.initial_max_slice_len.result ≡ plain_publisher c.args.loans c.args.strategy c.args.len =
-    c.initial_max_slice_len.ensures ∙ ap (λ (given : PublisherSettings). record given { initial_max_slice_len = c.args.len })
-    (c.backpressure_strategy-in-Dynamic.ensures ∙ ap (λ (given : PublisherSettings). record given { backpressure_strategy = c.args.strategy })
-    (c.max_loaned_samples-in-Dynamic.ensures ∙ ap (λ (given : PublisherSettings). record given { max_loaned_samples = c.args.loans }) c.slice_publisher_builder.ensures)) in
-    let is = slice-settings {T = g.row.T.Denot} {U = g.row.U.Denot} c.args.domain.now c.args.loans c.args.strategy c.args.len _ told (sym c.variant.ensures ∙ c.in-Dynamic.is) m s shown in
+    let is = slice-settings {T = g.row.T.Denot} {U = g.row.U.Denot} c.args.domain.now c.args.loans c.args.strategy c.args.len c.args.backpressure _ c.slice_factory-factory.ensures
+    (sym c.variant.ensures ∙ c.in-Dynamic.is) m s shown in
     let refused = err_from_is_err_and c.from_residual.result c.from_residual.ensures.1 in
     let made = c.in_err-publisher-in-Dynamic.ensures.creates m s shown in
     rw (refused.1, refused.2) (made.0, made.1, subst (λ (given : PublisherSettings). CreatePublisher fixed_handlers s given made.0 (Some c.in_err-publisher-in-Dynamic.field-0.0)) is made.2)

@@ -1,10 +1,11 @@
-use Rattle.std.proofs.Common.{◌≡◌, subst}
+use Rattle.std.proofs.Common.{◌≡◌, ◌∙◌, ap, subst}
 use Rattle.std.specs.Prelude.{IfOk, MatchResult}
 use Rattle.std.specs.declared.option.Option.TheVariants.{None, Some}
 use Rattle.iox2_store.specs.machine.Environments.{fixed_handlers}
 use Rattle.iox2_store.specs.machine.Ports.{CreatePublisher}
 use Rattle.iox2_store.specs.machine.Records.{PublisherSettings}
 use Rattle.iox2_store.specs.machine.State.{State}
+use Rattle.iox2_domain.specs.Handlers.{may_fail}
 use Rattle.iox2_domain.specs.Shows.{Shows}
 use Rattle.iox2_pubsub.specs.LoansLeft.{HasLoansLeft}
 use Rattle.iox2_pubsub.proofs.port_factory.publisher.PortFactoryPublisher.create.Goals as goal
@@ -18,3 +19,11 @@ returns-clause-creates g c m s shown =
 pub returns-clause-left : goal.returns-clause-left
 returns-clause-left g c =
     subst (λ (given : PublisherSettings). IfOk c.create_plain.result (λ publisher. HasLoansLeft c.create_plain.new.domain publisher given.max_loaned_samples)) c.self.view_is c.create_plain.ensures.left
+
+pub returns-clause-discards : goal.returns-clause-discards
+returns-clause-discards g c = λ discards none. c.create_plain.ensures.discards
+    (ap (λ (given : PublisherSettings). given.backpressure_strategy) c.self.view_is ∙ discards)
+    (ap (λ (given : PublisherSettings). given.backpressure_handler) c.self.view_is ∙ none)
+
+pub returns-clause-never_fails : goal.returns-clause-never_fails
+returns-clause-never_fails g c = λ none. c.create_plain.ensures.never_fails (ap (λ (given : PublisherSettings). may_fail given.backpressure_handler) c.self.view_is ∙ none)

@@ -1,8 +1,9 @@
-use Rattle.std.proofs.Common.{subst}
+use Rattle.std.proofs.Common.{◌∙◌, ap, subst}
 use Rattle.std.specs.declared.option.Option.TheVariants.{None, Some}
 use Rattle.iox2_store.specs.machine.Environments.{fixed_handlers}
 use Rattle.iox2_store.specs.machine.Ports.{CreatePublisher}
 use Rattle.iox2_store.specs.machine.Records.{PublisherSettings}
+use Rattle.iox2_domain.specs.Handlers.{may_fail}
 use Rattle.iox2_pubsub.proofs.slice.port_factory.publisher.PortFactoryPublisher.create.Goals as goal
 
 pub returns-in-Ok-clause-creates : goal.returns-in-Ok-clause-creates
@@ -14,3 +15,11 @@ pub returns-in-Err-clause-creates : goal.returns-in-Err-clause-creates
 returns-in-Err-clause-creates g c m s shown =
     let made = c.in-Err.ensures.creates m s shown in
     (made.0, made.1, subst (λ (given : PublisherSettings). CreatePublisher fixed_handlers s given made.0 (Some c.in-Err.error)) c.self.view_is made.2)
+
+pub returns-in-Ok-clause-discards : goal.returns-in-Ok-clause-discards
+returns-in-Ok-clause-discards g c = λ discards none. c.in-Ok.ensures.discards
+    (ap (λ (given : PublisherSettings). given.backpressure_strategy) c.self.view_is ∙ discards)
+    (ap (λ (given : PublisherSettings). given.backpressure_handler) c.self.view_is ∙ none)
+
+pub returns-in-Ok-clause-never_fails : goal.returns-in-Ok-clause-never_fails
+returns-in-Ok-clause-never_fails g c = λ none. c.in-Ok.ensures.never_fails (ap (λ (given : PublisherSettings). may_fail given.backpressure_handler) c.self.view_is ∙ none)
