@@ -12,7 +12,7 @@ use Rattle.iox2_store.specs.machine.Records.{Entry, Loan, Publisher, PublisherSe
 use Rattle.iox2_store.specs.machine.Releases.{released}
 use Rattle.iox2_store.specs.machine.Sends.{SendResult, Delivered_to, Blocked_send, Send_error, Send}
 use Rattle.iox2_store.specs.declared.errors.SendError.{SendError}
-use Rattle.iox2_pubsub.specs.SendCalls.{Sends, messages_after, spent_by_send, spent_by_copy}
+use Rattle.iox2_pubsub.specs.SendCalls.{Sends, messages_after, is_blocked_send, spent_by_send, spent_by_copy}
 use Rattle.iox2_pubsub.specs.declared.send_outcome.SendOutcome.{SendOutcome}
 use Rattle.iox2_pubsub.specs.declared.send_outcome.SendOutcome.TheVariants.{Delivered, Blocked}
 use Rattle.iox2_store.specs.Stored.{In_mailbox}
@@ -36,7 +36,7 @@ use Rattle.iox2_domain.specs.Invariant.{IsDomain}
 use Rattle.iox2_domain.specs.Kept.{Kept, state_of, entries_of}
 use Rattle.iox2_domain.specs.Lending.{LoanCall}
 use Rattle.iox2_domain.specs.Shows.{Shows}
-use Rattle.iox2_pubsub.specs.Live.{Item, IsOtherLoan, IsPublisherKey, IsSubscriberKey, IsLoanKey, IsSampleKey, IsUnblocked, No_item, A_publisher, A_subscriber, A_loan, A_sample, IsOtherSample, IsBlockedKey, A_blocked_send, Both, StaysBut, Stays, IsNewIn, unwritten_key, written_key, sample_key}
+use Rattle.iox2_pubsub.specs.Live.{Item, IsOtherLoan, IsPublisherKey, IsSubscriberKey, IsLoanKey, IsSampleKey, IsUnblocked, No_item, A_publisher, A_subscriber, A_loan, A_sample, IsOtherSample, IsBlockedKey, A_sent_loan, A_sent_copy, StaysBut, Stays, IsNewIn, unwritten_key, written_key, sample_key}
 use Rattle.iox2_pubsub.specs.declared.publisher.Publisher.{Publisher as Handle}
 use Rattle.iox2_pubsub.specs.declared.sample_mut.SampleMut.{SampleMut}
 use Rattle.iox2_pubsub.specs.Slices.{HasUnwrittenCells, HasValues}
@@ -44,7 +44,7 @@ use Rattle.iox2_pubsub.proofs.AlwaysShows.{shows_itself}
 use Rattle.iox2_pubsub.proofs.SentMessages.{after-error}
 use Rattle.iox2_pubsub.proofs.LiveParts.{publisher-parts, subscriber-parts, loan-parts, sample-parts, origin-parts, blocked-parts, unblocked-parts}
 use Rattle.iox2_pubsub.proofs.SliceParts.{cells-parts, values-parts}
-use Rattle.iox2_pubsub.proofs.StaysBut.{IsSpared, PortsRemainBut, SamplesStayBut, ports-remain, stays-between, stays-on, stays-on-but}
+use Rattle.iox2_pubsub.proofs.StaysBut.{IsSpared, PortsRemainBut, SamplesStayBut, ports-remain, stays-between, stays-on, stays-on-but, stays-but-whole, sent-loan-parts}
 
 -- a domain shows some state
 pub always-shown : {T U : Type 0} (f : Fields T U) (kept : Kept T U) → IsDomain f → kept_of f ≡ kept → (m : Messages T U) × (s : State T U) × Shows kept m s
@@ -246,16 +246,16 @@ module _ {T U : Type 0} (old new : Kept T U) (m : Messages T U) (s : State T U) 
       → (result : Result SendOutcome SendError) (s' : State T U) → Shows new (messages_after m loan.loan.number l result) s'
       → Sends s loan.loan.number l result s' → StaysBut (spent_by_send loan result) old new
   sent-stays loan l out its free (Ok (Delivered count)) s' shown' h =
-      sent-keeps loan.loan.number l out (Delivered_to count) s' h (A_loan loan.loan.number) (λ k other. other)
-      (unblocked-waits loan.loan.number l out (Delivered_to count) s' h (IsSpared (A_loan loan.loan.number)) (λ e. let clash : Delivered_to count ≡ Blocked_send = e in cc) free)
+      sent-keeps loan.loan.number l out (Delivered_to count) s' h (A_sent_loan loan.loan.number loan.loan.publisher false) (λ k other. other)
+      (unblocked-waits loan.loan.number l out (Delivered_to count) s' h (IsSpared (A_sent_loan loan.loan.number loan.loan.publisher false)) (λ e. let clash : Delivered_to count ≡ Blocked_send = e in cc) free)
       _ shown' (λ k entry at. sent-before loan.loan.number l out (Delivered_to count) s' h k (entry_of l) entry at)
   sent-stays loan l out its free (Ok (Blocked blocked)) s' shown' h =
-      sent-keeps loan.loan.number l out Blocked_send s' h (Both (A_loan loan.loan.number) (A_blocked_send loan.loan.publisher)) (λ k other. other.0)
-      (send_spared (IsSpared (Both (A_loan loan.loan.number) (A_blocked_send loan.loan.publisher))) fixed_handlers s loan.loan.number l (λ other. other.1 its) s' Blocked_send h)
+      sent-keeps loan.loan.number l out Blocked_send s' h (A_sent_loan loan.loan.number loan.loan.publisher true) (λ k other. other)
+      (send_spared (IsSpared (A_sent_loan loan.loan.number loan.loan.publisher true)) fixed_handlers s loan.loan.number l (λ other. other its) s' Blocked_send h)
       _ shown' (λ k entry at. sent-before loan.loan.number l out Blocked_send s' h k (entry_of l) entry at)
   sent-stays loan l out its free (Err error) s' shown' h =
-      sent-keeps loan.loan.number l out (Send_error error) s' h (A_loan loan.loan.number) (λ k other. other)
-      (unblocked-waits loan.loan.number l out (Send_error error) s' h (IsSpared (A_loan loan.loan.number)) (λ e. let clash : Send_error error ≡ Blocked_send = e in cc) free)
+      sent-keeps loan.loan.number l out (Send_error error) s' h (A_sent_loan loan.loan.number loan.loan.publisher false) (λ k other. other)
+      (unblocked-waits loan.loan.number l out (Send_error error) s' h (IsSpared (A_sent_loan loan.loan.number loan.loan.publisher false)) (λ e. let clash : Send_error error ≡ Blocked_send = e in cc) free)
       _ shown' (λ k entry at. elim (after-error m loan.loan.number l error) [
         | inl sent ↦ ap (λ (f : Messages T U). f k) sent.1 ∙ sent-before loan.loan.number l out (Send_error error) s' h k (entry_of l) entry at
         | inr lost ↦ ap (λ (f : Messages T U). f k) lost.1 ∙ at
@@ -363,8 +363,7 @@ module _ {T U : Type 0} (old new : Kept T U) (m : Messages T U) (s : State T U) 
 -- a loan that is new is sent: all that was there before stays, but that its publisher isn't blocked
 pub copy-stays : {T U : Type 0} (start old new : Kept T U) → Stays start old → (publisher : Handle) (loan : SampleMut) → loan.loan.publisher ≡ publisher.id → IsNewIn start (A_loan loan.loan.number)
     → (result : Result SendOutcome SendError) → StaysBut (spent_by_send loan result) old new → StaysBut (spent_by_copy publisher result) start new
-copy-stays start old new before publisher loan its apart (Ok (Delivered count)) next = stays-on start old before (A_loan loan.loan.number) new apart next
-copy-stays start old new before publisher loan its apart (Ok (Blocked blocked)) next =
-    subst (λ (p : ℕ). StaysBut (A_blocked_send p) start new) its
-    (stays-on-but start old before (A_loan loan.loan.number) (A_blocked_send loan.loan.publisher) new apart next)
-copy-stays start old new before publisher loan its apart (Err error) next = stays-on start old before (A_loan loan.loan.number) new apart next
+copy-stays start old new before publisher loan its apart result next =
+    subst (λ (p : ℕ). StaysBut (A_sent_copy p (is_blocked_send result)) start new) its
+    (stays-on-but start old before (A_loan loan.loan.number) (A_sent_copy loan.loan.publisher (is_blocked_send result)) new apart
+    (stays-but-whole _ _ (sent-loan-parts loan.loan.number loan.loan.publisher (is_blocked_send result)) old new next))

@@ -1,5 +1,5 @@
 -- What of a domain stays from one state to the next.
-use Rattle.std.proofs.Common.{◌≡◌, refl, ℕ, ◌<◌, arith, Bool, true, List, sym, ap, subst, ◌∙◌, Option, None, Some}
+use Rattle.std.proofs.Common.{◌≡◌, ◌≢◌, refl, ℕ, ◌<◌, arith, Bool, true, false, List, sym, ap, subst, ◌∙◌, Option, None, Some}
 use Rattle.iox2_store.specs.SingleValues.{is_single_valued}
 use Rattle.iox2_store.specs.machine.Mailbox.{is_borrowed}
 use Rattle.iox2_store.specs.machine.Records.{Entry, Loan, Publisher, Subscriber}
@@ -15,7 +15,7 @@ use Rattle.iox2_laws.proofs.NumberLemmas.{contains_right}
 use Rattle.iox2_domain.specs.Handlers.{may_fail}
 use Rattle.iox2_domain.specs.Kept.{Kept, state_of, entries_of}
 use Rattle.iox2_domain.specs.Shows.{Shows}
-use Rattle.iox2_pubsub.specs.Live.{IsSingleValued, IsPublisherKey, IsSubscriberKey, IsLoanKey, IsSampleKey, IsBlockedKey, HasMark, IsFromOrigin, LoanHasHeader, LoanHasUserHeader, SampleHasHeader, SampleHasUserHeader, Item, No_item, A_publisher, A_blocked_send, Both, IsOtherPublisher, IsOtherSubscriber, IsOtherLoan, IsOtherSample, IsUnblocked, Discards, NeverFails, NeverWaits, IsOtherBlocked, StaysBut, Stays, IsNewIn, unwritten_key, written_key}
+use Rattle.iox2_pubsub.specs.Live.{IsSingleValued, IsPublisherKey, IsSubscriberKey, IsLoanKey, IsSampleKey, IsBlockedKey, HasMark, IsFromOrigin, LoanHasHeader, LoanHasUserHeader, SampleHasHeader, SampleHasUserHeader, Item, No_item, A_publisher, A_loan, A_blocked_send, A_sent_loan, A_sent_copy, Both, IsOtherPublisher, IsOtherSubscriber, IsOtherLoan, IsOtherSample, IsUnblocked, Discards, NeverFails, NeverWaits, IsOtherBlocked, StaysBut, Stays, IsNewIn, unwritten_key, written_key}
 use Rattle.iox2_pubsub.specs.Slices.{IsSliced, HasUnwrittenCells, HasValues, SampleHasValues}
 use Rattle.iox2_pubsub.specs.declared.sample.Sample.{Sample}
 
@@ -350,37 +350,6 @@ module _ {T U : Type 0} (start : Kept T U) where
     blocked_sends = λ key live. (((a.blocked_sends key live).0, (b.blocked_sends key live).0), ((a.blocked_sends key live).1, (b.blocked_sends key live).1));
   }
 
-  -- each of the two is
-  pub first-new : (first second : Item) → IsNewIn start (Both first second) → IsNewIn start first
-  first-new first second both = record {
-    publishers = λ key live. (both.publishers key live).0;
-    subscribers = λ key live. (both.subscribers key live).0;
-    loans = λ key live. (both.loans key live).0;
-    unwritten_loans = λ it live. (both.unwritten_loans it live).0;
-    written_loans = λ it live. (both.written_loans it live).0;
-    samples = λ key live. (both.samples key live).0;
-    origins = λ it from. (both.origins it from).0;
-    cells = λ n cells has. (both.cells n cells has).0;
-    payloads = λ n values has. (both.payloads n values has).0;
-    unblocked = λ key free. let apart = both.unblocked key free in ((apart.0).0, (apart.1).0);
-    blocked_sends = λ key live. let apart = both.blocked_sends key live in ((apart.0).0, (apart.1).0);
-  }
-
-  pub second-new : (first second : Item) → IsNewIn start (Both first second) → IsNewIn start second
-  second-new first second both = record {
-    publishers = λ key live. (both.publishers key live).1;
-    subscribers = λ key live. (both.subscribers key live).1;
-    loans = λ key live. (both.loans key live).1;
-    unwritten_loans = λ it live. (both.unwritten_loans it live).1;
-    written_loans = λ it live. (both.written_loans it live).1;
-    samples = λ key live. (both.samples key live).1;
-    origins = λ it from. (both.origins it from).1;
-    cells = λ n cells has. (both.cells n cells has).1;
-    payloads = λ n values has. (both.payloads n values has).1;
-    unblocked = λ key free. let apart = both.unblocked key free in ((apart.0).1, (apart.1).1);
-    blocked_sends = λ key live. let apart = both.blocked_sends key live in ((apart.0).1, (apart.1).1);
-  }
-
   -- a blocked send of a new publisher is new
   pub blocked-new : (p : ℕ) → IsNewIn start (A_publisher p) → IsNewIn start (A_blocked_send p)
   blocked-new p new = record {
@@ -397,28 +366,119 @@ module _ {T U : Type 0} (start : Kept T U) where
     blocked_sends = λ key live. (tt, (new.blocked_sends key live).0);
   }
 
--- what stays but for an item stays but for that and another
-pub stays-but-more : {T U : Type 0} (first second : Item) (old new : Kept T U) → StaysBut first old new → StaysBut (Both first second) old new
-stays-but-more first second old new stays = record {
+-- ---- parts of items
+
+-- whatever is another than the second item is another than the first
+pub record IsPartOf (first second : Item) : Type 0 where
+  pub publishers : (p : ℕ) → IsOtherPublisher second p → IsOtherPublisher first p
+  pub subscribers : (q : ℕ) → IsOtherSubscriber second q → IsOtherSubscriber first q
+  pub loans : (n : ℕ) → IsOtherLoan second n → IsOtherLoan first n
+  pub samples : (q n : ℕ) → IsOtherSample second q n → IsOtherSample first q n
+  pub blocked_sends : (p : ℕ) → IsOtherBlocked second p → IsOtherBlocked first p
+
+-- an item is a part of it and another
+pub first-part : (first second : Item) → IsPartOf first (Both first second)
+first-part first second = record {
+  publishers = λ p other. other.0;
+  subscribers = λ q other. other.0;
+  loans = λ n other. other.0;
+  samples = λ q n other. other.0;
+  blocked_sends = λ p other. other.0;
+}
+
+pub second-part : (first second : Item) → IsPartOf second (Both first second)
+second-part first second = record {
+  publishers = λ p other. other.1;
+  subscribers = λ q other. other.1;
+  loans = λ n other. other.1;
+  samples = λ q n other. other.1;
+  blocked_sends = λ p other. other.1;
+}
+
+-- a loan that is sent is no more than the loan and what is spent of a copy
+pub sent-loan-parts : (n p : ℕ) (is_blocked : Bool) → IsPartOf (A_sent_loan n p is_blocked) (Both (A_loan n) (A_sent_copy p is_blocked))
+sent-loan-parts n p is_blocked = record {
+  publishers = λ p other. tt;
+  subscribers = λ q other. tt;
+  loans = λ k other. other.0;
+  samples = λ q k other. tt;
+  blocked_sends = λ r other. apart is_blocked r other.1;
+}
+  where
+    apart : (is_blocked : Bool) (r : ℕ) → IsOtherBlocked (A_sent_copy p is_blocked) r → IsOtherBlocked (A_sent_loan n p is_blocked) r
+    apart true r other = other
+    apart false r other = tt
+
+-- nor is a copy more than a blocked send
+pub sent-copy-part : (p : ℕ) (is_blocked : Bool) → IsPartOf (A_sent_copy p is_blocked) (A_blocked_send p)
+sent-copy-part p is_blocked = record {
+  publishers = λ q other. tt;
+  subscribers = λ q other. tt;
+  loans = λ n other. tt;
+  samples = λ q n other. tt;
+  blocked_sends = λ q other. apart is_blocked q other;
+}
+  where
+    apart : (is_blocked : Bool) (q : ℕ) → q ≢ p → IsOtherBlocked (A_sent_copy p is_blocked) q
+    apart true q other = other
+    apart false q other = tt
+
+-- a loan that is sent is no more than the loan and a blocked send
+pub sent-loan-part : (n p : ℕ) (is_blocked : Bool) → IsPartOf (A_sent_loan n p is_blocked) (Both (A_loan n) (A_blocked_send p))
+sent-loan-part n p is_blocked = record {
+  publishers = λ p other. tt;
+  subscribers = λ q other. tt;
+  loans = λ k other. other.0;
+  samples = λ q k other. tt;
+  blocked_sends = λ r other. apart is_blocked r other.1;
+}
+  where
+    apart : (is_blocked : Bool) (r : ℕ) → r ≢ p → IsOtherBlocked (A_sent_loan n p is_blocked) r
+    apart true r other = other
+    apart false r other = tt
+
+-- a part of what is new is new
+pub part-new : {T U : Type 0} (start : Kept T U) (part whole : Item) → IsPartOf part whole → IsNewIn start whole → IsNewIn start part
+part-new start part whole is new = record {
+  publishers = λ key live. is.publishers key.port (new.publishers key live);
+  subscribers = λ key live. is.subscribers key.port (new.subscribers key live);
+  loans = λ key live. is.loans key.message (new.loans key live);
+  unwritten_loans = λ it live. is.loans it.loan.number (new.unwritten_loans it live);
+  written_loans = λ it live. is.loans it.loan.number (new.written_loans it live);
+  samples = λ key live. is.samples key.port key.message (new.samples key live);
+  origins = λ it from. is.samples it.sample.subscriber it.sample.number (new.origins it from);
+  cells = λ n cells has. is.loans n (new.cells n cells has);
+  payloads = λ n values has. is.loans n (new.payloads n values has);
+  unblocked = λ key free. let apart = new.unblocked key free in (is.publishers key.port apart.0, is.blocked_sends key.port apart.1);
+  blocked_sends = λ key live. let apart = new.blocked_sends key live in (is.publishers key.port apart.0, is.blocked_sends key.port apart.1);
+}
+
+-- what stays but for an item stays but for what that is a part of
+pub stays-but-whole : {T U : Type 0} (part whole : Item) → IsPartOf part whole → (old new : Kept T U) → StaysBut part old new → StaysBut whole old new
+stays-but-whole part whole is old new stays = record {
   settings = stays.settings;
   single_valued = stays.single_valued;
   sliced = stays.sliced;
-  publishers = λ key live other. stays.publishers key live other.0;
-  subscribers = λ key live other. stays.subscribers key live other.0;
-  loans = λ key live other. stays.loans key live other.0;
-  unwritten_loans = λ it live other. stays.unwritten_loans it live other.0;
-  written_loans = λ it live other. stays.written_loans it live other.0;
-  samples = λ key live other. stays.samples key live other.0;
-  origins = λ it from other. stays.origins it from other.0;
-  unblocked = λ key free other. stays.unblocked key free other.0;
-  never_wait = λ key was other. stays.never_wait key was other.0;
+  publishers = λ key live other. stays.publishers key live (is.publishers key.port other);
+  subscribers = λ key live other. stays.subscribers key live (is.subscribers key.port other);
+  loans = λ key live other. stays.loans key live (is.loans key.message other);
+  unwritten_loans = λ it live other. stays.unwritten_loans it live (is.loans it.loan.number other);
+  written_loans = λ it live other. stays.written_loans it live (is.loans it.loan.number other);
+  samples = λ key live other. stays.samples key live (is.samples key.port key.message other);
+  origins = λ it from other. stays.origins it from (is.samples it.sample.subscriber it.sample.number other);
+  unblocked = λ key free other. stays.unblocked key free (is.blocked_sends key.port other);
+  never_wait = λ key was other. stays.never_wait key was (is.blocked_sends key.port other);
   never_fail = stays.never_fail;
-  blocked_sends = λ key live other alike. stays.blocked_sends key live other.0 alike.0;
-  loan_cells = λ n cells has other. stays.loan_cells n cells has other.0;
-  loan_payloads = λ n values has other. stays.loan_payloads n values has other.0;
-  loan_headers = λ key header live has other. stays.loan_headers key header live has other.0;
-  loan_user_headers = λ key header live has other. stays.loan_user_headers key header live has other.0;
-  sample_payloads = λ key values live has other. stays.sample_payloads key values live has other.0;
-  sample_headers = λ key header live has other. stays.sample_headers key header live has other.0;
-  sample_user_headers = λ key header live has other. stays.sample_user_headers key header live has other.0;
+  blocked_sends = λ key live other alike. stays.blocked_sends key live (is.publishers key.port other) (is.blocked_sends key.port alike);
+  loan_cells = λ n cells has other. stays.loan_cells n cells has (is.loans n other);
+  loan_payloads = λ n values has other. stays.loan_payloads n values has (is.loans n other);
+  loan_headers = λ key header live has other. stays.loan_headers key header live has (is.loans key.message other);
+  loan_user_headers = λ key header live has other. stays.loan_user_headers key header live has (is.loans key.message other);
+  sample_payloads = λ key values live has other. stays.sample_payloads key values live has (is.samples key.port key.message other);
+  sample_headers = λ key header live has other. stays.sample_headers key header live has (is.samples key.port key.message other);
+  sample_user_headers = λ key header live has other. stays.sample_user_headers key header live has (is.samples key.port key.message other);
 }
+
+-- what stays but for an item stays but for that and another
+pub stays-but-more : {T U : Type 0} (first second : Item) (old new : Kept T U) → StaysBut first old new → StaysBut (Both first second) old new
+stays-but-more first second = stays-but-whole first (Both first second) (first-part first second)

@@ -228,7 +228,8 @@ AreAll payloads value = AreAllSlices payloads (value ∷ [])
 
 -- ---- what a call spends, and what stays
 
--- What a call spends or makes: nothing, a port, a loan, a sample or the blocked send of a publisher, or two of these.
+-- What a call spends or makes: nothing, a port, a loan, a sample or the blocked send of a publisher, or two of these. What may
+-- come of a send is one item, of which only the blocked send turns on whether the send is blocked.
 pub data Item : Type 0 where
   No_item : Item
   A_publisher : (id : ℕ) → Item
@@ -236,6 +237,8 @@ pub data Item : Type 0 where
   A_loan : (number : ℕ) → Item
   A_sample : (subscriber number : ℕ) → Item
   A_blocked_send : (publisher : ℕ) → Item
+  A_sent_loan : (number publisher : ℕ) → (is_blocked : Bool) → Item
+  A_sent_copy : (publisher : ℕ) → (is_blocked : Bool) → Item
   Both : (first second : Item) → Item
 
 -- The publisher of this handle.
@@ -277,6 +280,7 @@ IsOtherSubscriber _ id = Unit {0}
 -- The loan with this number is another than the item.
 abbrev pub IsOtherLoan : Item → (number : ℕ) → Type 0
 IsOtherLoan (A_loan spent) number = number ≢ spent
+IsOtherLoan (A_sent_loan spent publisher is_blocked) number = number ≢ spent
 IsOtherLoan (Both first second) number = IsOtherLoan first number × IsOtherLoan second number
 IsOtherLoan _ number = Unit {0}
 
@@ -289,6 +293,8 @@ IsOtherSample _ subscriber number = Unit {0}
 -- The publisher with this id is none whose blocked send is the item.
 abbrev pub IsOtherBlocked : Item → (publisher : ℕ) → Type 0
 IsOtherBlocked (A_blocked_send spent) publisher = publisher ≢ spent
+IsOtherBlocked (A_sent_loan number spent true) publisher = publisher ≢ spent
+IsOtherBlocked (A_sent_copy spent true) publisher = publisher ≢ spent
 IsOtherBlocked (Both first second) publisher = IsOtherBlocked first publisher × IsOtherBlocked second publisher
 IsOtherBlocked _ publisher = Unit {0}
 
@@ -300,6 +306,10 @@ AreApart first (A_subscriber id) = IsOtherSubscriber first id
 AreApart first (A_loan number) = IsOtherLoan first number
 AreApart first (A_sample subscriber number) = IsOtherSample first subscriber number
 AreApart first (A_blocked_send publisher) = IsOtherBlocked first publisher
+AreApart first (A_sent_loan number publisher true) = IsOtherLoan first number × IsOtherBlocked first publisher
+AreApart first (A_sent_loan number publisher false) = IsOtherLoan first number
+AreApart first (A_sent_copy publisher true) = IsOtherBlocked first publisher
+AreApart first (A_sent_copy publisher false) = Unit {0}
 AreApart first (Both second third) = AreApart first second × AreApart first third
 
 module _ {T U : Type 0} where

@@ -1,5 +1,5 @@
 -- A send, by its outcome.
-use Rattle.std.specs.Prelude.{ℕ}
+use Rattle.std.specs.Prelude.{ℕ, Bool, true, false}
 use Rattle.std.specs.declared.option.Option.TheVariants.{Some}
 use Rattle.std.specs.declared.result.Result.{Result}
 use Rattle.std.specs.declared.result.Result.TheVariants.{Ok, Err}
@@ -16,7 +16,7 @@ use Rattle.iox2_pubsub.specs.declared.send_outcome.SendOutcome.TheVariants.{Deli
 use Rattle.iox2_pubsub.specs.declared.blocked_send.BlockedSend.{BlockedSend}
 use Rattle.iox2_pubsub.specs.declared.sample_mut.SampleMut.{SampleMut}
 use Rattle.iox2_pubsub.specs.declared.publisher.Publisher.{Publisher}
-use Rattle.iox2_pubsub.specs.Live.{Item, No_item, A_loan, A_blocked_send, Both}
+use Rattle.iox2_pubsub.specs.Live.{Item, A_sent_loan, A_sent_copy}
 
 -- The machine's result of a send.
 abbrev pub sent_result : SendOutcome → SendResult
@@ -33,17 +33,18 @@ abbrev pub IfBlocked : SendOutcome → (BlockedSend → Type 0) → Type 0
 IfBlocked (Delivered count) P = Unit {0}
 IfBlocked (Blocked blocked) P = P blocked
 
+-- The send is blocked.
+abbrev pub is_blocked_send : Result SendOutcome SendError → Bool
+is_blocked_send (Ok (Blocked blocked)) = true
+is_blocked_send _ = false
+
 -- What a send of the loan spends: the loan, and where it is blocked, that its publisher isn't.
 abbrev pub spent_by_send : SampleMut → Result SendOutcome SendError → Item
-spent_by_send loan (Ok (Delivered count)) = A_loan loan.loan.number
-spent_by_send loan (Ok (Blocked blocked)) = Both (A_loan loan.loan.number) (A_blocked_send loan.loan.publisher)
-spent_by_send loan (Err error) = A_loan loan.loan.number
+spent_by_send loan result = A_sent_loan loan.loan.number loan.loan.publisher (is_blocked_send result)
 
 -- What a copy that the publisher sends spends: where it is blocked, that the publisher isn't.
 abbrev pub spent_by_copy : Publisher → Result SendOutcome SendError → Item
-spent_by_copy publisher (Ok (Delivered count)) = No_item
-spent_by_copy publisher (Ok (Blocked blocked)) = A_blocked_send publisher.id
-spent_by_copy publisher (Err error) = No_item
+spent_by_copy publisher result = A_sent_copy publisher.id (is_blocked_send result)
 
 -- The machine's result of a send that may fail.
 abbrev pub result_of_send : Result SendOutcome SendError → SendResult

@@ -6,13 +6,13 @@ use Rattle.std.specs.declared.result.Result.TheVariants.{Ok, Err}
 use Rattle.iox2_store.specs.declared.errors.SendError.{SendError}
 use Rattle.iox2_domain.specs.Kept.{Kept as Domain}
 use Rattle.iox2_pubsub.specs.Live.{Item, No_item, A_loan, A_blocked_send, Both, Stays, StaysBut, IsNewIn, blocked_send}
-use Rattle.iox2_pubsub.specs.SendCalls.{IfBlocked, spent_by_send, spent_by_copy}
+use Rattle.iox2_pubsub.specs.SendCalls.{IfBlocked, is_blocked_send, spent_by_send, spent_by_copy}
 use Rattle.iox2_pubsub.specs.declared.blocked_send.BlockedSend.{BlockedSend}
 use Rattle.iox2_pubsub.specs.declared.publisher.Publisher.{Publisher}
 use Rattle.iox2_pubsub.specs.declared.sample_mut.SampleMut.{SampleMut}
 use Rattle.iox2_pubsub.specs.declared.send_outcome.SendOutcome.{SendOutcome}
 use Rattle.iox2_pubsub.specs.declared.send_outcome.SendOutcome.TheVariants.{Delivered as WasDelivered, Blocked as IsBlocked}
-use Rattle.iox2_pubsub.proofs.StaysBut.{new-since, stays-on, nothing-is-new, both-new, first-new, second-new, blocked-new}
+use Rattle.iox2_pubsub.proofs.StaysBut.{new-since, stays-on, nothing-is-new, both-new, part-new, second-part, sent-loan-part, sent-copy-part, blocked-new}
 use Rattle.iox2_runs.specs.Leaves.{item_of, AreNewIn, Leaves}
 use Rattle.iox2_runs.specs.SendReplies.{made_by_send}
 use Rattle.iox2_runs.specs.declared.runs.made.Made.{Made}
@@ -101,27 +101,19 @@ module _ {T U : Type 0} (old new : Domain T U) (table : List Made) where
       → StaysBut (spent_by_send loan outcome) old new → IfOk outcome (λ came. IfBlocked came (λ blocked. blocked.loan.publisher ≡ loan.loan.publisher))
       → table' ≡ slice_set table of Nothing → Leaves old new table table' (made_by_send outcome)
   leaves-sending table' of loan outcome at stays its is =
-      leaves-using table' of (Written loan) Nothing (made_by_send outcome) at (spent_by_send loan outcome) stays (spends outcome) (λ start new-one. nothing-is-new start)
-      (λ start before new-one. made-new loan.loan.publisher outcome its start (second-new start (A_loan loan.loan.number) (A_blocked_send loan.loan.publisher) new-one)) is
-    where
-      spends : (came : Result SendOutcome SendError) (start : Domain T U) → IsNewIn start (item_of (Written loan)) → IsNewIn start (spent_by_send loan came)
-      spends (Ok (WasDelivered count)) start new-one = first-new start (A_loan loan.loan.number) (A_blocked_send loan.loan.publisher) new-one
-      spends (Ok (IsBlocked blocked)) start new-one = new-one
-      spends (Err error) start new-one = first-new start (A_loan loan.loan.number) (A_blocked_send loan.loan.publisher) new-one
+      leaves-using table' of (Written loan) Nothing (made_by_send outcome) at (spent_by_send loan outcome) stays
+      (λ start new-one. part-new start _ _ (sent-loan-part loan.loan.number loan.loan.publisher (is_blocked_send outcome)) new-one) (λ start new-one. nothing-is-new start)
+      (λ start before new-one. made-new loan.loan.publisher outcome its start (part-new start _ _ (second-part (A_loan loan.loan.number) (A_blocked_send loan.loan.publisher)) new-one)) is
 
   -- one that sends a copy with the publisher at a position
   pub leaves-copying : (of : ℕ) (publisher : Publisher) (outcome : Result SendOutcome SendError) → slice_index_or table of Nothing ≡ MadePublisher publisher
       → StaysBut (spent_by_copy publisher outcome) old new → IfOk outcome (λ came. IfBlocked came (λ blocked. blocked.loan.publisher ≡ publisher.id))
       → Leaves old new table table (made_by_send outcome)
   leaves-copying of publisher outcome at stays its =
-      leaves-using table of (MadePublisher publisher) (MadePublisher publisher) (made_by_send outcome) at (spent_by_copy publisher outcome) stays (spends outcome) (λ start new-one. new-one)
+      leaves-using table of (MadePublisher publisher) (MadePublisher publisher) (made_by_send outcome) at (spent_by_copy publisher outcome) stays
+      (λ start new-one. part-new start _ _ (sent-copy-part publisher.id (is_blocked_send outcome)) (blocked-new start publisher.id new-one)) (λ start new-one. new-one)
       (λ start before new-one. made-new publisher.id outcome its start (blocked-new start publisher.id new-one))
       (sym (ap (λ (h : Made). slice_set table of h) (sym at) ∙ set_same table of))
-    where
-      spends : (came : Result SendOutcome SendError) (start : Domain T U) → IsNewIn start (item_of (MadePublisher publisher)) → IsNewIn start (spent_by_copy publisher came)
-      spends (Ok (WasDelivered count)) start new-one = nothing-is-new start
-      spends (Ok (IsBlocked blocked)) start new-one = blocked-new start publisher.id new-one
-      spends (Err error) start new-one = nothing-is-new start
 
   -- one that goes on with the blocked send at a position
   pub leaves-going-on : (table' : List Made) (of : ℕ) (send : BlockedSend) (outcome : Result SendOutcome SendError) → slice_index_or table of Nothing ≡ Blocked send → StaysBut (blocked_send send) old new
