@@ -1,14 +1,15 @@
 //! What goes on while a publisher waits for a full subscriber.
 ghost use Rattle.std.specs.Prelude.{◌≡◌};
-ghost use Rattle.iox2_pubsub.specs.Live.{IsSingleValued, IsWritten, StaysBut, written_loan};
+ghost use Rattle.iox2_pubsub.specs.Live.{IsLiveSubscriber, IsSingleValued, IsUnblocked, IsWritten, StaysBut, written_key, written_loan};
 
 use crate::waiting_publishers::{
     blocked, delivered, next_reading, next_readings, subscriber_of, waiting_domain,
     waiting_publisher,
 };
 use iox2_fixtures::{Reading, Station, factory_for, publish};
-use iox2_pubsub::{Domain, SampleMut};
+use iox2_pubsub::{Domain, SampleMut, Subscriber};
 use iox2_store::BackpressureStrategy;
+use std::process::Abort;
 use std::time::Duration;
 
 // The sum of readings, of which each is a power of two: it says which of them there are.
@@ -77,6 +78,22 @@ fn change(domain: &mut Domain<Reading, Station>, message: &mut SampleMut, celsiu
     SampleMut::user_header_mut(domain, message).number = number;
 }
 
+// Sends the message, and reads what the subscriber receives next. Returns how many took it, too.
+fn send_and_read(
+    rt: &impl Abort,
+    domain: &mut Domain<Reading, Station>,
+    message: SampleMut,
+    subscriber: &Subscriber,
+) -> (usize, Option<u64>)
+    requires single_valued { IsSingleValued domain.old }
+    requires message { IsWritten domain.old message }
+    requires unblocked { IsUnblocked domain.old (written_key message) }
+    requires live { IsLiveSubscriber domain.old subscriber.now }
+{
+    let count = delivered(rt, message.send(domain));
+    (count, next_reading(rt, domain, subscriber))
+}
+
 // While a send of its publisher is blocked, a loan is written, changed and given back; it is sent
 // once that send has ended.
 #[test]
@@ -101,9 +118,8 @@ fn loans_of_a_blocked_publisher_are_written_and_given_back(rt: HostRuntime) {
     let second = delivered(&rt, waiting.retry(&mut domain, Duration::ZERO));
     let after = message.is_blocked(&domain);
     let then = next_reading(&rt, &mut domain, &subscriber);
-    let third = delivered(&rt, message.send(&mut domain));
+    let (third, last) = send_and_read(&rt, &mut domain, message, &subscriber);
     publisher.disown();
-    let last = next_reading(&rt, &mut domain, &subscriber);
     subscriber.disown();
     drop(domain);
     assert!(rt; [first, second, third] == [1, 1, 1]);
