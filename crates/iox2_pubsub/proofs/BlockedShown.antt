@@ -1,5 +1,5 @@
 -- A blocked send that is tried again or given up, seen from outside.
-use Rattle.std.proofs.Common.{◌≡◌, ℕ, ◌<◌, List, [], true, false, refl, ap, sym, subst, ◌∙◌, Option, None, Some, arith}
+use Rattle.std.proofs.Common.{inl, inr, ◌≡◌, ℕ, ◌<◌, List, [], false, refl, ap, sym, subst, ◌∙◌, Option, None, Some, arith}
 use Rattle.std.proofs.lemmas.Option.{same_Some}
 use Rattle.std.specs.Option.{option_map}
 use Rattle.std.specs.declared.time.Duration.{Duration}
@@ -10,23 +10,21 @@ use Rattle.iox2_store.specs.machine.Records.{Entry, Loan, Publisher, BlockedSend
 use Rattle.iox2_store.specs.machine.Sends.{Retry, GiveUp, SendResult, Blocked_send, Delivered_to, Send_error}
 use Rattle.iox2_store.specs.machine.SingleCalls.{HoldsBlocked}
 use Rattle.iox2_store.specs.machine.State.{State, Messages}
-use Rattle.iox2_store.specs.machine.WellFormed.{IsWellFormed}
-use Rattle.iox2_ends.specs.LookUp.{look_up}
 use Rattle.iox2_ends.specs.Mailboxes.{sender_ends}
 use Rattle.iox2_laws.specs.Laws.{Advances}
 use Rattle.iox2_laws.proofs.LoanKeeping.{retry_loans, give_up_loans}
 use Rattle.iox2_laws.proofs.SendLaws.{retry_advances, give_up_advances}
 use Rattle.iox2_laws.proofs.SendsRemain.{PortsRemain, retry_remains, retry_frees, give_up_remains, give_up_frees}
 use Rattle.iox2_laws.proofs.Waits.{Waits, retry_waits, give_up_waits}
-use Rattle.iox2_domain.specs.BlockedSends.{HasBlocked, RetriesAs, GivesUpAs, waiting_send}
+use Rattle.iox2_domain.specs.BlockedSends.{HasBlocked, waiting_send}
 use Rattle.iox2_domain.specs.declared.publisher_state.BlockedDelivery.{BlockedDelivery}
 use Rattle.iox2_domain.specs.Fields.{Fields, kept_of, publisher_of, numbers_of, blocked_send}
-use Rattle.iox2_domain.specs.Invariant.{IsDomain, is_publisher}
+use Rattle.iox2_domain.specs.Invariant.{IsDomain}
 use Rattle.iox2_domain.specs.Kept.{Kept, state_of, entries_of}
 use Rattle.iox2_domain.specs.Ports.{PublisherFields}
-use Rattle.iox2_domain.specs.Shows.{Shows, KeepsEntries}
+use Rattle.iox2_domain.specs.Shows.{Shows}
 use Rattle.iox2_domain.proofs.lemmas.fields.ConnectionEnds.{publisher-stands}
-use Rattle.iox2_pubsub.specs.Live.{Item, A_blocked_send, IsUnblocked, StaysBut}
+use Rattle.iox2_pubsub.specs.Live.{A_blocked_send, IsUnblocked, StaysBut}
 use Rattle.iox2_pubsub.specs.SendCalls.{result_of_send}
 use Rattle.iox2_pubsub.specs.declared.send_outcome.SendOutcome.{SendOutcome}
 use Rattle.iox2_pubsub.proofs.LiveParts.{unblocked-free}
@@ -38,7 +36,9 @@ use Rattle.iox2_store.specs.declared.errors.SendError.TheVariants.{UnableToDeliv
 use Rattle.iox2_store.specs.declared.key.Key.{Key}
 use Rattle.iox2_messages.specs.SendEnds.{IsKept, end_result}
 use Rattle.iox2_messages.specs.declared.send_end.SendEnd.{SendEnd}
-use Rattle.iox2_pubsub.proofs.StaysBut.{IsSpared, stays-between}
+use Rattle.iox2_pubsub.proofs.StaysBut.{IsSpared, SparedUnfailed, stays-between}
+use Rattle.iox2_pubsub.proofs.UnfailedSends.{IsMild, HasNotFailed, retry-unfailed, give-up-unfailed}
+use Rattle.std.proofs.lemmas.Bool.{cases_eq}
 
 module _ {T U : Type 0} (f : Fields T U) (sound : IsDomain f) (i p n : ℕ) (found : (x : PublisherFields) × (slice_index_or f.publishers i None ≡ Some x) × (x.id ≡ p))
     (held : HoldsBlocked (state_of (kept_of f)) p n) where
@@ -89,20 +89,29 @@ module _ {T U : Type 0} (f g : Fields T U) (kept : Kept T U) (view : kept_of f �
   }
 
   goes-stays : Shows (kept_of g) m (state_of (kept_of g)) → PortsRemain s (state_of (kept_of g)) → (state_of (kept_of g)).loans ≡ s.loans
-      → Waits (IsSpared (A_blocked_send p)) s (state_of (kept_of g)) → StaysBut (A_blocked_send p) kept (kept_of g)
-  goes-stays shown' remain loans waits =
+      → Waits (IsSpared (A_blocked_send p)) s (state_of (kept_of g)) → SparedUnfailed (A_blocked_send p) s (state_of (kept_of g)) → StaysBut (A_blocked_send p) kept (kept_of g)
+  goes-stays shown' remain loans waits goes-on =
       stays-between (A_blocked_send p) kept (kept_of g) m m s (state_of (kept_of g)) shown shown' (λ k entry at. at) (record {
         config = remain.config;
         publishers = λ q x at _. remain.publishers q x at;
         subscribers = λ q y at is_open _. remain.subscribers q y at is_open;
       })
       (λ k loan at _. ap (λ (all : ℕ → Option (Loan T U)). all k) loans ∙ at)
-      (λ i j k at _. ap (λ (ns : List ℕ). is_borrowed k (record { waiting = []; borrowed = ns })) (remain.borrowed i j) ∙ at) waits
+      (λ i j k at _. ap (λ (ns : List ℕ). is_borrowed k (record { waiting = []; borrowed = ns })) (remain.borrowed i j) ∙ at) waits goes-on
+
+  -- the publisher is the one whose send is blocked
+  unfailed-on : (x : Publisher) (b : BlockedSend) → s.publishers p ≡ Some x → x.blocked ≡ Some b
+      → (IsMild s p → b.has_failed ≡ false → HasNotFailed (state_of (kept_of g)) p) → SparedUnfailed (A_blocked_send p) s (state_of (kept_of g))
+  unfailed-on x b at waits step q spared low mild none = elim (cases_eq q p) [
+    | inr away ↦ absurd (spared away)
+    | inl same ↦
+        subst (HasNotFailed (state_of (kept_of g))) (sym same) (step (subst (IsMild s) same mild) (subst (HasNotFailed s) same none x b at waits))
+  ]
 
   spared : IsSpared (A_blocked_send p) p
   spared other = other refl
 
-  module _ (b : BlockedSend) (elapsed : Duration) (agrees : IsDomain g) (h : Retry fixed_handlers s p b elapsed (state_of (kept_of g)) result)
+  module _ (x : Publisher) (b : BlockedSend) (at : s.publishers p ≡ Some x) (has : x.blocked ≡ Some b) (elapsed : Duration) (agrees : IsDomain g) (h : Retry fixed_handlers s p b elapsed (state_of (kept_of g)) result)
       (entries : (k : ℕ) (entry : Entry T U) → entries_of (kept_of g) k ≡ Some entry → entries_of (kept_of f) k ≡ Some entry) where
     pub retry-shown : Shows (kept_of g) m (state_of (kept_of g))
     retry-shown = goes-shown agrees (retry_advances fixed_handlers s p b elapsed _ result h) (retry_loans fixed_handlers s p b elapsed _ result h) entries
@@ -110,8 +119,9 @@ module _ {T U : Type 0} (f g : Fields T U) (kept : Kept T U) (view : kept_of f �
     pub retry-stays : StaysBut (A_blocked_send p) kept (kept_of g)
     retry-stays = goes-stays retry-shown (retry_remains fixed_handlers s p b elapsed _ result h) (retry_loans fixed_handlers s p b elapsed _ result h)
         (retry_waits (IsSpared (A_blocked_send p)) p spared fixed_handlers s b elapsed _ result h)
+        (unfailed-on x b at has (λ mild none. (retry-unfailed fixed_handlers s p b elapsed _ result mild none h).0))
 
-  module _ (b : BlockedSend) (agrees : IsDomain g) (h : GiveUp fixed_handlers s p b (state_of (kept_of g)) result)
+  module _ (x : Publisher) (b : BlockedSend) (at : s.publishers p ≡ Some x) (has : x.blocked ≡ Some b) (agrees : IsDomain g) (h : GiveUp fixed_handlers s p b (state_of (kept_of g)) result)
       (entries : (k : ℕ) (entry : Entry T U) → entries_of (kept_of g) k ≡ Some entry → entries_of (kept_of f) k ≡ Some entry) where
     pub give-up-shown : Shows (kept_of g) m (state_of (kept_of g))
     give-up-shown = goes-shown agrees (give_up_advances fixed_handlers s p b _ result h) (give_up_loans fixed_handlers s p b _ result h) entries
@@ -119,6 +129,7 @@ module _ {T U : Type 0} (f g : Fields T U) (kept : Kept T U) (view : kept_of f �
     pub give-up-stays : StaysBut (A_blocked_send p) kept (kept_of g)
     give-up-stays = goes-stays give-up-shown (give_up_remains fixed_handlers s p b _ result h) (give_up_loans fixed_handlers s p b _ result h)
         (give_up_waits (IsSpared (A_blocked_send p)) p spared fixed_handlers s b _ result h)
+        (unfailed-on x b at has (λ mild none. (give-up-unfailed fixed_handlers s p b _ result mild none h).0))
 
 -- ---- a send that isn't blocked again has freed its publisher
 

@@ -72,7 +72,7 @@ module _ {T U : Type 0} (old new : Kept T U) (m : Messages T U) (s : State T U) 
           publishers = λ p z at other. (z, publisher_closed_others s id x p other ∙ at);
           subscribers = λ q y at is_open other. let v = publisher_closed_subscribers s id x q y at in (v.0, v.1, v.2 ∙ is_open);
         })
-        (λ n l at other. at) (λ p q n at other. still-borrowed s' (publisher_closed_borrowed s id x) p q n at) (publisher_closed_waits (IsSpared (A_publisher id)) s id x)
+        (λ n l at other. at) (λ p q n at other. still-borrowed s' (publisher_closed_borrowed s id x) p q n at) (publisher_closed_waits (IsSpared (A_publisher id)) s id x) (λ p' spared low mild none. absurd (spared tt))
 
     -- it is there no more
     pub publisher-close-spends : (key : Key) → key.port ≡ id → IsPublisherKey new key → ⊥
@@ -91,7 +91,7 @@ module _ {T U : Type 0} (old new : Kept T U) (m : Messages T U) (s : State T U) 
           subscribers = λ q z at is_open other. (z, subscriber_closed_others s id y q other ∙ at, is_open);
         })
         (λ n l at other. ap (λ (loans : ℕ → Option (Loan T U)). loans n) (subscriber_closed_loans s id y) ∙ at)
-        (λ p q n at other. still-borrowed s' (subscriber_closed_borrowed s id y) p q n at) (subscriber_closed_waits (IsSpared (A_subscriber id)) s id y)
+        (λ p q n at other. still-borrowed s' (subscriber_closed_borrowed s id y) p q n at) (subscriber_closed_waits (IsSpared (A_subscriber id)) s id y) (λ p' spared low mild none. absurd (spared tt))
 
     -- it is open no more
     pub subscriber-close-spends : (key : Key) → key.port ≡ id → IsSubscriberKey new key → ⊥

@@ -12,6 +12,8 @@ pub mod SliceParts
 pub mod FilledLengths
 pub mod FilledLoans
 pub mod SentMessages
+pub mod OverflowSends
+pub mod UnfailedSends
 pub mod SendShown
 pub mod AlwaysShows
 pub mod PublishersShown
@@ -32,3 +34,4 @@ pub mod LoansLeftShown
 pub mod SureLoans
 pub mod KeptCounts
 pub mod BlockedShown
+pub mod ReceiversAhead

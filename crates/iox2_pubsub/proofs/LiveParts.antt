@@ -1,5 +1,5 @@
 -- What it takes for a handle to be live, part by part.
-use Rattle.std.proofs.Common.{List, [], ◌∷◌, Option, ◌≡◌, ℕ, ◌<◌, Bool, true, false, is_some, refl, ap, sym, subst, ◌∙◌, None, Some}
+use Rattle.std.proofs.Common.{List, [], ◌∷◌, Option, ◌≡◌, ◌⊎◌, inl, inr, ℕ, ◌<◌, Bool, true, false, is_some, refl, ap, sym, subst, ◌∙◌, None, Some}
 use Rattle.std.specs.Option.{option_map_or}
 use Rattle.std.specs.Prelude.{◌↔◌}
 use Rattle.iox2_store.specs.machine.Mailbox.{is_borrowed}
@@ -13,7 +13,8 @@ use Rattle.iox2_store.specs.declared.service_config.TypeVariant.TheVariants.{Fix
 use Rattle.iox2_domain.specs.Handlers.{may_fail}
 use Rattle.iox2_domain.specs.Kept.{Kept, state_of, entries_of}
 use Rattle.iox2_domain.specs.LoanCalls.{HasCell, HasLoanHeader, HasLoanUserHeader, HoldsUnwritten, HoldsWritten}
-use Rattle.iox2_pubsub.specs.Live.{IsSingleValued, IsPublisherKey, IsSubscriberKey, IsLoanKey, IsSampleKey, IsBlockedKey, IsUnblocked, Discards, NeverFails, NeverWaits, HasMark, IsFromOrigin, UnwrittenReads, LoanReads, SampleReads, LoanHasHeader, LoanHasUserHeader, SampleHasHeader, SampleHasUserHeader, IsUnwritten, IsWritten}
+use Rattle.iox2_pubsub.proofs.UnfailedSends.{HasNotFailed}
+use Rattle.iox2_pubsub.specs.Live.{IsSingleValued, IsPublisherKey, IsSubscriberKey, IsLoanKey, IsSampleKey, IsBlockedKey, IsUnblocked, Overflows, PassesFull, NeverFails, NeverWaits, HasMark, IsFromOrigin, UnwrittenReads, LoanReads, SampleReads, LoanHasHeader, LoanHasUserHeader, SampleHasHeader, SampleHasUserHeader, IsUnwritten, IsWritten}
 use Rattle.iox2_pubsub.specs.Slices.{HasUnwrittenCells, HasValues, SampleHasValues}
 use Rattle.iox2_pubsub.specs.declared.sample.Sample.{Sample}
 use Rattle.iox2_pubsub.specs.declared.sample_mut.SampleMut.{SampleMut}
@@ -73,15 +74,17 @@ module _ {T U : Type 0} (kept : Kept T U) where
     unfolding IsUnblocked
     unblocked-free parts = parts
 
-    pub discards-parts : Discards kept key
-        → (key.port < (state_of kept).next_port) × ((x : Publisher) → (state_of kept).publishers key.port ≡ Some x → (x.backpressure_strategy ≡ DiscardData) × (x.backpressure_handler ≡ None))
-    unfolding Discards
-    discards-parts has = has
+    -- the publisher, if it's there, discards, and has no handler
+    abbrev pub Discards : Type 0
+    Discards = (x : Publisher) → (state_of kept).publishers key.port ≡ Some x → (x.backpressure_strategy ≡ DiscardData) × (x.backpressure_handler ≡ None)
 
-    pub discards-from : (key.port < (state_of kept).next_port) × ((x : Publisher) → (state_of kept).publishers key.port ≡ Some x → (x.backpressure_strategy ≡ DiscardData) × (x.backpressure_handler ≡ None))
-        → Discards kept key
-    unfolding Discards
-    discards-from parts = parts
+    pub passes-parts : PassesFull kept key → (key.port < (state_of kept).next_port) × (Overflows kept ⊎ Discards)
+    unfolding PassesFull
+    passes-parts has = has
+
+    pub passes-from : (key.port < (state_of kept).next_port) × (Overflows kept ⊎ Discards) → PassesFull kept key
+    unfolding PassesFull
+    passes-from parts = parts
 
     -- as the machine tests it
     pub unblocked-test : IsUnblocked kept key → is_blocked (state_of kept) key.port ≡ false
@@ -109,18 +112,25 @@ module _ {T U : Type 0} (kept : Kept T U) where
   unblocked-alike key key' same free =
       unblocked-free key' (let has = unblocked-parts key free in (subst (λ (p : ℕ). p < (state_of kept).next_port) (sym same) has.0, λ x at. has.1 x (ap (state_of kept).publishers (sym same) ∙ at)))
 
-  pub unfailed-parts : (p : ℕ) → NeverFails kept p → (p < (state_of kept).next_port) × ((x : Publisher) → (state_of kept).publishers p ≡ Some x → may_fail x.backpressure_handler ≡ false)
+  -- no handler of the publisher, if it's there, fails a send
+  abbrev pub HasMildHandler : (p : ℕ) → Type 0
+  HasMildHandler p = (x : Publisher) → (state_of kept).publishers p ≡ Some x → may_fail x.backpressure_handler ≡ false
+
+  pub unfailed-parts : (p : ℕ) → NeverFails kept p → (p < (state_of kept).next_port) × (Overflows kept ⊎ HasMildHandler p) × HasNotFailed (state_of kept) p
   unfolding NeverFails
   unfailed-parts p has = has
 
-  pub unfailed-from : (p : ℕ) → (p < (state_of kept).next_port) × ((x : Publisher) → (state_of kept).publishers p ≡ Some x → may_fail x.backpressure_handler ≡ false) → NeverFails kept p
+  pub unfailed-from : (p : ℕ) → (p < (state_of kept).next_port) × (Overflows kept ⊎ HasMildHandler p) × HasNotFailed (state_of kept) p → NeverFails kept p
   unfolding NeverFails
   unfailed-from p parts = parts
 
   -- who never waits doesn't, whatever the rest of the key
   pub never-waits-alike : (key key' : Key) → key'.port ≡ key.port → NeverWaits kept key → NeverWaits kept key'
   never-waits-alike key key' same never = record {
-    discards = discards-from key' (let has = discards-parts key never.discards in (subst (λ (p : ℕ). p < (state_of kept).next_port) (sym same) has.0, λ x at. has.1 x (ap (state_of kept).publishers (sym same) ∙ at)));
+    passes = passes-from key' (
+        let has = passes-parts key never.passes in
+        (subst (λ (p : ℕ). p < (state_of kept).next_port) (sym same) has.0, elim has.1 [ inl over ↦ inl over | inr discards ↦ inr (λ x at. discards x (ap (state_of kept).publishers (sym same) ∙ at)) ])
+        );
     unblocked = unblocked-alike key key' same never.unblocked;
     never_fails = subst (NeverFails kept) (sym same) never.never_fails;
   }

@@ -1,5 +1,5 @@
 -- The creation of a publisher, seen from outside.
-use Rattle.std.proofs.Common.{◌≡◌, ◌<◌, ℕ, false, refl, ap, sym, subst, ◌∙◌}
+use Rattle.std.proofs.Common.{◌≡◌, ◌<◌, ℕ, true, false, inl, inr, refl, ap, sym, subst, ◌∙◌}
 use Rattle.std.proofs.lemmas.Option.{same_Some}
 use Rattle.std.specs.declared.option.Option.{Option}
 use Rattle.std.specs.declared.option.Option.TheVariants.{None, Some}
@@ -19,7 +19,8 @@ use Rattle.iox2_domain.specs.Fields.{Fields, kept_of}
 use Rattle.iox2_domain.specs.NewPublisher.{static_publisher}
 use Rattle.iox2_pubsub.specs.Live.{IsReadyPublisher, NeverFails, NeverWaits, publisher_key}
 use Rattle.iox2_pubsub.specs.declared.publisher.Publisher.{Publisher}
-use Rattle.iox2_pubsub.proofs.LiveParts.{publisher-live, unblocked-free, unfailed-from, discards-from}
+use Rattle.iox2_pubsub.proofs.LiveParts.{publisher-live, unblocked-free, unfailed-from, passes-from}
+use Rattle.iox2_pubsub.proofs.UnfailedSends.{HasNotFailed}
 use Rattle.iox2_domain.specs.Reaches.{Reaches}
 use Rattle.iox2_domain.specs.Shows.{Shows}
 use Rattle.iox2_domain.proofs.lemmas.fields.ReachesShows.{reaches-shows-same}
@@ -67,12 +68,19 @@ module _ {T U : Type 0} (f g : Fields T U) (loans : ℕ) (strategy : Backpressur
         unblocked = unblocked-free (kept_of g) _ (stands.0, λ x here. (stands.1 x here).2);
       }
 
+  -- no handler has failed a send of it that is blocked, since none is
+  unwaiting : (t : State T U) → CreatePublisher environment (state_of (kept_of f)) (static_publisher loans strategy handler len) t None → Reaches f g t
+      → (publisher : Publisher) → publisher.id ≡ f.next_port → HasNotFailed (state_of (kept_of g)) publisher.id
+  unwaiting t made reached publisher id = λ x b here waits.
+      let stands = created-stands t made reached publisher id in
+      absurd (let no : None ≡ Some b = sym ((stands.1 x here).2) ∙ waits in cc)
+
   -- no handler fails a send of it
   pub created-never-fails : (t : State T U) → CreatePublisher environment (state_of (kept_of f)) (static_publisher loans strategy handler len) t None → Reaches f g t
       → (publisher : Publisher) → publisher.id ≡ f.next_port → may_fail handler ≡ false → NeverFails (kept_of g) publisher.id
   created-never-fails t made reached publisher id none =
       let stands = created-stands t made reached publisher id in
-      unfailed-from (kept_of g) _ (stands.0, λ x here. ap may_fail (stands.1 x here).1 ∙ none)
+      unfailed-from (kept_of g) _ (stands.0, inr (λ x here. ap may_fail (stands.1 x here).1 ∙ none), unwaiting t made reached publisher id)
 
   -- and it never waits where it discards
   pub created-never-waits : (t : State T U) → CreatePublisher environment (state_of (kept_of f)) (static_publisher loans strategy handler len) t None → Reaches f g t
@@ -80,7 +88,20 @@ module _ {T U : Type 0} (f g : Fields T U) (loans : ℕ) (strategy : Backpressur
   created-never-waits t made reached publisher id discards none =
       let stands = created-stands t made reached publisher id in
       record {
-        discards = discards-from (kept_of g) _ (stands.0, λ x here. ((stands.1 x here).0 ∙ discards, (stands.1 x here).1 ∙ none));
+        passes = passes-from (kept_of g) _ (stands.0, inr (λ x here. ((stands.1 x here).0 ∙ discards, (stands.1 x here).1 ∙ none)));
         unblocked = unblocked-free (kept_of g) _ (stands.0, λ x here. (stands.1 x here).2);
         never_fails = created-never-fails t made reached publisher id (ap may_fail none);
+      }
+
+  -- nor where the service overflows
+  pub created-overflows : (t : State T U) → CreatePublisher environment (state_of (kept_of f)) (static_publisher loans strategy handler len) t None → Reaches f g t
+      → (publisher : Publisher) → publisher.id ≡ f.next_port → (f.config).enable_safe_overflow ≡ true → NeverWaits (kept_of g) (publisher_key publisher)
+  created-overflows t made reached publisher id over =
+      let stands = created-stands t made reached publisher id in
+      let keeps = create-keeps environment (state_of (kept_of f)) (static_publisher loans strategy handler len) t None made in
+      let still : (g.config).enable_safe_overflow ≡ true = ap (λ (c : ServiceConfig). c.enable_safe_overflow) (ap (λ (u : State T U). u.config) reached.state ∙ keeps.config) ∙ over in
+      record {
+        passes = passes-from (kept_of g) _ (stands.0, inl still);
+        unblocked = unblocked-free (kept_of g) _ (stands.0, λ x here. (stands.1 x here).2);
+        never_fails = unfailed-from (kept_of g) _ (stands.0, inl still, unwaiting t made reached publisher id);
       }

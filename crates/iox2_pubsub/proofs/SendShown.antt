@@ -20,10 +20,10 @@ use Rattle.iox2_store.specs.declared.backpressure.BackpressureStrategy.TheVarian
 use Rattle.iox2_store.specs.declared.key.Key.{Key}
 use Rattle.iox2_laws.proofs.Waits.{waits_trans, update_publisher_waits, published_waits}
 use Rattle.iox2_domain.proofs.lemmas.sends.DeliverySteps.{never-waits}
-use Rattle.iox2_domain.specs.Handlers.{may_fail}
 use Rattle.iox2_domain.specs.Kept.{Kept}
-use Rattle.iox2_pubsub.specs.Live.{IsBlockedSend, NeverFails, blocked_key}
+use Rattle.iox2_pubsub.specs.Live.{A_blocked_send, IsBlockedSend, NeverFails, blocked_key, blocked_send}
 use Rattle.iox2_pubsub.proofs.LiveParts.{unfailed-parts}
+use Rattle.iox2_pubsub.proofs.OverflowSends.{overflowing-send}
 use Rattle.iox2_pubsub.proofs.SentMessages.{after-error}
 use Rattle.iox2_pubsub.specs.declared.blocked_send.BlockedSend.{BlockedSend}
 use Rattle.iox2_pubsub.specs.declared.send_outcome.SendOutcome.TheVariants.{Delivered, Blocked}
@@ -131,11 +131,13 @@ only-ok SendEnd.Undelivered kept unfailed (Err error) is = absurd (unfailed refl
 only-ok SendEnd.Blocked kept unfailed (Err error) is = let clash : Send_error error ≡ Blocked_send = is in absurd cc
 only-ok SendEnd.Lost kept unfailed (Err error) is = absurd kept
 
--- a loan's publisher, where no handler fails a send of it
-pub never-fails-here : {T U : Type 0} (old : Kept T U) (f : Fields T U) → kept_of f ≡ old → (p : ℕ) → NeverFails old p → (l : Loan T U) → l.publisher ≡ p
-    → (x : Publisher) → (state_of (kept_of f)).publishers l.publisher ≡ Some x → may_fail x.backpressure_handler ≡ false
-never-fails-here {T} {U} old f same p never l its x at =
-    (unfailed-parts old p never).1 x (ap (λ (k : Kept T U). (state_of k).publishers p) (sym same) ∙ ap (state_of (kept_of f)).publishers (sym its) ∙ at)
+-- a send of a loan whose publisher's handler fails none
+pub never-fails-here : {T U : Type 0} (old : Kept T U) (f g : Fields T U) → kept_of f ≡ old → (n p : ℕ) → NeverFails old p → (result : SendResult) (sends : SendsLoan fixed_handlers f g n result)
+    → (sends.loan).publisher ≡ p → result ≡ Send_error UnableToDeliver → ⊥
+never-fails-here {T} {U} old f g same n p never result sends its = elim (unfailed-parts old p never).1 [
+  | inl over ↦ (overflowing-send fixed_handlers (state_of (kept_of f)) n sends.loan (state_of (kept_of g)) result (ap (λ (k : Kept T U). (k.config).enable_safe_overflow) same ∙ over) sends.sends).1
+  | inr mild ↦ sends.unfailed (λ x at. mild x (ap (λ (k : Kept T U). (state_of k).publishers p) (sym same) ∙ ap (state_of (kept_of f)).publishers (sym its) ∙ at))
+]
 
 -- where its publisher is there, only a handler fails a send
 pub handler-error : (end : SendEnd) → IsKept end → (outcome : Result SendOutcome SendError) → result_of_send outcome ≡ end_result end → IfErr outcome (λ error. error ≡ UnableToDeliver)
@@ -158,13 +160,13 @@ either-error {T} {U} f g n p end kept sends its (Err error) is =
 -- a send whose publisher is there, and whose handler fails none, succeeds, and so each error is that it is gone
 pub only-error : {T U : Type 0} (f g : Fields T U) (n p : ℕ) (end : SendEnd) → (HoldsPublisher (state_of (kept_of f)) p → IsKept end)
     → (sends : SendsLoan fixed_handlers f g n (end_result end)) → sends.loan.publisher ≡ p
-    → ((x : Publisher) → (state_of (kept_of f)).publishers sends.loan.publisher ≡ Some x → may_fail x.backpressure_handler ≡ false)
+    → (end_result end ≡ Send_error UnableToDeliver → ⊥)
     → (outcome : Result SendOutcome SendError) → result_of_send outcome ≡ end_result end → IfErr outcome (λ error. error ≡ ConnectionBrokenSinceSenderNoLongerExists)
 only-error {T} {U} f g n p end kept sends its never (Ok delivered) is = tt
 only-error {T} {U} f g n p end kept sends its never (Err error) is =
     by_option (error ≡ ConnectionBrokenSinceSenderNoLongerExists) ((state_of (kept_of f)).publishers sends.loan.publisher) _ _ sends.sends
     (λ _ gone. let same : Send_error error ≡ Send_error ConnectionBrokenSinceSenderNoLongerExists = is ∙ gone.1 in cc)
-    (λ x there _. absurd (let no : false ≡ true = only-ok end (kept (x, ap (state_of (kept_of f)).publishers (sym its) ∙ there)) (sends.unfailed never) (Err error) is in cc))
+    (λ x there _. absurd (let no : false ≡ true = only-ok end (kept (x, ap (state_of (kept_of f)).publishers (sym its) ∙ there)) never (Err error) is in cc))
 
 -- ---- a send that is blocked
 
@@ -219,3 +221,10 @@ sent-entry {T} {U} m n l (Err error) unsent entry at = elim (after-error m n l e
       cc
   | inr lost ↦ absurd (let no : None ≡ Some entry = sym unsent ∙ sym (ap (λ (k : Messages T U). k n) lost.1) ∙ at in cc)
 ]
+
+-- and whose it is
+pub whose-blocked : {T U : Type 0} (kept : Kept T U) (key : Key) (id : ℕ) → key.port ≡ id → (outcome : Result SendOutcome SendError)
+    → IfOk outcome (λ came. IfBlocked came (λ it. IsBlockedSend kept it × (blocked_key it ≡ key))) → IfOk outcome (λ came. IfBlocked came (λ it. blocked_send it ≡ A_blocked_send id))
+whose-blocked kept key id its (Ok (Delivered count)) is = tt
+whose-blocked kept key id its (Ok (Blocked it)) is = ap (λ (k : Key). A_blocked_send k.port) is.1 ∙ ap A_blocked_send its
+whose-blocked kept key id its (Err error) is = tt

@@ -1,5 +1,6 @@
 -- What of a domain stays from one state to the next.
-use Rattle.std.proofs.Common.{◌≡◌, ◌≢◌, refl, ℕ, ◌<◌, arith, Bool, true, false, List, sym, ap, subst, ◌∙◌, Option, None, Some}
+use Rattle.std.proofs.Common.{◌⊎◌, inl, inr, ◌≡◌, ◌≢◌, refl, ℕ, ◌<◌, arith, Bool, true, false, List, sym, ap, subst, ◌∙◌, Option, None, Some}
+use Rattle.std.proofs.lemmas.Bool.{cases_eq}
 use Rattle.iox2_store.specs.SingleValues.{is_single_valued}
 use Rattle.iox2_store.specs.machine.Mailbox.{is_borrowed}
 use Rattle.iox2_store.specs.machine.Records.{Entry, Loan, Publisher, Subscriber}
@@ -15,7 +16,8 @@ use Rattle.iox2_laws.proofs.NumberLemmas.{contains_right}
 use Rattle.iox2_domain.specs.Handlers.{may_fail}
 use Rattle.iox2_domain.specs.Kept.{Kept, state_of, entries_of}
 use Rattle.iox2_domain.specs.Shows.{Shows}
-use Rattle.iox2_pubsub.specs.Live.{IsSingleValued, IsPublisherKey, IsSubscriberKey, IsLoanKey, IsSampleKey, IsBlockedKey, HasMark, IsFromOrigin, LoanHasHeader, LoanHasUserHeader, SampleHasHeader, SampleHasUserHeader, Item, No_item, A_publisher, A_loan, A_blocked_send, A_sent_loan, A_sent_copy, Both, IsOtherPublisher, IsOtherSubscriber, IsOtherLoan, IsOtherSample, IsUnblocked, Discards, NeverFails, NeverWaits, IsOtherBlocked, StaysBut, Stays, IsNewIn, unwritten_key, written_key}
+use Rattle.iox2_pubsub.proofs.UnfailedSends.{IsMild, HasNotFailed}
+use Rattle.iox2_pubsub.specs.Live.{IsSingleValued, IsPublisherKey, IsSubscriberKey, IsLoanKey, IsSampleKey, IsBlockedKey, HasMark, IsFromOrigin, LoanHasHeader, LoanHasUserHeader, SampleHasHeader, SampleHasUserHeader, Item, No_item, A_publisher, A_subscriber, A_loan, A_sample, A_blocked_send, A_sent_loan, A_sent_copy, Both, IsOtherPublisher, IsOtherSubscriber, IsOtherLoan, IsOtherSample, IsUnblocked, PassesFull, NeverFails, IsOtherBlocked, StaysBut, Stays, IsNewIn, unwritten_key, written_key}
 use Rattle.iox2_pubsub.specs.Slices.{IsSliced, HasUnwrittenCells, HasValues, SampleHasValues}
 use Rattle.iox2_pubsub.specs.declared.sample.Sample.{Sample}
 
@@ -47,8 +49,35 @@ module _ {T U : Type 0} where
 abbrev pub IsSpared : Item → (publisher : ℕ) → Type 0
 IsSpared spent publisher = IsOtherBlocked spent publisher → ⊥
 
+-- whether it is, where it is that of a publisher
+other-or-same : (p q : ℕ) → (p ≢ q) ⊎ (p ≢ q → ⊥)
+other-or-same p q = elim (cases_eq p q) [ inl same ↦ inr (λ away. away same) | inr away ↦ inl away ]
+
+-- whether it is
+other-or-spared : (spent : Item) (p : ℕ) → IsOtherBlocked spent p ⊎ IsSpared spent p
+other-or-spared No_item p = inl tt
+other-or-spared (A_publisher id) p = inl tt
+other-or-spared (A_subscriber id) p = inl tt
+other-or-spared (A_loan n) p = inl tt
+other-or-spared (A_sample q n) p = inl tt
+other-or-spared (A_blocked_send q) p = other-or-same p q
+other-or-spared (A_sent_loan n q true) p = other-or-same p q
+other-or-spared (A_sent_loan n q false) p = inl tt
+other-or-spared (A_sent_copy q true) p = other-or-same p q
+other-or-spared (A_sent_copy q false) p = inl tt
+other-or-spared (Both first second) p = elim (other-or-spared first p) [
+  | inr spared ↦ inr (λ both. spared both.0)
+  | inl other ↦ elim (other-or-spared second p) [ inr spared ↦ inr (λ both. spared both.1) | inl another ↦ inl (other, another) ]
+]
+
+module _ {T U : Type 0} where
+  -- where no handler fails a send of a publisher whose blocked send is the item, none has failed it then
+  abbrev pub SparedUnfailed : Item → (s s' : State T U) → Type 0
+  SparedUnfailed spent s s' = (p : ℕ) → IsSpared spent p → p < s.next_port → IsMild s p → HasNotFailed s p → HasNotFailed s' p
+
 module _ {T U : Type 0} (spent : Item) (old new : Kept T U) (remain : PortsRemainBut spent (state_of old) (state_of new)) (loans : LoansStayBut spent (state_of old) (state_of new))
     (samples : SamplesStayBut spent (state_of old) (state_of new)) (waits : Waits (IsSpared spent) (state_of old) (state_of new))
+    (goes-on : SparedUnfailed spent (state_of old) (state_of new))
     (known : (p : ℕ) (x : Publisher) → (state_of old).publishers p ≡ Some x → p < (state_of old).next_port)
     (entries : (n p q : ℕ) (entry : Entry T U) → entries_of old n ≡ Some entry → is_borrowed n ((state_of new).mailboxes p q) ≡ true → entries_of new n ≡ Some entry) where
   service : (id : ℕ) → id ≡ (old.config).service_id → id ≡ (new.config).service_id
@@ -135,23 +164,39 @@ module _ {T U : Type 0} (spent : Item) (old new : Kept T U) (remain : PortsRemai
         before.2.blocked (λ spared. spared other) ∙ was.1 before.0 before.1,
   )
 
-  discards : (key : Key) → Discards old key → Discards new key
-  unfolding Discards
-  discards key was = (
+  -- the settings don't change
+  overflows : (old.config).enable_safe_overflow ≡ true → (new.config).enable_safe_overflow ≡ true
+  overflows over = ap (λ (c : ServiceConfig). c.enable_safe_overflow) remain.config ∙ over
+
+  passes : (key : Key) → PassesFull old key → PassesFull new key
+  unfolding PassesFull
+  passes key was = (
     more key.port was.0,
-    λ x' at.
-        let before = waits.publishers key.port x' was.0 at in
-        let has = was.1 before.0 before.1 in
-        (before.2.strategy ∙ has.0, before.2.handler ∙ has.1),
+    elim was.1 [
+      | inl over ↦ inl (overflows over)
+      | inr discards ↦ inr (λ x' at.
+          let before = waits.publishers key.port x' was.0 at in
+          let has = discards before.0 before.1 in
+          (before.2.strategy ∙ has.0, before.2.handler ∙ has.1))
+    ],
   )
 
   unfailed : (publisher : ℕ) → NeverFails old publisher → NeverFails new publisher
   unfolding NeverFails
   unfailed publisher was = (
     more publisher was.0,
-    λ x' at.
-        let before = waits.publishers publisher x' was.0 at in
-        ap may_fail before.2.handler ∙ was.1 before.0 before.1,
+    elim was.1 [
+      | inl over ↦ inl (overflows over)
+      | inr mild ↦ inr (λ x' at.
+          let before = waits.publishers publisher x' was.0 at in
+          ap may_fail before.2.handler ∙ mild before.0 before.1)
+    ],
+    elim (other-or-spared spent publisher) [
+      | inr spared ↦ goes-on publisher spared was.0 was.1 was.2
+      | inl other ↦ λ x' b at has.
+          let before = waits.publishers publisher x' was.0 at in
+          was.2 before.0 b before.1 (sym (before.2.blocked (λ spared. spared other)) ∙ has)
+    ],
   )
 
   blocked : (key : Key) → IsBlockedKey old key → IsOtherPublisher spent key.port → IsOtherBlocked spent key.port → IsBlockedKey new key
@@ -177,7 +222,8 @@ module _ {T U : Type 0} (spent : Item) (old new : Kept T U) (remain : PortsRemai
     samples = sample;
     origins = origin;
     unblocked = free;
-    never_wait = λ key was other. record { discards = discards key was.discards; unblocked = free key was.unblocked other; never_fails = unfailed key.port was.never_fails };
+    passes = passes;
+    never_wait = λ key was other. record { passes = passes key was.passes; unblocked = free key was.unblocked other; never_fails = unfailed key.port was.never_fails };
     never_fail = unfailed;
     blocked_sends = blocked;
     loan_cells = loan-cells;
@@ -191,10 +237,11 @@ module _ {T U : Type 0} (spent : Item) (old new : Kept T U) (remain : PortsRemai
 
 -- seen from a state that is shown
 pub stays-between : {T U : Type 0} (spent : Item) (old new : Kept T U) (m m' : Messages T U) (s s' : State T U) → Shows old m s → Shows new m' s'
-    → ((n : ℕ) (entry : Entry T U) → m n ≡ Some entry → m' n ≡ Some entry) → PortsRemainBut spent s s' → LoansStayBut spent s s' → SamplesStayBut spent s s' → Waits (IsSpared spent) s s' → StaysBut spent old new
-stays-between {T} {U} spent old new m m' s s' shown shown' sent remain loans samples waits =
+    → ((n : ℕ) (entry : Entry T U) → m n ≡ Some entry → m' n ≡ Some entry) → PortsRemainBut spent s s' → LoansStayBut spent s s' → SamplesStayBut spent s s' → Waits (IsSpared spent) s s' → SparedUnfailed spent s s'
+    → StaysBut spent old new
+stays-between {T} {U} spent old new m m' s s' shown shown' sent remain loans samples waits goes-on =
     stays-but spent old new (between (PortsRemainBut spent) remain) (between (LoansStayBut spent) loans) (between (SamplesStayBut spent) samples)
-    (between (Waits (IsSpared spent)) waits) (λ p x at. ((subst IsWellFormed shown.state shown.well_formed).publishers p x at).is_known) entries
+    (between (Waits (IsSpared spent)) waits) (between (SparedUnfailed spent) goes-on) (λ p x at. ((subst IsWellFormed shown.state shown.well_formed).publishers p x at).is_known) entries
   where
     entries : (n p q : ℕ) (entry : Entry T U) → entries_of old n ≡ Some entry → is_borrowed n ((state_of new).mailboxes p q) ≡ true → entries_of new n ≡ Some entry
     entries n p q entry at borrowed =
@@ -238,6 +285,7 @@ module _ {T U : Type 0} (start old : Kept T U) (before : Stays start old) (item 
     samples = λ key live other. next.samples key (before.samples key live other) (apart.samples key live);
     origins = λ it from other. next.origins it (before.origins it from other) (apart.origins it from);
     unblocked = λ key free other. next.unblocked key (before.unblocked key free other) (apart.unblocked key free).1;
+    passes = λ key was. next.passes key (before.passes key was);
     never_wait = λ key was other. next.never_wait key (before.never_wait key was other) (apart.unblocked key was.unblocked).1;
     never_fail = λ publisher was. next.never_fail publisher (before.never_fail publisher was);
     blocked_sends = λ key live other alike.
@@ -269,6 +317,7 @@ module _ {T U : Type 0} (start old : Kept T U) (before : Stays start old) (item 
     samples = λ key live other. next.samples key (before.samples key live tt) (apart.samples key live, other);
     origins = λ it from other. next.origins it (before.origins it from tt) (apart.origins it from, other);
     unblocked = λ key free other. next.unblocked key (before.unblocked key free tt) ((apart.unblocked key free).1, other);
+    passes = λ key was. next.passes key (before.passes key was);
     never_wait = λ key was other. next.never_wait key (before.never_wait key was tt) ((apart.unblocked key was.unblocked).1, other);
     never_fail = λ publisher was. next.never_fail publisher (before.never_fail publisher was);
     blocked_sends = λ key live other alike.
@@ -316,6 +365,7 @@ unchanged-stays spent kept = record {
   samples = λ key live other. live;
   origins = λ it from other. from;
   unblocked = λ key free other. free;
+  passes = λ key was. was;
   never_wait = λ key was other. was;
   never_fail = λ publisher was. was;
   blocked_sends = λ key live other alike. live;
@@ -467,6 +517,7 @@ stays-but-whole part whole is old new stays = record {
   samples = λ key live other. stays.samples key live (is.samples key.port key.message other);
   origins = λ it from other. stays.origins it from (is.samples it.sample.subscriber it.sample.number other);
   unblocked = λ key free other. stays.unblocked key free (is.blocked_sends key.port other);
+  passes = stays.passes;
   never_wait = λ key was other. stays.never_wait key was (is.blocked_sends key.port other);
   never_fail = stays.never_fail;
   blocked_sends = λ key live other alike. stays.blocked_sends key live (is.publishers key.port other) (is.blocked_sends key.port alike);
@@ -482,3 +533,79 @@ stays-but-whole part whole is old new stays = record {
 -- what stays but for an item stays but for that and another
 pub stays-but-more : {T U : Type 0} (first second : Item) (old new : Kept T U) → StaysBut first old new → StaysBut (Both first second) old new
 stays-but-more first second = stays-but-whole first (Both first second) (first-part first second)
+
+-- what stays twice but for an item stays but for it
+pub stays-twice : {T U : Type 0} (spent : Item) (start old new : Kept T U) → StaysBut spent start old → StaysBut spent old new → StaysBut spent start new
+stays-twice spent start old new before next = record {
+  settings = next.settings ∙ before.settings;
+  single_valued = λ was. next.single_valued (before.single_valued was);
+  sliced = λ was. next.sliced (before.sliced was);
+  publishers = λ key live other. next.publishers key (before.publishers key live other) other;
+  subscribers = λ key live other. next.subscribers key (before.subscribers key live other) other;
+  loans = λ key live other. next.loans key (before.loans key live other) other;
+  unwritten_loans = λ it live other. next.unwritten_loans it (before.unwritten_loans it live other) other;
+  written_loans = λ it live other. next.written_loans it (before.written_loans it live other) other;
+  samples = λ key live other. next.samples key (before.samples key live other) other;
+  origins = λ it from other. next.origins it (before.origins it from other) other;
+  unblocked = λ key waitless other. next.unblocked key (before.unblocked key waitless other) other;
+  passes = λ key was. next.passes key (before.passes key was);
+  never_wait = λ key was other. next.never_wait key (before.never_wait key was other) other;
+  never_fail = λ q was. next.never_fail q (before.never_fail q was);
+  blocked_sends = λ key live other alike. next.blocked_sends key (before.blocked_sends key live other alike) other alike;
+  loan_cells = λ n cells has other. next.loan_cells n cells (before.loan_cells n cells has other) other;
+  loan_payloads = λ n values has other. next.loan_payloads n values (before.loan_payloads n values has other) other;
+  loan_headers = λ key header live has other. next.loan_headers key header (before.loans key live other) (before.loan_headers key header live has other) other;
+  loan_user_headers = λ key header live has other. next.loan_user_headers key header (before.loans key live other) (before.loan_user_headers key header live has other) other;
+  sample_payloads = λ key values live has other. next.sample_payloads key values (before.samples key live other) (before.sample_payloads key values live has other) other;
+  sample_headers = λ key header live has other. next.sample_headers key header (before.samples key live other) (before.sample_headers key header live has other) other;
+  sample_user_headers = λ key header live has other. next.sample_user_headers key header (before.samples key live other) (before.sample_user_headers key header live has other) other;
+}
+
+-- ---- a send that blocked has ended
+
+-- a publisher with a blocked send isn't unblocked
+waits-not : {T U : Type 0} (kept : Kept T U) (key : Key) → IsBlockedKey kept key → IsUnblocked kept key → ⊥
+unfolding IsBlockedKey IsUnblocked
+waits-not kept key live free = let no : None ≡ Some (live.1).1 = sym (free.1 (live.1).0 (live.1).2) ∙ (live.1).3 in absurd cc
+
+-- What stood before a send of the publisher blocked, none of whose sends was blocked, stands when the blocked send has ended.
+pub stays-since-block : {T U : Type 0} (p : ℕ) (start old new : Kept T U) → ((key : Key) → key.port ≡ p → IsUnblocked start key) → StaysBut (A_blocked_send p) start old
+    → StaysBut (A_blocked_send p) old new → ((key : Key) → key.port ≡ p → IsUnblocked new key) → Stays start new
+stays-since-block {T} {U} p start old new was before next frees = record {
+  settings = next.settings ∙ before.settings;
+  single_valued = λ single. next.single_valued (before.single_valued single);
+  sliced = λ sliced. next.sliced (before.sliced sliced);
+  publishers = λ key live other. next.publishers key (before.publishers key live tt) tt;
+  subscribers = λ key live other. next.subscribers key (before.subscribers key live tt) tt;
+  loans = λ key live other. next.loans key (before.loans key live tt) tt;
+  unwritten_loans = λ it live other. next.unwritten_loans it (before.unwritten_loans it live tt) tt;
+  written_loans = λ it live other. next.written_loans it (before.written_loans it live tt) tt;
+  samples = λ key live other. next.samples key (before.samples key live tt) tt;
+  origins = λ it from other. next.origins it (before.origins it from tt) tt;
+  unblocked = λ key unwaiting other. unblocked key unwaiting;
+  passes = passes;
+  never_wait = λ key never other. record { passes = passes key never.passes; unblocked = unblocked key never.unblocked; never_fails = never_fail key.port never.never_fails };
+  never_fail = never_fail;
+  blocked_sends = λ key live other alike. elim (cases_eq key.port p) [
+    | inl its ↦ absurd (waits-not start key live (was key its))
+    | inr away ↦ next.blocked_sends key (before.blocked_sends key live tt away) tt away
+  ];
+  loan_cells = λ n cells has other. next.loan_cells n cells (before.loan_cells n cells has tt) tt;
+  loan_payloads = λ n values has other. next.loan_payloads n values (before.loan_payloads n values has tt) tt;
+  loan_headers = λ key header live has other. next.loan_headers key header (before.loans key live tt) (before.loan_headers key header live has tt) tt;
+  loan_user_headers = λ key header live has other. next.loan_user_headers key header (before.loans key live tt) (before.loan_user_headers key header live has tt) tt;
+  sample_payloads = λ key values live has other. next.sample_payloads key values (before.samples key live tt) (before.sample_payloads key values live has tt) tt;
+  sample_headers = λ key header live has other. next.sample_headers key header (before.samples key live tt) (before.sample_headers key header live has tt) tt;
+  sample_user_headers = λ key header live has other. next.sample_user_headers key header (before.samples key live tt) (before.sample_user_headers key header live has tt) tt;
+} where
+  passes : (key : Key) → PassesFull start key → PassesFull new key
+  passes key has = next.passes key (before.passes key has)
+
+  never_fail : (q : ℕ) → NeverFails start q → NeverFails new q
+  never_fail q never = next.never_fail q (before.never_fail q never)
+
+  unblocked : (key : Key) → IsUnblocked start key → IsUnblocked new key
+  unblocked key unwaiting = elim (cases_eq key.port p) [
+    | inl its ↦ frees key its
+    | inr away ↦ next.unblocked key (before.unblocked key unwaiting away) away
+  ]

@@ -10,3 +10,4 @@ pub mod LoanLends
 pub mod Slices
 pub mod WrittenLoans
 pub mod Handlers
+pub mod BlockedSends

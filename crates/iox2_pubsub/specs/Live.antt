@@ -4,7 +4,7 @@ use Rattle.std.specs.declared.option.Option.{Option}
 use Rattle.std.specs.List.{AllByRecursion}
 use Rattle.std.specs.declared.option.Option.TheVariants.{None, Some}
 use Rattle.iox2_store.specs.machine.Mailbox.{is_borrowed}
-use Rattle.iox2_store.specs.machine.Records.{Entry, Loan, Publisher as MachinePublisher, Subscriber as MachineSubscriber}
+use Rattle.iox2_store.specs.machine.Records.{BlockedSend as MachineBlocked, Entry, Loan, Publisher as MachinePublisher, Subscriber as MachineSubscriber}
 use Rattle.iox2_store.specs.machine.SingleCalls.{HoldsPublisher, HoldsSubscriber, HoldsLoan, HoldsSample, HoldsBlocked}
 use Rattle.iox2_store.specs.declared.backpressure.BackpressureStrategy.TheVariants.{DiscardData}
 use Rattle.iox2_store.specs.declared.header.Header.{Header}
@@ -59,11 +59,17 @@ module _ {T U : Type 0} (domain : Kept T U) where
   unfoldable pub IsSingleValued : Type 0
   IsSingleValued = ((domain.config).variant ≡ FixedSize) × ((domain.config).units_per_element ≡ 1)
 
-  -- No handler of the publisher with this id fails a send. One that was closed has none.
+  -- The service overflows: each open subscriber takes a message, also where its buffer is full.
+  abbrev pub Overflows : Type 0
+  Overflows = (domain.config).enable_safe_overflow ≡ true
+
+  -- No handler of the publisher with this id fails a send, nor has it failed the one that is blocked: none is asked in a service
+  -- that overflows, and a publisher that was closed has none.
   unfoldable pub NeverFails : (publisher : ℕ) → Type 0
   NeverFails publisher =
       (publisher < (state_of domain).next_port)
-      × ((x : MachinePublisher) → (state_of domain).publishers publisher ≡ Some x → may_fail x.backpressure_handler ≡ false)
+      × (Overflows ⊎ ((x : MachinePublisher) → (state_of domain).publishers publisher ≡ Some x → may_fail x.backpressure_handler ≡ false))
+      × ((x : MachinePublisher) (b : MachineBlocked) → (state_of domain).publishers publisher ≡ Some x → x.blocked ≡ Some b → b.has_failed ≡ false)
 
   module _ (key : Key) where
     -- The key names a publisher of the domain that wasn't closed.
@@ -82,15 +88,16 @@ module _ {T U : Type 0} (domain : Kept T U) where
     unfoldable pub IsUnblocked : Type 0
     IsUnblocked = (key.port < (state_of domain).next_port) × ((x : MachinePublisher) → (state_of domain).publishers key.port ≡ Some x → x.blocked ≡ None)
 
-    -- The publisher with the key's port, if it's there, discards what a full receiver doesn't take, and has no handler.
-    unfoldable pub Discards : Type 0
-    Discards =
+    -- The publisher with the key's port goes past full receivers: the service overflows, or the publisher, if it's there, discards
+    -- what a full receiver doesn't take, and has no handler.
+    unfoldable pub PassesFull : Type 0
+    PassesFull =
         (key.port < (state_of domain).next_port)
-        × ((x : MachinePublisher) → (state_of domain).publishers key.port ≡ Some x → (x.backpressure_strategy ≡ DiscardData) × (x.backpressure_handler ≡ None))
+        × (Overflows ⊎ ((x : MachinePublisher) → (state_of domain).publishers key.port ≡ Some x → (x.backpressure_strategy ≡ DiscardData) × (x.backpressure_handler ≡ None)))
 
     -- No send of the publisher with the key's port is ever blocked, nor does a handler fail one.
     pub record NeverWaits : Type 0 where
-      pub discards : Discards
+      pub passes : PassesFull
       pub unblocked : IsUnblocked
       pub never_fails : NeverFails key.port
 
@@ -327,6 +334,7 @@ module _ {T U : Type 0} where
     pub samples : (key : Key) → IsSampleKey old key → IsOtherSample spent key.port key.message → IsSampleKey new key
     pub origins : (sample : Sample) → IsFromOrigin old sample → IsOtherSample spent sample.sample.subscriber sample.sample.number → IsFromOrigin new sample
     pub unblocked : (key : Key) → IsUnblocked old key → IsOtherBlocked spent key.port → IsUnblocked new key
+    pub passes : (key : Key) → PassesFull old key → PassesFull new key
     pub never_wait : (key : Key) → NeverWaits old key → IsOtherBlocked spent key.port → NeverWaits new key
     pub never_fail : (publisher : ℕ) → NeverFails old publisher → NeverFails new publisher
     pub blocked_sends : (key : Key) → IsBlockedKey old key → IsOtherPublisher spent key.port → IsOtherBlocked spent key.port → IsBlockedKey new key

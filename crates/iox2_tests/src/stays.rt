@@ -1,10 +1,12 @@
 //! What a user's functions know of handles after other calls, with nothing tested when they run.
+ghost use Rattle.std.specs.Prelude.{◌≡◌, true};
 ghost use Rattle.iox2_pubsub.specs.Live.{HasLender, IsLivePublisher, IsLiveSample, IsLiveSubscriber, IsSingleValued, IsUnwrittenLoan, Stays, StaysBut, unwritten_key, unwritten_loan};
 
 use crate::fixtures::domain;
 use iox2_fixtures::{Reading, Station, factory_for, publish};
 use iox2_pubsub::{
-    ConnectionFailure, Domain, Publisher, Sample, SampleMutUninit, Subscriber, UpdateConnections,
+    ConnectionFailure, Domain, Publisher, Sample, SampleMutUninit, ServiceConfig, Subscriber,
+    UpdateConnections,
 };
 
 // Sends what a publisher lent that is there, which isn't refused.
@@ -49,6 +51,37 @@ fn a_publisher_comes_sends_and_goes(rt: HostRuntime) {
     subscriber.close(&mut domain);
     drop(domain);
     assert!(rt; takers == [Some(1), Some(1), Some(1)]);
+}
+
+// Sends in a service that overflows, by a publisher of any strategy, and has no case for a blocked send.
+fn send_overflowing(domain: &mut Domain<Reading, Station>, celsius: u64) -> Option<usize>
+    requires single_valued { IsSingleValued domain.old }
+    requires overflows { (domain.old.config).enable_safe_overflow ≡ true }
+    ensures { Stays domain.old domain.new }
+{
+    let publisher = domain.publisher_builder().create(domain).ok()?;
+    let sent = publisher.send_copy(domain, Reading { celsius });
+    publisher.close(domain);
+    Some(sent.ok()?.delivered())
+}
+
+#[test]
+fn no_send_is_blocked_in_a_service_that_overflows(rt: HostRuntime) {
+    let config = ServiceConfig {
+        max_publishers: 1,
+        max_subscribers: 1,
+        ..ServiceConfig::new(7)
+    };
+    let mut domain = Domain::new(rt.alloc(), config).expect(&rt, "a domain");
+    let factory = domain.subscriber_builder().buffer_size(1);
+    let subscriber = factory.create(&mut domain).expect(&rt, "a subscriber");
+    let takers = [
+        send_overflowing(&mut domain, 20),
+        send_overflowing(&mut domain, 21),
+    ];
+    subscriber.close(&mut domain);
+    drop(domain);
+    assert!(rt; takers == [Some(1), Some(1)]);
 }
 
 // A loan's header and its cell are the same after an update.

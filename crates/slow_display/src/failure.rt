@@ -14,8 +14,6 @@ pub enum Failure {
     Subscriber(SubscriberCreateError),
     /// A reading isn't sent.
     Send(SendError),
-    /// A reading was given up at one display, and waits for another one.
-    StillBlocked,
     /// Nothing is received.
     Receive(ReceiveError),
     /// A line isn't printed.

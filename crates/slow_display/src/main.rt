@@ -4,8 +4,7 @@
 //! spends the blocked send by another try or by giving up. Nothing else is tested when it runs.
 #![tactic(auto)]
 
-ghost use Rattle.iox2_pubsub.specs.Live.{A_blocked_send, IsLiveSubscriber, IsReadyPublisher, IsSingleValued, StaysBut};
-ghost use Rattle.std.specs.Prelude.{OnOk};
+ghost use Rattle.iox2_pubsub.specs.Live.{IsLiveSubscriber, IsReadyPublisher, IsSingleValued, Stays};
 
 mod display;
 mod failure;
@@ -30,20 +29,16 @@ fn main(rt: HostRuntime) -> Result<(), Failure> {
     outcome
 }
 
-// Makes the thermometer's publisher, which waits for a full display as the settings say, and reports
-// with it. A publisher that waits is left so.
+// Makes the thermometer's publisher, which waits for a full display as the settings say, reports with
+// it and closes it.
 fn run(rt: &HostRuntime, domain: &mut Domain<u32, ()>, display: &Subscriber) -> Result<(), Failure>
     requires single_valued { IsSingleValued domain.old }
     requires display { IsLiveSubscriber domain.old display.now }
-    ensures { IsLiveSubscriber domain.new display.now }
+    ensures { Stays domain.old domain.new }
 {
     let publisher = domain.publisher_builder().create(domain)?;
     let outcome = report(rt, domain, &publisher, display);
-    if outcome.is_ok() {
-        publisher.close(domain);
-    } else {
-        publisher.disown();
-    }
+    publisher.close(domain);
     outcome
 }
 
@@ -58,8 +53,7 @@ fn report(
     requires single_valued { IsSingleValued domain.old }
     requires publisher { IsReadyPublisher domain.old publisher.now }
     requires display { IsLiveSubscriber domain.old display.now }
-    ensures ready { OnOk result (IsReadyPublisher domain.new publisher.now) }
-    ensures stays { StaysBut (A_blocked_send publisher.now.id) domain.old domain.new }
+    ensures { Stays domain.old domain.new }
 {
     send_all(rt, domain, publisher, display, &[17, 18, 19])?;
     send_some(domain, publisher, &[21, 22])?;
@@ -77,8 +71,7 @@ fn send_all(
     requires single_valued { IsSingleValued domain.old }
     requires publisher { IsReadyPublisher domain.old publisher.now }
     requires display { IsLiveSubscriber domain.old display.now }
-    ensures ready { OnOk result (IsReadyPublisher domain.new publisher.now) }
-    ensures stays { StaysBut (A_blocked_send publisher.now.id) domain.old domain.new }
+    ensures { Stays domain.old domain.new }
 {
     let Some(waiting) = send_until_full(domain, publisher, readings)? else {
         return Ok(());
@@ -96,8 +89,7 @@ fn send_some(
 ) -> Result<(), Failure>
     requires single_valued { IsSingleValued domain.old }
     requires publisher { IsReadyPublisher domain.old publisher.now }
-    ensures ready { OnOk result (IsReadyPublisher domain.new publisher.now) }
-    ensures stays { StaysBut (A_blocked_send publisher.now.id) domain.old domain.new }
+    ensures { Stays domain.old domain.new }
 {
     if let Some(waiting) = send_until_full(domain, publisher, readings)? {
         give_up(domain, waiting)?;

@@ -1,6 +1,7 @@
 //! Readings are sent to a display that may be full.
-ghost use Rattle.std.specs.Prelude.{◌≡◌, IfNone, IfOk, IfSome, MatchResult, OnOk};
-ghost use Rattle.iox2_pubsub.specs.Live.{A_blocked_send, IsBlockedSend, IsReadyPublisher, IsSingleValued, IsUnblocked, StaysBut, blocked_key, blocked_send, lender_key, publisher_key};
+ghost use Rattle.std.specs.Prelude.{◌≡◌, IfNone, IfOk, IfSome, MatchResult};
+ghost use Rattle.iox2_pubsub.specs.BlockedSends.{StaysSince};
+ghost use Rattle.iox2_pubsub.specs.Live.{A_blocked_send, IsBlockedSend, IsReadyPublisher, IsSingleValued, Stays, StaysBut, blocked_key, blocked_send, lender_key, publisher_key};
 
 use crate::failure::Failure;
 use iox2_pubsub::{BlockedSend, Domain, Publisher, SendOutcome};
@@ -15,8 +16,8 @@ pub fn send_until_full(
 ) -> Result<Option<BlockedSend>, Failure>
     requires single_valued { IsSingleValued domain.old }
     requires publisher { IsReadyPublisher domain.old publisher.now }
-    ensures waits { IfOk result (λ waiting. IfSome waiting (λ it. IsBlockedSend domain.new it × (lender_key (blocked_key it) ≡ publisher_key publisher.now))) }
-    ensures ready { MatchResult result (λ waiting. IfNone waiting (IsReadyPublisher domain.new publisher.now)) (λ _. IsReadyPublisher domain.new publisher.now) }
+    ensures waits { IfOk result (λ waiting. IfSome waiting (λ it. IsBlockedSend domain.new it × (lender_key (blocked_key it) ≡ publisher_key publisher.now) × (blocked_send it ≡ A_blocked_send publisher.now.id))) }
+    ensures sent { MatchResult result (λ waiting. IfNone waiting (Stays domain.old domain.new)) (λ _. Stays domain.old domain.new) }
     ensures stays { StaysBut (A_blocked_send publisher.now.id) domain.old domain.new }
 {
     for &celsius in readings {
@@ -28,12 +29,11 @@ pub fn send_until_full(
     Ok(None)
 }
 
-/// Tries the send again, and gives the display up where that is still full. Returns how many displays
-/// took the reading.
+/// Tries the send again, and gives up each display that is still full. Returns how many displays took
+/// the reading. What was there before the send blocked is there again.
 pub fn try_again(domain: &mut Domain<u32, ()>, waiting: BlockedSend) -> Result<usize, Failure>
     requires { IsBlockedSend domain.old waiting }
-    ensures unblocked { OnOk result (IsUnblocked domain.new (lender_key (blocked_key waiting))) }
-    ensures stays { StaysBut (blocked_send waiting) domain.old domain.new }
+    ensures { StaysSince waiting domain.old domain.new }
 {
     match waiting.retry(domain, Duration::ZERO)? {
         SendOutcome::Delivered(count) => Ok(count),
@@ -41,18 +41,17 @@ pub fn try_again(domain: &mut Domain<u32, ()>, waiting: BlockedSend) -> Result<u
     }
 }
 
-/// Gives the display up that the send waits for. Where it would wait for another one, it is left
-/// blocked, with its publisher. Returns how many displays took the reading.
+/// Gives up each display that the send waits for. Returns how many displays took the reading. What was
+/// there before the send blocked is there again.
 pub fn give_up(domain: &mut Domain<u32, ()>, waiting: BlockedSend) -> Result<usize, Failure>
     requires { IsBlockedSend domain.old waiting }
-    ensures unblocked { OnOk result (IsUnblocked domain.new (lender_key (blocked_key waiting))) }
-    ensures stays { StaysBut (blocked_send waiting) domain.old domain.new }
+    ensures { StaysSince waiting domain.old domain.new }
 {
-    match waiting.give_up(domain)? {
-        SendOutcome::Delivered(count) => Ok(count),
-        SendOutcome::Blocked(waiting) => {
-            waiting.disown();
-            Err(Failure::StillBlocked)
+    let mut blocked = waiting;
+    loop {
+        match blocked.give_up(domain)? {
+            SendOutcome::Delivered(count) => return Ok(count),
+            SendOutcome::Blocked(again) => blocked = again,
         }
     }
 }

@@ -1,5 +1,6 @@
 //! A blocked send is tried again, or given up.
-ghost use Rattle.std.specs.Prelude.{◌≡◌, IfErr, IfOk};
+ghost use Rattle.std.specs.Prelude.{◌≡◌, ◌≤◌, ◌<◌, IfErr, IfOk, IsOk};
+ghost use Rattle.iox2_pubsub.specs.BlockedSends.{StaysSince, receivers_ahead};
 ghost use Rattle.iox2_pubsub.specs.SendCalls.{IfBlocked, result_of_send};
 
 use crate::blocked_send::BlockedSend;
@@ -16,10 +17,11 @@ impl BlockedSend {
     ghost use Rattle.iox2_store.specs.machine.Records.{Publisher as Record, BlockedSend as Waiting};
     ghost use Rattle.iox2_store.specs.machine.Sends.{Retry, GiveUp};
     ghost use Rattle.iox2_store.specs.machine.State.{State, Messages};
-    ghost use Rattle.iox2_pubsub.specs.Live.{AddAtMost, IsBlockedSend, IsUnblocked, StaysBut, UpToDateStay, blocked_key, blocked_send, lender_key, written_key};
+    ghost use Rattle.iox2_pubsub.specs.Live.{AddAtMost, IsBlockedSend, IsUnblocked, NeverFails, StaysBut, UpToDateStay, blocked_key, blocked_send, lender_key, written_key};
     ghost use Rattle.iox2_pubsub.specs.LoansLeft.{HasOneMoreLeft, LoansLeftStay};
     ghost use Rattle.iox2_pubsub.specs.SendCalls.{IsDelivered};
     ghost use Rattle.iox2_pubsub.specs.declared.sample_mut.SampleMut.{SampleMut};
+    ghost use Rattle.iox2_domain.specs.Kept.{Kept};
     ghost use Rattle.iox2_domain.specs.Shows.{Shows};
 
     /// Tries the send again at the subscriber that it waits for, and goes on to those that remain.
@@ -41,6 +43,8 @@ impl BlockedSend {
         ensures retries { (m : Messages T U) (s : State T U) (x : Record) (b : Waiting) → Shows domain.old m s → s.publishers self.loan.publisher ≡ Some x → x.blocked ≡ Some b
             → (s' : State T U) × Shows domain.new m s' × Retry fixed_handlers s self.loan.publisher b elapsed s' (result_of_send result) }
         ensures blocked { IfOk result (λ outcome. IfBlocked outcome (λ blocked. IsBlockedSend domain.new blocked × (blocked_key blocked ≡ blocked_key self))) }
+        ensures no_more { IfOk result (λ outcome. IfBlocked outcome (λ blocked. receivers_ahead domain.new blocked ≤ receivers_ahead domain.old self)) }
+        ensures ok { NeverFails domain.old self.loan.publisher → IsOk result }
         ensures failed { IfErr result (λ error. error ≡ SendError.UnableToDeliver) }
         ensures freed { IfOk result IsDelivered → IsUnblocked domain.new (lender_key (blocked_key self)) }
         ensures loans_freed { IfOk result IsDelivered → (loan : SampleMut) → loan.loan.publisher ≡ self.loan.publisher → IsUnblocked domain.new (written_key loan) }
@@ -49,6 +53,8 @@ impl BlockedSend {
         ensures loans_left { LoansLeftStay domain.old domain.new }
         ensures given_back { IfOk result IsDelivered → HasOneMoreLeft self.loan.publisher domain.old domain.new }
         ensures stays { StaysBut (blocked_send self) domain.old domain.new }
+        ensures stays_since { IfOk result IsDelivered → StaysSince self domain.old domain.new }
+        ensures since_again { IfOk result (λ outcome. IfBlocked outcome (λ blocked. (after : Kept T U) → StaysSince blocked domain.new after → StaysSince self domain.old after)) }
     {
         let BlockedSend { service_id, loan } = self;
         let place = domain.state.find_live_publisher(loan.publisher, loan.place);
@@ -70,6 +76,8 @@ impl BlockedSend {
         ensures gives_up { (m : Messages T U) (s : State T U) (x : Record) (b : Waiting) → Shows domain.old m s → s.publishers self.loan.publisher ≡ Some x → x.blocked ≡ Some b
             → (s' : State T U) × Shows domain.new m s' × GiveUp fixed_handlers s self.loan.publisher b s' (result_of_send result) }
         ensures blocked { IfOk result (λ outcome. IfBlocked outcome (λ blocked. IsBlockedSend domain.new blocked × (blocked_key blocked ≡ blocked_key self))) }
+        ensures fewer { IfOk result (λ outcome. IfBlocked outcome (λ blocked. receivers_ahead domain.new blocked < receivers_ahead domain.old self)) }
+        ensures ok { NeverFails domain.old self.loan.publisher → IsOk result }
         ensures failed { IfErr result (λ error. error ≡ SendError.UnableToDeliver) }
         ensures freed { IfOk result IsDelivered → IsUnblocked domain.new (lender_key (blocked_key self)) }
         ensures loans_freed { IfOk result IsDelivered → (loan : SampleMut) → loan.loan.publisher ≡ self.loan.publisher → IsUnblocked domain.new (written_key loan) }
@@ -78,6 +86,8 @@ impl BlockedSend {
         ensures loans_left { LoansLeftStay domain.old domain.new }
         ensures given_back { IfOk result IsDelivered → HasOneMoreLeft self.loan.publisher domain.old domain.new }
         ensures stays { StaysBut (blocked_send self) domain.old domain.new }
+        ensures stays_since { IfOk result IsDelivered → StaysSince self domain.old domain.new }
+        ensures since_again { IfOk result (λ outcome. IfBlocked outcome (λ blocked. (after : Kept T U) → StaysSince blocked domain.new after → StaysSince self domain.old after)) }
     {
         let BlockedSend { service_id, loan } = self;
         let place = domain.state.find_live_publisher(loan.publisher, loan.place);

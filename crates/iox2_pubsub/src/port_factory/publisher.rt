@@ -1,5 +1,5 @@
 //! The factory of publishers.
-ghost use Rattle.std.specs.Prelude.{◌≡◌, ◌≤◌, ℕ, false, None, Some, IfOk, OnErr, MatchResult};
+ghost use Rattle.std.specs.Prelude.{◌≡◌, ◌≤◌, ℕ, true, false, None, Some, IfOk, OnErr, MatchResult};
 ghost use Rattle.iox2_store.specs.machine.Environments.{fixed_handlers};
 ghost use Rattle.iox2_store.specs.machine.Ports.{CreatePublisher};
 ghost use Rattle.iox2_store.specs.machine.State.{State, Messages};
@@ -133,6 +133,7 @@ impl PortFactoryPublisher {
             (λ e. CreatePublisher fixed_handlers s self s' (Some e)) }
         ensures ready { IfOk result (λ publisher. IsReadyPublisher domain.new publisher) }
         ensures discards { self.backpressure_strategy ≡ BackpressureStrategy.DiscardData → self.backpressure_handler ≡ None → IfOk result (λ publisher. NeverWaits domain.new (publisher_key publisher)) }
+        ensures overflows { (domain.old.config).enable_safe_overflow ≡ true → IfOk result (λ publisher. NeverWaits domain.new (publisher_key publisher)) }
         ensures never_fails { may_fail self.backpressure_handler ≡ false → IfOk result (λ publisher. NeverFails domain.new publisher.id) }
         ensures strategy { IfOk result (λ publisher. publisher.strategy ≡ self.backpressure_strategy) }
         ensures new { IfOk result (λ publisher. IsNewIn domain.old (publisher_port publisher)) }
@@ -167,6 +168,7 @@ pub(crate) fn create_plain<T: Drop, U: Default + Drop, F: BackpressureFn, G: Deg
         (λ e. CreatePublisher fixed_handlers s (static_publisher max_loaned_samples strategy (fixed_handler handler) initial_max_slice_len) s' (Some e)) }
     ensures ready { IfOk result (λ publisher. IsReadyPublisher domain.new publisher) }
     ensures discards { strategy ≡ BackpressureStrategy.DiscardData → fixed_handler handler ≡ None → IfOk result (λ publisher. NeverWaits domain.new (publisher_key publisher)) }
+    ensures overflows { (domain.old.config).enable_safe_overflow ≡ true → IfOk result (λ publisher. NeverWaits domain.new (publisher_key publisher)) }
     ensures never_fails { may_fail (fixed_handler handler) ≡ false → IfOk result (λ publisher. NeverFails domain.new publisher.id) }
     ensures strategy { IfOk result (λ publisher. publisher.strategy ≡ strategy) }
     ensures longest { IfOk result (λ publisher. publisher.initial_max_slice_len ≡ initial_max_slice_len) }

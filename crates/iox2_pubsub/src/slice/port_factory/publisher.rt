@@ -1,5 +1,5 @@
 //! The factory of publishers of slices.
-ghost use Rattle.std.specs.Prelude.{◌≡◌, ◌≤◌, false, None, Some, IfOk, OnErr, MatchResult};
+ghost use Rattle.std.specs.Prelude.{◌≡◌, ◌≤◌, true, false, None, Some, IfOk, OnErr, MatchResult};
 ghost use Rattle.iox2_store.specs.machine.Environments.{fixed_handlers};
 ghost use Rattle.iox2_store.specs.machine.Ports.{CreatePublisher};
 ghost use Rattle.iox2_store.specs.machine.State.{State, Messages};
@@ -152,6 +152,7 @@ impl PortFactoryPublisher {
             (λ e. CreatePublisher fixed_handlers s self s' (Some e)) }
         ensures ready { IfOk result (λ publisher. IsReadyPublisher domain.new publisher.publisher) }
         ensures discards { self.backpressure_strategy ≡ BackpressureStrategy.DiscardData → self.backpressure_handler ≡ None → IfOk result (λ publisher. NeverWaits domain.new (publisher_key publisher.publisher)) }
+        ensures overflows { (domain.old.config).enable_safe_overflow ≡ true → IfOk result (λ publisher. NeverWaits domain.new (publisher_key publisher.publisher)) }
         ensures never_fails { may_fail self.backpressure_handler ≡ false → IfOk result (λ publisher. NeverFails domain.new publisher.publisher.id) }
         ensures strategy { IfOk result (λ publisher. publisher.publisher.strategy ≡ self.backpressure_strategy) }
         ensures longest { IfOk result (λ publisher. publisher.publisher.initial_max_slice_len ≡ self.initial_max_slice_len) }

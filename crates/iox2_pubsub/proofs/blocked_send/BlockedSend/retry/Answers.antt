@@ -1,24 +1,26 @@
-use Rattle.std.proofs.Common.{◌≡◌, ℕ, ap, refl, sym, subst, ◌∙◌, None, Some}
-use Rattle.std.proofs.lemmas.Option.{same_Some}
+use Rattle.std.proofs.Common.{◌≡◌, ◌≤◌, ap, refl, sym, subst, ◌∙◌, None, Some}
 use Rattle.iox2_store.specs.machine.Environments.{fixed_handlers}
-use Rattle.iox2_store.specs.machine.Records.{Publisher, BlockedSend}
-use Rattle.iox2_store.specs.machine.Sends.{Retry, SendResult}
+use Rattle.iox2_store.specs.machine.Sends.{Retry}
 use Rattle.iox2_store.specs.machine.SingleCalls.{HoldsBlocked}
 use Rattle.iox2_store.specs.machine.State.{State}
 use Rattle.iox2_store.specs.declared.service_config.ServiceConfig.{ServiceConfig}
 use Rattle.iox2_laws.proofs.SendsRemain.{retry_waits_with}
 use Rattle.iox2_messages.specs.SendEnds.{end_result}
-use Rattle.iox2_domain.specs.Fields.{Fields, kept_of}
+use Rattle.iox2_domain.specs.Fields.{kept_of}
 use Rattle.iox2_domain.specs.Kept.{Kept, state_of}
-use Rattle.iox2_domain.specs.Shows.{Shows}
 use Rattle.iox2_domain.proofs.lemmas.slots.LeftConnections.{unknown, stands-nowhere}
 use Rattle.iox2_pubsub.specs.Live.{blocked_key, lender_key, written_key}
 use Rattle.iox2_pubsub.specs.SendCalls.{result_of_send}
 use Rattle.iox2_pubsub.proofs.BlockedShown.{has-blocked, as-machine, some-waits, retry-shown, retry-stays, retry-frees-key, only-undelivered}
 use Rattle.iox2_pubsub.proofs.CallsStay.{always-shown}
-use Rattle.iox2_pubsub.proofs.LiveParts.{blocked-parts, blocked-live}
+use Rattle.iox2_pubsub.proofs.LiveParts.{blocked-parts, blocked-live, unblocked-alike, unfailed-parts}
+use Rattle.iox2_pubsub.proofs.UnfailedSends.{IsMild, retry-unfailed}
 use Rattle.iox2_pubsub.proofs.LoansLeftShown.{retry-left, retry-gives, sent-free}
-use Rattle.iox2_pubsub.proofs.SendShown.{is-blocked}
+use Rattle.iox2_pubsub.proofs.ReceiversAhead.{retry-no-more, since-again, where-blocked}
+use Rattle.iox2_pubsub.specs.BlockedSends.{StaysSince, receivers_ahead}
+use Rattle.iox2_pubsub.specs.declared.blocked_send.BlockedSend.{BlockedSend as Handle}
+use Rattle.iox2_pubsub.proofs.SendShown.{is-blocked, only-ok}
+use Rattle.iox2_pubsub.proofs.StaysBut.{stays-since-block}
 use Rattle.iox2_pubsub.proofs.UpToDateShown.{retry-leaves}
 use Rattle.iox2_pubsub.proofs.WaitingShown.{retry-adds}
 use Rattle.iox2_pubsub.proofs.blocked_send.BlockedSend.retry.Goals as goal
@@ -52,7 +54,7 @@ returns-clause-retries g c = λ m s x b shown at waits.
     c.args.domain.now c.domain.view_is m s shown x b at waits
     (λ t q w. Retry fixed_handlers t q w c.args.elapsed after (end_result c.retry_send-end.result)) step.retries in (
       after,
-      retry-shown {T = g.row.T.Denot} {U = g.row.U.Denot} c.domain.inside.state c.retry_send-end.new.state c.args.domain.now c.domain.view_is m s shown c.args.self.loan.publisher (end_result c.retry_send-end.result) b c.args.elapsed
+      retry-shown {T = g.row.T.Denot} {U = g.row.U.Denot} c.domain.inside.state c.retry_send-end.new.state c.args.domain.now c.domain.view_is m s shown c.args.self.loan.publisher (end_result c.retry_send-end.result) x b at waits c.args.elapsed
           step.agrees machine step.entries,
       subst (Retry fixed_handlers s c.args.self.loan.publisher b c.args.elapsed after) (sym c.outcome_of.ensures.same) machine,
     )
@@ -66,7 +68,7 @@ returns-clause-stays g c =
     let d = some-waits c.domain.inside.state c.domain.invariant c.find_live_publisher-place.result c.args.self.loan.publisher c.args.self.loan.number c.find_live_publisher-place.ensures
     (subst (λ (k : Kept g.row.T.Denot g.row.U.Denot). HoldsBlocked (state_of k) c.args.self.loan.publisher c.args.self.loan.number) (sym c.domain.view_is) (blocked-parts c.args.domain.now (blocked_key c.args.self) c.requires).1) in
     let step = c.retry_send-end.ensures.goes c.find_live_publisher-place.ensures.0 (d).0 c.find_live_publisher-place.ensures.1 (d).1 in
-    retry-stays {T = g.row.T.Denot} {U = g.row.U.Denot} c.domain.inside.state c.retry_send-end.new.state c.args.domain.now c.domain.view_is it.0 it.1 it.2 c.args.self.loan.publisher (result_of_send c.outcome_of.result) held.1 c.args.elapsed
+    retry-stays {T = g.row.T.Denot} {U = g.row.U.Denot} c.domain.inside.state c.retry_send-end.new.state c.args.domain.now c.domain.view_is it.0 it.1 it.2 c.args.self.loan.publisher (result_of_send c.outcome_of.result) held.0 held.1 at held.3 c.args.elapsed
     step.agrees (subst (λ (t : State g.row.T.Denot g.row.U.Denot). Retry fixed_handlers it.1 c.args.self.loan.publisher held.1 c.args.elapsed t (result_of_send c.outcome_of.result)) (next.1).state next.2) step.entries
 
 pub returns-clause-blocked : goal.returns-clause-blocked
@@ -134,3 +136,40 @@ returns-clause-given_back g c = λ ends.
     let at = ap (λ (t : State g.row.T.Denot g.row.U.Denot). t.publishers c.args.self.loan.publisher) (it.2).state ∙ held.2 in
     let next = returns-clause-retries g c it.0 it.1 held.0 held.1 it.2 at held.3 in
     retry-gives {T = g.row.T.Denot} {U = g.row.U.Denot} c.args.domain.now (kept_of c.retry_send-end.new.state) it.0 it.0 it.1 next.0 it.2 next.1 c.args.self.loan.publisher held.0 held.1 at held.3 fixed_handlers c.args.elapsed (result_of_send c.outcome_of.result) (sent-free c.outcome_of.result ends) next.2
+
+pub returns-clause-stays_since : goal.returns-clause-stays_since
+returns-clause-stays_since g c = λ ends start free before.
+    let it = always-shown {T = g.row.T.Denot} {U = g.row.U.Denot} c.domain.inside.state c.args.domain.now c.domain.invariant c.domain.view_is in
+    let held = (blocked-parts c.args.domain.now (blocked_key c.args.self) c.requires).1 in
+    let at = ap (λ (t : State g.row.T.Denot g.row.U.Denot). t.publishers c.args.self.loan.publisher) (it.2).state ∙ held.2 in
+    let next = returns-clause-retries g c it.0 it.1 held.0 held.1 it.2 at held.3 in
+    stays-since-block c.args.self.loan.publisher start c.args.domain.now _ (λ key its. unblocked-alike start (lender_key (blocked_key c.args.self)) key its free) before (returns-clause-stays g c)
+    (retry-frees-key {T = g.row.T.Denot} {U = g.row.U.Denot} (kept_of c.retry_send-end.new.state) it.0 it.1 next.0 next.1 c.args.self.loan.publisher held.0 held.1 at (result_of_send c.outcome_of.result) (sent-free c.outcome_of.result ends) c.args.elapsed next.2)
+
+pub returns-clause-no_more : goal.returns-clause-no_more
+returns-clause-no_more g c =
+    let it = always-shown {T = g.row.T.Denot} {U = g.row.U.Denot} c.domain.inside.state c.args.domain.now c.domain.invariant c.domain.view_is in
+    let held = (blocked-parts c.args.domain.now (blocked_key c.args.self) c.requires).1 in
+    let at = ap (λ (t : State g.row.T.Denot g.row.U.Denot). t.publishers c.args.self.loan.publisher) (it.2).state ∙ held.2 in
+    let next = returns-clause-retries g c it.0 it.1 held.0 held.1 it.2 at held.3 in
+    where-blocked (λ (again : Handle). receivers_ahead (kept_of c.retry_send-end.new.state) again ≤ receivers_ahead c.args.domain.now c.args.self) c.args.self c.outcome_of.result c.outcome_of.ensures.blocked (λ waits.
+    retry-no-more {T = g.row.T.Denot} {U = g.row.U.Denot} c.args.domain.now (kept_of c.retry_send-end.new.state) c.args.self held it.1 next.0 (it.2).state (next.1).state fixed_handlers (result_of_send c.outcome_of.result) waits c.args.elapsed next.2)
+
+pub returns-clause-ok : goal.returns-clause-ok
+returns-clause-ok g c = λ never.
+    let it = always-shown {T = g.row.T.Denot} {U = g.row.U.Denot} c.domain.inside.state c.args.domain.now c.domain.invariant c.domain.view_is in
+    let held = (blocked-parts c.args.domain.now (blocked_key c.args.self) c.requires).1 in
+    let at = ap (λ (t : State g.row.T.Denot g.row.U.Denot). t.publishers c.args.self.loan.publisher) (it.2).state ∙ held.2 in
+    let next = returns-clause-retries g c it.0 it.1 held.0 held.1 it.2 at held.3 in
+    let has = unfailed-parts c.args.domain.now c.args.self.loan.publisher never in
+    let mild : IsMild it.1 c.args.self.loan.publisher = subst (λ (t : State g.row.T.Denot g.row.U.Denot). IsMild t c.args.self.loan.publisher) (sym (it.2).state) has.1 in
+    only-ok c.retry_send-end.result c.retry_send-end.ensures.kept (λ failed.
+    (retry-unfailed {T = g.row.T.Denot} {U = g.row.U.Denot} fixed_handlers it.1 c.args.self.loan.publisher held.1 c.args.elapsed next.0 (result_of_send c.outcome_of.result) mild (has.2 held.0 held.1 held.2 held.3) next.2).1
+    (c.outcome_of.ensures.same ∙ failed))
+    c.outcome_of.result c.outcome_of.ensures.same
+
+pub returns-clause-since_again : goal.returns-clause-since_again
+returns-clause-since_again g c =
+    where-blocked (λ (again : Handle). (after : Kept g.row.T.Denot g.row.U.Denot) → StaysSince again (kept_of c.retry_send-end.new.state) after → StaysSince c.args.self c.args.domain.now after)
+    c.args.self c.outcome_of.result c.outcome_of.ensures.blocked (λ waits.
+    since-again {T = g.row.T.Denot} {U = g.row.U.Denot} c.args.domain.now (kept_of c.retry_send-end.new.state) c.args.self (returns-clause-stays g c))

@@ -9,7 +9,7 @@ use Rattle.iox2_domain.specs.Fields.{kept_of}
 use Rattle.iox2_domain.specs.NewPublisher.{static_publisher}
 use Rattle.iox2_domain.specs.Handlers.{fixed_handler}
 use Rattle.iox2_domain.specs.Shows.{Shows}
-use Rattle.iox2_pubsub.proofs.PublishersShown.{created-shows, created-ready, created-never-fails, created-never-waits}
+use Rattle.iox2_pubsub.proofs.PublishersShown.{created-shows, created-ready, created-never-fails, created-never-waits, created-overflows}
 use Rattle.iox2_pubsub.proofs.CallsStay.{always-shown, publisher-creation-stays, publisher-is-new}
 use Rattle.iox2_pubsub.proofs.WaitingShown.{publisher-refused, publisher-no-fewer}
 use Rattle.iox2_pubsub.proofs.LoansLeftShown.{publisher-creation-left, created-left}
@@ -51,6 +51,13 @@ returns-clause-discards g c = λ discards none.
     created-never-waits {T = g.row.T.Denot} {U = g.row.U.Denot} c.domain.inside.state c.create_publisher.new.state c.args.max_loaned_samples c.args.strategy (fixed_handler c.args.handler) c.args.initial_max_slice_len fixed_handlers made.0 made.1 made.2
     (record { service_id = c.config.result.now.service_id; id = c.in_ok-port.port.id; place = c.in_ok-port.port.place; strategy = c.args.strategy; initial_max_slice_len = c.args.initial_max_slice_len })
     c.in_ok-port.ensures.id discards none
+
+pub returns-clause-overflows : goal.returns-clause-overflows
+returns-clause-overflows g c = λ over.
+    let made = c.in_ok-port.ensures.step in
+    created-overflows {T = g.row.T.Denot} {U = g.row.U.Denot} c.domain.inside.state c.create_publisher.new.state c.args.max_loaned_samples c.args.strategy (fixed_handler c.args.handler) c.args.initial_max_slice_len fixed_handlers made.0 made.1 made.2
+    (record { service_id = c.config.result.now.service_id; id = c.in_ok-port.port.id; place = c.in_ok-port.port.place; strategy = c.args.strategy; initial_max_slice_len = c.args.initial_max_slice_len })
+    c.in_ok-port.ensures.id (ap (λ (k : Kept g.row.T.Denot g.row.U.Denot). (k.config).enable_safe_overflow) c.domain.view_is ∙ over)
 
 pub returns-clause-never_fails : goal.returns-clause-never_fails
 returns-clause-never_fails g c = λ none.

@@ -3,6 +3,8 @@ use Rattle.std.proofs.lemmas.Result.{err_from_is_err_and}
 use Rattle.iox2_store.specs.declared.key.Key.{Key}
 use Rattle.iox2_store.specs.machine.Loans.{written}
 use Rattle.iox2_store.specs.machine.State.{State}
+use Rattle.iox2_pubsub.specs.Live.{written_key}
+use Rattle.iox2_pubsub.proofs.SendShown.{whose-blocked}
 use Rattle.iox2_pubsub.proofs.WrittenLoanCalls.{with_value, written-out, copy-sent, written-refused}
 use Rattle.iox2_pubsub.proofs.publisher.Publisher.send_copy.Goals as goal
 
@@ -41,3 +43,7 @@ returns-clause-sends g c = λ m s shown.
 
 pub send-requires-clause-unblocked : goal.send-requires-clause-unblocked
 send-requires-clause-unblocked g c = c.write_payload.ensures.unblocked c.in_ok-loan.ensures.unblocked
+
+pub returns-clause-whose : goal.returns-clause-whose
+returns-clause-whose g c =
+    whose-blocked _ (written_key c.write_payload.result) c.args.self.now.id (ap (λ (k : Key). k.port) c.write_payload.ensures.key ∙ c.in_ok-loan.ensures.publisher) c.send.result c.send.ensures.blocked

@@ -1,4 +1,4 @@
-use Rattle.std.proofs.Common.{◌≡◌, ℕ, false, ap, sym, subst, ◌∙◌, refl}
+use Rattle.std.proofs.Common.{inl, inr, ◌≡◌, ℕ, false, ap, sym, subst, ◌∙◌, refl}
 use Rattle.iox2_store.specs.machine.State.{is_blocked}
 use Rattle.iox2_store.specs.machine.SingleCalls.{HoldsBlocked}
 use Rattle.iox2_store.specs.declared.service_config.ServiceConfig.{ServiceConfig}
@@ -18,7 +18,8 @@ use Rattle.iox2_pubsub.proofs.SendShown.{machine-sends, only-ok, only-error, han
 use Rattle.iox2_pubsub.specs.Live.{lender_key, written_key}
 use Rattle.iox2_pubsub.specs.SendCalls.{result_of_send}
 use Rattle.iox2_pubsub.proofs.CallsStay.{always-shown, sent-stays, send-spends}
-use Rattle.iox2_pubsub.proofs.LiveParts.{publisher-parts, written-parts, unblocked-parts, unblocked-test, discards-parts, blocked-live}
+use Rattle.iox2_pubsub.proofs.LiveParts.{publisher-parts, written-parts, unblocked-parts, unblocked-test, passes-parts, blocked-live}
+use Rattle.iox2_pubsub.proofs.OverflowSends.{overflowing-send}
 use Rattle.iox2_pubsub.proofs.WaitingShown.{send-adds, send-brings}
 use Rattle.iox2_pubsub.proofs.UpToDateShown.{send-leaves}
 use Rattle.iox2_pubsub.proofs.LoansLeftShown.{send-left, send-gives, sent-free}
@@ -64,9 +65,9 @@ returns-clause-ok g c = λ lent never.
     (c.send_loan.ensures.kept
     (subst (λ (k : Kept g.row.T.Denot g.row.U.Denot). HoldsPublisher (state_of k) c.args.self.loan.publisher) (sym c.domain.view_is)
     (publisher-parts c.args.domain.now (lender_key (written_key c.args.self)) lent).2))
-    (c.send_loan.ensures.sends.unfailed
-    (never-fails-here {T = g.row.T.Denot} {U = g.row.U.Denot} c.args.domain.now c.domain.inside.state c.domain.view_is c.args.self.loan.publisher never c.send_loan.ensures.sends.loan
-    (ap (λ (l : Loan g.row.T.Denot g.row.U.Denot). l.publisher) (same_Some _ before.0 (sym c.send_loan.ensures.sends.out ∙ before.1)) ∙ before.2)))
+    (never-fails-here {T = g.row.T.Denot} {U = g.row.U.Denot} c.args.domain.now c.domain.inside.state c.send_loan.new.state c.domain.view_is c.args.self.loan.number c.args.self.loan.publisher never
+    (end_result c.send_loan.result) c.send_loan.ensures.sends
+    (ap (λ (l : Loan g.row.T.Denot g.row.U.Denot). l.publisher) (same_Some _ before.0 (sym c.send_loan.ensures.sends.out ∙ before.1)) ∙ before.2))
     c.outcome_of.result c.outcome_of.ensures.same
 
 pub returns-clause-failed : goal.returns-clause-failed
@@ -97,11 +98,15 @@ returns-clause-delivered g c = λ never.
     let has = (written-parts c.args.domain.now c.args.self c.requires.live).1 in
     let out = ap (λ (t : State g.row.T.Denot g.row.U.Denot). t.loans c.args.self.loan.number) (it.2).state ∙ has.1 in
     let step = returns-clause-sent g c it.0 it.1 has.0 it.2 out in
-    is-delivered c.outcome_of.result (λ blocked.
-    never-blocked {T = g.row.T.Denot} {U = g.row.U.Denot} fixed_handlers it.1 c.args.self.loan.number has.0 step.0 ((it.2).well_formed.loans c.args.self.loan.number has.0 out).known
-    (λ x at. (discards-parts c.args.domain.now (written_key c.args.self) never.discards).1 x
-    (sym (ap (λ (t : State g.row.T.Denot g.row.U.Denot). t.publishers c.args.self.loan.publisher) (it.2).state) ∙ ap (it.1).publishers (sym has.2) ∙ at))
-    (subst (Send fixed_handlers it.1 c.args.self.loan.number has.0 step.0) blocked step.2))
+    is-delivered c.outcome_of.result (elim (passes-parts c.args.domain.now (written_key c.args.self) never.passes).1 [
+      | inl over ↦ (overflowing-send {T = g.row.T.Denot} {U = g.row.U.Denot} fixed_handlers it.1 c.args.self.loan.number has.0 step.0 (result_of_send c.outcome_of.result)
+          (ap (λ (t : State g.row.T.Denot g.row.U.Denot). (t.config).enable_safe_overflow) (it.2).state ∙ over) step.2).0
+      | inr discards ↦ λ blocked.
+          never-blocked {T = g.row.T.Denot} {U = g.row.U.Denot} fixed_handlers it.1 c.args.self.loan.number has.0 step.0 ((it.2).well_formed.loans c.args.self.loan.number has.0 out).known
+          (λ x at. discards x
+          (sym (ap (λ (t : State g.row.T.Denot g.row.U.Denot). t.publishers c.args.self.loan.publisher) (it.2).state) ∙ ap (it.1).publishers (sym has.2) ∙ at))
+          (subst (Send fixed_handlers it.1 c.args.self.loan.number has.0 step.0) blocked step.2)
+    ])
 
 pub returns-clause-blocked : goal.returns-clause-blocked
 returns-clause-blocked g c =
@@ -125,7 +130,8 @@ returns-clause-gone g c = λ never.
     let its = ap (λ (l : Loan g.row.T.Denot g.row.U.Denot). l.publisher) (same_Some _ before.0 (sym c.send_loan.ensures.sends.out ∙ before.1)) ∙ before.2 in
     only-error {T = g.row.T.Denot} {U = g.row.U.Denot} c.domain.inside.state c.send_loan.new.state c.args.self.loan.number c.args.self.loan.publisher c.send_loan.result c.send_loan.ensures.kept
     c.send_loan.ensures.sends its
-    (never-fails-here {T = g.row.T.Denot} {U = g.row.U.Denot} c.args.domain.now c.domain.inside.state c.domain.view_is c.args.self.loan.publisher never c.send_loan.ensures.sends.loan its)
+    (never-fails-here {T = g.row.T.Denot} {U = g.row.U.Denot} c.args.domain.now c.domain.inside.state c.send_loan.new.state c.domain.view_is c.args.self.loan.number c.args.self.loan.publisher never
+    (end_result c.send_loan.result) c.send_loan.ensures.sends its)
     c.outcome_of.result c.outcome_of.ensures.same
 
 pub returns-clause-adds : goal.returns-clause-adds
