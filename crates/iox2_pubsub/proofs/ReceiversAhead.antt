@@ -115,4 +115,5 @@ where-blocked P blocked (Err error) is holds = tt
 
 -- where it is blocked again, what was there before it blocked is there when that has ended
 pub since-again : {T U : Type 0} (old new : Kept T U) (blocked : Handle) → StaysBut (blocked_send blocked) old new → (after : Kept T U) → StaysSince blocked new after → StaysSince blocked old after
+unfolding StaysSince
 since-again old new blocked stays after since before unwaiting stood = since before unwaiting (stays-twice (blocked_send blocked) before old new stood stays)

@@ -20,5 +20,5 @@ module _ {T U : Type 0} where
 
   -- What was live before a send blocked is live and reads as it did then: before means a state in which no send of its publisher
   -- was blocked, and from which all but the blocked send stayed.
-  abbrev pub StaysSince : BlockedSend → (old new : Kept T U) → Type 0
+  unfoldable pub StaysSince : BlockedSend → (old new : Kept T U) → Type 0
   StaysSince blocked old new = (before : Kept T U) → IsUnblocked before (lender_key (blocked_key blocked)) → StaysBut (blocked_send blocked) before old → Stays before new

@@ -138,6 +138,7 @@ returns-clause-given_back g c = λ ends.
     give-up-gives {T = g.row.T.Denot} {U = g.row.U.Denot} c.args.domain.now (kept_of c.give_up_send-end.new.state) it.0 it.0 it.1 next.0 it.2 next.1 c.args.self.loan.publisher held.0 held.1 at held.3 fixed_handlers (result_of_send c.outcome_of.result) (sent-free c.outcome_of.result ends) next.2
 
 pub returns-clause-stays_since : goal.returns-clause-stays_since
+unfolding StaysSince
 returns-clause-stays_since g c = λ ends start free before.
     let it = always-shown {T = g.row.T.Denot} {U = g.row.U.Denot} c.domain.inside.state c.args.domain.now c.domain.invariant c.domain.view_is in
     let held = (blocked-parts c.args.domain.now (blocked_key c.args.self) c.requires).1 in
