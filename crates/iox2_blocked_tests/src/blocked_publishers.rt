@@ -1,13 +1,13 @@
 //! What goes on while a publisher waits for a full subscriber.
 ghost use Rattle.std.specs.Prelude.{◌≡◌};
-ghost use Rattle.iox2_pubsub.specs.Live.{IsLiveSubscriber, IsSingleValued, IsUnblocked, IsWritten, StaysBut, written_key, written_loan};
+ghost use Rattle.iox2_pubsub.specs.Live.{IsLiveSubscriber, IsSingleValued, IsUnblocked, IsUnwritten, IsWritten, StaysBut, unwritten_key, unwritten_loan, written_key, written_loan};
 
 use crate::waiting_publishers::{
     blocked, delivered, next_reading, next_readings, subscriber_of, waiting_domain,
     waiting_publisher,
 };
 use iox2_fixtures::{Reading, Station, factory_for, publish};
-use iox2_pubsub::{Domain, SampleMut, Subscriber};
+use iox2_pubsub::{Domain, SampleMut, SampleMutUninit, Subscriber};
 use iox2_store::BackpressureStrategy;
 use std::process::Abort;
 use std::time::Duration;
@@ -78,6 +78,26 @@ fn change(domain: &mut Domain<Reading, Station>, message: &mut SampleMut, celsiu
     SampleMut::user_header_mut(domain, message).number = number;
 }
 
+// Writes the loan, and then sets its reading and the number of its station. Returns the message and
+// that number.
+fn write_and_change(
+    domain: &mut Domain<Reading, Station>,
+    loan: SampleMutUninit,
+    celsius: u64,
+    number: u32,
+) -> (SampleMut, u32)
+    requires single_valued { IsSingleValued domain.old }
+    requires loan { IsUnwritten domain.old loan }
+    ensures out { IsWritten domain.new result.0 }
+    ensures key { written_key result.0 ≡ unwritten_key loan }
+    ensures stays { StaysBut (unwritten_loan loan) domain.old domain.new }
+{
+    let mut message = loan.write_payload(domain, Reading { celsius: 0 });
+    change(domain, &mut message, celsius, number);
+    let station = message.user_header(domain).number;
+    (message, station)
+}
+
 // Sends the message, and reads what the subscriber receives next. Returns how many took it, too.
 fn send_and_read(
     rt: &impl Abort,
@@ -110,9 +130,7 @@ fn loans_of_a_blocked_publisher_are_written_and_given_back(rt: HostRuntime) {
     let message = loan.write_payload(&mut domain, Reading { celsius: 21 });
     let waiting = blocked(&rt, message.send(&mut domain));
     spare.discard(&mut domain);
-    let mut message = later.write_payload(&mut domain, Reading { celsius: 22 });
-    change(&mut domain, &mut message, 23, 5);
-    let station = message.user_header(&domain).number;
+    let (message, station) = write_and_change(&mut domain, later, 23, 5);
     let before = message.is_blocked(&domain);
     let read = next_reading(&rt, &mut domain, &subscriber);
     let second = delivered(&rt, waiting.retry(&mut domain, Duration::ZERO));

@@ -21,11 +21,12 @@ use Rattle.iox2_store.specs.declared.key.Key.{Key}
 use Rattle.iox2_laws.proofs.Waits.{waits_trans, update_publisher_waits, published_waits}
 use Rattle.iox2_domain.proofs.lemmas.sends.DeliverySteps.{never-waits}
 use Rattle.iox2_domain.specs.Kept.{Kept}
-use Rattle.iox2_pubsub.specs.Live.{A_blocked_send, IsBlockedSend, NeverFails, blocked_key, blocked_send}
+use Rattle.iox2_pubsub.specs.Live.{A_blocked_send, HasLender, IsBlockedSend, NeverFails, blocked_key, blocked_send}
 use Rattle.iox2_pubsub.proofs.LiveParts.{unfailed-parts}
 use Rattle.iox2_pubsub.proofs.OverflowSends.{overflowing-send}
 use Rattle.iox2_pubsub.proofs.SentMessages.{after-error}
 use Rattle.iox2_pubsub.specs.declared.blocked_send.BlockedSend.{BlockedSend}
+use Rattle.iox2_pubsub.specs.declared.publisher.Publisher.{Publisher as Handle}
 use Rattle.iox2_pubsub.specs.declared.send_outcome.SendOutcome.TheVariants.{Delivered, Blocked}
 use Rattle.iox2_store.specs.machine.State.{State, Messages, receiving_buffer}
 use Rattle.iox2_laws.proofs.Puts.{put_at-same, put_at-other}
@@ -38,7 +39,7 @@ use Rattle.iox2_messages.specs.declared.send_end.SendEnd.{SendEnd}
 use Rattle.iox2_domain.specs.Shows.{Shows}
 use Rattle.std.specs.declared.result.Result.{Result}
 use Rattle.std.specs.declared.result.Result.TheVariants.{Ok, Err}
-use Rattle.iox2_pubsub.specs.SendCalls.{IsDelivered, IfBlocked, messages_after, result_of_send}
+use Rattle.iox2_pubsub.specs.SendCalls.{FailsCopy, FailsSend, IsDelivered, IfBlocked, messages_after, result_of_send}
 use Rattle.iox2_pubsub.specs.declared.send_outcome.SendOutcome.{SendOutcome}
 use Rattle.iox2_pubsub.specs.declared.send_outcome.SendOutcome.TheVariants.{Delivered}
 
@@ -228,3 +229,40 @@ pub whose-blocked : {T U : Type 0} (kept : Kept T U) (key : Key) (id : ℕ) → 
 whose-blocked kept key id its (Ok (Delivered count)) is = tt
 whose-blocked kept key id its (Ok (Blocked it)) is = ap (λ (k : Key). A_blocked_send k.port) is.1 ∙ ap A_blocked_send its
 whose-blocked kept key id its (Err error) is = tt
+
+-- ---- why a send fails
+
+-- an error isn't both
+lost-or-failed : {A : Type 0} (error : SendError) → error ≡ ConnectionBrokenSinceSenderNoLongerExists → error ≡ UnableToDeliver → A
+lost-or-failed error lost failed =
+    let clash : ConnectionBrokenSinceSenderNoLongerExists ≡ UnableToDeliver = sym lost ∙ failed in absurd cc
+
+-- a send fails since its publisher is gone, or a handler of it fails the send
+pub fails-send : {T U : Type 0} (domain : Kept T U) (key : Key) (outcome : Result SendOutcome SendError)
+    → IfErr outcome (λ error. (error ≡ ConnectionBrokenSinceSenderNoLongerExists) ⊎ (error ≡ UnableToDeliver))
+    → (HasLender domain key → IfErr outcome (λ error. error ≡ UnableToDeliver))
+    → (NeverFails domain key.port → IfErr outcome (λ error. error ≡ ConnectionBrokenSinceSenderNoLongerExists)) → IfErr outcome (FailsSend domain key)
+unfolding FailsSend
+fails-send domain key (Ok came) either there gone = tt
+fails-send domain key (Err error) either there gone = elim either [
+  | inl lost ↦ inl (lost, λ lent. lost-or-failed error lost (there lent))
+  | inr failed ↦ inr (failed, λ never. lost-or-failed error (gone never) failed)
+]
+
+-- while the publisher is there, a handler fails it
+pub fails-there : {T U : Type 0} (domain : Kept T U) (key : Key) → HasLender domain key → (outcome : Result SendOutcome SendError) → IfErr outcome (FailsSend domain key)
+    → IfErr outcome (λ error. error ≡ UnableToDeliver)
+unfolding FailsSend
+fails-there domain key lent (Ok came) fails = tt
+fails-there domain key lent (Err error) fails = elim fails [ inl lost ↦ absurd (lost.1 lent) | inr failed ↦ failed.0 ]
+
+-- so it is of a copy that was lent
+pub fails-copy : {T U : Type 0} (domain mid : Kept T U) (publisher : Handle) (key : Key) → key.port ≡ publisher.id → HasLender mid key
+    → (NeverFails domain publisher.id → NeverFails mid publisher.id) → (outcome : Result SendOutcome SendError) → IfErr outcome (FailsSend mid key)
+    → IfErr outcome (FailsCopy domain publisher)
+unfolding FailsSend FailsCopy
+fails-copy domain mid publisher key its lent stays (Ok came) fails = tt
+fails-copy domain mid publisher key its lent stays (Err error) fails = elim fails [
+  | inl lost ↦ absurd (lost.1 lent)
+  | inr failed ↦ inr (failed.0, λ never. failed.1 (subst (NeverFails mid) (sym its) (stays never)))
+]

@@ -1,5 +1,5 @@
 -- A send, by its outcome.
-use Rattle.std.specs.Prelude.{ℕ, Bool, true, false}
+use Rattle.std.specs.Prelude.{ℕ, Bool, true, false, ◌≡◌, ◌⊎◌}
 use Rattle.std.specs.declared.option.Option.TheVariants.{Some}
 use Rattle.std.specs.declared.result.Result.{Result}
 use Rattle.std.specs.declared.result.Result.TheVariants.{Ok, Err}
@@ -10,13 +10,16 @@ use Rattle.iox2_store.specs.machine.Records.{Loan}
 use Rattle.iox2_store.specs.machine.Sends.{SendResult, Delivered_to, Blocked_send, Send_error, Send}
 use Rattle.iox2_store.specs.machine.State.{State, Messages}
 use Rattle.iox2_store.specs.declared.errors.SendError.{SendError}
-use Rattle.iox2_store.specs.declared.errors.SendError.TheVariants.{UnableToDeliver}
+use Rattle.iox2_store.specs.declared.errors.LoanError.{LoanError}
+use Rattle.iox2_store.specs.declared.errors.SendError.TheVariants.{ConnectionBrokenSinceSenderNoLongerExists, UnableToDeliver, LoanError as Not_lent}
+use Rattle.iox2_store.specs.declared.key.Key.{Key}
+use Rattle.iox2_domain.specs.Kept.{Kept}
 use Rattle.iox2_pubsub.specs.declared.send_outcome.SendOutcome.{SendOutcome}
 use Rattle.iox2_pubsub.specs.declared.send_outcome.SendOutcome.TheVariants.{Delivered, Blocked}
 use Rattle.iox2_pubsub.specs.declared.blocked_send.BlockedSend.{BlockedSend}
 use Rattle.iox2_pubsub.specs.declared.sample_mut.SampleMut.{SampleMut}
 use Rattle.iox2_pubsub.specs.declared.publisher.Publisher.{Publisher}
-use Rattle.iox2_pubsub.specs.Live.{Item, A_sent_loan, A_sent_copy}
+use Rattle.iox2_pubsub.specs.Live.{Item, A_sent_loan, A_sent_copy, HasLender, NeverFails}
 
 -- The machine's result of a send.
 abbrev pub sent_result : SendOutcome → SendResult
@@ -61,3 +64,13 @@ abbrev pub messages_after : {T U : Type 0} → Messages T U → (n : ℕ) → Lo
 messages_after m n l (Ok outcome) = put_at m n (Some (entry_of l))
 messages_after m n l (Err UnableToDeliver) = put_at m n (Some (entry_of l))
 messages_after m n l (Err error) = m
+
+module _ {T U : Type 0} (domain : Kept T U) where
+  -- Why a send of the loan with this key fails: its publisher is gone, or a handler of it fails the send at some subscriber.
+  unfoldable pub FailsSend : Key → SendError → Type 0
+  FailsSend key error =
+      ((error ≡ ConnectionBrokenSinceSenderNoLongerExists) × (HasLender domain key → ⊥)) ⊎ ((error ≡ UnableToDeliver) × (NeverFails domain key.port → ⊥))
+
+  -- Why the publisher's copy isn't sent: it isn't lent, for this reason, or a handler fails its send at some subscriber.
+  unfoldable pub FailsCopy : Publisher → SendError → Type 0
+  FailsCopy publisher error = ((reason : LoanError) × (error ≡ Not_lent reason)) ⊎ ((error ≡ UnableToDeliver) × (NeverFails domain publisher.id → ⊥))

@@ -12,7 +12,7 @@ impl Publisher {
     ghost use Rattle.iox2_domain.specs.Shows.{Shows};
     ghost use Rattle.iox2_pubsub.specs.Live.{A_blocked_send, AddAtMost, IsBlockedSend, IsReadyPublisher, IsSingleValued, NeverFails, NeverWaits, StaysBut, UpToDateStay, blocked_key, blocked_send, lender_key, publisher_key};
     ghost use Rattle.iox2_pubsub.specs.LoansLeft.{HasLoansLeft, HasNumbersLeft, TakesOneLeft};
-    ghost use Rattle.iox2_pubsub.specs.SendCalls.{IfBlocked, IsDelivered, spent_by_copy};
+    ghost use Rattle.iox2_pubsub.specs.SendCalls.{FailsCopy, IfBlocked, IsDelivered, spent_by_copy};
     ghost use Rattle.iox2_pubsub.specs.WrittenLoans.{SendsCopy};
 
     /// Lends a message, moves the value into it, and sends it, as `send` does. Refused as
@@ -32,8 +32,7 @@ impl Publisher {
         ensures delivered { NeverWaits domain.old (publisher_key self.now) → IfOk result IsDelivered }
         ensures blocked { IfOk result (λ outcome. IfBlocked outcome (λ blocked. IsBlockedSend domain.new blocked × (lender_key (blocked_key blocked) ≡ publisher_key self.now))) }
         ensures whose { IfOk result (λ outcome. IfBlocked outcome (λ blocked. blocked_send blocked ≡ A_blocked_send self.now.id)) }
-        ensures refused { NeverFails domain.old self.now.id → IfErr result (λ error. (reason : LoanError) × (error ≡ SendError.LoanError reason)) }
-        ensures errors { IfErr result (λ error. (error ≡ SendError.UnableToDeliver) ⊎ ((reason : LoanError) × (error ≡ SendError.LoanError reason))) }
+        ensures errors { IfErr result (FailsCopy domain.old self.now) }
         ensures adds { AddAtMost ((domain.old.config).history_size + 1) domain.old domain.new }
         ensures up_to_date { UpToDateStay domain.old domain.new }
         ensures granted { (loans numbers : ℕ) → HasLoansLeft domain.old self.now (loans + 1) → HasNumbersLeft domain.old (numbers + 1)

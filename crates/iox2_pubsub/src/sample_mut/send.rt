@@ -18,7 +18,7 @@ impl SampleMut {
     ghost use Rattle.iox2_pubsub.specs.Live.{HasLender, IsBlockedSend, IsLoanKey, IsUnblocked, IsWritten, NeverFails, NeverWaits, StaysBut, blocked_key, written_key, AddAtMost, AreAllSlices, UpToDateStay, payloads, waiting};
     ghost use Rattle.iox2_pubsub.specs.LoansLeft.{HasOneMoreLeft, LoansLeftStay};
     ghost use Rattle.iox2_pubsub.specs.Slices.{HasValues};
-    ghost use Rattle.iox2_pubsub.specs.SendCalls.{IsDelivered, Sends, messages_after, spent_by_send};
+    ghost use Rattle.iox2_pubsub.specs.SendCalls.{FailsSend, IsDelivered, Sends, messages_after, spent_by_send};
     ghost use Rattle.iox2_pubsub.specs.declared.subscriber.Subscriber.{Subscriber};
     ghost use Rattle.iox2_domain.specs.Shows.{Shows};
 
@@ -44,9 +44,7 @@ impl SampleMut {
         requires live { IsWritten domain.old self }
         requires unblocked { IsUnblocked domain.old (written_key self) }
         ensures ok { HasLender domain.old (written_key self) → NeverFails domain.old self.loan.publisher → IsOk result }
-        ensures gone { NeverFails domain.old self.loan.publisher → IfErr result (λ error. error ≡ SendError.ConnectionBrokenSinceSenderNoLongerExists) }
-        ensures failed { HasLender domain.old (written_key self) → IfErr result (λ error. error ≡ SendError.UnableToDeliver) }
-        ensures errors { IfErr result (λ error. (error ≡ SendError.ConnectionBrokenSinceSenderNoLongerExists) ⊎ (error ≡ SendError.UnableToDeliver)) }
+        ensures errors { IfErr result (FailsSend domain.old (written_key self)) }
         ensures sent { (m : Messages T U) (s : State T U) (l : Loan T U) → Shows domain.old m s → s.loans self.loan.number ≡ Some l
             → (s' : State T U) × Shows domain.new (messages_after m self.loan.number l result) s' × Sends s self.loan.number l result s' }
         ensures delivered { NeverWaits domain.old (written_key self) → IfOk result IsDelivered }

@@ -26,7 +26,7 @@ impl SampleMut {
     ghost use Rattle.iox2_pubsub.specs.Live.{AddAtMost, AreAllSlices, HasLender, IsBlockedSend, IsLoanKey, IsUnblocked, IsWritten, LoanHasHeader, LoanHasUserHeader, NeverFails, NeverWaits, StaysBut, blocked_key, UpToDateStay, payloads, waiting, written_key, written_loan};
     ghost use Rattle.iox2_pubsub.specs.declared.subscriber.Subscriber.{Subscriber};
     ghost use Rattle.iox2_pubsub.specs.LoansLeft.{HasOneMoreLeft, LoansLeftStay};
-    ghost use Rattle.iox2_pubsub.specs.SendCalls.{IfBlocked, IsDelivered, Sends, messages_after, spent_by_send};
+    ghost use Rattle.iox2_pubsub.specs.SendCalls.{FailsSend, IfBlocked, IsDelivered, Sends, messages_after, spent_by_send};
     ghost use Rattle.iox2_pubsub.specs.Slices.{HasValues, IsSliced};
 
     /// The payload as it lies in its slot.
@@ -52,9 +52,7 @@ impl SampleMut {
         requires live { IsWritten domain.old self.sample }
         requires unblocked { IsUnblocked domain.old (written_key self.sample) }
         ensures ok { HasLender domain.old (written_key self.sample) → NeverFails domain.old self.sample.loan.publisher → IsOk result }
-        ensures gone { NeverFails domain.old self.sample.loan.publisher → IfErr result (λ error. error ≡ SendError.ConnectionBrokenSinceSenderNoLongerExists) }
-        ensures failed { HasLender domain.old (written_key self.sample) → IfErr result (λ error. error ≡ SendError.UnableToDeliver) }
-        ensures errors { IfErr result (λ error. (error ≡ SendError.ConnectionBrokenSinceSenderNoLongerExists) ⊎ (error ≡ SendError.UnableToDeliver)) }
+        ensures errors { IfErr result (FailsSend domain.old (written_key self.sample)) }
         ensures sent { (m : Messages T U) (s : State T U) (l : Loan T U) → Shows domain.old m s → s.loans self.sample.loan.number ≡ Some l
             → (s' : State T U) × Shows domain.new (messages_after m self.sample.loan.number l result) s' × Sends s self.sample.loan.number l result s' }
         ensures delivered { NeverWaits domain.old (written_key self.sample) → IfOk result IsDelivered }

@@ -1,10 +1,11 @@
-use Rattle.std.proofs.Common.{ap, inr, refl, sym, ◌∙◌}
+use Rattle.std.proofs.Common.{ap, inl, inr, refl, sym, ◌∙◌}
 use Rattle.std.proofs.lemmas.Result.{err_from_is_err_and}
 use Rattle.iox2_store.specs.declared.key.Key.{Key}
 use Rattle.iox2_store.specs.machine.Loans.{written}
 use Rattle.iox2_store.specs.machine.State.{State}
 use Rattle.iox2_pubsub.specs.Live.{written_key}
-use Rattle.iox2_pubsub.proofs.SendShown.{whose-blocked}
+use Rattle.iox2_pubsub.proofs.SendShown.{fails-copy, fails-there, whose-blocked}
+use Rattle.iox2_pubsub.specs.SendCalls.{FailsCopy}
 use Rattle.iox2_pubsub.proofs.WrittenLoanCalls.{with_value, written-out, copy-sent, written-refused}
 use Rattle.iox2_pubsub.proofs.publisher.Publisher.send_copy.Goals as goal
 
@@ -38,7 +39,7 @@ returns-clause-sends g c = λ m s shown.
       sent.0,
       sent.1,
       copy-sent s lends.0 c.args.self.now.id c.in_ok-loan.loan.loan.number next wrote.0 wrote.1 c.args.value (lends.2).0 (lends.2).2
-          g.U.Default.is_default (lends.2).1 m c.write_payload.result.loan.number same c.send.result (c.send.ensures.failed (c.write_payload.ensures.lent c.in_ok-loan.ensures.lent)) sent.0 sent.2,
+          g.U.Default.is_default (lends.2).1 m c.write_payload.result.loan.number same c.send.result (fails-there _ (written_key c.write_payload.result) (c.write_payload.ensures.lent c.in_ok-loan.ensures.lent) c.send.result c.send.ensures.errors) sent.0 sent.2,
     )
 
 pub send-requires-clause-unblocked : goal.send-requires-clause-unblocked
@@ -47,3 +48,14 @@ send-requires-clause-unblocked g c = c.write_payload.ensures.unblocked c.in_ok-l
 pub returns-clause-whose : goal.returns-clause-whose
 returns-clause-whose g c =
     whose-blocked _ (written_key c.write_payload.result) c.args.self.now.id (ap (λ (k : Key). k.port) c.write_payload.ensures.key ∙ c.in_ok-loan.ensures.publisher) c.send.result c.send.ensures.blocked
+
+pub returns-in_err-loan-clause-errors : goal.returns-in_err-loan-clause-errors
+unfolding FailsCopy
+returns-in_err-loan-clause-errors g c =
+    let refused = err_from_is_err_and c.from_residual.result c.from_residual.ensures.1 in
+    rw refused.1 (inl (c.in_err-loan.field-0.0, refused.2))
+
+pub returns-clause-errors : goal.returns-clause-errors
+returns-clause-errors g c =
+    fails-copy c.args.domain.now _ c.args.self.now (written_key c.write_payload.result) (ap (λ (k : Key). k.port) c.write_payload.ensures.key ∙ c.in_ok-loan.ensures.publisher)
+    (c.write_payload.ensures.lent c.in_ok-loan.ensures.lent) (λ never. c.write_payload.ensures.stays.never_fail _ (c.in_ok-loan.ensures.stays.never_fail _ never)) c.send.result c.send.ensures.errors

@@ -14,7 +14,7 @@ use Rattle.iox2_domain.specs.Kept.{Kept, state_of}
 use Rattle.iox2_domain.specs.LoanCalls.{HoldsWritten}
 use Rattle.iox2_messages.specs.SendEnds.{end_result}
 use Rattle.iox2_domain.specs.Shows.{Shows}
-use Rattle.iox2_pubsub.proofs.SendShown.{machine-sends, only-ok, only-error, handler-error, either-error, never-fails-here, never-blocked, is-delivered, is-blocked, sent-entry, sent-shown}
+use Rattle.iox2_pubsub.proofs.SendShown.{machine-sends, only-ok, only-error, handler-error, either-error, fails-send, never-fails-here, never-blocked, is-delivered, is-blocked, sent-entry, sent-shown}
 use Rattle.iox2_pubsub.specs.Live.{lender_key, written_key}
 use Rattle.iox2_pubsub.specs.SendCalls.{result_of_send}
 use Rattle.iox2_pubsub.proofs.CallsStay.{always-shown, sent-stays, send-spends}
@@ -70,22 +70,26 @@ returns-clause-ok g c = λ lent never.
     (ap (λ (l : Loan g.row.T.Denot g.row.U.Denot). l.publisher) (same_Some _ before.0 (sym c.send_loan.ensures.sends.out ∙ before.1)) ∙ before.2))
     c.outcome_of.result c.outcome_of.ensures.same
 
-pub returns-clause-failed : goal.returns-clause-failed
-returns-clause-failed g c = λ lent.
-    handler-error c.send_loan.result
-    (c.send_loan.ensures.kept
-    (subst (λ (k : Kept g.row.T.Denot g.row.U.Denot). HoldsPublisher (state_of k) c.args.self.loan.publisher) (sym c.domain.view_is)
-    (publisher-parts c.args.domain.now (lender_key (written_key c.args.self)) lent).2))
-    c.outcome_of.result c.outcome_of.ensures.same
-
 pub returns-clause-errors : goal.returns-clause-errors
 returns-clause-errors g c =
     let has = (written-parts c.args.domain.now c.args.self c.requires.live).1 in
     let before = subst (λ (k : Kept g.row.T.Denot g.row.U.Denot). HoldsWritten (state_of k) c.args.self.loan.publisher c.args.self.loan.number) (sym c.domain.view_is) has in
-    either-error {T = g.row.T.Denot} {U = g.row.U.Denot} c.domain.inside.state c.send_loan.new.state c.args.self.loan.number c.args.self.loan.publisher c.send_loan.result c.send_loan.ensures.kept
-    c.send_loan.ensures.sends
-    (ap (λ (l : Loan g.row.T.Denot g.row.U.Denot). l.publisher) (same_Some _ before.0 (sym c.send_loan.ensures.sends.out ∙ before.1)) ∙ before.2)
-    c.outcome_of.result c.outcome_of.ensures.same
+    let its = ap (λ (l : Loan g.row.T.Denot g.row.U.Denot). l.publisher) (same_Some _ before.0 (sym c.send_loan.ensures.sends.out ∙ before.1)) ∙ before.2 in
+    fails-send c.args.domain.now (written_key c.args.self) c.outcome_of.result
+    (either-error {T = g.row.T.Denot} {U = g.row.U.Denot} c.domain.inside.state c.send_loan.new.state c.args.self.loan.number c.args.self.loan.publisher c.send_loan.result
+    c.send_loan.ensures.kept c.send_loan.ensures.sends its c.outcome_of.result c.outcome_of.ensures.same)
+    (λ lent.
+    handler-error c.send_loan.result
+    (c.send_loan.ensures.kept
+    (subst (λ (k : Kept g.row.T.Denot g.row.U.Denot). HoldsPublisher (state_of k) c.args.self.loan.publisher) (sym c.domain.view_is)
+    (publisher-parts c.args.domain.now (lender_key (written_key c.args.self)) lent).2))
+    c.outcome_of.result c.outcome_of.ensures.same)
+    (λ never.
+    only-error {T = g.row.T.Denot} {U = g.row.U.Denot} c.domain.inside.state c.send_loan.new.state c.args.self.loan.number c.args.self.loan.publisher c.send_loan.result
+    c.send_loan.ensures.kept c.send_loan.ensures.sends its
+    (never-fails-here {T = g.row.T.Denot} {U = g.row.U.Denot} c.args.domain.now c.domain.inside.state c.send_loan.new.state c.domain.view_is c.args.self.loan.number c.args.self.loan.publisher never
+    (end_result c.send_loan.result) c.send_loan.ensures.sends its)
+    c.outcome_of.result c.outcome_of.ensures.same)
 
 pub send_loan-requires-clause-unblocked : goal.send_loan-requires-clause-unblocked
 send_loan-requires-clause-unblocked g c =
@@ -122,17 +126,6 @@ returns-clause-blocked g c =
           (subst (λ (t : State g.row.T.Denot g.row.U.Denot). HoldsBlocked t has.0.publisher c.args.self.loan.number) (step.1).state
           (send_waits_with fixed_handlers it.1 c.args.self.loan.number has.0 step.0 _ step.2 blocked)),
     ))
-
-pub returns-clause-gone : goal.returns-clause-gone
-returns-clause-gone g c = λ never.
-    let has = (written-parts c.args.domain.now c.args.self c.requires.live).1 in
-    let before = subst (λ (k : Kept g.row.T.Denot g.row.U.Denot). HoldsWritten (state_of k) c.args.self.loan.publisher c.args.self.loan.number) (sym c.domain.view_is) has in
-    let its = ap (λ (l : Loan g.row.T.Denot g.row.U.Denot). l.publisher) (same_Some _ before.0 (sym c.send_loan.ensures.sends.out ∙ before.1)) ∙ before.2 in
-    only-error {T = g.row.T.Denot} {U = g.row.U.Denot} c.domain.inside.state c.send_loan.new.state c.args.self.loan.number c.args.self.loan.publisher c.send_loan.result c.send_loan.ensures.kept
-    c.send_loan.ensures.sends its
-    (never-fails-here {T = g.row.T.Denot} {U = g.row.U.Denot} c.args.domain.now c.domain.inside.state c.send_loan.new.state c.domain.view_is c.args.self.loan.number c.args.self.loan.publisher never
-    (end_result c.send_loan.result) c.send_loan.ensures.sends its)
-    c.outcome_of.result c.outcome_of.ensures.same
 
 pub returns-clause-adds : goal.returns-clause-adds
 returns-clause-adds g c =
