@@ -27,7 +27,7 @@ use Rattle.iox2_domain.proofs.lemmas.fields.ConnectionEnds.{publisher-stands}
 use Rattle.iox2_pubsub.specs.Live.{A_blocked_send, IsUnblocked, StaysBut}
 use Rattle.iox2_pubsub.specs.SendCalls.{result_of_send}
 use Rattle.iox2_pubsub.specs.declared.send_outcome.SendOutcome.{SendOutcome}
-use Rattle.iox2_pubsub.proofs.LiveParts.{unblocked-free}
+use Rattle.iox2_pubsub.proofs.LiveParts.{unblocked-free, unblocked-parts}
 use Rattle.std.specs.Prelude.{IfErr}
 use Rattle.std.specs.declared.result.Result.{Result}
 use Rattle.std.specs.declared.result.Result.TheVariants.{Ok, Err}
@@ -36,7 +36,7 @@ use Rattle.iox2_store.specs.declared.errors.SendError.TheVariants.{UnableToDeliv
 use Rattle.iox2_store.specs.declared.key.Key.{Key}
 use Rattle.iox2_messages.specs.SendEnds.{IsKept, end_result}
 use Rattle.iox2_messages.specs.declared.send_end.SendEnd.{SendEnd}
-use Rattle.iox2_pubsub.proofs.StaysBut.{IsSpared, SparedUnfailed, stays-between}
+use Rattle.iox2_pubsub.proofs.StaysBut.{IsSpared, SparedPublishers, stays-between}
 use Rattle.iox2_pubsub.proofs.UnfailedSends.{IsMild, HasNotFailed, retry-unfailed, give-up-unfailed}
 use Rattle.std.proofs.lemmas.Bool.{cases_eq}
 
@@ -89,7 +89,7 @@ module _ {T U : Type 0} (f g : Fields T U) (kept : Kept T U) (view : kept_of f �
   }
 
   goes-stays : Shows (kept_of g) m (state_of (kept_of g)) → PortsRemain s (state_of (kept_of g)) → (state_of (kept_of g)).loans ≡ s.loans
-      → Waits (IsSpared (A_blocked_send p)) s (state_of (kept_of g)) → SparedUnfailed (A_blocked_send p) s (state_of (kept_of g)) → StaysBut (A_blocked_send p) kept (kept_of g)
+      → Waits (IsSpared (A_blocked_send p)) s (state_of (kept_of g)) → SparedPublishers (A_blocked_send p) kept s (state_of (kept_of g)) → StaysBut (A_blocked_send p) kept (kept_of g)
   goes-stays shown' remain loans waits goes-on =
       stays-between (A_blocked_send p) kept (kept_of g) m m s (state_of (kept_of g)) shown shown' (λ k entry at. at) (record {
         config = remain.config;
@@ -100,13 +100,22 @@ module _ {T U : Type 0} (f g : Fields T U) (kept : Kept T U) (view : kept_of f �
       (λ i j k at _. ap (λ (ns : List ℕ). is_borrowed k (record { waiting = []; borrowed = ns })) (remain.borrowed i j) ∙ at) waits goes-on
 
   -- the publisher is the one whose send is blocked
-  unfailed-on : (x : Publisher) (b : BlockedSend) → s.publishers p ≡ Some x → x.blocked ≡ Some b
-      → (IsMild s p → b.has_failed ≡ false → HasNotFailed (state_of (kept_of g)) p) → SparedUnfailed (A_blocked_send p) s (state_of (kept_of g))
-  unfailed-on x b at waits step q spared low mild none = elim (cases_eq q p) [
-    | inr away ↦ absurd (spared away)
-    | inl same ↦
-        subst (HasNotFailed (state_of (kept_of g))) (sym same) (step (subst (IsMild s) same mild) (subst (HasNotFailed s) same none x b at waits))
-  ]
+  spared-on : (x : Publisher) (b : BlockedSend) → s.publishers p ≡ Some x → x.blocked ≡ Some b
+      → (IsMild s p → b.has_failed ≡ false → HasNotFailed (state_of (kept_of g)) p) → SparedPublishers (A_blocked_send p) kept s (state_of (kept_of g))
+  spared-on x b at waits step = record {
+    unfailed = λ q spared low mild none. elim (cases_eq q p) [
+      | inr away ↦ absurd (spared away)
+      | inl same ↦
+          subst (HasNotFailed (state_of (kept_of g))) (sym same) (step (subst (IsMild s) same mild) (subst (HasNotFailed s) same none x b at waits))
+    ];
+    waits = λ key spared never. elim (cases_eq key.port p) [
+      | inr away ↦ absurd (spared away)
+      | inl same ↦
+          let stands : (state_of kept).publishers key.port ≡ Some x = ap (state_of kept).publishers same ∙ ap (λ (t : State T U). t.publishers p) (sym shown.state) ∙ at in
+          let clash : None ≡ Some b = sym ((unblocked-parts kept key never.unblocked).1 x stands) ∙ waits in
+          absurd cc
+    ];
+  }
 
   spared : IsSpared (A_blocked_send p) p
   spared other = other refl
@@ -119,7 +128,7 @@ module _ {T U : Type 0} (f g : Fields T U) (kept : Kept T U) (view : kept_of f �
     pub retry-stays : StaysBut (A_blocked_send p) kept (kept_of g)
     retry-stays = goes-stays retry-shown (retry_remains fixed_handlers s p b elapsed _ result h) (retry_loans fixed_handlers s p b elapsed _ result h)
         (retry_waits (IsSpared (A_blocked_send p)) p spared fixed_handlers s b elapsed _ result h)
-        (unfailed-on x b at has (λ mild none. (retry-unfailed fixed_handlers s p b elapsed _ result mild none h).0))
+        (spared-on x b at has (λ mild none. (retry-unfailed fixed_handlers s p b elapsed _ result mild none h).0))
 
   module _ (x : Publisher) (b : BlockedSend) (at : s.publishers p ≡ Some x) (has : x.blocked ≡ Some b) (agrees : IsDomain g) (h : GiveUp fixed_handlers s p b (state_of (kept_of g)) result)
       (entries : (k : ℕ) (entry : Entry T U) → entries_of (kept_of g) k ≡ Some entry → entries_of (kept_of f) k ≡ Some entry) where
@@ -129,7 +138,7 @@ module _ {T U : Type 0} (f g : Fields T U) (kept : Kept T U) (view : kept_of f �
     pub give-up-stays : StaysBut (A_blocked_send p) kept (kept_of g)
     give-up-stays = goes-stays give-up-shown (give_up_remains fixed_handlers s p b _ result h) (give_up_loans fixed_handlers s p b _ result h)
         (give_up_waits (IsSpared (A_blocked_send p)) p spared fixed_handlers s b _ result h)
-        (unfailed-on x b at has (λ mild none. (give-up-unfailed fixed_handlers s p b _ result mild none h).0))
+        (spared-on x b at has (λ mild none. (give-up-unfailed fixed_handlers s p b _ result mild none h).0))
 
 -- ---- a send that isn't blocked again has freed its publisher
 

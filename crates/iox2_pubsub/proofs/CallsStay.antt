@@ -42,9 +42,10 @@ use Rattle.iox2_pubsub.specs.declared.sample_mut.SampleMut.{SampleMut}
 use Rattle.iox2_pubsub.specs.Slices.{HasUnwrittenCells, HasValues}
 use Rattle.iox2_pubsub.proofs.AlwaysShows.{shows_itself}
 use Rattle.iox2_pubsub.proofs.SentMessages.{after-error}
+use Rattle.iox2_pubsub.proofs.SendShown.{never-waits-send}
 use Rattle.iox2_pubsub.proofs.LiveParts.{publisher-parts, subscriber-parts, loan-parts, sample-parts, origin-parts, blocked-parts, unblocked-parts}
 use Rattle.iox2_pubsub.proofs.SliceParts.{cells-parts, values-parts}
-use Rattle.iox2_pubsub.proofs.StaysBut.{IsSpared, PortsRemainBut, SamplesStayBut, ports-remain, stays-between, stays-on, stays-on-but, stays-but-whole, sent-loan-parts, SparedUnfailed}
+use Rattle.iox2_pubsub.proofs.StaysBut.{IsSpared, PortsRemainBut, SamplesStayBut, ports-remain, stays-between, stays-on, stays-on-but, stays-but-whole, sent-loan-parts, none-spared, SparedPublishers}
 use Rattle.iox2_pubsub.proofs.UnfailedSends.{IsMild, HasNotFailed, blocked-unfailed}
 
 -- a domain shows some state
@@ -69,7 +70,7 @@ module _ {T U : Type 0} (old new : Kept T U) (m : Messages T U) (s : State T U) 
   quiet : (s' : State T U) → Shows new m s' → PortsStay s s' → s'.loans ≡ s.loans → Waits (IsSpared No_item) s s' → Stays old new
   quiet s' shown' stay loans waits =
       stays-between No_item old new m m s s' shown shown' (λ n entry at. at) (ports-remain _ s s' stay.remain) (λ n l at _. ap (λ (f : ℕ → Option (Loan T U)). f n) loans ∙ at)
-      (λ p q n at _. same_borrowed s s' stay p q n ∙ at) waits (λ p' spared low mild none. absurd (spared tt))
+      (λ p q n at _. same_borrowed s s' stay p q n ∙ at) waits (none-spared _ old s s' (λ _. tt))
 
   -- a publisher is made, or refused
   pub publisher-creation-stays : (environment : Environment) (given : PublisherSettings) (refusal : Option PublisherCreateError) (s' : State T U) → Shows new m s'
@@ -142,7 +143,7 @@ module _ {T U : Type 0} (old new : Kept T U) (m : Messages T U) (s : State T U) 
       let stay : PortsStay s s' = grant_loan_stays ample_memory h.0 checks len s p s' None h.2 in
       let next = loan_next ample_memory s h.0 checks len p s' h.2 in
       stays-between No_item old new m m s s' shown shown' (λ n entry at. at) (ports-remain _ s s' stay.remain) (λ n l at _. next.others n (shown.well_formed.loans n l at).below ∙ at)
-      (λ i j n at _. same_borrowed s s' stay i j n ∙ at) (grant_loan_waits (IsSpared No_item) ample_memory h.0 checks len s p s' None h.2) (λ p' spared low mild none. absurd (spared tt))
+      (λ i j n at _. same_borrowed s s' stay i j n ∙ at) (grant_loan_waits (IsSpared No_item) ample_memory h.0 checks len s p s' None h.2) (none-spared _ old s s' (λ _. tt))
   loan-stays is_default checks len p (Err e) s' shown' h =
       quiet s' shown' (subst (PortsStay s) (sym h.0) (ports_stay_themselves s)) (ap (λ (t : State T U). t.loans) h.0) (subst (Waits (IsSpared No_item) s) (sym h.0) (waits_itself (IsSpared No_item) s))
 
@@ -185,7 +186,7 @@ module _ {T U : Type 0} (old new : Kept T U) (m : Messages T U) (s : State T U) 
       let stay : PortsStay s s' = loan_set_stays s n (Some l) in
       stays-between (A_loan n) old new m m s s' shown shown' (λ n entry at. at) (ports-remain _ s s' stay.remain)
       (λ k loan at other. put_at-other s.loans n (Some l) k (ne_eqb k n other) ∙ at)
-      (λ i j k at _. same_borrowed s s' stay i j k ∙ at) (loan_set_waits (IsSpared (A_loan n)) s n (Some l)) (λ p' spared low mild none. absurd (spared tt))
+      (λ i j k at _. same_borrowed s s' stay i j k ∙ at) (loan_set_waits (IsSpared (A_loan n)) s n (Some l)) (none-spared _ old s s' (λ _. tt))
 
   -- a send leaves what is borrowed and the ports, and each publisher but its own waits as it did
   module _ (n : ℕ) (l : Loan T U) (out : s.loans n ≡ Some l) (result : SendResult) (s' : State T U) (h : Send fixed_handlers s n l s' result) where
@@ -229,7 +230,7 @@ module _ {T U : Type 0} (old new : Kept T U) (m : Messages T U) (s : State T U) 
         }
 
     -- all but the loan stays, and its publisher where it is blocked
-    sent-keeps : (spent : Item) → ((k : ℕ) → IsOtherLoan spent k → k ≢ n) → Waits (IsSpared spent) s s' → SparedUnfailed spent s s' → (m' : Messages T U) → Shows new m' s' → ((k : ℕ) (entry : Entry T U) → m k ≡ Some entry → m' k ≡ Some entry)
+    sent-keeps : (spent : Item) → ((k : ℕ) → IsOtherLoan spent k → k ≢ n) → Waits (IsSpared spent) s s' → SparedPublishers spent old s s' → (m' : Messages T U) → Shows new m' s' → ((k : ℕ) (entry : Entry T U) → m k ≡ Some entry → m' k ≡ Some entry)
         → StaysBut spent old new
     sent-keeps spent others waits goes-on m' shown' sent =
         let loans : s'.loans ≡ put_at s.loans n None = send_loans fixed_handlers s n l s' result h in
@@ -248,21 +249,27 @@ module _ {T U : Type 0} (old new : Kept T U) (m : Messages T U) (s : State T U) 
       → Sends s loan.loan.number l result s' → StaysBut (spent_by_send loan result) old new
   sent-stays loan l out its free (Ok (Delivered count)) s' shown' h =
       sent-keeps loan.loan.number l out (Delivered_to count) s' h (A_sent_loan loan.loan.number loan.loan.publisher false) (λ k other. other)
-      (unblocked-waits loan.loan.number l out (Delivered_to count) s' h (IsSpared (A_sent_loan loan.loan.number loan.loan.publisher false)) (λ e. let clash : Delivered_to count ≡ Blocked_send = e in cc) free) (λ p' spared low mild none. absurd (spared tt))
+      (unblocked-waits loan.loan.number l out (Delivered_to count) s' h (IsSpared (A_sent_loan loan.loan.number loan.loan.publisher false)) (λ e. let clash : Delivered_to count ≡ Blocked_send = e in cc) free) (none-spared _ old s s' (λ _. tt))
       _ shown' (λ k entry at. sent-before loan.loan.number l out (Delivered_to count) s' h k (entry_of l) entry at)
   sent-stays loan l out its free (Ok (Blocked blocked)) s' shown' h =
       sent-keeps loan.loan.number l out Blocked_send s' h (A_sent_loan loan.loan.number loan.loan.publisher true) (λ k other. other)
       (send_spared (IsSpared (A_sent_loan loan.loan.number loan.loan.publisher true)) fixed_handlers s loan.loan.number l (λ other. other its) s' Blocked_send h)
-      (λ p spared low mild none. elim (cases_eq p loan.loan.publisher) [
-        | inr away ↦ absurd (spared away)
-        | inl same ↦
-            let is : p ≡ l.publisher = same ∙ sym its in
-            subst (HasNotFailed s') (sym is) (blocked-unfailed fixed_handlers s loan.loan.number l s' (subst (λ (q : ℕ). q < s.next_port) is low) (subst (IsMild s) is mild) h)
-      ])
+      (record {
+        unfailed = λ p spared low mild none. elim (cases_eq p loan.loan.publisher) [
+          | inr away ↦ absurd (spared away)
+          | inl same ↦
+              let is : p ≡ l.publisher = same ∙ sym its in
+              subst (HasNotFailed s') (sym is) (blocked-unfailed fixed_handlers s loan.loan.number l s' (subst (λ (q : ℕ). q < s.next_port) is low) (subst (IsMild s) is mild) h)
+        ];
+        waits = λ key spared never. elim (cases_eq key.port loan.loan.publisher) [
+          | inr away ↦ absurd (spared away)
+          | inl same ↦ never-waits-send old key m s shown never loan.loan.number l out (same ∙ sym its) s' h
+        ];
+      })
       _ shown' (λ k entry at. sent-before loan.loan.number l out Blocked_send s' h k (entry_of l) entry at)
   sent-stays loan l out its free (Err error) s' shown' h =
       sent-keeps loan.loan.number l out (Send_error error) s' h (A_sent_loan loan.loan.number loan.loan.publisher false) (λ k other. other)
-      (unblocked-waits loan.loan.number l out (Send_error error) s' h (IsSpared (A_sent_loan loan.loan.number loan.loan.publisher false)) (λ e. let clash : Send_error error ≡ Blocked_send = e in cc) free) (λ p' spared low mild none. absurd (spared tt))
+      (unblocked-waits loan.loan.number l out (Send_error error) s' h (IsSpared (A_sent_loan loan.loan.number loan.loan.publisher false)) (λ e. let clash : Send_error error ≡ Blocked_send = e in cc) free) (none-spared _ old s s' (λ _. tt))
       _ shown' (λ k entry at. elim (after-error m loan.loan.number l error) [
         | inl sent ↦ ap (λ (f : Messages T U). f k) sent.1 ∙ sent-before loan.loan.number l out (Send_error error) s' h k (entry_of l) entry at
         | inr lost ↦ ap (λ (f : Messages T U). f k) lost.1 ∙ at
@@ -295,7 +302,7 @@ module _ {T U : Type 0} (old new : Kept T U) (m : Messages T U) (s : State T U) 
                 ∙ ap (λ (v : ℕ). is_borrowed v (s'.mailboxes p q)) e_n ∙ got.now
           ]
         ]
-      ]) (receive_waits (IsSpared No_item) environment s q s' (Got_sample p n) h) (λ p' spared low mild none. absurd (spared tt))
+      ]) (receive_waits (IsSpared No_item) environment s q s' (Got_sample p n) h) (none-spared _ old s s' (λ _. tt))
   receive-stays environment q No_sample s' shown' h =
       quiet s' shown' (nothing_received environment s q s' No_sample (λ p n e. let clash : No_sample ≡ Got_sample p n = e in absurd cc) h) (receive_loans environment s q s' No_sample h) (receive_waits (IsSpared No_item) environment s q s' No_sample h)
   receive-stays environment q (Receive_error e) s' shown' h =
@@ -345,7 +352,7 @@ module _ {T U : Type 0} (old new : Kept T U) (m : Messages T U) (s : State T U) 
       stays-between (A_sample q n) old new m m s s' shown shown' (λ n entry at. at) (ports-remain _ s s' (subst (Remain s) (sym is) (released_remain s p q n)))
       (λ k l at _. ap (λ (t : State T U). t.loans k) is ∙ ap (λ (f : ℕ → Option (Loan T U)). f k) (released_loans s p q n) ∙ at)
       (λ i j k at other. ap (λ (t : State T U). is_borrowed k (t.mailboxes i j)) is ∙ released_others s p q n i j k (λ _ e_q e_n. apart other e_q e_n) ∙ at)
-      (subst (Waits (IsSpared (A_sample q n)) s) (sym is) (released_waits (IsSpared (A_sample q n)) s p q n)) (λ p' spared low mild none. absurd (spared tt))
+      (subst (Waits (IsSpared (A_sample q n)) s) (sym is) (released_waits (IsSpared (A_sample q n)) s p q n)) (none-spared _ old s s' (λ _. tt))
     where
       apart : {j k : ℕ} → IsOtherSample (A_sample q n) j k → j ≡ q → k ≡ n → ⊥
       apart (inl away) e_q e_n = away e_q

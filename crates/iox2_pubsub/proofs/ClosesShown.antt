@@ -21,7 +21,7 @@ use Rattle.iox2_domain.proofs.lemmas.fields.ConnectionEnds.{publisher-stands, su
 use Rattle.iox2_domain.proofs.lemmas.fields.ReachesShows.{reaches-shows}
 use Rattle.iox2_pubsub.specs.Live.{IsPublisherKey, IsSubscriberKey, A_publisher, A_subscriber, StaysBut}
 use Rattle.iox2_pubsub.proofs.LiveParts.{publisher-parts, subscriber-parts}
-use Rattle.iox2_pubsub.proofs.StaysBut.{IsSpared, stays-between}
+use Rattle.iox2_pubsub.proofs.StaysBut.{IsSpared, stays-between, none-spared}
 
 module _ {T U : Type 0} (f g : Fields T U) (sound : IsDomain f) (kept : Kept T U) (view : kept_of f ≡ kept) (place id : ℕ) (m : Messages T U) (s : State T U) (shown : Shows kept m s) where
   here : Shows (kept_of f) m s
@@ -72,7 +72,7 @@ module _ {T U : Type 0} (old new : Kept T U) (m : Messages T U) (s : State T U) 
           publishers = λ p z at other. (z, publisher_closed_others s id x p other ∙ at);
           subscribers = λ q y at is_open other. let v = publisher_closed_subscribers s id x q y at in (v.0, v.1, v.2 ∙ is_open);
         })
-        (λ n l at other. at) (λ p q n at other. still-borrowed s' (publisher_closed_borrowed s id x) p q n at) (publisher_closed_waits (IsSpared (A_publisher id)) s id x) (λ p' spared low mild none. absurd (spared tt))
+        (λ n l at other. at) (λ p q n at other. still-borrowed s' (publisher_closed_borrowed s id x) p q n at) (publisher_closed_waits (IsSpared (A_publisher id)) s id x) (none-spared _ old s s' (λ _. tt))
 
     -- it is there no more
     pub publisher-close-spends : (key : Key) → key.port ≡ id → IsPublisherKey new key → ⊥
@@ -91,7 +91,7 @@ module _ {T U : Type 0} (old new : Kept T U) (m : Messages T U) (s : State T U) 
           subscribers = λ q z at is_open other. (z, subscriber_closed_others s id y q other ∙ at, is_open);
         })
         (λ n l at other. ap (λ (loans : ℕ → Option (Loan T U)). loans n) (subscriber_closed_loans s id y) ∙ at)
-        (λ p q n at other. still-borrowed s' (subscriber_closed_borrowed s id y) p q n at) (subscriber_closed_waits (IsSpared (A_subscriber id)) s id y) (λ p' spared low mild none. absurd (spared tt))
+        (λ p q n at other. still-borrowed s' (subscriber_closed_borrowed s id y) p q n at) (subscriber_closed_waits (IsSpared (A_subscriber id)) s id y) (none-spared _ old s s' (λ _. tt))
 
     -- it is open no more
     pub subscriber-close-spends : (key : Key) → key.port ≡ id → IsSubscriberKey new key → ⊥

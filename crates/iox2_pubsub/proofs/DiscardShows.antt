@@ -18,7 +18,7 @@ use Rattle.iox2_domain.specs.Shows.{Shows}
 use Rattle.iox2_domain.proofs.lemmas.fields.ReachesShows.{reaches-shows}
 use Rattle.iox2_pubsub.specs.Live.{IsLoanKey, A_loan, StaysBut}
 use Rattle.iox2_pubsub.proofs.LiveParts.{loan-parts}
-use Rattle.iox2_pubsub.proofs.StaysBut.{IsSpared, ports-remain, stays-between}
+use Rattle.iox2_pubsub.proofs.StaysBut.{IsSpared, ports-remain, stays-between, none-spared}
 
 -- the domain shows the machine's step
 pub discard-shows : {T U : Type 0} (f g : Fields T U) (kept : Kept T U) (view : kept_of f ≡ kept) (n : ℕ) (discards : DiscardsLoan f g n)
@@ -42,7 +42,7 @@ module _ {T U : Type 0} (old new : Kept T U) (m : Messages T U) (s : State T U) 
       let stay : PortsStay s s' = loan_discarded_stays s n l in
       stays-between (A_loan n) old new m m s s' shown shown' (λ k entry at. at) (ports-remain _ s s' stay.remain)
       (λ k loan at other. put_at-other s.loans n None k (ne_eqb k n other) ∙ at)
-      (λ i j k at _. same_borrowed s s' stay i j k ∙ at) (loan_discarded_waits (IsSpared (A_loan n)) s n l) (λ p' spared low mild none. absurd (spared tt))
+      (λ i j k at _. same_borrowed s s' stay i j k ∙ at) (loan_discarded_waits (IsSpared (A_loan n)) s n l) (none-spared _ old s s' (λ _. tt))
 
   -- it is out no more
   pub discard-spends : (key : Key) → key.message ≡ n → IsLoanKey new key → ⊥

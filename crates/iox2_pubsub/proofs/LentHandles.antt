@@ -168,10 +168,10 @@ module _ {T U : Type 0} (f g : Fields T U) (sound : IsDomain f) (kept : Kept T U
 
     -- one whose publisher never waits stays so
     pub lent-written-loan : (loan : SampleMut) → loan.loan.number ≡ n → IsWritten kept loan → NeverWaits kept (written_key loan) → IsWrittenLoan after loan
-    lent-written-loan loan its live never = record { out = lent-written loan its live; never_waits = lent-stays.never_wait (written_key loan) never tt }
+    lent-written-loan loan its live never = record { out = lent-written loan its live; never_waits = lent-stays.never_wait (written_key loan) never }
 
     pub lent-unwritten-loan : (loan : SampleMutUninit) → loan.loan.number ≡ n → IsUnwritten kept loan → NeverWaits kept (unwritten_key loan) → IsUnwrittenLoan after loan
-    lent-unwritten-loan loan its live never = record { out = lent-unwritten loan its live; never_waits = lent-stays.never_wait (unwritten_key loan) never tt }
+    lent-unwritten-loan loan its live never = record { out = lent-unwritten loan its live; never_waits = lent-stays.never_wait (unwritten_key loan) never }
 
 -- a loan whose cells were changed, to as many
 pub cells-left : {T U : Type 0} (s : State T U) (n : ℕ) (l : Loan T U) → s.loans n ≡ Some l → (read cells : List (Option T)) → HasCells s n read → length cells ≡ length read

@@ -21,8 +21,8 @@ use Rattle.iox2_store.specs.declared.key.Key.{Key}
 use Rattle.iox2_laws.proofs.Waits.{waits_trans, update_publisher_waits, published_waits}
 use Rattle.iox2_domain.proofs.lemmas.sends.DeliverySteps.{never-waits}
 use Rattle.iox2_domain.specs.Kept.{Kept}
-use Rattle.iox2_pubsub.specs.Live.{A_blocked_send, HasLender, IsBlockedSend, NeverFails, blocked_key, blocked_send}
-use Rattle.iox2_pubsub.proofs.LiveParts.{unfailed-parts}
+use Rattle.iox2_pubsub.specs.Live.{A_blocked_send, HasLender, IsBlockedSend, NeverFails, NeverWaits, blocked_key, blocked_send}
+use Rattle.iox2_pubsub.proofs.LiveParts.{passes-parts, unfailed-parts}
 use Rattle.iox2_pubsub.proofs.OverflowSends.{overflowing-send}
 use Rattle.iox2_pubsub.proofs.SentMessages.{after-error}
 use Rattle.iox2_pubsub.specs.declared.blocked_send.BlockedSend.{BlockedSend}
@@ -229,6 +229,17 @@ pub whose-blocked : {T U : Type 0} (kept : Kept T U) (key : Key) (id : ℕ) → 
 whose-blocked kept key id its (Ok (Delivered count)) is = tt
 whose-blocked kept key id its (Ok (Blocked it)) is = ap (λ (k : Key). A_blocked_send k.port) is.1 ∙ ap A_blocked_send its
 whose-blocked kept key id its (Err error) is = tt
+
+-- nor does one that never waits
+pub never-waits-send : {T U : Type 0} (old : Kept T U) (key : Key) (m : Messages T U) (s : State T U) → Shows old m s → NeverWaits old key → (n : ℕ) (l : Loan T U) → s.loans n ≡ Some l
+    → key.port ≡ l.publisher → (s' : State T U) → Send fixed_handlers s n l s' Blocked_send → ⊥
+never-waits-send {T} {U} old key m s shown never n l out its s' h = elim (passes-parts old key never.passes).1 [
+  | inl over ↦
+      (overflowing-send fixed_handlers s n l s' Blocked_send (ap (λ (t : State T U). (t.config).enable_safe_overflow) shown.state ∙ over) h).0 refl
+  | inr discards ↦
+      never-blocked fixed_handlers s n l s' (shown.well_formed.loans n l out).known
+      (λ x at. discards x (sym (ap (λ (t : State T U). t.publishers key.port) shown.state) ∙ ap s.publishers its ∙ at)) h
+]
 
 -- ---- why a send fails
 

@@ -17,7 +17,7 @@ use Rattle.iox2_domain.specs.Handlers.{may_fail}
 use Rattle.iox2_domain.specs.Kept.{Kept, state_of, entries_of}
 use Rattle.iox2_domain.specs.Shows.{Shows}
 use Rattle.iox2_pubsub.proofs.UnfailedSends.{IsMild, HasNotFailed}
-use Rattle.iox2_pubsub.specs.Live.{IsSingleValued, IsPublisherKey, IsSubscriberKey, IsLoanKey, IsSampleKey, IsBlockedKey, HasMark, IsFromOrigin, LoanHasHeader, LoanHasUserHeader, SampleHasHeader, SampleHasUserHeader, Item, No_item, A_publisher, A_subscriber, A_loan, A_sample, A_blocked_send, A_sent_loan, A_sent_copy, Both, IsOtherPublisher, IsOtherSubscriber, IsOtherLoan, IsOtherSample, IsUnblocked, PassesFull, NeverFails, IsOtherBlocked, StaysBut, Stays, IsNewIn, unwritten_key, written_key}
+use Rattle.iox2_pubsub.specs.Live.{IsSingleValued, IsPublisherKey, IsSubscriberKey, IsLoanKey, IsSampleKey, IsBlockedKey, HasMark, IsFromOrigin, LoanHasHeader, LoanHasUserHeader, SampleHasHeader, SampleHasUserHeader, Item, No_item, A_publisher, A_subscriber, A_loan, A_sample, A_blocked_send, A_sent_loan, A_sent_copy, Both, IsOtherPublisher, IsOtherSubscriber, IsOtherLoan, IsOtherSample, IsUnblocked, PassesFull, NeverFails, NeverWaits, IsOtherBlocked, StaysBut, Stays, IsNewIn, unwritten_key, written_key}
 use Rattle.iox2_pubsub.specs.Slices.{IsSliced, HasUnwrittenCells, HasValues, SampleHasValues}
 use Rattle.iox2_pubsub.specs.declared.sample.Sample.{Sample}
 
@@ -71,13 +71,22 @@ other-or-spared (Both first second) p = elim (other-or-spared first p) [
 ]
 
 module _ {T U : Type 0} where
-  -- where no handler fails a send of a publisher whose blocked send is the item, none has failed it then
-  abbrev pub SparedUnfailed : Item → (s s' : State T U) → Type 0
-  SparedUnfailed spent s s' = (p : ℕ) → IsSpared spent p → p < s.next_port → IsMild s p → HasNotFailed s p → HasNotFailed s' p
+  -- Of a publisher whose blocked send is the item: where no handler fails a send of it, none has failed that one then; and it isn't
+  -- one that never waits.
+  pub record SparedPublishers (spent : Item) (old : Kept T U) (s s' : State T U) : Type 0 where
+    pub unfailed : (p : ℕ) → IsSpared spent p → p < s.next_port → IsMild s p → HasNotFailed s p → HasNotFailed s' p
+    pub waits : (key : Key) → IsSpared spent key.port → NeverWaits old key → ⊥
+
+  -- where the item is no blocked send
+  pub none-spared : (spent : Item) (old : Kept T U) (s s' : State T U) → ((p : ℕ) → IsOtherBlocked spent p) → SparedPublishers spent old s s'
+  none-spared spent old s s' other = record {
+    unfailed = λ p spared low mild none. absurd (spared (other p));
+    waits = λ key spared never. absurd (spared (other key.port));
+  }
 
 module _ {T U : Type 0} (spent : Item) (old new : Kept T U) (remain : PortsRemainBut spent (state_of old) (state_of new)) (loans : LoansStayBut spent (state_of old) (state_of new))
     (samples : SamplesStayBut spent (state_of old) (state_of new)) (waits : Waits (IsSpared spent) (state_of old) (state_of new))
-    (goes-on : SparedUnfailed spent (state_of old) (state_of new))
+    (goes-on : SparedPublishers spent old (state_of old) (state_of new))
     (known : (p : ℕ) (x : Publisher) → (state_of old).publishers p ≡ Some x → p < (state_of old).next_port)
     (entries : (n p q : ℕ) (entry : Entry T U) → entries_of old n ≡ Some entry → is_borrowed n ((state_of new).mailboxes p q) ≡ true → entries_of new n ≡ Some entry) where
   service : (id : ℕ) → id ≡ (old.config).service_id → id ≡ (new.config).service_id
@@ -192,7 +201,7 @@ module _ {T U : Type 0} (spent : Item) (old new : Kept T U) (remain : PortsRemai
           ap may_fail before.2.handler ∙ mild before.0 before.1)
     ],
     elim (other-or-spared spent publisher) [
-      | inr spared ↦ goes-on publisher spared was.0 was.1 was.2
+      | inr spared ↦ goes-on.unfailed publisher spared was.0 was.1 was.2
       | inl other ↦ λ x' b at has.
           let before = waits.publishers publisher x' was.0 at in
           was.2 before.0 b before.1 (sym (before.2.blocked (λ spared. spared other)) ∙ has)
@@ -222,8 +231,14 @@ module _ {T U : Type 0} (spent : Item) (old new : Kept T U) (remain : PortsRemai
     samples = sample;
     origins = origin;
     unblocked = free;
-    passes = passes;
-    never_wait = λ key was other. record { passes = passes key was.passes; unblocked = free key was.unblocked other; never_fails = unfailed key.port was.never_fails };
+    never_wait = λ key was. record {
+      passes = passes key was.passes;
+      unblocked = elim (other-or-spared spent key.port) [
+        | inl other ↦ free key was.unblocked other
+        | inr spared ↦ absurd (goes-on.waits key spared was)
+      ];
+      never_fails = unfailed key.port was.never_fails;
+    };
     never_fail = unfailed;
     blocked_sends = blocked;
     loan_cells = loan-cells;
@@ -237,11 +252,11 @@ module _ {T U : Type 0} (spent : Item) (old new : Kept T U) (remain : PortsRemai
 
 -- seen from a state that is shown
 pub stays-between : {T U : Type 0} (spent : Item) (old new : Kept T U) (m m' : Messages T U) (s s' : State T U) → Shows old m s → Shows new m' s'
-    → ((n : ℕ) (entry : Entry T U) → m n ≡ Some entry → m' n ≡ Some entry) → PortsRemainBut spent s s' → LoansStayBut spent s s' → SamplesStayBut spent s s' → Waits (IsSpared spent) s s' → SparedUnfailed spent s s'
+    → ((n : ℕ) (entry : Entry T U) → m n ≡ Some entry → m' n ≡ Some entry) → PortsRemainBut spent s s' → LoansStayBut spent s s' → SamplesStayBut spent s s' → Waits (IsSpared spent) s s' → SparedPublishers spent old s s'
     → StaysBut spent old new
 stays-between {T} {U} spent old new m m' s s' shown shown' sent remain loans samples waits goes-on =
     stays-but spent old new (between (PortsRemainBut spent) remain) (between (LoansStayBut spent) loans) (between (SamplesStayBut spent) samples)
-    (between (Waits (IsSpared spent)) waits) (between (SparedUnfailed spent) goes-on) (λ p x at. ((subst IsWellFormed shown.state shown.well_formed).publishers p x at).is_known) entries
+    (between (Waits (IsSpared spent)) waits) (between (SparedPublishers spent old) goes-on) (λ p x at. ((subst IsWellFormed shown.state shown.well_formed).publishers p x at).is_known) entries
   where
     entries : (n p q : ℕ) (entry : Entry T U) → entries_of old n ≡ Some entry → is_borrowed n ((state_of new).mailboxes p q) ≡ true → entries_of new n ≡ Some entry
     entries n p q entry at borrowed =
@@ -285,8 +300,7 @@ module _ {T U : Type 0} (start old : Kept T U) (before : Stays start old) (item 
     samples = λ key live other. next.samples key (before.samples key live other) (apart.samples key live);
     origins = λ it from other. next.origins it (before.origins it from other) (apart.origins it from);
     unblocked = λ key free other. next.unblocked key (before.unblocked key free other) (apart.unblocked key free).1;
-    passes = λ key was. next.passes key (before.passes key was);
-    never_wait = λ key was other. next.never_wait key (before.never_wait key was other) (apart.unblocked key was.unblocked).1;
+    never_wait = λ key was. next.never_wait key (before.never_wait key was);
     never_fail = λ publisher was. next.never_fail publisher (before.never_fail publisher was);
     blocked_sends = λ key live other alike.
         next.blocked_sends key (before.blocked_sends key live other alike) (apart.blocked_sends key live).0 (apart.blocked_sends key live).1;
@@ -317,8 +331,7 @@ module _ {T U : Type 0} (start old : Kept T U) (before : Stays start old) (item 
     samples = λ key live other. next.samples key (before.samples key live tt) (apart.samples key live, other);
     origins = λ it from other. next.origins it (before.origins it from tt) (apart.origins it from, other);
     unblocked = λ key free other. next.unblocked key (before.unblocked key free tt) ((apart.unblocked key free).1, other);
-    passes = λ key was. next.passes key (before.passes key was);
-    never_wait = λ key was other. next.never_wait key (before.never_wait key was tt) ((apart.unblocked key was.unblocked).1, other);
+    never_wait = λ key was. next.never_wait key (before.never_wait key was);
     never_fail = λ publisher was. next.never_fail publisher (before.never_fail publisher was);
     blocked_sends = λ key live other alike.
         next.blocked_sends key (before.blocked_sends key live tt tt) ((apart.blocked_sends key live).0, other) ((apart.blocked_sends key live).1, alike);
@@ -365,8 +378,7 @@ unchanged-stays spent kept = record {
   samples = λ key live other. live;
   origins = λ it from other. from;
   unblocked = λ key free other. free;
-  passes = λ key was. was;
-  never_wait = λ key was other. was;
+  never_wait = λ key was. was;
   never_fail = λ publisher was. was;
   blocked_sends = λ key live other alike. live;
   loan_cells = λ n cells has other. has;
@@ -517,8 +529,7 @@ stays-but-whole part whole is old new stays = record {
   samples = λ key live other. stays.samples key live (is.samples key.port key.message other);
   origins = λ it from other. stays.origins it from (is.samples it.sample.subscriber it.sample.number other);
   unblocked = λ key free other. stays.unblocked key free (is.blocked_sends key.port other);
-  passes = stays.passes;
-  never_wait = λ key was other. stays.never_wait key was (is.blocked_sends key.port other);
+  never_wait = stays.never_wait;
   never_fail = stays.never_fail;
   blocked_sends = λ key live other alike. stays.blocked_sends key live (is.publishers key.port other) (is.blocked_sends key.port alike);
   loan_cells = λ n cells has other. stays.loan_cells n cells has (is.loans n other);
@@ -548,8 +559,7 @@ stays-twice spent start old new before next = record {
   samples = λ key live other. next.samples key (before.samples key live other) other;
   origins = λ it from other. next.origins it (before.origins it from other) other;
   unblocked = λ key waitless other. next.unblocked key (before.unblocked key waitless other) other;
-  passes = λ key was. next.passes key (before.passes key was);
-  never_wait = λ key was other. next.never_wait key (before.never_wait key was other) other;
+  never_wait = λ key was. next.never_wait key (before.never_wait key was);
   never_fail = λ q was. next.never_fail q (before.never_fail q was);
   blocked_sends = λ key live other alike. next.blocked_sends key (before.blocked_sends key live other alike) other alike;
   loan_cells = λ n cells has other. next.loan_cells n cells (before.loan_cells n cells has other) other;
@@ -583,8 +593,7 @@ stays-since-block {T} {U} p start old new was before next frees = record {
   samples = λ key live other. next.samples key (before.samples key live tt) tt;
   origins = λ it from other. next.origins it (before.origins it from tt) tt;
   unblocked = λ key unwaiting other. unblocked key unwaiting;
-  passes = passes;
-  never_wait = λ key never other. record { passes = passes key never.passes; unblocked = unblocked key never.unblocked; never_fails = never_fail key.port never.never_fails };
+  never_wait = λ key never. next.never_wait key (before.never_wait key never);
   never_fail = never_fail;
   blocked_sends = λ key live other alike. elim (cases_eq key.port p) [
     | inl its ↦ absurd (waits-not start key live (was key its))
@@ -598,9 +607,6 @@ stays-since-block {T} {U} p start old new was before next frees = record {
   sample_headers = λ key header live has other. next.sample_headers key header (before.samples key live tt) (before.sample_headers key header live has tt) tt;
   sample_user_headers = λ key header live has other. next.sample_user_headers key header (before.samples key live tt) (before.sample_user_headers key header live has tt) tt;
 } where
-  passes : (key : Key) → PassesFull start key → PassesFull new key
-  passes key has = next.passes key (before.passes key has)
-
   never_fail : (q : ℕ) → NeverFails start q → NeverFails new q
   never_fail q never = next.never_fail q (before.never_fail q never)
 

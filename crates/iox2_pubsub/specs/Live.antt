@@ -334,8 +334,7 @@ module _ {T U : Type 0} where
     pub samples : (key : Key) → IsSampleKey old key → IsOtherSample spent key.port key.message → IsSampleKey new key
     pub origins : (sample : Sample) → IsFromOrigin old sample → IsOtherSample spent sample.sample.subscriber sample.sample.number → IsFromOrigin new sample
     pub unblocked : (key : Key) → IsUnblocked old key → IsOtherBlocked spent key.port → IsUnblocked new key
-    pub passes : (key : Key) → PassesFull old key → PassesFull new key
-    pub never_wait : (key : Key) → NeverWaits old key → IsOtherBlocked spent key.port → NeverWaits new key
+    pub never_wait : (key : Key) → NeverWaits old key → NeverWaits new key
     pub never_fail : (publisher : ℕ) → NeverFails old publisher → NeverFails new publisher
     pub blocked_sends : (key : Key) → IsBlockedKey old key → IsOtherPublisher spent key.port → IsOtherBlocked spent key.port → IsBlockedKey new key
     pub loan_cells : (number : ℕ) (cells : List (Option T)) → HasUnwrittenCells old number cells → IsOtherLoan spent number → HasUnwrittenCells new number cells

@@ -85,7 +85,7 @@ pub returns-clause-live : goal.returns-clause-live
 returns-clause-live g c = λ never. record {
   out = returns-clause-out g c;
   never_waits = never-waits-alike (kept_of c.loan.new.state) (publisher_key c.args.self.now) (unwritten_key (record { service_id = c.args.self.now.service_id; loan = c.in_ok-loan.loan }))
-      (returns-clause-publisher g c) ((returns-clause-stays g c).never_wait (publisher_key c.args.self.now) never tt);
+      (returns-clause-publisher g c) ((returns-clause-stays g c).never_wait (publisher_key c.args.self.now) never);
 }
 
 pub returns-clause-unblocked : goal.returns-clause-unblocked

@@ -14,7 +14,7 @@ use Rattle.iox2_domain.specs.Kept.{Kept, state_of}
 use Rattle.iox2_domain.specs.LoanCalls.{HoldsWritten}
 use Rattle.iox2_messages.specs.SendEnds.{end_result}
 use Rattle.iox2_domain.specs.Shows.{Shows}
-use Rattle.iox2_pubsub.proofs.SendShown.{machine-sends, only-ok, only-error, handler-error, either-error, fails-send, never-fails-here, never-blocked, is-delivered, is-blocked, sent-entry, sent-shown}
+use Rattle.iox2_pubsub.proofs.SendShown.{machine-sends, only-ok, only-error, handler-error, either-error, fails-send, never-waits-send, never-fails-here, never-blocked, is-delivered, is-blocked, sent-entry, sent-shown}
 use Rattle.iox2_pubsub.specs.Live.{lender_key, written_key}
 use Rattle.iox2_pubsub.specs.SendCalls.{result_of_send}
 use Rattle.iox2_pubsub.proofs.CallsStay.{always-shown, sent-stays, send-spends}
@@ -102,15 +102,9 @@ returns-clause-delivered g c = λ never.
     let has = (written-parts c.args.domain.now c.args.self c.requires.live).1 in
     let out = ap (λ (t : State g.row.T.Denot g.row.U.Denot). t.loans c.args.self.loan.number) (it.2).state ∙ has.1 in
     let step = returns-clause-sent g c it.0 it.1 has.0 it.2 out in
-    is-delivered c.outcome_of.result (elim (passes-parts c.args.domain.now (written_key c.args.self) never.passes).1 [
-      | inl over ↦ (overflowing-send {T = g.row.T.Denot} {U = g.row.U.Denot} fixed_handlers it.1 c.args.self.loan.number has.0 step.0 (result_of_send c.outcome_of.result)
-          (ap (λ (t : State g.row.T.Denot g.row.U.Denot). (t.config).enable_safe_overflow) (it.2).state ∙ over) step.2).0
-      | inr discards ↦ λ blocked.
-          never-blocked {T = g.row.T.Denot} {U = g.row.U.Denot} fixed_handlers it.1 c.args.self.loan.number has.0 step.0 ((it.2).well_formed.loans c.args.self.loan.number has.0 out).known
-          (λ x at. discards x
-          (sym (ap (λ (t : State g.row.T.Denot g.row.U.Denot). t.publishers c.args.self.loan.publisher) (it.2).state) ∙ ap (it.1).publishers (sym has.2) ∙ at))
-          (subst (Send fixed_handlers it.1 c.args.self.loan.number has.0 step.0) blocked step.2)
-    ])
+    is-delivered c.outcome_of.result (λ blocked.
+    never-waits-send {T = g.row.T.Denot} {U = g.row.U.Denot} c.args.domain.now (written_key c.args.self) it.0 it.1 it.2 never c.args.self.loan.number has.0 out (sym has.2) step.0
+    (subst (Send fixed_handlers it.1 c.args.self.loan.number has.0 step.0) blocked step.2))
 
 pub returns-clause-blocked : goal.returns-clause-blocked
 returns-clause-blocked g c =

@@ -30,7 +30,7 @@ pub returns-clause-live : goal.returns-clause-live
 returns-clause-live g c = λ never. record {
   out = returns-clause-out g c;
   never_waits = never-waits-alike (kept_of c.write_loan_from_fn-loan.new.state) (unwritten_key c.args.self.sample) (written_key (record { service_id = c.args.self.sample.service_id; loan = c.write_loan_from_fn-loan.result }))
-      (ap (λ (at : LoanAt). at.publisher) c.write_loan_from_fn-loan.ensures.same) ((returns-clause-stays g c).never_wait (unwritten_key c.args.self.sample) never tt);
+      (ap (λ (at : LoanAt). at.publisher) c.write_loan_from_fn-loan.ensures.same) ((returns-clause-stays g c).never_wait (unwritten_key c.args.self.sample) never);
 }
 
 pub returns-clause-unblocked : goal.returns-clause-unblocked
