@@ -4,6 +4,7 @@ use Rattle.iox2_store.specs.machine.Environments.{fixed_handlers}
 use Rattle.iox2_ends.specs.Receivers.{HasReclaimed}
 use Rattle.iox2_domain.specs.declared.publisher_state.BlockedDelivery.{BlockedDelivery}
 use Rattle.iox2_domain.specs.BlockedSends.{with_outcome}
+use Rattle.iox2_store.specs.declared.backpressure.BackpressureAction.TheVariants.{FollowBackpressureyStrategy}
 use Rattle.iox2_ends.specs.Handlers.{asked, marks_of}
 use Rattle.iox2_domain.specs.Ports.{PublisherFields}
 use Rattle.iox2_domain.specs.Fields.{Fields}
@@ -60,7 +61,7 @@ returns g c = λ x w at waits.
     (rw c.value.ensures at c.deliver-outcome.ensures.recounts) c.in-Some-blocked.blocked.slot c.args.start c.args.elapsed c.deliver-outcome.result c.deliver-outcome.ensures.alone
     (delivers-alike _ (subst (IsDomain {T = g.row.T.Denot} {U = g.row.U.Denot}) (sym c.state.view_is) c.requires.agrees).parts c.args.place _
     (read-there _ c.args.place _ _ (ap (λ (f : Fields g.row.T.Denot g.row.U.Denot). slice_index_or f.publishers c.args.place None) c.state.view_is ∙ c.requires.waits.stands) c.index_mut.ensures.value ∙ c.in-Some.is ∙ ap Some (sym c.publisher.view_is))
-    c.in-Some-blocked.blocked.slot c.args.start c.args.elapsed c.deliver-outcome.result c.deliver-outcome.new.connections (asked (λ function info answer. ⊥) c.handler-handler.result) fixed_handlers (marks_of c.handler-handler.result)
+    c.in-Some-blocked.blocked.slot c.args.start c.args.elapsed c.deliver-outcome.result c.deliver-outcome.new.connections (asked (λ function info answer. answer ≡ FollowBackpressureyStrategy) c.handler-handler.result) fixed_handlers (marks_of c.handler-handler.result)
     (c.handler-handler.ensures ∙ ap (λ (y : PublisherFields). y.backpressure_handler) (sym c.publisher.view_is))
     (rw (c.value.ensures, c.deref.ensures.value) at c.deliver-outcome.ensures.delivers))
     w (ap (λ (v : BlockedDelivery). v.slot) (sym is))

@@ -1,9 +1,10 @@
-use Rattle.std.proofs.Common.{◌<◌, ◌^◌, None, Some, slice_index_or, sym, ◌∙◌, ap, subst, arith, length}
+use Rattle.std.proofs.Common.{◌≡◌, ◌<◌, ◌^◌, None, Some, slice_index_or, sym, ◌∙◌, ap, subst, arith, length}
 use Rattle.iox2_store.specs.SlotBook.{Book}
 use Rattle.iox2_store.specs.machine.Environments.{fixed_handlers}
 use Rattle.iox2_store.specs.machine.Delivery.{no_time}
 use Rattle.iox2_ends.specs.Deliveries.{begun}
 use Rattle.iox2_domain.specs.Deliveries.{with_delivered, pushed, leaving, with_sent, with_left}
+use Rattle.iox2_store.specs.declared.backpressure.BackpressureAction.TheVariants.{FollowBackpressureyStrategy}
 use Rattle.iox2_ends.specs.Handlers.{asked, marks_of}
 use Rattle.iox2_domain.specs.Ports.{PublisherFields}
 use Rattle.iox2_domain.specs.Fields.{Fields}
@@ -86,7 +87,7 @@ returns g c = λ x at.
     (rw c.value.ensures at c.deliver-outcome.ensures.recounts) c.args.slot c.deliver-outcome.result c.deliver-outcome.ensures.alone
     (delivers-alike _ (subst (IsDomain {T = g.row.T.Denot} {U = g.row.U.Denot}) (sym c.state.view_is) c.requires.agrees).parts c.args.place _
     (read-there _ c.args.place _ _ (ap (λ (f : Fields g.row.T.Denot g.row.U.Denot). slice_index_or f.publishers c.args.place None) c.state.view_is ∙ c.requires.can.1) c.index_mut.ensures.value ∙ c.in-Some.is ∙ ap Some (sym c.publisher.view_is))
-    c.args.slot begun no_time c.deliver-outcome.result c.deliver-outcome.new.connections (asked (λ function info answer. ⊥) c.args.handler.now) fixed_handlers (marks_of c.args.handler.now)
+    c.args.slot begun no_time c.deliver-outcome.result c.deliver-outcome.new.connections (asked (λ function info answer. answer ≡ FollowBackpressureyStrategy) c.args.handler.now) fixed_handlers (marks_of c.args.handler.now)
     (c.requires.handler _ (sym (ap (λ (f : Fields g.row.T.Denot g.row.U.Denot). slice_index_or f.publishers c.args.place None) c.state.view_is) ∙ (read-there _ c.args.place _ _ (ap (λ (f : Fields g.row.T.Denot g.row.U.Denot). slice_index_or f.publishers c.args.place None) c.state.view_is ∙ c.requires.can.1) c.index_mut.ensures.value ∙ c.in-Some.is ∙ ap Some (sym c.publisher.view_is))))
     (rw (c.value.ensures, c.deref.ensures.value, c.begun.ensures) at c.deliver-outcome.ensures.delivers))
     _ (c.remember.ensures.publisher ∙ (λ t. record (delivered t) { history = pushed (history t) c.args.slot }))
