@@ -1,5 +1,5 @@
 -- An independent state stays independent.
-use Rattle.std.proofs.Common.{◌≡◌, ⊎_elim, ℕ, Bool, true, false, cond, not, List, [], ◌∷◌, ◌++◌, refl, sym, ap, subst, ◌∙◌, Option, None, Some, is_none, eqb}
+use Rattle.std.proofs.Common.{◌≡◌, ⊎_elim, ℕ, Bool, true, false, cond, List, [], ◌∷◌, ◌++◌, refl, sym, ap, subst, ◌∙◌, Option, None, Some, eqb}
 use Rattle.std.specs.Prelude.{◌≢◌, nat_lt}
 use Rattle.std.specs.Option.{option_map}
 use Rattle.std.proofs.lemmas.Bool.{true≢false, cases_eq}
@@ -40,7 +40,7 @@ independent_changed c x x' e1 e2 e3 e4 e5 e6 k = record {
   static = ap is_static e1 ∙ k.static;
   slots = e2 ∙ k.slots ∙ ap (worst_case c) (sym e3);
   unblocked = e4 ∙ k.unblocked;
-  never_waits = (λ i. never_waits c (e5 i) (not (is_none (e6 i)))) ∙ k.never_waits;
+  never_waits = (λ i. never_waits c (e5 i) (e6 i)) ∙ k.never_waits;
 }
 
 -- of publishers by id
@@ -71,7 +71,7 @@ each_independent c publishers change all go i z e = found_mapped change (publish
 pub record AreIndependentSettings (c : ServiceConfig) (given : PublisherSettings) : Type 0 where
   pub static : is_static given.allocation_strategy ≡ true
   pub slots : slots_for c given ≡ worst_case c given.max_loaned_samples
-  pub never_waits : never_waits c given.backpressure_strategy (not (is_none given.backpressure_handler)) ≡ true
+  pub never_waits : never_waits c given.backpressure_strategy given.backpressure_handler ≡ true
 
 module _ {T U : Type 0} (q : ℕ) where
   -- Publishers are independent, and subscribers but q open.

@@ -36,23 +36,18 @@ use Rattle.iox2_commands.proofs.AlikeSteps.{open_of, none_blocked}
 independent_settings : (c : ServiceConfig) (loans : ℕ) (strategy : BackpressureStrategy) (allocation : AllocationStrategy) (len : ℕ) (override_slots : Option ℕ) (degradation : DegradationAction) (backpressure : Option BackpressureAction)
     → (is_static allocation
     && eqb (slots_for c (publisher_settings c.variant loans strategy allocation len override_slots degradation backpressure)) (worst_case c loans)
-    && never_waits c strategy (not (is_none backpressure))) ≡ true
+    && never_waits c strategy (option_map {U = Handler BackpressureAction} (λ action. Fixed action) backpressure)) ≡ true
     → AreIndependentSettings c (publisher_settings c.variant loans strategy allocation len override_slots degradation backpressure)
 independent_settings c loans strategy allocation len override_slots degradation backpressure h =
     let given : PublisherSettings = publisher_settings c.variant loans strategy allocation len override_slots degradation backpressure in
-    let parts : (is_static allocation ≡ true) × (eqb (slots_for c given) (worst_case c loans) ≡ true) × (never_waits c strategy (not (is_none backpressure)) ≡ true) = three _ _ _ h in
-    record { static = parts.0; slots = eqb-true (slots_for c given) (worst_case c loans) parts.1; never_waits = handler backpressure parts.2 }
+    let parts : (is_static allocation ≡ true) × (eqb (slots_for c given) (worst_case c loans) ≡ true) × (never_waits c strategy (option_map {U = Handler BackpressureAction} (λ action. Fixed action) backpressure) ≡ true) = three _ _ _ h in
+    record { static = parts.0; slots = eqb-true (slots_for c given) (worst_case c loans) parts.1; never_waits = parts.2 }
   where
     three : (x y z : Bool) → (x && y && z) ≡ true → (x ≡ true) × (y ≡ true) × (z ≡ true)
     three true true true h = (refl, refl, refl)
     three true true false h = absurd (true≢false (sym h))
     three true false z h = absurd (true≢false (sym h))
     three false y z h = absurd (true≢false (sym h))
-
-    handler : (o : Option BackpressureAction) → never_waits c strategy (not (is_none o)) ≡ true
-        → never_waits c strategy (not (is_none (option_map {U = Handler BackpressureAction} (λ action. Fixed action) o))) ≡ true
-    handler None h = h
-    handler (Some x) h = h
 
 module _ {T U : Type 0} where
   -- ---- the state of an outcome

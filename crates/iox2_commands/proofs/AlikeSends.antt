@@ -1,5 +1,5 @@
 -- Deliveries that never wait, and sends from two states that look alike to a subscriber.
-use Rattle.std.proofs.Common.{◌≡◌, ℕ, ◌+◌, Bool, true, false, cond, not, ◌&&◌, ◌||◌, List, [], ◌∷◌, ◌++◌, refl, sym, ap, subst, ◌∙◌, Option, None, Some, is_none, eqb}
+use Rattle.std.proofs.Common.{◌≡◌, ℕ, ◌+◌, Bool, true, false, cond, ◌&&◌, ◌||◌, List, [], ◌∷◌, ◌++◌, refl, sym, ap, subst, ◌∙◌, Option, None, Some, eqb}
 use Rattle.std.proofs.Math.Path.{fun_ext}
 use Rattle.std.specs.Option.{option_map}
 use Rattle.std.specs.declared.time.Duration.{Duration}
@@ -7,14 +7,13 @@ use Rattle.std.proofs.lemmas.Bool.{eqb-true, true≢false}
 use Rattle.std.proofs.lemmas.Option.{same_Some}
 use Rattle.iox2_store.specs.machine.Numbers.{put_at, without, last_n}
 use Rattle.iox2_store.specs.machine.Mailbox.{Mailbox, has_room, with_appended}
-use Rattle.iox2_store.specs.machine.Records.{Loan, Publisher, Handler, Environment}
+use Rattle.iox2_store.specs.machine.Records.{Loan, Publisher, Handler, Fixed, Custom, Environment}
 use Rattle.iox2_store.specs.machine.State.{State, receiving_buffer, with_loan}
-use Rattle.iox2_store.specs.machine.Delivery.{PutResult, Skipped, accepted_count, is_failed, is_blocking, DeliveryEnd, Complete, Decides, Put, Deliver, no_time}
+use Rattle.iox2_store.specs.machine.Delivery.{PutResult, Accepted, Skipped, Failed, Would_block, by_action, by_strategy, accepted_count, is_failed, is_blocking, DeliveryEnd, Complete, Decides, Put, Deliver, no_time}
 use Rattle.iox2_store.specs.machine.Loans.{loan_discarded, entry_of}
 use Rattle.iox2_store.specs.machine.Sends.{SendResult, Delivered_to, Send_error, published, send_ended, ConcludeSend, with_mailboxes, DeliverAndConclude, Publish, Send}
 use Rattle.iox2_store.specs.declared.service_config.ServiceConfig.{ServiceConfig}
 use Rattle.iox2_store.specs.declared.backpressure.BackpressureStrategy.{BackpressureStrategy}
-use Rattle.iox2_store.specs.declared.backpressure.BackpressureStrategy.TheVariants.{RetryUntilDelivered, DiscardData}
 use Rattle.iox2_store.specs.declared.backpressure.BackpressureAction.{BackpressureAction}
 use Rattle.iox2_store.specs.declared.backpressure.BackpressureInfo.{BackpressureInfo}
 use Rattle.iox2_store.specs.declared.errors.SendError.TheVariants.{ConnectionBrokenSinceSenderNoLongerExists, ConnectionError}
@@ -23,7 +22,7 @@ use Rattle.iox2_laws.proofs.Cases.{by_option, by_bool, by_options}
 use Rattle.iox2_laws.proofs.Puts.{put_at-same}
 use Rattle.iox2_laws.proofs.PublisherUpdates.{update_publisher_changes, update_publisher_advances}
 use Rattle.iox2_store.specs.machine.Environments.{ample_memory}
-use Rattle.iox2_commands.specs.Isolation.{is_discarding, never_waits, IsIndependentPublisher}
+use Rattle.iox2_commands.specs.Isolation.{is_skipped, is_discarding, never_waits, IsIndependentPublisher}
 use Rattle.iox2_commands.specs.Step.{after_send}
 use Rattle.iox2_commands.proofs.AlikeViews.{View, view_of, row_put, buffer_seen, receiving_buffer_seen}
 use Rattle.iox2_commands.proofs.AlikeUpdates.{update_publisher_alike}
@@ -37,20 +36,25 @@ abbrev put_box : ServiceConfig → (n : ℕ) → (buffer : Option ℕ) → Mailb
 put_box c n None box = box
 put_box c n (Some buffer) box = cond (has_room buffer box || c.enable_safe_overflow) (with_appended buffer n box) box
 
--- without room and overflow, the strategy discards and there is no handler
-discards : (room overflow discarding none : Bool) → (room || overflow) ≡ false → (overflow || (discarding && not (not none))) ≡ true → (discarding ≡ true) × (none ≡ true)
-discards true overflow discarding none e f = absurd (true≢false e)
-discards false true discarding none e f = absurd (true≢false e)
-discards false false false none e f = absurd (true≢false (sym f))
-discards false false true false e f = absurd (true≢false (sym f))
-discards false false true true e f = (refl, refl)
+-- without room and overflow, the message is discarded
+discards : (room overflow discarding : Bool) → (room || overflow) ≡ false → (overflow || discarding) ≡ true → discarding ≡ true
+discards true overflow discarding e f = absurd (true≢false e)
+discards false true discarding e f = absurd (true≢false e)
+discards false false discarding e f = f
 
--- the strategy decides that the message is skipped
+-- a result that says skipped
+skipped : (result : PutResult) → is_skipped result ≡ true → result ≡ Skipped
+skipped Accepted e = absurd (true≢false (sym e))
+skipped Skipped e = refl
+skipped Failed e = absurd (true≢false (sym e))
+skipped Would_block e = absurd (true≢false (sym e))
+
+-- it is decided that the message is skipped
 decided : (environment : Environment) (p : ℕ) (handler : Option (Handler BackpressureAction)) (strategy : BackpressureStrategy) (info : BackpressureInfo) (result : PutResult)
-    → is_discarding strategy ≡ true → is_none handler ≡ true → Decides environment p handler strategy info result → result ≡ Skipped
-decided environment p None DiscardData info result d n h = h
-decided environment p None RetryUntilDelivered info result d n h = absurd (true≢false (sym d))
-decided environment p (Some x) strategy info result d n h = absurd (true≢false (sym n))
+    → is_discarding strategy handler ≡ true → Decides environment p handler strategy info result → result ≡ Skipped
+decided environment p None strategy info result d h = h ∙ skipped (by_strategy strategy) d
+decided environment p (Some (Fixed action)) strategy info result d h = h ∙ skipped (by_action strategy action) d
+decided environment p (Some Custom) strategy info result d h = absurd (true≢false (sym d))
 
 -- The mailbox of q after a delivery at these ends: it depends on that mailbox, its buffer and the message alone.
 abbrev pub deliver_box : ServiceConfig → (n : ℕ) → (buffers : ℕ → Option ℕ) → (q : ℕ) → List (Option ℕ) → Mailbox → Mailbox
@@ -68,7 +72,7 @@ put_seen c n buffers q r boxes =
     ] refl
 
 module _ (environment : Environment) (c : ServiceConfig) (p : ℕ) (strategy : BackpressureStrategy) (handler : Option (Handler BackpressureAction)) (buffers : ℕ → Option ℕ) (n : ℕ)
-    (independent : never_waits c strategy (not (is_none handler)) ≡ true) where
+    (independent : never_waits c strategy handler ≡ true) where
   -- the message went in or past, and what became of the mailbox
   abbrev Went : PutResult → Mailbox → Mailbox → Type 0
   Went result box box' = (is_blocking result ≡ false) × (is_failed result ≡ false) × (box' ≡ box)
@@ -80,9 +84,9 @@ module _ (environment : Environment) (c : ServiceConfig) (p : ℕ) (strategy : B
       by_bool (Went result (put_box c n (Some buffer) box) box') (has_room buffer box || c.enable_safe_overflow) _ _ h
       (λ t h. (ap is_blocking h.0, ap is_failed h.0, h.1 ∙ ap (λ (b : Bool). cond b (with_appended buffer n box) box) (sym t)))
       (λ f h.
-      let off : (is_discarding strategy ≡ true) × (is_none handler ≡ true) = discards (has_room buffer box) c.enable_safe_overflow (is_discarding strategy) (is_none handler) f independent in
-      let skipped : result ≡ Skipped = decided environment p handler strategy _ result off.0 off.1 h.0 in
-      (ap is_blocking skipped, ap is_failed skipped, h.1 ∙ ap (λ (b : Bool). cond b (with_appended buffer n box) box) (sym f)))
+      let off : is_discarding strategy handler ≡ true = discards (has_room buffer box) c.enable_safe_overflow (is_discarding strategy handler) f independent in
+      let past : result ≡ Skipped = decided environment p handler strategy _ result off h.0 in
+      (ap is_blocking past, ap is_failed past, h.1 ∙ ap (λ (b : Bool). cond b (with_appended buffer n box) box) (sym f)))
 
   -- A delivery that never waits reaches all receivers.
   pub deliver_is : (q retries : ℕ) (elapsed : Duration) (place : ℕ) (ends : List (Option ℕ)) (count : ℕ) (failed : Bool) (boxes : ℕ → Mailbox) (how : DeliveryEnd) (boxes' : ℕ → Mailbox) → failed ≡ false
@@ -143,7 +147,7 @@ module _ {T U : Type 0} (q : ℕ) where
 
   -- what a delivery comes to
   delivered : (s s' : State T U) (p n retries : ℕ) (elapsed : Duration) (place : ℕ) (ends : List (Option ℕ)) (count : ℕ) (x : Publisher) (result : SendResult)
-      → s.publishers p ≡ Some x → never_waits s.config x.backpressure_strategy (not (is_none x.backpressure_handler)) ≡ true
+      → s.publishers p ≡ Some x → never_waits s.config x.backpressure_strategy x.backpressure_handler ≡ true
       → DeliverAndConclude ample_memory s p n retries elapsed place ends count false s' result
       → (total : ℕ) × (result ≡ Delivered_to total) × (view_of q s' ≡ delivered_view p n ends (view_of q s))
   delivered s s' p n retries elapsed place ends count x result e independent h =
@@ -151,7 +155,7 @@ module _ {T U : Type 0} (q : ℕ) where
       let same : z ≡ x = same_Some z x (sym f ∙ e) in
       let end : (total : ℕ) × (h.0 ≡ Complete total false) × (h.1 q ≡ deliver_box s.config n (receiving_buffer s) q ends (s.mailboxes p q)) =
       deliver_is ample_memory s.config p z.backpressure_strategy z.backpressure_handler (receiving_buffer s) n
-      (subst (λ (y : Publisher). never_waits s.config y.backpressure_strategy (not (is_none y.backpressure_handler)) ≡ true) (sym same) independent)
+      (subst (λ (y : Publisher). never_waits s.config y.backpressure_strategy y.backpressure_handler ≡ true) (sym same) independent)
       q retries elapsed place ends count false (s.mailboxes p) h.0 h.1 refl h.2 in
       let concluded : (s' ≡ send_ended (with_mailboxes s p h.1) p n) × (result ≡ Delivered_to end.0) =
       subst (λ (how : DeliveryEnd). ConcludeSend (with_mailboxes s p h.1) p n how s' result) end.1 h.3 in
@@ -164,7 +168,7 @@ module _ {T U : Type 0} (q : ℕ) where
 
   -- what a publication comes to
   pub publish_is : (s s' : State T U) (p n : ℕ) (x : Publisher) (result : SendResult)
-      → s.publishers p ≡ Some x → never_waits s.config x.backpressure_strategy (not (is_none x.backpressure_handler)) ≡ true → Publish ample_memory s p n s' result
+      → s.publishers p ≡ Some x → never_waits s.config x.backpressure_strategy x.backpressure_handler ≡ true → Publish ample_memory s p n s' result
       → (total : ℕ) × (result ≡ Delivered_to total) × (view_of q s' ≡ delivered_view p n x.ends (published_view p n (view_of q s)))
   publish_is s s' p n x result e independent h =
       by_option ((total : ℕ) × (result ≡ Delivered_to total) × (view_of q s' ≡ delivered_view p n x.ends (published_view p n (view_of q s)))) (s.publishers p) _ _ h (λ _ v. absurd v) (λ z f h.
@@ -201,10 +205,10 @@ module _ {T U : Type 0} (q : ℕ) where
       let changed : (ends : List (Option ℕ)) × (due : Bool) × ((h.0).publishers p ≡ Some (record x { ends = ends; is_due = due })) = update_publisher_changes ample_memory a p h.0 h.1 x found h.2 in
       let stays : Advances a h.0 = update_publisher_advances ample_memory a p h.0 h.1 h.2 in
       let x' : Publisher = record x { ends = changed.0; is_due = changed.1 } in
-      let independent_a : never_waits (h.0).config x'.backpressure_strategy (not (is_none x'.backpressure_handler)) ≡ true =
-      subst (λ (c : ServiceConfig). never_waits c x.backpressure_strategy (not (is_none x.backpressure_handler)) ≡ true) (sym stays.config) (independent x found).never_waits in
-      let independent_b : never_waits (k.0).config x'.backpressure_strategy (not (is_none x'.backpressure_handler)) ≡ true =
-      subst (λ (v : View T U). never_waits v.config x.backpressure_strategy (not (is_none x.backpressure_handler)) ≡ true) updated.0 independent_a in
+      let independent_a : never_waits (h.0).config x'.backpressure_strategy x'.backpressure_handler ≡ true =
+      subst (λ (c : ServiceConfig). never_waits c x.backpressure_strategy x.backpressure_handler ≡ true) (sym stays.config) (independent x found).never_waits in
+      let independent_b : never_waits (k.0).config x'.backpressure_strategy x'.backpressure_handler ≡ true =
+      subst (λ (v : View T U). never_waits v.config x.backpressure_strategy x.backpressure_handler ≡ true) updated.0 independent_a in
       let found_b : (k.0).publishers p ≡ Some x' = ap (λ (v : View T U). v.publishers p) (sym updated.0) ∙ changed.2 in
       let one : (total : ℕ) × (result ≡ Delivered_to total) × (view_of q a' ≡ delivered_view p n x'.ends (published_view p n (view_of q h.0))) = publish_is h.0 a' p n x' result changed.2 independent_a j in
       let two : (total : ℕ) × (result' ≡ Delivered_to total) × (view_of q b' ≡ delivered_view p n x'.ends (published_view p n (view_of q k.0))) = publish_is k.0 b' p n x' result' found_b independent_b m in

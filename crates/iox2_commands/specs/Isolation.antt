@@ -1,17 +1,19 @@
 -- What one subscriber sees doesn't depend on how fast the others are.
-use Rattle.std.specs.Prelude.{ℕ, Bool, true, false, not, ◌&&◌, ◌||◌, List, [], ◌∷◌, ◌++◌, ◌≡◌, ◌≢◌, ◌==◌, ◌<◌, slice_get, is_none}
+use Rattle.std.specs.Prelude.{ℕ, Bool, true, false, not, ◌&&◌, ◌||◌, List, [], ◌∷◌, ◌++◌, ◌≡◌, ◌≢◌, ◌==◌, ◌<◌, slice_get}
 use Rattle.std.specs.declared.option.Option.{Option}
+use Rattle.std.specs.Option.{option_map}
 use Rattle.std.specs.declared.option.Option.TheVariants.{None, Some}
 use Rattle.iox2_store.specs.machine.Limits.{worst_case}
 use Rattle.iox2_store.specs.machine.Mailbox.{has_borrows}
-use Rattle.iox2_store.specs.machine.Records.{Publisher, Subscriber}
+use Rattle.iox2_store.specs.machine.Delivery.{PutResult, Accepted, Skipped, Failed, Would_block, by_action, by_strategy}
+use Rattle.iox2_store.specs.machine.Records.{Publisher, Subscriber, Handler, Fixed, Custom}
 use Rattle.iox2_store.specs.machine.State.{State, Messages, fresh, no_messages}
 use Rattle.iox2_store.specs.machine.Loans.{is_static}
 use Rattle.iox2_store.specs.machine.Ports.{slots_for}
 use Rattle.iox2_store.specs.machine.WellFormed.{IsWellFormed}
 use Rattle.iox2_store.specs.declared.service_config.ServiceConfig.{ServiceConfig}
 use Rattle.iox2_store.specs.declared.backpressure.BackpressureStrategy.{BackpressureStrategy}
-use Rattle.iox2_store.specs.declared.backpressure.BackpressureStrategy.TheVariants.{RetryUntilDelivered, DiscardData}
+use Rattle.iox2_store.specs.declared.backpressure.BackpressureAction.{BackpressureAction}
 use Rattle.iox2_commands.specs.Outcomes.{Handle, No_handle, Subscriber_handle, Sample_handle, Event, Outcome, messages_after}
 use Rattle.iox2_commands.specs.Step.{Step, publisher_settings}
 use Rattle.iox2_store.specs.machine.Environments.{ample_memory}
@@ -25,21 +27,29 @@ use Rattle.iox2_commands.specs.declared.reply.Reply.TheVariants.{PublisherMade, 
 
 -- ---- services in which nobody waits for a subscriber
 
--- A full receiver is skipped.
-abbrev pub is_discarding : BackpressureStrategy → Bool
-is_discarding RetryUntilDelivered = false
-is_discarding DiscardData = true
+-- It went past the receiver, and the send hasn't failed.
+abbrev pub is_skipped : PutResult → Bool
+is_skipped Accepted = false
+is_skipped Skipped = true
+is_skipped Failed = false
+is_skipped Would_block = false
 
--- Deliveries never wait for a receiver: each takes the message, or it is skipped.
-abbrev pub never_waits : ServiceConfig → BackpressureStrategy → (has_handler : Bool) → Bool
-never_waits c strategy has_handler = c.enable_safe_overflow || (is_discarding strategy && not has_handler)
+-- A full receiver is skipped: the strategy says so, or a handler that always gives the same answer.
+abbrev pub is_discarding : BackpressureStrategy → Option (Handler BackpressureAction) → Bool
+is_discarding strategy None = is_skipped (by_strategy strategy)
+is_discarding strategy (Some (Fixed action)) = is_skipped (by_action strategy action)
+is_discarding strategy (Some Custom) = false
+
+-- Deliveries never wait for a receiver, nor fail at one: each takes the message, or it is skipped.
+abbrev pub never_waits : ServiceConfig → BackpressureStrategy → Option (Handler BackpressureAction) → Bool
+never_waits c strategy handler = c.enable_safe_overflow || is_discarding strategy handler
 
 -- A publisher has the worst case of slots in its one segment, and waits for no receiver.
 pub record IsIndependentPublisher (c : ServiceConfig) (x : Publisher) : Type 0 where
   pub static : is_static x.allocation_strategy ≡ true
   pub slots : x.slots ≡ worst_case c x.max_loaned_samples
   pub unblocked : x.blocked ≡ None
-  pub never_waits : never_waits c x.backpressure_strategy (not (is_none x.backpressure_handler)) ≡ true
+  pub never_waits : never_waits c x.backpressure_strategy x.backpressure_handler ≡ true
 
 -- The state is well-formed, all publishers are independent, and no closed subscriber is left but q.
 pub record IsIndependent {T U : Type 0} (q : ℕ) (s : State T U) : Type 0 where
@@ -52,7 +62,7 @@ abbrev pub makes_independent_publisher : {T U : Type 0} → ServiceConfig → Co
 makes_independent_publisher c (CreatePublisher loans strategy allocation len override_slots degradation backpressure) =
     is_static allocation
     && slots_for c (publisher_settings c.variant loans strategy allocation len override_slots degradation backpressure) == worst_case c loans
-    && never_waits c strategy (not (is_none backpressure))
+    && never_waits c strategy (option_map {U = Handler BackpressureAction} (λ action. Fixed action) backpressure)
 makes_independent_publisher c _ = true
 
 -- Each sample that the subscriber made at `of` received before the command at i was released before that command.
