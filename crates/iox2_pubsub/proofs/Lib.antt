@@ -13,6 +13,7 @@ pub mod FilledLengths
 pub mod FilledLoans
 pub mod SentMessages
 pub mod OverflowSends
+pub mod PassingSends
 pub mod UnfailedSends
 pub mod SendShown
 pub mod AlwaysShows

@@ -6,7 +6,6 @@ use Rattle.iox2_store.specs.machine.Mailbox.{is_borrowed}
 use Rattle.iox2_store.specs.machine.Records.{Entry, Loan, Publisher, BlockedSend}
 use Rattle.iox2_store.specs.machine.SingleCalls.{HoldsPublisher, HoldsSubscriber, HoldsLoan, HoldsSample, HoldsBlocked}
 use Rattle.iox2_store.specs.machine.State.{is_blocked}
-use Rattle.iox2_store.specs.declared.backpressure.BackpressureStrategy.TheVariants.{DiscardData}
 use Rattle.iox2_store.specs.declared.header.Header.{Header}
 use Rattle.iox2_store.specs.declared.key.Key.{Key}
 use Rattle.iox2_store.specs.declared.service_config.TypeVariant.TheVariants.{FixedSize}
@@ -14,6 +13,7 @@ use Rattle.iox2_domain.specs.Handlers.{may_fail}
 use Rattle.iox2_domain.specs.Kept.{Kept, state_of, entries_of}
 use Rattle.iox2_domain.specs.LoanCalls.{HasCell, HasLoanHeader, HasLoanUserHeader, HoldsUnwritten, HoldsWritten}
 use Rattle.iox2_pubsub.proofs.UnfailedSends.{HasNotFailed}
+use Rattle.iox2_pubsub.specs.Handlers.{may_wait}
 use Rattle.iox2_pubsub.specs.Live.{IsSingleValued, IsPublisherKey, IsSubscriberKey, IsLoanKey, IsSampleKey, IsBlockedKey, IsUnblocked, Overflows, PassesFull, NeverFails, NeverWaits, HasMark, IsFromOrigin, UnwrittenReads, LoanReads, SampleReads, LoanHasHeader, LoanHasUserHeader, SampleHasHeader, SampleHasUserHeader, IsUnwritten, IsWritten}
 use Rattle.iox2_pubsub.specs.Slices.{HasUnwrittenCells, HasValues, SampleHasValues}
 use Rattle.iox2_pubsub.specs.declared.sample.Sample.{Sample}
@@ -74,15 +74,15 @@ module _ {T U : Type 0} (kept : Kept T U) where
     unfolding IsUnblocked
     unblocked-free parts = parts
 
-    -- the publisher, if it's there, discards, and has no handler
-    abbrev pub Discards : Type 0
-    Discards = (x : Publisher) → (state_of kept).publishers key.port ≡ Some x → (x.backpressure_strategy ≡ DiscardData) × (x.backpressure_handler ≡ None)
+    -- the publisher, if it's there, waits for no full receiver
+    abbrev pub WaitsForNone : Type 0
+    WaitsForNone = (x : Publisher) → (state_of kept).publishers key.port ≡ Some x → may_wait x.backpressure_strategy x.backpressure_handler ≡ false
 
-    pub passes-parts : PassesFull kept key → (key.port < (state_of kept).next_port) × (Overflows kept ⊎ Discards)
+    pub passes-parts : PassesFull kept key → (key.port < (state_of kept).next_port) × (Overflows kept ⊎ WaitsForNone)
     unfolding PassesFull
     passes-parts has = has
 
-    pub passes-from : (key.port < (state_of kept).next_port) × (Overflows kept ⊎ Discards) → PassesFull kept key
+    pub passes-from : (key.port < (state_of kept).next_port) × (Overflows kept ⊎ WaitsForNone) → PassesFull kept key
     unfolding PassesFull
     passes-from parts = parts
 

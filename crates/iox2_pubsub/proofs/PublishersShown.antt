@@ -9,7 +9,6 @@ use Rattle.iox2_store.specs.machine.SingleCalls.{HoldsPublisher}
 use Rattle.iox2_store.specs.machine.State.{State, Messages}
 use Rattle.iox2_store.specs.declared.backpressure.BackpressureAction.{BackpressureAction}
 use Rattle.iox2_store.specs.declared.backpressure.BackpressureStrategy.{BackpressureStrategy}
-use Rattle.iox2_store.specs.declared.backpressure.BackpressureStrategy.TheVariants.{DiscardData}
 use Rattle.iox2_store.specs.declared.errors.PublisherCreateError.{PublisherCreateError}
 use Rattle.iox2_store.specs.declared.service_config.ServiceConfig.{ServiceConfig}
 use Rattle.iox2_laws.proofs.SendsRemain.{created_as}
@@ -17,6 +16,7 @@ use Rattle.iox2_domain.specs.Handlers.{may_fail}
 use Rattle.iox2_domain.specs.Kept.{state_of}
 use Rattle.iox2_domain.specs.Fields.{Fields, kept_of}
 use Rattle.iox2_domain.specs.NewPublisher.{static_publisher}
+use Rattle.iox2_pubsub.specs.Handlers.{may_wait}
 use Rattle.iox2_pubsub.specs.Live.{IsReadyPublisher, NeverFails, NeverWaits, publisher_key}
 use Rattle.iox2_pubsub.specs.declared.publisher.Publisher.{Publisher}
 use Rattle.iox2_pubsub.proofs.LiveParts.{publisher-live, unblocked-free, unfailed-from, passes-from}
@@ -82,15 +82,15 @@ module _ {T U : Type 0} (f g : Fields T U) (loans : ℕ) (strategy : Backpressur
       let stands = created-stands t made reached publisher id in
       unfailed-from (kept_of g) _ (stands.0, inr (λ x here. ap may_fail (stands.1 x here).1 ∙ none), unwaiting t made reached publisher id)
 
-  -- and it never waits where it discards
+  -- and it never waits where it waits for no full receiver
   pub created-never-waits : (t : State T U) → CreatePublisher environment (state_of (kept_of f)) (static_publisher loans strategy handler len) t None → Reaches f g t
-      → (publisher : Publisher) → publisher.id ≡ f.next_port → strategy ≡ DiscardData → handler ≡ None → NeverWaits (kept_of g) (publisher_key publisher)
-  created-never-waits t made reached publisher id discards none =
+      → (publisher : Publisher) → publisher.id ≡ f.next_port → may_wait strategy handler ≡ false → may_fail handler ≡ false → NeverWaits (kept_of g) (publisher_key publisher)
+  created-never-waits t made reached publisher id past none =
       let stands = created-stands t made reached publisher id in
       record {
-        passes = passes-from (kept_of g) _ (stands.0, inr (λ x here. ((stands.1 x here).0 ∙ discards, (stands.1 x here).1 ∙ none)));
+        passes = passes-from (kept_of g) _ (stands.0, inr (λ x here. (λ i. may_wait ((stands.1 x here).0 i) ((stands.1 x here).1 i)) ∙ past));
         unblocked = unblocked-free (kept_of g) _ (stands.0, λ x here. (stands.1 x here).2);
-        never_fails = created-never-fails t made reached publisher id (ap may_fail none);
+        never_fails = created-never-fails t made reached publisher id none;
       }
 
   -- nor where the service overflows

@@ -15,15 +15,14 @@ use Rattle.iox2_laws.proofs.Cases.{by_option}
 use Rattle.std.specs.Prelude.{IsOk, IfOk, IfErr, List}
 use Rattle.iox2_store.specs.machine.Delivery.{Deliver, DeliveryEnd, Complete, Suspended, no_time}
 use Rattle.iox2_store.specs.machine.Mailbox.{Mailbox}
-use Rattle.iox2_store.specs.declared.backpressure.BackpressureAction.{BackpressureAction}
-use Rattle.iox2_store.specs.declared.backpressure.BackpressureStrategy.TheVariants.{DiscardData}
 use Rattle.iox2_store.specs.declared.key.Key.{Key}
 use Rattle.iox2_laws.proofs.Waits.{waits_trans, update_publisher_waits, published_waits}
-use Rattle.iox2_domain.proofs.lemmas.sends.DeliverySteps.{never-waits}
 use Rattle.iox2_domain.specs.Kept.{Kept}
 use Rattle.iox2_pubsub.specs.Live.{A_blocked_send, HasLender, IsBlockedSend, NeverFails, NeverWaits, blocked_key, blocked_send}
 use Rattle.iox2_pubsub.proofs.LiveParts.{passes-parts, unfailed-parts}
 use Rattle.iox2_pubsub.proofs.OverflowSends.{overflowing-send}
+use Rattle.iox2_pubsub.proofs.PassingSends.{never-suspended}
+use Rattle.iox2_pubsub.specs.Handlers.{may_wait}
 use Rattle.iox2_pubsub.proofs.SentMessages.{after-error}
 use Rattle.iox2_pubsub.specs.declared.blocked_send.BlockedSend.{BlockedSend}
 use Rattle.iox2_pubsub.specs.declared.publisher.Publisher.{Publisher as Handle}
@@ -171,11 +170,11 @@ only-error {T} {U} f g n p end kept sends its never (Err error) is =
 
 -- ---- a send that is blocked
 
--- a publisher that discards what a full receiver doesn't take, and has no handler, waits for nobody
+-- a publisher that waits for no full receiver has no send that is blocked
 pub never-blocked : {T U : Type 0} (environment : Environment) (s : State T U) (n : ℕ) (l : Loan T U) (s' : State T U) → l.publisher < s.next_port
-    → ((x : Publisher) → s.publishers l.publisher ≡ Some x → (x.backpressure_strategy ≡ DiscardData) × (x.backpressure_handler ≡ None))
+    → ((x : Publisher) → s.publishers l.publisher ≡ Some x → may_wait x.backpressure_strategy x.backpressure_handler ≡ false)
     → Send environment s n l s' Blocked_send → ⊥
-never-blocked {T} {U} environment s n l s' low discards h =
+never-blocked {T} {U} environment s n l s' low past h =
     by_option ⊥ (s.publishers l.publisher) _ _ h
     (λ _ k. absurd (let no : Blocked_send ≡ Send_error ConnectionBrokenSinceSenderNoLongerExists = k.1 in cc))
     (λ x _ k. by_option ⊥ k.1 _ _ k.3
@@ -183,18 +182,17 @@ never-blocked {T} {U} environment s n l s' low discards h =
     by_option ⊥ ((published k.0 l.publisher n).publishers l.publisher) _ _ i (λ _ v. v) (λ x2 at d.
     let mid : State T U = published k.0 l.publisher n in
     let was = (waits_trans (λ _. ⊥) s k.0 mid (update_publisher_waits (λ _. ⊥) environment s l.publisher k.0 k.1 k.2) (published_waits (λ _. ⊥) k.0 l.publisher n)).publishers l.publisher x2 low at in
-    let has = discards was.0 was.1 in
-    ends mid x2 (was.2.strategy ∙ has.0) (was.2.handler ∙ has.1) x1.ends d.0 d.1 d.3 d.2)))
+    ends mid x2 ((λ i. may_wait (was.2.strategy i) (was.2.handler i)) ∙ past was.0 was.1) x1.ends d.0 d.1 d.3 d.2)))
     (λ e _ j. absurd (let no : Blocked_send ≡ Send_error (ConnectionError e) = j.1 in cc)))
   where
-    ends : (mid : State T U) (x : Publisher) → x.backpressure_strategy ≡ DiscardData → x.backpressure_handler ≡ None → (whole : List (Option ℕ)) (how : DeliveryEnd) (boxes : ℕ → Mailbox)
+    ends : (mid : State T U) (x : Publisher) → may_wait x.backpressure_strategy x.backpressure_handler ≡ false → (whole : List (Option ℕ)) (how : DeliveryEnd) (boxes : ℕ → Mailbox)
         → ConcludeSend (with_mailboxes mid l.publisher boxes) l.publisher n how s' Blocked_send
         → Deliver environment mid.config l.publisher x.backpressure_strategy x.backpressure_handler (receiving_buffer mid) n 0 no_time 0 whole 0 false (mid.mailboxes l.publisher) how boxes → ⊥
-    ends mid x strategy handler whole (Complete count true) boxes concludes delivers = absurd (let no : Blocked_send ≡ Send_error UnableToDeliver = concludes.1 in cc)
-    ends mid x strategy handler whole (Complete count false) boxes concludes delivers = absurd (let no : Blocked_send ≡ Delivered_to count = concludes.1 in cc)
-    ends mid x strategy handler whole (Suspended b) boxes concludes delivers =
-        never-waits environment mid.config l.publisher x.backpressure_strategy (receiving_buffer mid) n whole (mid.mailboxes l.publisher) b boxes strategy
-        (subst (λ (o : Option (Handler BackpressureAction)). Deliver environment mid.config l.publisher x.backpressure_strategy o (receiving_buffer mid) n 0 no_time 0 whole 0 false (mid.mailboxes l.publisher) (Suspended b) boxes) handler delivers)
+    ends mid x past whole (Complete count true) boxes concludes delivers = absurd (let no : Blocked_send ≡ Send_error UnableToDeliver = concludes.1 in cc)
+    ends mid x past whole (Complete count false) boxes concludes delivers = absurd (let no : Blocked_send ≡ Delivered_to count = concludes.1 in cc)
+    ends mid x past whole (Suspended b) boxes concludes delivers =
+        never-suspended environment mid.config l.publisher x.backpressure_strategy x.backpressure_handler (receiving_buffer mid) n past 0 no_time 0 whole 0 false (mid.mailboxes l.publisher)
+        (Suspended b) boxes delivers b refl
 
 -- so its message reaches all receivers
 pub is-delivered : (outcome : Result SendOutcome SendError) → (result_of_send outcome ≡ Blocked_send → ⊥) → IfOk outcome IsDelivered
@@ -236,9 +234,9 @@ pub never-waits-send : {T U : Type 0} (old : Kept T U) (key : Key) (m : Messages
 never-waits-send {T} {U} old key m s shown never n l out its s' h = elim (passes-parts old key never.passes).1 [
   | inl over ↦
       (overflowing-send fixed_handlers s n l s' Blocked_send (ap (λ (t : State T U). (t.config).enable_safe_overflow) shown.state ∙ over) h).0 refl
-  | inr discards ↦
+  | inr past ↦
       never-blocked fixed_handlers s n l s' (shown.well_formed.loans n l out).known
-      (λ x at. discards x (sym (ap (λ (t : State T U). t.publishers key.port) shown.state) ∙ ap s.publishers its ∙ at)) h
+      (λ x at. past x (sym (ap (λ (t : State T U). t.publishers key.port) shown.state) ∙ ap s.publishers its ∙ at)) h
 ]
 
 -- ---- why a send fails

@@ -17,6 +17,7 @@ use Rattle.iox2_domain.specs.Handlers.{may_fail}
 use Rattle.iox2_domain.specs.Kept.{Kept, state_of, entries_of}
 use Rattle.iox2_domain.specs.Shows.{Shows}
 use Rattle.iox2_pubsub.proofs.UnfailedSends.{IsMild, HasNotFailed}
+use Rattle.iox2_pubsub.specs.Handlers.{may_wait}
 use Rattle.iox2_pubsub.specs.Live.{IsSingleValued, IsPublisherKey, IsSubscriberKey, IsLoanKey, IsSampleKey, IsBlockedKey, HasMark, IsFromOrigin, LoanHasHeader, LoanHasUserHeader, SampleHasHeader, SampleHasUserHeader, Item, No_item, A_publisher, A_subscriber, A_loan, A_sample, A_blocked_send, A_sent_loan, A_sent_copy, Both, IsOtherPublisher, IsOtherSubscriber, IsOtherLoan, IsOtherSample, IsUnblocked, PassesFull, NeverFails, NeverWaits, IsOtherBlocked, StaysBut, Stays, IsNewIn, unwritten_key, written_key}
 use Rattle.iox2_pubsub.specs.Slices.{IsSliced, HasUnwrittenCells, HasValues, SampleHasValues}
 use Rattle.iox2_pubsub.specs.declared.sample.Sample.{Sample}
@@ -185,8 +186,7 @@ module _ {T U : Type 0} (spent : Item) (old new : Kept T U) (remain : PortsRemai
       | inl over ↦ inl (overflows over)
       | inr discards ↦ inr (λ x' at.
           let before = waits.publishers key.port x' was.0 at in
-          let has = discards before.0 before.1 in
-          (before.2.strategy ∙ has.0, before.2.handler ∙ has.1))
+          (λ i. may_wait (before.2.strategy i) (before.2.handler i)) ∙ discards before.0 before.1)
     ],
   )
 

@@ -6,13 +6,13 @@ use Rattle.std.specs.declared.option.Option.TheVariants.{None, Some}
 use Rattle.iox2_store.specs.machine.Mailbox.{is_borrowed}
 use Rattle.iox2_store.specs.machine.Records.{BlockedSend as MachineBlocked, Entry, Loan, Publisher as MachinePublisher, Subscriber as MachineSubscriber}
 use Rattle.iox2_store.specs.machine.SingleCalls.{HoldsPublisher, HoldsSubscriber, HoldsLoan, HoldsSample, HoldsBlocked}
-use Rattle.iox2_store.specs.declared.backpressure.BackpressureStrategy.TheVariants.{DiscardData}
 use Rattle.iox2_store.specs.declared.header.Header.{Header}
 use Rattle.iox2_store.specs.declared.key.Key.{Key}
 use Rattle.iox2_store.specs.declared.service_config.TypeVariant.TheVariants.{FixedSize}
 use Rattle.iox2_domain.specs.Handlers.{may_fail}
 use Rattle.iox2_domain.specs.Kept.{Kept, state_of, entries_of}
 use Rattle.iox2_domain.specs.LoanCalls.{HasLoanHeader, HasLoanUserHeader}
+use Rattle.iox2_pubsub.specs.Handlers.{may_wait}
 use Rattle.iox2_pubsub.specs.Payloads.{payloads_for}
 use Rattle.iox2_pubsub.specs.Slices.{IsSliced, HasUnwrittenCells, HasValues, SampleHasValues}
 use Rattle.iox2_pubsub.specs.declared.blocked_send.BlockedSend.{BlockedSend}
@@ -88,12 +88,12 @@ module _ {T U : Type 0} (domain : Kept T U) where
     unfoldable pub IsUnblocked : Type 0
     IsUnblocked = (key.port < (state_of domain).next_port) × ((x : MachinePublisher) → (state_of domain).publishers key.port ≡ Some x → x.blocked ≡ None)
 
-    -- The publisher with the key's port goes past full receivers: the service overflows, or the publisher, if it's there, discards
-    -- what a full receiver doesn't take, and has no handler.
+    -- The publisher with the key's port goes past full receivers: the service overflows, or by its strategy and its handler the
+    -- publisher, if it's there, waits for none.
     unfoldable pub PassesFull : Type 0
     PassesFull =
         (key.port < (state_of domain).next_port)
-        × (Overflows ⊎ ((x : MachinePublisher) → (state_of domain).publishers key.port ≡ Some x → (x.backpressure_strategy ≡ DiscardData) × (x.backpressure_handler ≡ None)))
+        × (Overflows ⊎ ((x : MachinePublisher) → (state_of domain).publishers key.port ≡ Some x → may_wait x.backpressure_strategy x.backpressure_handler ≡ false))
 
     -- No send of the publisher with the key's port is ever blocked, nor does a handler fail one.
     pub record NeverWaits : Type 0 where

@@ -8,7 +8,7 @@ ghost use Rattle.iox2_pubsub.specs.LoansLeft.{HasLoansLeft, LoansLeftStay};
 ghost use Rattle.iox2_domain.specs.NewPublisher.{plain_publisher, static_publisher};
 ghost use Rattle.iox2_domain.specs.Handlers.{fixed_handler, may_fail};
 ghost use Rattle.iox2_ends.specs.Handlers.{mark_of};
-ghost use Rattle.iox2_pubsub.specs.Handlers.{IsFixed};
+ghost use Rattle.iox2_pubsub.specs.Handlers.{IsFixed, may_wait};
 ghost use Rattle.iox2_pubsub.specs.declared.subscriber.Subscriber.{Subscriber};
 ghost use Rattle.iox2_domain.specs.Shows.{Shows};
 
@@ -133,6 +133,7 @@ impl PortFactoryPublisher {
             (λ e. CreatePublisher fixed_handlers s self s' (Some e)) }
         ensures ready { IfOk result (λ publisher. IsReadyPublisher domain.new publisher) }
         ensures discards { self.backpressure_strategy ≡ BackpressureStrategy.DiscardData → self.backpressure_handler ≡ None → IfOk result (λ publisher. NeverWaits domain.new (publisher_key publisher)) }
+        ensures passes { may_wait self.backpressure_strategy self.backpressure_handler ≡ false → may_fail self.backpressure_handler ≡ false → IfOk result (λ publisher. NeverWaits domain.new (publisher_key publisher)) }
         ensures overflows { (domain.old.config).enable_safe_overflow ≡ true → IfOk result (λ publisher. NeverWaits domain.new (publisher_key publisher)) }
         ensures never_fails { may_fail self.backpressure_handler ≡ false → IfOk result (λ publisher. NeverFails domain.new publisher.id) }
         ensures strategy { IfOk result (λ publisher. publisher.strategy ≡ self.backpressure_strategy) }
@@ -168,6 +169,7 @@ pub(crate) fn create_plain<T: Drop, U: Default + Drop, F: BackpressureFn, G: Deg
         (λ e. CreatePublisher fixed_handlers s (static_publisher max_loaned_samples strategy (fixed_handler handler) initial_max_slice_len) s' (Some e)) }
     ensures ready { IfOk result (λ publisher. IsReadyPublisher domain.new publisher) }
     ensures discards { strategy ≡ BackpressureStrategy.DiscardData → fixed_handler handler ≡ None → IfOk result (λ publisher. NeverWaits domain.new (publisher_key publisher)) }
+    ensures passes { may_wait strategy (fixed_handler handler) ≡ false → may_fail (fixed_handler handler) ≡ false → IfOk result (λ publisher. NeverWaits domain.new (publisher_key publisher)) }
     ensures overflows { (domain.old.config).enable_safe_overflow ≡ true → IfOk result (λ publisher. NeverWaits domain.new (publisher_key publisher)) }
     ensures never_fails { may_fail (fixed_handler handler) ≡ false → IfOk result (λ publisher. NeverFails domain.new publisher.id) }
     ensures strategy { IfOk result (λ publisher. publisher.strategy ≡ strategy) }

@@ -1,4 +1,4 @@
--- A publisher that discards what a full receiver doesn't take delivers a message.
+-- A publisher delivers a message.
 use Rattle.std.proofs.Common.{◌≡◌, ℕ, ◌+◌, ◌||◌, Bool, true, false, List, [], ◌∷◌, ◌++◌, cond, arith, map, get_or, refl, ap, sym, subst, ◌∙◌, ◌<◌, ◌≤◌, length, slice_set, set-set, drop}
 use Rattle.std.specs.declared.option.Option.{Option}
 use Rattle.std.specs.declared.option.Option.TheVariants.{None, Some}
@@ -43,28 +43,6 @@ use Rattle.iox2_ends.specs.declared.sender.Progress.{Progress}
 use Rattle.iox2_ends.specs.declared.sender.DeliveryOutcome.{DeliveryOutcome}
 use Rattle.iox2_domain.specs.declared.publisher_state.BlockedDelivery.{BlockedDelivery}
 use Rattle.iox2_domain.specs.BlockedSends.{with_outcome, counters_after, GoesOn}
-
-module _ (e : Environment) (c : ServiceConfig) (p : ℕ) (buffers : ℕ → Option ℕ) (n : ℕ) where
-  put-goes : (q retries : ℕ) (elapsed : Duration) (buffer : Option ℕ) (box : Mailbox) (result : PutResult) (box' : Mailbox)
-      → Put e c p DiscardData None buffers n q retries elapsed buffer box result box' → is_blocking result ≡ false
-  put-goes q retries elapsed None box result box' h = ap is_blocking h.0
-  put-goes q retries elapsed (Some buffer) box result box' h =
-      by_bool (is_blocking result ≡ false) (has_room buffer box || c.enable_safe_overflow) _ _ h (λ _ k. ap is_blocking k.0) (λ _ k. ap is_blocking k.0)
-
-  put_at_end-goes : (retries : ℕ) (elapsed : Duration) (end : Option ℕ) (boxes : ℕ → Mailbox) (result : PutResult) (boxes' : ℕ → Mailbox)
-      → PutAtEnd e c p DiscardData None buffers n retries elapsed end boxes result boxes' → is_blocking result ≡ false
-  put_at_end-goes retries elapsed None boxes result boxes' h = ap is_blocking h.0
-  put_at_end-goes retries elapsed (Some q) boxes result boxes' h = put-goes q retries elapsed (buffers q) (boxes q) result h.0 h.1
-
-  -- the delivery reaches all receivers
-  pub delivery-completes : (retries : ℕ) (elapsed : Duration) (place : ℕ) (ends : List (Option ℕ)) (count : ℕ) (has_failed : Bool) (boxes : ℕ → Mailbox) (how : DeliveryEnd) (boxes' : ℕ → Mailbox)
-      → Deliver e c p DiscardData None buffers n retries elapsed place ends count has_failed boxes how boxes' → (took : ℕ) × (failed : Bool) × (how ≡ Complete took failed)
-  delivery-completes retries elapsed place [] count has_failed boxes how boxes' h = (count, has_failed, h.0)
-  delivery-completes retries elapsed place (end ∷ rest) count has_failed boxes how boxes' h =
-      let goes : is_blocking h.0 ≡ false = put_at_end-goes retries elapsed end boxes h.0 h.1 h.2 in
-      by_bool ((took : ℕ) × (failed : Bool) × (how ≡ Complete took failed)) (is_blocking h.0) _ _ h.3
-      (λ blocks _. absurd (let no : true ≡ false = sym blocks ∙ goes in cc))
-      (λ _ k. delivery-completes 0 no_time (place + 1) rest (count + accepted_count h.0) (has_failed || is_failed h.0) h.1 how boxes' k)
 
 module _ (e : Environment) (c : ServiceConfig) (p : ℕ) (strategy : BackpressureStrategy) (handler : Option (Handler BackpressureAction)) (passes : may_fail handler ≡ false)
     (buffers : ℕ → Option ℕ) (n : ℕ) where
@@ -144,17 +122,6 @@ module _ {T U : Type 0} (f : Fields T U) (parts : HasParts f) (i : ℕ) (y : Pub
       start.retries elapsed start.place (drop start.place (sender_ends f.connections y.keys)) start.count start.has_failed (mailboxes_of number f.connections y.id)
       (end_of (number y.id slot) (sender_ends f.connections y.keys) outcome) (mailboxes_of number new y.id)
       (subst (λ (o : Option (Handler BackpressureAction)). DeliversWith e o) same delivers number)
-
--- a delivery of one that discards waits for nobody
-pub never-waits : (e : Environment) (c : ServiceConfig) (p : ℕ) (strategy : BackpressureStrategy) (buffers : ℕ → Option ℕ) (n : ℕ) (ends : List (Option ℕ)) (boxes : ℕ → Mailbox) (b : BlockedSend) (boxes' : ℕ → Mailbox)
-    → strategy ≡ DiscardData → Deliver e c p strategy None buffers n 0 no_time 0 ends 0 false boxes (Suspended b) boxes' → ⊥
-never-waits e c p strategy buffers n ends boxes b boxes' discards h =
-    let ended = delivery-completes e c p buffers n 0 no_time 0 ends 0 false boxes (Suspended b) boxes'
-    (subst (λ (s : BackpressureStrategy). Deliver e c p s None buffers n 0 no_time 0 ends 0 false boxes (Suspended b) boxes') discards h) in
-    differ ended.0 ended.1 ended.2
-  where
-    differ : (took : ℕ) (failed : Bool) → Suspended b ≡ Complete took failed → ⊥
-    differ took failed same = absurd cc
 
 -- a delivery leaves its publisher's history
 pub delivered-history : (o : DeliveryOutcome) (slot : ℕ) (x : PublisherFields) → (with_delivered o slot x).history ≡ x.history

@@ -7,8 +7,9 @@ use Rattle.iox2_store.specs.declared.service_config.ServiceConfig.{ServiceConfig
 use Rattle.iox2_domain.specs.Kept.{Kept, state_of}
 use Rattle.iox2_domain.specs.Fields.{kept_of}
 use Rattle.iox2_domain.specs.NewPublisher.{static_publisher}
-use Rattle.iox2_domain.specs.Handlers.{fixed_handler}
+use Rattle.iox2_domain.specs.Handlers.{fixed_handler, may_fail}
 use Rattle.iox2_domain.specs.Shows.{Shows}
+use Rattle.iox2_pubsub.specs.Handlers.{may_wait}
 use Rattle.iox2_pubsub.proofs.PublishersShown.{created-shows, created-ready, created-never-fails, created-never-waits, created-overflows}
 use Rattle.iox2_pubsub.proofs.CallsStay.{always-shown, publisher-creation-stays, publisher-is-new}
 use Rattle.iox2_pubsub.proofs.WaitingShown.{publisher-refused, publisher-no-fewer}
@@ -50,7 +51,14 @@ returns-clause-discards g c = λ discards none.
     let made = c.in_ok-port.ensures.step in
     created-never-waits {T = g.row.T.Denot} {U = g.row.U.Denot} c.domain.inside.state c.create_publisher.new.state c.args.max_loaned_samples c.args.strategy (fixed_handler c.args.handler) c.args.initial_max_slice_len fixed_handlers made.0 made.1 made.2
     (record { service_id = c.config.result.now.service_id; id = c.in_ok-port.port.id; place = c.in_ok-port.port.place; strategy = c.args.strategy; initial_max_slice_len = c.args.initial_max_slice_len })
-    c.in_ok-port.ensures.id discards none
+    c.in_ok-port.ensures.id ((λ i. may_wait (discards i) (none i))) (ap may_fail none)
+
+pub returns-clause-passes : goal.returns-clause-passes
+returns-clause-passes g c = λ past none.
+    let made = c.in_ok-port.ensures.step in
+    created-never-waits {T = g.row.T.Denot} {U = g.row.U.Denot} c.domain.inside.state c.create_publisher.new.state c.args.max_loaned_samples c.args.strategy (fixed_handler c.args.handler) c.args.initial_max_slice_len fixed_handlers made.0 made.1 made.2
+    (record { service_id = c.config.result.now.service_id; id = c.in_ok-port.port.id; place = c.in_ok-port.port.place; strategy = c.args.strategy; initial_max_slice_len = c.args.initial_max_slice_len })
+    c.in_ok-port.ensures.id past none
 
 pub returns-clause-overflows : goal.returns-clause-overflows
 returns-clause-overflows g c = λ over.

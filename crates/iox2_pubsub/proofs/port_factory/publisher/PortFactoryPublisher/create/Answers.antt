@@ -6,6 +6,7 @@ use Rattle.iox2_store.specs.machine.Ports.{CreatePublisher}
 use Rattle.iox2_store.specs.machine.Records.{PublisherSettings}
 use Rattle.iox2_store.specs.machine.State.{State}
 use Rattle.iox2_domain.specs.Handlers.{may_fail}
+use Rattle.iox2_pubsub.specs.Handlers.{may_wait}
 use Rattle.iox2_domain.specs.Shows.{Shows}
 use Rattle.iox2_pubsub.specs.LoansLeft.{HasLoansLeft}
 use Rattle.iox2_pubsub.proofs.port_factory.publisher.PortFactoryPublisher.create.Goals as goal
@@ -27,3 +28,8 @@ returns-clause-discards g c = λ discards none. c.create_plain.ensures.discards
 
 pub returns-clause-never_fails : goal.returns-clause-never_fails
 returns-clause-never_fails g c = λ none. c.create_plain.ensures.never_fails (ap (λ (given : PublisherSettings). may_fail given.backpressure_handler) c.self.view_is ∙ none)
+
+pub returns-clause-passes : goal.returns-clause-passes
+returns-clause-passes g c = λ past none. c.create_plain.ensures.passes
+    (ap (λ (given : PublisherSettings). may_wait given.backpressure_strategy given.backpressure_handler) c.self.view_is ∙ past)
+    (ap (λ (given : PublisherSettings). may_fail given.backpressure_handler) c.self.view_is ∙ none)

@@ -4,6 +4,7 @@ use Rattle.iox2_store.specs.machine.Environments.{fixed_handlers}
 use Rattle.iox2_store.specs.machine.Ports.{CreatePublisher}
 use Rattle.iox2_store.specs.machine.Records.{PublisherSettings}
 use Rattle.iox2_domain.specs.Handlers.{may_fail}
+use Rattle.iox2_pubsub.specs.Handlers.{may_wait}
 use Rattle.iox2_pubsub.proofs.slice.port_factory.publisher.PortFactoryPublisher.create.Goals as goal
 
 pub returns-in-Ok-clause-creates : goal.returns-in-Ok-clause-creates
@@ -23,3 +24,8 @@ returns-in-Ok-clause-discards g c = λ discards none. c.in-Ok.ensures.discards
 
 pub returns-in-Ok-clause-never_fails : goal.returns-in-Ok-clause-never_fails
 returns-in-Ok-clause-never_fails g c = λ none. c.in-Ok.ensures.never_fails (ap (λ (given : PublisherSettings). may_fail given.backpressure_handler) c.self.view_is ∙ none)
+
+pub returns-in-Ok-clause-passes : goal.returns-in-Ok-clause-passes
+returns-in-Ok-clause-passes g c = λ past none. c.in-Ok.ensures.passes
+    (ap (λ (given : PublisherSettings). may_wait given.backpressure_strategy given.backpressure_handler) c.self.view_is ∙ past)
+    (ap (λ (given : PublisherSettings). may_fail given.backpressure_handler) c.self.view_is ∙ none)
