@@ -1,6 +1,6 @@
 -- One command keeps publishers independent, and subscribers open but for the one looked at.
-use Rattle.std.proofs.Common.{◌≡◌, ℕ, Bool, true, false, cond, ◌&&◌, List, refl, sym, ap, subst, ◌∙◌, Option, None, Some, is_none, eqb}
-use Rattle.std.specs.Prelude.{◌≢◌, slice_get, not}
+use Rattle.std.proofs.Common.{◌≡◌, ℕ, Bool, true, false, cond, ◌&&◌, List, refl, sym, ap, subst, ◌∙◌, Option, None, Some, eqb}
+use Rattle.std.specs.Prelude.{◌≢◌, slice_get}
 use Rattle.std.specs.Option.{MatchOption, option_map}
 use Rattle.std.proofs.lemmas.Bool.{eqb-true, true≢false}
 use Rattle.iox2_store.specs.machine.Limits.{worst_case}

@@ -11,14 +11,13 @@ use Rattle.iox2_store.specs.machine.State.{State, Messages}
 use Rattle.iox2_domain.specs.Kept.{Kept, state_of}
 use Rattle.iox2_domain.specs.Fields.{Fields, kept_of}
 use Rattle.iox2_domain.specs.Invariant.{IsDomain}
-use Rattle.iox2_domain.specs.LoanCalls.{HasCell, AssumesLoan}
+use Rattle.iox2_domain.specs.LoanCalls.{AssumesLoan}
 use Rattle.iox2_domain.specs.Reaches.{Reaches}
 use Rattle.iox2_domain.specs.Shows.{Shows}
 use Rattle.iox2_store.specs.declared.header.Header.{Header}
 use Rattle.iox2_store.specs.declared.key.Key.{Key}
 use Rattle.iox2_pubsub.specs.Live.{IsUnwritten, IsWritten, LoanReads, LoanHasHeader, LoanHasUserHeader, UnwrittenReads, A_loan, StaysBut, UpToDateStay, payloads}
 use Rattle.iox2_pubsub.specs.Slices.{HasUnwrittenCells, HasValues}
-use Rattle.iox2_pubsub.specs.declared.sample_mut.SampleMut.{SampleMut}
 use Rattle.iox2_pubsub.specs.declared.sample_mut_uninit.SampleMutUninit.{SampleMutUninit}
 use Rattle.iox2_pubsub.proofs.CallsStay.{always-shown, change-stays}
 use Rattle.iox2_pubsub.proofs.LiveParts.{unwritten-parts, unwritten-cell}

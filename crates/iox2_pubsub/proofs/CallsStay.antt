@@ -45,7 +45,7 @@ use Rattle.iox2_pubsub.proofs.SentMessages.{after-error}
 use Rattle.iox2_pubsub.proofs.SendShown.{never-waits-send}
 use Rattle.iox2_pubsub.proofs.LiveParts.{publisher-parts, subscriber-parts, loan-parts, sample-parts, origin-parts, blocked-parts, unblocked-parts}
 use Rattle.iox2_pubsub.proofs.SliceParts.{cells-parts, values-parts}
-use Rattle.iox2_pubsub.proofs.StaysBut.{IsSpared, PortsRemainBut, SamplesStayBut, ports-remain, stays-between, stays-on, stays-on-but, stays-but-whole, sent-loan-parts, none-spared, SparedPublishers}
+use Rattle.iox2_pubsub.proofs.StaysBut.{IsSpared, PortsRemainBut, SamplesStayBut, ports-remain, stays-between, stays-on-but, stays-but-whole, sent-loan-parts, none-spared, SparedPublishers}
 use Rattle.iox2_pubsub.proofs.UnfailedSends.{IsMild, HasNotFailed, blocked-unfailed}
 
 -- a domain shows some state

@@ -1,6 +1,5 @@
 -- What a close leaves waiting, seen from outside.
-use Rattle.std.proofs.Common.{◌≡◌, ℕ, ◌≤◌, length, sym, ap, ◌∙◌, arith, Option, Some}
-use Rattle.std.specs.Prelude.{◌≢◌}
+use Rattle.std.proofs.Common.{◌≡◌, ℕ, ◌≤◌, length, sym, ap, ◌∙◌, arith, Some}
 use Rattle.iox2_store.specs.machine.Ports.{publisher_closed, subscriber_closed}
 use Rattle.iox2_store.specs.machine.Records.{Publisher, Subscriber as MachineSubscriber}
 use Rattle.iox2_store.specs.machine.State.{State, Messages}

@@ -5,7 +5,7 @@ use Rattle.std.specs.declared.option.Option.{Option}
 use Rattle.std.specs.declared.option.Option.TheVariants.{None, Some}
 use Rattle.iox2_store.specs.machine.Loans.{entry_of}
 use Rattle.iox2_store.specs.machine.Numbers.{put_at}
-use Rattle.iox2_store.specs.machine.Records.{Entry, Loan, Publisher, Handler, Environment}
+use Rattle.iox2_store.specs.machine.Records.{Entry, Loan, Publisher, Environment}
 use Rattle.iox2_store.specs.machine.Environments.{fixed_handlers}
 use Rattle.iox2_store.specs.machine.Sends.{SendResult, Send, ConcludeSend, Send_error, Blocked_send, Delivered_to, published, with_mailboxes}
 use Rattle.iox2_store.specs.machine.SingleCalls.{HoldsPublisher}

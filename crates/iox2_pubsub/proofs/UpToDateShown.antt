@@ -1,5 +1,5 @@
 -- Which calls leave subscribers up to date, seen from outside.
-use Rattle.std.proofs.Common.{◌≡◌, ℕ, suc, refl, sym, ap, subst, ◌∙◌, arith, Bool, true, false, Option, None, Some, Result, Ok, Err}
+use Rattle.std.proofs.Common.{◌≡◌, ℕ, suc, refl, sym, ap, subst, ◌∙◌, Bool, Option, None, Result, Ok, Err}
 use Rattle.std.specs.Prelude.{OnOk}
 use Rattle.std.specs.declared.time.Duration.{Duration}
 use Rattle.iox2_store.specs.machine.Environments.{ample_memory}
@@ -12,7 +12,6 @@ use Rattle.iox2_store.specs.machine.Releases.{released}
 use Rattle.iox2_store.specs.machine.Sends.{SendResult, Send, Retry, GiveUp}
 use Rattle.iox2_store.specs.machine.State.{State, Messages, with_loan}
 use Rattle.iox2_store.specs.machine.SubscriberUpdate.{UpdateSubscriber}
-use Rattle.iox2_store.specs.machine.Waiting.{waiting_for}
 use Rattle.iox2_store.specs.declared.errors.ConnectionFailure.{ConnectionFailure}
 use Rattle.iox2_store.specs.declared.errors.LoanError.{LoanError}
 use Rattle.iox2_store.specs.declared.errors.ReceiveError.{ReceiveError}

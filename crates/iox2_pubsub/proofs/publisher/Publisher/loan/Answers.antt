@@ -1,4 +1,4 @@
-use Rattle.std.proofs.Common.{ap, refl, sym, ◌∙◌, Some}
+use Rattle.std.proofs.Common.{ap, sym, ◌∙◌}
 use Rattle.std.proofs.lemmas.Result.{err_from_is_err_and}
 use Rattle.iox2_store.specs.machine.State.{State}
 use Rattle.iox2_pubsub.proofs.WrittenLoanCalls.{with_value, written-grants, written-refused}

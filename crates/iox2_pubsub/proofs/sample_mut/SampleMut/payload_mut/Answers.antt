@@ -1,12 +1,11 @@
-use Rattle.std.proofs.Common.{◌≡◌, [], ◌∷◌, Some, refl, ap, length, slice_set, subst, sym, ◌∙◌}
-use Rattle.iox2_store.specs.machine.State.{State}
+use Rattle.std.proofs.Common.{[], ◌∷◌, Some, refl, ap, subst, ◌∙◌}
 use Rattle.iox2_domain.specs.Kept.{Kept, state_of}
-use Rattle.iox2_domain.specs.LoanCalls.{HasCell, HasLoanUserHeader, first_cell_changed, user_header_changed}
+use Rattle.iox2_domain.specs.LoanCalls.{HasCell, first_cell_changed}
 use Rattle.iox2_domain.proofs.lemmas.loans.ChangedLoan.{one-cell}
 use Rattle.iox2_pubsub.specs.ChangedLoans.{with_payload}
 use Rattle.iox2_pubsub.specs.Live.{written_key}
 use Rattle.iox2_pubsub.proofs.LiveParts.{loan-reads, single-parts}
-use Rattle.iox2_pubsub.proofs.LoanHandles.{written-out, unwritten-out, loan-out}
+use Rattle.iox2_pubsub.proofs.LoanHandles.{written-out, loan-out}
 use Rattle.iox2_pubsub.proofs.LentHandles.{payload-word, value-there, value-known, value-lends, lent-is, lent-shown, lent-written, lent-written-loan, lent-values, lent-stays, one-changed, lent-left, lent-same-header, lent-same-user-header, lent-waits, lent-leaves}
 use Rattle.iox2_pubsub.proofs.sample_mut.SampleMut.payload_mut.Goals as goal
 

@@ -1,4 +1,4 @@
-use Rattle.std.proofs.Common.{inl, inr, ◌≡◌, ℕ, false, ap, sym, subst, ◌∙◌, refl}
+use Rattle.std.proofs.Common.{◌≡◌, ℕ, false, ap, sym, subst, ◌∙◌, refl}
 use Rattle.iox2_store.specs.machine.State.{is_blocked}
 use Rattle.iox2_store.specs.machine.SingleCalls.{HoldsBlocked}
 use Rattle.iox2_store.specs.declared.service_config.ServiceConfig.{ServiceConfig}
@@ -14,12 +14,11 @@ use Rattle.iox2_domain.specs.Kept.{Kept, state_of}
 use Rattle.iox2_domain.specs.LoanCalls.{HoldsWritten}
 use Rattle.iox2_messages.specs.SendEnds.{end_result}
 use Rattle.iox2_domain.specs.Shows.{Shows}
-use Rattle.iox2_pubsub.proofs.SendShown.{machine-sends, only-ok, only-error, handler-error, either-error, fails-send, never-waits-send, never-fails-here, never-blocked, is-delivered, is-blocked, sent-entry, sent-shown}
+use Rattle.iox2_pubsub.proofs.SendShown.{machine-sends, only-ok, only-error, handler-error, either-error, fails-send, never-waits-send, never-fails-here, is-delivered, is-blocked, sent-entry, sent-shown}
 use Rattle.iox2_pubsub.specs.Live.{lender_key, written_key}
 use Rattle.iox2_pubsub.specs.SendCalls.{result_of_send}
 use Rattle.iox2_pubsub.proofs.CallsStay.{always-shown, sent-stays, send-spends}
-use Rattle.iox2_pubsub.proofs.LiveParts.{publisher-parts, written-parts, unblocked-parts, unblocked-test, passes-parts, blocked-live}
-use Rattle.iox2_pubsub.proofs.OverflowSends.{overflowing-send}
+use Rattle.iox2_pubsub.proofs.LiveParts.{publisher-parts, written-parts, unblocked-parts, unblocked-test, blocked-live}
 use Rattle.iox2_pubsub.proofs.WaitingShown.{send-adds, send-brings}
 use Rattle.iox2_pubsub.proofs.UpToDateShown.{send-leaves}
 use Rattle.iox2_pubsub.proofs.LoansLeftShown.{send-left, send-gives, sent-free}

@@ -1,12 +1,10 @@
-use Rattle.std.proofs.Common.{◌≡◌, Some, refl, ap, length, slice_set, subst, sym, ◌∙◌}
-use Rattle.iox2_store.specs.machine.State.{State}
+use Rattle.std.proofs.Common.{refl, subst}
 use Rattle.iox2_domain.specs.Kept.{Kept, state_of}
-use Rattle.iox2_domain.specs.LoanCalls.{HasCell, HasLoanUserHeader, first_cell_changed, user_header_changed}
-use Rattle.iox2_domain.proofs.lemmas.loans.ChangedLoan.{one-cell}
+use Rattle.iox2_domain.specs.LoanCalls.{HasLoanUserHeader, user_header_changed}
 use Rattle.iox2_pubsub.specs.ChangedLoans.{with_user_header}
 use Rattle.iox2_pubsub.specs.Live.{written_key}
 use Rattle.iox2_pubsub.proofs.LiveParts.{loan-user-header}
-use Rattle.iox2_pubsub.proofs.LoanHandles.{written-out, unwritten-out, loan-out}
+use Rattle.iox2_pubsub.proofs.LoanHandles.{loan-out}
 use Rattle.iox2_pubsub.proofs.LentHandles.{user_header-word, header-there, header-known, header-lends, lent-is, lent-header, lent-shown, lent-written, lent-written-loan, lent-stays, lent-left, lent-same-values, lent-same-header, lent-waits, lent-leaves}
 use Rattle.iox2_pubsub.proofs.sample_mut.SampleMut.user_header_mut.Goals as goal
 

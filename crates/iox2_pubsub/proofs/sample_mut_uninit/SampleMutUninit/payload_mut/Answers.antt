@@ -1,12 +1,11 @@
-use Rattle.std.proofs.Common.{◌≡◌, [], ◌∷◌, Some, refl, ap, length, slice_set, subst, sym, ◌∙◌}
-use Rattle.iox2_store.specs.machine.State.{State}
+use Rattle.std.proofs.Common.{[], ◌∷◌, refl, ap, subst, ◌∙◌}
 use Rattle.iox2_domain.specs.Kept.{Kept, state_of}
-use Rattle.iox2_domain.specs.LoanCalls.{HasCell, HasLoanUserHeader, first_cell_changed, user_header_changed}
+use Rattle.iox2_domain.specs.LoanCalls.{HasCell, first_cell_changed}
 use Rattle.iox2_domain.proofs.lemmas.loans.ChangedLoan.{one-cell}
 use Rattle.iox2_pubsub.specs.ChangedLoans.{with_cell}
 use Rattle.iox2_pubsub.specs.Live.{unwritten_key}
 use Rattle.iox2_pubsub.proofs.LiveParts.{unwritten-reads, single-parts}
-use Rattle.iox2_pubsub.proofs.LoanHandles.{written-out, unwritten-out, loan-out}
+use Rattle.iox2_pubsub.proofs.LoanHandles.{unwritten-out, loan-out}
 use Rattle.iox2_pubsub.proofs.LentHandles.{cell-word, cell-there, cell-known, cell-lends, lent-is, lent-shown, lent-unwritten, lent-unwritten-loan, lent-cells, lent-stays, one-changed, lent-left, lent-same-header, lent-same-user-header, lent-waits, lent-leaves}
 use Rattle.iox2_pubsub.proofs.sample_mut_uninit.SampleMutUninit.payload_mut.Goals as goal
 

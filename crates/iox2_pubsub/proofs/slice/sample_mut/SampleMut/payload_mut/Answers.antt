@@ -1,11 +1,10 @@
-use Rattle.std.proofs.Common.{◌≡◌, false, refl, ap, subst, sym, map, Some}
+use Rattle.std.proofs.Common.{◌≡◌, false, refl, subst, sym, map, Some}
 use Rattle.iox2_store.specs.SingleValues.{is_single_valued}
 use Rattle.iox2_domain.specs.Fields.{kept_of}
 use Rattle.iox2_domain.specs.Kept.{Kept, state_of}
 use Rattle.iox2_domain.specs.LoanCalls.{HasCells, cells_changed}
-use Rattle.iox2_domain.specs.declared.loan_slots.LoanAt.{LoanAt}
 use Rattle.iox2_pubsub.specs.Live.{written_key}
-use Rattle.iox2_pubsub.proofs.LoanHandles.{written-out, unwritten-out, loan-out}
+use Rattle.iox2_pubsub.proofs.LoanHandles.{written-out, loan-out}
 use Rattle.iox2_pubsub.proofs.SliceParts.{sliced-parts, has-values}
 use Rattle.iox2_pubsub.specs.ChangedLoans.{with_payloads}
 use Rattle.iox2_pubsub.proofs.LentHandles.{payloads-word, values-there, values-known, values-lends, lent-is, lent-shown, lent-stays, lent-written, lent-written-loan, lent-left, lent-values, values-left, lent-same-header, lent-same-user-header, lent-waits, lent-leaves}

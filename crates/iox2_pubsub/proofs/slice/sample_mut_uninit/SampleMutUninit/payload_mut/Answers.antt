@@ -1,11 +1,10 @@
-use Rattle.std.proofs.Common.{◌≡◌, false, refl, ap, subst, sym, map, Some}
+use Rattle.std.proofs.Common.{◌≡◌, false, refl, subst, sym}
 use Rattle.iox2_store.specs.SingleValues.{is_single_valued}
 use Rattle.iox2_domain.specs.Fields.{kept_of}
 use Rattle.iox2_domain.specs.Kept.{Kept, state_of}
 use Rattle.iox2_domain.specs.LoanCalls.{HasCells, cells_changed}
-use Rattle.iox2_domain.specs.declared.loan_slots.LoanAt.{LoanAt}
 use Rattle.iox2_pubsub.specs.Live.{unwritten_key}
-use Rattle.iox2_pubsub.proofs.LoanHandles.{written-out, unwritten-out, loan-out}
+use Rattle.iox2_pubsub.proofs.LoanHandles.{unwritten-out, loan-out}
 use Rattle.iox2_pubsub.proofs.SliceParts.{sliced-parts, has-cells}
 use Rattle.iox2_pubsub.specs.ChangedLoans.{with_cells}
 use Rattle.iox2_pubsub.proofs.LentHandles.{cells-word, cells-there, cells-known, cells-lends, lent-is, lent-shown, lent-stays, lent-unwritten, lent-unwritten-loan, lent-left, lent-cells, cells-left, lent-same-header, lent-same-user-header, lent-waits, lent-leaves}

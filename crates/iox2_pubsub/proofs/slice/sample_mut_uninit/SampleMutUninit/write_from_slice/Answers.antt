@@ -1,4 +1,4 @@
-use Rattle.std.proofs.Common.{◌≡◌, ℕ, false, refl, ap, subst, sym, map, Some}
+use Rattle.std.proofs.Common.{◌≡◌, ℕ, false, refl, ap, subst, sym}
 use Rattle.iox2_store.specs.SingleValues.{is_single_valued}
 use Rattle.iox2_domain.specs.Fields.{kept_of}
 use Rattle.iox2_domain.specs.Kept.{Kept, state_of}
