@@ -13,9 +13,10 @@ use Rattle.iox2_store.specs.declared.errors.LoanError.{LoanError}
 use Rattle.iox2_store.specs.declared.errors.SendError.{SendError}
 use Rattle.iox2_store.specs.declared.errors.SendError.TheVariants.{ConnectionBrokenSinceSenderNoLongerExists, UnableToDeliver}
 use Rattle.iox2_domain.specs.Kept.{Kept as Domain}
+use Rattle.iox2_store.specs.declared.key.Key.{Key}
 use Rattle.iox2_domain.specs.Shows.{Shows}
 use Rattle.iox2_pubsub.specs.Live.{IsBlockedSend, blocked_key, written_key}
-use Rattle.iox2_pubsub.specs.SendCalls.{IfBlocked, Sends, messages_after}
+use Rattle.iox2_pubsub.specs.SendCalls.{FailsSend, IfBlocked, Sends, messages_after}
 use Rattle.iox2_pubsub.specs.declared.publisher.Publisher.{Publisher as PublisherHandle}
 use Rattle.iox2_pubsub.specs.declared.send_outcome.SendOutcome.{SendOutcome}
 use Rattle.iox2_pubsub.specs.declared.send_outcome.SendOutcome.TheVariants.{Delivered as WasDelivered, Blocked as IsBlocked}
@@ -185,3 +186,10 @@ module _ {T U : Type 0} (defaults : Defaults T U) (old new : Domain T U) (table 
       let after : map entry_for table' ≡ slice_set (map entry_for table) of No_entry = ap (λ (t : List Made). map entry_for t) is ∙ entries-set table of Nothing in
       subst (λ (ks : List TableEntry). Comes fixed_handlers defaults (Shows new) m s handles events (SendLoan of) (reply_to_send outcome) (ks ++ entry_for (made_by_send outcome) ∷ [])) (sym after)
       (sent-by defaults new table of h m s handles events w default_value default_header is_value is_header stand (free m s shown) named.0 named.3 named.4 outcome blocked gone sent.0 sent.1 sent.2)
+
+-- why a send fails, without what is so then
+pub either-failure : {T U : Type 0} (domain : Domain T U) (key : Key) (outcome : Result SendOutcome SendError) → IfErr outcome (FailsSend domain key)
+    → IfErr outcome (λ error. (error ≡ ConnectionBrokenSinceSenderNoLongerExists) ⊎ (error ≡ UnableToDeliver))
+unfolding FailsSend
+either-failure domain key (Ok came) fails = tt
+either-failure domain key (Err error) fails = elim fails [ inl lost ↦ inl lost.0 | inr failed ↦ inr failed.0 ]
