@@ -4,8 +4,6 @@ pub mod Runs
 pub mod Points
 pub mod OneDefault
 pub mod StoredSteps
-pub mod Fills
-pub mod FillingCommands
 pub mod Views
 pub mod Isolation
 pub mod Laws

@@ -1,6 +1,5 @@
 ghost use Rattle.iox2_commands.specs.Laws.{StepsKeepWellFormed, StepsLift};
 ghost use Rattle.iox2_commands.specs.Existence.{EveryListRuns};
-ghost use Rattle.iox2_commands.specs.FillingCommands.{WorstCaseIsReached, WorstCaseIsLeast};
 ghost use Rattle.iox2_commands.specs.Isolation.{CallsLeaveOthersViews, AlikeStatesStayAlike, SubscribersAreIsolated, ViewsStayAlike};
 ghost use Rattle.iox2_commands.specs.Refusals.{RunsWithoutRefusalsAreAmple, SubscribersAreIsolatedWithoutRefusals, ViewsStayAlikeWithoutRefusals};
 ghost use Rattle.iox2_commands.specs.RunLaws.{ReachedStatesHoldAtMostWorstCase, WorstCaseOfSlotsGrants, LoansAreGranted, SamplesNameTheirPublisher, ReceivesInOrder, ReadsGiveWhatWasSent};
@@ -56,18 +55,6 @@ pub fn receives_in_order<T, U>()
 /// Every read through the sample gives that entry, until the sample is released.
 pub fn reads_give_what_was_sent<T, U>()
     ensures { ReadsGiveWhatWasSent T U }
-{}
-
-/// With ample memory, for each fillable configuration, every run of a stated list of commands skips and refuses none, and
-/// the publisher that its first command made holds the worst case of messages and loans in the end.
-pub fn worst_case_is_reached<T, U>()
-    ensures { WorstCaseIsReached T U }
-{}
-
-/// With ample memory and any smaller number of slots, each run of that list refuses a loan for want of slots while fewer
-/// than the publisher's limit are out.
-pub fn worst_case_is_least<T, U>()
-    ensures { WorstCaseIsLeast T U }
 {}
 
 /// With ample memory and no closed subscriber left but the one that looks, a subscriber's receive, `HasSamples`, update, read

@@ -7,7 +7,7 @@ use Rattle.iox2_store.specs.declared.degradation.DegradationAction.TheVariants.{
 use Rattle.iox2_store.specs.declared.service_config.ServiceConfig.{ServiceConfig}
 use Rattle.iox2_store.specs.declared.service_config.TypeVariant.{TypeVariant}
 use Rattle.iox2_store.specs.declared.service_config.TypeVariant.TheVariants.{FixedSize, Dynamic}
-use Rattle.iox2_commands.specs.FillingCommands.{publisher_command, loan_command, sends, rounds, subscriber_filled, subscribers_filled, filling_length}
+use Rattle.iox2_worst_case.specs.FillingCommands.{publisher_command, loan_command, sends, rounds, subscriber_filled, subscribers_filled, filling_length}
 use Rattle.iox2_commands.specs.declared.command.Command.{Command}
 use Rattle.iox2_commands.specs.declared.command.Command.TheVariants.{CreateSubscriber, Update}
 use Rattle.iox2_runs.specs.Supported.{IsSupportedCommand, FillingIsSupported}

@@ -5,7 +5,7 @@ use Rattle.std.specs.declared.option.Option.TheVariants.{None}
 use Rattle.iox2_store.specs.declared.allocation.AllocationStrategy.TheVariants.{Static}
 use Rattle.iox2_store.specs.declared.degradation.DegradationAction.TheVariants.{Warn}
 use Rattle.iox2_store.specs.declared.service_config.ServiceConfig.{ServiceConfig}
-use Rattle.iox2_commands.specs.FillingCommands.{filling_commands}
+use Rattle.iox2_worst_case.specs.FillingCommands.{filling_commands}
 use Rattle.iox2_commands.specs.declared.command.Command.{Command}
 use Rattle.iox2_commands.specs.declared.command.Command.TheVariants.{CreatePublisher, CreateSubscriber}
 

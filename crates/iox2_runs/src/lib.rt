@@ -12,7 +12,8 @@ pub use iox2_commands::{
     receives_in_order, runs_without_refusals_are_ample, samples_name_their_publisher,
     steps_keep_well_formed, steps_lift, subscribers_are_isolated,
     subscribers_are_isolated_without_refusals, views_stay_alike, views_stay_alike_without_refusals,
-    worst_case_commands, worst_case_is_least, worst_case_is_reached, worst_case_of_slots_grants,
+    worst_case_of_slots_grants,
 };
+pub use iox2_worst_case::{worst_case_commands, worst_case_is_least, worst_case_is_reached};
 pub use laws::filling_is_supported;
 pub use runs::run;

@@ -1,0 +1,15 @@
+pub mod FillingNumbers
+pub mod FillingRuns
+pub mod FillingShape
+pub mod FillingLoans
+pub mod FillingDeliveries
+pub mod FillingSends
+pub mod FillingUpdates
+pub mod FillingReceives
+pub mod FillingPorts
+pub mod FillingBoxes
+pub mod FillingSteps
+pub mod FillingAll
+pub mod FillingLaws
+pub mod FillingLists
+pub mod WorkedRunsOfFilling
