@@ -17,7 +17,7 @@ use std::alloc::{AllocError, Global};
 use std::marker::Model;
 
 /// A message whose delivery waits for a receiver.
-#[derive(Debug, Clone, Copy, PartialEq, Eq)]
+#[derive(Clone, Copy)]
 pub struct BlockedDelivery {
     /// The slot of the message, which is a loan that is out until the delivery ends.
     pub slot: usize,

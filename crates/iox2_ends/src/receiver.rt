@@ -16,7 +16,7 @@ use iox2_store::{Connection, Home, ReceiveError, SlotBook};
 use slab::Slab;
 
 /// A message that was taken from a connection.
-#[derive(Debug, Clone, Copy, PartialEq, Eq)]
+#[derive(Clone, Copy)]
 pub struct Taken {
     /// The key of the connection.
     pub connection: usize,
@@ -27,7 +27,7 @@ pub struct Taken {
 }
 
 /// What one connection offers, or several.
-#[derive(Debug, Clone, Copy, PartialEq, Eq)]
+#[derive(Clone, Copy)]
 pub enum Found {
     /// A message may be taken from the connection at this key.
     Ready(usize),

@@ -8,7 +8,7 @@ use iox2_store::Connection;
 use slab::Slab;
 
 /// What becomes of a departed publisher's connection.
-#[derive(Debug, Clone, Copy, PartialEq, Eq)]
+#[derive(Clone, Copy)]
 pub enum Retirement {
     /// It is kept among the expired ones.
     KeepExpired,

@@ -28,7 +28,7 @@ use std::time::Duration;
 /// A subscriber, as a publisher that delivers sees it.
 ///
 /// iceoryx2's `ReceiverDetails` (`src/port/details/sender.rs`).
-#[derive(Debug, Clone, Copy, PartialEq, Eq)]
+#[derive(Clone, Copy)]
 pub struct ReceiverDetails {
     /// The subscriber's id.
     pub port_id: u128,
@@ -60,7 +60,7 @@ impl Receiver for ReceiverDetails {
 }
 
 /// How far a delivery has come.
-#[derive(Debug, Clone, Copy, PartialEq, Eq)]
+#[derive(Clone, Copy)]
 pub struct Progress {
     /// The first place that remains. Those at lower places are done with.
     pub place: usize,
@@ -89,7 +89,7 @@ impl Progress {
 }
 
 /// A message that a publisher delivers to the places that remain.
-#[derive(Debug, Clone, Copy, PartialEq, Eq)]
+#[derive(Clone, Copy)]
 pub struct Delivery {
     /// The publisher's id.
     pub publisher: u128,
@@ -131,7 +131,7 @@ impl Delivery {
 }
 
 /// How a delivery ended.
-#[derive(Debug, Clone, Copy, PartialEq, Eq)]
+#[derive(Clone, Copy)]
 pub enum DeliveryOutcome {
     /// It went over all receivers.
     Complete {

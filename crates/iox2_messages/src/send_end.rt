@@ -7,7 +7,7 @@ use iox2_ends::sender::DeliveryOutcome;
 
 /// How a send ended, or that it waits. It is small enough to be returned in registers, as the outcome
 /// of a delivery isn't.
-#[derive(Debug, Clone, Copy, PartialEq, Eq)]
+#[derive(Clone, Copy)]
 pub enum SendEnd {
     /// So many receivers took the message.
     Delivered(usize),
