@@ -60,9 +60,6 @@ pub mod ExistCalls
 pub mod ExistRuns
 pub mod WorkedRunDomains
 pub mod WorkedRunsOfFilling
-pub mod WorkedRunsOfBlockedSends
-pub mod WorkedRunsOfFailedSends
-pub mod WorkedRunsOfSlots
 pub mod WorkedRunsOfDepartures
 pub mod WorkedRunsOfReplacedPublishers
 pub mod WorkedRunsOfForgottenPublishers
