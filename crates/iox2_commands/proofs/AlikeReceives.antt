@@ -45,11 +45,7 @@ borrows_alike box box' n n' after after' e h k =
     )
 
 module _ {T U : Type 0} (q : ℕ) where
-  -- an outcome is like itself
-  pub alike_refl : (o : Outcome T U) → IsAlike q o o
-  alike_refl o = record { state = refl; event = refl; handle = refl }
-
-  -- and the other way round
+  -- two outcomes are alike the other way round too
   pub alike_sym : (o o' : Outcome T U) → IsAlike q o o' → IsAlike q o' o
   alike_sym o o' a = record { state = sym a.state; event = sym a.event; handle = sym a.handle }
 

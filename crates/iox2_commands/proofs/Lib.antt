@@ -45,9 +45,6 @@ pub mod ExistUpdates
 pub mod ExistCalls
 pub mod ExistRuns
 pub mod WorkedRunDomains
-pub mod WorkedRunsOfBlockedSends
-pub mod WorkedRunsOfFailedSends
-pub mod WorkedRunsOfSlots
 pub mod WorkedRunsOfDepartures
 pub mod WorkedRunsOfReplacedPublishers
 pub mod WorkedRunsOfForgottenPublishers

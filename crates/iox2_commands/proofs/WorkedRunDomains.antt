@@ -24,7 +24,7 @@ domain publishers subscribers buffer borrows history expired overflow = record {
   publisher_allocation_strategy = Static;
 }
 
--- A service for slices, with these limits, whose messages come from that node.
-abbrev pub slice_domain : (node publishers subscribers buffer borrows history expired : ℕ) → (overflow : Bool) → ServiceConfig
-slice_domain node publishers subscribers buffer borrows history expired overflow =
-    record (domain publishers subscribers buffer borrows history expired overflow) { node_id = node; variant = Dynamic }
+-- A service for slices, with these limits.
+abbrev pub slice_domain : (publishers subscribers buffer borrows history expired : ℕ) → (overflow : Bool) → ServiceConfig
+slice_domain publishers subscribers buffer borrows history expired overflow =
+    record (domain publishers subscribers buffer borrows history expired overflow) { variant = Dynamic }

@@ -1,21 +1,21 @@
--- Worked runs: slices.
+-- Worked runs: slices of a publisher that grows.
 use Rattle.std.proofs.Common.{◌≡◌, ℕ, false, List, [], ◌∷◌, ◌<◌, ◌≤◌, refl, inl, inr, None, Some, arith}
 use Rattle.iox2_store.specs.machine.State.{State, Messages, fresh, no_messages}
 use Rattle.iox2_store.specs.machine.Delivery.{Accepted, Complete}
 use Rattle.iox2_store.specs.machine.Sends.{Delivered_to}
 use Rattle.iox2_store.specs.machine.Receives.{Got_sample}
-use Rattle.iox2_store.specs.declared.allocation.AllocationStrategy.TheVariants.{Static, BestFit}
+use Rattle.iox2_store.specs.declared.allocation.AllocationStrategy.TheVariants.{BestFit}
 use Rattle.iox2_store.specs.declared.backpressure.BackpressureStrategy.TheVariants.{DiscardData}
 use Rattle.iox2_store.specs.declared.degradation.DegradationAction.TheVariants.{Warn}
-use Rattle.iox2_store.specs.declared.errors.LoanError.TheVariants.{ExceedsMaxLoans, ExceedsMaxLoanSize, InternalFailure}
+use Rattle.iox2_store.specs.declared.errors.LoanError.TheVariants.{ExceedsMaxLoans, InternalFailure}
 use Rattle.iox2_store.specs.declared.warning.Warning.TheVariants.{ExpiredBufferRaised}
 use Rattle.iox2_commands.specs.Outcomes.{Event}
 use Rattle.iox2_store.specs.machine.Environments.{ample_memory}
 use Rattle.iox2_commands.specs.Runs.{Run, only_defaults}
-use Rattle.iox2_commands.specs.declared.command.Command.TheVariants.{CreatePublisher, CreateSubscriber, LoanSlice, WriteCell, WriteAll, AssumeInit, Send, Discard}
-use Rattle.iox2_commands.specs.declared.command.Command.TheVariants.{Receive, Read, ReadHeader}
-use Rattle.iox2_commands.specs.declared.reply.Reply.TheVariants.{Done, Skipped, PublisherMade, SubscriberMade, Loaned, LoanRefused, Unwritten, Delivered, Sample}
-use Rattle.iox2_commands.specs.declared.reply.Reply.TheVariants.{Cell, Header as HeaderRead}
+use Rattle.iox2_commands.specs.declared.command.Command.TheVariants.{CreatePublisher, CreateSubscriber, LoanSlice, WriteAll, Send}
+use Rattle.iox2_commands.specs.declared.command.Command.TheVariants.{Receive, Read}
+use Rattle.iox2_commands.specs.declared.reply.Reply.TheVariants.{Done, Skipped, PublisherMade, SubscriberMade, Loaned, LoanRefused, Delivered, Sample}
+use Rattle.iox2_commands.specs.declared.reply.Reply.TheVariants.{Cell}
 use Rattle.iox2_commands.proofs.WorkedRunDomains.{slice_domain}
 
 not_below : (a b : ℕ) → b ≤ a → a < b → ⊥
@@ -24,266 +24,10 @@ not_below a b le lt = omega (arith, le, lt)
 not_up_to : (a b : ℕ) → b < a → a ≤ b → ⊥
 not_up_to a b lt le = omega (arith, lt, le)
 
--- A slice is sent only after each of its cells was written. A cell past its end is none, and a longer slice than the
--- publisher was made for is refused.
-pub slices_are_written_cell_by_cell : (events : List (Event ℕ ℕ)) × (m : Messages ℕ ℕ) × (s : State ℕ ℕ)
-    × Run ample_memory (only_defaults 0 0) no_messages (fresh (slice_domain 9 1 1 1 1 0 0 false))
-    (CreatePublisher 1 DiscardData Static 3 None Warn None ∷ LoanSlice 0 2 ∷ WriteCell 1 1 8 ∷ AssumeInit 1 ∷ WriteCell 1 0 7 ∷ WriteCell 1 2 6 ∷
-    AssumeInit 1 ∷ Read 1 1 ∷ ReadHeader 1 ∷ LoanSlice 0 4 ∷ Send 1 ∷ Send 1 ∷ [])
-    (PublisherMade 1 ∷ Loaned ∷ Done ∷ Unwritten ∷ Done ∷ Skipped ∷ Done ∷ Cell (Some 8) ∷
-    HeaderRead (record { node_id = 9; publisher_id = 1; number_of_elements = 2 }) ∷ LoanRefused ExceedsMaxLoanSize ∷ Delivered 0 ∷ Skipped ∷ [])
-    events m s
-    × ((s.warnings).latest ≡ [])
-slices_are_written_cell_by_cell = (
-  _ ∷ _ ∷ _ ∷ _ ∷ _ ∷ _ ∷ _ ∷ _ ∷ _ ∷ _ ∷ _ ∷ _ ∷ [],
-  _,
-  _,
-  (
-    0,
-    0,
-    refl,
-    refl,
-    _,
-    (_, None, (_, None, (_, (refl, refl), refl), refl), refl),
-    refl,
-    refl,
-    (
-      0,
-      0,
-      refl,
-      refl,
-      _,
-      (_, None, (refl, refl), refl),
-      refl,
-      refl,
-      (
-        0,
-        0,
-        refl,
-        refl,
-        _,
-        refl,
-        refl,
-        refl,
-        (
-          0,
-          0,
-          refl,
-          refl,
-          _,
-          refl,
-          refl,
-          refl,
-          (
-            0,
-            0,
-            refl,
-            refl,
-            _,
-            refl,
-            refl,
-            refl,
-            (
-              0,
-              0,
-              refl,
-              refl,
-              _,
-              refl,
-              refl,
-              refl,
-              (
-                0,
-                0,
-                refl,
-                refl,
-                _,
-                refl,
-                refl,
-                refl,
-                (
-                  0,
-                  0,
-                  refl,
-                  refl,
-                  _,
-                  refl,
-                  refl,
-                  refl,
-                  (
-                    0,
-                    0,
-                    refl,
-                    refl,
-                    _,
-                    refl,
-                    refl,
-                    refl,
-                    (
-                      0,
-                      0,
-                      refl,
-                      refl,
-                      _,
-                      (_, Some ExceedsMaxLoanSize, (refl, refl), refl),
-                      refl,
-                      refl,
-                      (
-                        0,
-                        0,
-                        refl,
-                        refl,
-                        _,
-                        (_, Delivered_to 0, (_, None, (refl, refl), (Complete 0 false, _, (refl, refl), (refl, refl))), refl),
-                        refl,
-                        refl,
-                        (
-                          0,
-                          0,
-                          refl,
-                          refl,
-                          _,
-                          refl,
-                          refl,
-                          refl,
-                          (refl, refl),
-                        ),
-                      ),
-                    ),
-                  ),
-                ),
-              ),
-            ),
-          ),
-        ),
-      ),
-    ),
-  ),
-  refl,
-)
-
--- With all loans out a slice that is too long is refused because of its length, and any other because of the number. A
--- slice without elements is granted.
-pub length_counts_before_the_number_of_loans : (events : List (Event ℕ ℕ)) × (m : Messages ℕ ℕ) × (s : State ℕ ℕ)
-    × Run ample_memory (only_defaults 0 0) no_messages (fresh (slice_domain 1 1 1 1 1 0 0 false))
-    (CreatePublisher 1 DiscardData Static 16 None Warn None ∷ LoanSlice 0 16 ∷ LoanSlice 0 17 ∷ LoanSlice 0 16 ∷ Discard 1 ∷ LoanSlice 0 0 ∷
-    ReadHeader 5 ∷ Read 5 0 ∷ AssumeInit 5 ∷ Send 5 ∷ [])
-    (PublisherMade 1 ∷ Loaned ∷ LoanRefused ExceedsMaxLoanSize ∷ LoanRefused ExceedsMaxLoans ∷ Done ∷ Loaned ∷
-    HeaderRead (record { node_id = 1; publisher_id = 1; number_of_elements = 0 }) ∷ Skipped ∷ Done ∷ Delivered 0 ∷ [])
-    events m s
-    × ((s.warnings).latest ≡ [])
-length_counts_before_the_number_of_loans = (
-  _ ∷ _ ∷ _ ∷ _ ∷ _ ∷ _ ∷ _ ∷ _ ∷ _ ∷ _ ∷ [],
-  _,
-  _,
-  (
-    0,
-    0,
-    refl,
-    refl,
-    _,
-    (_, None, (_, None, (_, (refl, refl), refl), refl), refl),
-    refl,
-    refl,
-    (
-      0,
-      0,
-      refl,
-      refl,
-      _,
-      (_, None, (refl, refl), refl),
-      refl,
-      refl,
-      (
-        0,
-        0,
-        refl,
-        refl,
-        _,
-        (_, Some ExceedsMaxLoanSize, (refl, refl), refl),
-        refl,
-        refl,
-        (
-          0,
-          0,
-          refl,
-          refl,
-          _,
-          (_, Some ExceedsMaxLoans, (refl, refl), refl),
-          refl,
-          refl,
-          (
-            0,
-            0,
-            refl,
-            refl,
-            _,
-            refl,
-            refl,
-            refl,
-            (
-              0,
-              0,
-              refl,
-              refl,
-              _,
-              (_, None, (refl, refl), refl),
-              refl,
-              refl,
-              (
-                0,
-                0,
-                refl,
-                refl,
-                _,
-                refl,
-                refl,
-                refl,
-                (
-                  0,
-                  0,
-                  refl,
-                  refl,
-                  _,
-                  refl,
-                  refl,
-                  refl,
-                  (
-                    0,
-                    0,
-                    refl,
-                    refl,
-                    _,
-                    refl,
-                    refl,
-                    refl,
-                    (
-                      0,
-                      0,
-                      refl,
-                      refl,
-                      _,
-                      (_, Delivered_to 0, (_, None, (refl, refl), (Complete 0 false, _, (refl, refl), (refl, refl))), refl),
-                      refl,
-                      refl,
-                      (refl, refl),
-                    ),
-                  ),
-                ),
-              ),
-            ),
-          ),
-        ),
-      ),
-    ),
-  ),
-  refl,
-)
-
 -- A best-fit publisher grows for a longer slice, and a sample in its older segment reads on. A slice that fits no
 -- machine word is refused, and a later loan is granted.
 pub growing_publisher_keeps_older_samples : (events : List (Event ℕ ℕ)) × (m : Messages ℕ ℕ) × (s : State ℕ ℕ)
-    × Run ample_memory (only_defaults 0 0) no_messages (fresh (slice_domain 1 1 1 1 1 0 0 false))
+    × Run ample_memory (only_defaults 0 0) no_messages (fresh (slice_domain 1 1 1 1 0 0 false))
     (CreateSubscriber (Some 1) Warn ∷ CreatePublisher 1 DiscardData BestFit 1 None Warn None ∷ LoanSlice 1 1 ∷ WriteAll 2 5 ∷ Send 2 ∷ Receive 0 ∷
     LoanSlice 1 4 ∷ WriteAll 6 6 ∷ Send 6 ∷ Read 5 0 ∷ Read 5 1 ∷ LoanSlice 1 18446744073709551615 ∷ LoanSlice 1 4 ∷ [])
     (SubscriberMade 1 ∷ PublisherMade 2 ∷ Loaned ∷ Done ∷ Delivered 1 ∷ Sample 2 ∷ Loaned ∷ Done ∷ Delivered 1 ∷ Cell (Some 5) ∷ Skipped ∷
@@ -457,7 +201,7 @@ growing_publisher_keeps_older_samples = (
 -- A best-fit publisher with one slot in a segment grows for its second loan. The third is refused because of their
 -- number.
 pub growing_publisher_keeps_its_limit_of_loans : (events : List (Event ℕ ℕ)) × (m : Messages ℕ ℕ) × (s : State ℕ ℕ)
-    × Run ample_memory (only_defaults 0 0) no_messages (fresh (slice_domain 1 1 1 1 1 0 0 false))
+    × Run ample_memory (only_defaults 0 0) no_messages (fresh (slice_domain 1 1 1 1 0 0 false))
     (CreatePublisher 2 DiscardData BestFit 1 (Some 1) Warn None ∷ LoanSlice 0 1 ∷ LoanSlice 0 1 ∷ LoanSlice 0 1 ∷ [])
     (PublisherMade 1 ∷ Loaned ∷ Loaned ∷ LoanRefused ExceedsMaxLoans ∷ [])
     events m s

@@ -34,7 +34,6 @@ pub mod WaitingSends
 pub mod WaitingPorts
 pub mod UpToDate
 pub mod WaitingPublishers
-pub mod SliceLoans
 pub mod PortsCome
 pub mod PortsClose
 pub mod WaitingCloses

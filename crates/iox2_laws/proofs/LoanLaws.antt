@@ -1,10 +1,10 @@
 -- Granting, changing and discarding a loan keeps a state well-formed.
-use Rattle.std.proofs.Common.{◌≡◌, ℕ, le_refl, ◌+◌, ◌*◌, ◌≤◌, ◌<◌, Bool, true, false, cond, List, [], ◌∷◌, ◌++◌, length, replicate, map, max, zero, suc, is_some, refl, sym, ap, subst, ◌∙◌, arith, eqb, leb, ⊎_elim, ◌⊎◌, inl, inr, Option, None, Some}
+use Rattle.std.proofs.Common.{◌≡◌, ℕ, le_refl, ◌+◌, ◌*◌, ◌≤◌, ◌<◌, Bool, true, false, cond, List, [], ◌∷◌, ◌++◌, length, replicate, max, zero, suc, is_some, refl, sym, ap, subst, ◌∙◌, arith, eqb, leb, ⊎_elim, ◌⊎◌, inl, inr, Option, None, Some}
 use Rattle.std.specs.Option.{MatchOption, option_map, option_map_or}
 use Rattle.std.specs.Prelude.{slice_set}
 use Rattle.std.specs.List.{flat_map, list_all}
 use Rattle.std.proofs.lemmas.Bool.{true≢false, eqb-true, eqb-false, eq-eqb, ne_eqb, leb-false, and_parts, and_from, or_left}
-use Rattle.std.proofs.lemmas.List.{length-append, length-replicate, length-set, length-map}
+use Rattle.std.proofs.lemmas.List.{length-append, length-replicate, length-set}
 use Rattle.std.proofs.lemmas.Option.{none-some, same_Some}
 use Rattle.iox2_store.specs.machine.Limits.{last_number, segment_limit}
 use Rattle.iox2_store.specs.machine.Numbers.{put_at, contains, without, size}
@@ -13,7 +13,7 @@ use Rattle.iox2_store.specs.machine.Mailbox.{numbers_in}
 use Rattle.iox2_store.specs.machine.Records.{Loan, Publisher, Environment}
 use Rattle.iox2_store.specs.machine.State.{State, held, with_loan, is_blocked}
 use Rattle.iox2_store.specs.machine.Loans.{is_static, limit_error, loan_granted, DynamicLoan, GrantLoan, written, with_cell, is_initialized, initialized, loan_discarded}
-use Rattle.iox2_store.specs.machine.SingleCalls.{GrantWrittenLoan, WriteAllFrom, ChangeCells, ChangeValues}
+use Rattle.iox2_store.specs.machine.SingleCalls.{GrantWrittenLoan}
 use Rattle.iox2_store.specs.machine.WellFormed.{BlockedIsWellFormed, PublisherIsWellFormed, SubscriberIsWellFormed, LoanIsWellFormed, IsWellFormed}
 use Rattle.iox2_store.specs.declared.header.Header.{Header}
 use Rattle.iox2_store.specs.declared.errors.LoanError.{LoanError}
@@ -35,10 +35,6 @@ some_set (cell ∷ cells) zero a h = (and_parts (is_some cell) (list_all is_some
 some_set (cell ∷ cells) (suc at) a h =
     let parts : (is_some cell ≡ true) × (list_all is_some cells ≡ true) = and_parts (is_some cell) (list_all is_some cells) h in
     and_from (is_some cell) (list_all is_some (slice_set cells at (Some a))) parts.0 (some_set cells at a parts.1)
-
-some_map : {A : Type 0} (values : List A) → list_all is_some (map Some values) ≡ true
-some_map [] = refl
-some_map (a ∷ values) = some_map values
 
 -- no limit was met
 no_limit : {E : Type 0} (a b : Bool) (e e' : E) → cond a (Some e) (cond b (Some e') None) ≡ None → b ≡ false
@@ -136,21 +132,6 @@ module _ {T U : Type 0} where
     -- a loan with every cell written is a written one
     pub initialized_keeps : is_initialized l ≡ true → IsWellFormed (initialized s n l)
     initialized_keeps complete = with_loan_keeps (record l { is_written = true }) refl refl refl (λ _. complete)
-
-    -- every cell is written, in order
-    pub write_all_keeps : (values : List T) (s' : State T U) → WriteAllFrom s n l values s' → IsWellFormed s'
-    write_all_keeps values s' h = subst IsWellFormed (sym h.1)
-        (with_loan_keeps (record l { cells = map Some values; is_written = true }) refl refl (length-map values Some ∙ h.0) (λ _. some_map values))
-
-    -- the cells of an unwritten loan change
-    pub change_cells_keeps : l.is_written ≡ false → (cells : List (Option T)) (s' : State T U) → ChangeCells s n l cells s' → IsWellFormed s'
-    change_cells_keeps unwritten cells s' h = subst IsWellFormed (sym h.1)
-        (with_loan_keeps (record l { cells = cells }) refl refl h.0 (λ k. absurd (true≢false (sym k ∙ unwritten))))
-
-    -- the values of a loan change
-    pub change_values_keeps : (values : List T) (s' : State T U) → ChangeValues s n l values s' → IsWellFormed s'
-    change_values_keeps values s' h = subst IsWellFormed (sym h.1)
-        (with_loan_keeps (record l { cells = map Some values }) refl refl h.0 (λ _. some_map values))
 
     -- ---- a loan is given back
 

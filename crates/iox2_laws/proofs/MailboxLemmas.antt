@@ -2,7 +2,7 @@
 use Rattle.std.proofs.Common.{◌≡◌, ℕ, ◌≤◌, ◌<◌, true, false, cond, List, [], ◌∷◌, ◌++◌, length, drop, not, ◌&&◌, refl, sym, ap, subst, ◌∙◌, arith, eqb, ltb, ◌⊎◌, inl, inr, ⊎_elim}
 use Rattle.std.proofs.lemmas.Bool.{true≢false, cond_both, ltb-true, and_parts, eq-eqb, or_left}
 use Rattle.std.proofs.lemmas.List.{length-append, length-drop, append_assoc}
-use Rattle.iox2_laws.proofs.NumberLemmas.{contains_in_append, contains_left, contains_right, absent_left, absent_right, contains_one, contains_first, contains_later, contains_in_drop, contains_in_last_n, contains_in_without, false_from, absent_from}
+use Rattle.iox2_laws.proofs.NumberLemmas.{contains_in_append, contains_left, contains_right, absent_left, absent_right, contains_one, contains_first, contains_later, contains_in_drop, contains_in_last_n, contains_in_without, absent_from}
 use Rattle.iox2_laws.proofs.NumberLemmas.{length-last_n, length-without_le, IsOnce-drop, IsOnce-last_n, IsOnce-push, IsOnce-left, IsOnce-right, IsOnce-apart, IsOnce-append, IsOnce-without}
 use Rattle.iox2_store.specs.machine.Numbers.{contains, without, is_nil, last_n, IsOnce}
 use Rattle.iox2_store.specs.machine.Mailbox.{Mailbox, empty_mailbox, numbers_in, has_numbers, has_borrows, is_borrowed, has_data, can_receive, waiting_count, with_appended, with_waiting, waiting_dropped, BorrowsFirst, with_released, IsWithin}
@@ -17,10 +17,6 @@ has_numbers-contains box n h = at box.waiting box.borrowed h
     at [] [] h = h
     at [] (b ∷ bs) h = refl
     at (w ∷ ws) bs h = refl
-
--- an empty mailbox has no number
-pub no_numbers : (box : Mailbox) → has_numbers box ≡ false → (n : ℕ) → contains (numbers_in box) n ≡ false
-no_numbers box h n = false_from (contains (numbers_in box) n) (λ some. true≢false (sym (has_numbers-contains box n some) ∙ h))
 
 -- a mailbox with a borrowed number has numbers
 pub has_numbers-borrows : (box : Mailbox) → has_borrows box ≡ true → has_numbers box ≡ true

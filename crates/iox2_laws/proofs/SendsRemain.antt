@@ -4,7 +4,7 @@ use Rattle.std.proofs.Common.{◌≡◌, ℕ, ◌+◌, ◌||◌, Bool, true, fal
 use Rattle.std.specs.Option.{option_map}
 use Rattle.std.specs.declared.time.Duration.{Duration}
 use Rattle.std.proofs.lemmas.Option.{same_Some}
-use Rattle.iox2_store.specs.machine.Numbers.{put_at, without, last_n}
+use Rattle.iox2_store.specs.machine.Numbers.{without, last_n}
 use Rattle.iox2_store.specs.machine.Mailbox.{Mailbox}
 use Rattle.iox2_store.specs.machine.Records.{Loan, Publisher, PublisherSettings, Subscriber, Environment, BlockedSend, Handler}
 use Rattle.iox2_store.specs.machine.Limits.{last_number}
@@ -18,7 +18,7 @@ use Rattle.iox2_laws.proofs.Waits.{update_publisher_waits}
 use Rattle.std.specs.Prelude.{◌==◌}
 use Rattle.iox2_store.specs.machine.State.{State, receiving_buffer, with_loan, publisher_changed}
 use Rattle.iox2_store.specs.machine.Delivery.{Deliver, DeliveryEnd, Complete, Suspended, accepted_count, is_failed, is_blocking, no_time}
-use Rattle.iox2_store.specs.machine.Sends.{Send, Publish, Retry, GiveUp, DeliverAndConclude, ConcludeSend, SendResult, Blocked_send, Delivered_to, Send_error, with_mailboxes, published, send_blocked, more_retries}
+use Rattle.iox2_store.specs.machine.Sends.{Send, Publish, Retry, GiveUp, DeliverAndConclude, ConcludeSend, SendResult, Blocked_send, Delivered_to, Send_error, with_mailboxes, published, more_retries}
 use Rattle.iox2_store.specs.machine.SingleCalls.{HoldsBlocked}
 use Rattle.iox2_store.specs.declared.backpressure.BackpressureStrategy.{BackpressureStrategy}
 use Rattle.iox2_store.specs.declared.backpressure.BackpressureAction.{BackpressureAction}

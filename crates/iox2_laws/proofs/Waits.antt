@@ -1,6 +1,6 @@
 -- Who waits for a receiver: no operation changes what a publisher does with a full receiver, and only a send of its own, tried
 -- again or given up, changes whether it waits, and with which message.
-use Rattle.std.proofs.Common.{◌≡◌, ℕ, ◌≤◌, ◌<◌, Bool, true, false, List, cond, [], ◌∷◌, ◌++◌, refl, sym, ap, subst, ◌∙◌, le_refl, le_trans, arith, Option, None, Some}
+use Rattle.std.proofs.Common.{◌≡◌, ℕ, ◌≤◌, ◌<◌, Bool, true, false, List, [], ◌∷◌, ◌++◌, refl, sym, ap, subst, ◌∙◌, le_refl, le_trans, arith, Option, None, Some}
 use Rattle.std.specs.Prelude.{max, ◌==◌, nat_lt}
 use Rattle.std.specs.Option.{option_map}
 use Rattle.std.proofs.lemmas.Bool.{cond_both}

@@ -1,5 +1,5 @@
-//! Sends that find a full receiver. All runs but the last are worked runs of the machine, whose
-//! replies are computed (`iox2_commands/proofs/WorkedRunsOf..`).
+//! Sends that find a full receiver. All runs but the last get the same replies from `run`, in the tests
+//! of `pubsub_script` (`blocked_sends.rt`) and of `iox2_run_tests` (`handlers.rt`).
 use iox2_commands::{Command, Reply};
 use iox2_model::{Memory, Model};
 use iox2_store::{

@@ -205,6 +205,48 @@ fn a_failed_send_is_in_the_history(rt: HostRuntime) {
     check(&rt, rt.alloc(), service(2, 1), &commands, &expected);
 }
 
+// The other subscriber has the message of a failed send, and a third one, which takes the place of the
+// full one, has it from the history.
+#[test]
+fn a_failed_send_was_sent_all_the_same(rt: HostRuntime) {
+    let strategy = BackpressureStrategy::DiscardData;
+    let commands = [
+        CREATE_SUBSCRIBER,
+        CREATE_SUBSCRIBER,
+        handled_publisher(strategy, BackpressureAction::DiscardDataAndFail),
+        Command::SendCopy { of: 2, value: 1 },
+        Command::Receive { of: 1 },
+        Command::Read { of: 4, at: 0 },
+        Command::Release { of: 4 },
+        Command::SendCopy { of: 2, value: 2 },
+        Command::Receive { of: 1 },
+        Command::Read { of: 8, at: 0 },
+        Command::Close { of: 0 },
+        CREATE_SUBSCRIBER,
+        Command::Update { of: 2 },
+        Command::Receive { of: 11 },
+        Command::Read { of: 13, at: 0 },
+    ];
+    let expected = [
+        Reply::SubscriberMade(UniqueSubscriberId::new(1)),
+        Reply::SubscriberMade(UniqueSubscriberId::new(2)),
+        Reply::PublisherMade(UniquePublisherId::new(3)),
+        Reply::Delivered(2),
+        Reply::Sample(UniquePublisherId::new(3)),
+        Reply::Cell(Some(1)),
+        Reply::Done,
+        FAILED,
+        Reply::Sample(UniquePublisherId::new(3)),
+        Reply::Cell(Some(2)),
+        Reply::Done,
+        Reply::SubscriberMade(UniqueSubscriberId::new(4)),
+        Reply::Done,
+        Reply::Sample(UniquePublisherId::new(3)),
+        Reply::Cell(Some(2)),
+    ];
+    check(&rt, rt.alloc(), service(2, 1), &commands, &expected);
+}
+
 // The handler's answer is the same at each retry, and at each subscriber.
 #[test]
 fn a_retry_asks_the_handler_again(rt: HostRuntime) {

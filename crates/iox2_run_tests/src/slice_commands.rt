@@ -141,6 +141,48 @@ fn a_slice_is_received_as_it_was_sent(rt: HostRuntime) {
     assert!(rt; replies.as_slice() == expected.as_slice());
 }
 
+// With all loans out a slice that is too long is refused for its length, and any other for the number of
+// loans. A slice without elements is lent, and sent.
+#[test]
+fn the_length_counts_before_the_number_of_loans(rt: HostRuntime) {
+    let config = slice_settings();
+    let mut domain: Domain<u64, u8> = Domain::new(rt.alloc(), config).expect(&rt, "a domain");
+    let commands = [
+        PUBLISHER_OF_THREE,
+        Command::LoanSlice { of: 0, len: 3 },
+        Command::LoanSlice { of: 0, len: 4 },
+        Command::LoanSlice { of: 0, len: 3 },
+        Command::Discard { of: 1 },
+        Command::LoanSlice { of: 0, len: 0 },
+        Command::ReadHeader { of: 5 },
+        Command::Read { of: 5, at: 0 },
+        Command::AssumeInit { of: 5 },
+        Command::Send { of: 5 },
+    ];
+    let commands = Vec::from_array(rt.alloc(), commands).expect(&rt, "commands");
+    let outcome = replies_to_numbers(rt.alloc(), &mut domain, commands);
+    drop(domain);
+    let replies = outcome.ok().expect(&rt, "replies");
+    let header = Header {
+        node_id: UniqueNodeId::new(3),
+        publisher_id: UniquePublisherId::new(1),
+        number_of_elements: 0,
+    };
+    let expected: [Reply<u64, u8>; 10] = [
+        Reply::PublisherMade(UniquePublisherId::new(1)),
+        Reply::Loaned,
+        Reply::LoanRefused(LoanError::ExceedsMaxLoanSize),
+        Reply::LoanRefused(LoanError::ExceedsMaxLoans),
+        Reply::Done,
+        Reply::Loaned,
+        Reply::Header(header),
+        Reply::Skipped,
+        Reply::Done,
+        Reply::Delivered(0),
+    ];
+    assert!(rt; replies.as_slice() == expected.as_slice());
+}
+
 #[test]
 fn a_service_lends_messages_of_its_kind_alone(rt: HostRuntime) {
     let mut sliced: Domain<u64, u8> = Domain::new(rt.alloc(), slice_settings()).expect(
