@@ -31,7 +31,8 @@ use Rattle.iox2_laws.proofs.SendsRemain.{send_remains}
 use Rattle.iox2_laws.proofs.SamplesStay.{same_borrowed, IsReceived, received_one, nothing_received, released_remain, released_now, released_others}
 use Rattle.iox2_laws.proofs.SubscriberUpdates.{update_subscriber_keeps}
 use Rattle.iox2_laws.proofs.Waits.{Waits, waits_itself, create_publisher_waits, create_subscriber_waits, grant_loan_waits, loan_set_waits, send_waits as send_spared, receive_waits, released_waits}
-use Rattle.iox2_domain.specs.Fields.{Fields, kept_of}
+use Rattle.iox2_domain.specs.declared.boxes.PortBox.{PortBox}
+use Rattle.iox2_domain.specs.Fields.{Fields, kept_of, keeping}
 use Rattle.iox2_domain.specs.Invariant.{IsDomain}
 use Rattle.iox2_domain.specs.Kept.{Kept, state_of, entries_of}
 use Rattle.iox2_domain.specs.Lending.{LoanCall}
@@ -49,11 +50,11 @@ use Rattle.iox2_pubsub.proofs.StaysBut.{IsSpared, PortsRemainBut, SamplesStayBut
 use Rattle.iox2_pubsub.proofs.UnfailedSends.{IsMild, HasNotFailed, blocked-unfailed}
 
 -- a domain shows some state
-pub always-shown : {T U : Type 0} (f : Fields T U) (kept : Kept T U) → IsDomain f → kept_of f ≡ kept → (m : Messages T U) × (s : State T U) × Shows kept m s
-always-shown {T} {U} f kept sound view = (entries_of (kept_of f), state_of (kept_of f), subst (λ (k : Kept T U). Shows k (entries_of (kept_of f)) (state_of (kept_of f))) view (shows_itself f sound))
+pub always-shown : {T U F : Type 0} {boxes : List (PortBox F)} (f : Fields T U) (kept : Kept T U F) → IsDomain f → keeping boxes f ≡ kept → (m : Messages T U) × (s : State T U) × Shows kept m s
+always-shown {T} {U} {F} f kept sound view = (entries_of (kept_of f), state_of (kept_of f), subst (λ (k : Kept T U F). Shows k (entries_of (kept_of f)) (state_of (kept_of f))) view (shows_itself f sound))
 
 -- two publishers whose messages with one number are borrowed are one
-one-origin : {T U : Type 0} (kept : Kept T U) (m : Messages T U) (s : State T U) → Shows kept m s → (p p' q q' n : ℕ)
+one-origin : {T U F : Type 0} (kept : Kept T U F) (m : Messages T U) (s : State T U) → Shows kept m s → (p p' q q' n : ℕ)
     → is_borrowed n (s.mailboxes p q) ≡ true → is_borrowed n (s.mailboxes p' q') ≡ true → p ≡ p'
 one-origin {T} {U} kept m s shown p p' q q' n here there =
     let a = entry p q (ap (λ (t : State T U). is_borrowed n (t.mailboxes p q)) (sym shown.state) ∙ here) in
@@ -65,7 +66,7 @@ one-origin {T} {U} kept m s shown p p' q q' n here there =
     entry : (i j : ℕ) → is_borrowed n ((state_of kept).mailboxes i j) ≡ true → (e : Entry T U) × (entries_of kept n ≡ Some e) × ((e.header).publisher_id ≡ i)
     entry i j borrowed = shown.complete i n (In_mailbox j (contains_right ((state_of kept).mailboxes i j).waiting ((state_of kept).mailboxes i j).borrowed n borrowed))
 
-module _ {T U : Type 0} (old new : Kept T U) (m : Messages T U) (s : State T U) (shown : Shows old m s) where
+module _ {T U F : Type 0} (old new : Kept T U F) (m : Messages T U) (s : State T U) (shown : Shows old m s) where
   -- ports, loans and samples stay
   quiet : (s' : State T U) → Shows new m s' → PortsStay s s' → s'.loans ≡ s.loans → Waits (IsSpared No_item) s s' → Stays old new
   quiet s' shown' stay loans waits =
@@ -375,7 +376,7 @@ module _ {T U : Type 0} (old new : Kept T U) (m : Messages T U) (s : State T U) 
       ]
 
 -- a loan that is new is sent: all that was there before stays, but that its publisher isn't blocked
-pub copy-stays : {T U : Type 0} (start old new : Kept T U) → Stays start old → (publisher : Handle) (loan : SampleMut) → loan.loan.publisher ≡ publisher.id → IsNewIn start (A_loan loan.loan.number)
+pub copy-stays : {T U F : Type 0} (start old new : Kept T U F) → Stays start old → (publisher : Handle) (loan : SampleMut) → loan.loan.publisher ≡ publisher.id → IsNewIn start (A_loan loan.loan.number)
     → (result : Result SendOutcome SendError) → StaysBut (spent_by_send loan result) old new → StaysBut (spent_by_copy publisher result) start new
 copy-stays start old new before publisher loan its apart result next =
     subst (λ (p : ℕ). StaysBut (A_sent_copy p (is_blocked_send result)) start new) its

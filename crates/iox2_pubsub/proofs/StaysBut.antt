@@ -74,18 +74,18 @@ other-or-spared (Both first second) p = elim (other-or-spared first p) [
 module _ {T U : Type 0} where
   -- Of a publisher whose blocked send is the item: where no handler fails a send of it, none has failed that one then; and it isn't
   -- one that never waits.
-  pub record SparedPublishers (spent : Item) (old : Kept T U) (s s' : State T U) : Type 0 where
+  pub record SparedPublishers {F : Type 0} (spent : Item) (old : Kept T U F) (s s' : State T U) : Type 0 where
     pub unfailed : (p : ℕ) → IsSpared spent p → p < s.next_port → IsMild s p → HasNotFailed s p → HasNotFailed s' p
     pub waits : (key : Key) → IsSpared spent key.port → NeverWaits old key → ⊥
 
   -- where the item is no blocked send
-  pub none-spared : (spent : Item) (old : Kept T U) (s s' : State T U) → ((p : ℕ) → IsOtherBlocked spent p) → SparedPublishers spent old s s'
+  pub none-spared : {F : Type 0} (spent : Item) (old : Kept T U F) (s s' : State T U) → ((p : ℕ) → IsOtherBlocked spent p) → SparedPublishers spent old s s'
   none-spared spent old s s' other = record {
     unfailed = λ p spared low mild none. absurd (spared (other p));
     waits = λ key spared never. absurd (spared (other key.port));
   }
 
-module _ {T U : Type 0} (spent : Item) (old new : Kept T U) (remain : PortsRemainBut spent (state_of old) (state_of new)) (loans : LoansStayBut spent (state_of old) (state_of new))
+module _ {T U F : Type 0} (spent : Item) (old new : Kept T U F) (remain : PortsRemainBut spent (state_of old) (state_of new)) (loans : LoansStayBut spent (state_of old) (state_of new))
     (samples : SamplesStayBut spent (state_of old) (state_of new)) (waits : Waits (IsSpared spent) (state_of old) (state_of new))
     (goes-on : SparedPublishers spent old (state_of old) (state_of new))
     (known : (p : ℕ) (x : Publisher) → (state_of old).publishers p ≡ Some x → p < (state_of old).next_port)
@@ -251,7 +251,7 @@ module _ {T U : Type 0} (spent : Item) (old new : Kept T U) (remain : PortsRemai
   }
 
 -- seen from a state that is shown
-pub stays-between : {T U : Type 0} (spent : Item) (old new : Kept T U) (m m' : Messages T U) (s s' : State T U) → Shows old m s → Shows new m' s'
+pub stays-between : {T U F : Type 0} (spent : Item) (old new : Kept T U F) (m m' : Messages T U) (s s' : State T U) → Shows old m s → Shows new m' s'
     → ((n : ℕ) (entry : Entry T U) → m n ≡ Some entry → m' n ≡ Some entry) → PortsRemainBut spent s s' → LoansStayBut spent s s' → SamplesStayBut spent s s' → Waits (IsSpared spent) s s' → SparedPublishers spent old s s'
     → StaysBut spent old new
 stays-between {T} {U} spent old new m m' s s' shown shown' sent remain loans samples waits goes-on =
@@ -269,7 +269,7 @@ stays-between {T} {U} spent old new m m' s s' shown shown' sent remain loans sam
 
 -- ---- one step after another
 
-module _ {T U : Type 0} (start old : Kept T U) (before : Stays start old) (item : Item) where
+module _ {T U F : Type 0} (start old : Kept T U F) (before : Stays start old) (item : Item) where
   -- what is new later was new before
   pub new-since : IsNewIn old item → IsNewIn start item
   new-since new = record {
@@ -287,7 +287,7 @@ module _ {T U : Type 0} (start old : Kept T U) (before : Stays start old) (item 
   }
 
   -- where an item that was new is spent, all that was there before stays
-  pub stays-on : (new : Kept T U) → IsNewIn start item → StaysBut item old new → Stays start new
+  pub stays-on : (new : Kept T U F) → IsNewIn start item → StaysBut item old new → Stays start new
   stays-on new apart next = record {
     settings = next.settings ∙ before.settings;
     single_valued = λ was. next.single_valued (before.single_valued was);
@@ -318,7 +318,7 @@ module _ {T U : Type 0} (start old : Kept T U) (before : Stays start old) (item 
   }
 
   -- and so it does but for what is spent beside it
-  pub stays-on-but : (spent : Item) (new : Kept T U) → IsNewIn start item → StaysBut (Both item spent) old new → StaysBut spent start new
+  pub stays-on-but : (spent : Item) (new : Kept T U F) → IsNewIn start item → StaysBut (Both item spent) old new → StaysBut spent start new
   stays-on-but spent new apart next = record {
     settings = next.settings ∙ before.settings;
     single_valued = λ was. next.single_valued (before.single_valued was);
@@ -349,7 +349,7 @@ module _ {T U : Type 0} (start old : Kept T U) (before : Stays start old) (item 
   }
 
 -- nothing is always new
-pub nothing-is-new : {T U : Type 0} (start : Kept T U) → IsNewIn start No_item
+pub nothing-is-new : {T U F : Type 0} (start : Kept T U F) → IsNewIn start No_item
 nothing-is-new start = record {
   publishers = λ key live. tt;
   subscribers = λ key live. tt;
@@ -365,7 +365,7 @@ nothing-is-new start = record {
 }
 
 -- nothing changed
-pub unchanged-stays : {T U : Type 0} (spent : Item) (kept : Kept T U) → StaysBut spent kept kept
+pub unchanged-stays : {T U F : Type 0} (spent : Item) (kept : Kept T U F) → StaysBut spent kept kept
 unchanged-stays spent kept = record {
   settings = refl;
   single_valued = λ was. was;
@@ -390,12 +390,12 @@ unchanged-stays spent kept = record {
   sample_user_headers = λ key header live has other. has;
 }
 
-pub stays-itself : {T U : Type 0} (kept : Kept T U) → Stays kept kept
+pub stays-itself : {T U F : Type 0} (kept : Kept T U F) → Stays kept kept
 stays-itself kept = unchanged-stays No_item kept
 
 -- ---- more than one item
 
-module _ {T U : Type 0} (start : Kept T U) where
+module _ {T U F : Type 0} (start : Kept T U F) where
   -- two new items are new
   pub both-new : (first second : Item) → IsNewIn start first → IsNewIn start second → IsNewIn start (Both first second)
   both-new first second a b = record {
@@ -500,7 +500,7 @@ sent-loan-part n p is_blocked = record {
     apart false r other = tt
 
 -- a part of what is new is new
-pub part-new : {T U : Type 0} (start : Kept T U) (part whole : Item) → IsPartOf part whole → IsNewIn start whole → IsNewIn start part
+pub part-new : {T U F : Type 0} (start : Kept T U F) (part whole : Item) → IsPartOf part whole → IsNewIn start whole → IsNewIn start part
 part-new start part whole is new = record {
   publishers = λ key live. is.publishers key.port (new.publishers key live);
   subscribers = λ key live. is.subscribers key.port (new.subscribers key live);
@@ -516,7 +516,7 @@ part-new start part whole is new = record {
 }
 
 -- what stays but for an item stays but for what that is a part of
-pub stays-but-whole : {T U : Type 0} (part whole : Item) → IsPartOf part whole → (old new : Kept T U) → StaysBut part old new → StaysBut whole old new
+pub stays-but-whole : {T U F : Type 0} (part whole : Item) → IsPartOf part whole → (old new : Kept T U F) → StaysBut part old new → StaysBut whole old new
 stays-but-whole part whole is old new stays = record {
   settings = stays.settings;
   single_valued = stays.single_valued;
@@ -542,11 +542,11 @@ stays-but-whole part whole is old new stays = record {
 }
 
 -- what stays but for an item stays but for that and another
-pub stays-but-more : {T U : Type 0} (first second : Item) (old new : Kept T U) → StaysBut first old new → StaysBut (Both first second) old new
+pub stays-but-more : {T U F : Type 0} (first second : Item) (old new : Kept T U F) → StaysBut first old new → StaysBut (Both first second) old new
 stays-but-more first second = stays-but-whole first (Both first second) (first-part first second)
 
 -- what stays twice but for an item stays but for it
-pub stays-twice : {T U : Type 0} (spent : Item) (start old new : Kept T U) → StaysBut spent start old → StaysBut spent old new → StaysBut spent start new
+pub stays-twice : {T U F : Type 0} (spent : Item) (start old new : Kept T U F) → StaysBut spent start old → StaysBut spent old new → StaysBut spent start new
 stays-twice spent start old new before next = record {
   settings = next.settings ∙ before.settings;
   single_valued = λ was. next.single_valued (before.single_valued was);
@@ -574,12 +574,12 @@ stays-twice spent start old new before next = record {
 -- ---- a send that blocked has ended
 
 -- a publisher with a blocked send isn't unblocked
-waits-not : {T U : Type 0} (kept : Kept T U) (key : Key) → IsBlockedKey kept key → IsUnblocked kept key → ⊥
+waits-not : {T U F : Type 0} (kept : Kept T U F) (key : Key) → IsBlockedKey kept key → IsUnblocked kept key → ⊥
 unfolding IsBlockedKey IsUnblocked
 waits-not kept key live free = let no : None ≡ Some (live.1).1 = sym (free.1 (live.1).0 (live.1).2) ∙ (live.1).3 in absurd cc
 
 -- What stood before a send of the publisher blocked, none of whose sends was blocked, stands when the blocked send has ended.
-pub stays-since-block : {T U : Type 0} (p : ℕ) (start old new : Kept T U) → ((key : Key) → key.port ≡ p → IsUnblocked start key) → StaysBut (A_blocked_send p) start old
+pub stays-since-block : {T U F : Type 0} (p : ℕ) (start old new : Kept T U F) → ((key : Key) → key.port ≡ p → IsUnblocked start key) → StaysBut (A_blocked_send p) start old
     → StaysBut (A_blocked_send p) old new → ((key : Key) → key.port ≡ p → IsUnblocked new key) → Stays start new
 stays-since-block {T} {U} p start old new was before next frees = record {
   settings = next.settings ∙ before.settings;
