@@ -18,7 +18,7 @@ use Rattle.iox2_laws.proofs.SendsRemain.{PortsRemain, retry_remains, retry_frees
 use Rattle.iox2_laws.proofs.Waits.{Waits, retry_waits, give_up_waits}
 use Rattle.iox2_domain.specs.BlockedSends.{HasBlocked, waiting_send}
 use Rattle.iox2_domain.specs.declared.publisher_state.BlockedDelivery.{BlockedDelivery}
-use Rattle.iox2_domain.specs.declared.boxes.PortBox.{PortBox}
+use Rattle.iox2_domain.specs.Kept.{Named as PortBox}
 use Rattle.iox2_domain.specs.Fields.{Fields, kept_of, publisher_of, numbers_of, blocked_send, keeping}
 use Rattle.iox2_domain.specs.Invariant.{IsDomain}
 use Rattle.iox2_domain.specs.Kept.{Kept, state_of, entries_of}

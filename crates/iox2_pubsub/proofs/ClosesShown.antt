@@ -11,7 +11,7 @@ use Rattle.iox2_laws.proofs.CloseLaws.{subscriber_closed_advances}
 use Rattle.iox2_laws.proofs.LoanKeeping.{subscriber_closed_loans}
 use Rattle.iox2_laws.proofs.PortsClose.{publisher_closed_gone, publisher_closed_others, publisher_closed_subscribers, publisher_closed_borrowed, subscriber_closed_shut, subscriber_closed_others, subscriber_closed_publishers, subscriber_closed_borrowed}
 use Rattle.iox2_laws.proofs.Waits.{publisher_closed_waits, subscriber_closed_waits}
-use Rattle.iox2_domain.specs.declared.boxes.PortBox.{PortBox}
+use Rattle.iox2_domain.specs.Kept.{Named as PortBox}
 use Rattle.iox2_domain.specs.Fields.{Fields, kept_of, publisher_of, subscriber_of, keeping}
 use Rattle.iox2_domain.specs.Invariant.{IsDomain}
 use Rattle.iox2_domain.specs.Kept.{Kept, state_of}

@@ -1,5 +1,5 @@
 -- A discard of a loan, seen from outside, and what it leaves.
-use Rattle.std.proofs.Common.{◌≡◌, ℕ, ap, sym, subst, ◌∙◌, le_refl}
+use Rattle.std.proofs.Common.{List, ◌≡◌, ℕ, ap, sym, subst, ◌∙◌, le_refl}
 use Rattle.std.proofs.lemmas.Bool.{ne_eqb}
 use Rattle.std.specs.declared.option.Option.TheVariants.{None, Some}
 use Rattle.iox2_store.specs.machine.Loans.{loan_discarded}
@@ -11,7 +11,7 @@ use Rattle.iox2_laws.proofs.Puts.{found_removed, put_at-other, put_at-same}
 use Rattle.iox2_laws.proofs.SamplesStay.{same_borrowed}
 use Rattle.iox2_laws.proofs.Waits.{loan_discarded_waits}
 use Rattle.iox2_domain.specs.Discards.{DiscardsLoan}
-use Rattle.iox2_domain.specs.declared.boxes.PortBox.{PortBox}
+use Rattle.iox2_domain.specs.Kept.{Named as PortBox}
 use Rattle.iox2_domain.specs.Fields.{Fields, kept_of, keeping}
 use Rattle.iox2_domain.specs.Kept.{Kept, state_of}
 use Rattle.iox2_domain.specs.Reaches.{Reaches}

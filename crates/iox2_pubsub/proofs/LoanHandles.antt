@@ -1,5 +1,5 @@
 -- The handles of loans: what a domain that holds one shows.
-use Rattle.std.proofs.Common.{replicate, [], ◌∷◌, true, false, ◌≡◌, ℕ, cond, refl, ap, sym, subst, ◌∙◌, le_refl}
+use Rattle.std.proofs.Common.{List, replicate, [], ◌∷◌, true, false, ◌≡◌, ℕ, cond, refl, ap, sym, subst, ◌∙◌, le_refl}
 use Rattle.std.proofs.lemmas.Bool.{eq-eqb}
 use Rattle.std.proofs.lemmas.Option.{same_Some}
 use Rattle.std.specs.declared.option.Option.TheVariants.{None, Some}
@@ -9,7 +9,7 @@ use Rattle.iox2_store.specs.machine.Loans.{written}
 use Rattle.iox2_store.specs.machine.SingleCalls.{HoldsLoan}
 use Rattle.iox2_laws.proofs.Puts.{found_put}
 use Rattle.iox2_domain.specs.Kept.{Kept, state_of}
-use Rattle.iox2_domain.specs.declared.boxes.PortBox.{PortBox}
+use Rattle.iox2_domain.specs.Kept.{Named as PortBox}
 use Rattle.iox2_domain.specs.Fields.{Fields, kept_of, keeping}
 use Rattle.iox2_store.specs.declared.key.Key.{Key}
 use Rattle.iox2_pubsub.specs.Live.{IsLoanKey, IsUnwritten, IsWritten, LoanHasHeader, LoanHasUserHeader, LoanReads}

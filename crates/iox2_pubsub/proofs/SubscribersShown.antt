@@ -1,12 +1,12 @@
 -- The creation of a subscriber, seen from outside.
-use Rattle.std.proofs.Common.{◌≡◌, ℕ, refl, ap, sym, subst, ◌∙◌}
+use Rattle.std.proofs.Common.{List, ◌≡◌, ℕ, refl, ap, sym, subst, ◌∙◌}
 use Rattle.std.specs.declared.option.Option.TheVariants.{None, Some}
 use Rattle.iox2_store.specs.machine.Ports.{buffer_for, CreateSubscriber}
 use Rattle.iox2_store.specs.machine.Records.{SubscriberSettings, Environment}
 use Rattle.iox2_store.specs.machine.State.{State, Messages}
 use Rattle.iox2_store.specs.declared.errors.SubscriberCreateError.{SubscriberCreateError}
 use Rattle.iox2_domain.specs.Kept.{Kept, state_of}
-use Rattle.iox2_domain.specs.declared.boxes.PortBox.{PortBox}
+use Rattle.iox2_domain.specs.Kept.{Named as PortBox}
 use Rattle.iox2_domain.specs.Fields.{Fields, kept_of, keeping}
 use Rattle.iox2_pubsub.specs.Live.{IsLiveSubscriber}
 use Rattle.iox2_pubsub.specs.declared.subscriber.Subscriber.{Subscriber}

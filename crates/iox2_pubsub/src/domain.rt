@@ -29,12 +29,13 @@ pub struct Domain<T, U, F = Box<dyn BackpressureFn>, G = Box<dyn DegradationFn>>
 
 impl<T, U, F, G> Model for Domain<T, U, F, G> {
     ghost use Rattle.iox2_domain.specs.Kept.{Kept};
-    ghost use Rattle.iox2_domain.specs.Fields.{kept_of};
+    ghost use Rattle.std.specs.Prelude.{[]};
+    ghost use Rattle.iox2_domain.specs.Fields.{keeping};
     ghost use Rattle.iox2_domain.specs.Invariant.{IsDomain};
 
-    ghost Value = { Kept T U };
+    ghost Value = { Kept T U F };
 
-    ghost view = { λ domain. kept_of domain.state };
+    ghost view = { λ domain. keeping [] domain.state };
 
     ghost invariant = { λ domain. IsDomain domain.state };
 }

@@ -19,13 +19,13 @@ pub trait UpdateConnections<T: Drop, U: Default + Drop> {
     ghost use Rattle.iox2_pubsub.specs.UpdateCalls.{failure_of};
 
     // The port is one of the domain's, wasn't closed, and no send of it is blocked.
-    ghost is_live: { Kept T U → Self → Type 0 };
+    ghost is_live: { {F : Type 0} → Kept T U F → Self → Type 0 };
 
     // The machine's update of the port, with this failure if any.
     ghost updates: { State T U → Self → State T U → Option ConnectionFailure → Type 0 };
 
     // How many messages more may wait for a subscriber afterwards.
-    ghost adds: { Kept T U → ℕ };
+    ghost adds: { {F : Type 0} → Kept T U F → ℕ };
 
     /// Makes the port's connections with the ports of the other side that came since its last
     /// update. Where none came it does nothing.
@@ -47,5 +47,5 @@ pub trait UpdateConnections<T: Drop, U: Default + Drop> {
         ensures stays { Stays domain.old domain.new };
 
     // A port that is live stays so where everything does.
-    ghost live_stays: { (old new : Kept T U) (port : Self) → Stays old new → is_live old port → is_live new port };
+    ghost live_stays: { {F : Type 0} (old new : Kept T U F) (port : Self) → Stays old new → is_live old port → is_live new port };
 }
