@@ -9,6 +9,7 @@ use Rattle.iox2_store.specs.machine.State.{State, Warnings, Messages}
 use Rattle.iox2_store.specs.declared.header.Header.{Header}
 use Rattle.iox2_store.specs.declared.service_config.ServiceConfig.{ServiceConfig}
 use Rattle.iox2_ends.specs.LookUp.{look_up}
+use Rattle.iox2_domain.specs.declared.boxes.PortBox.{PortBox}
 
 -- A port and its id.
 pub record Named (A : Type 0) : Type 0 where
@@ -41,7 +42,7 @@ pub record Kept (T U F : Type 0) : Type 0 where
   pub connections : List (Option Between)  -- in no order that means anything
   pub books : List (Option (KeptBook T U))  -- in no order that means anything
   pub warnings : Warnings
-  pub boxes : List (Named F)  -- the handlers of publishers that have one in a box, by the publisher's id
+  pub boxes : List (PortBox F)  -- the boxed handlers of publishers, in no order that means anything
 
 -- ---- ports and mailboxes
 

@@ -9,7 +9,7 @@ use Rattle.iox2_store.specs.machine.Records.{Loan}
 use Rattle.iox2_store.specs.machine.SingleCalls.{HoldsLoan}
 use Rattle.iox2_store.specs.machine.State.{State, Messages}
 use Rattle.iox2_domain.specs.Kept.{Kept, state_of}
-use Rattle.iox2_domain.specs.Kept.{Named as PortBox}
+use Rattle.iox2_domain.specs.declared.boxes.PortBox.{PortBox}
 use Rattle.iox2_domain.specs.Fields.{Fields, kept_of, keeping}
 use Rattle.iox2_domain.specs.Invariant.{IsDomain}
 use Rattle.iox2_domain.specs.LoanCalls.{AssumesLoan}
@@ -26,7 +26,7 @@ use Rattle.iox2_pubsub.proofs.LoanHandles.{change-header, change-shown, change-u
 use Rattle.iox2_pubsub.proofs.SliceParts.{cells-parts, has-values}
 use Rattle.iox2_pubsub.proofs.UpToDateShown.{set-leaves}
 use Rattle.iox2_pubsub.proofs.WaitingShown.{set-waits}
-use Rattle.iox2_pubsub.proofs.StaysBut.{unchanged-stays}
+use Rattle.iox2_pubsub.proofs.StaysBut.{same-boxes, unchanged-stays}
 use Rattle.iox2_pubsub.specs.LoansLeft.{LoansLeftStay}
 use Rattle.iox2_pubsub.proofs.LoansLeftShown.{set-left}
 
@@ -105,7 +105,7 @@ module _ {T U F : Type 0} {boxes : List (PortBox F)} (f g : Fields T U) (sound :
     taken-stays =
         let it = always-shown f kept sound view in
         let step = taken-shown it.0 it.1 it.2 in
-        change-stays kept (keeping boxes g) it.0 it.1 it.2 n (record (step.0) { is_written = true }) step.3
+        change-stays kept (keeping boxes g) it.0 it.1 it.2 n (record (step.0) { is_written = true }) step.3 (same-boxes f g kept view)
 
     pub taken-left : LoansLeftStay kept (keeping boxes g)
     taken-left =

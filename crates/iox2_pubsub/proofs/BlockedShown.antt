@@ -18,7 +18,7 @@ use Rattle.iox2_laws.proofs.SendsRemain.{PortsRemain, retry_remains, retry_frees
 use Rattle.iox2_laws.proofs.Waits.{Waits, retry_waits, give_up_waits}
 use Rattle.iox2_domain.specs.BlockedSends.{HasBlocked, waiting_send}
 use Rattle.iox2_domain.specs.declared.publisher_state.BlockedDelivery.{BlockedDelivery}
-use Rattle.iox2_domain.specs.Kept.{Named as PortBox}
+use Rattle.iox2_domain.specs.declared.boxes.PortBox.{PortBox}
 use Rattle.iox2_domain.specs.Fields.{Fields, kept_of, publisher_of, numbers_of, blocked_send, keeping}
 use Rattle.iox2_domain.specs.Invariant.{IsDomain}
 use Rattle.iox2_domain.specs.Kept.{Kept, state_of, entries_of}
@@ -37,7 +37,7 @@ use Rattle.iox2_store.specs.declared.errors.SendError.TheVariants.{UnableToDeliv
 use Rattle.iox2_store.specs.declared.key.Key.{Key}
 use Rattle.iox2_messages.specs.SendEnds.{IsKept, end_result}
 use Rattle.iox2_messages.specs.declared.send_end.SendEnd.{SendEnd}
-use Rattle.iox2_pubsub.proofs.StaysBut.{IsSpared, SparedPublishers, stays-between}
+use Rattle.iox2_pubsub.proofs.StaysBut.{same-boxes, IsSpared, SparedPublishers, stays-between}
 use Rattle.iox2_pubsub.proofs.UnfailedSends.{IsMild, HasNotFailed, retry-unfailed, give-up-unfailed}
 use Rattle.std.proofs.lemmas.Bool.{cases_eq}
 
@@ -98,7 +98,7 @@ module _ {T U F : Type 0} {boxes : List (PortBox F)} (f g : Fields T U) (kept : 
         subscribers = λ q y at is_open _. remain.subscribers q y at is_open;
       })
       (λ k loan at _. ap (λ (all : ℕ → Option (Loan T U)). all k) loans ∙ at)
-      (λ i j k at _. ap (λ (ns : List ℕ). is_borrowed k (record { waiting = []; borrowed = ns })) (remain.borrowed i j) ∙ at) waits goes-on
+      (λ i j k at _. ap (λ (ns : List ℕ). is_borrowed k (record { waiting = []; borrowed = ns })) (remain.borrowed i j) ∙ at) waits goes-on (same-boxes f g kept view)
 
   -- the publisher is the one whose send is blocked
   spared-on : (x : Publisher) (b : BlockedSend) → s.publishers p ≡ Some x → x.blocked ≡ Some b

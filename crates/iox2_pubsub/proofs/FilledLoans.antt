@@ -6,7 +6,7 @@ use Rattle.iox2_store.specs.machine.State.{State, Messages, with_loan}
 use Rattle.iox2_store.specs.declared.header.Header.{Header}
 use Rattle.iox2_store.specs.declared.key.Key.{Key}
 use Rattle.iox2_domain.specs.Kept.{Kept, state_of}
-use Rattle.iox2_domain.specs.Kept.{Named as PortBox}
+use Rattle.iox2_domain.specs.declared.boxes.PortBox.{PortBox}
 use Rattle.iox2_domain.specs.Fields.{Fields, kept_of, keeping}
 use Rattle.iox2_domain.specs.Invariant.{IsDomain}
 use Rattle.iox2_domain.specs.LoanCalls.{WritesLoan}
@@ -21,6 +21,7 @@ use Rattle.iox2_pubsub.proofs.LiveParts.{unwritten-parts}
 use Rattle.iox2_pubsub.proofs.LoanHandles.{change-header, change-shown, change-user-header, change-written, changed-out}
 use Rattle.iox2_pubsub.proofs.LoansLeftShown.{set-left}
 use Rattle.iox2_pubsub.proofs.SliceParts.{has-values}
+use Rattle.iox2_pubsub.proofs.StaysBut.{same-boxes}
 use Rattle.iox2_pubsub.proofs.UpToDateShown.{set-leaves}
 use Rattle.iox2_pubsub.proofs.WaitingShown.{set-waits}
 
@@ -50,7 +51,7 @@ module _ {T U F : Type 0} {boxes : List (PortBox F)} (f g : Fields T U) (sound :
   filled-stays =
       let it = always-shown f kept sound view in
       let step = change-shown f g kept view n writes.0 filled writes.1 writes.3 it.0 it.1 it.2 in
-      change-stays kept (keeping boxes g) it.0 it.1 it.2 n filled step.1
+      change-stays kept (keeping boxes g) it.0 it.1 it.2 n filled step.1 (same-boxes f g kept view)
 
   pub filled-left : LoansLeftStay kept (keeping boxes g)
   filled-left =

@@ -12,7 +12,7 @@ use Rattle.iox2_store.specs.machine.Records.{Loan}
 use Rattle.iox2_store.specs.machine.SingleCalls.{HoldsLoan}
 use Rattle.iox2_store.specs.machine.State.{State, Messages, with_loan}
 use Rattle.iox2_domain.specs.Kept.{Kept, state_of, with_loan_changed}
-use Rattle.iox2_domain.specs.Kept.{Named as PortBox}
+use Rattle.iox2_domain.specs.declared.boxes.PortBox.{PortBox}
 use Rattle.iox2_domain.specs.Fields.{Fields, kept_of, contents_at, keeping}
 use Rattle.iox2_domain.specs.Invariant.{IsDomain}
 use Rattle.iox2_domain.specs.LoanCalls.{HoldsUnwritten, HoldsWritten, HasCells, HasCell, HasLoanUserHeader, HasContents, HasContentIn, with_content, first_cell_changed, cells_changed, user_header_changed}
@@ -29,12 +29,27 @@ use Rattle.iox2_pubsub.proofs.CallsStay.{always-shown, change-stays}
 use Rattle.iox2_pubsub.proofs.LiveParts.{written-parts, unwritten-parts, loan-user-header}
 use Rattle.iox2_pubsub.proofs.LoanHandles.{change-header, change-shown, change-user-header, changed-out, change-unwritten, change-written}
 use Rattle.iox2_pubsub.proofs.SliceParts.{cells-parts, has-cells, has-values, values-parts}
+use Rattle.iox2_pubsub.proofs.StaysBut.{BoxesStayBut, same-boxes}
 use Rattle.iox2_pubsub.proofs.UpToDateShown.{set-leaves}
 use Rattle.iox2_pubsub.proofs.WaitingShown.{set-waits}
 use Rattle.iox2_pubsub.specs.LoansLeft.{LoansLeftStay}
 use Rattle.iox2_pubsub.proofs.LoansLeftShown.{set-left}
 
 -- ---- the words
+
+-- what is kept, beside other boxes
+abbrev with-boxes : {T U F G : Type 0} → List (PortBox G) → Kept T U F → Kept T U G
+with-boxes boxes kept = record {
+  config = kept.config;
+  next_port = kept.next_port;
+  next_message = kept.next_message;
+  publishers = kept.publishers;
+  subscribers = kept.subscribers;
+  connections = kept.connections;
+  books = kept.books;
+  warnings = kept.warnings;
+  boxes = boxes;
+}
 
 module _ {T U F : Type 0} (kept : Kept T U F) (n : ℕ) where
   pub cell-word : (cell : Option T) → with_cell kept n cell ≡ with_loan_changed n (first_cell_changed cell) kept
@@ -76,7 +91,7 @@ module _ {T U F : Type 0} {boxes : List (PortBox F)} (f g : Fields T U) (sound :
     (h : Loan T U → Loan T U) (lent : IsLent f g n l h) (after : Kept T U F) (is : after ≡ with_loan_changed n h kept) where
   -- what is kept is what the word says
   pub lent-is : keeping boxes g ≡ after
-  lent-is = lent.kept ∙ ap (with_loan_changed n h) view ∙ sym is
+  lent-is = ap (with-boxes boxes) lent.kept ∙ ap (with_loan_changed n h) view ∙ sym is
 
   pub lent-shown : (m : Messages T U) (s : State T U) → Shows kept m s → (k : Loan T U) × (s.loans n ≡ Some k) × Shows after m (with_loan s n (Some (h k)))
   lent-shown m s shown =
@@ -87,7 +102,7 @@ module _ {T U F : Type 0} {boxes : List (PortBox F)} (f g : Fields T U) (sound :
   lent-stays =
       let it = always-shown f kept sound view in
       let step = lent-shown it.0 it.1 it.2 in
-      change-stays kept after it.0 it.1 it.2 n (h step.0) step.2
+      change-stays kept after it.0 it.1 it.2 n (h step.0) step.2 (subst (BoxesStayBut (A_loan n) kept) lent-is (same-boxes f g kept view))
 
   pub lent-left : LoansLeftStay kept after
   lent-left =

@@ -9,7 +9,7 @@ use Rattle.iox2_store.specs.machine.Loans.{written}
 use Rattle.iox2_store.specs.machine.SingleCalls.{HoldsLoan}
 use Rattle.iox2_laws.proofs.Puts.{found_put}
 use Rattle.iox2_domain.specs.Kept.{Kept, state_of}
-use Rattle.iox2_domain.specs.Kept.{Named as PortBox}
+use Rattle.iox2_domain.specs.declared.boxes.PortBox.{PortBox}
 use Rattle.iox2_domain.specs.Fields.{Fields, kept_of, keeping}
 use Rattle.iox2_store.specs.declared.key.Key.{Key}
 use Rattle.iox2_pubsub.specs.Live.{IsLoanKey, IsUnwritten, IsWritten, LoanHasHeader, LoanHasUserHeader, LoanReads}

@@ -16,7 +16,7 @@ use Rattle.iox2_pubsub.proofs.LiveParts.{subscriber-parts, sample-live, origin-l
 use Rattle.iox2_pubsub.specs.declared.sample.Sample.{Sample}
 use Rattle.iox2_domain.specs.Shows.{Shows}
 use Rattle.iox2_domain.specs.Kept.{Kept, Named, state_of, is_named}
-use Rattle.iox2_domain.specs.Kept.{Named as PortBox}
+use Rattle.iox2_domain.specs.declared.boxes.PortBox.{PortBox}
 use Rattle.iox2_domain.specs.Fields.{Fields, kept_of, subscriber_of, keeping}
 use Rattle.iox2_domain.specs.Invariant.{is_subscriber}
 use Rattle.iox2_domain.proofs.lemmas.containers.LookUps.{look_up-map}

@@ -30,7 +30,7 @@ use Rattle.iox2_pubsub.specs.declared.send_outcome.SendOutcome.TheVariants.{Deli
 use Rattle.iox2_store.specs.machine.State.{State, Messages, receiving_buffer}
 use Rattle.iox2_laws.proofs.Puts.{put_at-same, put_at-other}
 use Rattle.iox2_laws.proofs.SendLaws.{send_advances}
-use Rattle.iox2_domain.specs.Kept.{Named as PortBox}
+use Rattle.iox2_domain.specs.declared.boxes.PortBox.{PortBox}
 use Rattle.iox2_domain.specs.Fields.{Fields, kept_of, keeping}
 use Rattle.iox2_domain.specs.Kept.{state_of}
 use Rattle.iox2_domain.specs.SentLoans.{SendsLoan}

@@ -13,12 +13,15 @@ use Rattle.iox2_laws.proofs.PortsStay.{Remain}
 use Rattle.iox2_laws.proofs.Waits.{Waits}
 use Rattle.iox2_store.specs.Stored.{In_mailbox}
 use Rattle.iox2_laws.proofs.NumberLemmas.{contains_right}
+use Rattle.iox2_domain.specs.Boxes.{box_of}
+use Rattle.iox2_domain.specs.Fields.{Fields, keeping}
 use Rattle.iox2_domain.specs.Handlers.{may_fail}
+use Rattle.iox2_domain.specs.declared.boxes.PortBox.{PortBox}
 use Rattle.iox2_domain.specs.Kept.{Kept, state_of, entries_of}
 use Rattle.iox2_domain.specs.Shows.{Shows}
 use Rattle.iox2_pubsub.proofs.UnfailedSends.{IsMild, HasNotFailed}
 use Rattle.iox2_pubsub.specs.Handlers.{may_wait}
-use Rattle.iox2_pubsub.specs.Live.{IsSingleValued, IsPublisherKey, IsSubscriberKey, IsLoanKey, IsSampleKey, IsBlockedKey, HasMark, IsFromOrigin, LoanHasHeader, LoanHasUserHeader, SampleHasHeader, SampleHasUserHeader, Item, No_item, A_publisher, A_subscriber, A_loan, A_sample, A_blocked_send, A_sent_loan, A_sent_copy, Both, IsOtherPublisher, IsOtherSubscriber, IsOtherLoan, IsOtherSample, IsUnblocked, PassesFull, NeverFails, NeverWaits, IsOtherBlocked, StaysBut, Stays, IsNewIn, unwritten_key, written_key}
+use Rattle.iox2_pubsub.specs.Live.{handler_box, IsSingleValued, IsPublisherKey, IsSubscriberKey, IsLoanKey, IsSampleKey, IsBlockedKey, HasMark, IsFromOrigin, LoanHasHeader, LoanHasUserHeader, SampleHasHeader, SampleHasUserHeader, Item, No_item, A_publisher, A_subscriber, A_loan, A_sample, A_blocked_send, A_sent_loan, A_sent_copy, Both, IsOtherPublisher, IsOtherSubscriber, IsOtherLoan, IsOtherSample, IsUnblocked, PassesFull, NeverFails, NeverWaits, IsOtherBlocked, StaysBut, Stays, IsNewIn, unwritten_key, written_key}
 use Rattle.iox2_pubsub.specs.Slices.{IsSliced, HasUnwrittenCells, HasValues, SampleHasValues}
 use Rattle.iox2_pubsub.specs.declared.sample.Sample.{Sample}
 
@@ -45,6 +48,27 @@ module _ {T U : Type 0} where
   -- what is borrowed stays so, but for the item
   abbrev pub SamplesStayBut : Item → (s s' : State T U) → Type 0
   SamplesStayBut spent s s' = (p q n : ℕ) → is_borrowed n (s.mailboxes p q) ≡ true → IsOtherSample spent q n → is_borrowed n (s'.mailboxes p q) ≡ true
+
+module _ {T U F : Type 0} where
+  -- each publisher keeps its box, but for the item
+  pub record BoxesStayBut (spent : Item) (old new : Kept T U F) : Type 0 where
+    pub at : (key : Key) → IsPublisherKey old key → IsOtherPublisher spent key.port → handler_box new key.port ≡ handler_box old key.port
+
+  -- where the call changes no box
+  pub same-boxes : {boxes : List (PortBox F)} {spent : Item} (f g : Fields T U) (kept : Kept T U F) → keeping boxes f ≡ kept → BoxesStayBut spent kept (keeping boxes g)
+  unfolding handler_box
+  same-boxes f g kept view = record { at = λ key live other. ap (λ (k : Kept T U F). box_of key.port k.boxes) view }
+
+  -- where it changes no box but that of the item
+  pub other-boxes : {boxes boxes' : List (PortBox F)} {spent : Item} (f g : Fields T U) (kept : Kept T U F) → keeping boxes f ≡ kept
+      → ((p : ℕ) → IsOtherPublisher spent p → box_of p boxes' ≡ box_of p boxes) → BoxesStayBut spent kept (keeping boxes' g)
+  unfolding handler_box
+  other-boxes f g kept view same = record { at = λ key live other. same key.port other ∙ ap (λ (k : Kept T U F). box_of key.port k.boxes) view }
+
+  -- a publisher has the box that is kept under its id
+  pub box-is : (boxes : List (PortBox F)) (f : Fields T U) (p : ℕ) (box : Option F) → box_of p boxes ≡ box → handler_box (keeping boxes f) p ≡ box
+  unfolding handler_box
+  box-is boxes f p box is = is
 
 -- the publisher's blocked send is the item
 abbrev pub IsSpared : Item → (publisher : ℕ) → Type 0
@@ -89,7 +113,8 @@ module _ {T U F : Type 0} (spent : Item) (old new : Kept T U F) (remain : PortsR
     (samples : SamplesStayBut spent (state_of old) (state_of new)) (waits : Waits (IsSpared spent) (state_of old) (state_of new))
     (goes-on : SparedPublishers spent old (state_of old) (state_of new))
     (known : (p : ℕ) (x : Publisher) → (state_of old).publishers p ≡ Some x → p < (state_of old).next_port)
-    (entries : (n p q : ℕ) (entry : Entry T U) → entries_of old n ≡ Some entry → is_borrowed n ((state_of new).mailboxes p q) ≡ true → entries_of new n ≡ Some entry) where
+    (entries : (n p q : ℕ) (entry : Entry T U) → entries_of old n ≡ Some entry → is_borrowed n ((state_of new).mailboxes p q) ≡ true → entries_of new n ≡ Some entry)
+    (boxes : BoxesStayBut spent old new) where
   service : (id : ℕ) → id ≡ (old.config).service_id → id ≡ (new.config).service_id
   service id ours = ours ∙ sym (ap (λ (c : ServiceConfig). c.service_id) remain.config)
 
@@ -224,6 +249,7 @@ module _ {T U F : Type 0} (spent : Item) (old new : Kept T U F) (remain : PortsR
     single_valued = single;
     sliced = slices;
     publishers = publisher;
+    boxes = boxes.at;
     subscribers = subscriber;
     loans = loan;
     unwritten_loans = λ it live other. record { live = loan (unwritten_key it) live.live other; unwritten = mark it.loan.number _ live.unwritten other };
@@ -253,10 +279,10 @@ module _ {T U F : Type 0} (spent : Item) (old new : Kept T U F) (remain : PortsR
 -- seen from a state that is shown
 pub stays-between : {T U F : Type 0} (spent : Item) (old new : Kept T U F) (m m' : Messages T U) (s s' : State T U) → Shows old m s → Shows new m' s'
     → ((n : ℕ) (entry : Entry T U) → m n ≡ Some entry → m' n ≡ Some entry) → PortsRemainBut spent s s' → LoansStayBut spent s s' → SamplesStayBut spent s s' → Waits (IsSpared spent) s s' → SparedPublishers spent old s s'
-    → StaysBut spent old new
-stays-between {T} {U} spent old new m m' s s' shown shown' sent remain loans samples waits goes-on =
+    → BoxesStayBut spent old new → StaysBut spent old new
+stays-between {T} {U} spent old new m m' s s' shown shown' sent remain loans samples waits goes-on boxes =
     stays-but spent old new (between (PortsRemainBut spent) remain) (between (LoansStayBut spent) loans) (between (SamplesStayBut spent) samples)
-    (between (Waits (IsSpared spent)) waits) (between (SparedPublishers spent old) goes-on) (λ p x at. ((subst IsWellFormed shown.state shown.well_formed).publishers p x at).is_known) entries
+    (between (Waits (IsSpared spent)) waits) (between (SparedPublishers spent old) goes-on) (λ p x at. ((subst IsWellFormed shown.state shown.well_formed).publishers p x at).is_known) entries boxes
   where
     entries : (n p q : ℕ) (entry : Entry T U) → entries_of old n ≡ Some entry → is_borrowed n ((state_of new).mailboxes p q) ≡ true → entries_of new n ≡ Some entry
     entries n p q entry at borrowed =
@@ -293,6 +319,7 @@ module _ {T U F : Type 0} (start old : Kept T U F) (before : Stays start old) (i
     single_valued = λ was. next.single_valued (before.single_valued was);
     sliced = λ was. next.sliced (before.sliced was);
     publishers = λ key live other. next.publishers key (before.publishers key live other) (apart.publishers key live);
+    boxes = λ key live other. next.boxes key (before.publishers key live other) (apart.publishers key live) ∙ before.boxes key live other;
     subscribers = λ key live other. next.subscribers key (before.subscribers key live other) (apart.subscribers key live);
     loans = λ key live other. next.loans key (before.loans key live other) (apart.loans key live);
     unwritten_loans = λ it live other. next.unwritten_loans it (before.unwritten_loans it live other) (apart.unwritten_loans it live);
@@ -324,6 +351,7 @@ module _ {T U F : Type 0} (start old : Kept T U F) (before : Stays start old) (i
     single_valued = λ was. next.single_valued (before.single_valued was);
     sliced = λ was. next.sliced (before.sliced was);
     publishers = λ key live other. next.publishers key (before.publishers key live tt) (apart.publishers key live, other);
+    boxes = λ key live other. next.boxes key (before.publishers key live tt) (apart.publishers key live, other) ∙ before.boxes key live tt;
     subscribers = λ key live other. next.subscribers key (before.subscribers key live tt) (apart.subscribers key live, other);
     loans = λ key live other. next.loans key (before.loans key live tt) (apart.loans key live, other);
     unwritten_loans = λ it live other. next.unwritten_loans it (before.unwritten_loans it live tt) (apart.unwritten_loans it live, other);
@@ -371,6 +399,7 @@ unchanged-stays spent kept = record {
   single_valued = λ was. was;
   sliced = λ was. was;
   publishers = λ key live other. live;
+  boxes = λ key live other. refl;
   subscribers = λ key live other. live;
   loans = λ key live other. live;
   unwritten_loans = λ it live other. live;
@@ -522,6 +551,7 @@ stays-but-whole part whole is old new stays = record {
   single_valued = stays.single_valued;
   sliced = stays.sliced;
   publishers = λ key live other. stays.publishers key live (is.publishers key.port other);
+  boxes = λ key live other. stays.boxes key live (is.publishers key.port other);
   subscribers = λ key live other. stays.subscribers key live (is.subscribers key.port other);
   loans = λ key live other. stays.loans key live (is.loans key.message other);
   unwritten_loans = λ it live other. stays.unwritten_loans it live (is.loans it.loan.number other);
@@ -552,6 +582,7 @@ stays-twice spent start old new before next = record {
   single_valued = λ was. next.single_valued (before.single_valued was);
   sliced = λ was. next.sliced (before.sliced was);
   publishers = λ key live other. next.publishers key (before.publishers key live other) other;
+  boxes = λ key live other. next.boxes key (before.publishers key live other) other ∙ before.boxes key live other;
   subscribers = λ key live other. next.subscribers key (before.subscribers key live other) other;
   loans = λ key live other. next.loans key (before.loans key live other) other;
   unwritten_loans = λ it live other. next.unwritten_loans it (before.unwritten_loans it live other) other;
@@ -586,6 +617,7 @@ stays-since-block {T} {U} p start old new was before next frees = record {
   single_valued = λ single. next.single_valued (before.single_valued single);
   sliced = λ sliced. next.sliced (before.sliced sliced);
   publishers = λ key live other. next.publishers key (before.publishers key live tt) tt;
+  boxes = λ key live other. next.boxes key (before.publishers key live tt) tt ∙ before.boxes key live tt;
   subscribers = λ key live other. next.subscribers key (before.subscribers key live tt) tt;
   loans = λ key live other. next.loans key (before.loans key live tt) tt;
   unwritten_loans = λ it live other. next.unwritten_loans it (before.unwritten_loans it live tt) tt;

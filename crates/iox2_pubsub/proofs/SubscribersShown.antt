@@ -6,7 +6,7 @@ use Rattle.iox2_store.specs.machine.Records.{SubscriberSettings, Environment}
 use Rattle.iox2_store.specs.machine.State.{State, Messages}
 use Rattle.iox2_store.specs.declared.errors.SubscriberCreateError.{SubscriberCreateError}
 use Rattle.iox2_domain.specs.Kept.{Kept, state_of}
-use Rattle.iox2_domain.specs.Kept.{Named as PortBox}
+use Rattle.iox2_domain.specs.declared.boxes.PortBox.{PortBox}
 use Rattle.iox2_domain.specs.Fields.{Fields, kept_of, keeping}
 use Rattle.iox2_pubsub.specs.Live.{IsLiveSubscriber}
 use Rattle.iox2_pubsub.specs.declared.subscriber.Subscriber.{Subscriber}

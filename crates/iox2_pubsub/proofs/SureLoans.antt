@@ -13,7 +13,7 @@ use Rattle.iox2_store.specs.machine.Records.{Publisher}
 use Rattle.iox2_store.specs.machine.State.{State}
 use Rattle.iox2_store.specs.declared.errors.LoanError.{LoanError}
 use Rattle.iox2_laws.proofs.EnoughSlots.{worst_case_of_slots_grants}
-use Rattle.iox2_domain.specs.Kept.{Named as PortBox}
+use Rattle.iox2_domain.specs.declared.boxes.PortBox.{PortBox}
 use Rattle.iox2_domain.specs.Fields.{Fields, kept_of, publisher_of, keeping}
 use Rattle.iox2_domain.specs.Invariant.{IsDomain, HasBook}
 use Rattle.iox2_domain.specs.Kept.{Kept, state_of}

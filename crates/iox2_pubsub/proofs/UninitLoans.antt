@@ -22,7 +22,7 @@ use Rattle.iox2_pubsub.proofs.LiveParts.{loan-header, publisher-parts, unwritten
 use Rattle.iox2_pubsub.proofs.SliceParts.{has-cells, cells-parts}
 use Rattle.iox2_domain.specs.Ports.{PublisherFields}
 use Rattle.iox2_domain.specs.Kept.{Kept, Named, state_of, is_named}
-use Rattle.iox2_domain.specs.Kept.{Named as PortBox}
+use Rattle.iox2_domain.specs.declared.boxes.PortBox.{PortBox}
 use Rattle.iox2_domain.specs.Fields.{Fields, kept_of, publisher_of, keeping}
 use Rattle.iox2_domain.specs.Invariant.{is_publisher}
 use Rattle.iox2_domain.specs.Lending.{IsNamed, LoanReaches, LoanCall, header_for}

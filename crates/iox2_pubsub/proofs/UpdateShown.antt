@@ -9,7 +9,7 @@ use Rattle.iox2_laws.proofs.PublisherUpdates.{update_publisher_advances}
 use Rattle.iox2_laws.proofs.SubscriberUpdates.{update_subscriber_advances}
 use Rattle.iox2_domain.specs.Connects.{UpdatesPublisher}
 use Rattle.iox2_domain.specs.ReceiverSteps.{UpdatesReceiver}
-use Rattle.iox2_domain.specs.Kept.{Named as PortBox}
+use Rattle.iox2_domain.specs.declared.boxes.PortBox.{PortBox}
 use Rattle.iox2_domain.specs.Fields.{Fields, kept_of, keeping}
 use Rattle.iox2_domain.specs.Kept.{Kept, state_of}
 use Rattle.iox2_domain.specs.Ports.{PublisherFields, SubscriberFields}

@@ -9,6 +9,7 @@ use Rattle.iox2_store.specs.machine.SingleCalls.{HoldsPublisher, HoldsSubscriber
 use Rattle.iox2_store.specs.declared.header.Header.{Header}
 use Rattle.iox2_store.specs.declared.key.Key.{Key}
 use Rattle.iox2_store.specs.declared.service_config.TypeVariant.TheVariants.{FixedSize}
+use Rattle.iox2_domain.specs.Boxes.{box_of}
 use Rattle.iox2_domain.specs.Handlers.{may_fail}
 use Rattle.iox2_domain.specs.Kept.{Kept, state_of, entries_of}
 use Rattle.iox2_domain.specs.LoanCalls.{HasLoanHeader, HasLoanUserHeader}
@@ -162,6 +163,10 @@ module _ {T U F : Type 0} (domain : Kept T U F) where
   -- The sample's message is borrowed from the publisher that the sample names as its origin.
   unfoldable pub IsFromOrigin : Sample → Type 0
   IsFromOrigin sample = IsTrue (is_borrowed sample.sample.number ((state_of domain).mailboxes sample.origin sample.sample.subscriber))
+
+  -- The boxed handler of the publisher with this id, if it has one.
+  unfoldable pub handler_box : (publisher : ℕ) → Option F
+  handler_box publisher = box_of publisher domain.boxes
 
   -- ---- what is read: a single value is a slice of one
 
@@ -321,12 +326,14 @@ AreApart first (Both second third) = AreApart first second × AreApart first thi
 
 module _ {T U F : Type 0} where
   -- The settings stay, and each port, loan, sample and blocked send that was live is live and reads as it did, but for the
-  -- item that was spent. A publisher none of whose sends is blocked, or ever is, stays so, and one that no handler fails.
+  -- item that was spent. A publisher none of whose sends is blocked, or ever is, stays so, and one that no handler fails; and each
+  -- keeps its box.
   pub record StaysBut (spent : Item) (old new : Kept T U F) : Type 0 where
     pub settings : new.config ≡ old.config
     pub single_valued : IsSingleValued old → IsSingleValued new
     pub sliced : IsSliced old → IsSliced new
     pub publishers : (key : Key) → IsPublisherKey old key → IsOtherPublisher spent key.port → IsPublisherKey new key
+    pub boxes : (key : Key) → IsPublisherKey old key → IsOtherPublisher spent key.port → handler_box new key.port ≡ handler_box old key.port
     pub subscribers : (key : Key) → IsSubscriberKey old key → IsOtherSubscriber spent key.port → IsSubscriberKey new key
     pub loans : (key : Key) → IsLoanKey old key → IsOtherLoan spent key.message → IsLoanKey new key
     pub unwritten_loans : (loan : SampleMutUninit) → IsUnwritten old loan → IsOtherLoan spent loan.loan.number → IsUnwritten new loan

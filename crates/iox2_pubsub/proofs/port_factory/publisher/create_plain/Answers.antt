@@ -14,6 +14,7 @@ use Rattle.iox2_pubsub.proofs.PublishersShown.{created-shows, created-ready, cre
 use Rattle.iox2_pubsub.proofs.CallsStay.{always-shown, publisher-creation-stays, publisher-is-new}
 use Rattle.iox2_pubsub.proofs.WaitingShown.{publisher-refused, publisher-no-fewer}
 use Rattle.iox2_pubsub.proofs.LoansLeftShown.{publisher-creation-left, created-left}
+use Rattle.iox2_pubsub.proofs.StaysBut.{same-boxes}
 use Rattle.iox2_pubsub.proofs.port_factory.publisher.create_plain.Goals as goal
 
 pub returns-in_err-port-clause-creates : goal.returns-in_err-port-clause-creates
@@ -81,13 +82,13 @@ returns-in_err-port-clause-stays g c =
     let why = c.in_err-port.field-0.0 in
     let shown : Shows (kept_of c.domain.inside.state) it.0 it.1 = subst (λ (kept : Kept g.row.T.Denot g.row.U.Denot g.row.F.Denot). Shows kept it.0 it.1) (sym c.domain.view_is) it.2 in
     let next = created-shows {T = g.row.T.Denot} {U = g.row.U.Denot} c.domain.inside.state c.create_publisher.new.state c.args.max_loaned_samples c.args.strategy (fixed_handler c.args.handler) c.args.initial_max_slice_len fixed_handlers it.0 it.1 _ (Some why) shown made.0 made.1 in
-    publisher-creation-stays {T = g.row.T.Denot} {U = g.row.U.Denot} c.args.domain.now _ it.0 it.1 it.2 fixed_handlers (static_publisher c.args.max_loaned_samples c.args.strategy (fixed_handler c.args.handler) c.args.initial_max_slice_len) (Some why) _ next.0 next.1
+    publisher-creation-stays {T = g.row.T.Denot} {U = g.row.U.Denot} c.args.domain.now _ it.0 it.1 it.2 fixed_handlers (static_publisher c.args.max_loaned_samples c.args.strategy (fixed_handler c.args.handler) c.args.initial_max_slice_len) (Some why) _ next.0 next.1 (same-boxes c.domain.inside.state c.create_publisher.new.state c.args.domain.now c.domain.view_is)
 
 pub returns-clause-stays : goal.returns-clause-stays
 returns-clause-stays g c =
     let it = always-shown {T = g.row.T.Denot} {U = g.row.U.Denot} c.domain.inside.state c.args.domain.now c.domain.invariant c.domain.view_is in
     let step = returns-clause-creates g c it.0 it.1 it.2 in
-    publisher-creation-stays {T = g.row.T.Denot} {U = g.row.U.Denot} c.args.domain.now _ it.0 it.1 it.2 fixed_handlers (static_publisher c.args.max_loaned_samples c.args.strategy (fixed_handler c.args.handler) c.args.initial_max_slice_len) None step.0 step.1 (step.2).1
+    publisher-creation-stays {T = g.row.T.Denot} {U = g.row.U.Denot} c.args.domain.now _ it.0 it.1 it.2 fixed_handlers (static_publisher c.args.max_loaned_samples c.args.strategy (fixed_handler c.args.handler) c.args.initial_max_slice_len) None step.0 step.1 (step.2).1 (same-boxes c.domain.inside.state c.create_publisher.new.state c.args.domain.now c.domain.view_is)
 
 pub returns-clause-new : goal.returns-clause-new
 returns-clause-new g c =

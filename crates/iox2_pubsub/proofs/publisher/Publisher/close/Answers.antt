@@ -1,4 +1,4 @@
-use Rattle.std.proofs.Common.{◌≡◌, ap, refl, sym, subst, ◌∙◌, Some, false}
+use Rattle.std.proofs.Common.{◌≡◌, ℕ, ap, refl, sym, subst, ◌∙◌, Some, None, false}
 use Rattle.iox2_store.specs.machine.State.{State, is_blocked}
 use Rattle.iox2_domain.specs.Kept.{Kept, state_of}
 use Rattle.iox2_domain.specs.Ports.{PublisherFields}
@@ -11,6 +11,8 @@ use Rattle.iox2_pubsub.proofs.ClosesWait.{publisher-close-no-fewer}
 use Rattle.iox2_pubsub.proofs.LiveParts.{publisher-parts, unblocked-test}
 use Rattle.iox2_pubsub.proofs.UninitLoans.{publisher-missing}
 use Rattle.iox2_pubsub.proofs.LoansLeftShown.{publisher-close-others, publisher-close-numbers}
+use Rattle.iox2_domain.specs.Boxes.{box_of}
+use Rattle.iox2_pubsub.proofs.StaysBut.{box-is, other-boxes}
 use Rattle.iox2_pubsub.proofs.publisher.Publisher.close.Goals as goal
 
 pub find_live_publisher-place-requires : goal.find_live_publisher-place-requires
@@ -43,6 +45,12 @@ returns-clause-stays g c =
     let there = ap (λ (t : State g.row.T.Denot g.row.U.Denot). t.publishers c.args.self.id) (it.2).state ∙ has.1 in
     publisher-close-stays {T = g.row.T.Denot} {U = g.row.U.Denot} c.args.domain.now (keeping _ c.close_publisher.new.state) it.0 it.1 it.2 c.args.self.id has.0
     (returns-clause-closed g c it.0 it.1 has.0 it.2 there)
+    (other-boxes c.domain.inside.state c.close_publisher.new.state c.args.domain.now c.domain.view_is
+    (λ p other. c.remove.ensures.others p (λ same. other (same ∙ c.value.ensures))))
+
+pub returns-clause-unboxed : goal.returns-clause-unboxed
+returns-clause-unboxed g c = box-is _ c.close_publisher.new.state c.args.self.id None
+    (subst (λ (p : ℕ). box_of p (c.remove.new).boxes ≡ None) c.value.ensures c.remove.ensures.its)
 
 pub returns-clause-no_fewer : goal.returns-clause-no_fewer
 returns-clause-no_fewer g c =

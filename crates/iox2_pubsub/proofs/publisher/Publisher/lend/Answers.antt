@@ -11,6 +11,7 @@ use Rattle.iox2_pubsub.proofs.WaitingShown.{loan-waits}
 use Rattle.iox2_pubsub.proofs.UpToDateShown.{loan-leaves}
 use Rattle.iox2_pubsub.proofs.SureLoans.{sure-granted, sure-of-loan}
 use Rattle.iox2_pubsub.proofs.LoansLeftShown.{loan-takes, refused-left}
+use Rattle.iox2_pubsub.proofs.StaysBut.{same-boxes}
 use Rattle.iox2_pubsub.proofs.publisher.Publisher.lend.Goals as goal
 
 pub returns-in_err-loan-clause-lends : goal.returns-in_err-loan-clause-lends
@@ -73,13 +74,13 @@ pub returns-in_err-loan-clause-stays : goal.returns-in_err-loan-clause-stays
 returns-in_err-loan-clause-stays g c =
     let it = always-shown {T = g.row.T.Denot} {U = g.row.U.Denot} c.domain.inside.state c.args.domain.now c.domain.invariant c.domain.view_is in
     let step = returns-in_err-loan-clause-lends g c it.0 it.1 it.2 in
-    loan-stays {T = g.row.T.Denot} {U = g.row.U.Denot} c.args.domain.now _ it.0 it.1 it.2 g.U.Default.is_default c.args.checks_length c.args.len c.args.self.now.id c.from_residual.result step.0 step.1 step.2
+    loan-stays {T = g.row.T.Denot} {U = g.row.U.Denot} c.args.domain.now _ it.0 it.1 it.2 g.U.Default.is_default c.args.checks_length c.args.len c.args.self.now.id c.from_residual.result step.0 step.1 step.2 (same-boxes c.domain.inside.state c.loan.new.state c.args.domain.now c.domain.view_is)
 
 pub returns-clause-stays : goal.returns-clause-stays
 returns-clause-stays g c =
     let it = always-shown {T = g.row.T.Denot} {U = g.row.U.Denot} c.domain.inside.state c.args.domain.now c.domain.invariant c.domain.view_is in
     let step = returns-clause-lends g c it.0 it.1 it.2 in
-    loan-stays {T = g.row.T.Denot} {U = g.row.U.Denot} c.args.domain.now _ it.0 it.1 it.2 g.U.Default.is_default c.args.checks_length c.args.len c.args.self.now.id (Ok c.in_ok-loan.loan) step.0 step.1 step.2
+    loan-stays {T = g.row.T.Denot} {U = g.row.U.Denot} c.args.domain.now _ it.0 it.1 it.2 g.U.Default.is_default c.args.checks_length c.args.len c.args.self.now.id (Ok c.in_ok-loan.loan) step.0 step.1 step.2 (same-boxes c.domain.inside.state c.loan.new.state c.args.domain.now c.domain.view_is)
 
 pub returns-clause-live : goal.returns-clause-live
 returns-clause-live g c = λ never. record {

@@ -9,6 +9,7 @@ use Rattle.iox2_pubsub.proofs.LoanHandles.{loan-out}
 use Rattle.iox2_pubsub.proofs.WaitingShown.{discard-waits}
 use Rattle.iox2_pubsub.proofs.UpToDateShown.{discard-leaves}
 use Rattle.iox2_pubsub.proofs.LoansLeftShown.{discard-left, discard-gives}
+use Rattle.iox2_pubsub.proofs.StaysBut.{same-boxes}
 use Rattle.iox2_pubsub.proofs.sample_mut.SampleMut.discard.Goals as goal
 
 pub discard_loan-requires-clause-live : goal.discard_loan-requires-clause-live
@@ -33,7 +34,7 @@ returns-clause-stays g c =
     let has = (loan-parts c.args.domain.now _ c.requires).1 in
     let out = ap (λ (t : State g.row.T.Denot g.row.U.Denot). t.loans c.args.self.loan.number) (it.2).state ∙ has.1 in
     discard-stays {T = g.row.T.Denot} {U = g.row.U.Denot} c.args.domain.now (keeping _ c.discard_loan.new.state) it.0 it.1 it.2 c.args.self.loan.number has.0
-    (returns-clause-discarded g c it.0 it.1 has.0 it.2 out)
+    (returns-clause-discarded g c it.0 it.1 has.0 it.2 out) (same-boxes c.domain.inside.state c.discard_loan.new.state c.args.domain.now c.domain.view_is)
 
 pub returns-clause-waits : goal.returns-clause-waits
 returns-clause-waits g c =

@@ -22,6 +22,7 @@ use Rattle.iox2_pubsub.proofs.LiveParts.{publisher-parts, written-parts, unblock
 use Rattle.iox2_pubsub.proofs.WaitingShown.{send-adds, send-brings}
 use Rattle.iox2_pubsub.proofs.UpToDateShown.{send-leaves}
 use Rattle.iox2_pubsub.proofs.LoansLeftShown.{send-left, send-gives, sent-free}
+use Rattle.iox2_pubsub.proofs.StaysBut.{same-boxes}
 use Rattle.iox2_pubsub.proofs.sample_mut.SampleMut.send.Goals as goal
 
 pub send_loan-requires-clause-live : goal.send_loan-requires-clause-live
@@ -54,7 +55,7 @@ returns-clause-stays g c =
     sent-stays {T = g.row.T.Denot} {U = g.row.U.Denot} c.args.domain.now _ it.0 it.1 it.2 c.args.self has.0 out has.2
     (λ x at. (unblocked-parts c.args.domain.now (written_key c.args.self) c.requires.unblocked).1 x
     (sym (ap (λ (t : State g.row.T.Denot g.row.U.Denot). t.publishers c.args.self.loan.publisher) (it.2).state) ∙ ap (it.1).publishers (sym has.2) ∙ at))
-    c.outcome_of.result step.0 step.1 step.2
+    c.outcome_of.result step.0 step.1 step.2 (same-boxes c.domain.inside.state c.send_loan.new.state c.args.domain.now c.domain.view_is)
 
 pub returns-clause-ok : goal.returns-clause-ok
 returns-clause-ok g c = λ lent never.

@@ -10,6 +10,7 @@ use Rattle.iox2_pubsub.proofs.CallsStay.{always-shown, change-stays}
 use Rattle.iox2_pubsub.proofs.WaitingShown.{set-waits}
 use Rattle.iox2_pubsub.proofs.UpToDateShown.{set-leaves}
 use Rattle.iox2_pubsub.proofs.LoansLeftShown.{set-left}
+use Rattle.iox2_pubsub.proofs.StaysBut.{same-boxes}
 use Rattle.iox2_pubsub.proofs.sample_mut_uninit.SampleMutUninit.write_payload.Goals as goal
 
 pub write_loan-requires-clause-live : goal.write_loan-requires-clause-live
@@ -32,7 +33,7 @@ pub returns-clause-stays : goal.returns-clause-stays
 returns-clause-stays g c =
     let it = always-shown {T = g.row.T.Denot} {U = g.row.U.Denot} c.domain.inside.state c.args.domain.now c.domain.invariant c.domain.view_is in
     let step = returns-clause-written g c it.0 it.1 it.2 in
-    change-stays {T = g.row.T.Denot} {U = g.row.U.Denot} c.args.domain.now _ it.0 it.1 it.2 c.args.self.loan.number (written step.0 c.args.value) step.2
+    change-stays {T = g.row.T.Denot} {U = g.row.U.Denot} c.args.domain.now _ it.0 it.1 it.2 c.args.self.loan.number (written step.0 c.args.value) step.2 (same-boxes c.domain.inside.state c.write_loan.new.state c.args.domain.now c.domain.view_is)
 
 pub returns-clause-live : goal.returns-clause-live
 returns-clause-live g c = λ never. record {

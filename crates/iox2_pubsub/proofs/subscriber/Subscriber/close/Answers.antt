@@ -9,6 +9,7 @@ use Rattle.iox2_pubsub.proofs.ClosesWait.{subscriber-close-none, subscriber-clos
 use Rattle.iox2_pubsub.proofs.LiveParts.{subscriber-parts}
 use Rattle.iox2_pubsub.proofs.ReceptionShown.{subscriber-missing}
 use Rattle.iox2_pubsub.proofs.LoansLeftShown.{subscriber-close-left}
+use Rattle.iox2_pubsub.proofs.StaysBut.{same-boxes}
 use Rattle.iox2_pubsub.proofs.subscriber.Subscriber.close.Goals as goal
 
 pub find_live_subscriber-place-requires : goal.find_live_subscriber-place-requires
@@ -40,7 +41,7 @@ returns-clause-stays g c =
     let has = (subscriber-parts c.args.domain.now _ c.requires).2 in
     let there = ap (λ (t : State g.row.T.Denot g.row.U.Denot). t.subscribers c.args.self.id) (it.2).state ∙ has.1 in
     subscriber-close-stays {T = g.row.T.Denot} {U = g.row.U.Denot} c.args.domain.now (keeping _ c.close_subscriber.new.state) it.0 it.1 it.2 c.args.self.id has.0
-    (returns-clause-closed g c it.0 it.1 has.0 it.2 there)
+    (returns-clause-closed g c it.0 it.1 has.0 it.2 there) (same-boxes c.domain.inside.state c.close_subscriber.new.state c.args.domain.now c.domain.view_is)
 
 pub returns-clause-none : goal.returns-clause-none
 returns-clause-none g c =

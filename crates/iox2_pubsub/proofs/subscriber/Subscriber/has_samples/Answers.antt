@@ -7,7 +7,7 @@ use Rattle.iox2_pubsub.specs.Live.{No_item}
 use Rattle.iox2_pubsub.proofs.CallsStay.{always-shown}
 use Rattle.iox2_pubsub.proofs.QuestionShown.{answer-at, answer-shows, answered}
 use Rattle.iox2_pubsub.proofs.ReceptionShown.{subscriber-missing}
-use Rattle.iox2_pubsub.proofs.StaysBut.{IsSpared}
+use Rattle.iox2_pubsub.proofs.StaysBut.{same-boxes, IsSpared}
 use Rattle.iox2_pubsub.proofs.UpdatesStay.{updates-stay}
 use Rattle.iox2_pubsub.proofs.WaitingShown.{answers-say, update-no-more, update-others}
 use Rattle.iox2_pubsub.proofs.UpToDateShown.{subscriber-update-leaves, answers-updated}
@@ -33,7 +33,7 @@ returns-clause-stays g c =
     updates-stay {T = g.row.T.Denot} {U = g.row.U.Denot} c.args.domain.now (keeping _ c.has_samples_at.new.state) it.0 it.1 step.0 it.2 step.1
     (update_subscriber_stays fixed_handlers it.1 c.args.self.now.id step.0 has.0 (has.2).0)
     (has_samples_loans fixed_handlers it.1 c.args.self.now.id step.0 has.0 has.1 has.2)
-    (update_subscriber_waits (IsSpared No_item) fixed_handlers it.1 c.args.self.now.id step.0 has.0 (has.2).0)
+    (update_subscriber_waits (IsSpared No_item) fixed_handlers it.1 c.args.self.now.id step.0 has.0 (has.2).0) (same-boxes c.domain.inside.state c.has_samples_at.new.state c.args.domain.now c.domain.view_is)
 
 pub returns-clause-waits : goal.returns-clause-waits
 returns-clause-waits g c =

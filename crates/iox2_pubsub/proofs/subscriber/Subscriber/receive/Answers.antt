@@ -10,6 +10,7 @@ use Rattle.iox2_pubsub.proofs.CallsStay.{always-shown, receive-stays, received-i
 use Rattle.iox2_pubsub.proofs.WaitingShown.{received-fewer, received-none, received-no-more, received-others, received-reads}
 use Rattle.iox2_pubsub.proofs.UpToDateShown.{receive-leaves, received-updated, received-one-fewer}
 use Rattle.iox2_pubsub.proofs.LoansLeftShown.{receive-left}
+use Rattle.iox2_pubsub.proofs.StaysBut.{same-boxes}
 use Rattle.iox2_pubsub.proofs.subscriber.Subscriber.receive.Goals as goal
 
 pub returns-in_err-receipt-clause-receives : goal.returns-in_err-receipt-clause-receives
@@ -66,19 +67,19 @@ pub returns-in_err-receipt-clause-stays : goal.returns-in_err-receipt-clause-sta
 returns-in_err-receipt-clause-stays g c =
     let it = always-shown {T = g.row.T.Denot} {U = g.row.U.Denot} c.domain.inside.state c.args.domain.now c.domain.invariant c.domain.view_is in
     let step = returns-in_err-receipt-clause-receives g c it.0 it.1 it.2 in
-    receive-stays {T = g.row.T.Denot} {U = g.row.U.Denot} c.args.domain.now _ it.0 it.1 it.2 fixed_handlers c.args.self.now.id (received_result c.from_residual.result) step.0 step.1 step.2
+    receive-stays {T = g.row.T.Denot} {U = g.row.U.Denot} c.args.domain.now _ it.0 it.1 it.2 fixed_handlers c.args.self.now.id (received_result c.from_residual.result) step.0 step.1 step.2 (same-boxes c.domain.inside.state c.receive_at.new.state c.args.domain.now c.domain.view_is)
 
 pub returns-in_default-clause-stays : goal.returns-in_default-clause-stays
 returns-in_default-clause-stays g c =
     let it = always-shown {T = g.row.T.Denot} {U = g.row.U.Denot} c.domain.inside.state c.args.domain.now c.domain.invariant c.domain.view_is in
     let step = returns-in_default-clause-receives g c it.0 it.1 it.2 in
-    receive-stays {T = g.row.T.Denot} {U = g.row.U.Denot} c.args.domain.now _ it.0 it.1 it.2 fixed_handlers c.args.self.now.id No_sample step.0 step.1 step.2
+    receive-stays {T = g.row.T.Denot} {U = g.row.U.Denot} c.args.domain.now _ it.0 it.1 it.2 fixed_handlers c.args.self.now.id No_sample step.0 step.1 step.2 (same-boxes c.domain.inside.state c.receive_at.new.state c.args.domain.now c.domain.view_is)
 
 pub returns-clause-stays : goal.returns-clause-stays
 returns-clause-stays g c =
     let it = always-shown {T = g.row.T.Denot} {U = g.row.U.Denot} c.domain.inside.state c.args.domain.now c.domain.invariant c.domain.view_is in
     let step = returns-clause-receives g c it.0 it.1 it.2 in
-    receive-stays {T = g.row.T.Denot} {U = g.row.U.Denot} c.args.domain.now _ it.0 it.1 it.2 fixed_handlers c.args.self.now.id (Got_sample c.in-Some.receipt.publisher c.in-Some.receipt.sample.number) step.0 step.1 step.2
+    receive-stays {T = g.row.T.Denot} {U = g.row.U.Denot} c.args.domain.now _ it.0 it.1 it.2 fixed_handlers c.args.self.now.id (Got_sample c.in-Some.receipt.publisher c.in-Some.receipt.sample.number) step.0 step.1 step.2 (same-boxes c.domain.inside.state c.receive_at.new.state c.args.domain.now c.domain.view_is)
 
 pub find_live_subscriber-place-requires : goal.find_live_subscriber-place-requires
 find_live_subscriber-place-requires g c = λ none.

@@ -5,7 +5,7 @@ use Rattle.iox2_domain.specs.Ports.{PublisherFields}
 use Rattle.iox2_domain.proofs.lemmas.fields.ConnectionEnds.{free-of}
 use Rattle.iox2_laws.proofs.Waits.{update_publisher_waits}
 use Rattle.iox2_pubsub.proofs.LiveParts.{unblocked-test}
-use Rattle.iox2_pubsub.proofs.StaysBut.{IsSpared}
+use Rattle.iox2_pubsub.proofs.StaysBut.{same-boxes, IsSpared}
 use Rattle.iox2_store.specs.machine.Environments.{fixed_handlers}
 use Rattle.iox2_laws.proofs.LoanKeeping.{update_publisher_loans}
 use Rattle.iox2_laws.proofs.PortsStay.{update_publisher_stays}
@@ -41,7 +41,7 @@ returns-clause-stays g c =
     let step = returns-clause-updates g c it.0 it.1 it.2 in
     updates-stay {T = g.row.T.Denot} {U = g.row.U.Denot} c.args.domain.now (keeping _ c.update_publisher.new.state) it.0 it.1 step.0 it.2 step.1
     (update_publisher_stays fixed_handlers it.1 c.args.self.now.id step.0 None step.2) (update_publisher_loans fixed_handlers it.1 c.args.self.now.id step.0 None step.2)
-    (update_publisher_waits (IsSpared No_item) fixed_handlers it.1 c.args.self.now.id step.0 None step.2)
+    (update_publisher_waits (IsSpared No_item) fixed_handlers it.1 c.args.self.now.id step.0 None step.2) (same-boxes c.domain.inside.state c.update_publisher.new.state c.args.domain.now c.domain.view_is)
 
 pub update_publisher-requires-clause-stands : goal.update_publisher-requires-clause-stands
 update_publisher-requires-clause-stands g c = (c.in-Some.ensures.0, c.in-Some.ensures.1)

@@ -9,7 +9,7 @@ use Rattle.iox2_domain.specs.Fields.{keeping}
 use Rattle.iox2_pubsub.specs.Live.{No_item, subscriber_key}
 use Rattle.iox2_pubsub.proofs.CallsStay.{always-shown}
 use Rattle.iox2_pubsub.proofs.ReceptionShown.{subscriber-missing}
-use Rattle.iox2_pubsub.proofs.StaysBut.{IsSpared}
+use Rattle.iox2_pubsub.proofs.StaysBut.{same-boxes, IsSpared}
 use Rattle.iox2_pubsub.proofs.UpdateShown.{subscriber-update-shows}
 use Rattle.iox2_pubsub.proofs.UpdatesStay.{updates-stay}
 use Rattle.iox2_pubsub.proofs.WaitingShown.{subscriber-update-adds}
@@ -38,7 +38,7 @@ returns-clause-stays g c =
     updates-stay {T = g.row.T.Denot} {U = g.row.U.Denot} c.args.domain.now (keeping _ c.update_subscriber.new.state) it.0 it.1 step.0 it.2 step.1
     (update_subscriber_stays fixed_handlers it.1 c.args.self.now.id step.0 (failure_of c.outcome_of.result) step.2)
     (update_subscriber_loans fixed_handlers it.1 c.args.self.now.id step.0 (failure_of c.outcome_of.result) step.2)
-    (update_subscriber_waits (IsSpared No_item) fixed_handlers it.1 c.args.self.now.id step.0 (failure_of c.outcome_of.result) step.2)
+    (update_subscriber_waits (IsSpared No_item) fixed_handlers it.1 c.args.self.now.id step.0 (failure_of c.outcome_of.result) step.2) (same-boxes c.domain.inside.state c.update_subscriber.new.state c.args.domain.now c.domain.view_is)
 
 pub returns-clause-live : goal.returns-clause-live
 returns-clause-live g c = (returns-clause-stays g c).subscribers (subscriber_key c.args.self.now) c.requires tt
