@@ -77,9 +77,9 @@ module _ {T U : Type 0} (f g : Fields T U) (loans : ℕ) (strategy : Backpressur
       absurd (let no : None ≡ Some b = sym ((stands.1 x here).2) ∙ waits in cc)
 
   -- no handler fails a send of it
-  pub created-never-fails : {F : Type 0} {boxes : List (PortBox F)} (t : State T U) → CreatePublisher environment (state_of (kept_of f)) (static_publisher loans strategy handler len) t None → Reaches f g t
+  pub created-never-fails : {F : Type 0} (boxes : List (PortBox F)) (t : State T U) → CreatePublisher environment (state_of (kept_of f)) (static_publisher loans strategy handler len) t None → Reaches f g t
       → (publisher : Publisher) → publisher.id ≡ f.next_port → may_fail handler ≡ false → NeverFails (keeping boxes g) publisher.id
-  created-never-fails {F} {boxes} t made reached publisher id none =
+  created-never-fails boxes t made reached publisher id none =
       let stands = created-stands t made reached publisher id in
       unfailed-from (keeping boxes g) _ (stands.0, inr (λ x here. ap may_fail (stands.1 x here).1 ∙ none), unwaiting t made reached publisher id)
 
@@ -91,7 +91,7 @@ module _ {T U : Type 0} (f g : Fields T U) (loans : ℕ) (strategy : Backpressur
       record {
         passes = passes-from (keeping boxes g) _ (stands.0, inr (λ x here. (λ i. may_wait ((stands.1 x here).0 i) ((stands.1 x here).1 i)) ∙ past));
         unblocked = unblocked-free (keeping boxes g) _ (stands.0, λ x here. (stands.1 x here).2);
-        never_fails = created-never-fails t made reached publisher id none;
+        never_fails = created-never-fails boxes t made reached publisher id none;
       }
 
   -- nor where the service overflows

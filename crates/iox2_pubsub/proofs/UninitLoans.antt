@@ -146,17 +146,17 @@ module _ {T U : Type 0} (is_default : U → Type 0) (checks : Bool) (len : ℕ) 
   ok-number loan named = (subst (λ (o : Option PublisherFields). IsSomeAnd o (λ z. IsNamed f z loan)) stands.1 named).number
 
   -- its cells aren't written
-  pub ok-cells : {F : Type 0} {boxes : List (PortBox F)} (loan : LoanAt) → answer ≡ Ok loan → IsSomeAnd (get_or f.publishers i None) (λ z. IsNamed f z loan)
+  pub ok-cells : {F : Type 0} (boxes : List (PortBox F)) (loan : LoanAt) → answer ≡ Ok loan → IsSomeAnd (get_or f.publishers i None) (λ z. IsNamed f z loan)
       → HasUnwrittenCells (keeping boxes new) loan.number (replicate (len * (f.config).units_per_element) None)
-  ok-cells {F} {boxes} loan is named =
+  ok-cells boxes loan is named =
       let names : IsNamed f stands.0 loan = subst (λ (o : Option PublisherFields). IsSomeAnd o (λ z. IsNamed f z loan)) stands.1 named in
       let granted : LoanReaches {A = LoanAt} is_default checks len f stands.0 (Ok loan) new = subst (λ (r : Result LoanAt LoanError). LoanReaches is_default checks len f stands.0 r new) is its in
       has-cells (keeping boxes new) loan.number _ (lent_loan f stands.0 granted.0 len, granted-out f is_default checks len new stands.0 loan names granted, refl)
 
   -- there are no others
-  pub ok-lengths : {F : Type 0} {boxes : List (PortBox F)} (loan : LoanAt) → answer ≡ Ok loan → IsSomeAnd (get_or f.publishers i None) (λ z. IsNamed f z loan) → (cells : List (Option T))
+  pub ok-lengths : {F : Type 0} (boxes : List (PortBox F)) (loan : LoanAt) → answer ≡ Ok loan → IsSomeAnd (get_or f.publishers i None) (λ z. IsNamed f z loan) → (cells : List (Option T))
       → HasUnwrittenCells (keeping boxes new) loan.number cells → length cells ≡ len * (f.config).units_per_element
-  ok-lengths {F} {boxes} loan is named cells has =
+  ok-lengths boxes loan is named cells has =
       let names : IsNamed f stands.0 loan = subst (λ (o : Option PublisherFields). IsSomeAnd o (λ z. IsNamed f z loan)) stands.1 named in
       let granted : LoanReaches {A = LoanAt} is_default checks len f stands.0 (Ok loan) new = subst (λ (r : Result LoanAt LoanError). LoanReaches is_default checks len f stands.0 r new) is its in
       let there = cells-parts (keeping boxes new) loan.number cells has in
@@ -164,9 +164,9 @@ module _ {T U : Type 0} (is_default : U → Type 0) (checks : Bool) (len : ℕ) 
       ap (λ (cs : List (Option T)). length cs) (sym there.2 ∙ ap (λ (l : Loan T U). l.cells) same) ∙ length-replicate {A = Option T} (len * (f.config).units_per_element) None
 
   -- and its header says whose it is, and how long
-  pub ok-header : {F : Type 0} {boxes : List (PortBox F)} (loan : LoanAt) → answer ≡ Ok loan → IsSomeAnd (get_or f.publishers i None) (λ z. IsNamed f z loan) → (key : Key) → key.message ≡ loan.number
+  pub ok-header : {F : Type 0} (boxes : List (PortBox F)) (loan : LoanAt) → answer ≡ Ok loan → IsSomeAnd (get_or f.publishers i None) (λ z. IsNamed f z loan) → (key : Key) → key.message ≡ loan.number
       → LoanHasHeader (keeping boxes new) key (header_for f.config p len)
-  ok-header {F} {boxes} loan is named key number =
+  ok-header boxes loan is named key number =
       let names : IsNamed f stands.0 loan = subst (λ (o : Option PublisherFields). IsSomeAnd o (λ z. IsNamed f z loan)) stands.1 named in
       let granted : LoanReaches {A = LoanAt} is_default checks len f stands.0 (Ok loan) new = subst (λ (r : Result LoanAt LoanError). LoanReaches is_default checks len f stands.0 r new) is its in
       loan-header (keeping boxes new) key _

@@ -71,7 +71,7 @@ returns-clause-overflows g c = λ over.
 pub returns-clause-never_fails : goal.returns-clause-never_fails
 returns-clause-never_fails g c = λ none.
     let made = c.in_ok-port.ensures.step in
-    created-never-fails {T = g.row.T.Denot} {U = g.row.U.Denot} c.domain.inside.state c.create_publisher.new.state c.args.max_loaned_samples c.args.strategy (fixed_handler c.args.handler) c.args.initial_max_slice_len fixed_handlers made.0 made.1 made.2
+    created-never-fails {T = g.row.T.Denot} {U = g.row.U.Denot} c.domain.inside.state c.create_publisher.new.state c.args.max_loaned_samples c.args.strategy (fixed_handler c.args.handler) c.args.initial_max_slice_len fixed_handlers (c.domain.inside.boxes).boxes made.0 made.1 made.2
     (record { service_id = c.config.result.now.service_id; id = c.in_ok-port.port.id; place = c.in_ok-port.port.place; strategy = c.args.strategy; initial_max_slice_len = c.args.initial_max_slice_len })
     c.in_ok-port.ensures.id none
 

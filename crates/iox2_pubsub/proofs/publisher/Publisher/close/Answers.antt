@@ -50,7 +50,7 @@ returns-clause-stays g c =
 
 pub returns-clause-unboxed : goal.returns-clause-unboxed
 returns-clause-unboxed g c = box-is _ c.close_publisher.new.state c.args.self.id None
-    (subst (λ (p : ℕ). box_of p (c.remove.new).boxes ≡ None) c.value.ensures c.remove.ensures.its)
+    (subst (λ (p : ℕ). box_of p (c.remove.new.self).boxes ≡ None) c.value.ensures c.remove.ensures.its)
 
 pub returns-clause-no_fewer : goal.returns-clause-no_fewer
 returns-clause-no_fewer g c =

@@ -60,7 +60,7 @@ returns-clause-new g c =
     let it = always-shown {T = g.row.T.Denot} {U = g.row.U.Denot} c.domain.inside.state c.args.domain.now c.domain.invariant c.domain.view_is in
     let step = returns-clause-receives g c it.0 it.1 it.2 in
     subst (λ (q : ℕ). IsNewIn c.args.domain.now (A_sample q c.in-Some.receipt.sample.number)) (sym (returns-clause-subscriber g c))
-    (received-is-new {T = g.row.T.Denot} {U = g.row.U.Denot} c.args.domain.now (keeping _ c.receive_at.new.state) it.0 it.1 it.2 fixed_handlers c.in-Some.receipt.publisher c.args.self.now.id
+    (received-is-new {T = g.row.T.Denot} {U = g.row.U.Denot} c.args.domain.now (keeping (c.domain.inside.boxes).boxes c.receive_at.new.state) it.0 it.1 it.2 fixed_handlers c.in-Some.receipt.publisher c.args.self.now.id
     c.in-Some.receipt.sample.number step.0 step.1 step.2)
 
 pub returns-in_err-receipt-clause-stays : goal.returns-in_err-receipt-clause-stays
@@ -90,107 +90,107 @@ pub returns-clause-fewer : goal.returns-clause-fewer
 returns-clause-fewer g c =
     let it = always-shown {T = g.row.T.Denot} {U = g.row.U.Denot} c.domain.inside.state c.args.domain.now c.domain.invariant c.domain.view_is in
     let step = returns-clause-receives g c it.0 it.1 it.2 in
-    received-fewer {T = g.row.T.Denot} {U = g.row.U.Denot} c.args.domain.now (keeping _ c.receive_at.new.state) it.0 it.0 it.1 step.0 it.2 step.1 fixed_handlers c.args.self.now c.requires c.in-Some.receipt.publisher c.in-Some.receipt.sample.number step.2
+    received-fewer {T = g.row.T.Denot} {U = g.row.U.Denot} c.args.domain.now (keeping (c.domain.inside.boxes).boxes c.receive_at.new.state) it.0 it.0 it.1 step.0 it.2 step.1 fixed_handlers c.args.self.now c.requires c.in-Some.receipt.publisher c.in-Some.receipt.sample.number step.2
 
 pub returns-in_default-clause-none : goal.returns-in_default-clause-none
 returns-in_default-clause-none g c =
     let it = always-shown {T = g.row.T.Denot} {U = g.row.U.Denot} c.domain.inside.state c.args.domain.now c.domain.invariant c.domain.view_is in
     let step = returns-in_default-clause-receives g c it.0 it.1 it.2 in
-    received-none {T = g.row.T.Denot} {U = g.row.U.Denot} c.args.domain.now (keeping _ c.receive_at.new.state) it.0 it.0 it.1 step.0 it.2 step.1 fixed_handlers c.args.self.now step.2
+    received-none {T = g.row.T.Denot} {U = g.row.U.Denot} c.args.domain.now (keeping (c.domain.inside.boxes).boxes c.receive_at.new.state) it.0 it.0 it.1 step.0 it.2 step.1 fixed_handlers c.args.self.now step.2
 
 pub returns-in_err-receipt-clause-others : goal.returns-in_err-receipt-clause-others
 returns-in_err-receipt-clause-others g c =
     let it = always-shown {T = g.row.T.Denot} {U = g.row.U.Denot} c.domain.inside.state c.args.domain.now c.domain.invariant c.domain.view_is in
     let step = returns-in_err-receipt-clause-receives g c it.0 it.1 it.2 in
-    received-others {T = g.row.T.Denot} {U = g.row.U.Denot} c.args.domain.now (keeping _ c.receive_at.new.state) it.0 it.0 it.1 step.0 it.2 step.1 fixed_handlers c.args.self.now (λ n entry at. at) (received_result c.from_residual.result) step.2
+    received-others {T = g.row.T.Denot} {U = g.row.U.Denot} c.args.domain.now (keeping (c.domain.inside.boxes).boxes c.receive_at.new.state) it.0 it.0 it.1 step.0 it.2 step.1 fixed_handlers c.args.self.now (λ n entry at. at) (received_result c.from_residual.result) step.2
 
 pub returns-in_default-clause-others : goal.returns-in_default-clause-others
 returns-in_default-clause-others g c =
     let it = always-shown {T = g.row.T.Denot} {U = g.row.U.Denot} c.domain.inside.state c.args.domain.now c.domain.invariant c.domain.view_is in
     let step = returns-in_default-clause-receives g c it.0 it.1 it.2 in
-    received-others {T = g.row.T.Denot} {U = g.row.U.Denot} c.args.domain.now (keeping _ c.receive_at.new.state) it.0 it.0 it.1 step.0 it.2 step.1 fixed_handlers c.args.self.now (λ n entry at. at) No_sample step.2
+    received-others {T = g.row.T.Denot} {U = g.row.U.Denot} c.args.domain.now (keeping (c.domain.inside.boxes).boxes c.receive_at.new.state) it.0 it.0 it.1 step.0 it.2 step.1 fixed_handlers c.args.self.now (λ n entry at. at) No_sample step.2
 
 pub returns-clause-others : goal.returns-clause-others
 returns-clause-others g c =
     let it = always-shown {T = g.row.T.Denot} {U = g.row.U.Denot} c.domain.inside.state c.args.domain.now c.domain.invariant c.domain.view_is in
     let step = returns-clause-receives g c it.0 it.1 it.2 in
-    received-others {T = g.row.T.Denot} {U = g.row.U.Denot} c.args.domain.now (keeping _ c.receive_at.new.state) it.0 it.0 it.1 step.0 it.2 step.1 fixed_handlers c.args.self.now (λ n entry at. at) (Got_sample c.in-Some.receipt.publisher c.in-Some.receipt.sample.number) step.2
+    received-others {T = g.row.T.Denot} {U = g.row.U.Denot} c.args.domain.now (keeping (c.domain.inside.boxes).boxes c.receive_at.new.state) it.0 it.0 it.1 step.0 it.2 step.1 fixed_handlers c.args.self.now (λ n entry at. at) (Got_sample c.in-Some.receipt.publisher c.in-Some.receipt.sample.number) step.2
 
 pub returns-in_err-receipt-clause-no_more : goal.returns-in_err-receipt-clause-no_more
 returns-in_err-receipt-clause-no_more g c =
     let it = always-shown {T = g.row.T.Denot} {U = g.row.U.Denot} c.domain.inside.state c.args.domain.now c.domain.invariant c.domain.view_is in
     let step = returns-in_err-receipt-clause-receives g c it.0 it.1 it.2 in
-    received-no-more {T = g.row.T.Denot} {U = g.row.U.Denot} c.args.domain.now (keeping _ c.receive_at.new.state) it.0 it.0 it.1 step.0 it.2 step.1 fixed_handlers c.args.self.now c.requires (received_result c.from_residual.result) step.2
+    received-no-more {T = g.row.T.Denot} {U = g.row.U.Denot} c.args.domain.now (keeping (c.domain.inside.boxes).boxes c.receive_at.new.state) it.0 it.0 it.1 step.0 it.2 step.1 fixed_handlers c.args.self.now c.requires (received_result c.from_residual.result) step.2
 
 pub returns-in_default-clause-no_more : goal.returns-in_default-clause-no_more
 returns-in_default-clause-no_more g c =
     let it = always-shown {T = g.row.T.Denot} {U = g.row.U.Denot} c.domain.inside.state c.args.domain.now c.domain.invariant c.domain.view_is in
     let step = returns-in_default-clause-receives g c it.0 it.1 it.2 in
-    received-no-more {T = g.row.T.Denot} {U = g.row.U.Denot} c.args.domain.now (keeping _ c.receive_at.new.state) it.0 it.0 it.1 step.0 it.2 step.1 fixed_handlers c.args.self.now c.requires No_sample step.2
+    received-no-more {T = g.row.T.Denot} {U = g.row.U.Denot} c.args.domain.now (keeping (c.domain.inside.boxes).boxes c.receive_at.new.state) it.0 it.0 it.1 step.0 it.2 step.1 fixed_handlers c.args.self.now c.requires No_sample step.2
 
 pub returns-clause-no_more : goal.returns-clause-no_more
 returns-clause-no_more g c =
     let it = always-shown {T = g.row.T.Denot} {U = g.row.U.Denot} c.domain.inside.state c.args.domain.now c.domain.invariant c.domain.view_is in
     let step = returns-clause-receives g c it.0 it.1 it.2 in
-    received-no-more {T = g.row.T.Denot} {U = g.row.U.Denot} c.args.domain.now (keeping _ c.receive_at.new.state) it.0 it.0 it.1 step.0 it.2 step.1 fixed_handlers c.args.self.now c.requires (Got_sample c.in-Some.receipt.publisher c.in-Some.receipt.sample.number) step.2
+    received-no-more {T = g.row.T.Denot} {U = g.row.U.Denot} c.args.domain.now (keeping (c.domain.inside.boxes).boxes c.receive_at.new.state) it.0 it.0 it.1 step.0 it.2 step.1 fixed_handlers c.args.self.now c.requires (Got_sample c.in-Some.receipt.publisher c.in-Some.receipt.sample.number) step.2
 
 pub returns-clause-reads : goal.returns-clause-reads
 returns-clause-reads g c =
     let it = always-shown {T = g.row.T.Denot} {U = g.row.U.Denot} c.domain.inside.state c.args.domain.now c.domain.invariant c.domain.view_is in
     let step = returns-clause-receives g c it.0 it.1 it.2 in
-    received-reads {T = g.row.T.Denot} {U = g.row.U.Denot} c.args.domain.now (keeping _ c.receive_at.new.state) it.0 it.0 it.1 step.0 it.2 step.1 fixed_handlers c.args.self.now (λ n entry at. at) c.requires
+    received-reads {T = g.row.T.Denot} {U = g.row.U.Denot} c.args.domain.now (keeping (c.domain.inside.boxes).boxes c.receive_at.new.state) it.0 it.0 it.1 step.0 it.2 step.1 fixed_handlers c.args.self.now (λ n entry at. at) c.requires
     c.in-Some.receipt.publisher (record { service_id = c.args.self.now.service_id; origin = c.in-Some.receipt.publisher; sample = c.in-Some.receipt.sample }) step.2
 
 pub returns-in_err-receipt-clause-up_to_date : goal.returns-in_err-receipt-clause-up_to_date
 returns-in_err-receipt-clause-up_to_date g c =
     let it = always-shown {T = g.row.T.Denot} {U = g.row.U.Denot} c.domain.inside.state c.args.domain.now c.domain.invariant c.domain.view_is in
     let step = returns-in_err-receipt-clause-receives g c it.0 it.1 it.2 in
-    receive-leaves {T = g.row.T.Denot} {U = g.row.U.Denot} c.args.domain.now (keeping _ c.receive_at.new.state) it.0 it.0 it.1 step.0 it.2 step.1 fixed_handlers c.args.self.now (received_result c.from_residual.result) step.2
+    receive-leaves {T = g.row.T.Denot} {U = g.row.U.Denot} c.args.domain.now (keeping (c.domain.inside.boxes).boxes c.receive_at.new.state) it.0 it.0 it.1 step.0 it.2 step.1 fixed_handlers c.args.self.now (received_result c.from_residual.result) step.2
 
 pub returns-in_default-clause-up_to_date : goal.returns-in_default-clause-up_to_date
 returns-in_default-clause-up_to_date g c =
     let it = always-shown {T = g.row.T.Denot} {U = g.row.U.Denot} c.domain.inside.state c.args.domain.now c.domain.invariant c.domain.view_is in
     let step = returns-in_default-clause-receives g c it.0 it.1 it.2 in
-    receive-leaves {T = g.row.T.Denot} {U = g.row.U.Denot} c.args.domain.now (keeping _ c.receive_at.new.state) it.0 it.0 it.1 step.0 it.2 step.1 fixed_handlers c.args.self.now No_sample step.2
+    receive-leaves {T = g.row.T.Denot} {U = g.row.U.Denot} c.args.domain.now (keeping (c.domain.inside.boxes).boxes c.receive_at.new.state) it.0 it.0 it.1 step.0 it.2 step.1 fixed_handlers c.args.self.now No_sample step.2
 
 pub returns-clause-up_to_date : goal.returns-clause-up_to_date
 returns-clause-up_to_date g c =
     let it = always-shown {T = g.row.T.Denot} {U = g.row.U.Denot} c.domain.inside.state c.args.domain.now c.domain.invariant c.domain.view_is in
     let step = returns-clause-receives g c it.0 it.1 it.2 in
-    receive-leaves {T = g.row.T.Denot} {U = g.row.U.Denot} c.args.domain.now (keeping _ c.receive_at.new.state) it.0 it.0 it.1 step.0 it.2 step.1 fixed_handlers c.args.self.now (Got_sample c.in-Some.receipt.publisher c.in-Some.receipt.sample.number) step.2
+    receive-leaves {T = g.row.T.Denot} {U = g.row.U.Denot} c.args.domain.now (keeping (c.domain.inside.boxes).boxes c.receive_at.new.state) it.0 it.0 it.1 step.0 it.2 step.1 fixed_handlers c.args.self.now (Got_sample c.in-Some.receipt.publisher c.in-Some.receipt.sample.number) step.2
 
 pub returns-in_default-clause-updated : goal.returns-in_default-clause-updated
 returns-in_default-clause-updated g c =
     let it = always-shown {T = g.row.T.Denot} {U = g.row.U.Denot} c.domain.inside.state c.args.domain.now c.domain.invariant c.domain.view_is in
     let step = returns-in_default-clause-receives g c it.0 it.1 it.2 in
-    received-updated {T = g.row.T.Denot} {U = g.row.U.Denot} c.args.domain.now (keeping _ c.receive_at.new.state) it.0 it.0 it.1 step.0 it.2 step.1 fixed_handlers c.args.self.now c.requires No_sample (λ e is. let clash : No_sample ≡ Receive_error e = is in absurd cc) step.2
+    received-updated {T = g.row.T.Denot} {U = g.row.U.Denot} c.args.domain.now (keeping (c.domain.inside.boxes).boxes c.receive_at.new.state) it.0 it.0 it.1 step.0 it.2 step.1 fixed_handlers c.args.self.now c.requires No_sample (λ e is. let clash : No_sample ≡ Receive_error e = is in absurd cc) step.2
 
 pub returns-clause-updated : goal.returns-clause-updated
 returns-clause-updated g c =
     let it = always-shown {T = g.row.T.Denot} {U = g.row.U.Denot} c.domain.inside.state c.args.domain.now c.domain.invariant c.domain.view_is in
     let step = returns-clause-receives g c it.0 it.1 it.2 in
-    received-updated {T = g.row.T.Denot} {U = g.row.U.Denot} c.args.domain.now (keeping _ c.receive_at.new.state) it.0 it.0 it.1 step.0 it.2 step.1 fixed_handlers c.args.self.now c.requires (Got_sample c.in-Some.receipt.publisher c.in-Some.receipt.sample.number) (λ e is. let clash : Got_sample c.in-Some.receipt.publisher c.in-Some.receipt.sample.number ≡ Receive_error e = is in absurd cc) step.2
+    received-updated {T = g.row.T.Denot} {U = g.row.U.Denot} c.args.domain.now (keeping (c.domain.inside.boxes).boxes c.receive_at.new.state) it.0 it.0 it.1 step.0 it.2 step.1 fixed_handlers c.args.self.now c.requires (Got_sample c.in-Some.receipt.publisher c.in-Some.receipt.sample.number) (λ e is. let clash : Got_sample c.in-Some.receipt.publisher c.in-Some.receipt.sample.number ≡ Receive_error e = is in absurd cc) step.2
 
 pub returns-clause-one_fewer : goal.returns-clause-one_fewer
 returns-clause-one_fewer g c =
     let it = always-shown {T = g.row.T.Denot} {U = g.row.U.Denot} c.domain.inside.state c.args.domain.now c.domain.invariant c.domain.view_is in
     let step = returns-clause-receives g c it.0 it.1 it.2 in
-    received-one-fewer {T = g.row.T.Denot} {U = g.row.U.Denot} c.args.domain.now (keeping _ c.receive_at.new.state) it.0 it.0 it.1 step.0 it.2 step.1 fixed_handlers c.args.self.now c.in-Some.receipt.publisher c.in-Some.receipt.sample.number step.2
+    received-one-fewer {T = g.row.T.Denot} {U = g.row.U.Denot} c.args.domain.now (keeping (c.domain.inside.boxes).boxes c.receive_at.new.state) it.0 it.0 it.1 step.0 it.2 step.1 fixed_handlers c.args.self.now c.in-Some.receipt.publisher c.in-Some.receipt.sample.number step.2
 
 pub returns-in_err-receipt-clause-loans_left : goal.returns-in_err-receipt-clause-loans_left
 returns-in_err-receipt-clause-loans_left g c =
     let it = always-shown {T = g.row.T.Denot} {U = g.row.U.Denot} c.domain.inside.state c.args.domain.now c.domain.invariant c.domain.view_is in
     let step = returns-in_err-receipt-clause-receives g c it.0 it.1 it.2 in
-    receive-left {T = g.row.T.Denot} {U = g.row.U.Denot} c.args.domain.now (keeping _ c.receive_at.new.state) it.0 it.0 it.1 step.0 it.2 step.1 fixed_handlers c.args.self.now.id (received_result c.from_residual.result) step.2
+    receive-left {T = g.row.T.Denot} {U = g.row.U.Denot} c.args.domain.now (keeping (c.domain.inside.boxes).boxes c.receive_at.new.state) it.0 it.0 it.1 step.0 it.2 step.1 fixed_handlers c.args.self.now.id (received_result c.from_residual.result) step.2
 
 pub returns-in_default-clause-loans_left : goal.returns-in_default-clause-loans_left
 returns-in_default-clause-loans_left g c =
     let it = always-shown {T = g.row.T.Denot} {U = g.row.U.Denot} c.domain.inside.state c.args.domain.now c.domain.invariant c.domain.view_is in
     let step = returns-in_default-clause-receives g c it.0 it.1 it.2 in
-    receive-left {T = g.row.T.Denot} {U = g.row.U.Denot} c.args.domain.now (keeping _ c.receive_at.new.state) it.0 it.0 it.1 step.0 it.2 step.1 fixed_handlers c.args.self.now.id No_sample step.2
+    receive-left {T = g.row.T.Denot} {U = g.row.U.Denot} c.args.domain.now (keeping (c.domain.inside.boxes).boxes c.receive_at.new.state) it.0 it.0 it.1 step.0 it.2 step.1 fixed_handlers c.args.self.now.id No_sample step.2
 
 pub returns-clause-loans_left : goal.returns-clause-loans_left
 returns-clause-loans_left g c =
     let it = always-shown {T = g.row.T.Denot} {U = g.row.U.Denot} c.domain.inside.state c.args.domain.now c.domain.invariant c.domain.view_is in
     let step = returns-clause-receives g c it.0 it.1 it.2 in
-    receive-left {T = g.row.T.Denot} {U = g.row.U.Denot} c.args.domain.now (keeping _ c.receive_at.new.state) it.0 it.0 it.1 step.0 it.2 step.1 fixed_handlers c.args.self.now.id (Got_sample c.in-Some.receipt.publisher c.in-Some.receipt.sample.number) step.2
+    receive-left {T = g.row.T.Denot} {U = g.row.U.Denot} c.args.domain.now (keeping (c.domain.inside.boxes).boxes c.receive_at.new.state) it.0 it.0 it.1 step.0 it.2 step.1 fixed_handlers c.args.self.now.id (Got_sample c.in-Some.receipt.publisher c.in-Some.receipt.sample.number) step.2
