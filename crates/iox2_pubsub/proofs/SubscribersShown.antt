@@ -52,9 +52,9 @@ module _ {T U F : Type 0} {boxes : List (PortBox F)} (environment : Environment)
 
 module _ {T U : Type 0} (environment : Environment) (old new : Fields T U) (asked : SubscriberSettings) where
   -- the domain has the new subscriber
-  pub made-live : {F : Type 0} {boxes : List (PortBox F)} → (s' : State T U) × CreateSubscriber environment (state_of (kept_of old)) asked s' None × Reaches old new s'
+  pub made-live : {F : Type 0} (boxes : List (PortBox F)) → (s' : State T U) × CreateSubscriber environment (state_of (kept_of old)) asked s' None × Reaches old new s'
       → (subscriber : Subscriber) → subscriber.service_id ≡ (old.config).service_id → subscriber.id ≡ old.next_port → IsLiveSubscriber (keeping boxes new) subscriber
-  made-live {F} {boxes} made subscriber is_service is_id =
+  made-live boxes made subscriber is_service is_id =
       let keeps = create-keeps environment (state_of (kept_of old)) asked made.0 None made.1 in
       let has = create-open environment (state_of (kept_of old)) asked made.0 made.1 in
       subscriber-live (keeping boxes new) _ (

@@ -29,7 +29,7 @@ returns-clause-creates g c =
 
 pub returns-clause-live : goal.returns-clause-live
 returns-clause-live g c =
-    made-live {T = g.row.T.Denot} {U = g.row.U.Denot} fixed_handlers c.domain.inside.state c.create_subscriber.new.state (asked_for c.self.inside.buffer_size) c.in_ok-port.ensures.step
+    made-live {T = g.row.T.Denot} {U = g.row.U.Denot} fixed_handlers c.domain.inside.state c.create_subscriber.new.state (asked_for c.self.inside.buffer_size) (c.domain.inside.boxes).boxes c.in_ok-port.ensures.step
     (record { service_id = c.config.result.now.service_id; id = c.in_ok-port.port.id; place = c.in_ok-port.port.place; buffer_size = c.max.result })
     (ap (λ (config : ServiceConfig). config.service_id) c.config.ensures)
     c.in_ok-port.ensures.id
