@@ -17,6 +17,7 @@ use Rattle.iox2_ends.specs.LookUp.{look_up}
 use Rattle.iox2_ends.specs.Mailboxes.{mailbox_of, sender_ends, receiver_ends}
 use Rattle.iox2_domain.specs.WarningRing.{WarningRing}
 use Rattle.iox2_domain.specs.Ports.{PublisherFields, SubscriberFields}
+use Rattle.iox2_domain.specs.declared.boxes.PortBox.{PortBox}
 use Rattle.iox2_domain.specs.declared.publisher_state.BlockedDelivery.{BlockedDelivery}
 use Rattle.iox2_domain.specs.Kept.{Named, Between, KeptMessage, Lent_message, Sent_message, KeptBook, Kept}
 
@@ -137,9 +138,9 @@ module _ (books : Slab Book) (connections : Slab Link) where
   abbrev pub between_of : Link → Between
   between_of c = record { publisher = c.home.publisher; subscriber = c.home.subscriber; box = mailbox_of (numbers_of books c.home.publisher) c }
 
--- What the fields keep.
-abbrev pub kept_of : {T U : Type 0} → Fields T U → Kept T U
-kept_of f = record {
+-- What the fields keep, beside these boxes.
+abbrev pub keeping : {T U F : Type 0} → List (PortBox F) → Fields T U → Kept T U F
+keeping boxes f = record {
   config = f.config;
   next_port = f.next_port;
   next_message = f.next_message;
@@ -148,4 +149,9 @@ kept_of f = record {
   connections = map (option_map (between_of f.books f.connections)) f.connections.slots;
   books = map_from (kept_book f.contents) 0 f.books.slots;
   warnings = f.warnings.items;
+  boxes = boxes;
 }
+
+-- What the fields keep, where there are no boxes.
+abbrev pub kept_of : {T U : Type 0} → Fields T U → Kept T U ⊥
+kept_of f = keeping [] f

@@ -1,3 +1,4 @@
+pub mod Boxes
 pub mod Handlers
 pub mod Ports
 pub mod Kept

@@ -5,6 +5,7 @@
 //! `iox2_pubsub` keeps the state in its `Domain`, behind the handles of ports and messages.
 #![tactic(auto)]
 
+mod boxes;
 mod handlers;
 mod left_books;
 mod loan_slots;
@@ -19,6 +20,7 @@ mod subscriber_state;
 mod units;
 mod warnings;
 
+pub use boxes::Boxes;
 pub use handlers::NoBackpressureFn;
 pub use loan_slots::LoanAt;
 pub use message_slots::MessageSlot;

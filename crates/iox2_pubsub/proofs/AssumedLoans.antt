@@ -9,7 +9,8 @@ use Rattle.iox2_store.specs.machine.Records.{Loan}
 use Rattle.iox2_store.specs.machine.SingleCalls.{HoldsLoan}
 use Rattle.iox2_store.specs.machine.State.{State, Messages}
 use Rattle.iox2_domain.specs.Kept.{Kept, state_of}
-use Rattle.iox2_domain.specs.Fields.{Fields, kept_of}
+use Rattle.iox2_domain.specs.declared.boxes.PortBox.{PortBox}
+use Rattle.iox2_domain.specs.Fields.{Fields, kept_of, keeping}
 use Rattle.iox2_domain.specs.Invariant.{IsDomain}
 use Rattle.iox2_domain.specs.LoanCalls.{AssumesLoan}
 use Rattle.iox2_domain.specs.Reaches.{Reaches}
@@ -25,7 +26,7 @@ use Rattle.iox2_pubsub.proofs.LoanHandles.{change-header, change-shown, change-u
 use Rattle.iox2_pubsub.proofs.SliceParts.{cells-parts, has-values}
 use Rattle.iox2_pubsub.proofs.UpToDateShown.{set-leaves}
 use Rattle.iox2_pubsub.proofs.WaitingShown.{set-waits}
-use Rattle.iox2_pubsub.proofs.StaysBut.{unchanged-stays}
+use Rattle.iox2_pubsub.proofs.StaysBut.{same-boxes, unchanged-stays}
 use Rattle.iox2_pubsub.specs.LoansLeft.{LoansLeftStay}
 use Rattle.iox2_pubsub.proofs.LoansLeftShown.{set-left}
 
@@ -33,7 +34,7 @@ all-some : {T : Type 0} (values : List T) → list_all is_some (map Some values)
 all-some [] = refl
 all-some (value ∷ values) = all-some values
 
-module _ {T U : Type 0} (f g : Fields T U) (sound : IsDomain f) (kept : Kept T U) (view : kept_of f ≡ kept) (n : ℕ) (b : Bool) (assumes : AssumesLoan f g n b) where
+module _ {T U F : Type 0} {boxes : List (PortBox F)} (f g : Fields T U) (sound : IsDomain f) (kept : Kept T U F) (view : keeping boxes f ≡ kept) (n : ℕ) (b : Bool) (assumes : AssumesLoan f g n b) where
   abbrev assumed : Loan T U
   assumed = record (assumes.0) { is_written = true }
 
@@ -41,14 +42,14 @@ module _ {T U : Type 0} (f g : Fields T U) (sound : IsDomain f) (kept : Kept T U
   had-cell : (loan : SampleMutUninit) (cell : Option T) → loan.loan.number ≡ n → UnwrittenReads kept loan cell → (assumes.0).cells ≡ cell ∷ []
   had-cell loan cell its reads =
       let had = unwritten-cell kept loan cell reads in
-      let both : Some assumes.0 ≡ Some had.0 = sym assumes.1 ∙ ap (λ (k : Kept T U). (state_of k).loans n) view ∙ ap (state_of kept).loans (sym its) ∙ had.1 in
+      let both : Some assumes.0 ≡ Some had.0 = sym assumes.1 ∙ ap (λ (k : Kept T U F). (state_of k).loans n) view ∙ ap (state_of kept).loans (sym its) ∙ had.1 in
       let same : assumes.0 ≡ had.0 = cc in
       ap (λ (l : Loan T U). l.cells) same ∙ had.2
 
   had-cells : (cells : List (Option T)) → HasUnwrittenCells kept n cells → (assumes.0).cells ≡ cells
   had-cells cells has =
       let had = cells-parts kept n cells has in
-      let both : Some assumes.0 ≡ Some had.0 = sym assumes.1 ∙ ap (λ (k : Kept T U). (state_of k).loans n) view ∙ had.1 in
+      let both : Some assumes.0 ≡ Some had.0 = sym assumes.1 ∙ ap (λ (k : Kept T U F). (state_of k).loans n) view ∙ had.1 in
       let same : assumes.0 ≡ had.0 = cc in
       ap (λ (l : Loan T U). l.cells) same ∙ had.2
 
@@ -77,53 +78,53 @@ module _ {T U : Type 0} (f g : Fields T U) (sound : IsDomain f) (kept : Kept T U
         let both = change-shown f g kept view n assumes.0 assumed assumes.1 reaches m s shown in
         (assumes.0, both.0, sym assumes.2 ∙ yes, both.1)
 
-    pub taken-live : (loan : SampleMutUninit) → loan.loan.number ≡ n → IsUnwritten kept loan → IsWritten (kept_of g) (record { service_id = loan.service_id; loan = loan.loan })
+    pub taken-live : (loan : SampleMutUninit) → loan.loan.number ≡ n → IsUnwritten kept loan → IsWritten (keeping boxes g) (record { service_id = loan.service_id; loan = loan.loan })
     taken-live loan its live =
         let parts = unwritten-parts kept loan live in
         let out : HoldsLoan (state_of (kept_of f)) loan.loan.publisher n =
-        subst (λ (k : Kept T U). HoldsLoan (state_of k) loan.loan.publisher n) (sym view) (subst (HoldsLoan (state_of kept) loan.loan.publisher) its ((parts.1).0, (parts.1).1, (parts.1).2)) in
+        subst (λ (k : Kept T U F). HoldsLoan (state_of k) loan.loan.publisher n) (sym view) (subst (HoldsLoan (state_of kept) loan.loan.publisher) its ((parts.1).0, (parts.1).1, (parts.1).2)) in
         change-written f g kept view n assumes.0 assumed assumes.1 reaches refl loan.loan.publisher loan.service_id parts.0 out refl (record { service_id = loan.service_id; loan = loan.loan }) its refl refl
 
-    pub taken-reads : (loan : SampleMutUninit) (value : T) → loan.loan.number ≡ n → UnwrittenReads kept loan (Some value) → LoanReads (kept_of g) (record { service_id = loan.service_id; loan = loan.loan }) value
+    pub taken-reads : (loan : SampleMutUninit) (value : T) → loan.loan.number ≡ n → UnwrittenReads kept loan (Some value) → LoanReads (keeping boxes g) (record { service_id = loan.service_id; loan = loan.loan }) value
     taken-reads loan value its reads =
         change-cells f g kept view n assumes.0 assumed assumes.1 reaches refl (record { service_id = loan.service_id; loan = loan.loan }) value its (had-cell loan (Some value) its reads)
 
-    pub taken-values : (m : ℕ) (values : List T) → m ≡ n → HasUnwrittenCells kept n (map Some values) → HasValues (kept_of g) m values
-    taken-values m values its has = has-values (kept_of g) m values
+    pub taken-values : (m : ℕ) (values : List T) → m ≡ n → HasUnwrittenCells kept n (map Some values) → HasValues (keeping boxes g) m values
+    taken-values m values its has = has-values (keeping boxes g) m values
         (assumed, ap (state_of (kept_of g)).loans its ∙ changed-out f g kept view n assumes.0 assumed assumes.1 reaches, had-cells (map Some values) has)
 
     -- its headers stay
     module _ (key key' : Key) (here : key.message ≡ n) (there : key'.message ≡ n) where
-      pub taken-header : (header : Header) → LoanHasHeader kept key header → LoanHasHeader (kept_of g) key' header
+      pub taken-header : (header : Header) → LoanHasHeader kept key header → LoanHasHeader (keeping boxes g) key' header
       taken-header = change-header f g kept view n assumes.0 assumed assumes.1 reaches key key' here there refl
 
-      pub taken-user-header : (header : U) → LoanHasUserHeader kept key header → LoanHasUserHeader (kept_of g) key' header
+      pub taken-user-header : (header : U) → LoanHasUserHeader kept key header → LoanHasUserHeader (keeping boxes g) key' header
       taken-user-header = change-user-header f g kept view n assumes.0 assumed assumes.1 reaches key key' here there refl
 
-    pub taken-stays : StaysBut (A_loan n) kept (kept_of g)
+    pub taken-stays : StaysBut (A_loan n) kept (keeping boxes g)
     taken-stays =
         let it = always-shown f kept sound view in
         let step = taken-shown it.0 it.1 it.2 in
-        change-stays kept (kept_of g) it.0 it.1 it.2 n (record (step.0) { is_written = true }) step.3
+        change-stays kept (keeping boxes g) it.0 it.1 it.2 n (record (step.0) { is_written = true }) step.3 (same-boxes f g kept view)
 
-    pub taken-left : LoansLeftStay kept (kept_of g)
+    pub taken-left : LoansLeftStay kept (keeping boxes g)
     taken-left =
         let it = always-shown f kept sound view in
         let step = taken-shown it.0 it.1 it.2 in
-        set-left kept (kept_of g) it.0 it.0 it.1 (initialized it.1 n step.0) it.2 step.3 n (Some (record (step.0) { is_written = true })) refl
+        set-left kept (keeping boxes g) it.0 it.0 it.1 (initialized it.1 n step.0) it.2 step.3 n (Some (record (step.0) { is_written = true })) refl
 
     -- the same messages wait, and who was up to date is
-    pub taken-waits : payloads (kept_of g) ≡ payloads kept
+    pub taken-waits : payloads (keeping boxes g) ≡ payloads kept
     taken-waits =
         let it = always-shown f kept sound view in
         let step = taken-shown it.0 it.1 it.2 in
-        set-waits kept (kept_of g) it.0 it.1 it.2 n (Some (record (step.0) { is_written = true })) step.3
+        set-waits kept (keeping boxes g) it.0 it.1 it.2 n (Some (record (step.0) { is_written = true })) step.3
 
-    pub taken-leaves : UpToDateStay kept (kept_of g)
+    pub taken-leaves : UpToDateStay kept (keeping boxes g)
     taken-leaves =
         let it = always-shown f kept sound view in
         let step = taken-shown it.0 it.1 it.2 in
-        set-leaves kept (kept_of g) it.0 it.1 it.2 n (Some (record (step.0) { is_written = true })) step.3
+        set-leaves kept (keeping boxes g) it.0 it.1 it.2 n (Some (record (step.0) { is_written = true })) step.3
 
   -- ---- it is handed back
 
@@ -131,22 +132,22 @@ module _ {T U : Type 0} (f g : Fields T U) (sound : IsDomain f) (kept : Kept T U
     same-fields : g ≡ f
     same-fields = subst (λ (t : Bool). MatchBool t (Reaches f g (initialized (state_of (kept_of f)) n assumes.0)) (g ≡ f)) no assumes.3
 
-    pub left-same : kept_of g ≡ kept
-    left-same = ap kept_of same-fields ∙ view
+    pub left-same : keeping boxes g ≡ kept
+    left-same = ap (keeping boxes) same-fields ∙ view
 
     pub left-shown : (m : Messages T U) (s : State T U) → Shows kept m s → (l : Loan T U) × (s.loans n ≡ Some l) × (is_initialized l ≡ false) × Shows (kept_of g) m s
     left-shown m s shown = (
       assumes.0,
-      ap (λ (t : State T U). t.loans n) shown.state ∙ sym (ap (λ (k : Kept T U). (state_of k).loans n) view) ∙ assumes.1,
+      ap (λ (t : State T U). t.loans n) shown.state ∙ sym (ap (λ (k : Kept T U F). (state_of k).loans n) view) ∙ assumes.1,
       sym assumes.2 ∙ no,
-      subst (λ (k : Kept T U). Shows k m s) (sym left-same) shown,
+      subst (λ (k : Kept T U F). Shows k m s) (sym left-same) shown,
     )
 
-    pub left-stays : StaysBut (A_loan n) kept (kept_of g)
+    pub left-stays : StaysBut (A_loan n) kept (keeping boxes g)
     left-stays = subst (StaysBut (A_loan n) kept) (sym left-same) (unchanged-stays (A_loan n) kept)
 
-    pub left-loans : LoansLeftStay kept (kept_of g)
+    pub left-loans : LoansLeftStay kept (keeping boxes g)
     left-loans = subst (LoansLeftStay kept) (sym left-same) (record { loans = λ publisher more left. left; numbers = λ more left. left })
 
-    pub left-leaves : UpToDateStay kept (kept_of g)
+    pub left-leaves : UpToDateStay kept (keeping boxes g)
     left-leaves = subst (UpToDateStay kept) (sym left-same) (λ subscriber is. is)

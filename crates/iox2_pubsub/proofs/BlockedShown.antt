@@ -18,7 +18,8 @@ use Rattle.iox2_laws.proofs.SendsRemain.{PortsRemain, retry_remains, retry_frees
 use Rattle.iox2_laws.proofs.Waits.{Waits, retry_waits, give_up_waits}
 use Rattle.iox2_domain.specs.BlockedSends.{HasBlocked, waiting_send}
 use Rattle.iox2_domain.specs.declared.publisher_state.BlockedDelivery.{BlockedDelivery}
-use Rattle.iox2_domain.specs.Fields.{Fields, kept_of, publisher_of, numbers_of, blocked_send}
+use Rattle.iox2_domain.specs.declared.boxes.PortBox.{PortBox}
+use Rattle.iox2_domain.specs.Fields.{Fields, kept_of, publisher_of, numbers_of, blocked_send, keeping}
 use Rattle.iox2_domain.specs.Invariant.{IsDomain}
 use Rattle.iox2_domain.specs.Kept.{Kept, state_of, entries_of}
 use Rattle.iox2_domain.specs.Ports.{PublisherFields}
@@ -36,7 +37,7 @@ use Rattle.iox2_store.specs.declared.errors.SendError.TheVariants.{UnableToDeliv
 use Rattle.iox2_store.specs.declared.key.Key.{Key}
 use Rattle.iox2_messages.specs.SendEnds.{IsKept, end_result}
 use Rattle.iox2_messages.specs.declared.send_end.SendEnd.{SendEnd}
-use Rattle.iox2_pubsub.proofs.StaysBut.{IsSpared, SparedPublishers, stays-between}
+use Rattle.iox2_pubsub.proofs.StaysBut.{same-boxes, IsSpared, SparedPublishers, stays-between}
 use Rattle.iox2_pubsub.proofs.UnfailedSends.{IsMild, HasNotFailed, retry-unfailed, give-up-unfailed}
 use Rattle.std.proofs.lemmas.Bool.{cases_eq}
 
@@ -60,7 +61,7 @@ module _ {T U : Type 0} (f : Fields T U) (sound : IsDomain f) (i p n : ℕ) (fou
   has-blocked = record { publisher = found.0; stands = found.1; blocked = (some-waits).0; waits = (some-waits).1 }
 
   -- what holds of it holds of the machine's
-  pub as-machine : (kept : Kept T U) → kept_of f ≡ kept → (m : Messages T U) (s : State T U) → Shows kept m s → (x : Publisher) (b : BlockedSend) → s.publishers p ≡ Some x → x.blocked ≡ Some b
+  pub as-machine : {F : Type 0} {boxes : List (PortBox F)} (kept : Kept T U F) → keeping boxes f ≡ kept → (m : Messages T U) (s : State T U) → Shows kept m s → (x : Publisher) (b : BlockedSend) → s.publishers p ≡ Some x → x.blocked ≡ Some b
       → (P : State T U → ℕ → BlockedSend → Type 0) → P (state_of (kept_of f)) (found.0).id (waiting_send f found.0 (some-waits).0) → P s p b
   as-machine kept view m s shown x b at waits P holds =
       let is : state_of (kept_of f) ≡ s = ap state_of view ∙ sym shown.state in
@@ -72,9 +73,9 @@ module _ {T U : Type 0} (f : Fields T U) (sound : IsDomain f) (i p n : ℕ) (fou
 
 -- ---- what the domain shows, and what stays
 
-module _ {T U : Type 0} (f g : Fields T U) (kept : Kept T U) (view : kept_of f ≡ kept) (m : Messages T U) (s : State T U) (shown : Shows kept m s) (p : ℕ) (result : SendResult) where
+module _ {T U F : Type 0} {boxes : List (PortBox F)} (f g : Fields T U) (kept : Kept T U F) (view : keeping boxes f ≡ kept) (m : Messages T U) (s : State T U) (shown : Shows kept m s) (p : ℕ) (result : SendResult) where
   here : Shows (kept_of f) m s
-  here = subst (λ (k : Kept T U). Shows k m s) (sym view) shown
+  here = subst (λ (k : Kept T U F). Shows k m s) (sym view) shown
 
   -- no message is sent, and no loan changes
   goes-shown : IsDomain g → Advances s (state_of (kept_of g)) → (state_of (kept_of g)).loans ≡ s.loans
@@ -89,15 +90,15 @@ module _ {T U : Type 0} (f g : Fields T U) (kept : Kept T U) (view : kept_of f �
   }
 
   goes-stays : Shows (kept_of g) m (state_of (kept_of g)) → PortsRemain s (state_of (kept_of g)) → (state_of (kept_of g)).loans ≡ s.loans
-      → Waits (IsSpared (A_blocked_send p)) s (state_of (kept_of g)) → SparedPublishers (A_blocked_send p) kept s (state_of (kept_of g)) → StaysBut (A_blocked_send p) kept (kept_of g)
+      → Waits (IsSpared (A_blocked_send p)) s (state_of (kept_of g)) → SparedPublishers (A_blocked_send p) kept s (state_of (kept_of g)) → StaysBut (A_blocked_send p) kept (keeping boxes g)
   goes-stays shown' remain loans waits goes-on =
-      stays-between (A_blocked_send p) kept (kept_of g) m m s (state_of (kept_of g)) shown shown' (λ k entry at. at) (record {
+      stays-between (A_blocked_send p) kept (keeping boxes g) m m s (state_of (kept_of g)) shown shown' (λ k entry at. at) (record {
         config = remain.config;
         publishers = λ q x at _. remain.publishers q x at;
         subscribers = λ q y at is_open _. remain.subscribers q y at is_open;
       })
       (λ k loan at _. ap (λ (all : ℕ → Option (Loan T U)). all k) loans ∙ at)
-      (λ i j k at _. ap (λ (ns : List ℕ). is_borrowed k (record { waiting = []; borrowed = ns })) (remain.borrowed i j) ∙ at) waits goes-on
+      (λ i j k at _. ap (λ (ns : List ℕ). is_borrowed k (record { waiting = []; borrowed = ns })) (remain.borrowed i j) ∙ at) waits goes-on (same-boxes f g kept view)
 
   -- the publisher is the one whose send is blocked
   spared-on : (x : Publisher) (b : BlockedSend) → s.publishers p ≡ Some x → x.blocked ≡ Some b
@@ -125,7 +126,7 @@ module _ {T U : Type 0} (f g : Fields T U) (kept : Kept T U) (view : kept_of f �
     pub retry-shown : Shows (kept_of g) m (state_of (kept_of g))
     retry-shown = goes-shown agrees (retry_advances fixed_handlers s p b elapsed _ result h) (retry_loans fixed_handlers s p b elapsed _ result h) entries
 
-    pub retry-stays : StaysBut (A_blocked_send p) kept (kept_of g)
+    pub retry-stays : StaysBut (A_blocked_send p) kept (keeping boxes g)
     retry-stays = goes-stays retry-shown (retry_remains fixed_handlers s p b elapsed _ result h) (retry_loans fixed_handlers s p b elapsed _ result h)
         (retry_waits (IsSpared (A_blocked_send p)) p spared fixed_handlers s b elapsed _ result h)
         (spared-on x b at has (λ mild none. (retry-unfailed fixed_handlers s p b elapsed _ result mild none h).0))
@@ -135,14 +136,14 @@ module _ {T U : Type 0} (f g : Fields T U) (kept : Kept T U) (view : kept_of f �
     pub give-up-shown : Shows (kept_of g) m (state_of (kept_of g))
     give-up-shown = goes-shown agrees (give_up_advances fixed_handlers s p b _ result h) (give_up_loans fixed_handlers s p b _ result h) entries
 
-    pub give-up-stays : StaysBut (A_blocked_send p) kept (kept_of g)
+    pub give-up-stays : StaysBut (A_blocked_send p) kept (keeping boxes g)
     give-up-stays = goes-stays give-up-shown (give_up_remains fixed_handlers s p b _ result h) (give_up_loans fixed_handlers s p b _ result h)
         (give_up_waits (IsSpared (A_blocked_send p)) p spared fixed_handlers s b _ result h)
         (spared-on x b at has (λ mild none. (give-up-unfailed fixed_handlers s p b _ result mild none h).0))
 
 -- ---- a send that isn't blocked again has freed its publisher
 
-module _ {T U : Type 0} (new : Kept T U) (m : Messages T U) (s s' : State T U) (shown : Shows new m s') (p : ℕ) (x : Publisher) (b : BlockedSend) (stands : s.publishers p ≡ Some x)
+module _ {T U F : Type 0} (new : Kept T U F) (m : Messages T U) (s s' : State T U) (shown : Shows new m s') (p : ℕ) (x : Publisher) (b : BlockedSend) (stands : s.publishers p ≡ Some x)
     (result : SendResult) (free : result ≡ Blocked_send → ⊥) where
   freed : PortsRemain s s' → ((x' : Publisher) → s'.publishers p ≡ Some x' → x'.blocked ≡ None) → (key : Key) → key.port ≡ p → IsUnblocked new key
   freed remain frees key its =

@@ -31,7 +31,8 @@ use Rattle.iox2_laws.proofs.SendsRemain.{send_remains}
 use Rattle.iox2_laws.proofs.SamplesStay.{same_borrowed, IsReceived, received_one, nothing_received, released_remain, released_now, released_others}
 use Rattle.iox2_laws.proofs.SubscriberUpdates.{update_subscriber_keeps}
 use Rattle.iox2_laws.proofs.Waits.{Waits, waits_itself, create_publisher_waits, create_subscriber_waits, grant_loan_waits, loan_set_waits, send_waits as send_spared, receive_waits, released_waits}
-use Rattle.iox2_domain.specs.Fields.{Fields, kept_of}
+use Rattle.iox2_domain.specs.declared.boxes.PortBox.{PortBox}
+use Rattle.iox2_domain.specs.Fields.{Fields, kept_of, keeping}
 use Rattle.iox2_domain.specs.Invariant.{IsDomain}
 use Rattle.iox2_domain.specs.Kept.{Kept, state_of, entries_of}
 use Rattle.iox2_domain.specs.Lending.{LoanCall}
@@ -45,15 +46,15 @@ use Rattle.iox2_pubsub.proofs.SentMessages.{after-error}
 use Rattle.iox2_pubsub.proofs.SendShown.{never-waits-send}
 use Rattle.iox2_pubsub.proofs.LiveParts.{publisher-parts, subscriber-parts, loan-parts, sample-parts, origin-parts, blocked-parts, unblocked-parts}
 use Rattle.iox2_pubsub.proofs.SliceParts.{cells-parts, values-parts}
-use Rattle.iox2_pubsub.proofs.StaysBut.{IsSpared, PortsRemainBut, SamplesStayBut, ports-remain, stays-between, stays-on-but, stays-but-whole, sent-loan-parts, none-spared, SparedPublishers}
+use Rattle.iox2_pubsub.proofs.StaysBut.{BoxesStayBut, IsSpared, PortsRemainBut, SamplesStayBut, ports-remain, stays-between, stays-on-but, stays-but-whole, sent-loan-parts, none-spared, SparedPublishers}
 use Rattle.iox2_pubsub.proofs.UnfailedSends.{IsMild, HasNotFailed, blocked-unfailed}
 
 -- a domain shows some state
-pub always-shown : {T U : Type 0} (f : Fields T U) (kept : Kept T U) → IsDomain f → kept_of f ≡ kept → (m : Messages T U) × (s : State T U) × Shows kept m s
-always-shown {T} {U} f kept sound view = (entries_of (kept_of f), state_of (kept_of f), subst (λ (k : Kept T U). Shows k (entries_of (kept_of f)) (state_of (kept_of f))) view (shows_itself f sound))
+pub always-shown : {T U F : Type 0} {boxes : List (PortBox F)} (f : Fields T U) (kept : Kept T U F) → IsDomain f → keeping boxes f ≡ kept → (m : Messages T U) × (s : State T U) × Shows kept m s
+always-shown {T} {U} {F} f kept sound view = (entries_of (kept_of f), state_of (kept_of f), subst (λ (k : Kept T U F). Shows k (entries_of (kept_of f)) (state_of (kept_of f))) view (shows_itself f sound))
 
 -- two publishers whose messages with one number are borrowed are one
-one-origin : {T U : Type 0} (kept : Kept T U) (m : Messages T U) (s : State T U) → Shows kept m s → (p p' q q' n : ℕ)
+one-origin : {T U F : Type 0} (kept : Kept T U F) (m : Messages T U) (s : State T U) → Shows kept m s → (p p' q q' n : ℕ)
     → is_borrowed n (s.mailboxes p q) ≡ true → is_borrowed n (s.mailboxes p' q') ≡ true → p ≡ p'
 one-origin {T} {U} kept m s shown p p' q q' n here there =
     let a = entry p q (ap (λ (t : State T U). is_borrowed n (t.mailboxes p q)) (sym shown.state) ∙ here) in
@@ -65,24 +66,24 @@ one-origin {T} {U} kept m s shown p p' q q' n here there =
     entry : (i j : ℕ) → is_borrowed n ((state_of kept).mailboxes i j) ≡ true → (e : Entry T U) × (entries_of kept n ≡ Some e) × ((e.header).publisher_id ≡ i)
     entry i j borrowed = shown.complete i n (In_mailbox j (contains_right ((state_of kept).mailboxes i j).waiting ((state_of kept).mailboxes i j).borrowed n borrowed))
 
-module _ {T U : Type 0} (old new : Kept T U) (m : Messages T U) (s : State T U) (shown : Shows old m s) where
+module _ {T U F : Type 0} (old new : Kept T U F) (m : Messages T U) (s : State T U) (shown : Shows old m s) where
   -- ports, loans and samples stay
-  quiet : (s' : State T U) → Shows new m s' → PortsStay s s' → s'.loans ≡ s.loans → Waits (IsSpared No_item) s s' → Stays old new
-  quiet s' shown' stay loans waits =
+  quiet : BoxesStayBut No_item old new → (s' : State T U) → Shows new m s' → PortsStay s s' → s'.loans ≡ s.loans → Waits (IsSpared No_item) s s' → Stays old new
+  quiet boxes s' shown' stay loans waits =
       stays-between No_item old new m m s s' shown shown' (λ n entry at. at) (ports-remain _ s s' stay.remain) (λ n l at _. ap (λ (f : ℕ → Option (Loan T U)). f n) loans ∙ at)
-      (λ p q n at _. same_borrowed s s' stay p q n ∙ at) waits (none-spared _ old s s' (λ _. tt))
+      (λ p q n at _. same_borrowed s s' stay p q n ∙ at) waits (none-spared _ old s s' (λ _. tt)) boxes
 
   -- a publisher is made, or refused
   pub publisher-creation-stays : (environment : Environment) (given : PublisherSettings) (refusal : Option PublisherCreateError) (s' : State T U) → Shows new m s'
-      → CreatePublisher environment s given s' refusal → Stays old new
-  publisher-creation-stays environment given refusal s' shown' h =
-      quiet s' shown' (create_publisher_stays environment s given s' refusal h) (create_publisher_loans environment s given s' refusal h) (create_publisher_waits (IsSpared No_item) environment s given s' refusal h)
+      → CreatePublisher environment s given s' refusal → BoxesStayBut No_item old new → Stays old new
+  publisher-creation-stays environment given refusal s' shown' h boxes =
+      quiet boxes s' shown' (create_publisher_stays environment s given s' refusal h) (create_publisher_loans environment s given s' refusal h) (create_publisher_waits (IsSpared No_item) environment s given s' refusal h)
 
   -- a subscriber is made, or refused
   pub subscriber-creation-stays : (environment : Environment) (given : SubscriberSettings) (refusal : Option SubscriberCreateError) (s' : State T U) → Shows new m s'
-      → CreateSubscriber environment s given s' refusal → Stays old new
-  subscriber-creation-stays environment given refusal s' shown' h =
-      quiet s' shown' (create_subscriber_stays environment s given s' refusal h) (create_subscriber_loans environment s given s' refusal h) (create_subscriber_waits (IsSpared No_item) environment s given s' refusal h)
+      → CreateSubscriber environment s given s' refusal → BoxesStayBut No_item old new → Stays old new
+  subscriber-creation-stays environment given refusal s' shown' h boxes =
+      quiet boxes s' shown' (create_subscriber_stays environment s given s' refusal h) (create_subscriber_loans environment s given s' refusal h) (create_subscriber_waits (IsSpared No_item) environment s given s' refusal h)
 
   -- the new publisher is none that was there
   pub publisher-is-new : (id : ℕ) → id ≡ s.next_port → IsNewIn old (A_publisher id)
@@ -138,14 +139,14 @@ module _ {T U : Type 0} (old new : Kept T U) (m : Messages T U) (s : State T U) 
         omega arith
 
   -- a loan is granted, or refused
-  pub loan-stays : {A : Type 0} (is_default : U → Type 0) (checks : Bool) (len p : ℕ) (answer : Result A LoanError) (s' : State T U) → Shows new m s' → LoanCall is_default checks len s p answer s' → Stays old new
-  loan-stays is_default checks len p (Ok a) s' shown' h =
+  pub loan-stays : {A : Type 0} (is_default : U → Type 0) (checks : Bool) (len p : ℕ) (answer : Result A LoanError) (s' : State T U) → Shows new m s' → LoanCall is_default checks len s p answer s' → BoxesStayBut No_item old new → Stays old new
+  loan-stays is_default checks len p (Ok a) s' shown' h boxes =
       let stay : PortsStay s s' = grant_loan_stays ample_memory h.0 checks len s p s' None h.2 in
       let next = loan_next ample_memory s h.0 checks len p s' h.2 in
       stays-between No_item old new m m s s' shown shown' (λ n entry at. at) (ports-remain _ s s' stay.remain) (λ n l at _. next.others n (shown.well_formed.loans n l at).below ∙ at)
-      (λ i j n at _. same_borrowed s s' stay i j n ∙ at) (grant_loan_waits (IsSpared No_item) ample_memory h.0 checks len s p s' None h.2) (none-spared _ old s s' (λ _. tt))
-  loan-stays is_default checks len p (Err e) s' shown' h =
-      quiet s' shown' (subst (PortsStay s) (sym h.0) (ports_stay_themselves s)) (ap (λ (t : State T U). t.loans) h.0) (subst (Waits (IsSpared No_item) s) (sym h.0) (waits_itself (IsSpared No_item) s))
+      (λ i j n at _. same_borrowed s s' stay i j n ∙ at) (grant_loan_waits (IsSpared No_item) ample_memory h.0 checks len s p s' None h.2) (none-spared _ old s s' (λ _. tt)) boxes
+  loan-stays is_default checks len p (Err e) s' shown' h boxes =
+      quiet boxes s' shown' (subst (PortsStay s) (sym h.0) (ports_stay_themselves s)) (ap (λ (t : State T U). t.loans) h.0) (subst (Waits (IsSpared No_item) s) (sym h.0) (waits_itself (IsSpared No_item) s))
 
   -- the new loan is none that was there
   pub loan-is-new : (number : ℕ) → number ≡ old.next_message → IsNewIn old (A_loan number)
@@ -180,13 +181,13 @@ module _ {T U : Type 0} (old new : Kept T U) (m : Messages T U) (s : State T U) 
       values-apart n values has = let it = values-parts old n values has in out-apart n it.0 it.1
 
   -- a loan is changed
-  pub change-stays : (n : ℕ) (l : Loan T U) → Shows new m (with_loan s n (Some l)) → StaysBut (A_loan n) old new
-  change-stays n l shown' =
+  pub change-stays : (n : ℕ) (l : Loan T U) → Shows new m (with_loan s n (Some l)) → BoxesStayBut (A_loan n) old new → StaysBut (A_loan n) old new
+  change-stays n l shown' boxes =
       let s' : State T U = with_loan s n (Some l) in
       let stay : PortsStay s s' = loan_set_stays s n (Some l) in
       stays-between (A_loan n) old new m m s s' shown shown' (λ n entry at. at) (ports-remain _ s s' stay.remain)
       (λ k loan at other. put_at-other s.loans n (Some l) k (ne_eqb k n other) ∙ at)
-      (λ i j k at _. same_borrowed s s' stay i j k ∙ at) (loan_set_waits (IsSpared (A_loan n)) s n (Some l)) (none-spared _ old s s' (λ _. tt))
+      (λ i j k at _. same_borrowed s s' stay i j k ∙ at) (loan_set_waits (IsSpared (A_loan n)) s n (Some l)) (none-spared _ old s s' (λ _. tt)) boxes
 
   -- a send leaves what is borrowed and the ports, and each publisher but its own waits as it did
   module _ (n : ℕ) (l : Loan T U) (out : s.loans n ≡ Some l) (result : SendResult) (s' : State T U) (h : Send fixed_handlers s n l s' result) where
@@ -230,13 +231,13 @@ module _ {T U : Type 0} (old new : Kept T U) (m : Messages T U) (s : State T U) 
         }
 
     -- all but the loan stays, and its publisher where it is blocked
-    sent-keeps : (spent : Item) → ((k : ℕ) → IsOtherLoan spent k → k ≢ n) → Waits (IsSpared spent) s s' → SparedPublishers spent old s s' → (m' : Messages T U) → Shows new m' s' → ((k : ℕ) (entry : Entry T U) → m k ≡ Some entry → m' k ≡ Some entry)
+    sent-keeps : (spent : Item) → BoxesStayBut spent old new → ((k : ℕ) → IsOtherLoan spent k → k ≢ n) → Waits (IsSpared spent) s s' → SparedPublishers spent old s s' → (m' : Messages T U) → Shows new m' s' → ((k : ℕ) (entry : Entry T U) → m k ≡ Some entry → m' k ≡ Some entry)
         → StaysBut spent old new
-    sent-keeps spent others waits goes-on m' shown' sent =
+    sent-keeps spent boxes others waits goes-on m' shown' sent =
         let loans : s'.loans ≡ put_at s.loans n None = send_loans fixed_handlers s n l s' result h in
         stays-between spent old new m m' s s' shown shown' sent (sent-remain spent)
         (λ k loan at other. ap (λ (f : ℕ → Option (Loan T U)). f k) loans ∙ put_at-other s.loans n None k (ne_eqb k n (others k other)) ∙ at)
-        (sent-borrowed spent) waits goes-on
+        (sent-borrowed spent) waits goes-on boxes
 
     -- a message that was sent before has another number
     sent-before : (k : ℕ) (entry other : Entry T U) → m k ≡ Some other → put_at m n (Some entry) k ≡ Some other
@@ -246,13 +247,13 @@ module _ {T U : Type 0} (old new : Kept T U) (m : Messages T U) (s : State T U) 
   -- a send that may fail, or be blocked
   pub sent-stays : (loan : SampleMut) (l : Loan T U) → s.loans loan.loan.number ≡ Some l → l.publisher ≡ loan.loan.publisher → ((x : Publisher) → s.publishers l.publisher ≡ Some x → x.blocked ≡ None)
       → (result : Result SendOutcome SendError) (s' : State T U) → Shows new (messages_after m loan.loan.number l result) s'
-      → Sends s loan.loan.number l result s' → StaysBut (spent_by_send loan result) old new
-  sent-stays loan l out its free (Ok (Delivered count)) s' shown' h =
-      sent-keeps loan.loan.number l out (Delivered_to count) s' h (A_sent_loan loan.loan.number loan.loan.publisher false) (λ k other. other)
+      → Sends s loan.loan.number l result s' → BoxesStayBut (spent_by_send loan result) old new → StaysBut (spent_by_send loan result) old new
+  sent-stays loan l out its free (Ok (Delivered count)) s' shown' h boxes =
+      sent-keeps loan.loan.number l out (Delivered_to count) s' h (A_sent_loan loan.loan.number loan.loan.publisher false) boxes (λ k other. other)
       (unblocked-waits loan.loan.number l out (Delivered_to count) s' h (IsSpared (A_sent_loan loan.loan.number loan.loan.publisher false)) (λ e. let clash : Delivered_to count ≡ Blocked_send = e in cc) free) (none-spared _ old s s' (λ _. tt))
       _ shown' (λ k entry at. sent-before loan.loan.number l out (Delivered_to count) s' h k (entry_of l) entry at)
-  sent-stays loan l out its free (Ok (Blocked blocked)) s' shown' h =
-      sent-keeps loan.loan.number l out Blocked_send s' h (A_sent_loan loan.loan.number loan.loan.publisher true) (λ k other. other)
+  sent-stays loan l out its free (Ok (Blocked blocked)) s' shown' h boxes =
+      sent-keeps loan.loan.number l out Blocked_send s' h (A_sent_loan loan.loan.number loan.loan.publisher true) boxes (λ k other. other)
       (send_spared (IsSpared (A_sent_loan loan.loan.number loan.loan.publisher true)) fixed_handlers s loan.loan.number l (λ other. other its) s' Blocked_send h)
       (record {
         unfailed = λ p spared low mild none. elim (cases_eq p loan.loan.publisher) [
@@ -267,8 +268,8 @@ module _ {T U : Type 0} (old new : Kept T U) (m : Messages T U) (s : State T U) 
         ];
       })
       _ shown' (λ k entry at. sent-before loan.loan.number l out Blocked_send s' h k (entry_of l) entry at)
-  sent-stays loan l out its free (Err error) s' shown' h =
-      sent-keeps loan.loan.number l out (Send_error error) s' h (A_sent_loan loan.loan.number loan.loan.publisher false) (λ k other. other)
+  sent-stays loan l out its free (Err error) s' shown' h boxes =
+      sent-keeps loan.loan.number l out (Send_error error) s' h (A_sent_loan loan.loan.number loan.loan.publisher false) boxes (λ k other. other)
       (unblocked-waits loan.loan.number l out (Send_error error) s' h (IsSpared (A_sent_loan loan.loan.number loan.loan.publisher false)) (λ e. let clash : Send_error error ≡ Blocked_send = e in cc) free) (none-spared _ old s s' (λ _. tt))
       _ shown' (λ k entry at. elim (after-error m loan.loan.number l error) [
         | inl sent ↦ ap (λ (f : Messages T U). f k) sent.1 ∙ sent-before loan.loan.number l out (Send_error error) s' h k (entry_of l) entry at
@@ -287,8 +288,8 @@ module _ {T U : Type 0} (old new : Kept T U) (m : Messages T U) (s : State T U) 
       absurd cc
 
   -- a subscriber receives, or doesn't
-  pub receive-stays : (environment : Environment) (q : ℕ) (result : ReceiveResult) (s' : State T U) → Shows new m s' → Receive environment s q s' result → Stays old new
-  receive-stays environment q (Got_sample p n) s' shown' h =
+  pub receive-stays : (environment : Environment) (q : ℕ) (result : ReceiveResult) (s' : State T U) → Shows new m s' → Receive environment s q s' result → BoxesStayBut No_item old new → Stays old new
+  receive-stays environment q (Got_sample p n) s' shown' h boxes =
       let got : IsReceived environment s q p n s' = received_one environment s q p n s' h in
       stays-between No_item old new m m s s' shown shown' (λ n entry at. at) (ports-remain _ s s' got.remain) (λ k l at _. ap (λ (f : ℕ → Option (Loan T U)). f k) got.loans ∙ at)
       (λ i j k at _. elim (cases_eq i p) [
@@ -302,11 +303,11 @@ module _ {T U : Type 0} (old new : Kept T U) (m : Messages T U) (s : State T U) 
                 ∙ ap (λ (v : ℕ). is_borrowed v (s'.mailboxes p q)) e_n ∙ got.now
           ]
         ]
-      ]) (receive_waits (IsSpared No_item) environment s q s' (Got_sample p n) h) (none-spared _ old s s' (λ _. tt))
-  receive-stays environment q No_sample s' shown' h =
-      quiet s' shown' (nothing_received environment s q s' No_sample (λ p n e. let clash : No_sample ≡ Got_sample p n = e in absurd cc) h) (receive_loans environment s q s' No_sample h) (receive_waits (IsSpared No_item) environment s q s' No_sample h)
-  receive-stays environment q (Receive_error e) s' shown' h =
-      quiet s' shown' (nothing_received environment s q s' (Receive_error e) (λ p n f. let clash : Receive_error e ≡ Got_sample p n = f in absurd cc) h)
+      ]) (receive_waits (IsSpared No_item) environment s q s' (Got_sample p n) h) (none-spared _ old s s' (λ _. tt)) boxes
+  receive-stays environment q No_sample s' shown' h boxes =
+      quiet boxes s' shown' (nothing_received environment s q s' No_sample (λ p n e. let clash : No_sample ≡ Got_sample p n = e in absurd cc) h) (receive_loans environment s q s' No_sample h) (receive_waits (IsSpared No_item) environment s q s' No_sample h)
+  receive-stays environment q (Receive_error e) s' shown' h boxes =
+      quiet boxes s' shown' (nothing_received environment s q s' (Receive_error e) (λ p n f. let clash : Receive_error e ≡ Got_sample p n = f in absurd cc) h)
       (receive_loans environment s q s' (Receive_error e) h) (receive_waits (IsSpared No_item) environment s q s' (Receive_error e) h)
 
   -- what is received wasn't borrowed
@@ -347,12 +348,12 @@ module _ {T U : Type 0} (old new : Kept T U) (m : Messages T U) (s : State T U) 
     apart key live = let has = (sample-parts old key live).1 in away has.0 key.port key.message has.1
 
   -- a sample is released
-  pub release-stays : (p q n : ℕ) (s' : State T U) → Shows new m s' → s' ≡ released s p q n → StaysBut (A_sample q n) old new
-  release-stays p q n s' shown' is =
+  pub release-stays : (p q n : ℕ) (s' : State T U) → Shows new m s' → s' ≡ released s p q n → BoxesStayBut (A_sample q n) old new → StaysBut (A_sample q n) old new
+  release-stays p q n s' shown' is boxes =
       stays-between (A_sample q n) old new m m s s' shown shown' (λ n entry at. at) (ports-remain _ s s' (subst (Remain s) (sym is) (released_remain s p q n)))
       (λ k l at _. ap (λ (t : State T U). t.loans k) is ∙ ap (λ (f : ℕ → Option (Loan T U)). f k) (released_loans s p q n) ∙ at)
       (λ i j k at other. ap (λ (t : State T U). is_borrowed k (t.mailboxes i j)) is ∙ released_others s p q n i j k (λ _ e_q e_n. apart other e_q e_n) ∙ at)
-      (subst (Waits (IsSpared (A_sample q n)) s) (sym is) (released_waits (IsSpared (A_sample q n)) s p q n)) (none-spared _ old s s' (λ _. tt))
+      (subst (Waits (IsSpared (A_sample q n)) s) (sym is) (released_waits (IsSpared (A_sample q n)) s p q n)) (none-spared _ old s s' (λ _. tt)) boxes
     where
       apart : {j k : ℕ} → IsOtherSample (A_sample q n) j k → j ≡ q → k ≡ n → ⊥
       apart (inl away) e_q e_n = away e_q
@@ -375,7 +376,7 @@ module _ {T U : Type 0} (old new : Kept T U) (m : Messages T U) (s : State T U) 
       ]
 
 -- a loan that is new is sent: all that was there before stays, but that its publisher isn't blocked
-pub copy-stays : {T U : Type 0} (start old new : Kept T U) → Stays start old → (publisher : Handle) (loan : SampleMut) → loan.loan.publisher ≡ publisher.id → IsNewIn start (A_loan loan.loan.number)
+pub copy-stays : {T U F : Type 0} (start old new : Kept T U F) → Stays start old → (publisher : Handle) (loan : SampleMut) → loan.loan.publisher ≡ publisher.id → IsNewIn start (A_loan loan.loan.number)
     → (result : Result SendOutcome SendError) → StaysBut (spent_by_send loan result) old new → StaysBut (spent_by_copy publisher result) start new
 copy-stays start old new before publisher loan its apart result next =
     subst (λ (p : ℕ). StaysBut (A_sent_copy p (is_blocked_send result)) start new) its

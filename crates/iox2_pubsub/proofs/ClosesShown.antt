@@ -11,7 +11,8 @@ use Rattle.iox2_laws.proofs.CloseLaws.{subscriber_closed_advances}
 use Rattle.iox2_laws.proofs.LoanKeeping.{subscriber_closed_loans}
 use Rattle.iox2_laws.proofs.PortsClose.{publisher_closed_gone, publisher_closed_others, publisher_closed_subscribers, publisher_closed_borrowed, subscriber_closed_shut, subscriber_closed_others, subscriber_closed_publishers, subscriber_closed_borrowed}
 use Rattle.iox2_laws.proofs.Waits.{publisher_closed_waits, subscriber_closed_waits}
-use Rattle.iox2_domain.specs.Fields.{Fields, kept_of, publisher_of, subscriber_of}
+use Rattle.iox2_domain.specs.declared.boxes.PortBox.{PortBox}
+use Rattle.iox2_domain.specs.Fields.{Fields, kept_of, publisher_of, subscriber_of, keeping}
 use Rattle.iox2_domain.specs.Invariant.{IsDomain}
 use Rattle.iox2_domain.specs.Kept.{Kept, state_of}
 use Rattle.iox2_domain.specs.Ports.{PublisherFields, SubscriberFields}
@@ -21,11 +22,11 @@ use Rattle.iox2_domain.proofs.lemmas.fields.ConnectionEnds.{publisher-stands, su
 use Rattle.iox2_domain.proofs.lemmas.fields.ReachesShows.{reaches-shows}
 use Rattle.iox2_pubsub.specs.Live.{IsPublisherKey, IsSubscriberKey, A_publisher, A_subscriber, StaysBut}
 use Rattle.iox2_pubsub.proofs.LiveParts.{publisher-parts, subscriber-parts}
-use Rattle.iox2_pubsub.proofs.StaysBut.{IsSpared, stays-between, none-spared}
+use Rattle.iox2_pubsub.proofs.StaysBut.{BoxesStayBut, IsSpared, stays-between, none-spared}
 
-module _ {T U : Type 0} (f g : Fields T U) (sound : IsDomain f) (kept : Kept T U) (view : kept_of f ≡ kept) (place id : ℕ) (m : Messages T U) (s : State T U) (shown : Shows kept m s) where
+module _ {T U F : Type 0} {boxes : List (PortBox F)} (f g : Fields T U) (sound : IsDomain f) (kept : Kept T U F) (view : keeping boxes f ≡ kept) (place id : ℕ) (m : Messages T U) (s : State T U) (shown : Shows kept m s) where
   here : Shows (kept_of f) m s
-  here = subst (λ (k : Kept T U). Shows k m s) (sym view) shown
+  here = subst (λ (k : Kept T U F). Shows k m s) (sym view) shown
 
   -- the domain shows the machine's close of the publisher that stands at the place
   pub publisher-close-shows : (found : (x : PublisherFields) × (get_or f.publishers place None ≡ Some x) × (x.id ≡ id))
@@ -56,7 +57,7 @@ module _ {T U : Type 0} (f g : Fields T U) (sound : IsDomain f) (kept : Kept T U
       reaches-shows f g m s (subscriber_closed s id y) here reached (subscriber_closed_advances s id y).next_message
       (λ n l out. here.unsent n l (ap (λ (loans : ℕ → Option (Loan T U)). loans n) (sym (subscriber_closed_loans s id y)) ∙ out))
 
-module _ {T U : Type 0} (old new : Kept T U) (m : Messages T U) (s : State T U) (shown : Shows old m s) (id : ℕ) where
+module _ {T U F : Type 0} (old new : Kept T U F) (m : Messages T U) (s : State T U) (shown : Shows old m s) (id : ℕ) where
   -- what is borrowed is told from what is borrowed in the mailboxes
   still-borrowed : (s' : State T U) → ((p q : ℕ) → (s'.mailboxes p q).borrowed ≡ (s.mailboxes p q).borrowed) → (p q n : ℕ) → is_borrowed n (s.mailboxes p q) ≡ true
       → is_borrowed n (s'.mailboxes p q) ≡ true
@@ -64,15 +65,15 @@ module _ {T U : Type 0} (old new : Kept T U) (m : Messages T U) (s : State T U) 
 
   module _ (x : Publisher) (shown' : Shows new m (publisher_closed s id x)) where
     -- all but the publisher stays
-    pub publisher-close-stays : StaysBut (A_publisher id) old new
-    publisher-close-stays =
+    pub publisher-close-stays : BoxesStayBut (A_publisher id) old new → StaysBut (A_publisher id) old new
+    publisher-close-stays boxes =
         let s' : State T U = publisher_closed s id x in
         stays-between (A_publisher id) old new m m s s' shown shown' (λ n entry at. at) (record {
           config = refl;
           publishers = λ p z at other. (z, publisher_closed_others s id x p other ∙ at);
           subscribers = λ q y at is_open other. let v = publisher_closed_subscribers s id x q y at in (v.0, v.1, v.2 ∙ is_open);
         })
-        (λ n l at other. at) (λ p q n at other. still-borrowed s' (publisher_closed_borrowed s id x) p q n at) (publisher_closed_waits (IsSpared (A_publisher id)) s id x) (none-spared _ old s s' (λ _. tt))
+        (λ n l at other. at) (λ p q n at other. still-borrowed s' (publisher_closed_borrowed s id x) p q n at) (publisher_closed_waits (IsSpared (A_publisher id)) s id x) (none-spared _ old s s' (λ _. tt)) boxes
 
     -- it is there no more
     pub publisher-close-spends : (key : Key) → key.port ≡ id → IsPublisherKey new key → ⊥
@@ -82,8 +83,8 @@ module _ {T U : Type 0} (old new : Kept T U) (m : Messages T U) (s : State T U) 
 
   module _ (y : Subscriber) (shown' : Shows new m (subscriber_closed s id y)) where
     -- all but the subscriber stays
-    pub subscriber-close-stays : StaysBut (A_subscriber id) old new
-    subscriber-close-stays =
+    pub subscriber-close-stays : BoxesStayBut (A_subscriber id) old new → StaysBut (A_subscriber id) old new
+    subscriber-close-stays boxes =
         let s' : State T U = subscriber_closed s id y in
         stays-between (A_subscriber id) old new m m s s' shown shown' (λ n entry at. at) (record {
           config = (subscriber_closed_advances s id y).config;
@@ -91,7 +92,7 @@ module _ {T U : Type 0} (old new : Kept T U) (m : Messages T U) (s : State T U) 
           subscribers = λ q z at is_open other. (z, subscriber_closed_others s id y q other ∙ at, is_open);
         })
         (λ n l at other. ap (λ (loans : ℕ → Option (Loan T U)). loans n) (subscriber_closed_loans s id y) ∙ at)
-        (λ p q n at other. still-borrowed s' (subscriber_closed_borrowed s id y) p q n at) (subscriber_closed_waits (IsSpared (A_subscriber id)) s id y) (none-spared _ old s s' (λ _. tt))
+        (λ p q n at other. still-borrowed s' (subscriber_closed_borrowed s id y) p q n at) (subscriber_closed_waits (IsSpared (A_subscriber id)) s id y) (none-spared _ old s s' (λ _. tt)) boxes
 
     -- it is open no more
     pub subscriber-close-spends : (key : Key) → key.port ≡ id → IsSubscriberKey new key → ⊥

@@ -6,7 +6,8 @@ use Rattle.iox2_store.specs.machine.State.{State, Messages, with_loan}
 use Rattle.iox2_store.specs.declared.header.Header.{Header}
 use Rattle.iox2_store.specs.declared.key.Key.{Key}
 use Rattle.iox2_domain.specs.Kept.{Kept, state_of}
-use Rattle.iox2_domain.specs.Fields.{Fields, kept_of}
+use Rattle.iox2_domain.specs.declared.boxes.PortBox.{PortBox}
+use Rattle.iox2_domain.specs.Fields.{Fields, kept_of, keeping}
 use Rattle.iox2_domain.specs.Invariant.{IsDomain}
 use Rattle.iox2_domain.specs.LoanCalls.{WritesLoan}
 use Rattle.iox2_domain.specs.Shows.{Shows}
@@ -20,10 +21,11 @@ use Rattle.iox2_pubsub.proofs.LiveParts.{unwritten-parts}
 use Rattle.iox2_pubsub.proofs.LoanHandles.{change-header, change-shown, change-user-header, change-written, changed-out}
 use Rattle.iox2_pubsub.proofs.LoansLeftShown.{set-left}
 use Rattle.iox2_pubsub.proofs.SliceParts.{has-values}
+use Rattle.iox2_pubsub.proofs.StaysBut.{same-boxes}
 use Rattle.iox2_pubsub.proofs.UpToDateShown.{set-leaves}
 use Rattle.iox2_pubsub.proofs.WaitingShown.{set-waits}
 
-module _ {T U : Type 0} (f g : Fields T U) (sound : IsDomain f) (kept : Kept T U) (view : kept_of f ≡ kept) (n : ℕ) (values : List T) (writes : WritesLoan f g n values) where
+module _ {T U F : Type 0} {boxes : List (PortBox F)} (f g : Fields T U) (sound : IsDomain f) (kept : Kept T U F) (view : keeping boxes f ≡ kept) (n : ℕ) (values : List T) (writes : WritesLoan f g n values) where
   abbrev filled : Loan T U
   filled = record (writes.0) { cells = map Some values; is_written = true }
 
@@ -33,47 +35,47 @@ module _ {T U : Type 0} (f g : Fields T U) (sound : IsDomain f) (kept : Kept T U
       let both = change-shown f g kept view n writes.0 filled writes.1 writes.3 m s shown in
       (writes.0, both.0, with_loan s n (Some filled), (writes.2, refl), both.1)
 
-  pub filled-values : (m : ℕ) → m ≡ n → HasValues (kept_of g) m values
-  filled-values m its = has-values (kept_of g) m values
+  pub filled-values : (m : ℕ) → m ≡ n → HasValues (keeping boxes g) m values
+  filled-values m its = has-values (keeping boxes g) m values
       (filled, ap (state_of (kept_of g)).loans its ∙ changed-out f g kept view n writes.0 filled writes.1 writes.3, λ i. map Some values)
 
   pub filled-live : (loan : SampleMutUninit) (loan' : SampleMut) → loan.loan.number ≡ n → loan'.service_id ≡ loan.service_id → loan'.loan.publisher ≡ loan.loan.publisher
-      → loan'.loan.number ≡ n → IsUnwritten kept loan → IsWritten (kept_of g) loan'
+      → loan'.loan.number ≡ n → IsUnwritten kept loan → IsWritten (keeping boxes g) loan'
   filled-live loan loan' its service publisher number live =
       let parts = unwritten-parts kept loan live in
       let out : HoldsLoan (state_of (kept_of f)) loan.loan.publisher n =
-      subst (λ (k : Kept T U). HoldsLoan (state_of k) loan.loan.publisher n) (sym view) (subst (HoldsLoan (state_of kept) loan.loan.publisher) its ((parts.1).0, (parts.1).1, (parts.1).2)) in
+      subst (λ (k : Kept T U F). HoldsLoan (state_of k) loan.loan.publisher n) (sym view) (subst (HoldsLoan (state_of kept) loan.loan.publisher) its ((parts.1).0, (parts.1).1, (parts.1).2)) in
       change-written f g kept view n writes.0 filled writes.1 writes.3 (λ i. (writes.0).publisher) loan.loan.publisher loan.service_id parts.0 out (λ i. true) loan' number service publisher
 
-  pub filled-stays : StaysBut (A_loan n) kept (kept_of g)
+  pub filled-stays : StaysBut (A_loan n) kept (keeping boxes g)
   filled-stays =
       let it = always-shown f kept sound view in
       let step = change-shown f g kept view n writes.0 filled writes.1 writes.3 it.0 it.1 it.2 in
-      change-stays kept (kept_of g) it.0 it.1 it.2 n filled step.1
+      change-stays kept (keeping boxes g) it.0 it.1 it.2 n filled step.1 (same-boxes f g kept view)
 
-  pub filled-left : LoansLeftStay kept (kept_of g)
+  pub filled-left : LoansLeftStay kept (keeping boxes g)
   filled-left =
       let it = always-shown f kept sound view in
       let step = change-shown f g kept view n writes.0 filled writes.1 writes.3 it.0 it.1 it.2 in
-      set-left kept (kept_of g) it.0 it.0 it.1 (with_loan it.1 n (Some filled)) it.2 step.1 n (Some filled) refl
+      set-left kept (keeping boxes g) it.0 it.0 it.1 (with_loan it.1 n (Some filled)) it.2 step.1 n (Some filled) refl
 
   -- the same messages wait, and who was up to date is
-  pub filled-waits : payloads (kept_of g) ≡ payloads kept
+  pub filled-waits : payloads (keeping boxes g) ≡ payloads kept
   filled-waits =
       let it = always-shown f kept sound view in
       let step = change-shown f g kept view n writes.0 filled writes.1 writes.3 it.0 it.1 it.2 in
-      set-waits kept (kept_of g) it.0 it.1 it.2 n (Some filled) step.1
+      set-waits kept (keeping boxes g) it.0 it.1 it.2 n (Some filled) step.1
 
-  pub filled-leaves : UpToDateStay kept (kept_of g)
+  pub filled-leaves : UpToDateStay kept (keeping boxes g)
   filled-leaves =
       let it = always-shown f kept sound view in
       let step = change-shown f g kept view n writes.0 filled writes.1 writes.3 it.0 it.1 it.2 in
-      set-leaves kept (kept_of g) it.0 it.1 it.2 n (Some filled) step.1
+      set-leaves kept (keeping boxes g) it.0 it.1 it.2 n (Some filled) step.1
 
   -- its headers stay
   module _ (key key' : Key) (here : key.message ≡ n) (there : key'.message ≡ n) where
-    pub filled-header : (header : Header) → LoanHasHeader kept key header → LoanHasHeader (kept_of g) key' header
+    pub filled-header : (header : Header) → LoanHasHeader kept key header → LoanHasHeader (keeping boxes g) key' header
     filled-header = change-header f g kept view n writes.0 filled writes.1 writes.3 key key' here there (λ i. (writes.0).header)
 
-    pub filled-user-header : (header : U) → LoanHasUserHeader kept key header → LoanHasUserHeader (kept_of g) key' header
+    pub filled-user-header : (header : U) → LoanHasUserHeader kept key header → LoanHasUserHeader (keeping boxes g) key' header
     filled-user-header = change-user-header f g kept view n writes.0 filled writes.1 writes.3 key key' here there (λ i. (writes.0).user_header)

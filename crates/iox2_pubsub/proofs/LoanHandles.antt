@@ -1,5 +1,5 @@
 -- The handles of loans: what a domain that holds one shows.
-use Rattle.std.proofs.Common.{replicate, [], ◌∷◌, true, false, ◌≡◌, ℕ, cond, refl, ap, sym, subst, ◌∙◌, le_refl}
+use Rattle.std.proofs.Common.{List, replicate, [], ◌∷◌, true, false, ◌≡◌, ℕ, cond, refl, ap, sym, subst, ◌∙◌, le_refl}
 use Rattle.std.proofs.lemmas.Bool.{eq-eqb}
 use Rattle.std.proofs.lemmas.Option.{same_Some}
 use Rattle.std.specs.declared.option.Option.TheVariants.{None, Some}
@@ -9,7 +9,8 @@ use Rattle.iox2_store.specs.machine.Loans.{written}
 use Rattle.iox2_store.specs.machine.SingleCalls.{HoldsLoan}
 use Rattle.iox2_laws.proofs.Puts.{found_put}
 use Rattle.iox2_domain.specs.Kept.{Kept, state_of}
-use Rattle.iox2_domain.specs.Fields.{Fields, kept_of}
+use Rattle.iox2_domain.specs.declared.boxes.PortBox.{PortBox}
+use Rattle.iox2_domain.specs.Fields.{Fields, kept_of, keeping}
 use Rattle.iox2_store.specs.declared.key.Key.{Key}
 use Rattle.iox2_pubsub.specs.Live.{IsLoanKey, IsUnwritten, IsWritten, LoanHasHeader, LoanHasUserHeader, LoanReads}
 use Rattle.iox2_pubsub.specs.declared.sample_mut.SampleMut.{SampleMut}
@@ -22,7 +23,7 @@ use Rattle.iox2_domain.specs.Reaches.{Reaches}
 use Rattle.iox2_domain.specs.Shows.{Shows}
 use Rattle.iox2_domain.proofs.lemmas.fields.ReachesShows.{reaches-shows}
 
-module _ {T U : Type 0} (inside kept : Kept T U) (view : inside ≡ kept) where
+module _ {T U F : Type 0} (inside kept : Kept T U F) (view : inside ≡ kept) where
   -- what holds of the state that is kept holds of each that is shown
   pub of-shown : (P : State T U → Type 0) → P (state_of inside) → (m : Messages T U) (s : State T U) → Shows kept m s → P s
   of-shown P holds m s shown = subst P (ap state_of view ∙ sym shown.state) holds
@@ -39,7 +40,7 @@ module _ {T U : Type 0} (inside kept : Kept T U) (view : inside ≡ kept) where
 
 -- ---- a loan is changed
 
-module _ {T U : Type 0} (f g : Fields T U) (kept : Kept T U) (view : kept_of f ≡ kept) (n : ℕ) (l changed : Loan T U) (found : (state_of (kept_of f)).loans n ≡ Some l)
+module _ {T U F : Type 0} {boxes : List (PortBox F)} (f g : Fields T U) (kept : Kept T U F) (view : keeping boxes f ≡ kept) (n : ℕ) (l changed : Loan T U) (found : (state_of (kept_of f)).loans n ≡ Some l)
     (reaches : Reaches f g (with_loan (state_of (kept_of f)) n (Some changed))) where
   -- the domain shows the machine's step
   pub change-shown : (m : Messages T U) (s : State T U) → Shows kept m s → (s.loans n ≡ Some l) × Shows (kept_of g) m (with_loan s n (Some changed))
@@ -64,23 +65,23 @@ module _ {T U : Type 0} (f g : Fields T U) (kept : Kept T U) (view : kept_of f �
   module _ (key key' : Key) (here : key.message ≡ n) (there : key'.message ≡ n) where
     -- what was out is what is changed
     was : (k : Loan T U) → (state_of kept).loans key.message ≡ Some k → l ≡ k
-    was k at = same_Some l k (sym found ∙ ap (λ (e : Kept T U). (state_of e).loans n) view ∙ ap (state_of kept).loans (sym here) ∙ at)
+    was k at = same_Some l k (sym found ∙ ap (λ (e : Kept T U F). (state_of e).loans n) view ∙ ap (state_of kept).loans (sym here) ∙ at)
 
-    pub change-header : changed.header ≡ l.header → (header : Header) → LoanHasHeader kept key header → LoanHasHeader (kept_of g) key' header
+    pub change-header : changed.header ≡ l.header → (header : Header) → LoanHasHeader kept key header → LoanHasHeader (keeping boxes g) key' header
     change-header same header has =
         let old = loan-header-parts kept key header has in
-        loan-header (kept_of g) key' header
+        loan-header (keeping boxes g) key' header
         (changed, ap (state_of (kept_of g)).loans there ∙ changed-out, same ∙ ap (λ (k : Loan T U). k.header) (was old.0 old.1) ∙ old.2)
 
-    pub change-user-header : changed.user_header ≡ l.user_header → (header : U) → LoanHasUserHeader kept key header → LoanHasUserHeader (kept_of g) key' header
+    pub change-user-header : changed.user_header ≡ l.user_header → (header : U) → LoanHasUserHeader kept key header → LoanHasUserHeader (keeping boxes g) key' header
     change-user-header same header has =
         let old = loan-user-header-parts kept key header has in
-        loan-user-header (kept_of g) key' header
+        loan-user-header (keeping boxes g) key' header
         (changed, ap (state_of (kept_of g)).loans there ∙ changed-out, same ∙ ap (λ (k : Loan T U). k.user_header) (was old.0 old.1) ∙ old.2)
 
   module _ (same : changed.publisher ≡ l.publisher) where
     service-still : (id : ℕ) → id ≡ (kept.config).service_id → id ≡ ((kept_of g).config).service_id
-    service-still id ours = ours ∙ sym (ap (λ (k : Kept T U). (k.config).service_id) view) ∙ sym (ap (λ (t : State T U). (t.config).service_id) reaches.state)
+    service-still id ours = ours ∙ sym (ap (λ (k : Kept T U F). (k.config).service_id) view) ∙ sym (ap (λ (t : State T U). (t.config).service_id) reaches.state)
 
     its-publisher : (p : ℕ) → HoldsLoan (state_of (kept_of f)) p n → l.publisher ≡ p
     its-publisher p live =
@@ -93,27 +94,27 @@ module _ {T U : Type 0} (f g : Fields T U) (kept : Kept T U) (view : kept_of f �
         → (service ≡ ((kept_of g).config).service_id) × ((state_of (kept_of g)).loans n ≡ Some changed) × (changed.publisher ≡ p)
     change-live p service ours live = (service-still service ours, changed-out, same ∙ its-publisher p live)
 
-    pub change-unwritten : (loan : SampleMutUninit) → loan.loan.number ≡ n → IsUnwritten kept loan → changed.is_written ≡ false → IsUnwritten (kept_of g) loan
+    pub change-unwritten : (loan : SampleMutUninit) → loan.loan.number ≡ n → IsUnwritten kept loan → changed.is_written ≡ false → IsUnwritten (keeping boxes g) loan
     change-unwritten loan its live mark =
         let parts = unwritten-parts kept loan live in
-        let out = subst (λ (k : Kept T U). HoldsLoan (state_of k) loan.loan.publisher loan.loan.number) (sym view) ((parts.1).0, (parts.1).1, (parts.1).2) in
+        let out = subst (λ (k : Kept T U F). HoldsLoan (state_of k) loan.loan.publisher loan.loan.number) (sym view) ((parts.1).0, (parts.1).1, (parts.1).2) in
         let is = change-live loan.loan.publisher loan.service_id parts.0 (subst (HoldsLoan (state_of (kept_of f)) loan.loan.publisher) its out) in
-        unwritten-live (kept_of g) loan is.0 (changed, ap (state_of (kept_of g)).loans its ∙ is.1, is.2, mark)
+        unwritten-live (keeping boxes g) loan is.0 (changed, ap (state_of (kept_of g)).loans its ∙ is.1, is.2, mark)
 
     -- a written loan is live under a handle with the same key
     pub change-written : (p service : ℕ) → service ≡ (kept.config).service_id → HoldsLoan (state_of (kept_of f)) p n → changed.is_written ≡ true
-        → (loan : SampleMut) → loan.loan.number ≡ n → loan.service_id ≡ service → loan.loan.publisher ≡ p → IsWritten (kept_of g) loan
+        → (loan : SampleMut) → loan.loan.number ≡ n → loan.service_id ≡ service → loan.loan.publisher ≡ p → IsWritten (keeping boxes g) loan
     change-written p service ours out mark loan number its publisher =
         let is = change-live p service ours out in
-        written-live (kept_of g) loan (its ∙ is.0) (changed, ap (state_of (kept_of g)).loans number ∙ is.1, is.2 ∙ sym publisher, mark)
+        written-live (keeping boxes g) loan (its ∙ is.0) (changed, ap (state_of (kept_of g)).loans number ∙ is.1, is.2 ∙ sym publisher, mark)
 
     -- it has the changed cells
-    pub change-cells : (loan : SampleMut) (value : T) → loan.loan.number ≡ n → changed.cells ≡ Some value ∷ [] → LoanReads (kept_of g) loan value
-    change-cells loan value number is = loan-reads (kept_of g) loan value (changed, ap (state_of (kept_of g)).loans number ∙ changed-out, is)
+    pub change-cells : (loan : SampleMut) (value : T) → loan.loan.number ≡ n → changed.cells ≡ Some value ∷ [] → LoanReads (keeping boxes g) loan value
+    change-cells loan value number is = loan-reads (keeping boxes g) loan value (changed, ap (state_of (kept_of g)).loans number ∙ changed-out, is)
 
 -- ---- a single value is written
 
-module _ {T U : Type 0} (f g : Fields T U) (kept : Kept T U) (view : kept_of f ≡ kept) (n : ℕ) (value : T) (writes : WritesLoan f g n (value ∷ [])) where
+module _ {T U F : Type 0} {boxes : List (PortBox F)} (f g : Fields T U) (kept : Kept T U F) (view : keeping boxes f ≡ kept) (n : ℕ) (value : T) (writes : WritesLoan f g n (value ∷ [])) where
   write-reaches : Reaches f g (with_loan (state_of (kept_of f)) n (Some (written writes.0 value)))
   write-reaches =
       subst (λ (k : ℕ). Reaches f g (with_loan (state_of (kept_of f)) n (Some (record (writes.0) { cells = replicate k (Some value); is_written = true })))) writes.2 writes.3
@@ -127,22 +128,22 @@ module _ {T U : Type 0} (f g : Fields T U) (kept : Kept T U) (view : kept_of f �
 
   -- the written loan is out
   pub write-live : (loan : SampleMutUninit) (loan' : SampleMut) → loan.loan.number ≡ n → loan'.service_id ≡ loan.service_id → loan'.loan.publisher ≡ loan.loan.publisher
-      → loan'.loan.number ≡ n → IsUnwritten kept loan → IsWritten (kept_of g) loan'
+      → loan'.loan.number ≡ n → IsUnwritten kept loan → IsWritten (keeping boxes g) loan'
   write-live loan loan' its service publisher number live =
       let parts = unwritten-parts kept loan live in
       let out : HoldsLoan (state_of (kept_of f)) loan.loan.publisher n =
-      subst (λ (k : Kept T U). HoldsLoan (state_of k) loan.loan.publisher n) (sym view) (subst (HoldsLoan (state_of kept) loan.loan.publisher) its ((parts.1).0, (parts.1).1, (parts.1).2)) in
+      subst (λ (k : Kept T U F). HoldsLoan (state_of k) loan.loan.publisher n) (sym view) (subst (HoldsLoan (state_of kept) loan.loan.publisher) its ((parts.1).0, (parts.1).1, (parts.1).2)) in
       change-written f g kept view n writes.0 (written writes.0 value) writes.1 write-reaches refl loan.loan.publisher loan.service_id parts.0 out refl loan' number service publisher
 
   -- its headers stay
-  pub write-header : (key key' : Key) → key.message ≡ n → key'.message ≡ n → (header : Header) → LoanHasHeader kept key header → LoanHasHeader (kept_of g) key' header
+  pub write-header : (key key' : Key) → key.message ≡ n → key'.message ≡ n → (header : Header) → LoanHasHeader kept key header → LoanHasHeader (keeping boxes g) key' header
   write-header key key' here there header has = change-header f g kept view n writes.0 (written writes.0 value) writes.1 write-reaches key key' here there refl header has
 
-  pub write-user-header : (key key' : Key) → key.message ≡ n → key'.message ≡ n → (header : U) → LoanHasUserHeader kept key header → LoanHasUserHeader (kept_of g) key' header
+  pub write-user-header : (key key' : Key) → key.message ≡ n → key'.message ≡ n → (header : U) → LoanHasUserHeader kept key header → LoanHasUserHeader (keeping boxes g) key' header
   write-user-header key key' here there header has = change-user-header f g kept view n writes.0 (written writes.0 value) writes.1 write-reaches key key' here there refl header has
 
   -- and reads as the value
-  pub write-reads : (loan : SampleMut) → loan.loan.number ≡ n → LoanReads (kept_of g) loan value
+  pub write-reads : (loan : SampleMut) → loan.loan.number ≡ n → LoanReads (keeping boxes g) loan value
   write-reads loan number =
       change-cells f g kept view n writes.0 (written writes.0 value) writes.1 write-reaches refl loan value number
       (ap (λ (k : ℕ). replicate k (Some value)) (sym writes.2))

@@ -1,5 +1,5 @@
 -- The creation of a publisher, seen from outside.
-use Rattle.std.proofs.Common.{◌≡◌, ◌<◌, ℕ, true, false, inl, inr, refl, ap, sym, subst, ◌∙◌}
+use Rattle.std.proofs.Common.{List, ◌≡◌, ◌<◌, ℕ, true, false, inl, inr, refl, ap, sym, subst, ◌∙◌}
 use Rattle.std.proofs.lemmas.Option.{same_Some}
 use Rattle.std.specs.declared.option.Option.{Option}
 use Rattle.std.specs.declared.option.Option.TheVariants.{None, Some}
@@ -14,7 +14,8 @@ use Rattle.iox2_store.specs.declared.service_config.ServiceConfig.{ServiceConfig
 use Rattle.iox2_laws.proofs.SendsRemain.{created_as}
 use Rattle.iox2_domain.specs.Handlers.{may_fail}
 use Rattle.iox2_domain.specs.Kept.{state_of}
-use Rattle.iox2_domain.specs.Fields.{Fields, kept_of}
+use Rattle.iox2_domain.specs.declared.boxes.PortBox.{PortBox}
+use Rattle.iox2_domain.specs.Fields.{Fields, kept_of, keeping}
 use Rattle.iox2_domain.specs.NewPublisher.{static_publisher}
 use Rattle.iox2_pubsub.specs.Handlers.{may_wait}
 use Rattle.iox2_pubsub.specs.Live.{IsReadyPublisher, NeverFails, NeverWaits, publisher_key}
@@ -53,19 +54,19 @@ module _ {T U : Type 0} (f g : Fields T U) (loans : ℕ) (strategy : Backpressur
       )
 
   -- it is ready
-  pub created-ready : (t : State T U) → CreatePublisher environment (state_of (kept_of f)) (static_publisher loans strategy handler len) t None → Reaches f g t
-      → (publisher : Publisher) → publisher.service_id ≡ (f.config).service_id → publisher.id ≡ f.next_port → IsReadyPublisher (kept_of g) publisher
-  created-ready t made reached publisher service id =
+  pub created-ready : {F : Type 0} {boxes : List (PortBox F)} (t : State T U) → CreatePublisher environment (state_of (kept_of f)) (static_publisher loans strategy handler len) t None → Reaches f g t
+      → (publisher : Publisher) → publisher.service_id ≡ (f.config).service_id → publisher.id ≡ f.next_port → IsReadyPublisher (keeping boxes g) publisher
+  created-ready {F} {boxes} t made reached publisher service id =
       let keeps = create-keeps environment (state_of (kept_of f)) (static_publisher loans strategy handler len) t None made in
       let stands = created-stands t made reached publisher id in
       record {
-        there = publisher-live (kept_of g) _ (
+        there = publisher-live (keeping boxes g) _ (
           refl,
           service ∙ ap (λ (c : ServiceConfig). c.service_id) (sym (ap (λ (u : State T U). u.config) reached.state ∙ keeps.config)),
           subst (HoldsPublisher (state_of (kept_of g))) (sym id)
               (subst (λ (u : State T U). HoldsPublisher u f.next_port) (sym reached.state) (create-holds environment (state_of (kept_of f)) (static_publisher loans strategy handler len) t made)),
         );
-        unblocked = unblocked-free (kept_of g) _ (stands.0, λ x here. (stands.1 x here).2);
+        unblocked = unblocked-free (keeping boxes g) _ (stands.0, λ x here. (stands.1 x here).2);
       }
 
   -- no handler has failed a send of it that is blocked, since none is
@@ -76,32 +77,32 @@ module _ {T U : Type 0} (f g : Fields T U) (loans : ℕ) (strategy : Backpressur
       absurd (let no : None ≡ Some b = sym ((stands.1 x here).2) ∙ waits in cc)
 
   -- no handler fails a send of it
-  pub created-never-fails : (t : State T U) → CreatePublisher environment (state_of (kept_of f)) (static_publisher loans strategy handler len) t None → Reaches f g t
-      → (publisher : Publisher) → publisher.id ≡ f.next_port → may_fail handler ≡ false → NeverFails (kept_of g) publisher.id
-  created-never-fails t made reached publisher id none =
+  pub created-never-fails : {F : Type 0} (boxes : List (PortBox F)) (t : State T U) → CreatePublisher environment (state_of (kept_of f)) (static_publisher loans strategy handler len) t None → Reaches f g t
+      → (publisher : Publisher) → publisher.id ≡ f.next_port → may_fail handler ≡ false → NeverFails (keeping boxes g) publisher.id
+  created-never-fails boxes t made reached publisher id none =
       let stands = created-stands t made reached publisher id in
-      unfailed-from (kept_of g) _ (stands.0, inr (λ x here. ap may_fail (stands.1 x here).1 ∙ none), unwaiting t made reached publisher id)
+      unfailed-from (keeping boxes g) _ (stands.0, inr (λ x here. ap may_fail (stands.1 x here).1 ∙ none), unwaiting t made reached publisher id)
 
   -- and it never waits where it waits for no full receiver
-  pub created-never-waits : (t : State T U) → CreatePublisher environment (state_of (kept_of f)) (static_publisher loans strategy handler len) t None → Reaches f g t
-      → (publisher : Publisher) → publisher.id ≡ f.next_port → may_wait strategy handler ≡ false → may_fail handler ≡ false → NeverWaits (kept_of g) (publisher_key publisher)
-  created-never-waits t made reached publisher id past none =
+  pub created-never-waits : {F : Type 0} {boxes : List (PortBox F)} (t : State T U) → CreatePublisher environment (state_of (kept_of f)) (static_publisher loans strategy handler len) t None → Reaches f g t
+      → (publisher : Publisher) → publisher.id ≡ f.next_port → may_wait strategy handler ≡ false → may_fail handler ≡ false → NeverWaits (keeping boxes g) (publisher_key publisher)
+  created-never-waits {F} {boxes} t made reached publisher id past none =
       let stands = created-stands t made reached publisher id in
       record {
-        passes = passes-from (kept_of g) _ (stands.0, inr (λ x here. (λ i. may_wait ((stands.1 x here).0 i) ((stands.1 x here).1 i)) ∙ past));
-        unblocked = unblocked-free (kept_of g) _ (stands.0, λ x here. (stands.1 x here).2);
-        never_fails = created-never-fails t made reached publisher id none;
+        passes = passes-from (keeping boxes g) _ (stands.0, inr (λ x here. (λ i. may_wait ((stands.1 x here).0 i) ((stands.1 x here).1 i)) ∙ past));
+        unblocked = unblocked-free (keeping boxes g) _ (stands.0, λ x here. (stands.1 x here).2);
+        never_fails = created-never-fails boxes t made reached publisher id none;
       }
 
   -- nor where the service overflows
-  pub created-overflows : (t : State T U) → CreatePublisher environment (state_of (kept_of f)) (static_publisher loans strategy handler len) t None → Reaches f g t
-      → (publisher : Publisher) → publisher.id ≡ f.next_port → (f.config).enable_safe_overflow ≡ true → NeverWaits (kept_of g) (publisher_key publisher)
-  created-overflows t made reached publisher id over =
+  pub created-overflows : {F : Type 0} {boxes : List (PortBox F)} (t : State T U) → CreatePublisher environment (state_of (kept_of f)) (static_publisher loans strategy handler len) t None → Reaches f g t
+      → (publisher : Publisher) → publisher.id ≡ f.next_port → (f.config).enable_safe_overflow ≡ true → NeverWaits (keeping boxes g) (publisher_key publisher)
+  created-overflows {F} {boxes} t made reached publisher id over =
       let stands = created-stands t made reached publisher id in
       let keeps = create-keeps environment (state_of (kept_of f)) (static_publisher loans strategy handler len) t None made in
       let still : (g.config).enable_safe_overflow ≡ true = ap (λ (c : ServiceConfig). c.enable_safe_overflow) (ap (λ (u : State T U). u.config) reached.state ∙ keeps.config) ∙ over in
       record {
-        passes = passes-from (kept_of g) _ (stands.0, inl still);
-        unblocked = unblocked-free (kept_of g) _ (stands.0, λ x here. (stands.1 x here).2);
-        never_fails = unfailed-from (kept_of g) _ (stands.0, inl still, unwaiting t made reached publisher id);
+        passes = passes-from (keeping boxes g) _ (stands.0, inl still);
+        unblocked = unblocked-free (keeping boxes g) _ (stands.0, λ x here. (stands.1 x here).2);
+        never_fails = unfailed-from (keeping boxes g) _ (stands.0, inl still, unwaiting t made reached publisher id);
       }

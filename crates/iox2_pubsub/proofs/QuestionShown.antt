@@ -1,12 +1,13 @@
 -- Asking for samples, seen from outside.
-use Rattle.std.proofs.Common.{◌≡◌, ℕ, Bool, get_or, ap, sym, subst, ◌∙◌, Option, Some, None, Result, Ok, Err}
+use Rattle.std.proofs.Common.{List, ◌≡◌, ℕ, Bool, get_or, ap, sym, subst, ◌∙◌, Option, Some, None, Result, Ok, Err}
 use Rattle.iox2_store.specs.machine.Environments.{fixed_handlers}
 use Rattle.iox2_store.specs.machine.Receives.{HasSamples}
 use Rattle.iox2_store.specs.machine.State.{State, Messages}
 use Rattle.iox2_store.specs.declared.errors.ConnectionFailure.{ConnectionFailure}
 use Rattle.iox2_laws.proofs.LoanKeeping.{has_samples_loans}
 use Rattle.iox2_laws.proofs.ReceiveLaws.{has_samples_advances}
-use Rattle.iox2_domain.specs.Fields.{Fields, kept_of}
+use Rattle.iox2_domain.specs.declared.boxes.PortBox.{PortBox}
+use Rattle.iox2_domain.specs.Fields.{Fields, kept_of, keeping}
 use Rattle.iox2_domain.specs.Kept.{Kept}
 use Rattle.iox2_domain.specs.Ports.{SubscriberFields}
 use Rattle.iox2_domain.specs.Questions.{AnswersAs, IsAnswer}
@@ -21,10 +22,10 @@ module _ {T U : Type 0} where
   answered s q (Err failure) s' asked = (Some failure, asked.0, asked.1)
 
   -- the domain shows what the question comes to, with the same messages
-  pub answer-shows : (kept : Kept T U) (f g : Fields T U) → kept_of f ≡ kept → (q : ℕ) (result : Result Bool ConnectionFailure) → AnswersAs fixed_handlers f q result g
+  pub answer-shows : {F : Type 0} {boxes : List (PortBox F)} (kept : Kept T U F) (f g : Fields T U) → keeping boxes f ≡ kept → (q : ℕ) (result : Result Bool ConnectionFailure) → AnswersAs fixed_handlers f q result g
       → (m : Messages T U) (s : State T U) → Shows kept m s → (s' : State T U) × Shows (kept_of g) m s' × IsAnswer fixed_handlers s q result s'
-  answer-shows kept f g same q result answers m s shown =
-      let here : Shows (kept_of f) m s = subst (λ (k : Kept T U). Shows k m s) (sym same) shown in
+  answer-shows {F} kept f g same q result answers m s shown =
+      let here : Shows (kept_of f) m s = subst (λ (k : Kept T U F). Shows k m s) (sym same) shown in
       let asked : IsAnswer fixed_handlers s q result answers.0 = subst (λ (t : State T U). IsAnswer fixed_handlers t q result answers.0) (sym here.state) answers.2 in
       let has = answered s q result answers.0 asked in (
         answers.0,

@@ -1,5 +1,5 @@
 -- A receive, seen from outside.
-use Rattle.std.proofs.Common.{◌≡◌, ℕ, true, get_or, ap, sym, subst, ◌∙◌, Option, Some, None, Result, Ok, Err}
+use Rattle.std.proofs.Common.{List, ◌≡◌, ℕ, true, get_or, ap, sym, subst, ◌∙◌, Option, Some, None, Result, Ok, Err}
 use Rattle.std.specs.Prelude.{IsErrAnd}
 use Rattle.iox2_store.specs.machine.Mailbox.{is_borrowed}
 use Rattle.iox2_store.specs.machine.Receives.{ReceiveResult, Got_sample, Receive_error, Receive}
@@ -16,7 +16,8 @@ use Rattle.iox2_pubsub.proofs.LiveParts.{subscriber-parts, sample-live, origin-l
 use Rattle.iox2_pubsub.specs.declared.sample.Sample.{Sample}
 use Rattle.iox2_domain.specs.Shows.{Shows}
 use Rattle.iox2_domain.specs.Kept.{Kept, Named, state_of, is_named}
-use Rattle.iox2_domain.specs.Fields.{Fields, kept_of, subscriber_of}
+use Rattle.iox2_domain.specs.declared.boxes.PortBox.{PortBox}
+use Rattle.iox2_domain.specs.Fields.{Fields, kept_of, subscriber_of, keeping}
 use Rattle.iox2_domain.specs.Invariant.{is_subscriber}
 use Rattle.iox2_domain.proofs.lemmas.containers.LookUps.{look_up-map}
 use Rattle.iox2_ends.specs.LookUp.{look_up}
@@ -30,10 +31,10 @@ use Rattle.iox2_domain.proofs.lemmas.receives.Reception.{received-borrowed}
 
 module _ {T U : Type 0} where
   -- the domain shows what the receive comes to, with the same messages
-  pub reception-shows : (environment : Environment) (kept : Kept T U) (f g : Fields T U) → kept_of f ≡ kept → (q : ℕ) (result : Result (Option Receipt) ReceiveError) → ReceivesAs environment f q result g
+  pub reception-shows : {F : Type 0} {boxes : List (PortBox F)} (environment : Environment) (kept : Kept T U F) (f g : Fields T U) → keeping boxes f ≡ kept → (q : ℕ) (result : Result (Option Receipt) ReceiveError) → ReceivesAs environment f q result g
       → (m : Messages T U) (s : State T U) → Shows kept m s → (s' : State T U) × Shows (kept_of g) m s' × Receive environment s q s' (receive_result result)
-  reception-shows environment kept f g same q result receives m s shown =
-      let here : Shows (kept_of f) m s = subst (λ (k : Kept T U). Shows k m s) (sym same) shown in
+  reception-shows {F} environment kept f g same q result receives m s shown =
+      let here : Shows (kept_of f) m s = subst (λ (k : Kept T U F). Shows k m s) (sym same) shown in
       let received_result : Receive environment s q receives.0 (receive_result result) =
       subst (λ (t : State T U). Receive environment t q receives.0 (receive_result result)) (sym here.state) receives.2 in (
         receives.0,
@@ -43,7 +44,7 @@ module _ {T U : Type 0} where
       )
 
   -- the sample that was received
-  module _ (environment : Environment) (kept : Kept T U) (f g : Fields T U) (same : kept_of f ≡ kept) (subscriber : Subscriber) (sample : Sample) (receipt : Receipt)
+  module _ {F : Type 0} {boxes : List (PortBox F)} (environment : Environment) (kept : Kept T U F) (f g : Fields T U) (same : keeping boxes f ≡ kept) (subscriber : Subscriber) (sample : Sample) (receipt : Receipt)
       (receives : ReceivesAs environment f subscriber.id (Ok (Some receipt)) g) (origin : sample.origin ≡ receipt.publisher) (its : sample.sample ≡ receipt.sample) where
     is-borrowed : is_borrowed sample.sample.number ((state_of (kept_of g)).mailboxes sample.origin sample.sample.subscriber) ≡ true
     is-borrowed =
@@ -54,19 +55,19 @@ module _ {T U : Type 0} where
         ∙ received-borrowed environment (state_of (kept_of f)) subscriber.id receipt.publisher receipt.sample.number receives.0 receives.2
 
     -- it is live
-    pub reception-live : sample.service_id ≡ subscriber.service_id → IsLiveSubscriber kept subscriber → IsLiveSample (kept_of g) sample
+    pub reception-live : sample.service_id ≡ subscriber.service_id → IsLiveSubscriber kept subscriber → IsLiveSample (keeping boxes g) sample
     reception-live service live =
         let config : g.config ≡ f.config =
         ap (λ (s : State T U). s.config) receives.1.state
         ∙ (receive_advances environment (state_of (kept_of f)) subscriber.id receives.0 (Got_sample receipt.publisher receipt.sample.number) receives.2).config in
-        sample-live (kept_of g) _ (
-          service ∙ (subscriber-parts kept _ live).1 ∙ ap (λ (k : Kept T U). (k.config).service_id) (sym same) ∙ ap (λ (x : ServiceConfig). x.service_id) (sym config),
+        sample-live (keeping boxes g) _ (
+          service ∙ (subscriber-parts kept _ live).1 ∙ ap (λ (k : Kept T U F). (k.config).service_id) (sym same) ∙ ap (λ (x : ServiceConfig). x.service_id) (sym config),
           (sample.origin, is-borrowed),
         )
 
     -- and names whom it is from
-    pub reception-origin : IsFromOrigin (kept_of g) sample
-    reception-origin = origin-live (kept_of g) sample is-borrowed
+    pub reception-origin : IsFromOrigin (keeping boxes g) sample
+    reception-origin = origin-live (keeping boxes g) sample is-borrowed
 
   -- the subscriber that was found receives
   pub reception-at : (environment : Environment) (f g : Fields T U) (place q : ℕ) (result result' : Result (Option Receipt) ReceiveError)
@@ -83,7 +84,7 @@ error-answered : (r : Result (Option Sample) ReceiveError) (e : ReceiveError) �
 error-answered (Ok sample) e same = absurd same
 error-answered (Err e') e same = ap Receive_error same
 
-module _ {T U : Type 0} (environment : Environment) (kept : Kept T U) (f g : Fields T U) (view : kept_of f ≡ kept) (q : ℕ) (e : ReceiveError) (receives : ReceivesAs environment f q (Err e) g)
+module _ {T U F : Type 0} {boxes : List (PortBox F)} (environment : Environment) (kept : Kept T U F) (f g : Fields T U) (view : keeping boxes f ≡ kept) (q : ℕ) (e : ReceiveError) (receives : ReceivesAs environment f q (Err e) g)
     (r : Result (Option Sample) ReceiveError) (same : IsErrAnd r (λ e'. e' ≡ e)) where
   pub error-shows : (m : Messages T U) (s : State T U) → Shows kept m s → (s' : State T U) × Shows (kept_of g) m s' × Receive environment s q s' (received_result r)
   error-shows m s shown =
@@ -91,11 +92,11 @@ module _ {T U : Type 0} (environment : Environment) (kept : Kept T U) (f g : Fie
       (reception-shows environment kept f g view q (Err e) receives m s shown)
 
 -- a subscriber that is live stands somewhere
-pub subscriber-missing : {T U : Type 0} (f : Fields T U) (kept : Kept T U) → kept_of f ≡ kept → (subscriber : Subscriber)
+pub subscriber-missing : {T U F : Type 0} {boxes : List (PortBox F)} (f : Fields T U) (kept : Kept T U F) → keeping boxes f ≡ kept → (subscriber : Subscriber)
     → look_up (is_subscriber subscriber.id) f.subscribers ≡ None → IsLiveSubscriber kept subscriber → ⊥
-subscriber-missing {T} {U} f kept view subscriber none live =
-    let live-here : IsLiveSubscriber (kept_of f) subscriber = subst (λ (k : Kept T U). IsLiveSubscriber k subscriber) (sym view) live in
-    let has = (subscriber-parts (kept_of f) _ live-here).2 in
+subscriber-missing {T} {U} {F} {boxes} f kept view subscriber none live =
+    let live-here : IsLiveSubscriber (keeping boxes f) subscriber = subst (λ (k : Kept T U F). IsLiveSubscriber k subscriber) (sym view) live in
+    let has = (subscriber-parts (keeping boxes f) _ live-here).2 in
     let nothing : (state_of (kept_of f)).subscribers subscriber.id ≡ None =
     ap (option_map (λ (z : Named MachineSubscriber). z.port))
     (look_up-map (is_named subscriber.id) (subscriber_of f.books f.connections) f.subscribers ∙ ap (option_map (subscriber_of f.books f.connections)) none) in

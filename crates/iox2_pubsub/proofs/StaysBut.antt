@@ -13,12 +13,15 @@ use Rattle.iox2_laws.proofs.PortsStay.{Remain}
 use Rattle.iox2_laws.proofs.Waits.{Waits}
 use Rattle.iox2_store.specs.Stored.{In_mailbox}
 use Rattle.iox2_laws.proofs.NumberLemmas.{contains_right}
+use Rattle.iox2_domain.specs.Boxes.{box_of}
+use Rattle.iox2_domain.specs.Fields.{Fields, keeping}
 use Rattle.iox2_domain.specs.Handlers.{may_fail}
+use Rattle.iox2_domain.specs.declared.boxes.PortBox.{PortBox}
 use Rattle.iox2_domain.specs.Kept.{Kept, state_of, entries_of}
 use Rattle.iox2_domain.specs.Shows.{Shows}
 use Rattle.iox2_pubsub.proofs.UnfailedSends.{IsMild, HasNotFailed}
 use Rattle.iox2_pubsub.specs.Handlers.{may_wait}
-use Rattle.iox2_pubsub.specs.Live.{IsSingleValued, IsPublisherKey, IsSubscriberKey, IsLoanKey, IsSampleKey, IsBlockedKey, HasMark, IsFromOrigin, LoanHasHeader, LoanHasUserHeader, SampleHasHeader, SampleHasUserHeader, Item, No_item, A_publisher, A_subscriber, A_loan, A_sample, A_blocked_send, A_sent_loan, A_sent_copy, Both, IsOtherPublisher, IsOtherSubscriber, IsOtherLoan, IsOtherSample, IsUnblocked, PassesFull, NeverFails, NeverWaits, IsOtherBlocked, StaysBut, Stays, IsNewIn, unwritten_key, written_key}
+use Rattle.iox2_pubsub.specs.Live.{handler_box, IsSingleValued, IsPublisherKey, IsSubscriberKey, IsLoanKey, IsSampleKey, IsBlockedKey, HasMark, IsFromOrigin, LoanHasHeader, LoanHasUserHeader, SampleHasHeader, SampleHasUserHeader, Item, No_item, A_publisher, A_subscriber, A_loan, A_sample, A_blocked_send, A_sent_loan, A_sent_copy, Both, IsOtherPublisher, IsOtherSubscriber, IsOtherLoan, IsOtherSample, IsUnblocked, PassesFull, NeverFails, NeverWaits, IsOtherBlocked, StaysBut, Stays, IsNewIn, unwritten_key, written_key}
 use Rattle.iox2_pubsub.specs.Slices.{IsSliced, HasUnwrittenCells, HasValues, SampleHasValues}
 use Rattle.iox2_pubsub.specs.declared.sample.Sample.{Sample}
 
@@ -45,6 +48,27 @@ module _ {T U : Type 0} where
   -- what is borrowed stays so, but for the item
   abbrev pub SamplesStayBut : Item → (s s' : State T U) → Type 0
   SamplesStayBut spent s s' = (p q n : ℕ) → is_borrowed n (s.mailboxes p q) ≡ true → IsOtherSample spent q n → is_borrowed n (s'.mailboxes p q) ≡ true
+
+module _ {T U F : Type 0} where
+  -- each publisher keeps its box, but for the item
+  pub record BoxesStayBut (spent : Item) (old new : Kept T U F) : Type 0 where
+    pub at : (key : Key) → IsPublisherKey old key → IsOtherPublisher spent key.port → handler_box new key.port ≡ handler_box old key.port
+
+  -- where the call changes no box
+  pub same-boxes : {boxes : List (PortBox F)} {spent : Item} (f g : Fields T U) (kept : Kept T U F) → keeping boxes f ≡ kept → BoxesStayBut spent kept (keeping boxes g)
+  unfolding handler_box
+  same-boxes f g kept view = record { at = λ key live other. ap (λ (k : Kept T U F). box_of key.port k.boxes) view }
+
+  -- where it changes no box but that of the item
+  pub other-boxes : {boxes boxes' : List (PortBox F)} {spent : Item} (f g : Fields T U) (kept : Kept T U F) → keeping boxes f ≡ kept
+      → ((p : ℕ) → IsOtherPublisher spent p → box_of p boxes' ≡ box_of p boxes) → BoxesStayBut spent kept (keeping boxes' g)
+  unfolding handler_box
+  other-boxes f g kept view same = record { at = λ key live other. same key.port other ∙ ap (λ (k : Kept T U F). box_of key.port k.boxes) view }
+
+  -- a publisher has the box that is kept under its id
+  pub box-is : (boxes : List (PortBox F)) (f : Fields T U) (p : ℕ) (box : Option F) → box_of p boxes ≡ box → handler_box (keeping boxes f) p ≡ box
+  unfolding handler_box
+  box-is boxes f p box is = is
 
 -- the publisher's blocked send is the item
 abbrev pub IsSpared : Item → (publisher : ℕ) → Type 0
@@ -74,22 +98,23 @@ other-or-spared (Both first second) p = elim (other-or-spared first p) [
 module _ {T U : Type 0} where
   -- Of a publisher whose blocked send is the item: where no handler fails a send of it, none has failed that one then; and it isn't
   -- one that never waits.
-  pub record SparedPublishers (spent : Item) (old : Kept T U) (s s' : State T U) : Type 0 where
+  pub record SparedPublishers {F : Type 0} (spent : Item) (old : Kept T U F) (s s' : State T U) : Type 0 where
     pub unfailed : (p : ℕ) → IsSpared spent p → p < s.next_port → IsMild s p → HasNotFailed s p → HasNotFailed s' p
     pub waits : (key : Key) → IsSpared spent key.port → NeverWaits old key → ⊥
 
   -- where the item is no blocked send
-  pub none-spared : (spent : Item) (old : Kept T U) (s s' : State T U) → ((p : ℕ) → IsOtherBlocked spent p) → SparedPublishers spent old s s'
+  pub none-spared : {F : Type 0} (spent : Item) (old : Kept T U F) (s s' : State T U) → ((p : ℕ) → IsOtherBlocked spent p) → SparedPublishers spent old s s'
   none-spared spent old s s' other = record {
     unfailed = λ p spared low mild none. absurd (spared (other p));
     waits = λ key spared never. absurd (spared (other key.port));
   }
 
-module _ {T U : Type 0} (spent : Item) (old new : Kept T U) (remain : PortsRemainBut spent (state_of old) (state_of new)) (loans : LoansStayBut spent (state_of old) (state_of new))
+module _ {T U F : Type 0} (spent : Item) (old new : Kept T U F) (remain : PortsRemainBut spent (state_of old) (state_of new)) (loans : LoansStayBut spent (state_of old) (state_of new))
     (samples : SamplesStayBut spent (state_of old) (state_of new)) (waits : Waits (IsSpared spent) (state_of old) (state_of new))
     (goes-on : SparedPublishers spent old (state_of old) (state_of new))
     (known : (p : ℕ) (x : Publisher) → (state_of old).publishers p ≡ Some x → p < (state_of old).next_port)
-    (entries : (n p q : ℕ) (entry : Entry T U) → entries_of old n ≡ Some entry → is_borrowed n ((state_of new).mailboxes p q) ≡ true → entries_of new n ≡ Some entry) where
+    (entries : (n p q : ℕ) (entry : Entry T U) → entries_of old n ≡ Some entry → is_borrowed n ((state_of new).mailboxes p q) ≡ true → entries_of new n ≡ Some entry)
+    (boxes : BoxesStayBut spent old new) where
   service : (id : ℕ) → id ≡ (old.config).service_id → id ≡ (new.config).service_id
   service id ours = ours ∙ sym (ap (λ (c : ServiceConfig). c.service_id) remain.config)
 
@@ -224,6 +249,7 @@ module _ {T U : Type 0} (spent : Item) (old new : Kept T U) (remain : PortsRemai
     single_valued = single;
     sliced = slices;
     publishers = publisher;
+    boxes = boxes.at;
     subscribers = subscriber;
     loans = loan;
     unwritten_loans = λ it live other. record { live = loan (unwritten_key it) live.live other; unwritten = mark it.loan.number _ live.unwritten other };
@@ -251,12 +277,12 @@ module _ {T U : Type 0} (spent : Item) (old new : Kept T U) (remain : PortsRemai
   }
 
 -- seen from a state that is shown
-pub stays-between : {T U : Type 0} (spent : Item) (old new : Kept T U) (m m' : Messages T U) (s s' : State T U) → Shows old m s → Shows new m' s'
+pub stays-between : {T U F : Type 0} (spent : Item) (old new : Kept T U F) (m m' : Messages T U) (s s' : State T U) → Shows old m s → Shows new m' s'
     → ((n : ℕ) (entry : Entry T U) → m n ≡ Some entry → m' n ≡ Some entry) → PortsRemainBut spent s s' → LoansStayBut spent s s' → SamplesStayBut spent s s' → Waits (IsSpared spent) s s' → SparedPublishers spent old s s'
-    → StaysBut spent old new
-stays-between {T} {U} spent old new m m' s s' shown shown' sent remain loans samples waits goes-on =
+    → BoxesStayBut spent old new → StaysBut spent old new
+stays-between {T} {U} spent old new m m' s s' shown shown' sent remain loans samples waits goes-on boxes =
     stays-but spent old new (between (PortsRemainBut spent) remain) (between (LoansStayBut spent) loans) (between (SamplesStayBut spent) samples)
-    (between (Waits (IsSpared spent)) waits) (between (SparedPublishers spent old) goes-on) (λ p x at. ((subst IsWellFormed shown.state shown.well_formed).publishers p x at).is_known) entries
+    (between (Waits (IsSpared spent)) waits) (between (SparedPublishers spent old) goes-on) (λ p x at. ((subst IsWellFormed shown.state shown.well_formed).publishers p x at).is_known) entries boxes
   where
     entries : (n p q : ℕ) (entry : Entry T U) → entries_of old n ≡ Some entry → is_borrowed n ((state_of new).mailboxes p q) ≡ true → entries_of new n ≡ Some entry
     entries n p q entry at borrowed =
@@ -269,7 +295,7 @@ stays-between {T} {U} spent old new m m' s s' shown shown' sent remain loans sam
 
 -- ---- one step after another
 
-module _ {T U : Type 0} (start old : Kept T U) (before : Stays start old) (item : Item) where
+module _ {T U F : Type 0} (start old : Kept T U F) (before : Stays start old) (item : Item) where
   -- what is new later was new before
   pub new-since : IsNewIn old item → IsNewIn start item
   new-since new = record {
@@ -287,12 +313,13 @@ module _ {T U : Type 0} (start old : Kept T U) (before : Stays start old) (item 
   }
 
   -- where an item that was new is spent, all that was there before stays
-  pub stays-on : (new : Kept T U) → IsNewIn start item → StaysBut item old new → Stays start new
+  pub stays-on : (new : Kept T U F) → IsNewIn start item → StaysBut item old new → Stays start new
   stays-on new apart next = record {
     settings = next.settings ∙ before.settings;
     single_valued = λ was. next.single_valued (before.single_valued was);
     sliced = λ was. next.sliced (before.sliced was);
     publishers = λ key live other. next.publishers key (before.publishers key live other) (apart.publishers key live);
+    boxes = λ key live other. next.boxes key (before.publishers key live other) (apart.publishers key live) ∙ before.boxes key live other;
     subscribers = λ key live other. next.subscribers key (before.subscribers key live other) (apart.subscribers key live);
     loans = λ key live other. next.loans key (before.loans key live other) (apart.loans key live);
     unwritten_loans = λ it live other. next.unwritten_loans it (before.unwritten_loans it live other) (apart.unwritten_loans it live);
@@ -318,12 +345,13 @@ module _ {T U : Type 0} (start old : Kept T U) (before : Stays start old) (item 
   }
 
   -- and so it does but for what is spent beside it
-  pub stays-on-but : (spent : Item) (new : Kept T U) → IsNewIn start item → StaysBut (Both item spent) old new → StaysBut spent start new
+  pub stays-on-but : (spent : Item) (new : Kept T U F) → IsNewIn start item → StaysBut (Both item spent) old new → StaysBut spent start new
   stays-on-but spent new apart next = record {
     settings = next.settings ∙ before.settings;
     single_valued = λ was. next.single_valued (before.single_valued was);
     sliced = λ was. next.sliced (before.sliced was);
     publishers = λ key live other. next.publishers key (before.publishers key live tt) (apart.publishers key live, other);
+    boxes = λ key live other. next.boxes key (before.publishers key live tt) (apart.publishers key live, other) ∙ before.boxes key live tt;
     subscribers = λ key live other. next.subscribers key (before.subscribers key live tt) (apart.subscribers key live, other);
     loans = λ key live other. next.loans key (before.loans key live tt) (apart.loans key live, other);
     unwritten_loans = λ it live other. next.unwritten_loans it (before.unwritten_loans it live tt) (apart.unwritten_loans it live, other);
@@ -349,7 +377,7 @@ module _ {T U : Type 0} (start old : Kept T U) (before : Stays start old) (item 
   }
 
 -- nothing is always new
-pub nothing-is-new : {T U : Type 0} (start : Kept T U) → IsNewIn start No_item
+pub nothing-is-new : {T U F : Type 0} (start : Kept T U F) → IsNewIn start No_item
 nothing-is-new start = record {
   publishers = λ key live. tt;
   subscribers = λ key live. tt;
@@ -365,12 +393,13 @@ nothing-is-new start = record {
 }
 
 -- nothing changed
-pub unchanged-stays : {T U : Type 0} (spent : Item) (kept : Kept T U) → StaysBut spent kept kept
+pub unchanged-stays : {T U F : Type 0} (spent : Item) (kept : Kept T U F) → StaysBut spent kept kept
 unchanged-stays spent kept = record {
   settings = refl;
   single_valued = λ was. was;
   sliced = λ was. was;
   publishers = λ key live other. live;
+  boxes = λ key live other. refl;
   subscribers = λ key live other. live;
   loans = λ key live other. live;
   unwritten_loans = λ it live other. live;
@@ -390,12 +419,12 @@ unchanged-stays spent kept = record {
   sample_user_headers = λ key header live has other. has;
 }
 
-pub stays-itself : {T U : Type 0} (kept : Kept T U) → Stays kept kept
+pub stays-itself : {T U F : Type 0} (kept : Kept T U F) → Stays kept kept
 stays-itself kept = unchanged-stays No_item kept
 
 -- ---- more than one item
 
-module _ {T U : Type 0} (start : Kept T U) where
+module _ {T U F : Type 0} (start : Kept T U F) where
   -- two new items are new
   pub both-new : (first second : Item) → IsNewIn start first → IsNewIn start second → IsNewIn start (Both first second)
   both-new first second a b = record {
@@ -500,7 +529,7 @@ sent-loan-part n p is_blocked = record {
     apart false r other = tt
 
 -- a part of what is new is new
-pub part-new : {T U : Type 0} (start : Kept T U) (part whole : Item) → IsPartOf part whole → IsNewIn start whole → IsNewIn start part
+pub part-new : {T U F : Type 0} (start : Kept T U F) (part whole : Item) → IsPartOf part whole → IsNewIn start whole → IsNewIn start part
 part-new start part whole is new = record {
   publishers = λ key live. is.publishers key.port (new.publishers key live);
   subscribers = λ key live. is.subscribers key.port (new.subscribers key live);
@@ -516,12 +545,13 @@ part-new start part whole is new = record {
 }
 
 -- what stays but for an item stays but for what that is a part of
-pub stays-but-whole : {T U : Type 0} (part whole : Item) → IsPartOf part whole → (old new : Kept T U) → StaysBut part old new → StaysBut whole old new
+pub stays-but-whole : {T U F : Type 0} (part whole : Item) → IsPartOf part whole → (old new : Kept T U F) → StaysBut part old new → StaysBut whole old new
 stays-but-whole part whole is old new stays = record {
   settings = stays.settings;
   single_valued = stays.single_valued;
   sliced = stays.sliced;
   publishers = λ key live other. stays.publishers key live (is.publishers key.port other);
+  boxes = λ key live other. stays.boxes key live (is.publishers key.port other);
   subscribers = λ key live other. stays.subscribers key live (is.subscribers key.port other);
   loans = λ key live other. stays.loans key live (is.loans key.message other);
   unwritten_loans = λ it live other. stays.unwritten_loans it live (is.loans it.loan.number other);
@@ -542,16 +572,17 @@ stays-but-whole part whole is old new stays = record {
 }
 
 -- what stays but for an item stays but for that and another
-pub stays-but-more : {T U : Type 0} (first second : Item) (old new : Kept T U) → StaysBut first old new → StaysBut (Both first second) old new
+pub stays-but-more : {T U F : Type 0} (first second : Item) (old new : Kept T U F) → StaysBut first old new → StaysBut (Both first second) old new
 stays-but-more first second = stays-but-whole first (Both first second) (first-part first second)
 
 -- what stays twice but for an item stays but for it
-pub stays-twice : {T U : Type 0} (spent : Item) (start old new : Kept T U) → StaysBut spent start old → StaysBut spent old new → StaysBut spent start new
+pub stays-twice : {T U F : Type 0} (spent : Item) (start old new : Kept T U F) → StaysBut spent start old → StaysBut spent old new → StaysBut spent start new
 stays-twice spent start old new before next = record {
   settings = next.settings ∙ before.settings;
   single_valued = λ was. next.single_valued (before.single_valued was);
   sliced = λ was. next.sliced (before.sliced was);
   publishers = λ key live other. next.publishers key (before.publishers key live other) other;
+  boxes = λ key live other. next.boxes key (before.publishers key live other) other ∙ before.boxes key live other;
   subscribers = λ key live other. next.subscribers key (before.subscribers key live other) other;
   loans = λ key live other. next.loans key (before.loans key live other) other;
   unwritten_loans = λ it live other. next.unwritten_loans it (before.unwritten_loans it live other) other;
@@ -574,18 +605,19 @@ stays-twice spent start old new before next = record {
 -- ---- a send that blocked has ended
 
 -- a publisher with a blocked send isn't unblocked
-waits-not : {T U : Type 0} (kept : Kept T U) (key : Key) → IsBlockedKey kept key → IsUnblocked kept key → ⊥
+waits-not : {T U F : Type 0} (kept : Kept T U F) (key : Key) → IsBlockedKey kept key → IsUnblocked kept key → ⊥
 unfolding IsBlockedKey IsUnblocked
 waits-not kept key live free = let no : None ≡ Some (live.1).1 = sym (free.1 (live.1).0 (live.1).2) ∙ (live.1).3 in absurd cc
 
 -- What stood before a send of the publisher blocked, none of whose sends was blocked, stands when the blocked send has ended.
-pub stays-since-block : {T U : Type 0} (p : ℕ) (start old new : Kept T U) → ((key : Key) → key.port ≡ p → IsUnblocked start key) → StaysBut (A_blocked_send p) start old
+pub stays-since-block : {T U F : Type 0} (p : ℕ) (start old new : Kept T U F) → ((key : Key) → key.port ≡ p → IsUnblocked start key) → StaysBut (A_blocked_send p) start old
     → StaysBut (A_blocked_send p) old new → ((key : Key) → key.port ≡ p → IsUnblocked new key) → Stays start new
 stays-since-block {T} {U} p start old new was before next frees = record {
   settings = next.settings ∙ before.settings;
   single_valued = λ single. next.single_valued (before.single_valued single);
   sliced = λ sliced. next.sliced (before.sliced sliced);
   publishers = λ key live other. next.publishers key (before.publishers key live tt) tt;
+  boxes = λ key live other. next.boxes key (before.publishers key live tt) tt ∙ before.boxes key live tt;
   subscribers = λ key live other. next.subscribers key (before.subscribers key live tt) tt;
   loans = λ key live other. next.loans key (before.loans key live tt) tt;
   unwritten_loans = λ it live other. next.unwritten_loans it (before.unwritten_loans it live tt) tt;

@@ -1,12 +1,13 @@
 -- The creation of a subscriber, seen from outside.
-use Rattle.std.proofs.Common.{◌≡◌, ℕ, refl, ap, sym, subst, ◌∙◌}
+use Rattle.std.proofs.Common.{List, ◌≡◌, ℕ, refl, ap, sym, subst, ◌∙◌}
 use Rattle.std.specs.declared.option.Option.TheVariants.{None, Some}
 use Rattle.iox2_store.specs.machine.Ports.{buffer_for, CreateSubscriber}
 use Rattle.iox2_store.specs.machine.Records.{SubscriberSettings, Environment}
 use Rattle.iox2_store.specs.machine.State.{State, Messages}
 use Rattle.iox2_store.specs.declared.errors.SubscriberCreateError.{SubscriberCreateError}
 use Rattle.iox2_domain.specs.Kept.{Kept, state_of}
-use Rattle.iox2_domain.specs.Fields.{Fields, kept_of}
+use Rattle.iox2_domain.specs.declared.boxes.PortBox.{PortBox}
+use Rattle.iox2_domain.specs.Fields.{Fields, kept_of, keeping}
 use Rattle.iox2_pubsub.specs.Live.{IsLiveSubscriber}
 use Rattle.iox2_pubsub.specs.declared.subscriber.Subscriber.{Subscriber}
 use Rattle.iox2_pubsub.proofs.LiveParts.{subscriber-live}
@@ -15,9 +16,9 @@ use Rattle.iox2_domain.specs.Shows.{Shows}
 use Rattle.iox2_domain.proofs.lemmas.fields.ReachesShows.{reaches-shows-same}
 use Rattle.iox2_domain.proofs.lemmas.creations.SubscriberCreations.{create-keeps, create-open}
 
-module _ {T U : Type 0} (environment : Environment) (old new : Fields T U) (before : Kept T U) (is_before : kept_of old ≡ before) where
+module _ {T U F : Type 0} {boxes : List (PortBox F)} (environment : Environment) (old new : Fields T U) (before : Kept T U F) (is_before : keeping boxes old ≡ before) where
   was : (m : Messages T U) (s : State T U) → Shows before m s → Shows (kept_of old) m s
-  was m s shown = subst (λ (kept : Kept T U). Shows kept m s) (sym is_before) shown
+  was m s shown = subst (λ (kept : Kept T U F). Shows kept m s) (sym is_before) shown
 
   module _ (asked given : SubscriberSettings) (is_given : asked ≡ given) where
     -- for every state that was shown, the one that is shown now has the subscriber
@@ -51,12 +52,12 @@ module _ {T U : Type 0} (environment : Environment) (old new : Fields T U) (befo
 
 module _ {T U : Type 0} (environment : Environment) (old new : Fields T U) (asked : SubscriberSettings) where
   -- the domain has the new subscriber
-  pub made-live : (s' : State T U) × CreateSubscriber environment (state_of (kept_of old)) asked s' None × Reaches old new s'
-      → (subscriber : Subscriber) → subscriber.service_id ≡ (old.config).service_id → subscriber.id ≡ old.next_port → IsLiveSubscriber (kept_of new) subscriber
-  made-live made subscriber is_service is_id =
+  pub made-live : {F : Type 0} (boxes : List (PortBox F)) → (s' : State T U) × CreateSubscriber environment (state_of (kept_of old)) asked s' None × Reaches old new s'
+      → (subscriber : Subscriber) → subscriber.service_id ≡ (old.config).service_id → subscriber.id ≡ old.next_port → IsLiveSubscriber (keeping boxes new) subscriber
+  made-live boxes made subscriber is_service is_id =
       let keeps = create-keeps environment (state_of (kept_of old)) asked made.0 None made.1 in
       let has = create-open environment (state_of (kept_of old)) asked made.0 made.1 in
-      subscriber-live (kept_of new) _ (
+      subscriber-live (keeping boxes new) _ (
         refl,
         is_service ∙ sym (ap (λ (s : State T U). (s.config).service_id) made.2.state ∙ ap (λ c. c.service_id) keeps.config),
         (has.port, ap (λ (s : State T U). s.subscribers subscriber.id) made.2.state ∙ ap made.0.subscribers is_id ∙ has.stands, has.is_open),

@@ -9,6 +9,7 @@ use Rattle.iox2_store.specs.machine.SingleCalls.{HoldsPublisher, HoldsSubscriber
 use Rattle.iox2_store.specs.declared.header.Header.{Header}
 use Rattle.iox2_store.specs.declared.key.Key.{Key}
 use Rattle.iox2_store.specs.declared.service_config.TypeVariant.TheVariants.{FixedSize}
+use Rattle.iox2_domain.specs.Boxes.{box_of}
 use Rattle.iox2_domain.specs.Handlers.{may_fail}
 use Rattle.iox2_domain.specs.Kept.{Kept, state_of, entries_of}
 use Rattle.iox2_domain.specs.LoanCalls.{HasLoanHeader, HasLoanUserHeader}
@@ -54,7 +55,7 @@ lender_key loan = record { service_id = loan.service_id; port = loan.port; messa
 
 -- ---- what is live
 
-module _ {T U : Type 0} (domain : Kept T U) where
+module _ {T U F : Type 0} (domain : Kept T U F) where
   -- In the domain a message is a single value of one unit.
   unfoldable pub IsSingleValued : Type 0
   IsSingleValued = ((domain.config).variant ≡ FixedSize) × ((domain.config).units_per_element ≡ 1)
@@ -163,6 +164,10 @@ module _ {T U : Type 0} (domain : Kept T U) where
   unfoldable pub IsFromOrigin : Sample → Type 0
   IsFromOrigin sample = IsTrue (is_borrowed sample.sample.number ((state_of domain).mailboxes sample.origin sample.sample.subscriber))
 
+  -- The boxed handler of the publisher with this id, if it has one.
+  unfoldable pub handler_box : (publisher : ℕ) → Option F
+  handler_box publisher = box_of publisher domain.boxes
+
   -- ---- what is read: a single value is a slice of one
 
   -- The unwritten loan has this in its cell.
@@ -210,19 +215,19 @@ module _ {T U : Type 0} (domain : Kept T U) where
   IsUpToDate subscriber = (y : MachineSubscriber) × ((state_of domain).subscribers subscriber.id ≡ Some y) × (y.is_open ≡ true) × (y.is_due ≡ false)
 
 -- Each subscriber that was up to date is.
-abbrev pub UpToDateStay : {T U : Type 0} → (old new : Kept T U) → Type 0
+abbrev pub UpToDateStay : {T U F : Type 0} → (old new : Kept T U F) → Type 0
 UpToDateStay old new = (subscriber : Subscriber) → IsUpToDate old subscriber → IsUpToDate new subscriber
 
 -- Each other subscriber that was up to date is.
-abbrev pub OthersStayUpToDate : {T U : Type 0} → Subscriber → (old new : Kept T U) → Type 0
+abbrev pub OthersStayUpToDate : {T U F : Type 0} → Subscriber → (old new : Kept T U F) → Type 0
 OthersStayUpToDate subscriber old new = (other : Subscriber) → other.id ≢ subscriber.id → IsUpToDate old other → IsUpToDate new other
 
 -- For every other subscriber the same messages wait as before.
-abbrev pub OthersWait : {T U : Type 0} → Subscriber → (old new : Kept T U) → Type 0
+abbrev pub OthersWait : {T U F : Type 0} → Subscriber → (old new : Kept T U F) → Type 0
 OthersWait subscriber old new = (other : Subscriber) → other.id ≢ subscriber.id → payloads new other ≡ payloads old other
 
 -- For no subscriber more than so many messages are added to what waits.
-abbrev pub AddAtMost : {T U : Type 0} → (more : ℕ) → (old new : Kept T U) → Type 0
+abbrev pub AddAtMost : {T U F : Type 0} → (more : ℕ) → (old new : Kept T U F) → Type 0
 AddAtMost more old new = (subscriber : Subscriber) → waiting new subscriber ≤ waiting old subscriber + more
 
 -- Each of the payloads has these values.
@@ -319,14 +324,16 @@ AreApart first (A_sent_copy publisher true) = IsOtherBlocked first publisher
 AreApart first (A_sent_copy publisher false) = Unit {0}
 AreApart first (Both second third) = AreApart first second × AreApart first third
 
-module _ {T U : Type 0} where
+module _ {T U F : Type 0} where
   -- The settings stay, and each port, loan, sample and blocked send that was live is live and reads as it did, but for the
-  -- item that was spent. A publisher none of whose sends is blocked, or ever is, stays so, and one that no handler fails.
-  pub record StaysBut (spent : Item) (old new : Kept T U) : Type 0 where
+  -- item that was spent. A publisher none of whose sends is blocked, or ever is, stays so, and one that no handler fails; and each
+  -- keeps its box.
+  pub record StaysBut (spent : Item) (old new : Kept T U F) : Type 0 where
     pub settings : new.config ≡ old.config
     pub single_valued : IsSingleValued old → IsSingleValued new
     pub sliced : IsSliced old → IsSliced new
     pub publishers : (key : Key) → IsPublisherKey old key → IsOtherPublisher spent key.port → IsPublisherKey new key
+    pub boxes : (key : Key) → IsPublisherKey old key → IsOtherPublisher spent key.port → handler_box new key.port ≡ handler_box old key.port
     pub subscribers : (key : Key) → IsSubscriberKey old key → IsOtherSubscriber spent key.port → IsSubscriberKey new key
     pub loans : (key : Key) → IsLoanKey old key → IsOtherLoan spent key.message → IsLoanKey new key
     pub unwritten_loans : (loan : SampleMutUninit) → IsUnwritten old loan → IsOtherLoan spent loan.loan.number → IsUnwritten new loan
@@ -349,12 +356,12 @@ module _ {T U : Type 0} where
         → IsOtherSample spent key.port key.message → SampleHasUserHeader new key header
 
   -- The settings stay, and each port, loan, sample and blocked send that was live is live and reads as it did.
-  abbrev pub Stays : (old new : Kept T U) → Type 0
+  abbrev pub Stays : (old new : Kept T U F) → Type 0
   Stays old new = StaysBut No_item old new
 
   -- The item is none of the ports, loans, samples and blocked sends that were live, nor a publisher that waited for nobody, nor a send
   -- of one.
-  pub record IsNewIn (old : Kept T U) (made : Item) : Type 0 where
+  pub record IsNewIn (old : Kept T U F) (made : Item) : Type 0 where
     pub publishers : (key : Key) → IsPublisherKey old key → IsOtherPublisher made key.port
     pub subscribers : (key : Key) → IsSubscriberKey old key → IsOtherSubscriber made key.port
     pub loans : (key : Key) → IsLoanKey old key → IsOtherLoan made key.message

@@ -65,7 +65,7 @@ messages_after m n l (Ok outcome) = put_at m n (Some (entry_of l))
 messages_after m n l (Err UnableToDeliver) = put_at m n (Some (entry_of l))
 messages_after m n l (Err error) = m
 
-module _ {T U : Type 0} (domain : Kept T U) where
+module _ {T U F : Type 0} (domain : Kept T U F) where
   -- Why a send of the loan with this key fails: its publisher is gone, or a handler of it fails the send at some subscriber.
   unfoldable pub FailsSend : Key → SendError → Type 0
   FailsSend key error =

@@ -11,7 +11,7 @@ ghost use Rattle.iox2_pubsub.specs.Live.{IsSingleValued};
 ghost use Rattle.iox2_pubsub.specs.LoansLeft.{HasNumbersLeft};
 ghost use Rattle.iox2_pubsub.specs.Slices.{IsSliced};
 
-use iox2_domain::DomainState;
+use iox2_domain::{Boxes, DomainState};
 use iox2_store::{BackpressureFn, DegradationFn, DomainCreateError, ServiceConfig, TypeVariant};
 use std::alloc::Global;
 use std::marker::{Model, PhantomData};
@@ -23,18 +23,18 @@ use std::marker::{Model, PhantomData};
 #[derive(Drop)]
 pub struct Domain<T, U, F = Box<dyn BackpressureFn>, G = Box<dyn DegradationFn>> {
     pub(crate) state: DomainState<T, U>,
-    backpressure: PhantomData<F>,
+    pub(crate) boxes: Boxes<F>,
     degradation: PhantomData<G>,
 }
 
 impl<T, U, F, G> Model for Domain<T, U, F, G> {
     ghost use Rattle.iox2_domain.specs.Kept.{Kept};
-    ghost use Rattle.iox2_domain.specs.Fields.{kept_of};
+    ghost use Rattle.iox2_domain.specs.Fields.{keeping};
     ghost use Rattle.iox2_domain.specs.Invariant.{IsDomain};
 
-    ghost Value = { Kept T U };
+    ghost Value = { Kept T U F };
 
-    ghost view = { λ domain. kept_of domain.state };
+    ghost view = { λ domain. keeping (domain.boxes).boxes domain.state };
 
     ghost invariant = { λ domain. IsDomain domain.state };
 }
@@ -72,7 +72,7 @@ impl<T: Drop, U: Default + Drop, F: BackpressureFn, G: DegradationFn> Domain<T, 
         };
         Ok(Domain {
             state,
-            backpressure: PhantomData,
+            boxes: Boxes::new(alloc),
             degradation: PhantomData,
         })
     }

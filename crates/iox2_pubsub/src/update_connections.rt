@@ -4,11 +4,11 @@ ghost use Rattle.std.specs.Prelude.{◌≡◌, ℕ};
 use crate::domain::Domain;
 use iox2_store::{BackpressureFn, ConnectionFailure, DegradationFn};
 
-/// A port of which the connections can be updated by a call. Each send, receive and question does
-/// it too.
+/// A port of which the connections can be updated by a call, in a domain whose messages and boxed
+/// handlers have these types. Each send, receive and question does it too.
 ///
 /// iceoryx2's `UpdateConnections` (`src/port/update_connections.rs`).
-pub trait UpdateConnections<T: Drop, U: Default + Drop> {
+pub trait UpdateConnections<T: Drop, U: Default + Drop, F: BackpressureFn, G: DegradationFn> {
     ghost use Rattle.std.specs.declared.option.Option.{Option};
     ghost use Rattle.iox2_store.specs.machine.State.{State, Messages};
     ghost use Rattle.iox2_store.specs.declared.errors.ConnectionFailure.{ConnectionFailure};
@@ -19,13 +19,13 @@ pub trait UpdateConnections<T: Drop, U: Default + Drop> {
     ghost use Rattle.iox2_pubsub.specs.UpdateCalls.{failure_of};
 
     // The port is one of the domain's, wasn't closed, and no send of it is blocked.
-    ghost is_live: { Kept T U → Self → Type 0 };
+    ghost is_live: { Kept T U F → Self → Type 0 };
 
     // The machine's update of the port, with this failure if any.
     ghost updates: { State T U → Self → State T U → Option ConnectionFailure → Type 0 };
 
     // How many messages more may wait for a subscriber afterwards.
-    ghost adds: { Kept T U → ℕ };
+    ghost adds: { Kept T U F → ℕ };
 
     /// Makes the port's connections with the ports of the other side that came since its last
     /// update. Where none came it does nothing.
@@ -33,10 +33,7 @@ pub trait UpdateConnections<T: Drop, U: Default + Drop> {
     /// Fails where there is no room to keep the connection of a publisher that departed: then it
     /// stays, the rest of the update is done, and the port is due again. Where memory for a
     /// connection is refused, that is a warning of the domain.
-    fn update_connections<F: BackpressureFn, G: DegradationFn>(
-        &self,
-        domain: &mut Domain<T, U, F, G>,
-    ) -> Result<(), ConnectionFailure>
+    fn update_connections(&self, domain: &mut Domain<T, U, F, G>) -> Result<(), ConnectionFailure>
         requires { is_live domain.old self.now }
         ensures live { is_live domain.new self.now }
         ensures updates { (m : Messages T U) (s : State T U) → Shows domain.old m s
@@ -47,5 +44,5 @@ pub trait UpdateConnections<T: Drop, U: Default + Drop> {
         ensures stays { Stays domain.old domain.new };
 
     // A port that is live stays so where everything does.
-    ghost live_stays: { (old new : Kept T U) (port : Self) → Stays old new → is_live old port → is_live new port };
+    ghost live_stays: { (old new : Kept T U F) (port : Self) → Stays old new → is_live old port → is_live new port };
 }

@@ -99,7 +99,7 @@ module _ {T U : Type 0} (environment : Environment) (defaults : Defaults T U) (S
 
 -- ---- what the function of the command ensures
 
-module _ {T U : Type 0} (environment : Environment) (defaults : Defaults T U) (old new : Domain T U) (table table' : List Made) (of : ℕ) where
+module _ {T U F : Type 0} (environment : Environment) (defaults : Defaults T U) (old new : Domain T U F) (table table' : List Made) (of : ℕ) where
   -- there is no such port
   pub close_passed : is_publisher_entry (entry_for (slice_index_or table of Nothing)) ≡ false → is_subscriber_entry (entry_for (slice_index_or table of Nothing)) ≡ false
       → old ≡ new → table' ≡ table → Carries environment defaults old new table (Close of) Skipped table' Nothing
@@ -108,7 +108,7 @@ module _ {T U : Type 0} (environment : Environment) (defaults : Defaults T U) (o
       (skip_comes environment defaults (Shows new) m s handles events (map entry_for table) w default_value default_header is_value is_header (Close of)
       (at_none _ _ _ (lacks_publisher s handles events (map entry_for table) w of (lacks is_publisher_entry refl table of no_publisher))
       (at_none _ _ _ (lacks_subscriber s handles events (map entry_for table) w of (lacks is_subscriber_entry refl table of no_subscriber)) refl))
-      (subst (λ (d : Domain T U). Shows d m s) same shown))
+      (subst (λ (d : Domain T U F). Shows d m s) same shown))
 
   -- the table afterwards
   after : table' ≡ slice_set table of Nothing → map entry_for table' ≡ slice_set (map entry_for table) of No_entry
@@ -137,7 +137,7 @@ module _ {T U : Type 0} (environment : Environment) (defaults : Defaults T U) (o
       (skip_comes environment defaults (Shows new) m s handles events (map entry_for table) w default_value default_header is_value is_header (Close of)
       (at_none _ _ _ (waiting_publisher s handles events (map entry_for table) w of h.service_id h.id stand (waits m s shown))
       (at_none _ _ _ (lacks_subscriber s handles events (map entry_for table) w of (lacks is_subscriber_entry refl table of (ap (λ (v : Made). is_subscriber_entry (entry_for v)) at))) refl))
-      (subst (λ (d : Domain T U). Shows d m s) same shown))
+      (subst (λ (d : Domain T U F). Shows d m s) same shown))
 
   -- a subscriber is closed
   pub subscriber_close_carried : (h : SubscriberHandle) → slice_index_or table of Nothing ≡ MadeSubscriber h

@@ -45,7 +45,7 @@ use Rattle.iox2_runs.proofs.TableLooks.{is_publisher_entry}
 
 -- ---- what comes of a copy
 
-module _ {T U : Type 0} (defaults : Defaults T U) (new : Domain T U) (table : List Made) (of : ℕ) (h : PublisherHandle) (value : T) (m : Messages T U) (s : State T U) (handles : List Handle) (events : List (Event T U)) (w : IsTable s handles events (map entry_for table)) (default_value : T) (default_header : U)
+module _ {T U F : Type 0} (defaults : Defaults T U) (new : Domain T U F) (table : List Made) (of : ℕ) (h : PublisherHandle) (value : T) (m : Messages T U) (s : State T U) (handles : List Handle) (events : List (Event T U)) (w : IsTable s handles events (map entry_for table)) (default_value : T) (default_header : U)
     (is_value : defaults.IsDefaultValue default_value) (is_header : defaults.IsDefaultHeader default_header)
     (stand : slice_get (map entry_for table) of ≡ Some (Publisher_entry h.service_id h.id)) (unblocked : IsUnblocked s h.id) (alone : is_single_valued s.config ≡ true)
     (header : U) (is_default : defaults.IsDefaultHeader header) (mid : State T U) (grants : GrantWrittenLoan fixed_handlers value header false 1 s h.id mid None)
@@ -84,24 +84,24 @@ module _ {T U : Type 0} (defaults : Defaults T U) (new : Domain T U) (table : Li
       header is_default mid grants l out s' (Send_error UnableToDeliver) sends (SendRefused UnableToDeliver) No_handle (Message_sent l.publisher s.next_message (entry_of l)) No_entry refl refl
       (λ k e. let clash : No_handle ≡ Loan_handle k = e in absurd cc) (λ p q k e. let clash : No_handle ≡ Sample_handle p q k = e in absurd cc) (λ p k e. let clash : No_handle ≡ Blocked_handle p k = e in absurd cc) shown tt
 
-module _ {T U : Type 0} (defaults : Defaults T U) (old new : Domain T U) (table : List Made) (of : ℕ) where
+module _ {T U F : Type 0} (defaults : Defaults T U) (old new : Domain T U F) (table : List Made) (of : ℕ) where
   -- ---- a default value
 
   pub default_passed : is_publisher_entry (entry_for (slice_index_or table of Nothing)) ≡ false → old ≡ new → Carries fixed_handlers defaults old new table (LoanDefault of) Skipped table Nothing
   default_passed other same = λ m s handles events shown w default_value default_header is_value is_header.
       default_skipped fixed_handlers defaults (Shows new) m s handles events (map entry_for table) w default_value default_header is_value is_header of
-      (lacks is_publisher_entry refl table of other) (subst (λ (d : Domain T U). Shows d m s) same shown)
+      (lacks is_publisher_entry refl table of other) (subst (λ (d : Domain T U F). Shows d m s) same shown)
 
   -- the publisher waits for a receiver
   pub default_held_up : (h : PublisherHandle) → slice_index_or table of Nothing ≡ MadePublisher h → ((m : Messages T U) (s : State T U) → Shows old m s → IsUnblocked s h.id → ⊥) → old ≡ new → Carries fixed_handlers defaults old new table (LoanDefault of) Skipped table Nothing
   default_held_up h at waits same = λ m s handles events shown w default_value default_header is_value is_header.
       default_waiting fixed_handlers defaults (Shows new) m s handles events (map entry_for table) w default_value default_header is_value is_header of h.service_id h.id
-      (entry-stands table of (MadePublisher h) at (λ e. let clash : MadePublisher h ≡ Nothing = e in cc)) (waits m s shown) (subst (λ (d : Domain T U). Shows d m s) same shown)
+      (entry-stands table of (MadePublisher h) at (λ e. let clash : MadePublisher h ≡ Nothing = e in cc)) (waits m s shown) (subst (λ (d : Domain T U F). Shows d m s) same shown)
 
   pub default_of_other : is_single_valued old.config ≡ false → old ≡ new → Carries fixed_handlers defaults old new table (LoanDefault of) Skipped table Nothing
   default_of_other other same = λ m s handles events shown w default_value default_header is_value is_header.
       default_elsewhere fixed_handlers defaults (Shows new) m s handles events (map entry_for table) w default_value default_header is_value is_header of
-      (ap (λ (t : State T U). is_single_valued t.config) shown.state ∙ other) (subst (λ (d : Domain T U). Shows d m s) same shown)
+      (ap (λ (t : State T U). is_single_valued t.config) shown.state ∙ other) (subst (λ (d : Domain T U F). Shows d m s) same shown)
 
   pub default_carried : (h : PublisherHandle) (h' : SampleMut) → slice_index_or table of Nothing ≡ MadePublisher h → ((m : Messages T U) (s : State T U) → Shows old m s → IsUnblocked s h.id)
       → is_single_valued old.config ≡ true
@@ -136,19 +136,19 @@ module _ {T U : Type 0} (defaults : Defaults T U) (old new : Domain T U) (table 
   pub copy_passed : (value : T) → is_publisher_entry (entry_for (slice_index_or table of Nothing)) ≡ false → old ≡ new → Carries fixed_handlers defaults old new table (SendCopy of value) Skipped table Nothing
   copy_passed value other same = λ m s handles events shown w default_value default_header is_value is_header.
       copy_skipped fixed_handlers defaults (Shows new) m s handles events (map entry_for table) w default_value default_header is_value is_header of value
-      (lacks is_publisher_entry refl table of other) (subst (λ (d : Domain T U). Shows d m s) same shown)
+      (lacks is_publisher_entry refl table of other) (subst (λ (d : Domain T U F). Shows d m s) same shown)
 
   pub copy_of_other : (value : T) → is_single_valued old.config ≡ false → old ≡ new → Carries fixed_handlers defaults old new table (SendCopy of value) Skipped table Nothing
   copy_of_other value other same = λ m s handles events shown w default_value default_header is_value is_header.
       copy_elsewhere fixed_handlers defaults (Shows new) m s handles events (map entry_for table) w default_value default_header is_value is_header of value
-      (ap (λ (t : State T U). is_single_valued t.config) shown.state ∙ other) (subst (λ (d : Domain T U). Shows d m s) same shown)
+      (ap (λ (t : State T U). is_single_valued t.config) shown.state ∙ other) (subst (λ (d : Domain T U F). Shows d m s) same shown)
 
   -- the publisher waits for a receiver
   pub copy_held_up : (value : T) (h : PublisherHandle) → slice_index_or table of Nothing ≡ MadePublisher h → ((m : Messages T U) (s : State T U) → Shows old m s → IsUnblocked s h.id → ⊥) → old ≡ new
       → Carries fixed_handlers defaults old new table (SendCopy of value) Skipped table Nothing
   copy_held_up value h at waits same = λ m s handles events shown w default_value default_header is_value is_header.
       copy_waiting fixed_handlers defaults (Shows new) m s handles events (map entry_for table) w default_value default_header is_value is_header of h.service_id h.id value
-      (entry-stands table of (MadePublisher h) at (λ e. let clash : MadePublisher h ≡ Nothing = e in cc)) (waits m s shown) (subst (λ (d : Domain T U). Shows d m s) same shown)
+      (entry-stands table of (MadePublisher h) at (λ e. let clash : MadePublisher h ≡ Nothing = e in cc)) (waits m s shown) (subst (λ (d : Domain T U F). Shows d m s) same shown)
 
   -- the copy is sent: to all receivers, or it waits for one
   pub copy_carried : (h : PublisherHandle) (value : T) (outcome : SendOutcome) → slice_index_or table of Nothing ≡ MadePublisher h → ((m : Messages T U) (s : State T U) → Shows old m s → IsUnblocked s h.id)

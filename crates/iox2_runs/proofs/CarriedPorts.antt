@@ -38,7 +38,7 @@ given_for limit buffer = record { buffer_size = elim buffer [ None ↦ limit | S
 abbrev pub settings_of : {T U : Type 0} → (loans : ℕ) → BackpressureStrategy → (len : ℕ) → Option BackpressureAction → State T U → PublisherSettings
 settings_of loans strategy len backpressure s = publisher_settings (s.config).variant loans strategy Static len None Warn backpressure
 
-module _ {T U : Type 0} (old : Domain T U) where
+module _ {T U F : Type 0} (old : Domain T U F) where
   -- what a factory was told is what the command says, where messages are single values
   pub fixed-settings : (loans : ℕ) (strategy : BackpressureStrategy) (len : ℕ) (backpressure : Option BackpressureAction) (told : PublisherSettings)
       → told ≡ static_publisher loans strategy (fixed_handler backpressure) 1 → (old.config).variant ≡ FixedSize
@@ -53,7 +53,7 @@ module _ {T U : Type 0} (old : Domain T U) where
   slice-settings loans strategy len backpressure told is variant = λ m s shown.
       is ∙ ap (λ (v : TypeVariant). publisher_settings v loans strategy Static len None Warn backpressure) (sym (ap (λ (t : State T U). (t.config).variant) shown.state ∙ variant))
 
-module _ {T U : Type 0} (environment : Environment) (defaults : Defaults T U) (old new : Domain T U) (table : List Made) where
+module _ {T U F : Type 0} (environment : Environment) (defaults : Defaults T U) (old new : Domain T U F) (table : List Made) where
   pub publisher_carried : (loans : ℕ) (strategy : BackpressureStrategy) (len : ℕ) (backpressure : Option BackpressureAction) (h : PublisherHandle) (id : ℕ)
       → ((m : Messages T U) (s : State T U) → Shows old m s → (s' : State T U) × Shows new m s' × ((h.id ≡ s.next_port) × CreatePublisher environment s (settings_of loans strategy len backpressure s) s' None))
       → h.service_id ≡ (new.config).service_id → id ≡ h.id

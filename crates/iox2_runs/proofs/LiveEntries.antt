@@ -24,7 +24,7 @@ use Rattle.iox2_runs.specs.declared.runs.made.Made.TheVariants.{Nothing, Publish
 use Rattle.iox2_runs.proofs.TableLooks.{handle_of}
 use Rattle.iox2_runs.proofs.TableEntries.{entry-stands}
 
-module _ {T U : Type 0} (domain : Domain T U) (key : Key) where
+module _ {T U F : Type 0} (domain : Domain T U F) (key : Key) where
   -- who is free in the domain is so in each state that it shows
   pub shown_free : IsUnblocked domain key → (m : Messages T U) (s : State T U) → Shows domain m s → IsFree s key.port
   shown_free free m s shown = subst (λ (t : State T U). IsFree t key.port) (sym shown.state) (unblocked-parts domain key free).1
@@ -35,7 +35,7 @@ module _ {T U : Type 0} (domain : Domain T U) (key : Key) where
   shown_waits low answer tells is m s shown free =
       true≢false (sym is ∙ tells.1 (unblocked-free domain key (low, subst (λ (t : State T U). IsFree t key.port) shown.state free)))
 
-module _ {T U : Type 0} (domain : Domain T U) (table : List Made) (keeps : IsLiveTable domain table) (of : ℕ) where
+module _ {T U F : Type 0} (domain : Domain T U F) (table : List Made) (keeps : IsLiveTable domain table) (of : ℕ) where
   -- what stands at a position is the entry of some handle, in the state that the domain keeps
   has_entry : (made : Made) → slice_index_or table of Nothing ≡ made → (made ≡ Nothing → ⊥) → (h : Handle) × IsEntryOf (state_of domain) h (entry_for made)
   has_entry made at some =

@@ -2,10 +2,12 @@ ghost use Rattle.iox2_pubsub.specs.Live.{Stays};
 
 use crate::fixtures::domain;
 use iox2_fixtures::{Reading, Station, factory_for, publish};
-use iox2_pubsub::{ConnectionFailure, Domain, UpdateConnections};
+use iox2_pubsub::{
+    BackpressureFn, ConnectionFailure, DegradationFn, Domain, UpdateConnections,
+};
 
 // Updates a port of either kind.
-fn update<P: UpdateConnections<Reading, Station>>(
+fn update<P: UpdateConnections<Reading, Station, Box<dyn BackpressureFn>, Box<dyn DegradationFn>>>(
     domain: &mut Domain<Reading, Station>,
     port: &P,
 ) -> Result<(), ConnectionFailure>
@@ -16,7 +18,7 @@ fn update<P: UpdateConnections<Reading, Station>>(
 }
 
 // Updates a port of either kind twice.
-fn update_twice<P: UpdateConnections<Reading, Station>>(
+fn update_twice<P: UpdateConnections<Reading, Station, Box<dyn BackpressureFn>, Box<dyn DegradationFn>>>(
     domain: &mut Domain<Reading, Station>,
     port: &P,
 ) -> Result<(), ConnectionFailure>

@@ -54,7 +54,7 @@ impl BlockedSend {
         ensures given_back { IfOk result IsDelivered → HasOneMoreLeft self.loan.publisher domain.old domain.new }
         ensures stays { StaysBut (blocked_send self) domain.old domain.new }
         ensures stays_since { IfOk result IsDelivered → StaysSince self domain.old domain.new }
-        ensures since_again { IfOk result (λ outcome. IfBlocked outcome (λ blocked. (after : Kept T U) → StaysSince blocked domain.new after → StaysSince self domain.old after)) }
+        ensures since_again { IfOk result (λ outcome. IfBlocked outcome (λ blocked. (after : Kept T U F) → StaysSince blocked domain.new after → StaysSince self domain.old after)) }
     {
         let BlockedSend { service_id, loan } = self;
         let place = domain.state.find_live_publisher(loan.publisher, loan.place);
@@ -87,7 +87,7 @@ impl BlockedSend {
         ensures given_back { IfOk result IsDelivered → HasOneMoreLeft self.loan.publisher domain.old domain.new }
         ensures stays { StaysBut (blocked_send self) domain.old domain.new }
         ensures stays_since { IfOk result IsDelivered → StaysSince self domain.old domain.new }
-        ensures since_again { IfOk result (λ outcome. IfBlocked outcome (λ blocked. (after : Kept T U) → StaysSince blocked domain.new after → StaysSince self domain.old after)) }
+        ensures since_again { IfOk result (λ outcome. IfBlocked outcome (λ blocked. (after : Kept T U F) → StaysSince blocked domain.new after → StaysSince self domain.old after)) }
     {
         let BlockedSend { service_id, loan } = self;
         let place = domain.state.find_live_publisher(loan.publisher, loan.place);

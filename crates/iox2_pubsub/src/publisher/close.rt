@@ -7,11 +7,11 @@ use iox2_ports::close_publisher;
 use iox2_store::{BackpressureFn, DegradationFn};
 
 impl Publisher {
-    ghost use Rattle.std.specs.Prelude.{Some};
+    ghost use Rattle.std.specs.Prelude.{None, Some};
     ghost use Rattle.iox2_store.specs.machine.Ports.{publisher_closed};
     ghost use Rattle.iox2_store.specs.machine.Records.{Publisher as Record};
     ghost use Rattle.iox2_store.specs.machine.State.{State, Messages};
-    ghost use Rattle.iox2_pubsub.specs.Live.{IsPublisherKey, IsReadyPublisher, IsUpToDate, StaysBut, publisher_key, publisher_port, waiting};
+    ghost use Rattle.iox2_pubsub.specs.Live.{IsPublisherKey, IsReadyPublisher, IsUpToDate, StaysBut, handler_box, publisher_key, publisher_port, waiting};
     ghost use Rattle.iox2_pubsub.specs.LoansLeft.{NumbersLeftStay, OthersLoansLeftStay};
     ghost use Rattle.iox2_pubsub.specs.declared.subscriber.Subscriber.{Subscriber};
     ghost use Rattle.iox2_domain.specs.Shows.{Shows};
@@ -30,6 +30,7 @@ impl Publisher {
         ensures closed { (m : Messages T U) (s : State T U) (x : Record) → Shows domain.old m s → s.publishers (publisher_key self).port ≡ Some x
             → Shows domain.new m (publisher_closed s (publisher_key self).port x) }
         ensures spent { IsPublisherKey domain.new (publisher_key self) → ⊥ }
+        ensures unboxed { handler_box domain.new (publisher_key self).port ≡ None }
         ensures no_fewer { (subscriber : Subscriber) → IsUpToDate domain.old subscriber → waiting domain.old subscriber ≤ waiting domain.new subscriber }
         ensures loans_left { OthersLoansLeftStay self domain.old domain.new }
         ensures numbers_left { NumbersLeftStay domain.old domain.new }
@@ -44,5 +45,6 @@ impl Publisher {
         } = self;
         let place = domain.state.find_live_publisher(id, place);
         close_publisher(&mut domain.state, place);
+        domain.boxes.remove(id.value());
     }
 }

@@ -8,7 +8,8 @@ use iox2_store::{BackpressureFn, ConnectionFailure, DegradationFn};
 /// A publisher gets its connections with new subscribers, which a send does too.
 ///
 /// iceoryx2's `UpdateConnections` of `Publisher` (`src/port/publisher.rs`).
-impl<T: Drop, U: Default + Drop> UpdateConnections<T, U> for Publisher {
+impl<T: Drop, U: Default + Drop, F: BackpressureFn, G: DegradationFn> UpdateConnections<T, U, F, G>
+    for Publisher {
     ghost use Rattle.iox2_store.specs.machine.Environments.{fixed_handlers};
     ghost use Rattle.iox2_store.specs.machine.PublisherUpdate.{UpdatePublisher};
     ghost use Rattle.iox2_pubsub.specs.Live.{IsReadyPublisher, publisher_key};
@@ -24,10 +25,7 @@ impl<T: Drop, U: Default + Drop> UpdateConnections<T, U> for Publisher {
 
     ghost adds = { λ domain. (domain.config).history_size };
 
-    fn update_connections<F: BackpressureFn, G: DegradationFn>(
-        &self,
-        domain: &mut Domain<T, U, F, G>,
-    ) -> Result<(), ConnectionFailure> {
+    fn update_connections(&self, domain: &mut Domain<T, U, F, G>) -> Result<(), ConnectionFailure> {
         self.publisher.update_connections(domain)
     }
 }

@@ -8,7 +8,8 @@ use iox2_store::{BackpressureFn, ConnectionFailure, DegradationFn};
 /// A subscriber gets its connections with new publishers, which a receive does too.
 ///
 /// iceoryx2's `UpdateConnections` of `Subscriber` (`src/port/subscriber.rs`).
-impl<T: Drop, U: Default + Drop> UpdateConnections<T, U> for Subscriber {
+impl<T: Drop, U: Default + Drop, F: BackpressureFn, G: DegradationFn> UpdateConnections<T, U, F, G>
+    for Subscriber {
     ghost use Rattle.iox2_store.specs.machine.Environments.{fixed_handlers};
     ghost use Rattle.iox2_store.specs.machine.SubscriberUpdate.{UpdateSubscriber};
     ghost use Rattle.iox2_pubsub.specs.Live.{IsLiveSubscriber, subscriber_key};
@@ -21,10 +22,7 @@ impl<T: Drop, U: Default + Drop> UpdateConnections<T, U> for Subscriber {
 
     ghost adds = { λ domain. 0 };
 
-    fn update_connections<F: BackpressureFn, G: DegradationFn>(
-        &self,
-        domain: &mut Domain<T, U, F, G>,
-    ) -> Result<(), ConnectionFailure> {
+    fn update_connections(&self, domain: &mut Domain<T, U, F, G>) -> Result<(), ConnectionFailure> {
         self.subscriber.update_connections(domain)
     }
 }

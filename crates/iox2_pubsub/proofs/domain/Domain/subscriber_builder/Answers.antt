@@ -9,4 +9,4 @@ pub returns : goal.returns
 returns g c =
     ap asked_for
     (c.max.ensures ∙ max_comm _ _
-    ∙ ap buffer_limit (c.config.ensures ∙ ap (λ (k : Kept g.row.T.Denot g.row.U.Denot). k.config) c.self.view_is))
+    ∙ ap buffer_limit (c.config.ensures ∙ ap (λ (k : Kept g.row.T.Denot g.row.U.Denot g.row.F.Denot). k.config) c.self.view_is))

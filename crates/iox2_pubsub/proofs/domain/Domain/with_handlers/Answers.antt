@@ -1,6 +1,6 @@
 use Rattle.std.proofs.Common.{ap, ◌∙◌}
 use Rattle.iox2_store.specs.declared.service_config.ServiceConfig.{ServiceConfig}
-use Rattle.iox2_domain.specs.Fields.{kept_of}
+use Rattle.iox2_domain.specs.Fields.{keeping}
 use Rattle.iox2_pubsub.proofs.LiveParts.{single-valued}
 use Rattle.iox2_pubsub.proofs.SliceParts.{dynamic-sliced}
 use Rattle.iox2_pubsub.proofs.Fresh.{new_is_domain, new_is_shown}
@@ -15,16 +15,16 @@ returns-clause-settings g c = c.in-Ok.ensures.settings
 
 pub returns-clause-single_valued : goal.returns-clause-single_valued
 returns-clause-single_valued g c = λ variant units.
-    single-valued {T = g.row.T.Denot} {U = g.row.U.Denot} (kept_of c.in-Ok.state) (ap (λ (config : ServiceConfig). config.variant) c.in-Ok.ensures.settings ∙ variant)
+    single-valued {T = g.row.T.Denot} {U = g.row.U.Denot} (keeping _ c.in-Ok.state) (ap (λ (config : ServiceConfig). config.variant) c.in-Ok.ensures.settings ∙ variant)
     (ap (λ (config : ServiceConfig). config.units_per_element) c.in-Ok.ensures.settings ∙ units)
 
 pub returns-clause-sliced : goal.returns-clause-sliced
 returns-clause-sliced g c = λ dynamic.
-    dynamic-sliced {T = g.row.T.Denot} {U = g.row.U.Denot} (kept_of c.in-Ok.state) (ap (λ (config : ServiceConfig). config.variant) c.in-Ok.ensures.settings ∙ dynamic)
+    dynamic-sliced {T = g.row.T.Denot} {U = g.row.U.Denot} (keeping _ c.in-Ok.state) (ap (λ (config : ServiceConfig). config.variant) c.in-Ok.ensures.settings ∙ dynamic)
 
 pub invariant_of-result : goal.invariant_of-result
 invariant_of-result g c =
     new_is_domain {T = g.row.T.Denot} {U = g.row.U.Denot} c.args.config c.in-Ok.state c.in-Ok.ensures
 
 pub returns-clause-numbers_left : goal.returns-clause-numbers_left
-returns-clause-numbers_left g c = λ n low. fresh-numbers {T = g.row.T.Denot} {U = g.row.U.Denot} (kept_of c.in-Ok.state) c.args.config (returns-clause-fresh g c) n low
+returns-clause-numbers_left g c = λ n low. fresh-numbers {T = g.row.T.Denot} {U = g.row.U.Denot} (keeping _ c.in-Ok.state) c.args.config (returns-clause-fresh g c) n low

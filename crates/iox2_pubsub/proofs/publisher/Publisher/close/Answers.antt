@@ -1,9 +1,9 @@
-use Rattle.std.proofs.Common.{◌≡◌, ap, refl, sym, subst, ◌∙◌, Some, false}
+use Rattle.std.proofs.Common.{◌≡◌, ℕ, ap, refl, sym, subst, ◌∙◌, Some, None, false}
 use Rattle.iox2_store.specs.machine.State.{State, is_blocked}
 use Rattle.iox2_domain.specs.Kept.{Kept, state_of}
 use Rattle.iox2_domain.specs.Ports.{PublisherFields}
 use Rattle.iox2_domain.proofs.lemmas.fields.ConnectionEnds.{free-of}
-use Rattle.iox2_domain.specs.Fields.{kept_of}
+use Rattle.iox2_domain.specs.Fields.{keeping}
 use Rattle.iox2_pubsub.specs.Live.{publisher_key}
 use Rattle.iox2_pubsub.proofs.CallsStay.{always-shown}
 use Rattle.iox2_pubsub.proofs.ClosesShown.{publisher-close-shows, publisher-close-stays, publisher-close-spends}
@@ -11,6 +11,8 @@ use Rattle.iox2_pubsub.proofs.ClosesWait.{publisher-close-no-fewer}
 use Rattle.iox2_pubsub.proofs.LiveParts.{publisher-parts, unblocked-test}
 use Rattle.iox2_pubsub.proofs.UninitLoans.{publisher-missing}
 use Rattle.iox2_pubsub.proofs.LoansLeftShown.{publisher-close-others, publisher-close-numbers}
+use Rattle.iox2_domain.specs.Boxes.{box_of}
+use Rattle.iox2_pubsub.proofs.StaysBut.{box-is, other-boxes}
 use Rattle.iox2_pubsub.proofs.publisher.Publisher.close.Goals as goal
 
 pub find_live_publisher-place-requires : goal.find_live_publisher-place-requires
@@ -33,7 +35,7 @@ returns-clause-spent g c =
     let it = always-shown {T = g.row.T.Denot} {U = g.row.U.Denot} c.domain.inside.state c.args.domain.now c.domain.invariant c.domain.view_is in
     let has = (publisher-parts c.args.domain.now _ c.requires.there).2 in
     let there = ap (λ (t : State g.row.T.Denot g.row.U.Denot). t.publishers c.args.self.id) (it.2).state ∙ has.1 in
-    publisher-close-spends {T = g.row.T.Denot} {U = g.row.U.Denot} c.args.domain.now (kept_of c.close_publisher.new.state) it.0 it.1 it.2 c.args.self.id has.0
+    publisher-close-spends {T = g.row.T.Denot} {U = g.row.U.Denot} c.args.domain.now (keeping _ c.close_publisher.new.state) it.0 it.1 it.2 c.args.self.id has.0
     (returns-clause-closed g c it.0 it.1 has.0 it.2 there) (publisher_key c.args.self) refl
 
 pub returns-clause-stays : goal.returns-clause-stays
@@ -41,15 +43,21 @@ returns-clause-stays g c =
     let it = always-shown {T = g.row.T.Denot} {U = g.row.U.Denot} c.domain.inside.state c.args.domain.now c.domain.invariant c.domain.view_is in
     let has = (publisher-parts c.args.domain.now _ c.requires.there).2 in
     let there = ap (λ (t : State g.row.T.Denot g.row.U.Denot). t.publishers c.args.self.id) (it.2).state ∙ has.1 in
-    publisher-close-stays {T = g.row.T.Denot} {U = g.row.U.Denot} c.args.domain.now (kept_of c.close_publisher.new.state) it.0 it.1 it.2 c.args.self.id has.0
+    publisher-close-stays {T = g.row.T.Denot} {U = g.row.U.Denot} c.args.domain.now (keeping _ c.close_publisher.new.state) it.0 it.1 it.2 c.args.self.id has.0
     (returns-clause-closed g c it.0 it.1 has.0 it.2 there)
+    (other-boxes c.domain.inside.state c.close_publisher.new.state c.args.domain.now c.domain.view_is
+    (λ p other. c.remove.ensures.others p (λ same. other (same ∙ c.value.ensures))))
+
+pub returns-clause-unboxed : goal.returns-clause-unboxed
+returns-clause-unboxed g c = box-is _ c.close_publisher.new.state c.args.self.id None
+    (subst (λ (p : ℕ). box_of p (c.remove.new.self).boxes ≡ None) c.value.ensures c.remove.ensures.its)
 
 pub returns-clause-no_fewer : goal.returns-clause-no_fewer
 returns-clause-no_fewer g c =
     let it = always-shown {T = g.row.T.Denot} {U = g.row.U.Denot} c.domain.inside.state c.args.domain.now c.domain.invariant c.domain.view_is in
     let has = (publisher-parts c.args.domain.now _ c.requires.there).2 in
     let there = ap (λ (t : State g.row.T.Denot g.row.U.Denot). t.publishers c.args.self.id) (it.2).state ∙ has.1 in
-    publisher-close-no-fewer {T = g.row.T.Denot} {U = g.row.U.Denot} c.args.domain.now (kept_of c.close_publisher.new.state) it.0 it.1 it.2 c.args.self.id has.0
+    publisher-close-no-fewer {T = g.row.T.Denot} {U = g.row.U.Denot} c.args.domain.now (keeping _ c.close_publisher.new.state) it.0 it.1 it.2 c.args.self.id has.0
     (returns-clause-closed g c it.0 it.1 has.0 it.2 there) there
 
 pub returns-clause-loans_left : goal.returns-clause-loans_left
@@ -57,7 +65,7 @@ returns-clause-loans_left g c =
     let it = always-shown {T = g.row.T.Denot} {U = g.row.U.Denot} c.domain.inside.state c.args.domain.now c.domain.invariant c.domain.view_is in
     let has = (publisher-parts c.args.domain.now _ c.requires.there).2 in
     let there = ap (λ (t : State g.row.T.Denot g.row.U.Denot). t.publishers c.args.self.id) (it.2).state ∙ has.1 in
-    publisher-close-others {T = g.row.T.Denot} {U = g.row.U.Denot} c.args.domain.now (kept_of c.close_publisher.new.state) it.0 it.0 it.1 _ it.2
+    publisher-close-others {T = g.row.T.Denot} {U = g.row.U.Denot} c.args.domain.now (keeping _ c.close_publisher.new.state) it.0 it.0 it.1 _ it.2
     (returns-clause-closed g c it.0 it.1 has.0 it.2 there) c.args.self has.0 refl
 
 pub returns-clause-numbers_left : goal.returns-clause-numbers_left
@@ -65,7 +73,7 @@ returns-clause-numbers_left g c =
     let it = always-shown {T = g.row.T.Denot} {U = g.row.U.Denot} c.domain.inside.state c.args.domain.now c.domain.invariant c.domain.view_is in
     let has = (publisher-parts c.args.domain.now _ c.requires.there).2 in
     let there = ap (λ (t : State g.row.T.Denot g.row.U.Denot). t.publishers c.args.self.id) (it.2).state ∙ has.1 in
-    publisher-close-numbers {T = g.row.T.Denot} {U = g.row.U.Denot} c.args.domain.now (kept_of c.close_publisher.new.state) it.0 it.0 it.1 _ it.2
+    publisher-close-numbers {T = g.row.T.Denot} {U = g.row.U.Denot} c.args.domain.now (keeping _ c.close_publisher.new.state) it.0 it.0 it.1 _ it.2
     (returns-clause-closed g c it.0 it.1 has.0 it.2 there) c.args.self.id has.0 refl
 
 pub close_publisher-requires-clause-unblocked : goal.close_publisher-requires-clause-unblocked
@@ -75,4 +83,4 @@ close_publisher-requires-clause-unblocked g c = λ z at_z.
     let is : z ≡ found.0 = cc in
     ap (λ (w : PublisherFields). w.blocked) is
     ∙ free-of c.domain.inside.state c.domain.invariant.parts c.args.self.id c.find_live_publisher-place.result found.0 found.1 found.2
-    (subst (λ (k : Kept g.row.T.Denot g.row.U.Denot). is_blocked (state_of k) c.args.self.id ≡ false) (sym c.domain.view_is) (unblocked-test c.args.domain.now (publisher_key c.args.self) c.requires.unblocked))
+    (subst (λ (k : Kept g.row.T.Denot g.row.U.Denot g.row.F.Denot). is_blocked (state_of k) c.args.self.id ≡ false) (sym c.domain.view_is) (unblocked-test c.args.domain.now (publisher_key c.args.self) c.requires.unblocked))

@@ -9,11 +9,12 @@ use Rattle.iox2_pubsub.proofs.LiveParts.{sample-parts}
 use Rattle.iox2_pubsub.proofs.WaitingShown.{release-waits}
 use Rattle.iox2_pubsub.proofs.UpToDateShown.{release-leaves}
 use Rattle.iox2_pubsub.proofs.LoansLeftShown.{release-left}
+use Rattle.iox2_pubsub.proofs.StaysBut.{same-boxes}
 use Rattle.iox2_pubsub.proofs.sample.Sample.release.Goals as goal
 
 pub give_back-requires-clause-live : goal.give_back-requires-clause-live
 give_back-requires-clause-live g c =
-    subst (λ (k : Kept g.row.T.Denot g.row.U.Denot). HoldsSample (state_of k) c.args.self.sample.subscriber c.args.self.sample.number) (sym c.domain.view_is) (sample-parts c.args.domain.now _ c.requires).1
+    subst (λ (k : Kept g.row.T.Denot g.row.U.Denot g.row.F.Denot). HoldsSample (state_of k) c.args.self.sample.subscriber c.args.self.sample.number) (sym c.domain.view_is) (sample-parts c.args.domain.now _ c.requires).1
 
 pub returns-clause-released : goal.returns-clause-released
 returns-clause-released g c =
@@ -34,7 +35,7 @@ returns-clause-stays g c =
     let has = (sample-parts c.args.domain.now _ c.requires).1 in
     let borrowed = ap (λ (t : State g.row.T.Denot g.row.U.Denot). is_borrowed c.args.self.sample.number (t.mailboxes has.0 c.args.self.sample.subscriber)) (it.2).state ∙ has.1 in
     let step = returns-clause-released g c it.0 it.1 it.2 has.0 borrowed in
-    release-stays {T = g.row.T.Denot} {U = g.row.U.Denot} c.args.domain.now _ it.0 it.1 it.2 has.0 c.args.self.sample.subscriber c.args.self.sample.number step.0 step.1 step.2
+    release-stays {T = g.row.T.Denot} {U = g.row.U.Denot} c.args.domain.now _ it.0 it.1 it.2 has.0 c.args.self.sample.subscriber c.args.self.sample.number step.0 step.1 step.2 (same-boxes c.domain.inside.state c.give_back.new.state c.args.domain.now c.domain.view_is)
 
 pub returns-clause-waits : goal.returns-clause-waits
 returns-clause-waits g c =

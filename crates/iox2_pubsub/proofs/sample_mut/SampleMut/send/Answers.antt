@@ -9,7 +9,7 @@ use Rattle.iox2_store.specs.machine.Sends.{Send}
 use Rattle.std.proofs.lemmas.Option.{same_Some}
 use Rattle.iox2_store.specs.machine.SingleCalls.{HoldsPublisher}
 use Rattle.iox2_store.specs.machine.State.{State}
-use Rattle.iox2_domain.specs.Fields.{kept_of}
+use Rattle.iox2_domain.specs.Fields.{kept_of, keeping}
 use Rattle.iox2_domain.specs.Kept.{Kept, state_of}
 use Rattle.iox2_domain.specs.LoanCalls.{HoldsWritten}
 use Rattle.iox2_messages.specs.SendEnds.{end_result}
@@ -22,15 +22,16 @@ use Rattle.iox2_pubsub.proofs.LiveParts.{publisher-parts, written-parts, unblock
 use Rattle.iox2_pubsub.proofs.WaitingShown.{send-adds, send-brings}
 use Rattle.iox2_pubsub.proofs.UpToDateShown.{send-leaves}
 use Rattle.iox2_pubsub.proofs.LoansLeftShown.{send-left, send-gives, sent-free}
+use Rattle.iox2_pubsub.proofs.StaysBut.{same-boxes}
 use Rattle.iox2_pubsub.proofs.sample_mut.SampleMut.send.Goals as goal
 
 pub send_loan-requires-clause-live : goal.send_loan-requires-clause-live
 send_loan-requires-clause-live g c =
-    subst (λ (k : Kept g.row.T.Denot g.row.U.Denot). HoldsWritten (state_of k) c.args.self.loan.publisher c.args.self.loan.number) (sym c.domain.view_is) (written-parts c.args.domain.now c.args.self c.requires.live).1
+    subst (λ (k : Kept g.row.T.Denot g.row.U.Denot g.row.F.Denot). HoldsWritten (state_of k) c.args.self.loan.publisher c.args.self.loan.number) (sym c.domain.view_is) (written-parts c.args.domain.now c.args.self c.requires.live).1
 
 pub returns-clause-sent : goal.returns-clause-sent
 returns-clause-sent g c = λ m s l shown out.
-    let before = subst (λ (k : Kept g.row.T.Denot g.row.U.Denot). Shows k m s) (sym c.domain.view_is) shown in (
+    let before = subst (λ (k : Kept g.row.T.Denot g.row.U.Denot g.row.F.Denot). Shows k m s) (sym c.domain.view_is) shown in (
       state_of (kept_of c.send_loan.new.state),
       sent-shown fixed_handlers c.domain.inside.state c.send_loan.new.state c.args.self.loan.number (end_result c.send_loan.result) c.send_loan.ensures.sends m s l before out
           c.outcome_of.result (sym c.outcome_of.ensures.same),
@@ -54,15 +55,15 @@ returns-clause-stays g c =
     sent-stays {T = g.row.T.Denot} {U = g.row.U.Denot} c.args.domain.now _ it.0 it.1 it.2 c.args.self has.0 out has.2
     (λ x at. (unblocked-parts c.args.domain.now (written_key c.args.self) c.requires.unblocked).1 x
     (sym (ap (λ (t : State g.row.T.Denot g.row.U.Denot). t.publishers c.args.self.loan.publisher) (it.2).state) ∙ ap (it.1).publishers (sym has.2) ∙ at))
-    c.outcome_of.result step.0 step.1 step.2
+    c.outcome_of.result step.0 step.1 step.2 (same-boxes c.domain.inside.state c.send_loan.new.state c.args.domain.now c.domain.view_is)
 
 pub returns-clause-ok : goal.returns-clause-ok
 returns-clause-ok g c = λ lent never.
     let has = (written-parts c.args.domain.now c.args.self c.requires.live).1 in
-    let before = subst (λ (k : Kept g.row.T.Denot g.row.U.Denot). HoldsWritten (state_of k) c.args.self.loan.publisher c.args.self.loan.number) (sym c.domain.view_is) has in
+    let before = subst (λ (k : Kept g.row.T.Denot g.row.U.Denot g.row.F.Denot). HoldsWritten (state_of k) c.args.self.loan.publisher c.args.self.loan.number) (sym c.domain.view_is) has in
     only-ok c.send_loan.result
     (c.send_loan.ensures.kept
-    (subst (λ (k : Kept g.row.T.Denot g.row.U.Denot). HoldsPublisher (state_of k) c.args.self.loan.publisher) (sym c.domain.view_is)
+    (subst (λ (k : Kept g.row.T.Denot g.row.U.Denot g.row.F.Denot). HoldsPublisher (state_of k) c.args.self.loan.publisher) (sym c.domain.view_is)
     (publisher-parts c.args.domain.now (lender_key (written_key c.args.self)) lent).2))
     (never-fails-here {T = g.row.T.Denot} {U = g.row.U.Denot} c.args.domain.now c.domain.inside.state c.send_loan.new.state c.domain.view_is c.args.self.loan.number c.args.self.loan.publisher never
     (end_result c.send_loan.result) c.send_loan.ensures.sends
@@ -72,7 +73,7 @@ returns-clause-ok g c = λ lent never.
 pub returns-clause-errors : goal.returns-clause-errors
 returns-clause-errors g c =
     let has = (written-parts c.args.domain.now c.args.self c.requires.live).1 in
-    let before = subst (λ (k : Kept g.row.T.Denot g.row.U.Denot). HoldsWritten (state_of k) c.args.self.loan.publisher c.args.self.loan.number) (sym c.domain.view_is) has in
+    let before = subst (λ (k : Kept g.row.T.Denot g.row.U.Denot g.row.F.Denot). HoldsWritten (state_of k) c.args.self.loan.publisher c.args.self.loan.number) (sym c.domain.view_is) has in
     let its = ap (λ (l : Loan g.row.T.Denot g.row.U.Denot). l.publisher) (same_Some _ before.0 (sym c.send_loan.ensures.sends.out ∙ before.1)) ∙ before.2 in
     fails-send c.args.domain.now (written_key c.args.self) c.outcome_of.result
     (either-error {T = g.row.T.Denot} {U = g.row.U.Denot} c.domain.inside.state c.send_loan.new.state c.args.self.loan.number c.args.self.loan.publisher c.send_loan.result
@@ -80,7 +81,7 @@ returns-clause-errors g c =
     (λ lent.
     handler-error c.send_loan.result
     (c.send_loan.ensures.kept
-    (subst (λ (k : Kept g.row.T.Denot g.row.U.Denot). HoldsPublisher (state_of k) c.args.self.loan.publisher) (sym c.domain.view_is)
+    (subst (λ (k : Kept g.row.T.Denot g.row.U.Denot g.row.F.Denot). HoldsPublisher (state_of k) c.args.self.loan.publisher) (sym c.domain.view_is)
     (publisher-parts c.args.domain.now (lender_key (written_key c.args.self)) lent).2))
     c.outcome_of.result c.outcome_of.ensures.same)
     (λ never.
@@ -92,7 +93,7 @@ returns-clause-errors g c =
 
 pub send_loan-requires-clause-unblocked : goal.send_loan-requires-clause-unblocked
 send_loan-requires-clause-unblocked g c =
-    subst (λ (k : Kept g.row.T.Denot g.row.U.Denot). is_blocked (state_of k) c.args.self.loan.publisher ≡ false) (sym c.domain.view_is)
+    subst (λ (k : Kept g.row.T.Denot g.row.U.Denot g.row.F.Denot). is_blocked (state_of k) c.args.self.loan.publisher ≡ false) (sym c.domain.view_is)
     (unblocked-test c.args.domain.now (written_key c.args.self) c.requires.unblocked)
 
 pub returns-clause-delivered : goal.returns-clause-delivered
@@ -112,8 +113,8 @@ returns-clause-blocked g c =
     let has = parts.1 in
     let out = ap (λ (t : State g.row.T.Denot g.row.U.Denot). t.loans c.args.self.loan.number) (it.2).state ∙ has.1 in
     let step = returns-clause-sent g c it.0 it.1 has.0 it.2 out in
-    is-blocked {T = g.row.T.Denot} {U = g.row.U.Denot} (kept_of c.send_loan.new.state) (written_key c.args.self) _ refl c.outcome_of.result c.outcome_of.ensures.blocked (λ blocked.
-    blocked-live (kept_of c.send_loan.new.state) (written_key c.args.self) (
+    is-blocked {T = g.row.T.Denot} {U = g.row.U.Denot} (keeping _ c.send_loan.new.state) (written_key c.args.self) _ refl c.outcome_of.result c.outcome_of.ensures.blocked (λ blocked.
+    blocked-live (keeping _ c.send_loan.new.state) (written_key c.args.self) (
       parts.0 ∙ sym (ap (λ (k : ServiceConfig). k.service_id) (returns-clause-stays g c).settings),
       subst (λ (p : ℕ). HoldsBlocked (state_of (kept_of c.send_loan.new.state)) p c.args.self.loan.number) has.2
           (subst (λ (t : State g.row.T.Denot g.row.U.Denot). HoldsBlocked t has.0.publisher c.args.self.loan.number) (step.1).state

@@ -1,6 +1,6 @@
 use Rattle.std.proofs.Common.{ap, refl, ◌∙◌}
 use Rattle.iox2_store.specs.machine.State.{State}
-use Rattle.iox2_domain.specs.Fields.{kept_of}
+use Rattle.iox2_domain.specs.Fields.{keeping}
 use Rattle.iox2_pubsub.specs.Live.{unwritten_key}
 use Rattle.iox2_pubsub.proofs.CallsStay.{always-shown}
 use Rattle.iox2_pubsub.proofs.DiscardShows.{discard-shows, discard-stays, discard-spends}
@@ -9,6 +9,7 @@ use Rattle.iox2_pubsub.proofs.LoanHandles.{loan-out}
 use Rattle.iox2_pubsub.proofs.WaitingShown.{discard-waits}
 use Rattle.iox2_pubsub.proofs.UpToDateShown.{discard-leaves}
 use Rattle.iox2_pubsub.proofs.LoansLeftShown.{discard-left, discard-gives}
+use Rattle.iox2_pubsub.proofs.StaysBut.{same-boxes}
 use Rattle.iox2_pubsub.proofs.sample_mut_uninit.SampleMutUninit.discard.Goals as goal
 
 pub discard_loan-requires-clause-live : goal.discard_loan-requires-clause-live
@@ -24,7 +25,7 @@ returns-clause-spent g c =
     let it = always-shown {T = g.row.T.Denot} {U = g.row.U.Denot} c.domain.inside.state c.args.domain.now c.domain.invariant c.domain.view_is in
     let has = (loan-parts c.args.domain.now _ c.requires).1 in
     let out = ap (λ (t : State g.row.T.Denot g.row.U.Denot). t.loans c.args.self.loan.number) (it.2).state ∙ has.1 in
-    discard-spends {T = g.row.T.Denot} {U = g.row.U.Denot} c.args.domain.now (kept_of c.discard_loan.new.state) it.0 it.1 it.2 c.args.self.loan.number has.0
+    discard-spends {T = g.row.T.Denot} {U = g.row.U.Denot} c.args.domain.now (keeping _ c.discard_loan.new.state) it.0 it.1 it.2 c.args.self.loan.number has.0
     (returns-clause-discarded g c it.0 it.1 has.0 it.2 out) (unwritten_key c.args.self) refl
 
 pub returns-clause-stays : goal.returns-clause-stays
@@ -32,15 +33,15 @@ returns-clause-stays g c =
     let it = always-shown {T = g.row.T.Denot} {U = g.row.U.Denot} c.domain.inside.state c.args.domain.now c.domain.invariant c.domain.view_is in
     let has = (loan-parts c.args.domain.now _ c.requires).1 in
     let out = ap (λ (t : State g.row.T.Denot g.row.U.Denot). t.loans c.args.self.loan.number) (it.2).state ∙ has.1 in
-    discard-stays {T = g.row.T.Denot} {U = g.row.U.Denot} c.args.domain.now (kept_of c.discard_loan.new.state) it.0 it.1 it.2 c.args.self.loan.number has.0
-    (returns-clause-discarded g c it.0 it.1 has.0 it.2 out)
+    discard-stays {T = g.row.T.Denot} {U = g.row.U.Denot} c.args.domain.now (keeping _ c.discard_loan.new.state) it.0 it.1 it.2 c.args.self.loan.number has.0
+    (returns-clause-discarded g c it.0 it.1 has.0 it.2 out) (same-boxes c.domain.inside.state c.discard_loan.new.state c.args.domain.now c.domain.view_is)
 
 pub returns-clause-waits : goal.returns-clause-waits
 returns-clause-waits g c =
     let it = always-shown {T = g.row.T.Denot} {U = g.row.U.Denot} c.domain.inside.state c.args.domain.now c.domain.invariant c.domain.view_is in
     let has = (loan-parts c.args.domain.now _ c.requires).1 in
     let out = ap (λ (t : State g.row.T.Denot g.row.U.Denot). t.loans c.args.self.loan.number) (it.2).state ∙ has.1 in
-    discard-waits {T = g.row.T.Denot} {U = g.row.U.Denot} c.args.domain.now (kept_of c.discard_loan.new.state) it.0 it.1 it.2 c.args.self.loan.number has.0
+    discard-waits {T = g.row.T.Denot} {U = g.row.U.Denot} c.args.domain.now (keeping _ c.discard_loan.new.state) it.0 it.1 it.2 c.args.self.loan.number has.0
     (returns-clause-discarded g c it.0 it.1 has.0 it.2 out)
 
 pub returns-clause-up_to_date : goal.returns-clause-up_to_date
@@ -48,7 +49,7 @@ returns-clause-up_to_date g c =
     let it = always-shown {T = g.row.T.Denot} {U = g.row.U.Denot} c.domain.inside.state c.args.domain.now c.domain.invariant c.domain.view_is in
     let has = (loan-parts c.args.domain.now _ c.requires).1 in
     let out = ap (λ (t : State g.row.T.Denot g.row.U.Denot). t.loans c.args.self.loan.number) (it.2).state ∙ has.1 in
-    discard-leaves {T = g.row.T.Denot} {U = g.row.U.Denot} c.args.domain.now (kept_of c.discard_loan.new.state) it.0 it.1 it.2 c.args.self.loan.number has.0
+    discard-leaves {T = g.row.T.Denot} {U = g.row.U.Denot} c.args.domain.now (keeping _ c.discard_loan.new.state) it.0 it.1 it.2 c.args.self.loan.number has.0
     (returns-clause-discarded g c it.0 it.1 has.0 it.2 out)
 
 pub returns-clause-loans_left : goal.returns-clause-loans_left
@@ -56,7 +57,7 @@ returns-clause-loans_left g c =
     let it = always-shown {T = g.row.T.Denot} {U = g.row.U.Denot} c.domain.inside.state c.args.domain.now c.domain.invariant c.domain.view_is in
     let has = (loan-parts c.args.domain.now _ c.requires).1 in
     let out = ap (λ (t : State g.row.T.Denot g.row.U.Denot). t.loans c.args.self.loan.number) (it.2).state ∙ has.1 in
-    discard-left {T = g.row.T.Denot} {U = g.row.U.Denot} c.args.domain.now (kept_of c.discard_loan.new.state) it.0 it.0 it.1 _ it.2
+    discard-left {T = g.row.T.Denot} {U = g.row.U.Denot} c.args.domain.now (keeping _ c.discard_loan.new.state) it.0 it.0 it.1 _ it.2
     (returns-clause-discarded g c it.0 it.1 has.0 it.2 out) c.args.self.loan.number has.0 out refl
 
 pub returns-clause-given_back : goal.returns-clause-given_back
@@ -64,5 +65,5 @@ returns-clause-given_back g c =
     let it = always-shown {T = g.row.T.Denot} {U = g.row.U.Denot} c.domain.inside.state c.args.domain.now c.domain.invariant c.domain.view_is in
     let has = (loan-parts c.args.domain.now _ c.requires).1 in
     let out = ap (λ (t : State g.row.T.Denot g.row.U.Denot). t.loans c.args.self.loan.number) (it.2).state ∙ has.1 in
-    discard-gives {T = g.row.T.Denot} {U = g.row.U.Denot} c.args.domain.now (kept_of c.discard_loan.new.state) it.0 it.0 it.1 _ it.2
+    discard-gives {T = g.row.T.Denot} {U = g.row.U.Denot} c.args.domain.now (keeping _ c.discard_loan.new.state) it.0 it.0 it.1 _ it.2
     (returns-clause-discarded g c it.0 it.1 has.0 it.2 out) c.args.self.loan.number has.0 out c.args.self.loan.publisher has.2 refl

@@ -1,5 +1,5 @@
 use Rattle.std.proofs.Common.{ℕ, refl, ap, subst, sym, ◌∙◌}
-use Rattle.iox2_domain.specs.Fields.{kept_of}
+use Rattle.iox2_domain.specs.Fields.{keeping}
 use Rattle.iox2_domain.specs.Kept.{Kept}
 use Rattle.iox2_pubsub.specs.Live.{IsPublisherKey, lender_key, unwritten_key, written_key}
 use Rattle.iox2_pubsub.proofs.LiveParts.{never-waits-alike, single-parts, unblocked-alike}
@@ -10,6 +10,7 @@ use Rattle.iox2_pubsub.proofs.CallsStay.{always-shown, change-stays}
 use Rattle.iox2_pubsub.proofs.WaitingShown.{set-waits}
 use Rattle.iox2_pubsub.proofs.UpToDateShown.{set-leaves}
 use Rattle.iox2_pubsub.proofs.LoansLeftShown.{set-left}
+use Rattle.iox2_pubsub.proofs.StaysBut.{same-boxes}
 use Rattle.iox2_pubsub.proofs.sample_mut_uninit.SampleMutUninit.write_payload.Goals as goal
 
 pub write_loan-requires-clause-live : goal.write_loan-requires-clause-live
@@ -32,27 +33,27 @@ pub returns-clause-stays : goal.returns-clause-stays
 returns-clause-stays g c =
     let it = always-shown {T = g.row.T.Denot} {U = g.row.U.Denot} c.domain.inside.state c.args.domain.now c.domain.invariant c.domain.view_is in
     let step = returns-clause-written g c it.0 it.1 it.2 in
-    change-stays {T = g.row.T.Denot} {U = g.row.U.Denot} c.args.domain.now _ it.0 it.1 it.2 c.args.self.loan.number (written step.0 c.args.value) step.2
+    change-stays {T = g.row.T.Denot} {U = g.row.U.Denot} c.args.domain.now _ it.0 it.1 it.2 c.args.self.loan.number (written step.0 c.args.value) step.2 (same-boxes c.domain.inside.state c.write_loan.new.state c.args.domain.now c.domain.view_is)
 
 pub returns-clause-live : goal.returns-clause-live
 returns-clause-live g c = λ never. record {
   out = returns-clause-out g c;
-  never_waits = never-waits-alike (kept_of c.write_loan.new.state) (unwritten_key c.args.self) (written_key (record { service_id = c.args.self.service_id; loan = c.write_loan.result }))
+  never_waits = never-waits-alike (keeping (c.domain.inside.boxes).boxes c.write_loan.new.state) (unwritten_key c.args.self) (written_key (record { service_id = c.args.self.service_id; loan = c.write_loan.result }))
       (ap (λ (at : LoanAt). at.publisher) c.write_loan.ensures.same) ((returns-clause-stays g c).never_wait (unwritten_key c.args.self) never);
 }
 
 pub returns-clause-unblocked : goal.returns-clause-unblocked
 returns-clause-unblocked g c = λ free.
-    unblocked-alike (kept_of c.write_loan.new.state) (unwritten_key c.args.self) (written_key (record { service_id = c.args.self.service_id; loan = c.write_loan.result }))
+    unblocked-alike (keeping (c.domain.inside.boxes).boxes c.write_loan.new.state) (unwritten_key c.args.self) (written_key (record { service_id = c.args.self.service_id; loan = c.write_loan.result }))
     (ap (λ (at : LoanAt). at.publisher) c.write_loan.ensures.same) ((returns-clause-stays g c).unblocked (unwritten_key c.args.self) free tt)
 
 pub write_loan-requires-clause-single : goal.write_loan-requires-clause-single
 write_loan-requires-clause-single g c =
-    ap (λ (k : Kept g.row.T.Denot g.row.U.Denot). (k.config).units_per_element) c.domain.view_is ∙ (single-parts c.args.domain.now c.requires.single_valued).1
+    ap (λ (k : Kept g.row.T.Denot g.row.U.Denot g.row.F.Denot). (k.config).units_per_element) c.domain.view_is ∙ (single-parts c.args.domain.now c.requires.single_valued).1
 
 pub write_loan-requires-clause-fixed_size : goal.write_loan-requires-clause-fixed_size
 write_loan-requires-clause-fixed_size g c =
-    ap (λ (k : Kept g.row.T.Denot g.row.U.Denot). (k.config).variant) c.domain.view_is ∙ (single-parts c.args.domain.now c.requires.single_valued).0
+    ap (λ (k : Kept g.row.T.Denot g.row.U.Denot g.row.F.Denot). (k.config).variant) c.domain.view_is ∙ (single-parts c.args.domain.now c.requires.single_valued).0
 
 pub returns-clause-reads : goal.returns-clause-reads
 returns-clause-reads g c =
@@ -73,7 +74,7 @@ returns-clause-user_header g c = λ header.
 
 pub returns-clause-lent : goal.returns-clause-lent
 returns-clause-lent g c = λ lent.
-    subst (λ (p : ℕ). IsPublisherKey (kept_of c.write_loan.new.state) (record { service_id = c.args.self.service_id; port = p; message = 0 })) (sym (ap (λ (at : LoanAt). at.publisher) c.write_loan.ensures.same))
+    subst (λ (p : ℕ). IsPublisherKey (keeping (c.domain.inside.boxes).boxes c.write_loan.new.state) (record { service_id = c.args.self.service_id; port = p; message = 0 })) (sym (ap (λ (at : LoanAt). at.publisher) c.write_loan.ensures.same))
     ((returns-clause-stays g c).publishers (lender_key (unwritten_key c.args.self)) lent tt)
 
 pub returns-clause-waits : goal.returns-clause-waits

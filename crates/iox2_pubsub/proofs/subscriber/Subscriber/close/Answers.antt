@@ -1,7 +1,7 @@
 use Rattle.std.proofs.Common.{ap, refl, subst, sym, ◌∙◌}
 use Rattle.std.specs.Prelude.{IsSome}
 use Rattle.iox2_store.specs.machine.State.{State}
-use Rattle.iox2_domain.specs.Fields.{kept_of}
+use Rattle.iox2_domain.specs.Fields.{keeping}
 use Rattle.iox2_pubsub.specs.Live.{subscriber_key}
 use Rattle.iox2_pubsub.proofs.CallsStay.{always-shown}
 use Rattle.iox2_pubsub.proofs.ClosesShown.{subscriber-close-shows, subscriber-close-stays, subscriber-close-spends}
@@ -9,6 +9,7 @@ use Rattle.iox2_pubsub.proofs.ClosesWait.{subscriber-close-none, subscriber-clos
 use Rattle.iox2_pubsub.proofs.LiveParts.{subscriber-parts}
 use Rattle.iox2_pubsub.proofs.ReceptionShown.{subscriber-missing}
 use Rattle.iox2_pubsub.proofs.LoansLeftShown.{subscriber-close-left}
+use Rattle.iox2_pubsub.proofs.StaysBut.{same-boxes}
 use Rattle.iox2_pubsub.proofs.subscriber.Subscriber.close.Goals as goal
 
 pub find_live_subscriber-place-requires : goal.find_live_subscriber-place-requires
@@ -31,7 +32,7 @@ returns-clause-spent g c =
     let it = always-shown {T = g.row.T.Denot} {U = g.row.U.Denot} c.domain.inside.state c.args.domain.now c.domain.invariant c.domain.view_is in
     let has = (subscriber-parts c.args.domain.now _ c.requires).2 in
     let there = ap (λ (t : State g.row.T.Denot g.row.U.Denot). t.subscribers c.args.self.id) (it.2).state ∙ has.1 in
-    subscriber-close-spends {T = g.row.T.Denot} {U = g.row.U.Denot} c.args.domain.now (kept_of c.close_subscriber.new.state) it.0 it.1 it.2 c.args.self.id has.0
+    subscriber-close-spends {T = g.row.T.Denot} {U = g.row.U.Denot} c.args.domain.now (keeping _ c.close_subscriber.new.state) it.0 it.1 it.2 c.args.self.id has.0
     (returns-clause-closed g c it.0 it.1 has.0 it.2 there) (subscriber_key c.args.self) refl
 
 pub returns-clause-stays : goal.returns-clause-stays
@@ -39,15 +40,15 @@ returns-clause-stays g c =
     let it = always-shown {T = g.row.T.Denot} {U = g.row.U.Denot} c.domain.inside.state c.args.domain.now c.domain.invariant c.domain.view_is in
     let has = (subscriber-parts c.args.domain.now _ c.requires).2 in
     let there = ap (λ (t : State g.row.T.Denot g.row.U.Denot). t.subscribers c.args.self.id) (it.2).state ∙ has.1 in
-    subscriber-close-stays {T = g.row.T.Denot} {U = g.row.U.Denot} c.args.domain.now (kept_of c.close_subscriber.new.state) it.0 it.1 it.2 c.args.self.id has.0
-    (returns-clause-closed g c it.0 it.1 has.0 it.2 there)
+    subscriber-close-stays {T = g.row.T.Denot} {U = g.row.U.Denot} c.args.domain.now (keeping _ c.close_subscriber.new.state) it.0 it.1 it.2 c.args.self.id has.0
+    (returns-clause-closed g c it.0 it.1 has.0 it.2 there) (same-boxes c.domain.inside.state c.close_subscriber.new.state c.args.domain.now c.domain.view_is)
 
 pub returns-clause-none : goal.returns-clause-none
 returns-clause-none g c =
     let it = always-shown {T = g.row.T.Denot} {U = g.row.U.Denot} c.domain.inside.state c.args.domain.now c.domain.invariant c.domain.view_is in
     let has = (subscriber-parts c.args.domain.now _ c.requires).2 in
     let there = ap (λ (t : State g.row.T.Denot g.row.U.Denot). t.subscribers c.args.self.id) (it.2).state ∙ has.1 in
-    subscriber-close-none {T = g.row.T.Denot} {U = g.row.U.Denot} c.args.domain.now (kept_of c.close_subscriber.new.state) it.0 it.1 it.2 c.args.self.id has.0
+    subscriber-close-none {T = g.row.T.Denot} {U = g.row.U.Denot} c.args.domain.now (keeping _ c.close_subscriber.new.state) it.0 it.1 it.2 c.args.self.id has.0
     (returns-clause-closed g c it.0 it.1 has.0 it.2 there) c.args.self refl
 
 pub returns-clause-others : goal.returns-clause-others
@@ -55,7 +56,7 @@ returns-clause-others g c =
     let it = always-shown {T = g.row.T.Denot} {U = g.row.U.Denot} c.domain.inside.state c.args.domain.now c.domain.invariant c.domain.view_is in
     let has = (subscriber-parts c.args.domain.now _ c.requires).2 in
     let there = ap (λ (t : State g.row.T.Denot g.row.U.Denot). t.subscribers c.args.self.id) (it.2).state ∙ has.1 in
-    subscriber-close-others {T = g.row.T.Denot} {U = g.row.U.Denot} c.args.domain.now (kept_of c.close_subscriber.new.state) it.0 it.1 it.2 c.args.self.id has.0
+    subscriber-close-others {T = g.row.T.Denot} {U = g.row.U.Denot} c.args.domain.now (keeping _ c.close_subscriber.new.state) it.0 it.1 it.2 c.args.self.id has.0
     (returns-clause-closed g c it.0 it.1 has.0 it.2 there) c.args.self refl
 
 pub returns-clause-up_to_date : goal.returns-clause-up_to_date
@@ -63,7 +64,7 @@ returns-clause-up_to_date g c =
     let it = always-shown {T = g.row.T.Denot} {U = g.row.U.Denot} c.domain.inside.state c.args.domain.now c.domain.invariant c.domain.view_is in
     let has = (subscriber-parts c.args.domain.now _ c.requires).2 in
     let there = ap (λ (t : State g.row.T.Denot g.row.U.Denot). t.subscribers c.args.self.id) (it.2).state ∙ has.1 in
-    subscriber-close-leaves {T = g.row.T.Denot} {U = g.row.U.Denot} c.args.domain.now (kept_of c.close_subscriber.new.state) it.0 it.1 it.2 c.args.self.id has.0
+    subscriber-close-leaves {T = g.row.T.Denot} {U = g.row.U.Denot} c.args.domain.now (keeping _ c.close_subscriber.new.state) it.0 it.1 it.2 c.args.self.id has.0
     (returns-clause-closed g c it.0 it.1 has.0 it.2 there) c.args.self refl
 
 pub returns-clause-loans_left : goal.returns-clause-loans_left
@@ -71,5 +72,5 @@ returns-clause-loans_left g c =
     let it = always-shown {T = g.row.T.Denot} {U = g.row.U.Denot} c.domain.inside.state c.args.domain.now c.domain.invariant c.domain.view_is in
     let has = (subscriber-parts c.args.domain.now _ c.requires).2 in
     let there = ap (λ (t : State g.row.T.Denot g.row.U.Denot). t.subscribers c.args.self.id) (it.2).state ∙ has.1 in
-    subscriber-close-left {T = g.row.T.Denot} {U = g.row.U.Denot} c.args.domain.now (kept_of c.close_subscriber.new.state) it.0 it.0 it.1 _ it.2
+    subscriber-close-left {T = g.row.T.Denot} {U = g.row.U.Denot} c.args.domain.now (keeping _ c.close_subscriber.new.state) it.0 it.0 it.1 _ it.2
     (returns-clause-closed g c it.0 it.1 has.0 it.2 there) c.args.self.id has.0 refl

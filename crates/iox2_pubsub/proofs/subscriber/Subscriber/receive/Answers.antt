@@ -1,7 +1,7 @@
 use Rattle.std.proofs.Common.{◌≡◌, ℕ, ap, sym, subst, ◌∙◌, Ok, Err, Some, None, refl, Option}
 use Rattle.iox2_store.specs.machine.Environments.{fixed_handlers}
 use Rattle.iox2_store.specs.machine.Receives.{Got_sample, No_sample, Receive_error}
-use Rattle.iox2_domain.specs.Fields.{kept_of}
+use Rattle.iox2_domain.specs.Fields.{keeping}
 use Rattle.iox2_pubsub.specs.Live.{IsNewIn, A_sample}
 use Rattle.iox2_pubsub.specs.ReceivedSamples.{received_result}
 use Rattle.iox2_domain.specs.declared.sample_slots.Receipt.{Receipt}
@@ -10,6 +10,7 @@ use Rattle.iox2_pubsub.proofs.CallsStay.{always-shown, receive-stays, received-i
 use Rattle.iox2_pubsub.proofs.WaitingShown.{received-fewer, received-none, received-no-more, received-others, received-reads}
 use Rattle.iox2_pubsub.proofs.UpToDateShown.{receive-leaves, received-updated, received-one-fewer}
 use Rattle.iox2_pubsub.proofs.LoansLeftShown.{receive-left}
+use Rattle.iox2_pubsub.proofs.StaysBut.{same-boxes}
 use Rattle.iox2_pubsub.proofs.subscriber.Subscriber.receive.Goals as goal
 
 pub returns-in_err-receipt-clause-receives : goal.returns-in_err-receipt-clause-receives
@@ -59,26 +60,26 @@ returns-clause-new g c =
     let it = always-shown {T = g.row.T.Denot} {U = g.row.U.Denot} c.domain.inside.state c.args.domain.now c.domain.invariant c.domain.view_is in
     let step = returns-clause-receives g c it.0 it.1 it.2 in
     subst (λ (q : ℕ). IsNewIn c.args.domain.now (A_sample q c.in-Some.receipt.sample.number)) (sym (returns-clause-subscriber g c))
-    (received-is-new {T = g.row.T.Denot} {U = g.row.U.Denot} c.args.domain.now (kept_of c.receive_at.new.state) it.0 it.1 it.2 fixed_handlers c.in-Some.receipt.publisher c.args.self.now.id
+    (received-is-new {T = g.row.T.Denot} {U = g.row.U.Denot} c.args.domain.now (keeping (c.domain.inside.boxes).boxes c.receive_at.new.state) it.0 it.1 it.2 fixed_handlers c.in-Some.receipt.publisher c.args.self.now.id
     c.in-Some.receipt.sample.number step.0 step.1 step.2)
 
 pub returns-in_err-receipt-clause-stays : goal.returns-in_err-receipt-clause-stays
 returns-in_err-receipt-clause-stays g c =
     let it = always-shown {T = g.row.T.Denot} {U = g.row.U.Denot} c.domain.inside.state c.args.domain.now c.domain.invariant c.domain.view_is in
     let step = returns-in_err-receipt-clause-receives g c it.0 it.1 it.2 in
-    receive-stays {T = g.row.T.Denot} {U = g.row.U.Denot} c.args.domain.now _ it.0 it.1 it.2 fixed_handlers c.args.self.now.id (received_result c.from_residual.result) step.0 step.1 step.2
+    receive-stays {T = g.row.T.Denot} {U = g.row.U.Denot} c.args.domain.now _ it.0 it.1 it.2 fixed_handlers c.args.self.now.id (received_result c.from_residual.result) step.0 step.1 step.2 (same-boxes c.domain.inside.state c.receive_at.new.state c.args.domain.now c.domain.view_is)
 
 pub returns-in_default-clause-stays : goal.returns-in_default-clause-stays
 returns-in_default-clause-stays g c =
     let it = always-shown {T = g.row.T.Denot} {U = g.row.U.Denot} c.domain.inside.state c.args.domain.now c.domain.invariant c.domain.view_is in
     let step = returns-in_default-clause-receives g c it.0 it.1 it.2 in
-    receive-stays {T = g.row.T.Denot} {U = g.row.U.Denot} c.args.domain.now _ it.0 it.1 it.2 fixed_handlers c.args.self.now.id No_sample step.0 step.1 step.2
+    receive-stays {T = g.row.T.Denot} {U = g.row.U.Denot} c.args.domain.now _ it.0 it.1 it.2 fixed_handlers c.args.self.now.id No_sample step.0 step.1 step.2 (same-boxes c.domain.inside.state c.receive_at.new.state c.args.domain.now c.domain.view_is)
 
 pub returns-clause-stays : goal.returns-clause-stays
 returns-clause-stays g c =
     let it = always-shown {T = g.row.T.Denot} {U = g.row.U.Denot} c.domain.inside.state c.args.domain.now c.domain.invariant c.domain.view_is in
     let step = returns-clause-receives g c it.0 it.1 it.2 in
-    receive-stays {T = g.row.T.Denot} {U = g.row.U.Denot} c.args.domain.now _ it.0 it.1 it.2 fixed_handlers c.args.self.now.id (Got_sample c.in-Some.receipt.publisher c.in-Some.receipt.sample.number) step.0 step.1 step.2
+    receive-stays {T = g.row.T.Denot} {U = g.row.U.Denot} c.args.domain.now _ it.0 it.1 it.2 fixed_handlers c.args.self.now.id (Got_sample c.in-Some.receipt.publisher c.in-Some.receipt.sample.number) step.0 step.1 step.2 (same-boxes c.domain.inside.state c.receive_at.new.state c.args.domain.now c.domain.view_is)
 
 pub find_live_subscriber-place-requires : goal.find_live_subscriber-place-requires
 find_live_subscriber-place-requires g c = λ none.
@@ -89,107 +90,107 @@ pub returns-clause-fewer : goal.returns-clause-fewer
 returns-clause-fewer g c =
     let it = always-shown {T = g.row.T.Denot} {U = g.row.U.Denot} c.domain.inside.state c.args.domain.now c.domain.invariant c.domain.view_is in
     let step = returns-clause-receives g c it.0 it.1 it.2 in
-    received-fewer {T = g.row.T.Denot} {U = g.row.U.Denot} c.args.domain.now (kept_of c.receive_at.new.state) it.0 it.0 it.1 step.0 it.2 step.1 fixed_handlers c.args.self.now c.requires c.in-Some.receipt.publisher c.in-Some.receipt.sample.number step.2
+    received-fewer {T = g.row.T.Denot} {U = g.row.U.Denot} c.args.domain.now (keeping (c.domain.inside.boxes).boxes c.receive_at.new.state) it.0 it.0 it.1 step.0 it.2 step.1 fixed_handlers c.args.self.now c.requires c.in-Some.receipt.publisher c.in-Some.receipt.sample.number step.2
 
 pub returns-in_default-clause-none : goal.returns-in_default-clause-none
 returns-in_default-clause-none g c =
     let it = always-shown {T = g.row.T.Denot} {U = g.row.U.Denot} c.domain.inside.state c.args.domain.now c.domain.invariant c.domain.view_is in
     let step = returns-in_default-clause-receives g c it.0 it.1 it.2 in
-    received-none {T = g.row.T.Denot} {U = g.row.U.Denot} c.args.domain.now (kept_of c.receive_at.new.state) it.0 it.0 it.1 step.0 it.2 step.1 fixed_handlers c.args.self.now step.2
+    received-none {T = g.row.T.Denot} {U = g.row.U.Denot} c.args.domain.now (keeping (c.domain.inside.boxes).boxes c.receive_at.new.state) it.0 it.0 it.1 step.0 it.2 step.1 fixed_handlers c.args.self.now step.2
 
 pub returns-in_err-receipt-clause-others : goal.returns-in_err-receipt-clause-others
 returns-in_err-receipt-clause-others g c =
     let it = always-shown {T = g.row.T.Denot} {U = g.row.U.Denot} c.domain.inside.state c.args.domain.now c.domain.invariant c.domain.view_is in
     let step = returns-in_err-receipt-clause-receives g c it.0 it.1 it.2 in
-    received-others {T = g.row.T.Denot} {U = g.row.U.Denot} c.args.domain.now (kept_of c.receive_at.new.state) it.0 it.0 it.1 step.0 it.2 step.1 fixed_handlers c.args.self.now (λ n entry at. at) (received_result c.from_residual.result) step.2
+    received-others {T = g.row.T.Denot} {U = g.row.U.Denot} c.args.domain.now (keeping (c.domain.inside.boxes).boxes c.receive_at.new.state) it.0 it.0 it.1 step.0 it.2 step.1 fixed_handlers c.args.self.now (λ n entry at. at) (received_result c.from_residual.result) step.2
 
 pub returns-in_default-clause-others : goal.returns-in_default-clause-others
 returns-in_default-clause-others g c =
     let it = always-shown {T = g.row.T.Denot} {U = g.row.U.Denot} c.domain.inside.state c.args.domain.now c.domain.invariant c.domain.view_is in
     let step = returns-in_default-clause-receives g c it.0 it.1 it.2 in
-    received-others {T = g.row.T.Denot} {U = g.row.U.Denot} c.args.domain.now (kept_of c.receive_at.new.state) it.0 it.0 it.1 step.0 it.2 step.1 fixed_handlers c.args.self.now (λ n entry at. at) No_sample step.2
+    received-others {T = g.row.T.Denot} {U = g.row.U.Denot} c.args.domain.now (keeping (c.domain.inside.boxes).boxes c.receive_at.new.state) it.0 it.0 it.1 step.0 it.2 step.1 fixed_handlers c.args.self.now (λ n entry at. at) No_sample step.2
 
 pub returns-clause-others : goal.returns-clause-others
 returns-clause-others g c =
     let it = always-shown {T = g.row.T.Denot} {U = g.row.U.Denot} c.domain.inside.state c.args.domain.now c.domain.invariant c.domain.view_is in
     let step = returns-clause-receives g c it.0 it.1 it.2 in
-    received-others {T = g.row.T.Denot} {U = g.row.U.Denot} c.args.domain.now (kept_of c.receive_at.new.state) it.0 it.0 it.1 step.0 it.2 step.1 fixed_handlers c.args.self.now (λ n entry at. at) (Got_sample c.in-Some.receipt.publisher c.in-Some.receipt.sample.number) step.2
+    received-others {T = g.row.T.Denot} {U = g.row.U.Denot} c.args.domain.now (keeping (c.domain.inside.boxes).boxes c.receive_at.new.state) it.0 it.0 it.1 step.0 it.2 step.1 fixed_handlers c.args.self.now (λ n entry at. at) (Got_sample c.in-Some.receipt.publisher c.in-Some.receipt.sample.number) step.2
 
 pub returns-in_err-receipt-clause-no_more : goal.returns-in_err-receipt-clause-no_more
 returns-in_err-receipt-clause-no_more g c =
     let it = always-shown {T = g.row.T.Denot} {U = g.row.U.Denot} c.domain.inside.state c.args.domain.now c.domain.invariant c.domain.view_is in
     let step = returns-in_err-receipt-clause-receives g c it.0 it.1 it.2 in
-    received-no-more {T = g.row.T.Denot} {U = g.row.U.Denot} c.args.domain.now (kept_of c.receive_at.new.state) it.0 it.0 it.1 step.0 it.2 step.1 fixed_handlers c.args.self.now c.requires (received_result c.from_residual.result) step.2
+    received-no-more {T = g.row.T.Denot} {U = g.row.U.Denot} c.args.domain.now (keeping (c.domain.inside.boxes).boxes c.receive_at.new.state) it.0 it.0 it.1 step.0 it.2 step.1 fixed_handlers c.args.self.now c.requires (received_result c.from_residual.result) step.2
 
 pub returns-in_default-clause-no_more : goal.returns-in_default-clause-no_more
 returns-in_default-clause-no_more g c =
     let it = always-shown {T = g.row.T.Denot} {U = g.row.U.Denot} c.domain.inside.state c.args.domain.now c.domain.invariant c.domain.view_is in
     let step = returns-in_default-clause-receives g c it.0 it.1 it.2 in
-    received-no-more {T = g.row.T.Denot} {U = g.row.U.Denot} c.args.domain.now (kept_of c.receive_at.new.state) it.0 it.0 it.1 step.0 it.2 step.1 fixed_handlers c.args.self.now c.requires No_sample step.2
+    received-no-more {T = g.row.T.Denot} {U = g.row.U.Denot} c.args.domain.now (keeping (c.domain.inside.boxes).boxes c.receive_at.new.state) it.0 it.0 it.1 step.0 it.2 step.1 fixed_handlers c.args.self.now c.requires No_sample step.2
 
 pub returns-clause-no_more : goal.returns-clause-no_more
 returns-clause-no_more g c =
     let it = always-shown {T = g.row.T.Denot} {U = g.row.U.Denot} c.domain.inside.state c.args.domain.now c.domain.invariant c.domain.view_is in
     let step = returns-clause-receives g c it.0 it.1 it.2 in
-    received-no-more {T = g.row.T.Denot} {U = g.row.U.Denot} c.args.domain.now (kept_of c.receive_at.new.state) it.0 it.0 it.1 step.0 it.2 step.1 fixed_handlers c.args.self.now c.requires (Got_sample c.in-Some.receipt.publisher c.in-Some.receipt.sample.number) step.2
+    received-no-more {T = g.row.T.Denot} {U = g.row.U.Denot} c.args.domain.now (keeping (c.domain.inside.boxes).boxes c.receive_at.new.state) it.0 it.0 it.1 step.0 it.2 step.1 fixed_handlers c.args.self.now c.requires (Got_sample c.in-Some.receipt.publisher c.in-Some.receipt.sample.number) step.2
 
 pub returns-clause-reads : goal.returns-clause-reads
 returns-clause-reads g c =
     let it = always-shown {T = g.row.T.Denot} {U = g.row.U.Denot} c.domain.inside.state c.args.domain.now c.domain.invariant c.domain.view_is in
     let step = returns-clause-receives g c it.0 it.1 it.2 in
-    received-reads {T = g.row.T.Denot} {U = g.row.U.Denot} c.args.domain.now (kept_of c.receive_at.new.state) it.0 it.0 it.1 step.0 it.2 step.1 fixed_handlers c.args.self.now (λ n entry at. at) c.requires
+    received-reads {T = g.row.T.Denot} {U = g.row.U.Denot} c.args.domain.now (keeping (c.domain.inside.boxes).boxes c.receive_at.new.state) it.0 it.0 it.1 step.0 it.2 step.1 fixed_handlers c.args.self.now (λ n entry at. at) c.requires
     c.in-Some.receipt.publisher (record { service_id = c.args.self.now.service_id; origin = c.in-Some.receipt.publisher; sample = c.in-Some.receipt.sample }) step.2
 
 pub returns-in_err-receipt-clause-up_to_date : goal.returns-in_err-receipt-clause-up_to_date
 returns-in_err-receipt-clause-up_to_date g c =
     let it = always-shown {T = g.row.T.Denot} {U = g.row.U.Denot} c.domain.inside.state c.args.domain.now c.domain.invariant c.domain.view_is in
     let step = returns-in_err-receipt-clause-receives g c it.0 it.1 it.2 in
-    receive-leaves {T = g.row.T.Denot} {U = g.row.U.Denot} c.args.domain.now (kept_of c.receive_at.new.state) it.0 it.0 it.1 step.0 it.2 step.1 fixed_handlers c.args.self.now (received_result c.from_residual.result) step.2
+    receive-leaves {T = g.row.T.Denot} {U = g.row.U.Denot} c.args.domain.now (keeping (c.domain.inside.boxes).boxes c.receive_at.new.state) it.0 it.0 it.1 step.0 it.2 step.1 fixed_handlers c.args.self.now (received_result c.from_residual.result) step.2
 
 pub returns-in_default-clause-up_to_date : goal.returns-in_default-clause-up_to_date
 returns-in_default-clause-up_to_date g c =
     let it = always-shown {T = g.row.T.Denot} {U = g.row.U.Denot} c.domain.inside.state c.args.domain.now c.domain.invariant c.domain.view_is in
     let step = returns-in_default-clause-receives g c it.0 it.1 it.2 in
-    receive-leaves {T = g.row.T.Denot} {U = g.row.U.Denot} c.args.domain.now (kept_of c.receive_at.new.state) it.0 it.0 it.1 step.0 it.2 step.1 fixed_handlers c.args.self.now No_sample step.2
+    receive-leaves {T = g.row.T.Denot} {U = g.row.U.Denot} c.args.domain.now (keeping (c.domain.inside.boxes).boxes c.receive_at.new.state) it.0 it.0 it.1 step.0 it.2 step.1 fixed_handlers c.args.self.now No_sample step.2
 
 pub returns-clause-up_to_date : goal.returns-clause-up_to_date
 returns-clause-up_to_date g c =
     let it = always-shown {T = g.row.T.Denot} {U = g.row.U.Denot} c.domain.inside.state c.args.domain.now c.domain.invariant c.domain.view_is in
     let step = returns-clause-receives g c it.0 it.1 it.2 in
-    receive-leaves {T = g.row.T.Denot} {U = g.row.U.Denot} c.args.domain.now (kept_of c.receive_at.new.state) it.0 it.0 it.1 step.0 it.2 step.1 fixed_handlers c.args.self.now (Got_sample c.in-Some.receipt.publisher c.in-Some.receipt.sample.number) step.2
+    receive-leaves {T = g.row.T.Denot} {U = g.row.U.Denot} c.args.domain.now (keeping (c.domain.inside.boxes).boxes c.receive_at.new.state) it.0 it.0 it.1 step.0 it.2 step.1 fixed_handlers c.args.self.now (Got_sample c.in-Some.receipt.publisher c.in-Some.receipt.sample.number) step.2
 
 pub returns-in_default-clause-updated : goal.returns-in_default-clause-updated
 returns-in_default-clause-updated g c =
     let it = always-shown {T = g.row.T.Denot} {U = g.row.U.Denot} c.domain.inside.state c.args.domain.now c.domain.invariant c.domain.view_is in
     let step = returns-in_default-clause-receives g c it.0 it.1 it.2 in
-    received-updated {T = g.row.T.Denot} {U = g.row.U.Denot} c.args.domain.now (kept_of c.receive_at.new.state) it.0 it.0 it.1 step.0 it.2 step.1 fixed_handlers c.args.self.now c.requires No_sample (λ e is. let clash : No_sample ≡ Receive_error e = is in absurd cc) step.2
+    received-updated {T = g.row.T.Denot} {U = g.row.U.Denot} c.args.domain.now (keeping (c.domain.inside.boxes).boxes c.receive_at.new.state) it.0 it.0 it.1 step.0 it.2 step.1 fixed_handlers c.args.self.now c.requires No_sample (λ e is. let clash : No_sample ≡ Receive_error e = is in absurd cc) step.2
 
 pub returns-clause-updated : goal.returns-clause-updated
 returns-clause-updated g c =
     let it = always-shown {T = g.row.T.Denot} {U = g.row.U.Denot} c.domain.inside.state c.args.domain.now c.domain.invariant c.domain.view_is in
     let step = returns-clause-receives g c it.0 it.1 it.2 in
-    received-updated {T = g.row.T.Denot} {U = g.row.U.Denot} c.args.domain.now (kept_of c.receive_at.new.state) it.0 it.0 it.1 step.0 it.2 step.1 fixed_handlers c.args.self.now c.requires (Got_sample c.in-Some.receipt.publisher c.in-Some.receipt.sample.number) (λ e is. let clash : Got_sample c.in-Some.receipt.publisher c.in-Some.receipt.sample.number ≡ Receive_error e = is in absurd cc) step.2
+    received-updated {T = g.row.T.Denot} {U = g.row.U.Denot} c.args.domain.now (keeping (c.domain.inside.boxes).boxes c.receive_at.new.state) it.0 it.0 it.1 step.0 it.2 step.1 fixed_handlers c.args.self.now c.requires (Got_sample c.in-Some.receipt.publisher c.in-Some.receipt.sample.number) (λ e is. let clash : Got_sample c.in-Some.receipt.publisher c.in-Some.receipt.sample.number ≡ Receive_error e = is in absurd cc) step.2
 
 pub returns-clause-one_fewer : goal.returns-clause-one_fewer
 returns-clause-one_fewer g c =
     let it = always-shown {T = g.row.T.Denot} {U = g.row.U.Denot} c.domain.inside.state c.args.domain.now c.domain.invariant c.domain.view_is in
     let step = returns-clause-receives g c it.0 it.1 it.2 in
-    received-one-fewer {T = g.row.T.Denot} {U = g.row.U.Denot} c.args.domain.now (kept_of c.receive_at.new.state) it.0 it.0 it.1 step.0 it.2 step.1 fixed_handlers c.args.self.now c.in-Some.receipt.publisher c.in-Some.receipt.sample.number step.2
+    received-one-fewer {T = g.row.T.Denot} {U = g.row.U.Denot} c.args.domain.now (keeping (c.domain.inside.boxes).boxes c.receive_at.new.state) it.0 it.0 it.1 step.0 it.2 step.1 fixed_handlers c.args.self.now c.in-Some.receipt.publisher c.in-Some.receipt.sample.number step.2
 
 pub returns-in_err-receipt-clause-loans_left : goal.returns-in_err-receipt-clause-loans_left
 returns-in_err-receipt-clause-loans_left g c =
     let it = always-shown {T = g.row.T.Denot} {U = g.row.U.Denot} c.domain.inside.state c.args.domain.now c.domain.invariant c.domain.view_is in
     let step = returns-in_err-receipt-clause-receives g c it.0 it.1 it.2 in
-    receive-left {T = g.row.T.Denot} {U = g.row.U.Denot} c.args.domain.now (kept_of c.receive_at.new.state) it.0 it.0 it.1 step.0 it.2 step.1 fixed_handlers c.args.self.now.id (received_result c.from_residual.result) step.2
+    receive-left {T = g.row.T.Denot} {U = g.row.U.Denot} c.args.domain.now (keeping (c.domain.inside.boxes).boxes c.receive_at.new.state) it.0 it.0 it.1 step.0 it.2 step.1 fixed_handlers c.args.self.now.id (received_result c.from_residual.result) step.2
 
 pub returns-in_default-clause-loans_left : goal.returns-in_default-clause-loans_left
 returns-in_default-clause-loans_left g c =
     let it = always-shown {T = g.row.T.Denot} {U = g.row.U.Denot} c.domain.inside.state c.args.domain.now c.domain.invariant c.domain.view_is in
     let step = returns-in_default-clause-receives g c it.0 it.1 it.2 in
-    receive-left {T = g.row.T.Denot} {U = g.row.U.Denot} c.args.domain.now (kept_of c.receive_at.new.state) it.0 it.0 it.1 step.0 it.2 step.1 fixed_handlers c.args.self.now.id No_sample step.2
+    receive-left {T = g.row.T.Denot} {U = g.row.U.Denot} c.args.domain.now (keeping (c.domain.inside.boxes).boxes c.receive_at.new.state) it.0 it.0 it.1 step.0 it.2 step.1 fixed_handlers c.args.self.now.id No_sample step.2
 
 pub returns-clause-loans_left : goal.returns-clause-loans_left
 returns-clause-loans_left g c =
     let it = always-shown {T = g.row.T.Denot} {U = g.row.U.Denot} c.domain.inside.state c.args.domain.now c.domain.invariant c.domain.view_is in
     let step = returns-clause-receives g c it.0 it.1 it.2 in
-    receive-left {T = g.row.T.Denot} {U = g.row.U.Denot} c.args.domain.now (kept_of c.receive_at.new.state) it.0 it.0 it.1 step.0 it.2 step.1 fixed_handlers c.args.self.now.id (Got_sample c.in-Some.receipt.publisher c.in-Some.receipt.sample.number) step.2
+    receive-left {T = g.row.T.Denot} {U = g.row.U.Denot} c.args.domain.now (keeping (c.domain.inside.boxes).boxes c.receive_at.new.state) it.0 it.0 it.1 step.0 it.2 step.1 fixed_handlers c.args.self.now.id (Got_sample c.in-Some.receipt.publisher c.in-Some.receipt.sample.number) step.2

@@ -9,6 +9,7 @@ use Rattle.iox2_pubsub.proofs.CallsStay.{always-shown, subscriber-creation-stays
 use Rattle.iox2_pubsub.proofs.WaitingShown.{created-none, creation-waits}
 use Rattle.iox2_pubsub.proofs.UpToDateShown.{creation-leaves}
 use Rattle.iox2_pubsub.proofs.LoansLeftShown.{subscriber-creation-left}
+use Rattle.iox2_pubsub.proofs.StaysBut.{same-boxes}
 use Rattle.iox2_pubsub.proofs.port_factory.subscriber.PortFactorySubscriber.create.Goals as goal
 
 pub returns-in_err-port-clause-creates : goal.returns-in_err-port-clause-creates
@@ -28,7 +29,7 @@ returns-clause-creates g c =
 
 pub returns-clause-live : goal.returns-clause-live
 returns-clause-live g c =
-    made-live {T = g.row.T.Denot} {U = g.row.U.Denot} fixed_handlers c.domain.inside.state c.create_subscriber.new.state (asked_for c.self.inside.buffer_size) c.in_ok-port.ensures.step
+    made-live {T = g.row.T.Denot} {U = g.row.U.Denot} fixed_handlers c.domain.inside.state c.create_subscriber.new.state (asked_for c.self.inside.buffer_size) (c.domain.inside.boxes).boxes c.in_ok-port.ensures.step
     (record { service_id = c.config.result.now.service_id; id = c.in_ok-port.port.id; place = c.in_ok-port.port.place; buffer_size = c.max.result })
     (ap (λ (config : ServiceConfig). config.service_id) c.config.ensures)
     c.in_ok-port.ensures.id
@@ -38,13 +39,13 @@ returns-in_err-port-clause-stays g c =
     let it = always-shown {T = g.row.T.Denot} {U = g.row.U.Denot} c.domain.inside.state c.args.domain.now c.domain.invariant c.domain.view_is in
     let step = refused-shown {T = g.row.T.Denot} {U = g.row.U.Denot} fixed_handlers c.domain.inside.state c.create_subscriber.new.state c.args.domain.now c.domain.view_is
     (asked_for c.self.inside.buffer_size) c.args.self c.self.view_is c.in_err-port.field-0.0 c.in_err-port.ensures.step it.0 it.1 it.2 in
-    subscriber-creation-stays {T = g.row.T.Denot} {U = g.row.U.Denot} c.args.domain.now _ it.0 it.1 it.2 fixed_handlers c.args.self (Some c.in_err-port.field-0.0) step.0 step.1 step.2
+    subscriber-creation-stays {T = g.row.T.Denot} {U = g.row.U.Denot} c.args.domain.now _ it.0 it.1 it.2 fixed_handlers c.args.self (Some c.in_err-port.field-0.0) step.0 step.1 step.2 (same-boxes c.domain.inside.state c.create_subscriber.new.state c.args.domain.now c.domain.view_is)
 
 pub returns-clause-stays : goal.returns-clause-stays
 returns-clause-stays g c =
     let it = always-shown {T = g.row.T.Denot} {U = g.row.U.Denot} c.domain.inside.state c.args.domain.now c.domain.invariant c.domain.view_is in
     let step = returns-clause-creates g c it.0 it.1 it.2 in
-    subscriber-creation-stays {T = g.row.T.Denot} {U = g.row.U.Denot} c.args.domain.now _ it.0 it.1 it.2 fixed_handlers c.args.self None step.0 step.1 (step.2).0
+    subscriber-creation-stays {T = g.row.T.Denot} {U = g.row.U.Denot} c.args.domain.now _ it.0 it.1 it.2 fixed_handlers c.args.self None step.0 step.1 (step.2).0 (same-boxes c.domain.inside.state c.create_subscriber.new.state c.args.domain.now c.domain.view_is)
 
 pub returns-clause-new : goal.returns-clause-new
 returns-clause-new g c =

@@ -5,11 +5,11 @@ use Rattle.iox2_store.specs.machine.Environments.{fixed_handlers}
 use Rattle.iox2_laws.proofs.LoanKeeping.{update_subscriber_loans}
 use Rattle.iox2_laws.proofs.PortsStay.{update_subscriber_stays}
 use Rattle.iox2_laws.proofs.Waits.{update_subscriber_waits}
-use Rattle.iox2_domain.specs.Fields.{kept_of}
+use Rattle.iox2_domain.specs.Fields.{keeping}
 use Rattle.iox2_pubsub.specs.Live.{No_item, subscriber_key}
 use Rattle.iox2_pubsub.proofs.CallsStay.{always-shown}
 use Rattle.iox2_pubsub.proofs.ReceptionShown.{subscriber-missing}
-use Rattle.iox2_pubsub.proofs.StaysBut.{IsSpared}
+use Rattle.iox2_pubsub.proofs.StaysBut.{same-boxes, IsSpared}
 use Rattle.iox2_pubsub.proofs.UpdateShown.{subscriber-update-shows}
 use Rattle.iox2_pubsub.proofs.UpdatesStay.{updates-stay}
 use Rattle.iox2_pubsub.proofs.WaitingShown.{subscriber-update-adds}
@@ -35,10 +35,10 @@ pub returns-clause-stays : goal.returns-clause-stays
 returns-clause-stays g c =
     let it = always-shown {T = g.row.T.Denot} {U = g.row.U.Denot} c.domain.inside.state c.args.domain.now c.domain.invariant c.domain.view_is in
     let step = returns-clause-updates g c it.0 it.1 it.2 in
-    updates-stay {T = g.row.T.Denot} {U = g.row.U.Denot} c.args.domain.now (kept_of c.update_subscriber.new.state) it.0 it.1 step.0 it.2 step.1
+    updates-stay {T = g.row.T.Denot} {U = g.row.U.Denot} c.args.domain.now (keeping _ c.update_subscriber.new.state) it.0 it.1 step.0 it.2 step.1
     (update_subscriber_stays fixed_handlers it.1 c.args.self.now.id step.0 (failure_of c.outcome_of.result) step.2)
     (update_subscriber_loans fixed_handlers it.1 c.args.self.now.id step.0 (failure_of c.outcome_of.result) step.2)
-    (update_subscriber_waits (IsSpared No_item) fixed_handlers it.1 c.args.self.now.id step.0 (failure_of c.outcome_of.result) step.2)
+    (update_subscriber_waits (IsSpared No_item) fixed_handlers it.1 c.args.self.now.id step.0 (failure_of c.outcome_of.result) step.2) (same-boxes c.domain.inside.state c.update_subscriber.new.state c.args.domain.now c.domain.view_is)
 
 pub returns-clause-live : goal.returns-clause-live
 returns-clause-live g c = (returns-clause-stays g c).subscribers (subscriber_key c.args.self.now) c.requires tt
@@ -47,16 +47,16 @@ pub returns-clause-adds : goal.returns-clause-adds
 returns-clause-adds g c =
     let it = always-shown {T = g.row.T.Denot} {U = g.row.U.Denot} c.domain.inside.state c.args.domain.now c.domain.invariant c.domain.view_is in
     let step = returns-clause-updates g c it.0 it.1 it.2 in
-    subscriber-update-adds {T = g.row.T.Denot} {U = g.row.U.Denot} c.args.domain.now (kept_of c.update_subscriber.new.state) it.0 it.0 it.1 step.0 it.2 step.1 fixed_handlers c.args.self.now.id (failure_of c.outcome_of.result) step.2
+    subscriber-update-adds {T = g.row.T.Denot} {U = g.row.U.Denot} c.args.domain.now (keeping _ c.update_subscriber.new.state) it.0 it.0 it.1 step.0 it.2 step.1 fixed_handlers c.args.self.now.id (failure_of c.outcome_of.result) step.2
 
 pub returns-clause-up_to_date : goal.returns-clause-up_to_date
 returns-clause-up_to_date g c =
     let it = always-shown {T = g.row.T.Denot} {U = g.row.U.Denot} c.domain.inside.state c.args.domain.now c.domain.invariant c.domain.view_is in
     let step = returns-clause-updates g c it.0 it.1 it.2 in
-    subscriber-update-leaves {T = g.row.T.Denot} {U = g.row.U.Denot} c.args.domain.now (kept_of c.update_subscriber.new.state) it.0 it.0 it.1 step.0 it.2 step.1 fixed_handlers c.args.self.now.id (failure_of c.outcome_of.result) step.2
+    subscriber-update-leaves {T = g.row.T.Denot} {U = g.row.U.Denot} c.args.domain.now (keeping _ c.update_subscriber.new.state) it.0 it.0 it.1 step.0 it.2 step.1 fixed_handlers c.args.self.now.id (failure_of c.outcome_of.result) step.2
 
 pub returns-clause-loans_left : goal.returns-clause-loans_left
 returns-clause-loans_left g c =
     let it = always-shown {T = g.row.T.Denot} {U = g.row.U.Denot} c.domain.inside.state c.args.domain.now c.domain.invariant c.domain.view_is in
     let step = returns-clause-updates g c it.0 it.1 it.2 in
-    update-subscriber-left {T = g.row.T.Denot} {U = g.row.U.Denot} c.args.domain.now (kept_of c.update_subscriber.new.state) it.0 it.0 it.1 step.0 it.2 step.1 fixed_handlers c.args.self.now.id (failure_of c.outcome_of.result) step.2
+    update-subscriber-left {T = g.row.T.Denot} {U = g.row.U.Denot} c.args.domain.now (keeping _ c.update_subscriber.new.state) it.0 it.0 it.1 step.0 it.2 step.1 fixed_handlers c.args.self.now.id (failure_of c.outcome_of.result) step.2

@@ -1,0 +1,2 @@
+-- What the boxes of ports come to.
+pub mod KeptBoxes
