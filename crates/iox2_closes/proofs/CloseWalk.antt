@@ -41,8 +41,8 @@ module _ {T U : Type 0} (f : Fields T U) (sound : IsDomain f) where
   parts = owned_parts_of f sound
 
   -- something stands in each connection with a publisher that is gone
-  pub sound-busy : (key : ℕ) (c : Link) → get f.connections key ≡ Some c → HasNoPublisher f.publishers c → IsBusy c
-  sound-busy key c at departed = elim (sound.parts.linked.ends key c at) [
+  pub departed-busy : (key : ℕ) (c : Link) → get f.connections key ≡ Some c → HasNoPublisher f.publishers c → IsBusy c
+  departed-busy key c at departed = elim (sound.parts.linked.ends key c at) [
     | inl has ↦ absurd (departed c.home.publisher_place has.publisher has.stands has.is_its)
     | inr has ↦ busy (kept has has.has)
   ] where
@@ -120,7 +120,7 @@ module _ {T U : Type 0} (f : Fields T U) (sound : IsDomain f) (place : ℕ) (y :
     publishers = refl;
     next_port = refl;
     subscriber = (shut f (owned_parts_of f sound) place y at_y, shut-here, refl);
-    busy = sound-busy f sound;
+    busy = departed-busy f sound;
     dropped = λ k c at its departed. inr (all k (left-known k c at its departed));
     held = left-held f sound;
     sheds = subst (Sheds shut_state y.id (record port { is_open = false })) (sym (shut-is f (owned_parts_of f sound) place y at_y unmarked))

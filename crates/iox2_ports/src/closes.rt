@@ -19,7 +19,7 @@ use iox2_domain::DomainState;
 ///
 /// iceoryx2's `Publisher` drops its state (`src/port/publisher.rs`).
 pub fn close_publisher<T: Drop, U: Default + Drop>(state: &mut DomainState<T, U>, place: usize)
-    requires sound { IsDomain state.old }
+    requires agrees { IsDomain state.old }
     requires stands { (x : PublisherFields) × (slice_index_or state.old.publishers place None ≡ Some x) }
     requires unblocked { IsUnblockedAt state.old.publishers place }
     ensures { (x : PublisherFields) → slice_index_or state.old.publishers place None ≡ Some x
@@ -36,7 +36,7 @@ pub fn close_publisher<T: Drop, U: Default + Drop>(state: &mut DomainState<T, U>
 ///
 /// iceoryx2's `Subscriber`'s drop (`src/port/subscriber.rs`).
 pub fn close_subscriber<T: Drop, U: Default + Drop>(state: &mut DomainState<T, U>, place: usize)
-    requires sound { IsDomain state.old }
+    requires agrees { IsDomain state.old }
     requires stands { IsSome (slice_index_or state.old.subscribers place None) }
     ensures { (y : SubscriberFields) → slice_index_or state.old.subscribers place None ≡ Some y
         → Reaches state.old state.new (subscriber_closed (state_of (kept_of state.old)) y.id ((subscriber_of state.old.books state.old.connections y).port)) }

@@ -200,7 +200,7 @@ fn forget_everywhere(
 // The publisher at a place leaves, with its connections, its history and its place. Returns the key
 // of its book.
 fn leave_domain<T: Drop, U: Default + Drop>(state: &mut DomainState<T, U>, place: usize) -> usize
-    requires sound { IsDomain state.old }
+    requires agrees { IsDomain state.old }
     requires stands { (x : PublisherFields) × (slice_index_or state.old.publishers place None ≡ Some x) }
     requires unmarked { IsUnmarkedSender state.old.connections place }
     requires unblocked { IsUnblockedAt state.old.publishers place }
@@ -230,7 +230,7 @@ pub(crate) fn close_publisher<T: Drop, U: Default + Drop>(
     state: &mut DomainState<T, U>,
     place: usize,
 )
-    requires sound { IsDomain state.old }
+    requires agrees { IsDomain state.old }
     requires stands { (x : PublisherFields) × (slice_index_or state.old.publishers place None ≡ Some x) }
     requires unmarked { IsUnmarkedSender state.old.connections place }
     requires unblocked { IsUnblockedAt state.old.publishers place }

@@ -112,7 +112,7 @@ pub(crate) fn close_subscriber<T: Drop, U: Default + Drop>(
     state: &mut DomainState<T, U>,
     place: usize,
 )
-    requires sound { IsDomain state.old }
+    requires agrees { IsDomain state.old }
     requires stands { IsSome (slice_index_or state.old.subscribers place None) }
     requires unmarked { IsUnmarkedReceiver state.old.connections place }
     ensures { (y : SubscriberFields) → slice_index_or state.old.subscribers place None ≡ Some y

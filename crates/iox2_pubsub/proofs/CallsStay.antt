@@ -374,11 +374,3 @@ module _ {T U F : Type 0} (old new : Kept T U F) (m : Messages T U) (s : State T
         | inl e ↦ true≢false (sym there ∙ ap (λ (v : ℕ). is_borrowed n ((released s p q n).mailboxes v q)) e ∙ released_now s p q n)
         | inr away ↦ away (one-origin old m s shown i p q q n (sym (released_others s p q n i q n (λ e _ _. away e)) ∙ there) borrowed)
       ]
-
--- a loan that is new is sent: all that was there before stays, but that its publisher isn't blocked
-pub copy-stays : {T U F : Type 0} (start old new : Kept T U F) → Stays start old → (publisher : Handle) (loan : SampleMut) → loan.loan.publisher ≡ publisher.id → IsNewIn start (A_loan loan.loan.number)
-    → (result : Result SendOutcome SendError) → StaysBut (spent_by_send loan result) old new → StaysBut (spent_by_copy publisher result) start new
-copy-stays start old new before publisher loan its apart result next =
-    subst (λ (p : ℕ). StaysBut (A_sent_copy p (is_blocked_send result)) start new) its
-    (stays-on-but start old before (A_loan loan.loan.number) (A_sent_copy loan.loan.publisher (is_blocked_send result)) new apart
-    (stays-but-whole _ _ (sent-loan-parts loan.loan.number loan.loan.publisher (is_blocked_send result)) old new next))

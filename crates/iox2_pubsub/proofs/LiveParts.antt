@@ -191,10 +191,6 @@ module _ {T U F : Type 0} (kept : Kept T U F) where
   unfolding HasValues
   loan-reads loan value has = has
 
-  pub loan-cell : (loan : SampleMut) (value : T) → LoanReads kept loan value → HasCell (state_of kept) loan.loan.number (Some value)
-  unfolding HasValues
-  loan-cell loan value reads = reads
-
   -- a loan reads as one value
   pub loan-reads-one : (loan : SampleMut) (value value' : T) → LoanReads kept loan value → LoanReads kept loan value' → value ≡ value'
   unfolding HasValues

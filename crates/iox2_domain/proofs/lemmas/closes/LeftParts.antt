@@ -439,8 +439,8 @@ module _ {T U : Type 0} (f : Fields T U) (sound : IsDomain f) (i : ℕ) (x : Pub
   -- ---- the whole
 
   -- the fields agree, where what they keep does
-  pub left-sound : IsUnmarkedSender f.connections i → x.blocked ≡ None → IsWellFormed (state_of (kept_of after)) → KeepsEntries (kept_of after) → IsDomainBut x.book after
-  left-sound unmarked free well entries = record {
+  pub leaver-agrees : IsUnmarkedSender f.connections i → x.blocked ≡ None → IsWellFormed (state_of (kept_of after)) → KeepsEntries (kept_of after) → IsDomainBut x.book after
+  leaver-agrees unmarked free well entries = record {
     parts = record {
       publisher_ids = publishers-apart;
       subscriber_ids = subscribers-apart;

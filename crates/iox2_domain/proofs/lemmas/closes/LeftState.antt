@@ -29,7 +29,7 @@ use Rattle.iox2_domain.proofs.lemmas.slots.Messages.{lies_at, has_number, loan-t
 use Rattle.iox2_domain.specs.Reaches.{ReachesBut}
 use Rattle.iox2_domain.specs.Closes.{LeavesConnections, LeavesSlots}
 use Rattle.iox2_domain.proofs.lemmas.closes.LoansLeft.{left-counters}
-use Rattle.iox2_domain.proofs.lemmas.closes.LeftParts.{after, between, keeps_slots, publishers-apart, plain, number-back, numbered, counted, back, forth, left-sound}
+use Rattle.iox2_domain.proofs.lemmas.closes.LeftParts.{after, between, keeps_slots, publishers-apart, plain, number-back, numbered, counted, back, forth, leaver-agrees}
 use Rattle.iox2_domain.proofs.lemmas.closes.LeftMailboxes.{leaver, mailboxes-left}
 use Rattle.iox2_domain.proofs.lemmas.closes.LeftPublishers.{publishers-left, places-left as publisher_places-left}
 use Rattle.iox2_domain.proofs.lemmas.closes.LeftSubscribers.{subscribers-left, places-left as subscriber_places-left}
@@ -160,7 +160,7 @@ module _ {T U : Type 0} (f : Fields T U) (sound : IsDomain f) (i : ℕ) (x : Pub
   -- the publisher is closed, but that nobody may hold a slot of its book
   pub left-reaches : IsUnmarkedSender f.connections i → ReachesBut x.book f g (publisher_closed before x.id (leaver f sound i x here))
   left-reaches unmarked = record {
-    agrees = left-sound f sound i x here b at new left holders slots unmarked free
+    agrees = leaver-agrees f sound i x here b at new left holders slots unmarked free
         (subst IsWellFormed (sym left-is) (publisher_closed_keeps before sound.well_formed x.id (leaver f sound i x here) (publisher-stands f sound.parts i x here))) left-keeps;
     state = left-is;
     entries = left-entries;

@@ -18,13 +18,6 @@ module _ (c : ServiceConfig) where
       by FixedSize e = refl
       by Dynamic e = absurd cc
 
-  -- no other service has both
-  pub not-single : is_single_valued c ≡ false → c.variant ≡ FixedSize → c.units_per_element ≡ 1 → ⊥
-  not-single other variant units =
-      let single : is_single_valued c ≡ true =
-      ap (λ (v : TypeVariant). is_fixed_size v && (c.units_per_element == 1)) variant ∙ eq-eqb c.units_per_element 1 units in
-      let clash : false ≡ true = sym other ∙ single in cc
-
   -- a service for slices is another one
   pub dynamic-several : c.variant ≡ Dynamic → is_single_valued c ≡ false
   dynamic-several dynamic = ap (λ (v : TypeVariant). is_fixed_size v && (c.units_per_element == 1)) dynamic

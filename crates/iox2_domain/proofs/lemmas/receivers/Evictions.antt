@@ -36,7 +36,7 @@ use Rattle.iox2_domain.proofs.lemmas.fields.Parts.{but-of}
 use Rattle.iox2_domain.proofs.lemmas.receivers.DepartedEnds.{among, contained}
 use Rattle.iox2_domain.proofs.lemmas.receivers.LeftEnds.{IsDeparted, LeavesReceiver, left_fields, left-parts, end-expires}
 use Rattle.iox2_domain.proofs.lemmas.receivers.LeftStates.{left-is, occupants-pushed, occupants-without, same-lead}
-use Rattle.iox2_domain.proofs.lemmas.receivers.LeftChanges.{parts-warned, present, side-sound}
+use Rattle.iox2_domain.proofs.lemmas.receivers.LeftChanges.{parts-warned, present, side-well_formed}
 use Rattle.iox2_domain.proofs.lemmas.receivers.Retirements.{retired_side, here, absent}
 use Rattle.iox2_domain.proofs.lemmas.receivers.DroppedEnds.{dropped_fields, dropped-is, dropped-box, dropped-lone, dropped-kept, dropped-gone, dropped-entries, dropped-keeps, expired-fits, removed_fields, removed-parts, removed-is, ends-removed, expired-removed}
 
@@ -171,7 +171,7 @@ module _ {T U : Type 0} (f : Fields T U) (sound : IsDomain f) (j i : ℕ) (y : S
           (dropped-kept f sound j y end.stands first d old.link lost-departed old.unborrowed b at_b mine holders new removes)
           (dropped-gone f sound j y end.stands first d old.link lost-departed old.unborrowed b at_b mine holders new removes)
           (rw state (with_receiver_side_keeps s sound.well_formed y.id Q (retired_side f sound j i y key c end (Evict lost)) (present f sound j y end.stands)
-          (evicted_keeps s y.id side i p (side-sound f sound j y end.stands) (here f sound j i y key c end) (absent f sound j i y key c end) lost expired-lost nothing_borrowed)))
+          (evicted_keeps s y.id side i p (side-well_formed f sound j y end.stands) (here f sound j i y key c end) (absent f sound j i y key c end) lost expired-lost nothing_borrowed)))
           (λ r n held. dropped-keeps f sound j y end.stands first d old.link lost-departed old.unborrowed b at_b mine holders new removes r n
           (held-before (state_of (kept_of between)) (state_of (kept_of replaced_fields)) r n
           (λ q. ap (λ (t : State T U). t.mailboxes r q) state ∙ sym (ap (λ boxes. boxes r q) (dropped-box s.mailboxes lost y.id (waiting_dropped (s.mailboxes lost y.id)))) ∙ sym (ap (λ (t : State T U). t.mailboxes r q) is))

@@ -39,7 +39,7 @@ use Rattle.iox2_domain.proofs.lemmas.updates.Extensions.{Extends, receiver_linke
 use Rattle.iox2_domain.proofs.lemmas.updates.MadeConnections.{made-extends, made-news}
 use Rattle.iox2_domain.proofs.lemmas.updates.ReceiverActions.{connect-makes}
 use Rattle.iox2_domain.proofs.lemmas.updates.ReceiverChanges.{FitsReceiver}
-use Rattle.iox2_domain.proofs.lemmas.receivers.LeftChanges.{present, side-sound}
+use Rattle.iox2_domain.proofs.lemmas.receivers.LeftChanges.{present, side-well_formed}
 use Rattle.iox2_domain.proofs.lemmas.receivers.JoinChanges.{receiver-is, receiver_fits-same}
 use Rattle.iox2_domain.proofs.lemmas.receivers.JoinAgrees.{receiver-agrees}
 
@@ -104,7 +104,7 @@ module _ {T U : Type 0} (environment : Environment) (f : Fields T U) (sound : Is
     well : IsWellFormed (with_receiver_side s y.id Q (side_with keys connections warnings))
     well = with_receiver_side_keeps s sound.well_formed y.id Q (side_with keys connections warnings) (present f sound j y at_y)
         (connect_at_place_keeps environment s sound.well_formed y.id Q.degradation_handler (λ r. has_sender_end s r y.id) i
-        (current_side s y.id Q) (side_with keys connections warnings) failure (side-sound f sound j y at_y)
+        (current_side s y.id Q) (side_with keys connections warnings) failure (side-well_formed f sound j y at_y)
         (connect-makes environment (f.config).service_id y.id Q.degradation_handler (expired_limit f.config) (λ r. has_sender_end s r y.id) i x.id
         (occupant s.publisher_places i) (current_side s y.id Q) (publisher-listed f sound.parts i x at_x) (side_with keys connections warnings) failure no_end step))
 

@@ -74,8 +74,8 @@ module _ {T U : Type 0} (f : Fields T U) (sound : IsDomain f) (j : ℕ) (y : Sub
   present = subscriber-stands f sound.parts j y at
 
   -- its side is well-formed
-  pub side-sound : ReceiverSideIsWellFormed s y.id (current_side s y.id Q)
-  side-sound = receiver_side_marked s y.id (receiver_side s y.id Q) y.is_due s.warnings (receiver_side_begins s sound.well_formed y.id Q present)
+  pub side-well_formed : ReceiverSideIsWellFormed s y.id (current_side s y.id Q)
+  side-well_formed = receiver_side_marked s y.id (receiver_side s y.id Q) y.is_due s.warnings (receiver_side_begins s sound.well_formed y.id Q present)
 
   -- its ends change, and no connection goes
   pub left-changes : (keys : List (Option ℕ)) (expired : List ℕ) (fits : LeavesReceiver f y keys expired f.connections) (side : ReceiverSide) → ReceiverSideIsWellFormed s y.id side

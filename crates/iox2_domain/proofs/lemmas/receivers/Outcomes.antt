@@ -18,7 +18,7 @@ use Rattle.iox2_domain.specs.Connects.{MakesRoom}
 use Rattle.iox2_domain.specs.ReceiverSteps.{ConnectsEnd}
 use Rattle.iox2_domain.proofs.lemmas.containers.ChangedRecords.{changed-here}
 use Rattle.iox2_domain.proofs.lemmas.updates.Grown.{grown}
-use Rattle.iox2_domain.proofs.lemmas.receivers.GrownRoom.{grown-sound, end-from-grown}
+use Rattle.iox2_domain.proofs.lemmas.receivers.GrownRoom.{grown-agrees, end-from-grown}
 use Rattle.iox2_domain.proofs.lemmas.receivers.Joins.{joins-connection, makes-connection, misses-connection}
 
 module _ {T U : Type 0} (environment : Environment) (f : Fields T U) (sound : IsDomain f) (i j : ℕ) (x : PublisherFields) (y : SubscriberFields)
@@ -54,8 +54,8 @@ module _ {T U : Type 0} (environment : Environment) (f : Fields T U) (sound : Is
     more_e : y.expired_room ≤ e
     more_e = subst (λ (k : ℕ). k ≤ e) (ap (λ o. option_map_or (λ (z : SubscriberFields). z.expired_room) o 0) at_y) rooms.expired
 
-    sound-grown : IsDomain g
-    sound-grown = grown-sound f sound i j x y n m e at_x at_y more_x more_y more_e
+    grown-here : IsDomain g
+    grown-here = grown-agrees f sound i j x y n m e at_x at_y more_x more_y more_e
 
     here_x : get_or g.publishers i None ≡ Some (with_sender_room n x)
     here_x = changed-here f.publishers i x (with_sender_room n x) at_x
@@ -79,7 +79,7 @@ module _ {T U : Type 0} (environment : Environment) (f : Fields T U) (sound : Is
     makes-as room_x room_y room_expired key made f' is =
         end-from-grown f sound i j x y n m e at_x at_y more_x more_y more_e environment f' None
         (subst (λ (h : Fields T U). ConnectsEnd environment g j i (with_receiver_rooms m e y) x.id h None) (sym after)
-        (makes-connection environment g sound-grown i j (with_sender_room n x) (with_receiver_rooms m e y) here_x here_y none none_x
+        (makes-connection environment g grown-here i j (with_sender_room n x) (with_receiver_rooms m e y) here_x here_y none none_x
         (room_x (with_sender_room n x) (ap (λ (h : Fields T U). get_or h.publishers i None) mid-is ∙ here_x))
         (room_y (with_receiver_rooms m e y) (ap (λ (h : Fields T U). get_or h.subscribers j None) mid-is ∙ here_y))
         (subst (λ (h : Home). connection_count f.connections h.subscriber < e) home-is (room_expired (with_receiver_rooms m e y) (ap (λ (h : Fields T U). get_or h.subscribers j None) mid-is ∙ here_y)))
@@ -102,7 +102,7 @@ module _ {T U : Type 0} (environment : Environment) (f : Fields T U) (sound : Is
         end-from-grown f sound i j x y n m e at_x at_y more_x more_y more_e environment f' (failure_of action)
         (subst (λ (h : Fields T U). ConnectsEnd environment g j i (with_receiver_rooms m e y) x.id h (failure_of action))
         (sym (is ∙ (λ k. record (mid-is k) { warnings = told k }) ∙ (λ k. record g { connections = same k; warnings = warning_ring (warnings_after x.id y.id action f.warnings.items) warning_limit })))
-        (misses-connection environment g sound-grown i j (with_sender_room n x) (with_receiver_rooms m e y) here_x here_y none none_x may action answers mid.connections.capacity))
+        (misses-connection environment g grown-here i j (with_sender_room n x) (with_receiver_rooms m e y) here_x here_y none none_x may action answers mid.connections.capacity))
       where
         told : warnings ≡ warning_ring (warnings_after x.id y.id action f.warnings.items) warning_limit
         told = warned_is ∙ ap (λ (h : Home). warning_ring (warnings_after h.publisher h.subscriber action f.warnings.items) warning_limit) home-is

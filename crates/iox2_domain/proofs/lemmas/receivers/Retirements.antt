@@ -35,7 +35,7 @@ use Rattle.iox2_domain.proofs.lemmas.fields.Parts.{but-of}
 use Rattle.iox2_domain.proofs.lemmas.receivers.DepartedEnds.{departed-nowhere}
 use Rattle.iox2_domain.proofs.lemmas.receivers.LeftEnds.{IsDeparted, LeavesReceiver, left_fields, end-expires, nothing-leaves}
 use Rattle.iox2_domain.proofs.lemmas.receivers.LeftStates.{left-is, occupants-pushed}
-use Rattle.iox2_domain.proofs.lemmas.receivers.LeftChanges.{parts-warned, present, side-sound, left-changes}
+use Rattle.iox2_domain.proofs.lemmas.receivers.LeftChanges.{parts-warned, present, side-well_formed, left-changes}
 use Rattle.iox2_domain.proofs.lemmas.receivers.DroppedEnds.{dropped_fields, dropped-is, dropped-box, dropped-lone, dropped-kept, dropped-gone, dropped-entries, dropped-keeps, place-fits, removed_fields, removed-parts, removed-is}
 
 module _ {T U : Type 0} (f : Fields T U) (sound : IsDomain f) (j i : ℕ) (y : SubscriberFields) (key : ℕ) (c : Link) (end : HasDepartedEnd f j i y key c) where
@@ -95,7 +95,7 @@ module _ {T U : Type 0} (f : Fields T U) (sound : IsDomain f) (j i : ℕ) (y : S
   pub expires : length Q.expired < expired_limit f.config → ChangesReceiver f j y (retired_side Keep_expired) expired_fields
   expires room =
       left-changes f sound j y end.stands (set_place y.keys i None) (y.expired ++ key ∷ []) (end-expires f parts j y end.stands i key end.has) (retired_side Keep_expired)
-      (kept_expired_keeps s y.id side i p (side-sound f sound j y end.stands) here absent room)
+      (kept_expired_keeps s y.id side i p (side-well_formed f sound j y end.stands) here absent room)
       (left-is f parts j y end.stands (set_place y.keys i None) (y.expired ++ key ∷ []) y.is_due f.connections (end-expires f parts j y end.stands i key end.has)
       ∙ (λ k. record s {
         subscribers = put_at s.subscribers y.id (Some (record Q {
@@ -114,7 +114,7 @@ module _ {T U : Type 0} (f : Fields T U) (sound : IsDomain f) (j i : ℕ) (y : S
   pub refuses : ChangesReceiver f j y (after_retirement y.id side p Refuse) refused_fields
   refuses =
       left-changes f sound j y end.stands y.keys y.expired (nothing-leaves f parts j y end.stands) (after_retirement y.id side p Refuse)
-      (receiver_side_marked s y.id side true s.warnings (side-sound f sound j y end.stands))
+      (receiver_side_marked s y.id side true s.warnings (side-well_formed f sound j y end.stands))
       (left-is f parts j y end.stands y.keys y.expired true f.connections (nothing-leaves f parts j y end.stands)
       ∙ (λ k. record s { subscribers = put_at s.subscribers y.id (Some (record Q { is_due = true })); mailboxes = λ r. put_at-own (s.mailboxes r) y.id k }))
 
@@ -148,7 +148,7 @@ module _ {T U : Type 0} (f : Fields T U) (sound : IsDomain f) (j i : ℕ) (y : S
           (dropped-kept f sound j y end.stands key c end.link departed unborrowed b at_b mine holders new removes)
           (dropped-gone f sound j y end.stands key c end.link departed unborrowed b at_b mine holders new removes)
           (rw state (with_receiver_side_keeps s sound.well_formed y.id Q (retired_side Discard_data) (present f sound j y end.stands)
-          (discarded_keeps s y.id side i p (side-sound f sound j y end.stands) here absent nothing_borrowed)))
+          (discarded_keeps s y.id side i p (side-well_formed f sound j y end.stands) here absent nothing_borrowed)))
           (λ r n held. dropped-keeps f sound j y end.stands key c end.link departed unborrowed b at_b mine holders new removes r n
           (held-before (state_of (kept_of between)) (state_of (kept_of without_end)) r n
           (λ q. ap (λ (t : State T U). t.mailboxes r q) state ∙ sym (ap (λ boxes. boxes r q) (dropped-box s.mailboxes p y.id (waiting_dropped (s.mailboxes p y.id)))) ∙ sym (ap (λ (t : State T U). t.mailboxes r q) is))

@@ -114,9 +114,6 @@ module _ {T U : Type 0} (environment : Environment) (f : Fields T U) (sound : Is
   port-waits : port.blocked ≡ Some b
   port-waits = ap (option_map (blocked_send (numbers_of f.books x.id) (sender_ends f.connections x.keys))) waits
 
-  well-blocked : BlockedIsWellFormed s x.id port b
-  well-blocked = (sound.well_formed.publishers x.id port stands).blocked b port-waits
-
   -- ---- its slot
 
   lent : 0 < times w.slot x.loans

@@ -56,15 +56,15 @@ module _ {T U : Type 0} (f : Fields T U) (i j : ℕ) (x : PublisherFields) (y : 
     pub grown-state : state_of (kept_of grown) ≡ state_of (kept_of f)
     grown-state = λ k. state_of (record (kept_of f) { publishers = shown_publishers k; subscribers = shown_subscribers k })
 
-    sender-sound : IsDomain sender
-    sender-sound =
+    sender-stands : IsDomain sender
+    sender-stands =
         sender-agrees f sound i x at_x x.keys n x.is_due f.connections f.warnings (fits-grown f sound i x at_x f.connections.capacity n more_x) sound.parts.warning_room
         (subst IsWellFormed (sym sender-state) sound.well_formed)
 
     -- the fields agree
-    pub grown-sound : IsDomain grown
-    grown-sound =
-        receiver-agrees sender sender-sound j y at_y y.keys m e y.is_due f.connections f.warnings (receiver_fits-grown sender sender-sound.parts j y at_y f.connections.capacity m e more_y more_e) sound.parts.warning_room
+    pub grown-agrees : IsDomain grown
+    grown-agrees =
+        receiver-agrees sender sender-stands j y at_y y.keys m e y.is_due f.connections f.warnings (receiver_fits-grown sender sender-stands.parts j y at_y f.connections.capacity m e more_y more_e) sound.parts.warning_room
         (subst IsWellFormed (sym grown-state) sound.well_formed)
 
     abbrev P : Publisher

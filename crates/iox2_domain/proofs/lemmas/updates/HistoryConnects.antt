@@ -52,8 +52,8 @@ module _ {T U : Type 0} (before f : Fields T U) (same : f ≡ before) (sound : I
   abbrev g : Fields T U
   g = with_reclaimed f sound x.id x.book b at (book-own f sound.parts i x here b at) (book-owned f sound.parts i x here) b1.holders new r
 
-  g-sound : IsDomain (with_reclaimed f sound x.id x.book b at (book-own f sound.parts i x here b at) (book-owned f sound.parts i x here) b1.holders new r)
-  g-sound = (reclaimed-reaches f sound x.id x.book b at (book-own f sound.parts i x here b at) (book-owned f sound.parts i x here) b1.holders new r).agrees
+  g-agrees : IsDomain (with_reclaimed f sound x.id x.book b at (book-own f sound.parts i x here b at) (book-owned f sound.parts i x here) b1.holders new r)
+  g-agrees = (reclaimed-reaches f sound x.id x.book b at (book-own f sound.parts i x here b at) (book-owned f sound.parts i x here) b1.holders new r).agrees
 
   at-g : get g.books x.book ≡ Some (with_counters b b1.holders)
   at-g = book-here f x.book b (with_counters b b1.holders) at (record { publisher = refl; numbers = refl; slots = r.recounts.slots })
@@ -64,12 +64,12 @@ module _ {T U : Type 0} (before f : Fields T U) (same : f ≡ before) (sound : I
 
   -- each slot of the history has a holder, and may have one more
   pub new-in_use : (slot : ℕ) → 0 < times slot (x.history).items → 0 < holders_at b1 slot
-  new-in_use slot some = subst (λ (d : Book). 0 < holders_at d slot) (sym is1) (remembered-in_use g g-sound i x here (with_counters b b1.holders) at-g slot some)
+  new-in_use slot some = subst (λ (d : Book). 0 < holders_at d slot) (sym is1) (remembered-in_use g g-agrees i x here (with_counters b b1.holders) at-g slot some)
 
   pub new-fits : HasReclaimed new x.keys → length x.keys < 2 ^ 63 → (slot : ℕ) → holders_at b1 slot + times slot (x.history).items < 2 ^ 64
   new-fits reclaimed short slot =
       subst (λ (d : Book). holders_at d slot + times slot (x.history).items < 2 ^ 64) (sym is1)
-      (remembered-fits g g-sound i x here (with_counters b b1.holders) at-g (record { at = reclaimed.at }) short slot)
+      (remembered-fits g g-agrees i x here (with_counters b b1.holders) at-g (record { at = reclaimed.at }) short slot)
 
   waiting-same : with_history_waiting g x c ≡ with_history_waiting f x c
   waiting-same = λ t. record (state t) {
@@ -95,18 +95,18 @@ module _ {T U : Type 0} (before f : Fields T U) (same : f ≡ before) (sound : I
       }))
     where
       after : Fields T U
-      after = handed g g-sound i x here (with_counters b b1.holders) at-g key c new-there its empty b2.holders long counters
+      after = handed g g-agrees i x here (with_counters b b1.holders) at-g key c new-there its empty b2.holders long counters
 
       well-f : IsWellFormed (with_history_waiting f x c)
       well-f = subst (λ (h : Fields T U). IsWellFormed (with_history_waiting h x c)) (sym same) well
 
-      out : HandsOut g x c (handed g g-sound i x here (with_counters b b1.holders) at-g key c new-there its empty b2.holders long counters)
-      out = hands-out g g-sound i x here (with_counters b b1.holders) at-g key c new-there its empty b2.holders long counters (subst IsWellFormed (sym waiting-same) well-f)
+      out : HandsOut g x c (handed g g-agrees i x here (with_counters b b1.holders) at-g key c new-there its empty b2.holders long counters)
+      out = hands-out g g-agrees i x here (with_counters b b1.holders) at-g key c new-there its empty b2.holders long counters (subst IsWellFormed (sym waiting-same) well-f)
 
       book2 : with_counters b b2.holders ≡ b2
       book2 = sym (is2 ∙ ap (λ (d : Book). with_counters d b2.holders) is1)
 
-      as-made : handed g g-sound i x here (with_counters b b1.holders) at-g key c new-there its empty b2.holders long counters
+      as-made : handed g g-agrees i x here (with_counters b b1.holders) at-g key c new-there its empty b2.holders long counters
           ≡ record f { connections = with_value new key (record c { waiting = last_n c.buffer (x.history).items }); books = with_value f.books x.book b2 }
       as-made =
           ap (λ (slots : List (Option Book)). let slab : Slab Book = record f.books { slots = slots } in

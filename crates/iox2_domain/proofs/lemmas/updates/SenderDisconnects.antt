@@ -109,8 +109,8 @@ module _ {T U : Type 0} (f : Fields T U) (sound : IsDomain f) (i j : ℕ) (x : P
   mid-reached : Reaches f mid (with_waiting_dropped f x c)
   mid-reached = dropped-reaches f sound i x here b at key holders r.mid r.drops (dropped-well f sound i j x here due key has c r.drops.stood free)
 
-  mid-sound : IsDomain mid
-  mid-sound = mid-reached.agrees
+  mid-agrees : IsDomain mid
+  mid-agrees = mid-reached.agrees
 
   abbrev settled : Publisher
   settled = record (publisher_of f.books f.connections x).port { is_due = false }
@@ -119,7 +119,7 @@ module _ {T U : Type 0} (f : Fields T U) (sound : IsDomain f) (i j : ℕ) (x : P
   mid-is = mid-reached.state ∙ dropped-side f sound i j x here due key has c r.drops.stood
 
   port-is : (publisher_of mid.books mid.connections x).port ≡ settled
-  port-is = same_Some _ _ (sym (publisher-stands mid mid-sound.parts i x here) ∙ ap (λ (t : State T U). t.publishers x.id) mid-is ∙ put_at-same s.publishers x.id (Some settled))
+  port-is = same_Some _ _ (sym (publisher-stands mid mid-agrees.parts i x here) ∙ ap (λ (t : State T U). t.publishers x.id) mid-is ∙ put_at-same s.publishers x.id (Some settled))
 
   -- ---- the connection goes
 
@@ -142,7 +142,7 @@ module _ {T U : Type 0} (f : Fields T U) (sound : IsDomain f) (i j : ℕ) (x : P
 
   after-is : state_of (kept_of disconnected_fields) ≡ with_sender_side s x.id P (disconnected side j (occupant P.ends j))
   after-is =
-      left-is mid mid-sound i j x free key (borrowed_alone (r.drops).link) leaves new r.gone
+      left-is mid mid-agrees i j x free key (borrowed_alone (r.drops).link) leaves new r.gone
       ∙ (λ t. record (mid-is t) { publishers = put_at (mid-is t).publishers x.id (Some (record (port-is t) { ends = set_place (port-is t).ends j None })) })
       ∙ ap (λ (publishers : ℕ → Option Publisher). record (with_sender_side s x.id P (dropped side c.home.subscriber)) { publishers = publishers })
       (put_at-twice s.publishers x.id (Some settled) (Some (record settled { ends = set_place P.ends j None })))
@@ -167,7 +167,7 @@ module _ {T U : Type 0} (f : Fields T U) (sound : IsDomain f) (i j : ℕ) (x : P
   -- the machine's step is done
   pub loses-end : LosesSenderEnd f i j x disconnected_fields
   loses-end = record {
-    agrees = left-agrees mid mid-sound i j x free key (borrowed_alone (r.drops).link) leaves new r.gone (subst IsWellFormed (sym after-is) well);
+    agrees = left-agrees mid mid-agrees i j x free key (borrowed_alone (r.drops).link) leaves new r.gone (subst IsWellFormed (sym after-is) well);
     fields = refl;
     state = after-is;
     entries = λ n entry e. mid-reached.entries n entry e;

@@ -22,7 +22,7 @@ use Rattle.iox2_domain.specs.Invariant.{IsDomain, connection_count}
 use Rattle.iox2_domain.specs.Updates.{changed_at, with_sender_key, with_sender_room, with_receiver_rooms, sender_key, receiver_key, key_from, is_open_subscriber, sender_room, receiver_room, expired_room_at, home_of, MakesConnection, StandApart}
 use Rattle.iox2_domain.specs.Connects.{ConnectsSender, MakesSenderEnd, MakesRoom}
 use Rattle.iox2_domain.proofs.lemmas.containers.ChangedRecords.{changed-here}
-use Rattle.iox2_domain.proofs.lemmas.updates.Grown.{grown, grown-sound, sender-from, end-from}
+use Rattle.iox2_domain.proofs.lemmas.updates.Grown.{grown, grown-agrees, sender-from, end-from}
 use Rattle.iox2_domain.proofs.lemmas.fields.Standing.{receiver-joins, sender-room}
 use Rattle.iox2_domain.proofs.lemmas.updates.SenderCases.{joins-connection, makes-connection, misses-connection}
 
@@ -108,8 +108,8 @@ module _ {T U : Type 0} (environment : Environment) (f : Fields T U) (sound : Is
         more_e : y.expired_room ≤ e
         more_e = subst (λ (k : ℕ). k ≤ e) (ap (λ o. option_map_or (λ (z : SubscriberFields). z.expired_room) o 0) apart.subscriber_stands) rooms.expired
 
-        sound-grown : IsDomain g
-        sound-grown = grown-sound f i j x y n m e sound at_x apart.subscriber_stands more_x more_y more_e
+        grown-here : IsDomain g
+        grown-here = grown-agrees f i j x y n m e sound at_x apart.subscriber_stands more_x more_y more_e
 
         here_x : get_or g.publishers i None ≡ Some (with_sender_room n x)
         here_x = changed-here f.publishers i x (with_sender_room n x) at_x
@@ -136,7 +136,7 @@ module _ {T U : Type 0} (environment : Environment) (f : Fields T U) (sound : Is
         makes-as room_x room_y room_expired key made f' is =
             end-from f i j x y n m e sound at_x apart.subscriber_stands more_x more_y more_e environment key f'
             (subst (λ (h : Fields T U). MakesSenderEnd environment g i j (with_sender_room n x) key h) (sym after)
-            (makes-connection environment g sound-grown i j (with_sender_room n x) (with_receiver_rooms m e y) here_x here_y due free opened_y no_key no_key_y
+            (makes-connection environment g grown-here i j (with_sender_room n x) (with_receiver_rooms m e y) here_x here_y due free opened_y no_key no_key_y
             (room_x (with_sender_room n x) (ap (λ (h : Fields T U). get_or h.publishers i None) mid-is ∙ here_x))
             (room_y (with_receiver_rooms m e y) (ap (λ (h : Fields T U). get_or h.subscribers j None) mid-is ∙ here_y))
             (subst (λ (h : Home). connection_count f.connections h.subscriber < e) (home-is f sound i j x at_x home size apart) (room_expired (with_receiver_rooms m e y) (ap (λ (h : Fields T U). get_or h.subscribers j None) mid-is ∙ here_y)))
@@ -159,7 +159,7 @@ module _ {T U : Type 0} (environment : Environment) (f : Fields T U) (sound : Is
             sender-from f i j x y n m e sound at_x apart.subscriber_stands more_x more_y more_e environment f' (failure_of action)
             (subst (λ (h : Fields T U). ConnectsSender environment g i j (with_sender_room n x) h (failure_of action))
             (sym (is ∙ (λ k. record (mid-is k) { warnings = told k }) ∙ (λ k. record g { connections = same k; warnings = warning_ring (warnings_after x.id y.id action f.warnings.items) warning_limit })))
-            (misses-connection environment g sound-grown i j (with_sender_room n x) (with_receiver_rooms m e y) here_x here_y due free opened_y no_key no_key_y may action answers mid.connections.capacity))
+            (misses-connection environment g grown-here i j (with_sender_room n x) (with_receiver_rooms m e y) here_x here_y due free opened_y no_key no_key_y may action answers mid.connections.capacity))
           where
             told : warnings ≡ warning_ring (warnings_after x.id y.id action f.warnings.items) warning_limit
             told = warned_is ∙ ap (λ (h : Home). warning_ring (warnings_after h.publisher h.subscriber action f.warnings.items) warning_limit) (home-is f sound i j x at_x home size apart)

@@ -3,8 +3,8 @@ use Rattle.iox2_domain.specs.Fields.{Fields}
 use Rattle.iox2_domain.proofs.lemmas.updates.MarkedEnds.{marks-publisher, closed-publisher}
 use Rattle.iox2_ports.proofs.closes.close_publisher.Goals as goal
 
-pub close_publisher-requires-clause-sound : goal.close_publisher-requires-clause-sound
-close_publisher-requires-clause-sound g c = c.unmark_publisher.ensures.clears.changes.agrees
+pub close_publisher-requires-clause-agrees : goal.close_publisher-requires-clause-agrees
+close_publisher-requires-clause-agrees g c = c.unmark_publisher.ensures.clears.changes.agrees
 
 pub close_publisher-requires-clause-stands : goal.close_publisher-requires-clause-stands
 close_publisher-requires-clause-stands g c =

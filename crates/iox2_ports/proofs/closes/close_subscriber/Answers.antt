@@ -4,8 +4,8 @@ use Rattle.iox2_domain.specs.Fields.{Fields}
 use Rattle.iox2_domain.proofs.lemmas.updates.MarkedEnds.{closed-subscriber}
 use Rattle.iox2_ports.proofs.closes.close_subscriber.Goals as goal
 
-pub close_subscriber-requires-clause-sound : goal.close_subscriber-requires-clause-sound
-close_subscriber-requires-clause-sound g c = c.unmark_subscriber.ensures.clears.changes.agrees
+pub close_subscriber-requires-clause-agrees : goal.close_subscriber-requires-clause-agrees
+close_subscriber-requires-clause-agrees g c = c.unmark_subscriber.ensures.clears.changes.agrees
 
 pub close_subscriber-requires-clause-stands : goal.close_subscriber-requires-clause-stands
 close_subscriber-requires-clause-stands g c =
