@@ -19,7 +19,7 @@ use Rattle.iox2_store.specs.machine.Records.{Entry, Loan, Publisher, BlockedSend
 use Rattle.iox2_store.specs.machine.Sends.{ConcludeSend, DeliverAndConclude, with_mailboxes}
 use Rattle.iox2_store.specs.Stored.{IsHeldMessage, In_history, In_mailbox, In_blocked_send}
 use Rattle.iox2_store.specs.machine.State.{State, receiving_buffer}
-use Rattle.iox2_store.specs.machine.WellFormed.{IsWellFormed, IsInjective, LeadsTo, BlockedIsWellFormed}
+use Rattle.iox2_store.specs.machine.WellFormed.{IsWellFormed, IsInjective, LeadsTo}
 use Rattle.iox2_ends.specs.Counters.{times, with_counters, one_holder_less}
 use Rattle.iox2_ends.specs.Deliveries.{end_of}
 use Rattle.iox2_ends.specs.declared.sender.Progress.{Progress}
