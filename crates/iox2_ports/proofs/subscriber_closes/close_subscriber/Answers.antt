@@ -29,18 +29,18 @@ loop-index-init g c = λ sound y at.
 pub lose_if_left-requires-clause-parts : goal.lose_if_left-requires-clause-parts
 lose_if_left-requires-clause-parts g c =
     let y = some-of (slice_index_or c.args.state.now.subscribers c.args.place None) c.requires.stands in
-    (c.loop-index.invariant c.requires.sound y.0 y.1).parts
+    (c.loop-index.invariant c.requires.agrees y.0 y.1).parts
 
 pub lose_if_left-requires-clause-known : goal.lose_if_left-requires-clause-known
 lose_if_left-requires-clause-known g c =
     let y = some-of (slice_index_or c.args.state.now.subscribers c.args.place None) c.requires.stands in
-    expired-known c.args.state.now c.requires.sound c.args.place y.0 y.1 c.loop-index.state c.expired_at-key.result c.loop-index.index c.loop-index-test.true (c.loop-index.invariant c.requires.sound y.0 y.1)
+    expired-known c.args.state.now c.requires.agrees c.args.place y.0 y.1 c.loop-index.state c.expired_at-key.result c.loop-index.index c.loop-index-test.true (c.loop-index.invariant c.requires.agrees y.0 y.1)
     (λ z there. c.expired_at-key.ensures z (ap (λ xs. slice_index_or xs c.args.place None) (c.deref-in-loop-index.ensures.value ∙ ap (λ (f : Fields g.row.T.Denot g.row.U.Denot). f.subscribers) c.state-in-loop-index.view_is) ∙ there))
 
 pub lose_if_left-requires-clause-busy : goal.lose_if_left-requires-clause-busy
 lose_if_left-requires-clause-busy g c = λ k l at departed.
     let y = some-of (slice_index_or c.args.state.now.subscribers c.args.place None) c.requires.stands in
-    let so_far = c.loop-index.invariant c.requires.sound y.0 y.1 in
+    let so_far = c.loop-index.invariant c.requires.agrees y.0 y.1 in
     so_far.busy k l at (subst (λ ps. HasNoPublisher ps l) so_far.publishers departed)
 
 pub loop-index-preserved : goal.loop-index-preserved
@@ -59,13 +59,13 @@ loop-publisher_place-init g c = λ sound y at.
 pub lose_if_left-requires-in-loop-publisher_place-clause-parts : goal.lose_if_left-requires-in-loop-publisher_place-clause-parts
 lose_if_left-requires-in-loop-publisher_place-clause-parts g c =
     let y = some-of (slice_index_or c.args.state.now.subscribers c.args.place None) c.requires.stands in
-    (c.loop-publisher_place.invariant c.requires.sound y.0 y.1).parts
+    (c.loop-publisher_place.invariant c.requires.agrees y.0 y.1).parts
 
 pub lose_if_left-requires-in-loop-publisher_place-clause-known : goal.lose_if_left-requires-in-loop-publisher_place-clause-known
 lose_if_left-requires-in-loop-publisher_place-clause-known g c =
     let y = some-of (slice_index_or c.args.state.now.subscribers c.args.place None) c.requires.stands in
-    key-known c.args.state.now c.requires.sound c.args.place y.0 y.1 c.loop-publisher_place.state c.key_at-key.result c.loop-publisher_place.publisher_place c.key_count-publisher_place-end.result
-    (c.loop-publisher_place.invariant c.requires.sound y.0 y.1)
+    key-known c.args.state.now c.requires.agrees c.args.place y.0 y.1 c.loop-publisher_place.state c.key_at-key.result c.loop-publisher_place.publisher_place c.key_count-publisher_place-end.result
+    (c.loop-publisher_place.invariant c.requires.agrees y.0 y.1)
     (λ z there. c.key_at-key.ensures
     ∙ ap (option_and_then (λ (v : SubscriberFields). slice_index_or v.keys c.loop-publisher_place.publisher_place None))
     (ap (λ xs. slice_index_or xs c.args.place None) (c.deref-in-loop-publisher_place.ensures.value ∙ ap (λ (f : Fields g.row.T.Denot g.row.U.Denot). f.subscribers) c.state-in-loop-publisher_place.view_is) ∙ there))
@@ -73,7 +73,7 @@ lose_if_left-requires-in-loop-publisher_place-clause-known g c =
 pub lose_if_left-requires-in-loop-publisher_place-clause-busy : goal.lose_if_left-requires-in-loop-publisher_place-clause-busy
 lose_if_left-requires-in-loop-publisher_place-clause-busy g c = λ k l at departed.
     let y = some-of (slice_index_or c.args.state.now.subscribers c.args.place None) c.requires.stands in
-    let so_far = c.loop-publisher_place.invariant c.requires.sound y.0 y.1 in
+    let so_far = c.loop-publisher_place.invariant c.requires.agrees y.0 y.1 in
     so_far.busy k l at (subst (λ ps. HasNoPublisher ps l) so_far.publishers departed)
 
 pub loop-publisher_place-preserved : goal.loop-publisher_place-preserved
@@ -90,33 +90,33 @@ loop-publisher_place-preserved g c = λ sound y at.
 pub leave_if_unused-requires-clause-consistent : goal.leave_if_unused-requires-clause-consistent
 leave_if_unused-requires-clause-consistent g c =
     let y = some-of (slice_index_or c.args.state.now.subscribers c.args.place None) c.requires.stands in
-    let so_far = c.loop-publisher_place.invariant c.requires.sound y.0 y.1 in
+    let so_far = c.loop-publisher_place.invariant c.requires.agrees y.0 y.1 in
     let ports = with_items_is c.state-3.inside.publishers c.make_all_due.new.ports (c.make_all_due.auto.ports ∙ c.deref_mut-2.ensures.len)
     ∙ c.make_all_due.ensures
     ∙ ap (λ xs. map (option_map due) xs) (c.deref_mut-2.ensures.value ∙ ap (λ (f : Fields g.row.T.Denot g.row.U.Denot). f.publishers) c.state-3.view_is) in
     subst (HasParts {T = g.row.T.Denot} {U = g.row.U.Denot}) (sym (due-read _ c.loop-publisher_place.state c.state-3.view_is _ ports))
-    (closes-parts c.args.state.now c.requires.sound c.args.place y.0 y.1 (KeysLeft c.loop-publisher_place.publisher_place c.key_count-publisher_place-end.result) c.loop-publisher_place.state so_far
+    (closes-parts c.args.state.now c.requires.agrees c.args.place y.0 y.1 (KeysLeft c.loop-publisher_place.publisher_place c.key_count-publisher_place-end.result) c.loop-publisher_place.state so_far
     (none-left c.loop-publisher_place.publisher_place c.key_count-publisher_place-end.result c.loop-publisher_place-test.false so_far.subscriber.0))
 
 pub leave_if_unused-requires-clause-stands : goal.leave_if_unused-requires-clause-stands
 leave_if_unused-requires-clause-stands g c =
     let y = some-of (slice_index_or c.args.state.now.subscribers c.args.place None) c.requires.stands in
-    let so_far = c.loop-publisher_place.invariant c.requires.sound y.0 y.1 in
+    let so_far = c.loop-publisher_place.invariant c.requires.agrees y.0 y.1 in
     let ports = with_items_is c.state-3.inside.publishers c.make_all_due.new.ports (c.make_all_due.auto.ports ∙ c.deref_mut-2.ensures.len)
     ∙ c.make_all_due.ensures
     ∙ ap (λ xs. map (option_map due) xs) (c.deref_mut-2.ensures.value ∙ ap (λ (f : Fields g.row.T.Denot g.row.U.Denot). f.publishers) c.state-3.view_is) in
     subst (λ (f : Fields g.row.T.Denot g.row.U.Denot). (z : SubscriberFields) × (slice_index_or f.subscribers c.args.place None ≡ Some z) × ((p : ℕ) → MailboxIsWellFormed (state_of (kept_of f)) p z.id))
     (sym (due-read _ c.loop-publisher_place.state c.state-3.view_is _ ports))
-    (closes-stands c.args.state.now c.requires.sound c.args.place y.0 y.1 (KeysLeft c.loop-publisher_place.publisher_place c.key_count-publisher_place-end.result) c.loop-publisher_place.state so_far
+    (closes-stands c.args.state.now c.requires.agrees c.args.place y.0 y.1 (KeysLeft c.loop-publisher_place.publisher_place c.key_count-publisher_place-end.result) c.loop-publisher_place.state so_far
     (none-left c.loop-publisher_place.publisher_place c.key_count-publisher_place-end.result c.loop-publisher_place-test.false so_far.subscriber.0))
 
 pub returns : goal.returns
 returns g c = λ y at.
-    let so_far = c.loop-publisher_place.invariant c.requires.sound y at in
+    let so_far = c.loop-publisher_place.invariant c.requires.agrees y at in
     let ports = with_items_is c.state-3.inside.publishers c.make_all_due.new.ports (c.make_all_due.auto.ports ∙ c.deref_mut-2.ensures.len)
     ∙ c.make_all_due.ensures
     ∙ ap (λ xs. map (option_map due) xs) (c.deref_mut-2.ensures.value ∙ ap (λ (f : Fields g.row.T.Denot g.row.U.Denot). f.publishers) c.state-3.view_is) in
-    closes c.args.state.now c.requires.sound c.args.place y at (KeysLeft c.loop-publisher_place.publisher_place c.key_count-publisher_place-end.result) c.loop-publisher_place.state so_far
+    closes c.args.state.now c.requires.agrees c.args.place y at (KeysLeft c.loop-publisher_place.publisher_place c.key_count-publisher_place-end.result) c.loop-publisher_place.state so_far
     (none-left c.loop-publisher_place.publisher_place c.key_count-publisher_place-end.result c.loop-publisher_place-test.false so_far.subscriber.0)
     c.leave_if_unused.new.state
     (subst (λ (f : Fields g.row.T.Denot g.row.U.Denot). FreesMidway f so_far.subscriber.0.id c.leave_if_unused.new.state) (due-read _ c.loop-publisher_place.state c.state-3.view_is _ ports)
