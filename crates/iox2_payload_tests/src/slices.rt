@@ -278,19 +278,12 @@ fn a_loan_of_a_slice_keeps_what_is_written_into_it(rt: HostRuntime) {
     *SampleMutUninit::user_header_mut(&mut domain, &mut loan) = Tag(6);
     let header = loan.user_header(&domain).0;
     let cells = loan.payload(&domain);
-    let written = [
-        written_number(cells, 0),
-        written_number(cells, 1),
-    ];
+    let written = [written_number(cells, 0), written_number(cells, 1)];
     let message = loan.write_from_fn(&mut domain, |index| Tag((index as u64).wrapping_mul(7)));
     let kept = message.user_header(&domain).0;
     let elements = message.header(&domain).number_of_elements();
     let tags = message.payload(&domain);
-    let read = [
-        number_at(tags, 0),
-        number_at(tags, 1),
-        number_at(tags, 2),
-    ];
+    let read = [number_at(tags, 0), number_at(tags, 1), number_at(tags, 2)];
     message.disown();
     drop(domain);
     assert!(rt; written == [None, Some(5)]);
