@@ -8,10 +8,14 @@ ghost use Rattle.iox2_pubsub.specs.Slices.{IsSliced};
 use crate::waiting_publishers::{blocked, delivered};
 use iox2_fixtures::settings;
 use iox2_pubsub::slice::Subscriber;
-use iox2_pubsub::{BackpressureStrategy, Domain};
-use iox2_store::{ServiceConfig, TypeVariant};
+use iox2_pubsub::{BackpressureHandler, BackpressureStrategy, Domain};
+use iox2_store::{BackpressureAction, ServiceConfig, TypeVariant};
 use std::process::Abort;
 use std::time::Duration;
+
+/// A payload that is neither `Copy` nor `Clone`.
+#[derive(Default, Drop)]
+struct Tag(u64);
 
 // The settings of a domain of slices, with one publisher and one subscriber.
 fn slices() -> ServiceConfig
@@ -69,4 +73,34 @@ fn a_slice_waits_and_arrives_as_it_was_written(rt: HostRuntime) {
     assert!(rt; [first, second] == [1, 1]);
     assert!(rt; [before, is_blocked, after] == [false, true, false]);
     assert!(rt; [read, last, nothing] == [Some(1 + 2 + 3), Some(4 + 5), None]);
+}
+
+// The other loan is out meanwhile.
+#[test]
+fn a_handler_blocks_slices_of_a_publisher_that_would_discard(rt: HostRuntime) {
+    let mut domain: Domain<Tag, Tag> = Domain::new(rt.alloc(), slices()).expect(&rt, "a domain");
+    let factory = domain.slice_subscriber_builder().buffer_size(1);
+    let subscriber = factory.create(&mut domain).expect(&rt, "a subscriber");
+    let factory = domain
+        .slice_publisher_builder()
+        .backpressure_strategy(BackpressureStrategy::DiscardData)
+        .set_backpressure_handler(BackpressureHandler::new_with(BackpressureAction::Retry));
+    let publisher = factory.create(&mut domain).expect(&rt, "a publisher");
+    let other = publisher.loan_slice(&mut domain, 1).expect(&rt, "a loan");
+    let message = publisher.loan_slice(&mut domain, 1).expect(&rt, "a loan");
+    let first = delivered(&rt, message.send(&mut domain));
+    let message = publisher.loan_slice(&mut domain, 1).expect(&rt, "a loan");
+    let before = other.is_blocked(&domain);
+    let waiting = blocked(&rt, message.send(&mut domain));
+    let during = [other.is_blocked(&domain), publisher.is_blocked(&domain)];
+    let second = delivered(&rt, waiting.give_up(&mut domain));
+    let after = [other.is_blocked(&domain), publisher.is_blocked(&domain)];
+    other.disown();
+    publisher.disown();
+    subscriber.disown();
+    drop(domain);
+    assert!(rt; [first, second] == [1, 0]);
+    assert!(rt; !before);
+    assert!(rt; during == [true, true]);
+    assert!(rt; after == [false, false]);
 }

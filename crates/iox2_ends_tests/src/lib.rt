@@ -4,3 +4,5 @@
 
 #[cfg(test)]
 mod deliveries;
+#[cfg(test)]
+mod handlers;

@@ -8,7 +8,7 @@ use crate::fixtures::slice_factory;
 use iox2_fixtures::{receiver_count, settings};
 use iox2_pubsub::slice::{Publisher, SampleMut, SampleMutUninit, Subscriber};
 use iox2_pubsub::{Domain, UpdateConnections};
-use iox2_store::{LoanError, ServiceConfig, TypeVariant};
+use iox2_store::{LoanError, PublisherCreateError, ServiceConfig, TypeVariant};
 use std::process::Abort;
 
 /// A payload that is neither `Copy` nor `Clone`.
@@ -254,4 +254,113 @@ fn ports_of_slices_have_the_calls_of_ports(rt: HostRuntime) {
     assert!(rt; takers == Some(1));
     assert!(rt; after == Ok(true));
     assert!(rt; buffer_size == 2);
+}
+
+// The number in one of the cells, where there is one.
+fn written_number(cells: &[Option<Tag>], index: usize) -> Option<u64> {
+    cells.get(index)?.as_ref().map(|tag| tag.0)
+}
+
+// The number of one of the tags.
+fn number_at(tags: &[Tag], index: usize) -> Option<u64> {
+    tags.get(index).map(|tag| tag.0)
+}
+
+#[test]
+fn a_loan_of_a_slice_keeps_what_is_written_into_it(rt: HostRuntime) {
+    let mut domain: Domain<Tag, Tag> = Domain::new(rt.alloc(), slices()).expect(&rt, "a domain");
+    let factory = slice_factory(&domain).initial_max_slice_len(3);
+    let publisher = factory.create(&mut domain).expect(&rt, "a publisher");
+    let loan = publisher.loan_slice_uninit(&mut domain, 3);
+    let mut loan = loan.expect(&rt, "a loan");
+    publisher.disown();
+    fill(SampleMutUninit::payload_mut(&mut domain, &mut loan), 1, 5);
+    *SampleMutUninit::user_header_mut(&mut domain, &mut loan) = Tag(6);
+    let header = loan.user_header(&domain).0;
+    let cells = loan.payload(&domain);
+    let written = [written_number(cells, 0), written_number(cells, 1)];
+    let message = loan.write_from_fn(&mut domain, |index| Tag((index as u64).wrapping_mul(7)));
+    let kept = message.user_header(&domain).0;
+    let elements = message.header(&domain).number_of_elements();
+    let tags = message.payload(&domain);
+    let read = [number_at(tags, 0), number_at(tags, 1), number_at(tags, 2)];
+    message.disown();
+    drop(domain);
+    assert!(rt; written == [None, Some(5)]);
+    assert!(rt; [header, kept] == [6, 6]);
+    assert!(rt; elements == 3);
+    assert!(rt; read == [Some(0), Some(7), Some(14)]);
+}
+
+// The subscriber has the id 1, and the publisher 2.
+#[test]
+fn a_slice_of_values_without_copies_is_received_as_it_was_left(rt: HostRuntime) {
+    let mut domain: Domain<Tag, Tag> = Domain::new(rt.alloc(), slices()).expect(&rt, "a domain");
+    let factory = domain.slice_subscriber_builder();
+    let subscriber = factory.create(&mut domain).expect(&rt, "a subscriber");
+    let factory = slice_factory(&domain).initial_max_slice_len(2);
+    let publisher = factory.create(&mut domain).expect(&rt, "a publisher");
+    let loan = publisher.loan_slice(&mut domain, 2);
+    let mut message = loan.expect(&rt, "a loan");
+    publisher.disown();
+    *SampleMut::user_header_mut(&mut domain, &mut message) = Tag(4);
+    if let Some(tag) = SampleMut::payload_mut(&mut domain, &mut message).get_mut(1) {
+        *tag = Tag(9);
+    }
+    let takers = message.send(&mut domain).ok().and_then(receiver_count);
+    let received = subscriber.receive(&mut domain).expect(&rt, "an answer");
+    let sample = received.expect(&rt, "a sample");
+    let tags = sample.payload(&domain);
+    let read = [number_at(tags, 0), number_at(tags, 1)];
+    let header = sample.user_header(&domain).0;
+    let elements = sample.header(&domain).number_of_elements();
+    let origin = sample.origin().value();
+    sample.release(&mut domain);
+    let is_over = subscriber.has_samples(&mut domain) == Ok(false);
+    subscriber.disown();
+    drop(domain);
+    assert!(rt; takers == Some(1));
+    assert!(rt; read == [Some(0), Some(9)]);
+    assert!(rt; [header, elements] == [4, 2]);
+    assert!(rt; origin == 2);
+    assert!(rt; is_over);
+}
+
+// The subscriber has the id 1, the publisher 2, and the messages have the numbers 1 and 2.
+#[test]
+fn loans_and_samples_of_slices_have_keys(rt: HostRuntime) {
+    let mut domain: Domain<Tag, Tag> = Domain::new(rt.alloc(), slices()).expect(&rt, "a domain");
+    let factory = domain.slice_subscriber_builder();
+    let subscriber = factory.create(&mut domain).expect(&rt, "a subscriber");
+    let factory = slice_factory(&domain);
+    let publisher = factory.create(&mut domain).expect(&rt, "a publisher");
+    let message = publisher.loan_slice(&mut domain, 1).expect(&rt, "a loan");
+    let given_back = message.key();
+    message.discard(&mut domain);
+    let loan = publisher.loan_slice_uninit(&mut domain, 1);
+    let loan = loan.expect(&rt, "a loan");
+    publisher.disown();
+    let unwritten = loan.key();
+    let message = loan.write_from_fn(&mut domain, |_| Tag(8));
+    let takers = message.send(&mut domain).ok().and_then(receiver_count);
+    let received = subscriber.receive(&mut domain).expect(&rt, "an answer");
+    let sample = received.expect(&rt, "a sample");
+    subscriber.disown();
+    let borrowed = sample.key();
+    sample.disown();
+    drop(domain);
+    assert!(rt; [given_back.port, given_back.message] == [2, 1]);
+    assert!(rt; [unwritten.port, unwritten.message] == [2, 2]);
+    assert!(rt; takers == Some(1));
+    assert!(rt; [borrowed.port, borrowed.message] == [1, 2]);
+}
+
+#[test]
+fn slices_that_no_segment_holds_are_refused(rt: HostRuntime) {
+    let mut domain: Domain<Tag, Tag> = Domain::new(rt.alloc(), slices()).expect(&rt, "a domain");
+    let factory = slice_factory(&domain).initial_max_slice_len(usize::MAX);
+    let created = factory.create(&mut domain);
+    let created = created.map(|publisher| publisher.disown());
+    drop(domain);
+    assert!(rt; created == Err(PublisherCreateError::UnableToCreateDataSegment));
 }

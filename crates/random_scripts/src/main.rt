@@ -5,6 +5,7 @@
 mod comparison;
 mod difference;
 mod failure;
+mod limits;
 mod refusals;
 mod rounds;
 mod shortest;

@@ -71,11 +71,7 @@ fn check(
 }
 
 fn print_shortest(rt: &HostRuntime, script: &Script) -> Result<(), Failure> {
-    let commands = shortest(rt.alloc(), script.config, script.commands.as_slice())?;
-    let fewest = Script {
-        config: script.config,
-        commands,
-    };
+    let fewest = shortest(rt.alloc(), script)?;
     println!(rt;
         "the shortest such script has {} commands:",
         fewest.commands.len()

@@ -1,0 +1,167 @@
+//! A box is asked about a full receiver, and about no other.
+ghost use Rattle.std.specs.Prelude.{◌≡◌, ◌<◌, ◌∷◌, [], nat_lt, cond, IfOk};
+ghost use Rattle.iox2_store.specs.Link.{empty_link};
+ghost use Rattle.iox2_ends.specs.Deliveries.{begun};
+ghost use Rattle.iox2_store.specs.declared.backpressure.BackpressureAction.TheVariants.{Retry, DiscardDataAndFail};
+
+use iox2_ends::sender::{Delivery, DeliveryOutcome, Progress, ReceiverDetails, deliver};
+use iox2_store::{
+    BackpressureAction, BackpressureFn, BackpressureHandler, BackpressureInfo,
+    BackpressureStrategy, Connection, Header, Home, ServiceConfig, SlotBook, UniqueNodeId,
+    UniquePublisherId,
+};
+use slab::Slab;
+use std::alloc::{AllocError, Global};
+use std::test::Fail;
+use std::time::Duration;
+
+const HOME: Home = Home {
+    publisher: 1,
+    subscriber: 2,
+    publisher_place: 0,
+    subscriber_place: 0,
+    book: 0,
+};
+
+// Tries a delivery again so many times, and fails it then.
+#[derive(Drop)]
+struct Patience {
+    retries: u64,
+}
+
+impl BackpressureFn for Patience {
+    ghost allows = { λ patience info action. action ≡ cond (nat_lt info.retries patience.retries) Retry DiscardDataAndFail };
+
+    fn call(&self, info: &BackpressureInfo) -> BackpressureAction {
+        if info.retries < self.retries {
+            BackpressureAction::Retry
+        } else {
+            BackpressureAction::DiscardDataAndFail
+        }
+    }
+}
+
+// The connection, in which the slot waits.
+fn connection_with(alloc: Global, buffer_size: usize, slot: usize) -> Result<Connection, AllocError>
+    requires { 0 < buffer_size }
+    ensures { IfOk result (λ c. c ≡ record (empty_link HOME buffer_size 1) { waiting = slot ∷ [] }) }
+{
+    let mut connection = Connection::new(alloc, HOME, buffer_size, 1)?;
+    connection.put(slot, false);
+    Ok(connection)
+}
+
+// The slot's delivery, which was tried again so many times.
+fn delivery_of(slot: usize, retries: u64) -> Delivery
+    ensures sender { result.publisher ≡ 1 }
+    ensures slot { result.slot ≡ slot }
+    ensures start { result.start ≡ record begun { retries = retries } }
+{
+    Delivery {
+        publisher: 1,
+        slot,
+        strategy: BackpressureStrategy::DiscardData,
+        start: Progress {
+            retries,
+            ..Progress::begun()
+        },
+        elapsed: Duration::ZERO,
+    }
+}
+
+// What a delivery comes to that was tried again so many times, at a receiver for which a message
+// waits. Its handler has the patience for two retries.
+fn outcome_at(
+    alloc: Global,
+    receiver: ReceiverDetails,
+    retries: u64,
+) -> Result<DeliveryOutcome, Fail>
+    requires receiver { receiver.port_id ≡ 2 }
+    requires buffer { 0 < receiver.buffer_size }
+{
+    let header = Header {
+        node_id: UniqueNodeId::new(1),
+        publisher_id: UniquePublisherId::new(1),
+        number_of_elements: 1,
+    };
+    let mut book = SlotBook::new(alloc, header.publisher_id, 1)?;
+    let slot = book.take(1, header).unwrap();
+    book.hold(slot);
+    let connection = connection_with(alloc, receiver.buffer_size, slot)?;
+    let mut connections = Slab::new(alloc);
+    connections.reserve(1)?;
+    let keys = [Some(connections.insert_reserved(connection))];
+    let mut receivers = Vec::new(alloc);
+    receivers.push(Some(receiver))?;
+    let function: Box<dyn BackpressureFn> = Box::new(alloc, Patience { retries: 2 })?;
+    let handler = Some(BackpressureHandler::Custom(function));
+    Ok(deliver(
+        &without_overflow(),
+        &delivery_of(slot, retries),
+        &handler,
+        &mut connections,
+        &mut book,
+        &keys,
+        &receivers,
+    ))
+}
+
+// The settings of a service in which a full receiver is asked about.
+fn without_overflow() -> ServiceConfig {
+    ServiceConfig {
+        enable_safe_overflow: false,
+        ..ServiceConfig::new(1)
+    }
+}
+
+// The delivery that waits for the receiver after so many retries.
+fn waiting(retries: u64) -> DeliveryOutcome {
+    DeliveryOutcome::Suspended(Progress {
+        retries,
+        ..Progress::begun()
+    })
+}
+
+#[test]
+fn a_handler_tries_twice_and_fails_the_message_then(rt: HostRuntime) -> Result<(), Fail> {
+    let full = ReceiverDetails {
+        port_id: 2,
+        buffer_size: 1,
+        is_open: true,
+    };
+    let outcomes = [
+        outcome_at(rt.alloc(), full, 0)?,
+        outcome_at(rt.alloc(), full, 1)?,
+        outcome_at(rt.alloc(), full, 2)?,
+    ];
+    let failed = DeliveryOutcome::Complete {
+        count: 0,
+        has_failed: true,
+    };
+    assert!(rt; outcomes == [waiting(0), waiting(1), failed]);
+    Ok(())
+}
+
+#[test]
+fn a_handler_is_not_asked_where_the_message_has_room_or_the_receiver_is_closed(
+    rt: HostRuntime,
+) -> Result<(), Fail> {
+    let roomy = ReceiverDetails {
+        port_id: 2,
+        buffer_size: 2,
+        is_open: true,
+    };
+    let closed = ReceiverDetails {
+        port_id: 2,
+        buffer_size: 1,
+        is_open: false,
+    };
+    let taken = outcome_at(rt.alloc(), roomy, 0)?;
+    let passed = outcome_at(rt.alloc(), closed, 0)?;
+    let [one, none] = [1, 0].map(|count| DeliveryOutcome::Complete {
+        count,
+        has_failed: false,
+    });
+    assert!(rt; [taken, passed] == [one, none]);
+    Ok(())
+}

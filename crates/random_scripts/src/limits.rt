@@ -1,0 +1,123 @@
+//! The limits of a script: those of its settings, and those of the ports that it makes.
+use crate::failure::Failure;
+use iox2_pubsub::ServiceConfig;
+use iox2_runs::Command;
+use random_commands::Script;
+use std::alloc::Global;
+
+/// A limit of a script.
+#[derive(Clone, Copy)]
+pub(crate) enum Limit {
+    Publishers,
+    Subscribers,
+    Buffer,
+    Borrowed,
+    History,
+    Expired,
+    /// The loans of the publisher, or the buffer of the subscriber, that the command at this position
+    /// makes.
+    Port(usize),
+}
+
+/// The limits of settings.
+pub(crate) const LIMITS: [Limit; 6] = [
+    Limit::Publishers,
+    Limit::Subscribers,
+    Limit::Buffer,
+    Limit::Borrowed,
+    Limit::History,
+    Limit::Expired,
+];
+
+impl Limit {
+    /// What the limit is: 0 where the command makes no port with a limit of its own.
+    pub(crate) fn of(self, script: &Script) -> usize {
+        let config = &script.config;
+        match self {
+            Limit::Publishers => config.max_publishers,
+            Limit::Subscribers => config.max_subscribers,
+            Limit::Buffer => config.subscriber_max_buffer_size,
+            Limit::Borrowed => config.subscriber_max_borrowed_samples,
+            Limit::History => config.history_size,
+            Limit::Expired => config.subscriber_expired_connection_buffer,
+            Limit::Port(position) => script.commands.get(position).map_or(0, own_limit),
+        }
+    }
+
+    /// The script with this limit.
+    pub(crate) fn set(
+        self,
+        alloc: Global,
+        script: &Script,
+        value: usize,
+    ) -> Result<Script, Failure> {
+        let mut commands = Vec::from_slice(alloc, script.commands.as_slice())?;
+        if let Limit::Port(position) = self {
+            if let Some(command) = commands.get_mut(position) {
+                *command = with_own_limit(*command, value);
+            }
+        }
+        Ok(Script {
+            config: self.set_in(script.config, value),
+            commands,
+        })
+    }
+
+    // The settings with this limit.
+    fn set_in(self, config: ServiceConfig, value: usize) -> ServiceConfig {
+        let mut config = config;
+        match self {
+            Limit::Publishers => config.max_publishers = value,
+            Limit::Subscribers => config.max_subscribers = value,
+            Limit::Buffer => config.subscriber_max_buffer_size = value,
+            Limit::Borrowed => config.subscriber_max_borrowed_samples = value,
+            Limit::History => config.history_size = value,
+            Limit::Expired => config.subscriber_expired_connection_buffer = value,
+            Limit::Port(_) => {}
+        }
+        config
+    }
+}
+
+// The limit of the port that the command makes.
+fn own_limit(command: &Command<u64, u64>) -> usize {
+    match command {
+        Command::CreatePublisher { loans, .. } => *loans,
+        Command::CreateSubscriber {
+            buffer: Some(size),
+            ..
+        } => *size,
+        _ => 0,
+    }
+}
+
+// The command with this limit of the port that it makes.
+fn with_own_limit(command: Command<u64, u64>, value: usize) -> Command<u64, u64> {
+    match command {
+        Command::CreatePublisher {
+            loans: _,
+            strategy,
+            allocation,
+            initial_max_slice_len,
+            override_slots,
+            degradation,
+            backpressure,
+        } => Command::CreatePublisher {
+            loans: value,
+            strategy,
+            allocation,
+            initial_max_slice_len,
+            override_slots,
+            degradation,
+            backpressure,
+        },
+        Command::CreateSubscriber {
+            buffer: Some(_),
+            degradation,
+        } => Command::CreateSubscriber {
+            buffer: Some(value),
+            degradation,
+        },
+        other => other,
+    }
+}
