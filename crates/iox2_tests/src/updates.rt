@@ -2,9 +2,7 @@ ghost use Rattle.iox2_pubsub.specs.Live.{Stays};
 
 use crate::fixtures::domain;
 use iox2_fixtures::{Reading, Station, factory_for, publish};
-use iox2_pubsub::{
-    BackpressureFn, ConnectionFailure, DegradationFn, Domain, UpdateConnections,
-};
+use iox2_pubsub::{BackpressureFn, ConnectionFailure, DegradationFn, Domain, UpdateConnections};
 
 // Updates a port of either kind.
 fn update<P: UpdateConnections<Reading, Station, Box<dyn BackpressureFn>, Box<dyn DegradationFn>>>(
@@ -18,10 +16,9 @@ fn update<P: UpdateConnections<Reading, Station, Box<dyn BackpressureFn>, Box<dy
 }
 
 // Updates a port of either kind twice.
-fn update_twice<P: UpdateConnections<Reading, Station, Box<dyn BackpressureFn>, Box<dyn DegradationFn>>>(
-    domain: &mut Domain<Reading, Station>,
-    port: &P,
-) -> Result<(), ConnectionFailure>
+fn update_twice<
+    P: UpdateConnections<Reading, Station, Box<dyn BackpressureFn>, Box<dyn DegradationFn>>,
+>(domain: &mut Domain<Reading, Station>, port: &P) -> Result<(), ConnectionFailure>
     requires { P.is_live domain.old port.now }
     ensures live { P.is_live domain.new port.now }
     ensures stays { Stays domain.old domain.new }
