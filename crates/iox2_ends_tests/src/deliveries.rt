@@ -79,13 +79,14 @@ fn a_message_goes_there_and_back(rt: HostRuntime) -> Result<(), Fail> {
     let reclaimed = book.holders(slot);
     drop(connections);
     drop(book);
-    assert!(rt;
-        outcome
-            == DeliveryOutcome::Complete {
-                count: 1,
-                has_failed: false
-            }
+    let is_taken = matches!(
+        outcome,
+        DeliveryOutcome::Complete {
+            count: 1,
+            has_failed: false
+        }
     );
+    assert!(rt; is_taken);
     assert!(rt; received == slot);
     assert!(rt; [delivered, reclaimed] == [2, 1]);
     Ok(())
