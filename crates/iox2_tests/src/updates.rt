@@ -5,8 +5,8 @@ use iox2_fixtures::{Reading, Station, factory_for, publish};
 use iox2_pubsub::{BackpressureFn, ConnectionFailure, DegradationFn, Domain, UpdateConnections};
 
 // Updates a port of either kind.
-fn update<P: UpdateConnections<Reading, Station, Box<dyn BackpressureFn>, Box<dyn DegradationFn>>>(
-    domain: &mut Domain<Reading, Station>,
+fn update<F: BackpressureFn, G: DegradationFn, P: UpdateConnections<Reading, Station, F, G>>(
+    domain: &mut Domain<Reading, Station, F, G>,
     port: &P,
 ) -> Result<(), ConnectionFailure>
     requires { P.is_live domain.old port.now }
@@ -16,9 +16,10 @@ fn update<P: UpdateConnections<Reading, Station, Box<dyn BackpressureFn>, Box<dy
 }
 
 // Updates a port of either kind twice.
-fn update_twice<
-    P: UpdateConnections<Reading, Station, Box<dyn BackpressureFn>, Box<dyn DegradationFn>>,
->(domain: &mut Domain<Reading, Station>, port: &P) -> Result<(), ConnectionFailure>
+fn update_twice<F: BackpressureFn, G: DegradationFn, P: UpdateConnections<Reading, Station, F, G>>(
+    domain: &mut Domain<Reading, Station, F, G>,
+    port: &P,
+) -> Result<(), ConnectionFailure>
     requires { P.is_live domain.old port.now }
     ensures live { P.is_live domain.new port.now }
     ensures stays { Stays domain.old domain.new }
