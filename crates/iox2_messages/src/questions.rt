@@ -7,7 +7,7 @@ ghost use Rattle.iox2_domain.specs.Questions.{IsWhetherWaiting, AnswersAs};
 
 use iox2_domain::DomainState;
 use iox2_ends::receiver::has_samples;
-use iox2_ports::update_subscriber;
+use iox2_updates::update_subscriber;
 use iox2_store::ConnectionFailure;
 
 /// The subscriber at a place is updated, and then asked whether any message waits for it, also one

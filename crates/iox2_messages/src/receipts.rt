@@ -16,7 +16,7 @@ ghost use Rattle.iox2_domain.specs.SampleSlots.{IsReturnable, LiesAtHint};
 
 use iox2_domain::{DomainState, Receipt, SampleAt, SampleSlot, is_due_at, stands_at};
 use iox2_ends::receiver::{Taken, let_go, receive, release};
-use iox2_ports::{forget_if_empty, free_book_if_unused, leave_if_unused, update_subscriber};
+use iox2_updates::{forget_if_empty, free_book_if_unused, leave_if_unused, update_subscriber};
 use iox2_store::{Home, ReceiveError, SlotBook, UniquePublisherId, UniqueSubscriberId};
 use slab::Slab;
 

@@ -13,7 +13,7 @@ ghost use Rattle.iox2_messages.specs.SendEnds.{IsKept, end_result};
 use crate::deliveries::send_ready;
 use crate::send_end::SendEnd;
 use iox2_domain::{DomainState, LoanAt};
-use iox2_ports::update_publisher;
+use iox2_updates::update_publisher;
 use iox2_store::UniquePublisherId;
 
 // Whether the loan lies where its handle says, and its publisher is due for no update.

@@ -8,7 +8,7 @@ ghost use Rattle.iox2_domain.specs.Ports.{PublisherFields, SubscriberFields};
 ghost use Rattle.iox2_domain.specs.Reaches.{Reaches};
 ghost use Rattle.iox2_domain.specs.Updates.{IsUnblockedAt};
 
-use crate::marks::{unmark_publisher, unmark_subscriber};
+use iox2_updates::{unmark_publisher, unmark_subscriber};
 use crate::{publisher_closes, subscriber_closes};
 use iox2_domain::DomainState;
 

@@ -15,7 +15,7 @@ ghost use Rattle.iox2_domain.specs.Reaches.{ReachesBut, Reaches};
 ghost use Rattle.iox2_domain.specs.Departures.{HasKey};
 ghost use Rattle.iox2_domain.specs.Closes.{is_awaited, after_close, left_subscriber, FindsAll, LeavesAt, LeavesConnections, SomeHasKey};
 
-use crate::departures::free_book_if_unused;
+use iox2_updates::free_book_if_unused;
 use iox2_domain::{DomainState, Port, PublisherState, SubscriberState, key_at};
 use iox2_ends::leaving::{give_up_history, leave};
 use iox2_store::{Connection, SlotBook};

@@ -14,7 +14,7 @@ ghost use Rattle.iox2_domain.specs.NewPublisher.{place_for_publisher, static_pub
 ghost use Rattle.iox2_domain.specs.Reaches.{Reaches};
 
 use crate::segments::{Segment, add_segment, first_segment, room_for};
-use crate::updates::update_publisher;
+use iox2_updates::update_publisher;
 use iox2_domain::{DomainState, PortAt, PublisherState, free_place, make_all_due, put_at_place};
 use iox2_store::{
     BackpressureAction, BackpressureStrategy, PublisherCreateError, UniquePublisherId,

@@ -15,7 +15,7 @@ ghost use Rattle.iox2_domain.specs.Updates.{changed_at};
 ghost use Rattle.iox2_closes.specs.Agreement.{HasOwnedParts, IsOrphan};
 ghost use Rattle.iox2_closes.specs.Closes.{shut_subscriber, is_empty_link, HasNoPublisher, IsBusy, IsLeftAt, IsStanding, LosesWaiting, FreesBook, ForgetsIfEmpty, LosesIfLeft};
 
-use crate::departures::{forget_if_empty, leave_if_unused};
+use iox2_updates::{forget_if_empty, leave_if_unused};
 use iox2_domain::{DomainState, SubscriberState, key_at, make_all_due, stands_at};
 use iox2_ends::drops::drop_waiting_at;
 use iox2_store::Connection;

@@ -14,7 +14,7 @@ ghost use Rattle.iox2_domain.specs.Invariant.{IsDomain};
 ghost use Rattle.iox2_domain.specs.Reaches.{Reaches};
 ghost use Rattle.iox2_domain.specs.SubscriberEntry.{FirstUpdates, asked_for, failure_warned, place_for_subscriber};
 
-use crate::receiver_updates::update_subscriber;
+use iox2_updates::update_subscriber;
 use iox2_domain::{
     DomainState, PortAt, SubscriberState, Warnings, free_place, make_all_due, put_at_place,
 };

@@ -3,7 +3,7 @@
 use crate::domain::Domain;
 use crate::publisher::Publisher;
 use crate::update_connections::UpdateConnections;
-use iox2_ports::update_publisher;
+use iox2_updates::update_publisher;
 use iox2_store::{BackpressureFn, ConnectionFailure, DegradationFn};
 
 /// A publisher gets its connections with new subscribers, which a send does too.

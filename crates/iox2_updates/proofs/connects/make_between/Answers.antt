@@ -1,0 +1,60 @@
+use Rattle.std.proofs.Common.{◌<◌, ◌∙◌, ℕ, ap, sym, subst, get_or}
+use Rattle.std.proofs.lemmas.List.{with_items_is}
+use Rattle.std.specs.declared.option.Option.TheVariants.{None}
+use Rattle.std.specs.Prelude.{IfOk}
+use Rattle.iox2_domain.specs.Fields.{Fields}
+use Rattle.iox2_domain.specs.Invariant.{connection_count}
+use Rattle.iox2_domain.specs.Updates.{MakesConnection}
+use Rattle.iox2_domain.proofs.lemmas.updates.MadeRoom.{always, gets-sender-room, gets-receiver-room, keeps-receiver-room, makes-room}
+use Rattle.iox2_updates.proofs.connects.make_between.Goals as goal
+
+pub returns-in_err-reserve_key_at-clause-grows : goal.returns-in_err-reserve_key_at-clause-grows
+returns-in_err-reserve_key_at-clause-grows g c =
+    let items = with_items_is c.state.inside.publishers c.reserve_key_at.new.ports (c.reserve_key_at.auto.ports ∙ c.deref_mut.ensures.len) in
+    makes-room c.args.state.now _ c.state.view_is c.args.publisher_place c.args.subscriber_place _ _ _
+    (gets-sender-room _ _ c.deref_mut.result.now c.reserve_key_at.new.ports c.args.publisher_place c.deref_mut.ensures.value items
+    (record { same = c.in_err-reserve_key_at.ensures.same; grows = c.in_err-reserve_key_at.ensures.grows }))
+    (keeps-receiver-room c.state.inside.subscribers.items c.args.subscriber_place)
+
+pub returns-in_err-reserve_connection_at-clause-grows : goal.returns-in_err-reserve_connection_at-clause-grows
+returns-in_err-reserve_connection_at-clause-grows g c =
+    let publishers = with_items_is c.state.inside.publishers c.reserve_key_at.new.ports (c.reserve_key_at.auto.ports ∙ c.deref_mut.ensures.len) in
+    let subscribers = with_items_is c.state.inside.subscribers c.reserve_connection_at.new.subscribers (c.reserve_connection_at.auto.subscribers ∙ c.deref_mut-2.ensures.len) in
+    makes-room c.args.state.now _ c.state.view_is c.args.publisher_place c.args.subscriber_place _ _ _
+    (gets-sender-room _ _ c.deref_mut.result.now c.reserve_key_at.new.ports c.args.publisher_place c.deref_mut.ensures.value publishers
+    (record { same = c.in_ok-reserve_key_at.ensures.same; grows = c.in_ok-reserve_key_at.ensures.grows }))
+    (gets-receiver-room _ _ c.deref_mut-2.result.now c.reserve_connection_at.new.subscribers c.args.subscriber_place c.deref_mut-2.ensures.value subscribers
+    (record { same = c.in_err-reserve_connection_at.ensures.same; grows = c.in_err-reserve_connection_at.ensures.grows; expired_grows = c.in_err-reserve_connection_at.ensures.expired_grows }))
+
+pub returns-clause-grows : goal.returns-clause-grows
+returns-clause-grows g c =
+    let publishers = with_items_is c.state.inside.publishers c.reserve_key_at.new.ports (c.reserve_key_at.auto.ports ∙ c.deref_mut.ensures.len) in
+    let subscribers = with_items_is c.state.inside.subscribers c.reserve_connection_at.new.subscribers (c.reserve_connection_at.auto.subscribers ∙ c.deref_mut-2.ensures.len) in
+    makes-room c.args.state.now _ c.state.view_is c.args.publisher_place c.args.subscriber_place _ _ _
+    (gets-sender-room _ _ c.deref_mut.result.now c.reserve_key_at.new.ports c.args.publisher_place c.deref_mut.ensures.value publishers
+    (record { same = c.in_ok-reserve_key_at.ensures.same; grows = c.in_ok-reserve_key_at.ensures.grows }))
+    (gets-receiver-room _ _ c.deref_mut-2.result.now c.reserve_connection_at.new.subscribers c.args.subscriber_place c.deref_mut-2.ensures.value subscribers
+    (record { same = c.in_ok-reserve_connection_at.ensures.same; grows = c.in_ok-reserve_connection_at.ensures.grows; expired_grows = c.in_ok-reserve_connection_at.ensures.expired_grows }))
+
+pub returns-clause-sender_room : goal.returns-clause-sender_room
+returns-clause-sender_room g c =
+    let publishers = with_items_is c.state.inside.publishers c.reserve_key_at.new.ports (c.reserve_key_at.auto.ports ∙ c.deref_mut.ensures.len) in
+    always c.make_connection.result (λ x at. c.in_ok-reserve_key_at.ensures.room x (sym (ap (λ zs. get_or zs c.args.publisher_place None) publishers) ∙ at))
+
+pub returns-clause-receiver_room : goal.returns-clause-receiver_room
+returns-clause-receiver_room g c =
+    let subscribers = with_items_is c.state.inside.subscribers c.reserve_connection_at.new.subscribers (c.reserve_connection_at.auto.subscribers ∙ c.deref_mut-2.ensures.len) in
+    always c.make_connection.result (λ y at. c.in_ok-reserve_connection_at.ensures.room y (sym (ap (λ zs. get_or zs c.args.subscriber_place None) subscribers) ∙ at))
+
+pub returns-clause-made : goal.returns-clause-made
+returns-clause-made g c =
+    subst (λ (f : Fields g.row.T.Denot g.row.U.Denot).
+    IfOk c.make_connection.result (λ key. MakesConnection f.connections c.args.home c.args.buffer f.config.subscriber_max_borrowed_samples key c.make_connection.new.connections))
+    c.state.view_is c.make_connection.ensures.made
+
+pub returns-clause-expired_room : goal.returns-clause-expired_room
+returns-clause-expired_room g c =
+    let subscribers = with_items_is c.state.inside.subscribers c.reserve_connection_at.new.subscribers (c.reserve_connection_at.auto.subscribers ∙ c.deref_mut-2.ensures.len) in
+    let counted = c.connection_count-others.ensures ∙ ap (λ (f : Fields g.row.T.Denot g.row.U.Denot). connection_count f.connections c.args.home.subscriber) c.state.view_is in
+    always c.make_connection.result (λ y at. subst (λ (n : ℕ). n < y.expired_room) counted
+    (c.in_ok-reserve_connection_at.ensures.expired_room y (sym (ap (λ zs. get_or zs c.args.subscriber_place None) subscribers) ∙ at)))

@@ -1,0 +1,124 @@
+use Rattle.std.proofs.Common.{◌≡◌, ◌∙◌, true, false, ap, sym, subst, slice_index_or, Some, None}
+use Rattle.slab.specs.Slab.{get}
+use Rattle.iox2_store.specs.Link.{Link}
+use Rattle.iox2_store.specs.declared.connection.Home.{Home}
+use Rattle.iox2_store.specs.machine.Environments.{fixed_handlers}
+use Rattle.iox2_domain.specs.Fields.{Fields}
+use Rattle.iox2_domain.specs.Drops.{StandsElsewhere}
+use Rattle.iox2_domain.specs.Updates.{sender_key, is_open_subscriber}
+use Rattle.iox2_domain.proofs.lemmas.updates.PlaceCalls.{stands-elsewhere, stands-there, alone-there, unused-there, end-stands, keeps-there, drops-there, loses-there, lost-stands, lost-within, lost-settled, lost-free, lost-key}
+use Rattle.iox2_updates.proofs.connects.update_sender_place.Goals as goal
+
+pub index-requires : goal.index-requires
+index-requires g c =
+    let old = c.args.state.now in
+    let there = c.requires.publisher in
+    let named : sender_key old.publishers c.args.publisher_place c.args.subscriber_place ≡ Some c.in-Some.key =
+    ap (λ xs. sender_key xs c.args.publisher_place c.args.subscriber_place) (sym (c.deref.ensures.value ∙ ap (λ (f : Fields g.row.T.Denot g.row.U.Denot). f.publishers) c.state.view_is)) ∙ sym c.key_at.ensures ∙ c.in-Some.is in
+    rw (ap (λ (f : Fields g.row.T.Denot g.row.U.Denot). f.connections) c.state.view_is) (end-stands old c.requires.agrees c.args.publisher_place c.args.subscriber_place there.0 there.1 (c.requires.settled there.0 there.1) (c.requires.unblocked there.0 there.1) c.in-Some.key named)
+
+pub connect_sender-requires-then-not-stands_at-clause-agrees : goal.connect_sender-requires-then-not-stands_at-clause-agrees
+connect_sender-requires-then-not-stands_at-clause-agrees g c =
+    (c.disconnect_sender.ensures c.requires.publisher.0 c.requires.publisher.1).agrees
+
+pub connect_sender-requires-then-not-stands_at-clause-publisher : goal.connect_sender-requires-then-not-stands_at-clause-publisher
+connect_sender-requires-then-not-stands_at-clause-publisher g c =
+    let there = c.requires.publisher in
+    (_, lost-stands c.args.state.now c.requires.agrees c.args.publisher_place c.args.subscriber_place there.0 there.1 (c.requires.settled there.0 there.1) c.disconnect_sender.new.state (c.disconnect_sender.ensures there.0 there.1))
+
+pub connect_sender-requires-then-not-stands_at-clause-subscriber : goal.connect_sender-requires-then-not-stands_at-clause-subscriber
+connect_sender-requires-then-not-stands_at-clause-subscriber g c =
+    let there = c.requires.publisher in
+    lost-within c.args.state.now c.requires.agrees c.args.publisher_place c.args.subscriber_place there.0 there.1 (c.requires.settled there.0 there.1) c.disconnect_sender.new.state (c.disconnect_sender.ensures there.0 there.1) c.requires.subscriber
+
+pub connect_sender-requires-then-not-stands_at-clause-settled : goal.connect_sender-requires-then-not-stands_at-clause-settled
+connect_sender-requires-then-not-stands_at-clause-settled g c =
+    let there = c.requires.publisher in
+    lost-settled c.args.state.now c.requires.agrees c.args.publisher_place c.args.subscriber_place there.0 there.1 (c.requires.settled there.0 there.1) c.disconnect_sender.new.state (c.disconnect_sender.ensures there.0 there.1)
+
+pub connect_sender-requires-then-not-stands_at-clause-unblocked : goal.connect_sender-requires-then-not-stands_at-clause-unblocked
+connect_sender-requires-then-not-stands_at-clause-unblocked g c =
+    let there = c.requires.publisher in
+    lost-free c.args.state.now c.requires.agrees c.args.publisher_place c.args.subscriber_place there.0 there.1 (c.requires.settled there.0 there.1) c.disconnect_sender.new.state (c.disconnect_sender.ensures there.0 there.1)
+    (c.requires.unblocked there.0 there.1)
+
+pub connect_sender-requires-then-not-stands_at-clause-none : goal.connect_sender-requires-then-not-stands_at-clause-none
+connect_sender-requires-then-not-stands_at-clause-none g c =
+    let there = c.requires.publisher in
+    lost-key c.args.state.now c.requires.agrees c.args.publisher_place c.args.subscriber_place there.0 there.1 (c.requires.settled there.0 there.1) c.disconnect_sender.new.state (c.disconnect_sender.ensures there.0 there.1)
+
+pub disconnect_sender-requires-clause-unused : goal.disconnect_sender-requires-clause-unused
+disconnect_sender-requires-clause-unused g c =
+    let old = c.args.state.now in
+    let viewed = c.state.view_is in
+    let there = c.requires.publisher in
+    let subscribers : c.state.inside.subscribers.items ≡ old.subscribers = ap (λ (f : Fields g.row.T.Denot g.row.U.Denot). f.subscribers) viewed in
+    let named : sender_key old.publishers c.args.publisher_place c.args.subscriber_place ≡ Some c.in-Some.key =
+    ap (λ xs. sender_key xs c.args.publisher_place c.args.subscriber_place) (sym (c.deref.ensures.value ∙ ap (λ (f : Fields g.row.T.Denot g.row.U.Denot). f.publishers) viewed)) ∙ sym c.key_at.ensures ∙ c.in-Some.is in
+    let at_c : get old.connections c.in-Some.key ≡ Some c.index.result.now = ap (λ (f : Fields g.row.T.Denot g.row.U.Denot). get f.connections c.in-Some.key) (sym viewed) ∙ c.index.ensures in
+    let elsewhere : StandsElsewhere old.subscribers c.args.subscriber_place c.index.result.now.home.subscriber =
+    rw (sym (c.deref-2.ensures.value ∙ subscribers), sym c.home-subscriber.ensures.value) (stands-elsewhere _ c.args.subscriber_place _ c.stands_at.result c.stands_at.ensures c.if-not-stands_at.true) in
+    rw at_c (unused-there old c.requires.agrees c.args.publisher_place c.args.subscriber_place there.0 there.1 (c.requires.settled there.0 there.1) (c.requires.unblocked there.0 there.1) c.in-Some.key named c.index.result.now at_c elsewhere)
+
+pub disconnect_sender-requires-clause-alone : goal.disconnect_sender-requires-clause-alone
+disconnect_sender-requires-clause-alone g c = λ d at_d.
+    let old = c.args.state.now in
+    let viewed = c.state.view_is in
+    let there = c.requires.publisher in
+    let subscribers : c.state.inside.subscribers.items ≡ old.subscribers = ap (λ (f : Fields g.row.T.Denot g.row.U.Denot). f.subscribers) viewed in
+    let named : sender_key old.publishers c.args.publisher_place c.args.subscriber_place ≡ Some c.in-Some.key =
+    ap (λ xs. sender_key xs c.args.publisher_place c.args.subscriber_place) (sym (c.deref.ensures.value ∙ ap (λ (f : Fields g.row.T.Denot g.row.U.Denot). f.publishers) viewed)) ∙ sym c.key_at.ensures ∙ c.in-Some.is in
+    let at_c : get old.connections c.in-Some.key ≡ Some c.index.result.now = ap (λ (f : Fields g.row.T.Denot g.row.U.Denot). get f.connections c.in-Some.key) (sym viewed) ∙ c.index.ensures in
+    let elsewhere : StandsElsewhere old.subscribers c.args.subscriber_place c.index.result.now.home.subscriber =
+    rw (sym (c.deref-2.ensures.value ∙ subscribers), sym c.home-subscriber.ensures.value) (stands-elsewhere _ c.args.subscriber_place _ c.stands_at.result c.stands_at.ensures c.if-not-stands_at.true) in
+    let both : Some c.index.result.now ≡ Some d = sym at_c ∙ at_d in
+    let is : c.index.result.now ≡ d = cc in
+    alone-there old c.requires.agrees c.args.publisher_place c.args.subscriber_place there.0 there.1 (c.requires.settled there.0 there.1) (c.requires.unblocked there.0 there.1) c.in-Some.key named d at_d
+    (subst (λ (l : Link). StandsElsewhere old.subscribers c.args.subscriber_place l.home.subscriber) is elsewhere)
+
+pub returns-then-not-stands_at : goal.returns-then-not-stands_at
+returns-then-not-stands_at g c = λ x at.
+    let old = c.args.state.now in
+    let viewed = c.state.view_is in
+    let subscribers : c.state.inside.subscribers.items ≡ old.subscribers = ap (λ (f : Fields g.row.T.Denot g.row.U.Denot). f.subscribers) viewed in
+    let named : sender_key old.publishers c.args.publisher_place c.args.subscriber_place ≡ Some c.in-Some.key =
+    ap (λ xs. sender_key xs c.args.publisher_place c.args.subscriber_place) (sym (c.deref.ensures.value ∙ ap (λ (f : Fields g.row.T.Denot g.row.U.Denot). f.publishers) viewed)) ∙ sym c.key_at.ensures ∙ c.in-Some.is in
+    let at_c : get old.connections c.in-Some.key ≡ Some c.index.result.now = ap (λ (f : Fields g.row.T.Denot g.row.U.Denot). get f.connections c.in-Some.key) (sym viewed) ∙ c.index.ensures in
+    let elsewhere : StandsElsewhere old.subscribers c.args.subscriber_place c.index.result.now.home.subscriber =
+    rw (sym (c.deref-2.ensures.value ∙ subscribers), sym c.home-subscriber.ensures.value) (stands-elsewhere _ c.args.subscriber_place _ c.stands_at.result c.stands_at.ensures c.if-not-stands_at.true) in
+    let loses = c.disconnect_sender.ensures x at in
+    loses-there old c.requires.agrees c.args.publisher_place c.args.subscriber_place x at (c.requires.settled x at) (c.requires.unblocked x at) c.in-Some.key named fixed_handlers c.index.result.now at_c
+    elsewhere c.disconnect_sender.new.state loses c.connect_sender-then-not-stands_at.new.state None
+    (c.connect_sender-then-not-stands_at.ensures _ (lost-stands old c.requires.agrees c.args.publisher_place c.args.subscriber_place x at (c.requires.settled x at) c.disconnect_sender.new.state loses))
+
+pub returns-then-not-is_open_at : goal.returns-then-not-is_open_at
+returns-then-not-is_open_at g c = λ x at.
+    let old = c.args.state.now in
+    let viewed = c.state.view_is in
+    let subscribers : c.state.inside.subscribers.items ≡ old.subscribers = ap (λ (f : Fields g.row.T.Denot g.row.U.Denot). f.subscribers) viewed in
+    let named : sender_key old.publishers c.args.publisher_place c.args.subscriber_place ≡ Some c.in-Some.key =
+    ap (λ xs. sender_key xs c.args.publisher_place c.args.subscriber_place) (sym (c.deref.ensures.value ∙ ap (λ (f : Fields g.row.T.Denot g.row.U.Denot). f.publishers) viewed)) ∙ sym c.key_at.ensures ∙ c.in-Some.is in
+    let at_c : get old.connections c.in-Some.key ≡ Some c.index.result.now = ap (λ (f : Fields g.row.T.Denot g.row.U.Denot). get f.connections c.in-Some.key) (sym viewed) ∙ c.index.ensures in
+    let there = stands-there _ c.args.subscriber_place _ c.stands_at.result c.stands_at.ensures c.if-not-stands_at.false in
+    let at_y : slice_index_or old.subscribers c.args.subscriber_place None ≡ Some there.0 = ap (λ ys. slice_index_or ys c.args.subscriber_place None) (sym (c.deref-2.ensures.value ∙ subscribers)) ∙ there.1 in
+    let its : (there.0).id ≡ c.index.result.now.home.subscriber = there.2 ∙ ap (λ (h : Home). h.subscriber) c.home-subscriber.ensures.value in
+    let shut : is_open_subscriber old.subscribers c.args.subscriber_place ≡ false =
+    sym (c.is_open_at.ensures ∙ ap (λ ys. is_open_subscriber ys c.args.subscriber_place) (c.deref-else-not-stands_at.ensures.value ∙ subscribers)) ∙ c.if-not-is_open_at.true in
+    drops-there old c.requires.agrees c.args.publisher_place c.args.subscriber_place x at (c.requires.settled x at) (c.requires.unblocked x at) c.in-Some.key named fixed_handlers c.index.result.now at_c
+    there.0 at_y its shut c.drop_waiting_at.new.state (c.drop_waiting_at.ensures x at c.index.result.now at_c)
+
+pub returns-else-not-is_open_at : goal.returns-else-not-is_open_at
+returns-else-not-is_open_at g c = λ x at.
+    let old = c.args.state.now in
+    let viewed = c.state.view_is in
+    let subscribers : c.state.inside.subscribers.items ≡ old.subscribers = ap (λ (f : Fields g.row.T.Denot g.row.U.Denot). f.subscribers) viewed in
+    let named : sender_key old.publishers c.args.publisher_place c.args.subscriber_place ≡ Some c.in-Some.key =
+    ap (λ xs. sender_key xs c.args.publisher_place c.args.subscriber_place) (sym (c.deref.ensures.value ∙ ap (λ (f : Fields g.row.T.Denot g.row.U.Denot). f.publishers) viewed)) ∙ sym c.key_at.ensures ∙ c.in-Some.is in
+    let at_c : get old.connections c.in-Some.key ≡ Some c.index.result.now = ap (λ (f : Fields g.row.T.Denot g.row.U.Denot). get f.connections c.in-Some.key) (sym viewed) ∙ c.index.ensures in
+    let there = stands-there _ c.args.subscriber_place _ c.stands_at.result c.stands_at.ensures c.if-not-stands_at.false in
+    let at_y : slice_index_or old.subscribers c.args.subscriber_place None ≡ Some there.0 = ap (λ ys. slice_index_or ys c.args.subscriber_place None) (sym (c.deref-2.ensures.value ∙ subscribers)) ∙ there.1 in
+    let its : (there.0).id ≡ c.index.result.now.home.subscriber = there.2 ∙ ap (λ (h : Home). h.subscriber) c.home-subscriber.ensures.value in
+    let opened : is_open_subscriber old.subscribers c.args.subscriber_place ≡ true =
+    sym (c.is_open_at.ensures ∙ ap (λ ys. is_open_subscriber ys c.args.subscriber_place) (c.deref-else-not-stands_at.ensures.value ∙ subscribers)) ∙ c.if-not-is_open_at.false in
+    keeps-there old c.requires.agrees c.args.publisher_place c.args.subscriber_place x at (c.requires.settled x at) (c.requires.unblocked x at) c.in-Some.key named fixed_handlers c.index.result.now at_c
+    there.0 at_y its opened

@@ -1,0 +1,22 @@
+use Rattle.std.proofs.Common.{◌≡◌, ◌∙◌, List, ℕ, ap, sym, subst, get_or}
+use Rattle.std.specs.declared.option.Option.TheVariants.{None, Some}
+use Rattle.slab.specs.Slab.{ContainsKey}
+use Rattle.iox2_store.specs.machine.Numbers.{contains}
+use Rattle.iox2_domain.specs.Ports.{SubscriberFields}
+use Rattle.iox2_domain.specs.Fields.{Fields}
+use Rattle.iox2_domain.proofs.lemmas.slots.PublisherBooks.{read-there}
+use Rattle.iox2_domain.proofs.lemmas.receivers.RetiredFields.{expired-there}
+use Rattle.iox2_updates.proofs.retirements.choose.Goals as goal
+
+pub choose_retirement-requires-clause-expired : goal.choose_retirement-requires-clause-expired
+choose_retirement-requires-clause-expired g c = λ k has.
+    let old = c.args.state.now in
+    let y = c.requires.end.0 in
+    let end = c.requires.end.2 in
+    let there : get_or c.state.inside.subscribers.items c.args.subscriber_place None ≡ Some y =
+    ap (λ (f : Fields g.row.T.Denot g.row.U.Denot). get_or f.subscribers c.args.subscriber_place None) c.state.view_is ∙ end.stands in
+    let same : Some y ≡ Some c.in-Some.subscriber = sym there ∙ read-there _ c.args.subscriber_place y _ there c.index.ensures ∙ c.in-Some.is in
+    let is : y ≡ c.in-Some.subscriber = cc in
+    let expired : c.deref.result.now ≡ y.expired = c.deref.ensures.value ∙ ap (λ (z : SubscriberFields). z.expired) (c.subscriber.view_is ∙ sym is) in
+    subst (λ (f : Fields g.row.T.Denot g.row.U.Denot). ContainsKey f.connections k) (sym c.state.view_is)
+    (expired-there old c.requires.agrees c.args.subscriber_place c.args.publisher_place y c.args.key c.requires.end.1 end k (ap (λ (xs : List ℕ). contains xs k) (sym expired) ∙ has))

@@ -1,0 +1,46 @@
+use Rattle.std.proofs.Common.{◌≡◌, ◌∙◌, refl, ap, get_or}
+use Rattle.std.proofs.lemmas.List.{with_items_is}
+use Rattle.std.specs.declared.option.Option.TheVariants.{None}
+use Rattle.iox2_ends.proofs.MailboxChanges.{within_if_some}
+use Rattle.iox2_domain.specs.Fields.{Fields}
+use Rattle.iox2_domain.specs.Updates.{changed_at, without_receiver_key}
+use Rattle.iox2_domain.proofs.lemmas.receivers.RetiredFields.{discarded-changes, frees-book, frees-changes, spares-same}
+use Rattle.iox2_domain.proofs.lemmas.slots.PublisherBooks.{its-book}
+use Rattle.iox2_updates.proofs.retirements.discard_end.Goals as goal
+
+pub lose_connection-book-requires-clause-stands : goal.lose_connection-book-requires-clause-stands
+lose_connection-book-requires-clause-stands g c = let end = c.requires.end.2 in rw end.link refl
+
+pub clear_key_at-requires : goal.clear_key_at-requires
+clear_key_at-requires g c =
+    let end = c.requires.end.2 in
+    let book = its-book c.args.state.now c.requires.agrees.parts c.args.key c.requires.end.1 end.link in
+    let lost = (c.lose_connection-book.ensures c.requires.end.1 book.book end.link book.stands).1 in
+    within_if_some c.deref_mut.result.now c.args.subscriber_place c.requires.end.0
+    (ap (λ xs. get_or xs c.args.subscriber_place None) (c.deref_mut.ensures.value ∙ ap (λ (f : Fields g.row.T.Denot g.row.U.Denot). f.subscribers) (c.state.view_is ∙ lost.fields)) ∙ end.stands)
+
+pub free_book_if_unused-requires : goal.free_book_if_unused-requires
+free_book_if_unused-requires g c =
+    let old = c.args.state.now in
+    let end = c.requires.end.2 in
+    let book = its-book old c.requires.agrees.parts c.args.key c.requires.end.1 end.link in
+    let lost = c.lose_connection-book.ensures c.requires.end.1 book.book end.link book.stands in
+    let written : _ ≡ changed_at (without_receiver_key c.args.publisher_place) (c.lose_connection-book.new.state).subscribers c.args.subscriber_place =
+    with_items_is c.state.inside.subscribers c.clear_key_at.new.ports (c.clear_key_at.auto.ports ∙ c.deref_mut.ensures.len)
+    ∙ c.clear_key_at.ensures ∙ ap (λ xs. changed_at (without_receiver_key c.args.publisher_place) xs c.args.subscriber_place) (c.deref_mut.ensures.value ∙ ap (λ (f : Fields g.row.T.Denot g.row.U.Denot). f.subscribers) c.state.view_is) in
+    (spares-same _ _ c.requires.end.1.home.book lost.0
+    (discarded-changes old c.requires.agrees c.args.subscriber_place c.args.publisher_place c.requires.end.0 c.args.key c.requires.end.1 end c.requires.unborrowed book.book book.stands c.lose_connection-book.new.state lost.1
+    _ (λ k. record (c.state.view_is k) { subscribers = written k })).agrees).parts
+
+pub returns : goal.returns
+returns g c = λ y d end.
+    let old = c.args.state.now in
+    let book = its-book old c.requires.agrees.parts c.args.key d end.link in
+    let lost = c.lose_connection-book.ensures d book.book end.link book.stands in
+    let written : _ ≡ changed_at (without_receiver_key c.args.publisher_place) (c.lose_connection-book.new.state).subscribers c.args.subscriber_place =
+    with_items_is c.state.inside.subscribers c.clear_key_at.new.ports (c.clear_key_at.auto.ports ∙ c.deref_mut.ensures.len)
+    ∙ c.clear_key_at.ensures ∙ ap (λ xs. changed_at (without_receiver_key c.args.publisher_place) xs c.args.subscriber_place) (c.deref_mut.ensures.value ∙ ap (λ (f : Fields g.row.T.Denot g.row.U.Denot). f.subscribers) c.state.view_is) in
+    let changes = discarded-changes old c.requires.agrees c.args.subscriber_place c.args.publisher_place y c.args.key d end c.requires.unborrowed book.book book.stands c.lose_connection-book.new.state lost.1
+    _ (λ k. record (c.state.view_is k) { subscribers = written k }) in
+    frees-changes old _ _ c.args.subscriber_place y _ d.home.book changes
+    (frees-book _ _ _ (spares-same _ _ d.home.book lost.0 changes.agrees) c.free_book_if_unused.ensures.kept c.free_book_if_unused.ensures.books)

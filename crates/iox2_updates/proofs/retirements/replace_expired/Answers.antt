@@ -1,0 +1,85 @@
+use Rattle.std.proofs.Common.{◌≡◌, ◌<◌, ◌∙◌, length, refl, ap, sym, subst, get_or}
+use Rattle.std.proofs.lemmas.List.{with_items_is}
+use Rattle.std.specs.declared.option.Option.TheVariants.{None, Some}
+use Rattle.iox2_ends.proofs.MailboxChanges.{within_if_some}
+use Rattle.iox2_domain.specs.Ports.{SubscriberFields}
+use Rattle.iox2_domain.specs.Fields.{Fields}
+use Rattle.iox2_domain.specs.ReceiverSteps.{replacing_expired}
+use Rattle.iox2_domain.specs.Updates.{changed_at}
+use Rattle.iox2_domain.proofs.lemmas.receivers.ExpiredKeys.{expired-link, room-to-expire}
+use Rattle.iox2_domain.proofs.lemmas.receivers.RetiredFields.{evicted-changes, frees-book, frees-changes, spares-same}
+use Rattle.iox2_domain.proofs.lemmas.slots.PublisherBooks.{its-book}
+use Rattle.iox2_updates.proofs.retirements.replace_expired.Goals as goal
+
+pub lose_connection-book-requires-clause-stands : goal.lose_connection-book-requires-clause-stands
+lose_connection-book-requires-clause-stands g c =
+    let old = c.args.state.now in
+    let y = c.requires.end.0 in
+    let end = c.requires.end.2 in
+    let d = expired-link old c.requires.agrees c.args.subscriber_place c.args.publisher_place y c.args.key c.requires.end.1 end c.args.first (c.requires.first y end.stands) in
+    rw d.1 refl
+
+pub replace_expired_at-requires-clause-stands : goal.replace_expired_at-requires-clause-stands
+replace_expired_at-requires-clause-stands g c =
+    let old = c.args.state.now in
+    let y = c.requires.end.0 in
+    let end = c.requires.end.2 in
+    let d = expired-link old c.requires.agrees c.args.subscriber_place c.args.publisher_place y c.args.key c.requires.end.1 end c.args.first (c.requires.first y end.stands) in
+    let book = its-book old c.requires.agrees.parts c.args.first d.0 d.1 in
+    let lost = c.lose_connection-book.ensures d.0 book.book d.1 book.stands in
+    let same : c.deref_mut.result.now ≡ old.subscribers = c.deref_mut.ensures.value ∙ ap (λ (f : Fields g.row.T.Denot g.row.U.Denot). f.subscribers) (c.state.view_is ∙ lost.1.fields) in
+    within_if_some c.deref_mut.result.now c.args.subscriber_place y (ap (λ xs. get_or xs c.args.subscriber_place None) same ∙ end.stands)
+
+pub replace_expired_at-requires-clause-within : goal.replace_expired_at-requires-clause-within
+replace_expired_at-requires-clause-within g c = λ z at.
+    let old = c.args.state.now in
+    let y = c.requires.end.0 in
+    let end = c.requires.end.2 in
+    let d = expired-link old c.requires.agrees c.args.subscriber_place c.args.publisher_place y c.args.key c.requires.end.1 end c.args.first (c.requires.first y end.stands) in
+    let book = its-book old c.requires.agrees.parts c.args.first d.0 d.1 in
+    let lost = c.lose_connection-book.ensures d.0 book.book d.1 book.stands in
+    let same : c.deref_mut.result.now ≡ old.subscribers = c.deref_mut.ensures.value ∙ ap (λ (f : Fields g.row.T.Denot g.row.U.Denot). f.subscribers) (c.state.view_is ∙ lost.1.fields) in
+    let both : Some y ≡ Some z = sym end.stands ∙ ap (λ xs. get_or xs c.args.subscriber_place None) (sym same) ∙ at in
+    let is : y ≡ z = cc in
+    subst (λ (w : SubscriberFields). c.args.publisher_place < length w.keys) is (within_if_some y.keys c.args.publisher_place c.args.key end.has)
+
+pub replace_expired_at-requires-clause-room : goal.replace_expired_at-requires-clause-room
+replace_expired_at-requires-clause-room g c = λ z at.
+    let old = c.args.state.now in
+    let y = c.requires.end.0 in
+    let end = c.requires.end.2 in
+    let d = expired-link old c.requires.agrees c.args.subscriber_place c.args.publisher_place y c.args.key c.requires.end.1 end c.args.first (c.requires.first y end.stands) in
+    let book = its-book old c.requires.agrees.parts c.args.first d.0 d.1 in
+    let lost = c.lose_connection-book.ensures d.0 book.book d.1 book.stands in
+    let same : c.deref_mut.result.now ≡ old.subscribers = c.deref_mut.ensures.value ∙ ap (λ (f : Fields g.row.T.Denot g.row.U.Denot). f.subscribers) (c.state.view_is ∙ lost.1.fields) in
+    let both : Some y ≡ Some z = sym end.stands ∙ ap (λ xs. get_or xs c.args.subscriber_place None) (sym same) ∙ at in
+    let is : y ≡ z = cc in
+    subst (λ (w : SubscriberFields). length w.expired < w.expired_room) is (room-to-expire old c.requires.agrees c.args.subscriber_place c.args.publisher_place y c.args.key c.requires.end.1 end)
+
+pub free_book_if_unused-requires : goal.free_book_if_unused-requires
+free_book_if_unused-requires g c =
+    let old = c.args.state.now in
+    let y = c.requires.end.0 in
+    let end = c.requires.end.2 in
+    let d = expired-link old c.requires.agrees c.args.subscriber_place c.args.publisher_place y c.args.key c.requires.end.1 end c.args.first (c.requires.first y end.stands) in
+    let book = its-book old c.requires.agrees.parts c.args.first d.0 d.1 in
+    let lost = c.lose_connection-book.ensures d.0 book.book d.1 book.stands in
+    let written : _ ≡ changed_at (replacing_expired c.args.publisher_place c.args.key c.args.first) (c.lose_connection-book.new.state).subscribers c.args.subscriber_place =
+    with_items_is c.state.inside.subscribers c.replace_expired_at.new.subscribers (c.replace_expired_at.auto.subscribers ∙ c.deref_mut.ensures.len)
+    ∙ c.replace_expired_at.ensures ∙ ap (λ xs. changed_at (replacing_expired c.args.publisher_place c.args.key c.args.first) xs c.args.subscriber_place) (c.deref_mut.ensures.value ∙ ap (λ (f : Fields g.row.T.Denot g.row.U.Denot). f.subscribers) c.state.view_is) in
+    (spares-same _ _ d.0.home.book lost.0
+    (evicted-changes old c.requires.agrees c.args.subscriber_place c.args.publisher_place y c.args.key c.requires.end.1 end c.args.first d.0 (c.requires.first y end.stands) d.1 c.requires.unborrowed book.book book.stands c.lose_connection-book.new.state lost.1
+    _ (λ k. record (c.state.view_is k) { subscribers = written k })).agrees).parts
+
+pub returns : goal.returns
+returns g c = λ y e d end at_d.
+    let old = c.args.state.now in
+    let book = its-book old c.requires.agrees.parts c.args.first d at_d in
+    let lost = c.lose_connection-book.ensures d book.book at_d book.stands in
+    let written : _ ≡ changed_at (replacing_expired c.args.publisher_place c.args.key c.args.first) (c.lose_connection-book.new.state).subscribers c.args.subscriber_place =
+    with_items_is c.state.inside.subscribers c.replace_expired_at.new.subscribers (c.replace_expired_at.auto.subscribers ∙ c.deref_mut.ensures.len)
+    ∙ c.replace_expired_at.ensures ∙ ap (λ xs. changed_at (replacing_expired c.args.publisher_place c.args.key c.args.first) xs c.args.subscriber_place) (c.deref_mut.ensures.value ∙ ap (λ (f : Fields g.row.T.Denot g.row.U.Denot). f.subscribers) c.state.view_is) in
+    let changes = evicted-changes old c.requires.agrees c.args.subscriber_place c.args.publisher_place y c.args.key e end c.args.first d (c.requires.first y end.stands) at_d c.requires.unborrowed book.book book.stands c.lose_connection-book.new.state lost.1
+    _ (λ k. record (c.state.view_is k) { subscribers = written k }) in
+    frees-changes old _ _ c.args.subscriber_place y _ d.home.book changes
+    (frees-book _ _ _ (spares-same _ _ d.home.book lost.0 changes.agrees) c.free_book_if_unused.ensures.kept c.free_book_if_unused.ensures.books)

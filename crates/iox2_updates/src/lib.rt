@@ -1,0 +1,16 @@
+//! Ports get their connections, and lose those that they need no more.
+//!
+//! Each function works on the state of `iox2_domain`, in whose words it says what it does.
+#![tactic(auto)]
+
+mod connects;
+mod departures;
+mod marks;
+mod receiver_updates;
+mod retirements;
+mod updates;
+
+pub use departures::{forget_if_empty, free_book_if_unused, leave_if_unused};
+pub use marks::{unmark_publisher, unmark_subscriber};
+pub use receiver_updates::update_subscriber;
+pub use updates::update_publisher;
