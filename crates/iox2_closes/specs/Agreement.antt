@@ -4,7 +4,7 @@ use Rattle.std.specs.declared.option.Option.{Option}
 use Rattle.std.specs.declared.option.Option.TheVariants.{Some}
 use Rattle.std.specs.Option.{option_and_then}
 use Rattle.slab.specs.Slab.{get}
-use Rattle.iox2_store.specs.SlotBook.{Book}
+use Rattle.iox2_slots.specs.SlotBook.{Book}
 use Rattle.iox2_store.specs.machine.State.{State}
 use Rattle.iox2_domain.specs.Kept.{KeptMessage, state_of}
 use Rattle.iox2_domain.specs.Fields.{Fields, kept_of, message_in, contents_at}

@@ -2,7 +2,7 @@
 use Rattle.std.specs.Prelude.{◌≡◌, ℕ, slice_index_or}
 use Rattle.std.specs.declared.option.Option.TheVariants.{None, Some}
 use Rattle.slab.specs.Slab.{get}
-use Rattle.iox2_store.specs.Link.{Link, load}
+use Rattle.iox2_slots.specs.Link.{Link, load}
 use Rattle.iox2_store.specs.machine.Mailbox.{with_waiting}
 use Rattle.iox2_store.specs.machine.Numbers.{last_n}
 use Rattle.iox2_store.specs.machine.Records.{Entry}

@@ -3,7 +3,7 @@ use Rattle.std.specs.Prelude.{◌≡◌, ◌⊎◌, ◌<◌, ℕ, length, slice_
 use Rattle.std.specs.List.{All}
 use Rattle.std.specs.declared.option.Option.TheVariants.{None, Some}
 use Rattle.slab.specs.Slab.{Slab, ContainsKey, get, with_value}
-use Rattle.iox2_store.specs.SlotBook.{Book, IsInUse}
+use Rattle.iox2_slots.specs.SlotBook.{Book, IsInUse}
 use Rattle.iox2_domain.specs.Discards.{with_holder_gone}
 use Rattle.iox2_domain.specs.Fields.{Fields}
 

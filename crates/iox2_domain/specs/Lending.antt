@@ -6,13 +6,13 @@ use Rattle.std.specs.List.{All}
 use Rattle.slab.specs.Slab.{get, with_value}
 use Rattle.iox2_store.specs.machine.Limits.{last_number}
 use Rattle.iox2_store.specs.machine.Loans.{is_static, GrantLoan, loan_granted}
-use Rattle.iox2_store.specs.SlotBook.{Book, holders_at}
-use Rattle.iox2_store.specs.SlotContents.{ContentState, with_changed, unwritten_content}
+use Rattle.iox2_slots.specs.SlotBook.{Book, holders_at}
+use Rattle.iox2_slots.specs.SlotContents.{ContentState, with_changed, unwritten_content}
 use Rattle.iox2_store.specs.machine.State.{State}
 use Rattle.iox2_store.specs.declared.errors.LoanError.{LoanError}
 use Rattle.iox2_store.specs.declared.header.Header.{Header}
 use Rattle.iox2_store.specs.declared.service_config.ServiceConfig.{ServiceConfig}
-use Rattle.iox2_store.specs.declared.slots.mark.SlotMark.TheVariants.{Unwritten}
+use Rattle.iox2_slots.specs.declared.slots.mark.SlotMark.TheVariants.{Unwritten}
 use Rattle.iox2_store.specs.machine.Environments.{ample_memory}
 use Rattle.iox2_ends.specs.Receivers.{HasReclaimed}
 use Rattle.iox2_domain.specs.Kept.{state_of}

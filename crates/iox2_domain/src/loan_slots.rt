@@ -5,7 +5,8 @@ ghost use Rattle.iox2_domain.specs.LoanSlots.{IsLoanSlot, IsInNoSlot, HasNoLoan}
 
 use crate::message_slots::MessageSlot;
 use crate::state::DomainState;
-use iox2_store::{SlotBook, SlotMark, UniquePublisherId};
+use iox2_slots::{SlotBook, SlotMark};
+use iox2_store::UniquePublisherId;
 
 /// Names a loan, and says where it is looked for first.
 #[derive(Drop)]

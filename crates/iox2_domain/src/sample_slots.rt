@@ -4,7 +4,8 @@ ghost use Rattle.iox2_domain.specs.SampleSlots.{HasNoneNumbered, IsNumberedSlot}
 
 use crate::message_slots::MessageSlot;
 use crate::state::DomainState;
-use iox2_store::{Connection, SlotBook, UniquePublisherId, UniqueSubscriberId};
+use iox2_slots::{Connection, SlotBook};
+use iox2_store::{UniquePublisherId, UniqueSubscriberId};
 
 /// Names a message that a subscriber has borrowed, and says where it is looked for first.
 #[derive(Drop)]

@@ -4,9 +4,9 @@ use Rattle.std.specs.List.{sum_by}
 use Rattle.std.proofs.lemmas.Bool.{cases_lt, cases_eq, ne_eqb, eq-eqb}
 use Rattle.std.proofs.lemmas.List.Sums.{sum_by-cons, sum_by_push, sum_by-set, get_or-le-sum_by}
 use Rattle.std.proofs.lemmas.List.{length-set, get_or-set_same, get_or-set_other, get_or_past}
-use Rattle.iox2_store.specs.Link.{Link, IsPut}
-use Rattle.iox2_store.specs.declared.connection.PutOutcome.{PutOutcome}
-use Rattle.iox2_store.specs.declared.connection.PutOutcome.TheVariants.{Taken, Overwrote, Full}
+use Rattle.iox2_slots.specs.Link.{Link, IsPut}
+use Rattle.iox2_slots.specs.declared.connection.PutOutcome.{PutOutcome}
+use Rattle.iox2_slots.specs.declared.connection.PutOutcome.TheVariants.{Taken, Overwrote, Full}
 use Rattle.iox2_ends.specs.Counters.{times, stands_in, stands, IsCovered, CountersFollow, one_holder_more, one_holder_less, recounted, CanLeave}
 use Rattle.iox2_ends.proofs.MailboxChanges.{within_if_some}
 

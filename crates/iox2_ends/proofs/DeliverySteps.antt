@@ -6,14 +6,14 @@ use Rattle.std.proofs.Math.ListN.{get_or-map}
 use Rattle.std.specs.Option.{option_map, option_and_then}
 use Rattle.std.specs.Prelude.{IsSomeAnd}
 use Rattle.slab.specs.Slab.{Slab, get, with_value, ContainsKey}
-use Rattle.iox2_store.specs.Link.{Link, IsPut}
+use Rattle.iox2_slots.specs.Link.{Link, IsPut}
 use Rattle.iox2_store.specs.machine.Mailbox.{Mailbox}
 use Rattle.iox2_store.specs.machine.Records.{Environment}
 use Rattle.iox2_store.specs.machine.Delivery.{PutResult, Skipped, DeliveryEnd, Put, is_blocking, is_failed, accepted_count}
 use Rattle.iox2_store.specs.declared.service_config.ServiceConfig.{ServiceConfig}
-use Rattle.iox2_store.specs.declared.connection.Home.{Home}
-use Rattle.iox2_store.specs.declared.connection.PutOutcome.{PutOutcome}
-use Rattle.iox2_store.specs.declared.connection.PutOutcome.TheVariants.{Taken, Overwrote, Full}
+use Rattle.iox2_slots.specs.declared.connection.Home.{Home}
+use Rattle.iox2_slots.specs.declared.connection.PutOutcome.{PutOutcome}
+use Rattle.iox2_slots.specs.declared.connection.PutOutcome.TheVariants.{Taken, Overwrote, Full}
 use Rattle.iox2_store.specs.declared.backpressure_handler.BackpressureHandler.{BackpressureHandler}
 use Rattle.iox2_ends.specs.declared.sender.ReceiverDetails.{ReceiverDetails}
 use Rattle.iox2_ends.specs.declared.sender.Delivery.{Delivery}

@@ -3,9 +3,9 @@ use Rattle.std.proofs.Common.{◌≡◌, ℕ, Bool, ◌<◌, List, [], length, N
 use Rattle.std.proofs.lemmas.List.{length-set}
 use Rattle.std.specs.Prelude.{IsSomeAnd}
 use Rattle.slab.specs.Slab.{Slab, ContainsKey, get, Updates, with_value}
-use Rattle.iox2_store.specs.Link.{Link, IsDropped, borrowed_alone}
+use Rattle.iox2_slots.specs.Link.{Link, IsDropped, borrowed_alone}
 use Rattle.iox2_store.specs.machine.Mailbox.{Mailbox, waiting_dropped}
-use Rattle.iox2_store.specs.declared.connection.Home.{Home}
+use Rattle.iox2_slots.specs.declared.connection.Home.{Home}
 use Rattle.iox2_ends.specs.Mailboxes.{mailbox_of, mailboxes_of, with_box}
 use Rattle.iox2_ends.specs.Homes.{IsApart, fixed_of}
 use Rattle.iox2_ends.specs.Counters.{stands_in, one_holder_less}

@@ -8,8 +8,8 @@ use Rattle.std.specs.declared.option.Option.{Option}
 use Rattle.std.specs.declared.option.Option.TheVariants.{None, Some}
 use Rattle.std.specs.Option.{option_map, option_map_or}
 use Rattle.slab.specs.Slab.{Slab, get}
-use Rattle.iox2_store.specs.Link.{Link, load}
-use Rattle.iox2_store.specs.declared.connection.Home.{Home}
+use Rattle.iox2_slots.specs.Link.{Link, load}
+use Rattle.iox2_slots.specs.declared.connection.Home.{Home}
 use Rattle.iox2_store.specs.machine.Mailbox.{Mailbox}
 use Rattle.iox2_ends.specs.Homes.{IsApart, fixed_of}
 use Rattle.iox2_ends.specs.Mailboxes.{mailbox_of}

@@ -6,8 +6,8 @@ use Rattle.std.proofs.lemmas.Option.{slice_get_within, get_or_from_slice_get}
 use Rattle.std.specs.Prelude.{slice_get}
 use Rattle.circular_buffer.proofs.Places.{slice_get-some}
 use Rattle.std.specs.declared.option.Option.TheVariants.{None, Some}
-use Rattle.iox2_store.specs.Link.{Link}
-use Rattle.iox2_store.specs.SlotBook.{Book, holders_at}
+use Rattle.iox2_slots.specs.Link.{Link}
+use Rattle.iox2_slots.specs.SlotBook.{Book, holders_at}
 use Rattle.iox2_store.specs.machine.Numbers.{last_n}
 use Rattle.iox2_ends.specs.Counters.{times, with_counters, one_holder_more}
 use Rattle.iox2_ends.proofs.Counts.{one_if, one_if_same, in_range, times-cons, get_or-one_holder_more}

@@ -3,7 +3,7 @@ use Rattle.std.proofs.Common.{◌≡◌, ℕ, ◌<◌, true, List, map, get_or, 
 use Rattle.std.proofs.lemmas.List.{length-set}
 use Rattle.std.specs.Prelude.{IsSomeAnd}
 use Rattle.slab.specs.Slab.{Slab, get, Updates, with_value}
-use Rattle.iox2_store.specs.Link.{Link, without_borrowed}
+use Rattle.iox2_slots.specs.Link.{Link, without_borrowed}
 use Rattle.iox2_store.specs.machine.Mailbox.{Mailbox, with_released}
 use Rattle.iox2_store.specs.machine.Numbers.{contains, IsOnce}
 use Rattle.iox2_ends.specs.Counters.{one_holder_less}

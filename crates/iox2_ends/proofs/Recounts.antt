@@ -2,9 +2,9 @@
 use Rattle.std.proofs.Common.{◌≡◌, ℕ, ◌<◌, ◌≤◌, List, length, Bool, Option, None, Some, get_or, refl, ap, ◌∙◌, inl, inr, arith}
 use Rattle.std.proofs.lemmas.Bool.{cases_eq}
 use Rattle.slab.specs.Slab.{Slab, get, Updates, with_value}
-use Rattle.iox2_store.specs.Link.{Link, IsPut}
-use Rattle.iox2_store.specs.declared.connection.PutOutcome.{PutOutcome}
-use Rattle.iox2_store.specs.declared.connection.PutOutcome.TheVariants.{Taken, Overwrote, Full}
+use Rattle.iox2_slots.specs.Link.{Link, IsPut}
+use Rattle.iox2_slots.specs.declared.connection.PutOutcome.{PutOutcome}
+use Rattle.iox2_slots.specs.declared.connection.PutOutcome.TheVariants.{Taken, Overwrote, Full}
 use Rattle.iox2_ends.specs.Counters.{IsCovered, CanLeave, one_holder_more, recounted}
 use Rattle.iox2_ends.specs.Recounts.{Recounts, returned_count}
 use Rattle.iox2_ends.specs.Receivers.{IsReadyToDeliver}

@@ -8,7 +8,7 @@ use Rattle.std.specs.Bool.{MatchBool}
 use Rattle.std.specs.List.{list_any}
 use Rattle.std.specs.Option.{ForSome}
 use Rattle.slab.specs.Slab.{Slab, get}
-use Rattle.iox2_store.specs.Link.{Link, has_slots, can_borrow}
+use Rattle.iox2_slots.specs.Link.{Link, has_slots, can_borrow}
 use Rattle.iox2_store.specs.machine.Numbers.{is_nil, contains}
 use Rattle.iox2_store.specs.machine.Places.{occupants}
 use Rattle.iox2_store.specs.machine.Mailbox.{Mailbox, has_data, can_receive}

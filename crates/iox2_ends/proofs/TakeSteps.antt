@@ -3,7 +3,7 @@ use Rattle.std.proofs.Common.{◌≡◌, ℕ, true, [], ◌∷◌, map, Option, 
 use Rattle.std.proofs.lemmas.List.{map-append}
 use Rattle.std.specs.Prelude.{IsSomeAnd}
 use Rattle.slab.specs.Slab.{Slab, get, with_value}
-use Rattle.iox2_store.specs.Link.{Link, IsTaken, with_returned}
+use Rattle.iox2_slots.specs.Link.{Link, IsTaken, with_returned}
 use Rattle.iox2_store.specs.machine.Numbers.{contains, IsOnce}
 use Rattle.iox2_store.specs.machine.Mailbox.{Mailbox, BorrowsFirst, with_released}
 use Rattle.iox2_ends.specs.Mailboxes.{mailbox_of, mailboxes_of, with_box}
@@ -13,7 +13,7 @@ use Rattle.iox2_ends.specs.declared.receiver.Taken.{Taken}
 use Rattle.iox2_ends.proofs.MailboxChanges.{Updates-with_value, mailbox-there, mailboxes-changed}
 use Rattle.iox2_ends.proofs.Counts.{CountersFollow-kept}
 use Rattle.iox2_ends.proofs.DeliverySteps.{same_link}
-use Rattle.iox2_store.proofs.LinkLemmas.{contains-from}
+use Rattle.iox2_slots.proofs.LinkLemmas.{contains-from}
 use Rattle.iox2_ends.proofs.Releases.{stands_in-with_returned, mailbox-with_returned}
 
 -- the first slot is borrowed, at numbers

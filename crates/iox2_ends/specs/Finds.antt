@@ -3,7 +3,7 @@ use Rattle.std.specs.Prelude.{◌≡◌, ℕ, Bool, true, false, cond, List, [],
 use Rattle.std.specs.declared.option.Option.{Option}
 use Rattle.std.specs.declared.option.Option.TheVariants.{None, Some}
 use Rattle.slab.specs.Slab.{Slab, get, ContainsKey}
-use Rattle.iox2_store.specs.Link.{Link, has_slots, can_borrow}
+use Rattle.iox2_slots.specs.Link.{Link, has_slots, can_borrow}
 use Rattle.iox2_store.specs.machine.Places.{occupants}
 use Rattle.iox2_store.specs.machine.Mailbox.{Mailbox}
 use Rattle.iox2_store.specs.machine.Records.{Subscriber}

@@ -1,6 +1,6 @@
 -- A publisher that leaves lets go of its slots.
 use Rattle.std.specs.Prelude.{◌≡◌, ℕ, Bool, cond, not, ◌+◌, ◌&&◌, List, [], length, slice_index}
-use Rattle.iox2_store.specs.Link.{Link}
+use Rattle.iox2_slots.specs.Link.{Link}
 use Rattle.iox2_store.specs.machine.Numbers.{is_nil}
 use Rattle.iox2_ends.specs.Counters.{times, stands_in}
 

@@ -1,7 +1,7 @@
 -- A publisher reclaims the slots that its subscribers gave back.
 use Rattle.std.specs.Prelude.{◌≡◌, ℕ, ◌+◌, ◌≤◌, List, length, slice_index}
 use Rattle.slab.specs.Slab.{Slab}
-use Rattle.iox2_store.specs.Link.{Link}
+use Rattle.iox2_slots.specs.Link.{Link}
 use Rattle.iox2_ends.specs.Mailboxes.{mailboxes_of}
 use Rattle.iox2_ends.specs.Counters.{stands_in}
 use Rattle.iox2_ends.specs.Recounts.{Recounts}

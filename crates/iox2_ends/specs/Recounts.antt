@@ -2,7 +2,7 @@
 use Rattle.std.specs.Prelude.{◌≡◌, ℕ, ◌<◌, ◌≤◌, List, length, slice_index}
 use Rattle.std.specs.Option.{option_map_or}
 use Rattle.slab.specs.Slab.{Slab, get}
-use Rattle.iox2_store.specs.Link.{Link}
+use Rattle.iox2_slots.specs.Link.{Link}
 use Rattle.iox2_ends.specs.Homes.{SameHomes, KeepsOthers}
 use Rattle.iox2_ends.specs.Counters.{CountersFollow}
 

@@ -5,7 +5,7 @@ ghost use Rattle.iox2_ends.specs.Counters.{with_counters};
 ghost use Rattle.iox2_ends.specs.Reclaims.{IsHeld};
 ghost use Rattle.iox2_ends.specs.Drops.{DropsFrom, DropsWaiting};
 
-use iox2_store::{Connection, SlotBook};
+use iox2_slots::{Connection, SlotBook};
 use slab::Slab;
 
 /// Lets go of all slots that wait in a connection. Each of them has one holder less.

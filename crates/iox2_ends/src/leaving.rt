@@ -1,6 +1,6 @@
 //! A publisher that closes leaves its connections and its history.
 ghost use Rattle.std.specs.Prelude.{◌≡◌, ℕ, ◌≤◌, []};
-ghost use Rattle.iox2_store.specs.SlotBook.{holders_at};
+ghost use Rattle.iox2_slots.specs.SlotBook.{holders_at};
 ghost use Rattle.iox2_ends.specs.Counters.{times, with_counters};
 ghost use Rattle.iox2_ends.specs.Reclaims.{IsHeld};
 ghost use Rattle.iox2_ends.specs.Leaves.{left_link, ReleasesFrom, Releases};
@@ -8,7 +8,7 @@ ghost use Rattle.iox2_ends.specs.Leaves.{left_link, ReleasesFrom, Releases};
 use crate::drops::drop_waiting;
 use crate::sender::reclaim_from;
 use circular_buffer::HeapCircularBuffer;
-use iox2_store::{Connection, SlotBook};
+use iox2_slots::{Connection, SlotBook};
 
 /// Leaves a connection, as a publisher that closes does: what was given back is reclaimed, and what
 /// waits is lost where nobody awaits it. Each slot that went has one holder less.

@@ -4,7 +4,7 @@ ghost use Rattle.slab.specs.Slab.{get, ContainsKey};
 ghost use Rattle.iox2_store.specs.machine.Numbers.{contains};
 ghost use Rattle.iox2_ends.specs.Retires.{has_borrowed, first_unborrowed, chosen};
 
-use iox2_store::Connection;
+use iox2_slots::Connection;
 use slab::Slab;
 
 /// What becomes of a departed publisher's connection.

@@ -1,9 +1,9 @@
 //! A publisher's end: its messages go to the connections at its places.
 ghost use Rattle.std.specs.Prelude.{◌≡◌, ℕ, ◌+◌, ◌≤◌, ◌<◌, ◌^◌, [], ◌∷◌, ◌++◌, true, None, Some, length, slice_index, slice_index_or, IsSomeAnd, map};
 ghost use Rattle.std.specs.Option.{option_map};
-ghost use Rattle.iox2_store.specs.Link.{load, IsBounded};
+ghost use Rattle.iox2_slots.specs.Link.{load, IsBounded};
 ghost use Rattle.iox2_store.specs.declared.backpressure.BackpressureAction.{BackpressureAction};
-ghost use Rattle.iox2_store.specs.SlotBook.{holders_at, IsInUse};
+ghost use Rattle.iox2_slots.specs.SlotBook.{holders_at, IsInUse};
 ghost use Rattle.iox2_store.specs.machine.Numbers.{last_n};
 ghost use Rattle.iox2_store.specs.machine.Delivery.{by_action, is_blocking, is_failed, accepted_count};
 ghost use Rattle.slab.specs.Slab.{get};
@@ -18,9 +18,10 @@ ghost use Rattle.iox2_ends.specs.Deliveries.{result_of, Answers, ComesTo, PutsSl
 
 use crate::drops;
 use circular_buffer::HeapCircularBuffer;
+use iox2_slots::{Connection, PutOutcome, SlotBook};
 use iox2_store::{
     BackpressureAction, BackpressureFn, BackpressureHandler, BackpressureInfo,
-    BackpressureStrategy, Connection, PutOutcome, ServiceConfig, SlotBook,
+    BackpressureStrategy, ServiceConfig,
 };
 use slab::Slab;
 use std::time::Duration;

@@ -2,9 +2,10 @@ use iox2_ends::receiver::{receive, release};
 use iox2_ends::sender::{
     Delivery, DeliveryOutcome, Progress, ReceiverDetails, deliver, reclaim_all,
 };
+use iox2_slots::{Connection, Home, SlotBook};
 use iox2_store::{
-    BackpressureHandler, BackpressureStrategy, Connection, Header, Home, ServiceConfig, SlotBook,
-    UniqueNodeId, UniquePublisherId,
+    BackpressureHandler, BackpressureStrategy, Header, ServiceConfig, UniqueNodeId,
+    UniquePublisherId,
 };
 use slab::Slab;
 use std::test::Fail;

@@ -1,14 +1,14 @@
 //! A box is asked about a full receiver, and about no other.
 ghost use Rattle.std.specs.Prelude.{◌≡◌, ◌<◌, ◌∷◌, [], nat_lt, cond, IfOk};
-ghost use Rattle.iox2_store.specs.Link.{empty_link};
+ghost use Rattle.iox2_slots.specs.Link.{empty_link};
 ghost use Rattle.iox2_ends.specs.Deliveries.{begun};
 ghost use Rattle.iox2_store.specs.declared.backpressure.BackpressureAction.TheVariants.{Retry, DiscardDataAndFail};
 
 use iox2_ends::sender::{Delivery, DeliveryOutcome, Progress, ReceiverDetails, deliver};
+use iox2_slots::{Connection, Home, SlotBook};
 use iox2_store::{
     BackpressureAction, BackpressureFn, BackpressureHandler, BackpressureInfo,
-    BackpressureStrategy, Connection, Header, Home, ServiceConfig, SlotBook, UniqueNodeId,
-    UniquePublisherId,
+    BackpressureStrategy, Header, ServiceConfig, UniqueNodeId, UniquePublisherId,
 };
 use slab::Slab;
 use std::alloc::{AllocError, Global};

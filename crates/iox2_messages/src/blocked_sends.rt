@@ -1,6 +1,6 @@
 //! A blocked send is tried again, or given up.
 ghost use Rattle.std.specs.Prelude.{◌≡◌, ◌≤◌, ◌+◌, ◌↔◌, IsTrue, None, Some, slice_index_or, is_some};
-ghost use Rattle.iox2_store.specs.SlotBook.{IsInUse};
+ghost use Rattle.iox2_slots.specs.SlotBook.{IsInUse};
 ghost use Rattle.iox2_store.specs.machine.Environments.{fixed_handlers};
 ghost use Rattle.iox2_store.specs.machine.Sends.{more_retries};
 ghost use Rattle.iox2_store.specs.machine.SingleCalls.{HoldsBlocked};
@@ -19,7 +19,8 @@ use crate::reclaims::reclaim;
 use crate::send_end::SendEnd;
 use iox2_domain::{BlockedDelivery, DomainState, PublisherState};
 use iox2_ends::sender::{Delivery, DeliveryOutcome, Progress, deliver};
-use iox2_store::{SlotBook, UniquePublisherId};
+use iox2_slots::SlotBook;
+use iox2_store::UniquePublisherId;
 use std::time::Duration;
 
 // One retry more; the greatest number stays.

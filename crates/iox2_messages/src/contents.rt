@@ -2,15 +2,15 @@
 ghost use Rattle.std.specs.Prelude.{◌≡◌, ◌<◌, List, None, Some, length, false, slice_index_or, IsSome};
 ghost use Rattle.std.specs.Borrow.{sem};
 ghost use Rattle.slab.specs.Slab.{get};
-ghost use Rattle.iox2_store.specs.SlotBook.{Book};
-ghost use Rattle.iox2_store.specs.SlotContents.{ContentState, SomeAt, cells_at, values_at, first_cell_at, first_value_at, user_header_at};
-ghost use Rattle.iox2_store.specs.declared.slots.mark.SlotMark.TheVariants.{Written};
+ghost use Rattle.iox2_slots.specs.SlotBook.{Book};
+ghost use Rattle.iox2_slots.specs.SlotContents.{ContentState, SomeAt, cells_at, values_at, first_cell_at, first_value_at, user_header_at};
+ghost use Rattle.iox2_slots.specs.declared.slots.mark.SlotMark.TheVariants.{Written};
 ghost use Rattle.iox2_domain.specs.Fields.{contents_at};
 ghost use Rattle.iox2_domain.specs.LoanCalls.{HasContents, HasContentIn, with_mark};
 ghost use Rattle.iox2_domain.specs.LoanLends.{LendsSome, LendsContents, LendsCell, LendsCells, LendsValue, LendsValues, LendsUserHeader};
 
 use iox2_domain::{DomainState, MessageSlot};
-use iox2_store::{Contents, SlotMark};
+use iox2_slots::{Contents, SlotMark};
 
 /// A slot counts as written.
 pub(crate) fn mark_written<T: Drop, U: Default + Drop>(

@@ -1,6 +1,6 @@
 //! A publisher delivers a message.
 ghost use Rattle.std.specs.Prelude.{◌≡◌, ℕ, ◌+◌, ◌<◌, ◌≤◌, ◌^◌, None, Some, length, slice_index_or};
-ghost use Rattle.iox2_store.specs.SlotBook.{IsInUse, holders_at};
+ghost use Rattle.iox2_slots.specs.SlotBook.{IsInUse, holders_at};
 ghost use Rattle.iox2_store.specs.machine.Environments.{fixed_handlers};
 ghost use Rattle.iox2_ends.specs.Counters.{times};
 ghost use Rattle.iox2_ends.specs.Handlers.{marks_of};
@@ -13,7 +13,8 @@ ghost use Rattle.iox2_messages.specs.SendEnds.{IsKept, end_result};
 use crate::send_end::SendEnd;
 use iox2_domain::{BlockedDelivery, DomainState, NoBackpressureFn, PublisherState};
 use iox2_ends::sender::{Delivery, DeliveryOutcome, Progress, deliver};
-use iox2_store::{BackpressureHandler, SlotBook, SlotMark};
+use iox2_slots::{SlotBook, SlotMark};
+use iox2_store::BackpressureHandler;
 use std::time::Duration;
 
 // The loan in a slot that was delivered is out no more, or its publisher waits for a receiver, and

@@ -1,7 +1,7 @@
 //! A loan is given back unsent.
 ghost use Rattle.std.specs.Prelude.{◌≡◌, ℕ, ◌≤◌, None, Some, slice_index_or};
 ghost use Rattle.slab.specs.Slab.{get};
-ghost use Rattle.iox2_store.specs.SlotBook.{Book, IsInUse};
+ghost use Rattle.iox2_slots.specs.SlotBook.{Book, IsInUse};
 ghost use Rattle.iox2_store.specs.machine.SingleCalls.{HoldsLoan};
 ghost use Rattle.iox2_ends.specs.Counters.{times};
 ghost use Rattle.iox2_domain.specs.Discards.{with_loan_returned, DiscardsLoan};

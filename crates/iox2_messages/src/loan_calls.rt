@@ -1,7 +1,7 @@
 //! Calls on a loan that is out.
 ghost use Rattle.std.specs.Prelude.{◌≡◌, false, List, ◌∷◌, [], Some, length, map};
 ghost use Rattle.iox2_store.specs.SingleValues.{is_single_valued};
-ghost use Rattle.iox2_store.specs.SlotCalls.{AnswersInOrder};
+ghost use Rattle.iox2_slots.specs.SlotCalls.{AnswersInOrder};
 ghost use Rattle.iox2_store.specs.machine.Records.{Loan};
 ghost use Rattle.iox2_store.specs.machine.SingleCalls.{HoldsLoan};
 ghost use Rattle.iox2_store.specs.declared.service_config.TypeVariant.TheVariants.{FixedSize};

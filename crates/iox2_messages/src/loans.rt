@@ -2,7 +2,7 @@
 ghost use Rattle.std.specs.Prelude.{◌≡◌, ◌≤◌, ◌&&◌, nat_lt, false, slice_index_or, None, Some, IfOk, IsSomeAnd};
 ghost use Rattle.iox2_store.specs.machine.Loans.{is_static};
 ghost use Rattle.iox2_store.specs.declared.service_config.TypeVariant.TheVariants.{FixedSize};
-ghost use Rattle.iox2_store.specs.SlotContents.{SomeAt};
+ghost use Rattle.iox2_slots.specs.SlotContents.{SomeAt};
 ghost use Rattle.iox2_domain.specs.Lending.{Starts, CanGrant, IsReclaimedIfFull, LoanDecided, IsNamed, Lends, LoanReaches};
 ghost use Rattle.iox2_domain.specs.LoanSlots.{LiesInSlot};
 ghost use Rattle.iox2_domain.specs.Ports.{PublisherFields};
@@ -10,7 +10,8 @@ ghost use Rattle.iox2_domain.specs.Invariant.{IsDomain};
 
 use crate::reclaims::reclaim_if_full;
 use iox2_domain::{DomainState, LoanAt, PublisherState, units_of};
-use iox2_store::{AllocationStrategy, Contents, Header, LoanError, UniqueNodeId};
+use iox2_slots::Contents;
+use iox2_store::{AllocationStrategy, Header, LoanError, UniqueNodeId};
 
 // In the slot starts a loan of that length.
 fn start<T: Drop, U: Default + Drop>(contents: &mut Option<Contents<T, U>>, slot: usize, len: usize)

@@ -7,8 +7,8 @@ ghost use Rattle.iox2_domain.specs.Questions.{IsWhetherWaiting, AnswersAs};
 
 use iox2_domain::DomainState;
 use iox2_ends::receiver::has_samples;
-use iox2_updates::update_subscriber;
 use iox2_store::ConnectionFailure;
+use iox2_updates::update_subscriber;
 
 /// The subscriber at a place is updated, and then asked whether any message waits for it, also one
 /// that it may not borrow yet. Where the update fails, that is the answer, and the update stands.

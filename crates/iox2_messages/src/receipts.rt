@@ -16,8 +16,9 @@ ghost use Rattle.iox2_domain.specs.SampleSlots.{IsReturnable, LiesAtHint};
 
 use iox2_domain::{DomainState, Receipt, SampleAt, SampleSlot, is_due_at, stands_at};
 use iox2_ends::receiver::{Taken, let_go, receive, release};
+use iox2_slots::{Home, SlotBook};
+use iox2_store::{ReceiveError, UniquePublisherId, UniqueSubscriberId};
 use iox2_updates::{forget_if_empty, free_book_if_unused, leave_if_unused, update_subscriber};
-use iox2_store::{Home, ReceiveError, SlotBook, UniquePublisherId, UniqueSubscriberId};
 use slab::Slab;
 
 // The receipt of a message that was taken. A look-up in books that may be written tests less, and

@@ -13,8 +13,8 @@ ghost use Rattle.iox2_messages.specs.SendEnds.{IsKept, end_result};
 use crate::deliveries::send_ready;
 use crate::send_end::SendEnd;
 use iox2_domain::{DomainState, LoanAt};
-use iox2_updates::update_publisher;
 use iox2_store::UniquePublisherId;
+use iox2_updates::update_publisher;
 
 // Whether the loan lies where its handle says, and its publisher is due for no update.
 fn is_ready<T: Drop, U: Default + Drop>(state: &DomainState<T, U>, loan: &LoanAt) -> bool

@@ -8,9 +8,9 @@ ghost use Rattle.iox2_domain.specs.Ports.{PublisherFields, SubscriberFields};
 ghost use Rattle.iox2_domain.specs.Reaches.{Reaches};
 ghost use Rattle.iox2_domain.specs.Updates.{IsUnblockedAt};
 
-use iox2_updates::{unmark_publisher, unmark_subscriber};
 use crate::{publisher_closes, subscriber_closes};
 use iox2_domain::DomainState;
+use iox2_updates::{unmark_publisher, unmark_subscriber};
 
 /// The publisher at a place, of which no delivery is blocked, is closed. Its place is free, and its
 /// loans stay out. What waits for an open subscriber that has its end stays there, and what waits for

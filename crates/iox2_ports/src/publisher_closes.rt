@@ -15,10 +15,10 @@ ghost use Rattle.iox2_domain.specs.Reaches.{ReachesBut, Reaches};
 ghost use Rattle.iox2_domain.specs.Departures.{HasKey};
 ghost use Rattle.iox2_domain.specs.Closes.{is_awaited, after_close, left_subscriber, FindsAll, LeavesAt, LeavesConnections, SomeHasKey};
 
-use iox2_updates::free_book_if_unused;
 use iox2_domain::{DomainState, Port, PublisherState, SubscriberState, key_at};
 use iox2_ends::leaving::{give_up_history, leave};
-use iox2_store::{Connection, SlotBook};
+use iox2_slots::{Connection, SlotBook};
+use iox2_updates::free_book_if_unused;
 use slab::Slab;
 
 // Whether the subscriber of a connection, which stands at a key, is open and has it there.

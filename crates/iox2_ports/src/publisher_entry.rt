@@ -14,11 +14,11 @@ ghost use Rattle.iox2_domain.specs.NewPublisher.{place_for_publisher, static_pub
 ghost use Rattle.iox2_domain.specs.Reaches.{Reaches};
 
 use crate::segments::{Segment, add_segment, first_segment, room_for};
-use iox2_updates::update_publisher;
 use iox2_domain::{DomainState, PortAt, PublisherState, free_place, make_all_due, put_at_place};
 use iox2_store::{
     BackpressureAction, BackpressureStrategy, PublisherCreateError, UniquePublisherId,
 };
+use iox2_updates::update_publisher;
 
 /// The place for a new publisher, or why it is refused.
 pub(crate) fn place_for_publisher<T: Drop, U: Default + Drop>(

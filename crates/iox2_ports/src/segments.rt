@@ -7,7 +7,8 @@ ghost use Rattle.iox2_domain.specs.Ports.{slot_length};
 ghost use Rattle.iox2_domain.specs.Placed.{placed};
 
 use iox2_domain::{put_at_place, reserve_place, units_of};
-use iox2_store::{Contents, ServiceConfig, SlotBook, UniquePublisherId, worst_case_slots};
+use iox2_slots::{Contents, SlotBook};
+use iox2_store::{ServiceConfig, UniquePublisherId, worst_case_slots};
 use slab::Slab;
 use std::alloc::{AllocError, Global};
 

@@ -1,7 +1,7 @@
 //! A subscriber closes.
 ghost use Rattle.std.specs.Prelude.{◌≡◌, ◌≢◌, ◌<◌, ◌↔◌, None, Some, cond, length, map, slice_index_or, IsSome, IsSomeAnd, IsTrue};
 ghost use Rattle.slab.specs.Slab.{Updates, ContainsKey, get};
-ghost use Rattle.iox2_store.specs.Link.{Link};
+ghost use Rattle.iox2_slots.specs.Link.{Link};
 ghost use Rattle.iox2_store.specs.machine.Places.{is_port, vacated};
 ghost use Rattle.iox2_store.specs.machine.Ports.{subscriber_closed};
 ghost use Rattle.iox2_domain.specs.Departures.{key_forgotten, KnowsKey};
@@ -15,10 +15,10 @@ ghost use Rattle.iox2_domain.specs.Updates.{changed_at};
 ghost use Rattle.iox2_closes.specs.Agreement.{HasOwnedParts, IsOrphan};
 ghost use Rattle.iox2_closes.specs.Closes.{shut_subscriber, is_empty_link, HasNoPublisher, IsBusy, IsLeftAt, IsStanding, LosesWaiting, FreesBook, ForgetsIfEmpty, LosesIfLeft};
 
-use iox2_updates::{forget_if_empty, leave_if_unused};
 use iox2_domain::{DomainState, SubscriberState, key_at, make_all_due, stands_at};
 use iox2_ends::drops::drop_waiting_at;
-use iox2_store::Connection;
+use iox2_slots::Connection;
+use iox2_updates::{forget_if_empty, leave_if_unused};
 use slab::Slab;
 
 // The subscriber at a place takes no messages any more.

@@ -14,13 +14,13 @@ ghost use Rattle.iox2_domain.specs.Invariant.{IsDomain};
 ghost use Rattle.iox2_domain.specs.Reaches.{Reaches};
 ghost use Rattle.iox2_domain.specs.SubscriberEntry.{FirstUpdates, asked_for, failure_warned, place_for_subscriber};
 
-use iox2_updates::update_subscriber;
 use iox2_domain::{
     DomainState, PortAt, SubscriberState, Warnings, free_place, make_all_due, put_at_place,
 };
 use iox2_store::{
     ConnectionFailure, ServiceConfig, SubscriberCreateError, UniqueSubscriberId, Warning,
 };
+use iox2_updates::update_subscriber;
 
 // It is warned where the setting for expired publishers is too small for what may be borrowed.
 fn warn_of_expired_buffer(

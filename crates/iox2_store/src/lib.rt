@@ -1,18 +1,16 @@
 //! The plain types of publish-subscribe delivery (ids, headers, settings, answers of handlers,
-//! errors and warnings), the slots of a publisher, and the connections of ports.
+//! errors and warnings).
 #![tactic(auto)]
 
 mod allocation;
 mod backpressure;
 mod backpressure_handler;
-mod connection;
 mod degradation;
 mod errors;
 mod header;
 mod ids;
 mod key;
 mod service_config;
-mod slots;
 mod warning;
 mod worst_case;
 
@@ -22,7 +20,6 @@ pub use backpressure::{
     BackpressureToReceiverAction,
 };
 pub use backpressure_handler::BackpressureHandler;
-pub use connection::{Connection, Home, PutOutcome};
 pub use degradation::{DegradationAction, DegradationCause, DegradationFn, DegradationInfo};
 pub use errors::{
     ConnectionFailure, DomainCreateError, LoanError, PublisherCreateError, ReceiveError, SendError,
@@ -32,6 +29,5 @@ pub use header::Header;
 pub use ids::{UniqueNodeId, UniquePublisherId, UniqueSubscriberId};
 pub use key::Key;
 pub use service_config::{ServiceConfig, TypeVariant};
-pub use slots::{Contents, SlotBook, SlotMark};
 pub use warning::Warning;
 pub use worst_case::worst_case_slots;

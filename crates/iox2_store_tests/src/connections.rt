@@ -1,7 +1,7 @@
 ghost use Rattle.std.specs.Prelude.{◌≡◌};
-ghost use Rattle.iox2_store.specs.Link.{empty_link};
+ghost use Rattle.iox2_slots.specs.Link.{empty_link};
 
-use iox2_store::{Connection, Home, PutOutcome};
+use iox2_slots::{Connection, Home, PutOutcome};
 use std::alloc::Global;
 use std::process::Abort;
 

@@ -1,4 +1,4 @@
-use iox2_store::Contents;
+use iox2_slots::Contents;
 use std::alloc::Global;
 use std::process::Abort;
 

@@ -1,4 +1,5 @@
-use iox2_store::{Header, SlotBook, SlotMark, UniqueNodeId, UniquePublisherId};
+use iox2_slots::{SlotBook, SlotMark};
+use iox2_store::{Header, UniqueNodeId, UniquePublisherId};
 use std::alloc::Global;
 use std::process::Abort;
 

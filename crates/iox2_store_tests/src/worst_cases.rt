@@ -1,6 +1,7 @@
 use crate::connections::connection;
 use crate::slots::{book, header};
-use iox2_store::{PutOutcome, ServiceConfig, SlotBook, worst_case_slots};
+use iox2_slots::{PutOutcome, SlotBook};
+use iox2_store::{ServiceConfig, worst_case_slots};
 use std::alloc::Global;
 use std::process::Abort;
 

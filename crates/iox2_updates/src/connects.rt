@@ -1,7 +1,7 @@
 //! Ports get their connections, one place after the other.
 ghost use Rattle.std.specs.Prelude.{◌≡◌, ℕ, ◌<◌, cond, true, false, Some, None, length, slice_index_or, [], IsSomeAnd, IfOk, OnOk, OnErr, MatchOption};
 ghost use Rattle.slab.specs.Slab.{get};
-ghost use Rattle.iox2_store.specs.Link.{Link};
+ghost use Rattle.iox2_slots.specs.Link.{Link};
 ghost use Rattle.iox2_store.specs.machine.Connections.{warnings_after};
 ghost use Rattle.iox2_store.specs.machine.Environments.{fixed_handlers};
 ghost use Rattle.iox2_store.specs.machine.Limits.{warning_limit};
@@ -20,7 +20,8 @@ use iox2_domain::{
     reserve_connection_at, reserve_key_at, set_key_at, stands_at,
 };
 use iox2_ends::sender::{deliver_history, drop_all, reclaim_all, remove_connection};
-use iox2_store::{Connection, Home, UniquePublisherId, UniqueSubscriberId, Warning};
+use iox2_slots::{Connection, Home};
+use iox2_store::{UniquePublisherId, UniqueSubscriberId, Warning};
 use slab::Slab;
 use std::alloc::{AllocError, Global};
 

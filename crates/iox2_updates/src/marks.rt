@@ -42,10 +42,7 @@ fn unmark_end<T: Drop, U: Default + Drop>(
 }
 
 /// No connection of the publisher at a place is marked as open any more.
-pub fn unmark_publisher<T: Drop, U: Default + Drop>(
-    state: &mut DomainState<T, U>,
-    place: usize,
-)
+pub fn unmark_publisher<T: Drop, U: Default + Drop>(state: &mut DomainState<T, U>, place: usize)
     requires { IsDomain state.old }
     ensures clears { ClearsMarks state.old state.new }
     ensures unmarked { IsUnmarkedSender state.new.connections place }
@@ -56,10 +53,7 @@ pub fn unmark_publisher<T: Drop, U: Default + Drop>(
 }
 
 /// No connection of the subscriber at a place is marked as open any more.
-pub fn unmark_subscriber<T: Drop, U: Default + Drop>(
-    state: &mut DomainState<T, U>,
-    place: usize,
-)
+pub fn unmark_subscriber<T: Drop, U: Default + Drop>(state: &mut DomainState<T, U>, place: usize)
     requires { IsDomain state.old }
     ensures clears { ClearsMarks state.old state.new }
     ensures unmarked { IsUnmarkedReceiver state.new.connections place }

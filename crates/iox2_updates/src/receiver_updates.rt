@@ -2,7 +2,7 @@
 ghost use Rattle.std.specs.Prelude.{◌≡◌, ◌<◌, ◌==◌, true, None, Some, length, slice_index_or, MatchOption};
 ghost use Rattle.std.specs.Option.{option_map};
 ghost use Rattle.slab.specs.Slab.{get, ContainsKey};
-ghost use Rattle.iox2_store.specs.Link.{Link};
+ghost use Rattle.iox2_slots.specs.Link.{Link};
 ghost use Rattle.iox2_store.specs.machine.Connections.{expired_buffer_full, first_failure};
 ghost use Rattle.iox2_store.specs.machine.Environments.{fixed_handlers};
 ghost use Rattle.iox2_domain.specs.Ports.{PublisherFields, SubscriberFields};
@@ -13,7 +13,8 @@ ghost use Rattle.iox2_domain.specs.ReceiverSteps.{NotJoined, JoinsAt, ConnectsEn
 use crate::connects::{home_of, make_between, warn_of_refusal};
 use crate::retirements::retire;
 use iox2_domain::{DomainState, PublisherState, is_due_at, key_at, set_key_at, settle};
-use iox2_store::{ConnectionFailure, Home, ZeroCopyCreationError};
+use iox2_slots::Home;
+use iox2_store::{ConnectionFailure, ZeroCopyCreationError};
 
 // The id of the publisher at a place.
 fn publisher_at(publishers: &[Option<PublisherState>], place: usize) -> Option<u128>

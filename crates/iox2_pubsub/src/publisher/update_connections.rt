@@ -3,8 +3,8 @@
 use crate::domain::Domain;
 use crate::publisher::Publisher;
 use crate::update_connections::UpdateConnections;
-use iox2_updates::update_publisher;
 use iox2_store::{BackpressureFn, ConnectionFailure, DegradationFn};
+use iox2_updates::update_publisher;
 
 /// A publisher gets its connections with new subscribers, which a send does too.
 ///

@@ -20,7 +20,7 @@ pub struct SampleMutUninit {
 impl SampleMutUninit {
     ghost use Rattle.std.specs.Prelude.{Some, Option, List, length, map, is_some, IfOk, IsOkAnd, IsErr, MatchResult, true, false};
     ghost use Rattle.std.specs.List.{list_all};
-    ghost use Rattle.iox2_store.specs.SlotCalls.{AnswersInOrder};
+    ghost use Rattle.iox2_slots.specs.SlotCalls.{AnswersInOrder};
     ghost use Rattle.iox2_store.specs.declared.header.Header.{Header};
     ghost use Rattle.iox2_store.specs.machine.Loans.{initialized, is_initialized, loan_discarded};
     ghost use Rattle.iox2_store.specs.machine.Records.{Loan};

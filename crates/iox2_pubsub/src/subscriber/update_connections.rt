@@ -5,8 +5,8 @@ ghost use Rattle.iox2_pubsub.specs.UpdateCalls.{failure_of};
 use crate::domain::Domain;
 use crate::subscriber::Subscriber;
 use crate::update_connections::UpdateConnections;
-use iox2_updates::update_subscriber;
 use iox2_store::{BackpressureFn, ConnectionFailure, DegradationFn};
+use iox2_updates::update_subscriber;
 
 /// A subscriber gets its connections with new publishers, which a receive does too.
 ///

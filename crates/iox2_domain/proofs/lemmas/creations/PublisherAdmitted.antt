@@ -12,8 +12,8 @@ use Rattle.iox2_store.specs.machine.Records.{Handler}
 use Rattle.iox2_store.specs.machine.Places.{occupant, set_place}
 use Rattle.iox2_store.specs.machine.State.{State}
 use Rattle.iox2_store.specs.machine.Ports.{new_publisher, with_new_publisher}
-use Rattle.iox2_store.specs.SlotBook.{Book}
-use Rattle.iox2_store.specs.SlotContents.{ContentState}
+use Rattle.iox2_slots.specs.SlotBook.{Book}
+use Rattle.iox2_slots.specs.SlotContents.{ContentState}
 use Rattle.iox2_laws.proofs.PortLaws.{new_publisher_keeps}
 use Rattle.iox2_domain.specs.Handlers.{HasNoBox}
 use Rattle.iox2_domain.specs.Ports.{PublisherFields, slot_length}

@@ -14,8 +14,8 @@ use Rattle.iox2_store.specs.machine.Limits.{worst_case, last_number}
 use Rattle.iox2_store.specs.machine.Ports.{with_new_publisher}
 use Rattle.iox2_store.specs.machine.Records.{Handler}
 use Rattle.iox2_store.specs.SingleValues.{is_single_valued}
-use Rattle.iox2_store.specs.SlotBook.{Book, IsAligned}
-use Rattle.iox2_store.specs.SlotContents.{ContentState}
+use Rattle.iox2_slots.specs.SlotBook.{Book, IsAligned}
+use Rattle.iox2_slots.specs.SlotContents.{ContentState}
 use Rattle.iox2_store.specs.declared.errors.PublisherCreateError.TheVariants.{UnableToCreatePortTag, ExceedsMaxSupportedPublishers}
 use Rattle.iox2_domain.specs.Handlers.{HasNoBox, fixed_handler}
 use Rattle.iox2_domain.specs.Ports.{PublisherFields, slot_length}

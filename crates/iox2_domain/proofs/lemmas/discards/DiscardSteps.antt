@@ -7,7 +7,7 @@ use Rattle.slab.specs.Slab.{get}
 use Rattle.iox2_store.specs.machine.Loans.{loan_discarded}
 use Rattle.iox2_store.specs.machine.Records.{Loan}
 use Rattle.iox2_store.specs.machine.SingleCalls.{HoldsLoan}
-use Rattle.iox2_store.specs.SlotBook.{Book, IsInUse, holders_at}
+use Rattle.iox2_slots.specs.SlotBook.{Book, IsInUse, holders_at}
 use Rattle.iox2_ends.specs.Counters.{times}
 use Rattle.iox2_domain.specs.Invariant.{IsDomain}
 use Rattle.iox2_domain.specs.Discards.{with_loan_returned, DiscardsLoan}

@@ -7,7 +7,7 @@ use Rattle.std.specs.Option.{option_map, option_and_then, option_map_or}
 use Rattle.std.specs.List.{sum_by}
 use Rattle.slab.specs.Slab.{get}
 use Rattle.iox2_store.specs.machine.Loans.{loan_discarded}
-use Rattle.iox2_store.specs.SlotBook.{Book, holders_at}
+use Rattle.iox2_slots.specs.SlotBook.{Book, holders_at}
 use Rattle.iox2_store.specs.machine.Numbers.{put_at, without}
 use Rattle.iox2_store.specs.machine.Records.{Loan, Publisher}
 use Rattle.iox2_store.specs.machine.State.{State}

@@ -5,7 +5,7 @@ use Rattle.std.specs.declared.option.Option.{Option}
 use Rattle.std.specs.declared.option.Option.TheVariants.{None, Some}
 use Rattle.std.specs.Option.{option_map, option_map_or}
 use Rattle.slab.specs.Slab.{Slab, get}
-use Rattle.iox2_store.specs.Link.{Link}
+use Rattle.iox2_slots.specs.Link.{Link}
 use Rattle.iox2_store.specs.machine.Places.{occupant}
 use Rattle.iox2_store.specs.machine.Records.{Publisher, Subscriber}
 use Rattle.iox2_ends.specs.Mailboxes.{subscriber_of_key, sender_ends}

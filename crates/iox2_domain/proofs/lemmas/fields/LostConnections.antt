@@ -3,7 +3,7 @@ use Rattle.std.proofs.Common.{◌≡◌, ◌≤◌, ℕ, Bool, true, false, List
 use Rattle.std.proofs.lemmas.Bool.{cases_eq}
 use Rattle.std.specs.List.{sum_by}
 use Rattle.slab.specs.Slab.{Slab, Updates, get}
-use Rattle.iox2_store.specs.Link.{Link, load}
+use Rattle.iox2_slots.specs.Link.{Link, load}
 use Rattle.iox2_ends.specs.Counters.{stands}
 use Rattle.iox2_ends.specs.Homes.{IsApart}
 use Rattle.iox2_ends.specs.LookUp.{look_up}

@@ -1,9 +1,9 @@
 -- Connections name the keys of books, which stay.
 use Rattle.std.proofs.Common.{◌≡◌, ℕ, Bool, ap, subst, ◌∙◌, Some}
 use Rattle.slab.specs.Slab.{Slab, get}
-use Rattle.iox2_store.specs.Link.{Link}
-use Rattle.iox2_store.specs.SlotBook.{Book}
-use Rattle.iox2_store.specs.declared.connection.Home.{Home}
+use Rattle.iox2_slots.specs.Link.{Link}
+use Rattle.iox2_slots.specs.SlotBook.{Book}
+use Rattle.iox2_slots.specs.declared.connection.Home.{Home}
 use Rattle.iox2_ends.specs.Homes.{SameHomes}
 use Rattle.iox2_ends.proofs.MailboxChanges.{was}
 use Rattle.iox2_domain.specs.Invariant.{IsBookOf, NamesBooks}

@@ -2,7 +2,7 @@
 use Rattle.std.proofs.Common.{◌≡◌, ◌≢◌, ◌⊎◌, ℕ, inr, refl}
 use Rattle.std.specs.declared.option.Option.TheVariants.{Some}
 use Rattle.slab.specs.Slab.{get}
-use Rattle.iox2_store.specs.SlotBook.{Book}
+use Rattle.iox2_slots.specs.SlotBook.{Book}
 use Rattle.iox2_store.specs.machine.WellFormed.{IsWellFormed}
 use Rattle.iox2_domain.specs.Kept.{state_of}
 use Rattle.iox2_domain.specs.Fields.{Fields, kept_of}

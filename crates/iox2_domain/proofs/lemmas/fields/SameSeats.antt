@@ -3,9 +3,9 @@ use Rattle.std.proofs.Common.{◌<◌, ◌≡◌, ℕ, map, get_or, refl, ap, sy
 use Rattle.std.specs.Prelude.{IsSomeAnd, Contains, []}
 use Rattle.std.specs.Option.{option_map}
 use Rattle.slab.specs.Slab.{Slab, get}
-use Rattle.iox2_store.specs.Link.{Link}
+use Rattle.iox2_slots.specs.Link.{Link}
 use Rattle.iox2_store.specs.machine.Places.{occupants}
-use Rattle.iox2_store.specs.declared.connection.Home.{Home}
+use Rattle.iox2_slots.specs.declared.connection.Home.{Home}
 use Rattle.iox2_ends.specs.Homes.{IsSenders}
 use Rattle.iox2_ends.specs.Finds.{IsReceivers}
 use Rattle.iox2_ends.specs.Mailboxes.{subscriber_of_key, publisher_of_key}

@@ -13,7 +13,7 @@ use Rattle.iox2_store.specs.machine.Limits.{last_number}
 use Rattle.iox2_store.specs.machine.Numbers.{put_at, size}
 use Rattle.iox2_store.specs.machine.Records.{Loan, Publisher, Environment}
 use Rattle.iox2_store.specs.machine.State.{State, held}
-use Rattle.iox2_store.specs.SlotBook.{Book}
+use Rattle.iox2_slots.specs.SlotBook.{Book}
 use Rattle.iox2_store.specs.machine.Loans.{is_static, limit_error, StaticLoan, DynamicLoan, GrantLoan, loan_granted}
 use Rattle.iox2_store.specs.declared.allocation.AllocationStrategy.{AllocationStrategy}
 use Rattle.iox2_store.specs.declared.allocation.AllocationStrategy.TheVariants.{Static}

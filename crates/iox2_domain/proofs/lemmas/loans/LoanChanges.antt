@@ -9,10 +9,10 @@ use Rattle.std.specs.declared.option.Option.{Option}
 use Rattle.std.specs.declared.option.Option.TheVariants.{Some}
 use Rattle.iox2_store.specs.machine.Loans.{is_initialized}
 use Rattle.iox2_store.specs.machine.Records.{Loan}
-use Rattle.iox2_store.specs.SlotBook.{Book}
-use Rattle.iox2_store.specs.SlotContents.{ContentState, written_content, with_user_header}
-use Rattle.iox2_store.specs.declared.slots.mark.SlotMark.{SlotMark}
-use Rattle.iox2_store.specs.declared.slots.mark.SlotMark.TheVariants.{Unwritten, Written, Sent}
+use Rattle.iox2_slots.specs.SlotBook.{Book}
+use Rattle.iox2_slots.specs.SlotContents.{ContentState, written_content, with_user_header}
+use Rattle.iox2_slots.specs.declared.slots.mark.SlotMark.{SlotMark}
+use Rattle.iox2_slots.specs.declared.slots.mark.SlotMark.TheVariants.{Unwritten, Written, Sent}
 use Rattle.iox2_domain.specs.Kept.{Lent_message}
 use Rattle.iox2_domain.specs.Fields.{message_of}
 use Rattle.iox2_domain.proofs.lemmas.slots.Messages.{LiesIn}

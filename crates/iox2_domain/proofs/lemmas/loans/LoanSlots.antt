@@ -10,11 +10,11 @@ use Rattle.std.specs.List.{sum_by}
 use Rattle.slab.specs.Slab.{get, ContainsKey}
 use Rattle.iox2_store.specs.machine.Numbers.{contains}
 use Rattle.iox2_store.specs.machine.SingleCalls.{HoldsLoan}
-use Rattle.iox2_store.specs.SlotBook.{Book, IsUsedFor, holders_at}
-use Rattle.iox2_store.specs.SlotContents.{ContentState}
+use Rattle.iox2_slots.specs.SlotBook.{Book, IsUsedFor, holders_at}
+use Rattle.iox2_slots.specs.SlotContents.{ContentState}
 use Rattle.iox2_store.specs.machine.Records.{Loan}
-use Rattle.iox2_store.specs.declared.slots.mark.SlotMark.{SlotMark}
-use Rattle.iox2_store.specs.declared.slots.mark.SlotMark.TheVariants.{Unwritten, Written, Sent}
+use Rattle.iox2_slots.specs.declared.slots.mark.SlotMark.{SlotMark}
+use Rattle.iox2_slots.specs.declared.slots.mark.SlotMark.TheVariants.{Unwritten, Written, Sent}
 use Rattle.iox2_ends.specs.LookUp.{look_up}
 use Rattle.iox2_ends.specs.Counters.{times, stands}
 use Rattle.iox2_ends.proofs.Counts.{one_if, one_if_same, times-cons}

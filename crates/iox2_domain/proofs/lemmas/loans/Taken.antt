@@ -12,10 +12,10 @@ use Rattle.circular_buffer.proofs.Places.{slice_get-some, slice_get-set_same, sl
 use Rattle.slab.specs.Slab.{Slab, get, with_value}
 use Rattle.iox2_store.specs.machine.Numbers.{put_at}
 use Rattle.iox2_store.specs.machine.Records.{Loan}
-use Rattle.iox2_store.specs.SlotBook.{Book, IsAligned, holders_at}
-use Rattle.iox2_store.specs.SlotContents.{ContentState, with_changed, unwritten_content}
+use Rattle.iox2_slots.specs.SlotBook.{Book, IsAligned, holders_at}
+use Rattle.iox2_slots.specs.SlotContents.{ContentState, with_changed, unwritten_content}
 use Rattle.iox2_store.specs.declared.header.Header.{Header}
-use Rattle.iox2_store.specs.declared.slots.mark.SlotMark.TheVariants.{Unwritten}
+use Rattle.iox2_slots.specs.declared.slots.mark.SlotMark.TheVariants.{Unwritten}
 use Rattle.iox2_ends.specs.LookUp.{look_up, IsOnly}
 use Rattle.iox2_ends.proofs.LookUps.{look_up-found}
 use Rattle.iox2_domain.specs.Ports.{PublisherFields}

@@ -3,9 +3,9 @@ use Rattle.std.proofs.Common.{◌≡◌, ℕ, Bool, List, [], ◌∷◌, ◌++�
 use Rattle.std.proofs.lemmas.List.Elements.{Contains-append_right}
 use Rattle.std.specs.Option.{option_map}
 use Rattle.slab.specs.Slab.{Slab, get}
-use Rattle.iox2_store.specs.Link.{Link}
+use Rattle.iox2_slots.specs.Link.{Link}
 use Rattle.iox2_store.specs.machine.Mailbox.{Mailbox}
-use Rattle.iox2_store.specs.declared.connection.Home.{Home}
+use Rattle.iox2_slots.specs.declared.connection.Home.{Home}
 use Rattle.iox2_laws.proofs.Puts.{put_at-same}
 use Rattle.iox2_ends.specs.Homes.{IsApart, SameHomes, fixed_of}
 use Rattle.iox2_ends.specs.Mailboxes.{mailbox_of, mailboxes_of}

@@ -3,7 +3,7 @@ use Rattle.std.proofs.Common.{◌≡◌, ℕ, ◌+◌, true, Some, [], ap, sym, 
 use Rattle.std.proofs.lemmas.Bool.{cases_eq}
 use Rattle.std.specs.List.{sum_by}
 use Rattle.slab.specs.Slab.{Slab, get}
-use Rattle.iox2_store.specs.Link.{Link}
+use Rattle.iox2_slots.specs.Link.{Link}
 use Rattle.iox2_store.specs.machine.Numbers.{contains}
 use Rattle.iox2_store.specs.machine.Mailbox.{Mailbox, numbers_in}
 use Rattle.iox2_store.specs.machine.State.{State}

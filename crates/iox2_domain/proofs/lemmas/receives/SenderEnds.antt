@@ -3,7 +3,7 @@ use Rattle.std.proofs.Common.{◌≡◌, ℕ, true, get_or, refl, ap, sym, ◌�
 use Rattle.std.specs.Prelude.{IsSomeAnd}
 use Rattle.std.specs.Option.{option_map}
 use Rattle.slab.specs.Slab.{get}
-use Rattle.iox2_store.specs.Link.{Link}
+use Rattle.iox2_slots.specs.Link.{Link}
 use Rattle.iox2_store.specs.machine.Mailbox.{has_numbers}
 use Rattle.iox2_store.specs.machine.WellFormed.{LeadsTo}
 use Rattle.iox2_ends.specs.Homes.{IsApart, IsSenders}

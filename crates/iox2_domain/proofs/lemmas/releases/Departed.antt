@@ -3,7 +3,7 @@ use Rattle.std.proofs.Common.{◌≡◌, ◌≢◌, ℕ, ◌+◌, Bool, true, fa
 use Rattle.std.proofs.lemmas.Bool.{eq-eqb, or_right}
 use Rattle.std.specs.Option.{option_map}
 use Rattle.slab.specs.Slab.{Slab, Updates, get}
-use Rattle.iox2_store.specs.Link.{Link, load}
+use Rattle.iox2_slots.specs.Link.{Link, load}
 use Rattle.iox2_store.specs.machine.Mailbox.{has_numbers}
 use Rattle.iox2_store.specs.machine.Numbers.{put_at, is_nil}
 use Rattle.iox2_store.specs.machine.Records.{Publisher, Subscriber}

@@ -3,8 +3,8 @@ use Rattle.std.proofs.Common.{◌≡◌, ℕ, zero, suc, get_or, slice_set, Opti
 use Rattle.std.proofs.lemmas.List.{get_or-set_same}
 use Rattle.std.specs.Option.{option_map, IsSomeAnd}
 use Rattle.slab.specs.Slab.{Slab, Updates, get}
-use Rattle.iox2_store.specs.Link.{Link, load}
-use Rattle.iox2_store.specs.declared.connection.Home.{Home}
+use Rattle.iox2_slots.specs.Link.{Link, load}
+use Rattle.iox2_slots.specs.declared.connection.Home.{Home}
 use Rattle.iox2_store.specs.machine.Releases.{subscriber_pruned, unborrowed}
 use Rattle.iox2_store.specs.machine.State.{State}
 use Rattle.iox2_store.specs.machine.WellFormed.{IsWellFormed}

@@ -2,7 +2,7 @@
 use Rattle.std.proofs.Common.{◌≡◌, ℕ, [], true, get_or, is_some, ap, sym, subst, ◌∙◌, Option, Some, None, ◌⊎◌}
 use Rattle.std.proofs.lemmas.Bool.{or_left}
 use Rattle.slab.specs.Slab.{Slab, get}
-use Rattle.iox2_store.specs.Link.{Link}
+use Rattle.iox2_slots.specs.Link.{Link}
 use Rattle.iox2_store.specs.machine.Numbers.{contains, IsOnce}
 use Rattle.iox2_store.specs.machine.Mailbox.{Mailbox, numbers_in, is_borrowed, has_numbers, with_released}
 use Rattle.iox2_store.specs.machine.Records.{Publisher, Subscriber}

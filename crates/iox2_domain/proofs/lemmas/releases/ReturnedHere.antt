@@ -1,8 +1,8 @@
 -- A message is given back where it lies, between ports that both stay.
 use Rattle.std.proofs.Common.{◌≡◌, ℕ, true, get_or, None, Some, Contains, IsSomeAnd, refl, ap, sym, subst, ◌∙◌}
 use Rattle.slab.specs.Slab.{Slab, ContainsKey, get}
-use Rattle.iox2_store.specs.Link.{Link}
-use Rattle.iox2_store.specs.declared.connection.Home.{Home}
+use Rattle.iox2_slots.specs.Link.{Link}
+use Rattle.iox2_slots.specs.declared.connection.Home.{Home}
 use Rattle.iox2_store.specs.machine.Mailbox.{is_borrowed}
 use Rattle.iox2_store.specs.machine.Numbers.{IsOnce}
 use Rattle.iox2_store.specs.machine.Releases.{released}

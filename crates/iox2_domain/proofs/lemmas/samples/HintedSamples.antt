@@ -3,8 +3,8 @@ use Rattle.std.proofs.Common.{◌≡◌, ℕ, true, eqb, List, Some, Contains, r
 use Rattle.std.proofs.lemmas.Bool.{eqb-true, eq-eqb, and_from}
 use Rattle.std.proofs.lemmas.Map.Views.{Contains-from_any}
 use Rattle.slab.specs.Slab.{get}
-use Rattle.iox2_store.specs.Link.{Link}
-use Rattle.iox2_store.specs.SlotBook.{Book}
+use Rattle.iox2_slots.specs.Link.{Link}
+use Rattle.iox2_slots.specs.SlotBook.{Book}
 use Rattle.iox2_store.specs.machine.Numbers.{contains}
 use Rattle.iox2_store.specs.machine.SingleCalls.{HoldsSample}
 use Rattle.iox2_domain.specs.Kept.{state_of}

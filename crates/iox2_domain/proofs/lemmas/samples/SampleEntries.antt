@@ -5,12 +5,12 @@ use Rattle.std.specs.Prelude.{slice_get, slice_index}
 use Rattle.iox2_store.specs.machine.Mailbox.{is_borrowed}
 use Rattle.iox2_store.specs.machine.Records.{Entry}
 use Rattle.iox2_store.specs.Stored.{In_mailbox}
-use Rattle.iox2_store.specs.SlotBook.{Book}
-use Rattle.iox2_store.specs.SlotContents.{ContentState}
+use Rattle.iox2_slots.specs.SlotBook.{Book}
+use Rattle.iox2_slots.specs.SlotContents.{ContentState}
 use Rattle.iox2_store.specs.declared.header.Header.{Header}
 use Rattle.iox2_store.specs.declared.service_config.TypeVariant.TheVariants.{FixedSize}
-use Rattle.iox2_store.specs.declared.slots.mark.SlotMark.{SlotMark}
-use Rattle.iox2_store.specs.declared.slots.mark.SlotMark.TheVariants.{Unwritten, Written, Sent}
+use Rattle.iox2_slots.specs.declared.slots.mark.SlotMark.{SlotMark}
+use Rattle.iox2_slots.specs.declared.slots.mark.SlotMark.TheVariants.{Unwritten, Written, Sent}
 use Rattle.iox2_laws.proofs.NumberLemmas.{contains_right}
 use Rattle.iox2_ends.proofs.Counts.{in_range}
 use Rattle.iox2_domain.specs.Kept.{Sent_message, state_of, entries_of}

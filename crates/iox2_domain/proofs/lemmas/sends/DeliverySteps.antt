@@ -7,10 +7,10 @@ use Rattle.std.specs.Option.{option_map}
 use Rattle.std.specs.Prelude.{slice_get, nat_lt}
 use Rattle.slab.specs.Slab.{Slab, get, with_value}
 use Rattle.iox2_store.specs.machine.Delivery.{PutResult, Complete, Suspended, Decides, Put, PutAtEnd, Deliver, by_strategy, by_action, is_blocking, is_failed, accepted_count, no_time}
-use Rattle.iox2_store.specs.Link.{Link}
+use Rattle.iox2_slots.specs.Link.{Link}
 use Rattle.iox2_store.specs.machine.Mailbox.{Mailbox, has_room}
 use Rattle.iox2_store.specs.machine.Records.{Environment, Handler, Fixed, Custom}
-use Rattle.iox2_store.specs.SlotBook.{Book, holders_at, IsInUse}
+use Rattle.iox2_slots.specs.SlotBook.{Book, holders_at, IsInUse}
 use Rattle.iox2_store.specs.declared.backpressure.BackpressureAction.{BackpressureAction}
 use Rattle.iox2_store.specs.declared.backpressure.BackpressureAction.TheVariants as actions
 use Rattle.iox2_store.specs.declared.backpressure.BackpressureInfo.{BackpressureInfo}

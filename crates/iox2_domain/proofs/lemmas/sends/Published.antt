@@ -10,7 +10,7 @@ use Rattle.std.specs.Option.{MatchOption, option_map, option_and_then, option_ma
 use Rattle.slab.specs.Slab.{get, Slab}
 use Rattle.iox2_store.specs.machine.Delivery.{Deliver, no_time, DeliveryEnd}
 use Rattle.iox2_store.specs.machine.Loans.{entry_of}
-use Rattle.iox2_store.specs.SlotBook.{Book, IsInUse, holders_at}
+use Rattle.iox2_slots.specs.SlotBook.{Book, IsInUse, holders_at}
 use Rattle.iox2_store.specs.machine.Mailbox.{Mailbox, numbers_in}
 use Rattle.iox2_store.specs.machine.Numbers.{put_at, contains, without, last_n}
 use Rattle.iox2_store.specs.machine.Records.{Entry, Loan, Publisher, Subscriber, Environment, BlockedSend}
@@ -58,7 +58,7 @@ use Rattle.iox2_ends.specs.declared.sender.Progress.{Progress}
 use Rattle.iox2_ends.specs.declared.sender.DeliveryOutcome.{DeliveryOutcome}
 use Rattle.iox2_ends.proofs.Counts.{one_if, one_if_same, one_if_other, get_or-one_holder_more}
 use Rattle.circular_buffer.proofs.Places.{slice_get-set_same}
-use Rattle.iox2_store.specs.declared.slots.mark.SlotMark.TheVariants.{Sent}
+use Rattle.iox2_slots.specs.declared.slots.mark.SlotMark.TheVariants.{Sent}
 use Rattle.iox2_domain.specs.declared.publisher_state.BlockedDelivery.{BlockedDelivery}
 use Rattle.iox2_domain.proofs.lemmas.slots.Rebooked.{rebooked, rebooked-parts, rebooked-is, rebooked-entries, rebooked-lone, rebooked-back, rebooked-forth, rebooked-number, rebooked-numbered}
 use Rattle.iox2_domain.proofs.lemmas.sends.SentSlots.{times-without}

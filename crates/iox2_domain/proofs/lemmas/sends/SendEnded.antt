@@ -9,7 +9,7 @@ use Rattle.std.specs.Option.{option_map, option_map_or}
 use Rattle.std.specs.List.{sum_by}
 use Rattle.slab.specs.Slab.{get, with_value}
 use Rattle.iox2_store.specs.machine.Loans.{entry_of}
-use Rattle.iox2_store.specs.SlotBook.{Book, IsAligned, IsInUse, holders_at}
+use Rattle.iox2_slots.specs.SlotBook.{Book, IsAligned, IsInUse, holders_at}
 use Rattle.iox2_store.specs.machine.Numbers.{put_at, without}
 use Rattle.iox2_store.specs.machine.Records.{Entry, Loan, Publisher}
 use Rattle.iox2_store.specs.machine.State.{State}

@@ -7,13 +7,13 @@ use Rattle.std.specs.List.{filter_map}
 use Rattle.std.specs.Prelude.{slice_get, slice_index}
 use Rattle.circular_buffer.proofs.Places.{slice_get-set_same, slice_get-set_other}
 use Rattle.iox2_store.specs.machine.Loans.{entry_of}
-use Rattle.iox2_store.specs.SlotBook.{Book, holders_at}
-use Rattle.iox2_store.specs.SlotContents.{ContentState}
+use Rattle.iox2_slots.specs.SlotBook.{Book, holders_at}
+use Rattle.iox2_slots.specs.SlotContents.{ContentState}
 use Rattle.iox2_store.specs.machine.Numbers.{without}
 use Rattle.iox2_store.specs.machine.Records.{Loan}
 use Rattle.iox2_store.specs.declared.header.Header.{Header}
-use Rattle.iox2_store.specs.declared.slots.mark.SlotMark.{SlotMark}
-use Rattle.iox2_store.specs.declared.slots.mark.SlotMark.TheVariants.{Unwritten, Written, Sent}
+use Rattle.iox2_slots.specs.declared.slots.mark.SlotMark.{SlotMark}
+use Rattle.iox2_slots.specs.declared.slots.mark.SlotMark.TheVariants.{Unwritten, Written, Sent}
 use Rattle.iox2_ends.specs.Counters.{times}
 use Rattle.iox2_ends.proofs.Counts.{one_if, times-cons, one_if_same, one_if_other}
 use Rattle.iox2_domain.specs.Kept.{KeptMessage, Lent_message, Sent_message}

@@ -5,8 +5,8 @@ use Rattle.std.specs.declared.option.Option.{Option}
 use Rattle.std.specs.declared.option.Option.TheVariants.{None, Some}
 use Rattle.std.specs.Option.{option_map_or}
 use Rattle.slab.specs.Slab.{get, ContainsKey}
-use Rattle.iox2_store.specs.Link.{Link}
-use Rattle.iox2_store.specs.SlotBook.{Book, holders_at}
+use Rattle.iox2_slots.specs.Link.{Link}
+use Rattle.iox2_slots.specs.SlotBook.{Book, holders_at}
 use Rattle.iox2_ends.specs.Counters.{IsCovered}
 use Rattle.iox2_ends.specs.Reclaims.{IsHeld}
 use Rattle.iox2_ends.specs.Homes.{IsSenderLinked}

@@ -2,8 +2,8 @@
 use Rattle.std.proofs.Common.{◌≡◌, ℕ, List, get_or, ap, sym, subst, ◌∙◌}
 use Rattle.std.specs.declared.option.Option.TheVariants.{None, Some}
 use Rattle.slab.specs.Slab.{Slab, get, with_value}
-use Rattle.iox2_store.specs.Link.{Link}
-use Rattle.iox2_store.specs.SlotBook.{Book}
+use Rattle.iox2_slots.specs.Link.{Link}
+use Rattle.iox2_slots.specs.SlotBook.{Book}
 use Rattle.iox2_store.specs.Stored.{IsHeldMessage}
 use Rattle.iox2_store.specs.machine.Mailbox.{Mailbox}
 use Rattle.iox2_store.specs.machine.WellFormed.{IsWellFormed}

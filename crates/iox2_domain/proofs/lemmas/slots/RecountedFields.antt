@@ -4,8 +4,8 @@ use Rattle.std.proofs.lemmas.Bool.{eq-eqb}
 use Rattle.std.specs.declared.option.Option.{Option}
 use Rattle.std.specs.declared.option.Option.TheVariants.{None, Some}
 use Rattle.slab.specs.Slab.{Slab, get}
-use Rattle.iox2_store.specs.Link.{Link}
-use Rattle.iox2_store.specs.SlotBook.{Book}
+use Rattle.iox2_slots.specs.Link.{Link}
+use Rattle.iox2_slots.specs.SlotBook.{Book}
 use Rattle.iox2_store.specs.machine.Records.{Entry, Loan}
 use Rattle.iox2_store.specs.Stored.{IsHeldMessage}
 use Rattle.iox2_store.specs.machine.State.{State}

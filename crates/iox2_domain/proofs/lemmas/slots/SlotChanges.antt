@@ -10,10 +10,10 @@ use Rattle.std.specs.Option.{option_map, option_map_or, option_and_then}
 use Rattle.std.specs.List.{All, sum_by}
 use Rattle.circular_buffer.proofs.Places.{slice_get-set_same, slice_get-set_other}
 use Rattle.slab.specs.Slab.{Slab, get, with_value}
-use Rattle.iox2_store.specs.SlotBook.{Book, holders_at}
-use Rattle.iox2_store.specs.SlotContents.{ContentState, with_changed}
+use Rattle.iox2_slots.specs.SlotBook.{Book, holders_at}
+use Rattle.iox2_slots.specs.SlotContents.{ContentState, with_changed}
 use Rattle.iox2_store.specs.declared.service_config.ServiceConfig.{ServiceConfig}
-use Rattle.iox2_store.specs.declared.slots.mark.SlotMark.{SlotMark}
+use Rattle.iox2_slots.specs.declared.slots.mark.SlotMark.{SlotMark}
 use Rattle.iox2_ends.specs.LookUp.{look_up}
 use Rattle.iox2_ends.specs.Counters.{times, stands}
 use Rattle.iox2_ends.proofs.LookUps.{look_up-found}

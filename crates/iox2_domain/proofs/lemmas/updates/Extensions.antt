@@ -5,7 +5,7 @@ use Rattle.std.specs.declared.option.Option.{Option}
 use Rattle.std.specs.declared.option.Option.TheVariants.{None, Some}
 use Rattle.std.specs.Option.{option_map, IsSomeAnd}
 use Rattle.slab.specs.Slab.{Slab, get}
-use Rattle.iox2_store.specs.Link.{Link}
+use Rattle.iox2_slots.specs.Link.{Link}
 use Rattle.iox2_ends.specs.Homes.{IsApart, IsSenderLinked, IsSenders}
 use Rattle.iox2_ends.specs.Finds.{IsReceiverLinked, IsReceivers}
 use Rattle.iox2_ends.specs.Counters.{stands}

@@ -6,8 +6,8 @@ use Rattle.std.specs.declared.option.Option.TheVariants.{None, Some}
 use Rattle.std.specs.Option.{option_map}
 use Rattle.iox2_domain.specs.Updates.{subscriber_but_room}
 use Rattle.slab.specs.Slab.{Slab, get, with_value, ContainsKey}
-use Rattle.iox2_store.specs.Link.{Link, load}
-use Rattle.iox2_store.specs.SlotBook.{Book, holders_at}
+use Rattle.iox2_slots.specs.Link.{Link, load}
+use Rattle.iox2_slots.specs.SlotBook.{Book, holders_at}
 use Rattle.iox2_store.specs.machine.Mailbox.{Mailbox, with_waiting}
 use Rattle.iox2_store.specs.machine.Numbers.{put_at, last_n}
 use Rattle.iox2_store.specs.machine.PublisherUpdate.{SenderSide, connected, sender_side, with_sender_side}

@@ -7,16 +7,16 @@ use Rattle.std.specs.declared.option.Option.{Option}
 use Rattle.std.specs.declared.option.Option.TheVariants.{None, Some}
 use Rattle.std.specs.Option.{option_map_or}
 use Rattle.slab.specs.Slab.{Slab, get, with_value}
-use Rattle.iox2_store.specs.Link.{Link, load}
-use Rattle.iox2_store.specs.SlotBook.{Book, holders_at}
+use Rattle.iox2_slots.specs.Link.{Link, load}
+use Rattle.iox2_slots.specs.SlotBook.{Book, holders_at}
 use Rattle.iox2_store.specs.machine.Mailbox.{Mailbox, numbers_in, with_waiting}
 use Rattle.iox2_store.specs.machine.Numbers.{put_at, contains, last_n}
 use Rattle.iox2_store.specs.machine.Records.{Entry, Publisher}
 use Rattle.iox2_store.specs.machine.State.{State}
 use Rattle.iox2_store.specs.machine.WellFormed.{IsWellFormed}
 use Rattle.iox2_store.specs.Stored.{IsHeldMessage, In_history, In_mailbox, In_blocked_send}
-use Rattle.iox2_store.specs.declared.slots.mark.SlotMark.{SlotMark}
-use Rattle.iox2_store.specs.declared.slots.mark.SlotMark.TheVariants.{Unwritten, Written, Sent}
+use Rattle.iox2_slots.specs.declared.slots.mark.SlotMark.{SlotMark}
+use Rattle.iox2_slots.specs.declared.slots.mark.SlotMark.TheVariants.{Unwritten, Written, Sent}
 use Rattle.iox2_ends.specs.Counters.{times, stands_in, with_counters}
 use Rattle.iox2_ends.specs.Mailboxes.{mailbox_of, mailboxes_of, with_box}
 use Rattle.iox2_ends.specs.Recounts.{Recounts, returned_count}

@@ -6,7 +6,7 @@ use Rattle.std.specs.declared.option.Option.TheVariants.{None, Some}
 use Rattle.std.specs.Option.{option_and_then}
 use Rattle.slab.specs.Slab.{Slab, get}
 use Rattle.iox2_store.specs.machine.Limits.{warning_limit}
-use Rattle.iox2_store.specs.Link.{Link, load}
+use Rattle.iox2_slots.specs.Link.{Link, load}
 use Rattle.iox2_store.specs.machine.Mailbox.{Mailbox, has_numbers, with_waiting}
 use Rattle.iox2_store.specs.machine.Numbers.{put_at, last_n, is_nil}
 use Rattle.iox2_store.specs.machine.Places.{occupant, set_place}

@@ -1,6 +1,6 @@
 use Rattle.std.proofs.Common.{ap, sym, ◌∙◌, arith}
 use Rattle.std.specs.Option.{option_copied}
-use Rattle.iox2_store.specs.SlotBook.{Book}
+use Rattle.iox2_slots.specs.SlotBook.{Book}
 use Rattle.iox2_ends.specs.Counters.{one_holder_less, with_counters}
 use Rattle.iox2_ends.proofs.Counts.{in_range}
 use Rattle.iox2_ends.proofs.Histories.{stands-below}

@@ -1,6 +1,6 @@
 use Rattle.std.proofs.Common.{ℕ, None, get_or, ap, refl, sym, subst, ◌∙◌, arith}
 use Rattle.slab.specs.Slab.{Slab}
-use Rattle.iox2_store.specs.Link.{Link}
+use Rattle.iox2_slots.specs.Link.{Link}
 use Rattle.iox2_ends.specs.Finds.{offer_at, Finds}
 use Rattle.iox2_ends.specs.Takes.{TakesSlot}
 use Rattle.iox2_ends.specs.declared.receiver.Found.{Found}

@@ -6,7 +6,7 @@ use Rattle.iox2_ends.proofs.DeliverySteps.{ends-at, deliver-more, deliver-stops,
 use Rattle.iox2_ends.proofs.Recounts.{Recounts-same, Recounts-trans}
 use Rattle.iox2_ends.proofs.ReclaimedPuts.{GrowsAlone-same, GrowsAlone-trans, own-still}
 use Rattle.std.proofs.Common.{ap}
-use Rattle.iox2_store.specs.SlotBook.{Book}
+use Rattle.iox2_slots.specs.SlotBook.{Book}
 use Rattle.iox2_ends.specs.Counters.{with_counters}
 use Rattle.std.specs.Prelude.{map}
 use Rattle.std.specs.Option.{option_map}

@@ -1,5 +1,5 @@
 use Rattle.std.proofs.Common.{ap}
-use Rattle.iox2_store.specs.SlotBook.{Book}
+use Rattle.iox2_slots.specs.SlotBook.{Book}
 use Rattle.iox2_ends.specs.Counters.{one_holder_less, with_counters}
 use Rattle.iox2_ends.proofs.Counts.{in_range}
 use Rattle.iox2_ends.proofs.ReclaimSteps.{reclaimed-in_use, reclaims-more, held-more}

@@ -1,5 +1,5 @@
 use Rattle.std.proofs.Common.{◌≡◌, ◌≤◌, ◌+◌, None, Some, slice_index_or, length, sym, ◌∙◌, ap, subst, arith}
-use Rattle.iox2_store.specs.SlotBook.{holders_at}
+use Rattle.iox2_slots.specs.SlotBook.{holders_at}
 use Rattle.iox2_store.specs.machine.Environments.{fixed_handlers}
 use Rattle.iox2_ends.specs.Receivers.{HasReclaimed}
 use Rattle.iox2_domain.specs.declared.publisher_state.BlockedDelivery.{BlockedDelivery}

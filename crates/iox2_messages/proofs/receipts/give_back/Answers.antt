@@ -1,6 +1,6 @@
 use Rattle.std.proofs.Common.{sym, subst, Contains, IsSomeAnd}
 use Rattle.slab.specs.Slab.{get}
-use Rattle.iox2_store.specs.Link.{Link}
+use Rattle.iox2_slots.specs.Link.{Link}
 use Rattle.iox2_store.specs.machine.Numbers.{IsOnce}
 use Rattle.iox2_domain.specs.Fields.{Fields}
 use Rattle.iox2_domain.proofs.lemmas.releases.ReturnedHere.{borrowed-at, once-at, returns-here, its-lender}

@@ -1,7 +1,7 @@
 use Rattle.std.proofs.Common.{◌∙◌, ap, sym, subst, Contains, IsSomeAnd}
 use Rattle.std.proofs.lemmas.Bool.{true≢false}
 use Rattle.slab.specs.Slab.{ContainsKey, get}
-use Rattle.iox2_store.specs.Link.{Link}
+use Rattle.iox2_slots.specs.Link.{Link}
 use Rattle.iox2_store.specs.machine.Numbers.{IsOnce}
 use Rattle.iox2_ends.proofs.MailboxChanges.{within_if_some}
 use Rattle.iox2_domain.specs.Fields.{Fields}

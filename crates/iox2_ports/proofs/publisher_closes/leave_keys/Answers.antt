@@ -1,7 +1,7 @@
 use Rattle.std.proofs.Common.{◌≡◌, ◌+◌, ap, refl, ◌∙◌, arith}
 use Rattle.std.specs.Prelude.{slice_index_or}
 use Rattle.std.specs.declared.option.Option.TheVariants.{None, Some}
-use Rattle.iox2_store.specs.SlotBook.{Book}
+use Rattle.iox2_slots.specs.SlotBook.{Book}
 use Rattle.iox2_ends.specs.Counters.{with_counters}
 use Rattle.iox2_ends.proofs.Counts.{CountersFollow-trans, IsCovered-follows}
 use Rattle.iox2_domain.specs.Departures.{HasKey}

@@ -1,6 +1,6 @@
 use Rattle.std.proofs.Common.{◌≡◌, ℕ, Option, ◌+◌, ap, subst, refl, ◌∙◌, arith}
 use Rattle.std.specs.declared.option.Option.TheVariants.{Some}
-use Rattle.iox2_store.specs.SlotBook.{Book}
+use Rattle.iox2_slots.specs.SlotBook.{Book}
 use Rattle.iox2_ends.specs.Counters.{with_counters}
 use Rattle.iox2_ends.proofs.Counts.{CountersFollow-trans, IsCovered-follows}
 use Rattle.iox2_domain.specs.Closes.{SomeHasKey, LeavesAt}

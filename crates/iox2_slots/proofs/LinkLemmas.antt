@@ -1,0 +1,100 @@
+-- What a connection's calls are to the lists of its slots.
+use Rattle.std.proofs.Common.{◌≡◌, ℕ, zero, suc, ◌+◌, ◌<◌, ◌==◌, Bool, List, [], ◌∷◌, ◌++◌, ◌-◌, true, false, length, drop, take, refl, Option, Some, None, get_or, arith, ap, sym, subst, ◌∙◌, inl, inr, eqb, eq-eqb, Contains, lt-ltb, position, ⊎_elim}
+use Rattle.std.proofs.Math.Seq.{take-suc, take-length}
+use Rattle.std.proofs.lemmas.Bool.{cases_lt, eqb-true, false≢true, ne_eqb, or_cases, or_left, or_right, or_parts}
+use Rattle.std.proofs.lemmas.Option.{slice_get_within, get_or_from_slice_get}
+use Rattle.std.proofs.lemmas.List.Sums.{fails_before_first}
+use Rattle.std.proofs.lemmas.List.{length-append}
+use Rattle.std.specs.List.{position_or_len}
+use Rattle.std.specs.Prelude.{remove, slice_get}
+use Rattle.iox2_slots.specs.Link.{Link, IsPut, IsTaken, IsDropped, IsReclaimed}
+use Rattle.iox2_store.specs.machine.Numbers.{contains, without, IsOnce}
+use Rattle.iox2_slots.specs.declared.connection.PutOutcome.TheVariants.{Overwrote}
+
+-- the first place of a number that stands in a list
+pub position_of_contained : (xs : List ℕ) (x : ℕ) → Contains xs x → (position_or_len (λ y. y == x) xs < length xs) × (position (λ y. y == x) xs ≡ Some (position_or_len (λ y. y == x) xs))
+position_of_contained xs x at =
+    let within : position_or_len (λ y. y == x) xs < length xs =
+    elim (cases_lt (position_or_len (λ y. y == x) xs) (length xs)) [
+      | inl below ↦ below
+      | inr past ↦
+          absurd (false≢true (sym (fails_before_first (λ y. y == x) xs at.0 x (omega arith)) ∙ eq-eqb (get_or xs at.0 x) x at.2))
+    ] in
+    (within, rw (lt-ltb _ _ within) refl)
+
+-- the first waiting slot of a ring was borrowed
+pub taken_first : (c d : Link) (xs : List ℕ) (slot : ℕ) → c.waiting ≡ xs → Some slot ≡ slice_get xs 0 → d ≡ record c { waiting = drop 1 xs; borrowed = c.borrowed ++ slot ∷ [] } → IsTaken c (Some slot) d
+taken_first c d [] slot w e f = absurd (let g : Some slot ≡ None = e in cc)
+taken_first c d (x ∷ xs) slot w e f = let g : Some slot ≡ Some x = e in let h : slot ≡ x = cc in (xs, w ∙ ap (λ (y : ℕ). y ∷ xs) (sym h), f)
+
+-- the first waiting slot of a ring went
+pub dropped_first : (c d : Link) (xs : List ℕ) (o : Option ℕ) → c.waiting ≡ xs → o ≡ slice_get xs 0 → d ≡ record c { waiting = drop 1 xs } → IsDropped c o d
+dropped_first c d [] o r e f = rw e (r, f ∙ ap (λ (ys : List ℕ). let l : Link = record c { waiting = ys } in l) (sym r))
+dropped_first c d (x ∷ xs) o r e f = rw e (xs, r, f)
+
+-- the first slot that was given back went
+pub reclaimed_first : (c d : Link) (xs : List ℕ) (o : Option ℕ) → c.returned ≡ xs → o ≡ slice_get xs 0 → d ≡ record c { returned = drop 1 xs } → IsReclaimed c o d
+reclaimed_first c d [] o r e f = rw e (r, f ∙ ap (λ (ys : List ℕ). let l : Link = record c { returned = ys } in l) (sym r))
+reclaimed_first c d (x ∷ xs) o r e f = rw e (xs, r, f)
+
+-- a slot went behind the waiting ones of a full ring
+pub put_over : (c d : Link) (xs : List ℕ) (slot oldest : ℕ) → c.waiting ≡ xs → 0 < c.buffer → length xs ≡ c.buffer → Some oldest ≡ slice_get (xs ++ slot ∷ []) 0 → d ≡ record c { waiting = drop (length (xs ++ slot ∷ []) - c.buffer) (xs ++ slot ∷ []) } → IsPut c slot true (Overwrote oldest) d
+put_over c d [] slot oldest w room full e f = absurd (omega arith)
+put_over c d (x ∷ xs) slot oldest w room full e f =
+    let first : oldest ≡ x = let g : Some oldest ≡ Some x = e in cc in
+    let one : length (x ∷ xs ++ slot ∷ []) - c.buffer ≡ 1 = omega (arith, length-append xs (slot ∷ [])) in
+    (refl, ap length w ∙ full, (xs, w ∙ ap (λ (y : ℕ). y ∷ xs) (sym first), rw one at f))
+
+-- ---- a slot that goes out of a list in which it stands once
+
+-- a number that isn't in the list can't be taken out
+pub without-absent : (n : ℕ) (xs : List ℕ) → contains xs n ≡ false → without n xs ≡ xs
+without-absent n [] h = refl
+without-absent n (k ∷ xs) h =
+    let parts : (eqb k n ≡ false) × (contains xs n ≡ false) = or_parts (eqb k n) (contains xs n) h in
+    rw parts.0 (ap (λ r. k ∷ r) (without-absent n xs parts.1))
+
+-- an element of a list passes the test for it
+pub contains-from : (xs : List ℕ) (n : ℕ) → Contains xs n → contains xs n ≡ true
+contains-from [] n h = absurd (let below : h.0 < length {A = ℕ} [] = h.1 in omega arith)
+contains-from (x ∷ xs) n h = by h.0 h.1 h.2 (λ k below at. contains-from xs n (k, below, at)) where
+  by : (k : ℕ) → k < length (x ∷ xs) → get_or (x ∷ xs) k n ≡ n → ((i : ℕ) → i < length xs → get_or xs i n ≡ n → contains xs n ≡ true) → contains (x ∷ xs) n ≡ true
+  by zero below at later = or_left (eqb x n) (contains xs n) (eq-eqb x n at)
+  by (suc k) below at later = or_right (eqb x n) (contains xs n) (later k (omega arith) at)
+
+-- the first place of the slot is taken out
+first-out : (slot : ℕ) (xs : List ℕ) → contains xs slot ≡ true → IsOnce xs → remove xs (position_or_len (λ y. y == slot) xs) ≡ without slot xs
+first-out slot [] h once = absurd (false≢true h)
+first-out slot (x ∷ xs) h once = by (eqb x slot) refl (λ r. first-out slot xs r once.1) where
+  one : (n : ℕ) → 1 + n ≡ suc n
+  one n = omega arith
+
+  by : (b : Bool) → eqb x slot ≡ b → (contains xs slot ≡ true → remove xs (position_or_len (λ y. y == slot) xs) ≡ without slot xs)
+      → remove (x ∷ xs) (position_or_len (λ y. y == slot) (x ∷ xs)) ≡ without slot (x ∷ xs)
+  by true e later = rw (e) (sym (without-absent slot xs (ap (contains xs) (sym (eqb-true x slot e)) ∙ once.0)))
+  by false e later =
+      let rest : contains xs slot ≡ true = ⊎_elim (λ same. absurd (false≢true (sym e ∙ same))) (λ r. r) (or_cases (eqb x slot) (contains xs slot) h) in
+      rw (e, one (position_or_len (λ y. eqb y slot) xs)) (ap (λ r. x ∷ r) (later rest))
+
+pub removed-first : (slot : ℕ) (xs : List ℕ) → Contains xs slot → IsOnce xs → remove xs (position_or_len (λ y. y == slot) xs) ≡ without slot xs
+removed-first slot xs h once = first-out slot xs (contains-from xs slot h) once
+
+contains-last : (xs : List ℕ) (n : ℕ) → contains (xs ++ n ∷ []) n ≡ true
+contains-last [] n = or_left (eqb n n) (contains [] n) (eq-eqb n n refl)
+contains-last (x ∷ xs) n = or_right (eqb x n) (contains (xs ++ n ∷ []) n) (contains-last xs n)
+
+last-out : (n : ℕ) (xs : List ℕ) → IsOnce (xs ++ n ∷ []) → without n (xs ++ n ∷ []) ≡ xs
+last-out n [] once = rw (eq-eqb n n refl) refl
+last-out n (x ∷ xs) once =
+    let apart : eqb x n ≡ false = ne_eqb x n (λ same. false≢true (sym once.0 ∙ ap (contains (xs ++ n ∷ [])) same ∙ contains-last xs n)) in
+    rw apart (ap (λ r. x ∷ r) (last-out n xs once.1))
+
+-- the slot that stands last is taken out
+pub removed-last : (slot : ℕ) (xs : List ℕ) → slice_get xs (length xs - 1) ≡ Some slot → IsOnce xs → take (length xs - 1) xs ≡ without slot xs
+removed-last slot xs at once =
+    let below : length xs - 1 < length xs = slice_get_within xs (length xs - 1) slot at in
+    let last : get_or xs (length xs - 1) 0 ≡ slot = get_or_from_slice_get xs (length xs - 1) slot 0 at in
+    let one : suc (length xs - 1) ≡ length xs = omega arith in
+    let parts : xs ≡ take (length xs - 1) xs ++ slot ∷ [] =
+    sym (take-length xs) ∙ ap (λ (n : ℕ). take n xs) (sym one) ∙ take-suc xs (length xs - 1) 0 below ∙ ap (λ (y : ℕ). take (length xs - 1) xs ++ y ∷ []) last in
+    sym (ap (without slot) parts ∙ last-out slot (take (length xs - 1) xs) (subst IsOnce parts once))

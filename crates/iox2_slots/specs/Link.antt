@@ -1,0 +1,90 @@
+-- What a contract sees of a connection: the slots between one publisher and one subscriber.
+use Rattle.std.specs.Prelude.{◌≡◌, ℕ, ◌+◌, ◌<◌, ◌≤◌, ◌^◌, Bool, true, false, not, ◌&&◌, List, [], ◌∷◌, ◌++◌, length, nat_lt}
+use Rattle.std.specs.declared.option.Option.{Option}
+use Rattle.std.specs.declared.option.Option.TheVariants.{None, Some}
+use Rattle.iox2_store.specs.machine.Numbers.{is_nil, without}
+use Rattle.iox2_slots.specs.declared.connection.Home.{Home}
+use Rattle.iox2_slots.specs.declared.connection.PutOutcome.{PutOutcome}
+use Rattle.iox2_slots.specs.declared.connection.PutOutcome.TheVariants.{Taken, Overwrote, Full}
+
+-- The slots of one publisher that wait for one subscriber, that it has borrowed, and that it has given back.
+pub record Link : Type 0 where
+  pub home : Home
+  pub buffer : ℕ  -- how many slots may wait
+  pub limit : ℕ  -- how many slots may be borrowed
+  pub is_open : Bool  -- whether it is marked as open
+  pub waiting : List ℕ  -- delivered and not yet received, oldest first
+  pub borrowed : List ℕ  -- received and not yet released, in the order of receipt
+  pub returned : List ℕ  -- released and not yet reclaimed, oldest first
+
+-- A new connection: no slot stands in it, and it isn't marked as open.
+abbrev pub empty_link : Home → (buffer limit : ℕ) → Link
+empty_link home buffer limit = record { home = home; buffer = buffer; limit = limit; is_open = false; waiting = []; borrowed = []; returned = [] }
+
+-- ---- reading
+
+-- How many slots stand in the connection.
+abbrev pub load : Link → ℕ
+load c = length c.waiting + length c.borrowed + length c.returned
+
+-- Some slot waits for the subscriber.
+abbrev pub has_slots : Link → Bool
+has_slots c = not (is_nil c.waiting)
+
+-- Some slot is borrowed.
+abbrev pub has_borrowed_slots : Link → Bool
+has_borrowed_slots c = not (is_nil c.borrowed)
+
+-- Some slot waits, and fewer than the limit are borrowed.
+abbrev pub can_borrow : Link → Bool
+can_borrow c = has_slots c && nat_lt (length c.borrowed) c.limit
+
+-- ---- changing
+
+-- With room the slot waits as the last. A full connection lets its oldest slot go for it, or stays as it is.
+abbrev pub IsPut : Link → (slot : ℕ) → (overflow : Bool) → PutOutcome → Link → Type 0
+IsPut old slot overflow Taken new =
+    (length old.waiting < old.buffer) × (new ≡ record old { waiting = old.waiting ++ slot ∷ [] })
+IsPut old slot overflow (Overwrote oldest) new =
+    (overflow ≡ true) × (length old.waiting ≡ old.buffer)
+    × ((rest : List ℕ) × (old.waiting ≡ oldest ∷ rest) × (new ≡ record old { waiting = rest ++ slot ∷ [] }))
+IsPut old slot overflow Full new = (overflow ≡ false) × (length old.waiting ≡ old.buffer) × (new ≡ old)
+
+-- The first slot that waits becomes borrowed, if there is one.
+abbrev pub IsTaken : Link → Option ℕ → Link → Type 0
+IsTaken old None new = (old.waiting ≡ []) × (new ≡ old)
+IsTaken old (Some slot) new =
+    (rest : List ℕ) × (old.waiting ≡ slot ∷ rest) × (new ≡ record old { waiting = rest; borrowed = old.borrowed ++ slot ∷ [] })
+
+-- The first slot that waits goes, if there is one.
+abbrev pub IsDropped : Link → Option ℕ → Link → Type 0
+IsDropped old None new = (old.waiting ≡ []) × (new ≡ old)
+IsDropped old (Some slot) new = (rest : List ℕ) × (old.waiting ≡ slot ∷ rest) × (new ≡ record old { waiting = rest })
+
+-- Nothing but what is borrowed stands in the connection.
+abbrev pub borrowed_alone : Link → Link
+borrowed_alone c = record c { waiting = []; returned = [] }
+
+-- A borrowed slot is given back.
+abbrev pub with_returned : (slot : ℕ) → Link → Link
+with_returned slot c = record c { borrowed = without slot c.borrowed; returned = c.returned ++ slot ∷ [] }
+
+-- A borrowed slot goes, and isn't given back.
+abbrev pub without_borrowed : (slot : ℕ) → Link → Link
+without_borrowed slot c = record c { borrowed = without slot c.borrowed }
+
+-- The first slot that was given back goes, if there is one.
+abbrev pub IsReclaimed : Link → Option ℕ → Link → Type 0
+IsReclaimed old None new = (old.returned ≡ []) × (new ≡ old)
+IsReclaimed old (Some slot) new =
+    (rest : List ℕ) × (old.returned ≡ slot ∷ rest) × (new ≡ record old { returned = rest })
+
+-- ---- bounds
+
+-- Waiting and borrowed slots are within their limits, and all slots together within the room for those given back.
+pub record IsBounded (c : Link) : Type 0 where
+  pub some_room : 0 < c.buffer
+  pub waiting : length c.waiting ≤ c.buffer
+  pub borrowed : length c.borrowed ≤ c.limit
+  pub load : load c ≤ c.buffer + c.limit + 1
+  pub fits : c.buffer + c.limit + 1 < 2 ^ 64

@@ -1,0 +1,29 @@
+-- What the fields of a connection keep.
+use Rattle.std.specs.Prelude.{◌≡◌, ◌≤◌, ◌+◌}
+use Rattle.std.specs.Vec.{vec_capacity}
+use Rattle.iox2_slots.specs.Link.{Link, IsBounded}
+use Rattle.iox2_slots.specs.declared.connection.Connection.TheInside.{Inside}
+
+-- The connection that the fields stand for.
+abbrev pub link_of : Inside → Link
+link_of a = record {
+  home = record {
+    publisher = a.publisher;
+    subscriber = a.subscriber;
+    publisher_place = a.publisher_place;
+    subscriber_place = a.subscriber_place;
+    book = a.book;
+  };
+  buffer = a.waiting.capacity;
+  limit = a.limit;
+  is_open = a.is_open;
+  waiting = a.waiting.items;
+  borrowed = a.borrowed.items;
+  returned = a.returned.items;
+}
+
+-- The slots are within their bounds, and the room for them is made.
+pub record IsConnection (a : Inside) : Type 0 where
+  pub bounded : IsBounded (link_of a)
+  pub borrow_room : a.limit ≤ vec_capacity a.borrowed
+  pub return_room : a.returned.capacity ≡ a.waiting.capacity + a.limit + 1

@@ -1,0 +1,220 @@
+//! The book of a publisher's slots.
+ghost use Rattle.std.specs.Prelude.{◌≡◌, ◌+◌, ◌-◌, ◌<◌, ◌≤◌, ◌^◌, ◌↔◌, length, slice_get, slice_set, replicate, vec_capacity, Some, IsTrue, IsNone, IfSome, IfNone, IfOk};
+ghost use Rattle.std.specs.List.{All};
+ghost use Rattle.iox2_slots.specs.SlotFree.{HasFree};
+
+use crate::slots::mark::SlotMark;
+use crate::slots::slot::Slot;
+use iox2_store::{Header, UniqueNodeId, UniquePublisherId};
+use std::alloc::{AllocError, Global};
+use std::marker::Model;
+
+/// What is known of a publisher's slots beside their contents: who lent them, which message lies in
+/// each, how far it has come, and how many holders it has.
+///
+/// A slot's holders are the user who has it as a loan, the publisher's history, and each connection
+/// in which it waits, is borrowed, or was given back and isn't reclaimed yet. A slot without holders
+/// is free: its number, header and mark mean nothing.
+///
+/// iceoryx2's `SegmentState` (`src/port/details/segment_state.rs`), which has the counters of
+/// holders. There the headers lie in shared memory, and an allocator has the list of free slots.
+#[derive(Drop)]
+pub struct SlotBook {
+    publisher: UniquePublisherId,
+    slots: Vec<Slot>,
+    // The slots without holders, each once. There is room for all.
+    free: Vec<usize>,
+}
+
+impl Model for SlotBook {
+    ghost use Rattle.std.specs.Prelude.{◌≤◌, length, map, vec_capacity};
+    ghost use Rattle.iox2_slots.specs.SlotBook.{Book};
+    ghost use Rattle.iox2_slots.specs.SlotFree.{HasFree};
+
+    ghost Value = { Book };
+
+    ghost view = { λ book. record {
+      publisher = book.publisher;
+      numbers = map (λ slot. slot.number) book.slots.items;
+      headers = map (λ slot. slot.header) book.slots.items;
+      marks = map (λ slot. slot.mark) book.slots.items;
+      holders = map (λ slot. slot.holders) book.slots.items;
+    } };
+
+    ghost invariant = { λ book. record {
+      exact : HasFree (map (λ slot. slot.holders) book.slots.items) book.free.items;
+      room : length book.slots.items ≤ vec_capacity book.free;
+    } };
+}
+
+impl SlotBook {
+    ghost use Rattle.iox2_slots.specs.SlotBook.{IsAligned, IsInUse, IsUsedFor, TakesFreeSlot, holders_at, with_holders};
+
+    /// The book of a new publisher, with so many slots, all of them free. Fails where memory runs
+    /// out; no other call on a book takes memory.
+    pub fn new(
+        alloc: Global,
+        publisher: UniquePublisherId,
+        slots: usize,
+    ) -> Result<Self, AllocError>
+        ensures publisher { IfOk result (λ book. book.publisher ≡ publisher) }
+        ensures unused { IfOk result (λ book. book.holders ≡ replicate slots 0) }
+        ensures aligned { IfOk result IsAligned }
+    {
+        let header = Header {
+            node_id: UniqueNodeId::new(0),
+            publisher_id: publisher,
+            number_of_elements: 0,
+        };
+        let unused = Slot {
+            number: 0,
+            header,
+            holders: 0,
+            mark: SlotMark::Unwritten,
+        };
+        let free = all_slots(alloc, slots)?;
+        let slots = vec![in alloc; unused; slots]?;
+        Ok(SlotBook {
+            publisher,
+            slots,
+            free,
+        })
+    }
+
+    /// Gives a free slot to the message with this number and header, and one holder. Its mark is
+    /// `Unwritten`. `None` if every slot has a holder; the book then stays as it is.
+    #[tactic(auto, using(crate::proofs::FreeSlots::taking))]
+    pub fn take(&mut self, number: u128, header: Header) -> Option<usize>
+        ensures none { IsNone result ↔ All (λ n. 0 < n) self.old.holders }
+        ensures refused { IfNone result (self.new ≡ self.old) }
+        ensures taken { IfSome result (λ slot. TakesFreeSlot self.old self.new slot number header) }
+        ensures aligned { IsAligned self.new }
+    {
+        let slot = self.free.pop()?;
+        self.slots[slot] = Slot {
+            number,
+            header,
+            holders: 1,
+            mark: SlotMark::Unwritten,
+        };
+        Some(slot)
+    }
+
+    /// Counts one holder more of a slot that has one.
+    pub fn hold(&mut self, slot: usize)
+        requires in_use { IsInUse self.old slot }
+        requires fits { holders_at self.old slot + 1 < 2 ^ 64 }
+        ensures { self.new ≡ with_holders self.old slot (holders_at self.old slot + 1) }
+    {
+        self.slots[slot].holders += 1;
+    }
+
+    /// Counts one holder less of a slot that has one, and returns whether it was the last. The slot
+    /// is then free.
+    #[tactic(auto, using(crate::proofs::FreeSlots::free_room))]
+    pub fn release(&mut self, slot: usize) -> bool
+        requires { IsInUse self.old slot }
+        ensures released { self.new ≡ with_holders self.old slot (holders_at self.old slot - 1) }
+        ensures last { IsTrue result ↔ (holders_at self.old slot ≡ 1) }
+    {
+        let left = self.slots[slot].holders - 1;
+        self.slots[slot].holders = left;
+        if left == 0 {
+            self.free.push_reserved(slot);
+            return true;
+        }
+        false
+    }
+
+    /// Says how far the slot's message has come.
+    pub fn set_mark(&mut self, slot: usize, mark: SlotMark)
+        requires { slot < length self.old.holders }
+        ensures { self.new ≡ record self.old { marks = slice_set self.old.marks slot mark } }
+    {
+        self.slots[slot].mark = mark;
+    }
+
+    /// The publisher whose slots these are.
+    pub fn publisher(&self) -> UniquePublisherId
+        ensures { result ≡ self.now.publisher }
+    {
+        self.publisher
+    }
+
+    /// The number of the message in the slot.
+    pub fn number(&self, slot: usize) -> u128
+        requires { slot < length self.now.holders }
+        ensures { slice_get self.now.numbers slot ≡ Some result }
+    {
+        self.slots[slot].number
+    }
+
+    /// The header of the message in the slot.
+    pub fn header(&self, slot: usize) -> &Header
+        requires { slot < length self.now.holders }
+        ensures { slice_get self.now.headers slot ≡ Some result.now }
+    {
+        &self.slots[slot].header
+    }
+
+    /// How far the message in the slot has come.
+    pub fn mark(&self, slot: usize) -> SlotMark
+        requires { slot < length self.now.holders }
+        ensures { slice_get self.now.marks slot ≡ Some result }
+    {
+        self.slots[slot].mark
+    }
+
+    /// Whether the slot is in use for the message with this number.
+    pub fn has(&self, slot: usize, number: u128) -> bool
+        ensures { IsTrue result ↔ IsUsedFor self.now number slot }
+    {
+        match self.slots.get(slot) {
+            Some(found) => found.holders > 0 && found.number == number,
+            None => false,
+        }
+    }
+
+    /// How many holders the slot has.
+    pub fn holders(&self, slot: usize) -> usize
+        requires { slot < length self.now.holders }
+        ensures { result ≡ holders_at self.now slot }
+    {
+        self.slots[slot].holders
+    }
+
+    /// How many slots there are.
+    pub fn len(&self) -> usize
+        ensures len { result ≡ length self.now.holders }
+        ensures aligned { IsAligned self.now }
+    {
+        self.slots.len()
+    }
+
+    /// Whether every slot has a holder, so that none can be taken.
+    pub fn is_full(&self) -> bool
+        ensures { IsTrue result ↔ All (λ n. 0 < n) self.now.holders }
+    {
+        self.free.is_empty()
+    }
+
+    /// Whether no slot has a holder, so that the book may go.
+    pub fn is_unused(&self) -> bool
+        ensures { IsTrue result ↔ All (λ n. n ≡ 0) self.now.holders }
+    {
+        self.free.len() == self.slots.len()
+    }
+}
+
+// The free slots where none of so many is in use.
+#[tactic(auto, using(crate::proofs::FreeSlots::free_next))]
+fn all_slots(alloc: Global, slots: usize) -> Result<Vec<usize>, AllocError>
+    ensures exact { IfOk result (λ free. HasFree (replicate slots 0) free.items) }
+    ensures room { IfOk result (λ free. slots ≤ vec_capacity free) }
+{
+    let mut free = Vec::with_capacity(alloc, slots)?;
+    for slot in 0..slots {
+        free.push_reserved(slot);
+    }
+    Ok(free)
+}

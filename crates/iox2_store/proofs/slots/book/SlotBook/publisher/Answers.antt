@@ -1,5 +1,0 @@
-use Rattle.std.proofs.Common.{refl}
-use Rattle.iox2_store.proofs.slots.book.SlotBook.publisher.Goals as goal
-
-pub returns : goal.returns
-returns c = rw (← c.self.view_is) refl
