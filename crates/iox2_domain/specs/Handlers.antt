@@ -1,9 +1,15 @@
 -- What answers for a publisher at a full buffer.
-use Rattle.std.specs.Prelude.{Bool, true, false}
+use Rattle.std.specs.Prelude.{◌≡◌, ℕ, Bool, true, false, List}
 use Rattle.std.specs.declared.option.Option.{Option}
 use Rattle.std.specs.declared.option.Option.TheVariants.{None, Some}
 use Rattle.std.specs.Option.{option_map}
 use Rattle.iox2_store.specs.machine.Records.{Handler, Fixed, Custom}
+use Rattle.iox2_store.specs.declared.backpressure_handler.BackpressureHandler.{BackpressureHandler}
+use Rattle.iox2_store.specs.declared.backpressure_handler.BackpressureHandler.TheVariants as handler
+use Rattle.iox2_domain.specs.declared.boxes.PortBox.{PortBox}
+use Rattle.iox2_domain.specs.declared.handlers.AskedBox.{AskedBox}
+use Rattle.iox2_domain.specs.declared.handlers.HandlerMark.{HandlerMark}
+use Rattle.iox2_domain.specs.declared.handlers.HandlerMark.TheVariants as mark
 use Rattle.iox2_store.specs.declared.backpressure.BackpressureAction.{BackpressureAction}
 use Rattle.iox2_store.specs.declared.backpressure.BackpressureAction.TheVariants.{FollowBackpressureyStrategy, Retry, DiscardData, DiscardDataAndFail}
 
@@ -11,11 +17,20 @@ use Rattle.iox2_store.specs.declared.backpressure.BackpressureAction.TheVariants
 abbrev pub fixed_handler : Option BackpressureAction → Option (Handler BackpressureAction)
 fixed_handler answer = option_map {U = Handler BackpressureAction} (λ action. Fixed action) answer
 
--- There is no handler, or it is no box.
-abbrev pub HasNoBox : Option (Handler BackpressureAction) → Type 0
-HasNoBox None = Unit {0}
-HasNoBox (Some (Fixed action)) = Unit {0}
-HasNoBox (Some Custom) = ⊥
+-- What a port has for a handler, as the machine knows it.
+abbrev pub handler_of : {Action : Type 0} → HandlerMark Action → Handler Action
+handler_of (mark.Fixed action) = Fixed action
+handler_of mark.Custom = Custom
+
+-- The handler that there is, if any, as the machine knows it.
+abbrev pub handler_if_any : Option (HandlerMark BackpressureAction) → Option (Handler BackpressureAction)
+handler_if_any has = option_map {U = Handler BackpressureAction} handler_of has
+
+-- Where the handler is asked, it asks the box of the publisher with the id.
+abbrev pub AsksFor : {F : Type 0} → (id : ℕ) → List (PortBox F) → Option (BackpressureHandler (AskedBox F)) → Type 0
+AsksFor id boxes None = Unit {0}
+AsksFor id boxes (Some (handler.Fixed action)) = Unit {0}
+AsksFor id boxes (Some (handler.Custom asked)) = (asked.id ≡ id) × (asked.boxes.now.boxes ≡ boxes)
 
 -- The action fails the send.
 abbrev pub is_failing : BackpressureAction → Bool

@@ -25,7 +25,6 @@ use Rattle.iox2_ends.specs.Finds.{IsReceiverLinked}
 use Rattle.iox2_ends.specs.Receivers.{KnowsReceivers}
 use Rattle.iox2_ends.specs.Counters.{times, stands}
 use Rattle.iox2_ends.specs.declared.sender.ReceiverDetails.{ReceiverDetails}
-use Rattle.iox2_domain.specs.Handlers.{HasNoBox}
 use Rattle.iox2_domain.specs.Ports.{PublisherFields, SubscriberFields, slot_length}
 use Rattle.iox2_domain.specs.declared.publisher_state.BlockedDelivery.{BlockedDelivery}
 use Rattle.iox2_domain.specs.Kept.{KeptMessage, state_of, header_of, length_of}
@@ -255,9 +254,8 @@ pub record HasForms {T U : Type 0} (c : ServiceConfig) (contents : List (Option 
 abbrev pub LendsBlocked : PublisherFields → Type 0
 LendsBlocked x = (b : BlockedDelivery) → x.blocked ≡ Some b → 0 < times b.slot x.loans
 
--- The publisher has one segment and no boxed handler, and the slot of its blocked delivery is a loan of its.
+-- The publisher has one segment and no boxed handler of degradations, and the slot of its blocked delivery is a loan of its.
 pub record IsPlain (x : PublisherFields) : Type 0 where
-  pub backpressure : HasNoBox x.backpressure_handler
   pub degradation : x.degradation_handler ≡ Fixed Warn
   pub lent : LendsBlocked x
   pub allocation : x.allocation ≡ Static

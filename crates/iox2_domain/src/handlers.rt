@@ -1,20 +1,36 @@
-//! What answers for a publisher at a full buffer.
+//! What answers for a port.
 ghost use Rattle.std.specs.Prelude.{◌≡◌};
-ghost use Rattle.iox2_store.specs.declared.backpressure.BackpressureAction.TheVariants.{FollowBackpressureyStrategy};
+ghost use Rattle.iox2_domain.specs.Boxes.{BoxAnswers, box_of};
 
+use crate::boxes::Boxes;
 use iox2_store::{BackpressureAction, BackpressureFn, BackpressureInfo};
 
-/// What stands where a publisher's handler has a function to ask. No publisher of a domain has such
-/// a handler: each gives a fixed answer. This one follows the strategy.
+/// What a port has for a handler. A box isn't in the port itself, but among the boxes of its domain.
 ///
-/// This library's own.
+/// This library's own, where iceoryx2 keeps the box in the port.
+#[derive(Debug, Clone, Copy, PartialEq, Eq)]
+pub enum HandlerMark<A> {
+    /// It always answers with this action.
+    Fixed(A),
+    /// It is a box.
+    Custom,
+}
+
+/// Asks the box of the publisher with an id, which is looked for each time. Where there is none the
+/// strategy is followed.
 #[derive(Drop)]
-pub struct NoBackpressureFn;
+pub struct AskedBox<'a, F> {
+    pub(crate) boxes: &'a Boxes<F>,
+    pub(crate) id: u128,
+}
 
-impl BackpressureFn for NoBackpressureFn {
-    ghost allows = { λ function info answer. answer ≡ FollowBackpressureyStrategy };
+impl<F: BackpressureFn> BackpressureFn for AskedBox<'_, F> {
+    ghost allows = { λ asked info action. BoxAnswers F.allows (box_of asked.id (asked.boxes.now).boxes) info action };
 
-    fn call(&self, _info: &BackpressureInfo) -> BackpressureAction {
-        BackpressureAction::FollowBackpressureyStrategy
+    fn call(&self, info: &BackpressureInfo) -> BackpressureAction {
+        match self.boxes.of(self.id) {
+            Some(function) => function.call(info),
+            None => BackpressureAction::FollowBackpressureyStrategy,
+        }
     }
 }

@@ -22,7 +22,7 @@ mod units;
 mod warnings;
 
 pub use boxes::Boxes;
-pub use handlers::NoBackpressureFn;
+pub use handlers::{AskedBox, HandlerMark};
 pub use loan_slots::LoanAt;
 pub use message_slots::MessageSlot;
 pub use places::{free_place, put_at_place, reserve_place, stands_at};

@@ -3,7 +3,8 @@ ghost use Rattle.std.specs.Prelude.{◌≡◌, ◌<◌, ◌≤◌, [], length, v
 ghost use Rattle.iox2_store.specs.machine.Numbers.{without};
 ghost use Rattle.iox2_ends.specs.Counters.{times};
 
-use crate::handlers::NoBackpressureFn;
+use crate::boxes::Boxes;
+use crate::handlers::{AskedBox, HandlerMark};
 use crate::places::{clear_in, put_at_place, reserve_place};
 use crate::ports::Port;
 use circular_buffer::HeapCircularBuffer;
@@ -38,8 +39,8 @@ pub struct PublisherState {
     pub max_loaned_samples: usize,
     pub slots: usize,
     pub strategy: BackpressureStrategy,
-    // What its handler answers at a full buffer.
-    pub backpressure_handler: Option<BackpressureAction>,
+    // What answers for it at a full buffer.
+    pub backpressure_handler: Option<HandlerMark<BackpressureAction>>,
     pub allocation: AllocationStrategy,
     pub initial_max_slice_len: usize,
     pub longest_granted: usize,
@@ -59,7 +60,7 @@ impl Model for PublisherState {
     ghost use Rattle.std.specs.Prelude.{vec_capacity};
     ghost use Rattle.iox2_store.specs.machine.Records.{Fixed};
     ghost use Rattle.iox2_store.specs.declared.degradation.DegradationAction.TheVariants.{Warn};
-    ghost use Rattle.iox2_domain.specs.Handlers.{fixed_handler};
+    ghost use Rattle.iox2_domain.specs.Handlers.{handler_if_any};
     ghost use Rattle.iox2_domain.specs.Ports.{PublisherFields};
 
     ghost Value = { PublisherFields };
@@ -71,7 +72,7 @@ impl Model for PublisherState {
       max_loaned_samples = x.max_loaned_samples;
       slots = x.slots;
       strategy = x.strategy;
-      backpressure_handler = fixed_handler x.backpressure_handler;
+      backpressure_handler = handler_if_any x.backpressure_handler;
       degradation_handler = Fixed Warn;
       allocation = x.allocation;
       initial_max_slice_len = x.initial_max_slice_len;
@@ -92,7 +93,7 @@ impl PublisherState {
     ghost use Rattle.iox2_domain.specs.Invariant.{HasPublisherRoom};
     ghost use Rattle.std.specs.Prelude.{true};
     ghost use Rattle.iox2_store.specs.machine.Limits.{segment_fits};
-    ghost use Rattle.iox2_domain.specs.Handlers.{fixed_handler};
+    ghost use Rattle.iox2_domain.specs.Handlers.{handler_if_any};
     ghost use Rattle.iox2_domain.specs.NewPublisher.{entering_publisher};
 
     /// A publisher that enters at a place, with a book at a key of so many slots for messages of so
@@ -107,11 +108,11 @@ impl PublisherState {
         max_loaned_samples: usize,
         slots: usize,
         strategy: BackpressureStrategy,
-        handler: Option<BackpressureAction>,
+        handler: Option<HandlerMark<BackpressureAction>>,
         initial_max_slice_len: usize,
     ) -> Result<Self, AllocError>
         requires { segment_fits config.now slots initial_max_slice_len ≡ true }
-        ensures enters { IfOk result (λ x. x ≡ entering_publisher id place book max_loaned_samples slots strategy (fixed_handler handler) initial_max_slice_len x.loan_room (buffer [] (config.now).history_size) x.key_room) }
+        ensures enters { IfOk result (λ x. x ≡ entering_publisher id place book max_loaned_samples slots strategy (handler_if_any handler) initial_max_slice_len x.loan_room (buffer [] (config.now).history_size) x.key_room) }
         ensures room { IfOk result (HasPublisherRoom config.now) }
     {
         let loans = Vec::with_capacity(alloc, max_loaned_samples)?;
@@ -138,15 +139,32 @@ impl PublisherState {
 }
 
 impl PublisherState {
+    ghost use Rattle.std.specs.Option.{is_some};
     ghost use Rattle.iox2_ends.specs.Handlers.{marks_of};
+    ghost use Rattle.iox2_domain.specs.Handlers.{AsksFor};
 
-    /// What answers for it at a full buffer.
+    /// Whether anything answers for it at a full buffer.
     #[inline(always)]
-    pub fn handler(&self) -> Option<BackpressureHandler<NoBackpressureFn>>
-        ensures { marks_of result ≡ self.now.backpressure_handler }
+    pub fn has_handler(&self) -> bool
+        ensures { result ≡ is_some self.now.backpressure_handler }
+    {
+        self.backpressure_handler.is_some()
+    }
+
+    /// What answers for it at a full buffer. A box is among these boxes.
+    pub fn handler<'a, F>(
+        &self,
+        boxes: &'a Boxes<F>,
+    ) -> Option<BackpressureHandler<AskedBox<'a, F>>>
+        ensures marks { marks_of result ≡ self.now.backpressure_handler }
+        ensures asks { AsksFor self.now.id (boxes.now).boxes result }
     {
         match self.backpressure_handler {
-            Some(action) => Some(BackpressureHandler::Fixed(action)),
+            Some(HandlerMark::Fixed(action)) => Some(BackpressureHandler::Fixed(action)),
+            Some(HandlerMark::Custom) => Some(BackpressureHandler::Custom(AskedBox {
+                boxes,
+                id: self.id.value(),
+            })),
             None => None,
         }
     }

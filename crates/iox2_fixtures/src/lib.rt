@@ -37,8 +37,8 @@ pub fn settings() -> ServiceConfig
 
 /// A factory of publishers that discard what a full subscriber doesn't take.
 pub fn factory_for<T: Drop, U: Default + Drop>(domain: &Domain<T, U>) -> PortFactoryPublisher
-    ensures strategy { result.backpressure_strategy ≡ BackpressureStrategy.DiscardData }
-    ensures handler { result.backpressure_handler ≡ None }
+    ensures strategy { result.settings.backpressure_strategy ≡ BackpressureStrategy.DiscardData }
+    ensures handler { result.settings.backpressure_handler ≡ None }
 {
     domain
         .publisher_builder()

@@ -1,12 +1,12 @@
 //! A blocked send is tried again, or given up.
 ghost use Rattle.std.specs.Prelude.{◌≡◌, ◌≤◌, ◌+◌, ◌↔◌, IsTrue, None, Some, slice_index_or, is_some};
 ghost use Rattle.iox2_slots.specs.SlotBook.{IsInUse};
-ghost use Rattle.iox2_store.specs.machine.Environments.{fixed_handlers};
 ghost use Rattle.iox2_store.specs.machine.Sends.{more_retries};
 ghost use Rattle.iox2_store.specs.machine.SingleCalls.{HoldsBlocked};
 ghost use Rattle.iox2_store.specs.machine.State.{is_blocked};
 ghost use Rattle.iox2_ends.specs.Counters.{times, with_counters};
 ghost use Rattle.iox2_ends.specs.Receivers.{HasReclaimed};
+ghost use Rattle.iox2_domain.specs.Boxes.{answers_of};
 ghost use Rattle.iox2_domain.specs.Ports.{PublisherFields};
 ghost use Rattle.iox2_domain.specs.declared.publisher_state.BlockedDelivery.{BlockedDelivery};
 ghost use Rattle.iox2_domain.specs.Fields.{kept_of};
@@ -17,10 +17,10 @@ ghost use Rattle.iox2_messages.specs.SendEnds.{IsKept, end_result};
 
 use crate::reclaims::reclaim;
 use crate::send_end::SendEnd;
-use iox2_domain::{BlockedDelivery, DomainState, PublisherState};
+use iox2_domain::{BlockedDelivery, Boxes, DomainState, PublisherState};
 use iox2_ends::sender::{Delivery, DeliveryOutcome, Progress, deliver};
 use iox2_slots::SlotBook;
-use iox2_store::UniquePublisherId;
+use iox2_store::{BackpressureFn, UniquePublisherId};
 use std::time::Duration;
 
 // One retry more; the greatest number stays.
@@ -60,8 +60,9 @@ fn conclude_blocked(
 
 // The blocked delivery of the publisher at a place, which has reclaimed what was given back, is taken
 // up there.
-fn go_on<T: Drop, U: Default + Drop>(
+fn go_on<T: Drop, U: Default + Drop, F: BackpressureFn>(
     state: &mut DomainState<T, U>,
+    boxes: &Boxes<F>,
     place: usize,
     start: Progress,
     elapsed: Duration,
@@ -71,7 +72,7 @@ fn go_on<T: Drop, U: Default + Drop>(
     requires can { (x : PublisherFields) (b : BlockedDelivery) → slice_index_or state.old.publishers place None ≡ Some x → x.blocked ≡ Some b → CanGoOn x b start }
     requires reclaimed { (x : PublisherFields) → slice_index_or state.old.publishers place None ≡ Some x → HasReclaimed state.old.connections x.keys }
     ensures { (x : PublisherFields) (b : BlockedDelivery) → slice_index_or state.old.publishers place None ≡ Some x → x.blocked ≡ Some b
-        → GoesOn fixed_handlers state.old place x b start elapsed result state.new }
+        → GoesOn (answers_of F.allows (boxes.now).boxes) state.old place x b start elapsed result state.new }
 {
     let Some(publisher) = &mut state.publishers[place] else {
         unreachable!();
@@ -87,7 +88,7 @@ fn go_on<T: Drop, U: Default + Drop>(
         start,
         elapsed,
     };
-    let handler = publisher.handler();
+    let handler = publisher.handler(boxes);
     let outcome = deliver(
         &state.config,
         &delivery,
@@ -138,15 +139,16 @@ fn progress_behind<T: Drop, U: Default + Drop>(state: &DomainState<T, U>, place:
 /// The blocked send of the publisher at a place is tried again at the receiver that it waits for,
 /// which is asked with one retry more and with the time that is handed in. Connections aren't
 /// updated. It takes no memory.
-pub fn retry_send<T: Drop, U: Default + Drop>(
+pub fn retry_send<T: Drop, U: Default + Drop, F: BackpressureFn>(
     state: &mut DomainState<T, U>,
+    boxes: &Boxes<F>,
     place: usize,
     elapsed: Duration,
 ) -> SendEnd
     requires agrees { IsDomain state.old }
     requires waits { HasBlocked state.old place }
     ensures goes { (x : PublisherFields) (b : BlockedDelivery) → slice_index_or state.old.publishers place None ≡ Some x → x.blocked ≡ Some b
-        → RetriesAs fixed_handlers state.old state.new x b elapsed (end_result result) }
+        → RetriesAs (answers_of F.allows (boxes.now).boxes) state.old state.new x b elapsed (end_result result) }
     ensures kept { IsKept result }
 {
     reclaim(state, place);
@@ -155,24 +157,25 @@ pub fn retry_send<T: Drop, U: Default + Drop>(
         retries: more_retries(progress.retries),
         ..progress
     };
-    SendEnd::of(go_on(state, place, start, elapsed))
+    SendEnd::of(go_on(state, boxes, place, start, elapsed))
 }
 
 /// The blocked send of the publisher at a place goes on behind the receiver that it waits for, which
 /// is skipped. It takes no memory.
-pub fn give_up_send<T: Drop, U: Default + Drop>(
+pub fn give_up_send<T: Drop, U: Default + Drop, F: BackpressureFn>(
     state: &mut DomainState<T, U>,
+    boxes: &Boxes<F>,
     place: usize,
 ) -> SendEnd
     requires agrees { IsDomain state.old }
     requires waits { HasBlocked state.old place }
     ensures goes { (x : PublisherFields) (b : BlockedDelivery) → slice_index_or state.old.publishers place None ≡ Some x → x.blocked ≡ Some b
-        → GivesUpAs fixed_handlers state.old state.new x b (end_result result) }
+        → GivesUpAs (answers_of F.allows (boxes.now).boxes) state.old state.new x b (end_result result) }
     ensures kept { IsKept result }
 {
     reclaim(state, place);
     let start = progress_behind(state, place);
-    SendEnd::of(go_on(state, place, start, Duration::ZERO))
+    SendEnd::of(go_on(state, boxes, place, start, Duration::ZERO))
 }
 
 // Whether the publisher that stands at a place waits for a receiver.

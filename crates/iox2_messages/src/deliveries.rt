@@ -1,9 +1,12 @@
 //! A publisher delivers a message.
 ghost use Rattle.std.specs.Prelude.{◌≡◌, ℕ, ◌+◌, ◌<◌, ◌≤◌, ◌^◌, None, Some, length, slice_index_or};
+ghost use Rattle.std.specs.Option.{is_some};
 ghost use Rattle.iox2_slots.specs.SlotBook.{IsInUse, holders_at};
 ghost use Rattle.iox2_store.specs.machine.Environments.{fixed_handlers};
 ghost use Rattle.iox2_ends.specs.Counters.{times};
-ghost use Rattle.iox2_ends.specs.Handlers.{marks_of};
+ghost use Rattle.iox2_ends.specs.Handlers.{asked, marks_of};
+ghost use Rattle.iox2_domain.specs.Boxes.{answers_of};
+ghost use Rattle.iox2_domain.specs.Handlers.{AsksFor};
 ghost use Rattle.iox2_domain.specs.Ports.{PublisherFields};
 ghost use Rattle.iox2_domain.specs.Invariant.{IsDomain};
 ghost use Rattle.iox2_domain.specs.Deliveries.{CanSend, SendsSlot, with_delivered, with_history_holder, pushed, leaving, result_of_send, with_left, with_sent};
@@ -11,10 +14,10 @@ ghost use Rattle.iox2_ends.specs.declared.sender.DeliveryOutcome.{DeliveryOutcom
 ghost use Rattle.iox2_messages.specs.SendEnds.{IsKept, end_result};
 
 use crate::send_end::SendEnd;
-use iox2_domain::{BlockedDelivery, DomainState, NoBackpressureFn, PublisherState};
+use iox2_domain::{AskedBox, BlockedDelivery, Boxes, DomainState, PublisherState};
 use iox2_ends::sender::{Delivery, DeliveryOutcome, Progress, deliver};
 use iox2_slots::{SlotBook, SlotMark};
-use iox2_store::BackpressureHandler;
+use iox2_store::{BackpressureFn, BackpressureHandler};
 use std::time::Duration;
 
 // The loan in a slot that was delivered is out no more, or its publisher waits for a receiver, and
@@ -56,34 +59,50 @@ fn remember(publisher: &mut PublisherState, book: &mut SlotBook, slot: usize)
     }
 }
 
-// What answers for the publisher at a place at a full buffer.
+/// Whether anything answers for the publisher at a place at a full buffer.
 #[inline(always)]
-fn handler_at<T: Drop, U: Default + Drop>(
+pub(crate) fn has_handler_at<T: Drop, U: Default + Drop>(
     state: &DomainState<T, U>,
     place: usize,
-) -> Option<BackpressureHandler<NoBackpressureFn>>
+) -> bool
     requires { (x : PublisherFields) × (slice_index_or state.now.publishers place None ≡ Some x) }
-    ensures { (x : PublisherFields) → slice_index_or state.now.publishers place None ≡ Some x → marks_of result ≡ x.backpressure_handler }
+    ensures { (x : PublisherFields) → slice_index_or state.now.publishers place None ≡ Some x → result ≡ is_some x.backpressure_handler }
 {
     let Some(publisher) = &state.publishers[place] else {
         unreachable!();
     };
-    publisher.handler()
+    publisher.has_handler()
+}
+
+// What answers for the publisher at a place at a full buffer.
+fn handler_at<'a, T: Drop, U: Default + Drop, F: BackpressureFn>(
+    state: &DomainState<T, U>,
+    boxes: &'a Boxes<F>,
+    place: usize,
+) -> Option<BackpressureHandler<AskedBox<'a, F>>>
+    requires { (x : PublisherFields) × (slice_index_or state.now.publishers place None ≡ Some x) }
+    ensures marks { (x : PublisherFields) → slice_index_or state.now.publishers place None ≡ Some x → marks_of result ≡ x.backpressure_handler }
+    ensures asks { (x : PublisherFields) → slice_index_or state.now.publishers place None ≡ Some x → AsksFor x.id (boxes.now).boxes result }
+{
+    let Some(publisher) = &state.publishers[place] else {
+        unreachable!();
+    };
+    publisher.handler(boxes)
 }
 
 // Delivers the loan in a slot of the publisher at a place, for which the handler answers. Where it
 // reached all receivers it is out no more afterwards, else its publisher waits for a receiver.
 #[inline(always)]
-fn send_slot<T: Drop, U: Default + Drop>(
+fn send_slot<T: Drop, U: Default + Drop, X: BackpressureFn>(
     state: &mut DomainState<T, U>,
     place: usize,
     slot: usize,
-    handler: &Option<BackpressureHandler<NoBackpressureFn>>,
+    handler: &Option<BackpressureHandler<X>>,
 ) -> DeliveryOutcome
     requires agrees { IsDomain state.old }
     requires can { (x : PublisherFields) × (slice_index_or state.old.publishers place None ≡ Some x) × CanSend state.old x slot }
     requires handler { (x : PublisherFields) → slice_index_or state.old.publishers place None ≡ Some x → marks_of handler.now ≡ x.backpressure_handler }
-    ensures { (x : PublisherFields) → slice_index_or state.old.publishers place None ≡ Some x → SendsSlot fixed_handlers state.old place x slot result state.new }
+    ensures { (x : PublisherFields) → slice_index_or state.old.publishers place None ≡ Some x → SendsSlot (asked X.allows handler.now) state.old place x slot result state.new }
 {
     let Some(publisher) = &mut state.publishers[place] else {
         unreachable!();
@@ -112,38 +131,58 @@ fn send_slot<T: Drop, U: Default + Drop>(
 
 // Sends the loan in a slot of the publisher at a place, whatever answers for it at a full buffer.
 #[inline(never)]
-fn send_by_handler<T: Drop, U: Default + Drop>(
+fn send_by_handler<T: Drop, U: Default + Drop, F: BackpressureFn>(
     state: &mut DomainState<T, U>,
+    boxes: &Boxes<F>,
     place: usize,
     slot: usize,
 ) -> SendEnd
     requires agrees { IsDomain state.old }
     requires can { (x : PublisherFields) × (slice_index_or state.old.publishers place None ≡ Some x) × CanSend state.old x slot }
     ensures sends { (outcome : DeliveryOutcome) × (end_result result ≡ result_of_send outcome)
-        × ((x : PublisherFields) → slice_index_or state.old.publishers place None ≡ Some x → SendsSlot fixed_handlers state.old place x slot outcome state.new) }
+        × ((x : PublisherFields) → slice_index_or state.old.publishers place None ≡ Some x → SendsSlot (answers_of F.allows (boxes.now).boxes) state.old place x slot outcome state.new) }
     ensures kept { IsKept result }
 {
-    let handler = handler_at(state, place);
+    let handler = handler_at(state, boxes, place);
     SendEnd::of(send_slot(state, place, slot, &handler))
 }
 
-/// Delivers the loan in a slot of the publisher at a place. Where it reached all receivers it is out
-/// no more afterwards, else its publisher waits for a receiver. Of a publisher without a handler
-/// nothing of one is on the path of the message.
+/// Delivers the loan in a slot of the publisher at a place, which has no handler. Where it reached
+/// all receivers it is out no more afterwards, else its publisher waits for a receiver. Nothing of a
+/// handler is on the path of the message.
 #[inline(always)]
-pub(crate) fn send_ready<T: Drop, U: Default + Drop>(
+pub(crate) fn send_unasked<T: Drop, U: Default + Drop>(
     state: &mut DomainState<T, U>,
     place: usize,
     slot: usize,
 ) -> SendEnd
     requires agrees { IsDomain state.old }
     requires can { (x : PublisherFields) × (slice_index_or state.old.publishers place None ≡ Some x) × CanSend state.old x slot }
+    requires unasked { (x : PublisherFields) → slice_index_or state.old.publishers place None ≡ Some x → None ≡ x.backpressure_handler }
     ensures sends { (outcome : DeliveryOutcome) × (end_result result ≡ result_of_send outcome)
         × ((x : PublisherFields) → slice_index_or state.old.publishers place None ≡ Some x → SendsSlot fixed_handlers state.old place x slot outcome state.new) }
     ensures kept { IsKept result }
 {
-    match handler_at(state, place) {
-        Some(_) => send_by_handler(state, place, slot),
-        None => SendEnd::of(send_slot(state, place, slot, &None)),
+    SendEnd::of(send_slot(state, place, slot, &None::<BackpressureHandler>))
+}
+
+/// The same, whether the publisher has a handler or not. A box is among these boxes.
+#[inline(always)]
+pub(crate) fn send_ready<T: Drop, U: Default + Drop, F: BackpressureFn>(
+    state: &mut DomainState<T, U>,
+    boxes: &Boxes<F>,
+    place: usize,
+    slot: usize,
+) -> SendEnd
+    requires agrees { IsDomain state.old }
+    requires can { (x : PublisherFields) × (slice_index_or state.old.publishers place None ≡ Some x) × CanSend state.old x slot }
+    ensures sends { (outcome : DeliveryOutcome) × (end_result result ≡ result_of_send outcome)
+        × ((x : PublisherFields) → slice_index_or state.old.publishers place None ≡ Some x → SendsSlot (answers_of F.allows (boxes.now).boxes) state.old place x slot outcome state.new) }
+    ensures kept { IsKept result }
+{
+    if has_handler_at(state, place) {
+        send_by_handler(state, boxes, place, slot)
+    } else {
+        send_unasked(state, place, slot)
     }
 }

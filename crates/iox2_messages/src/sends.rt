@@ -2,6 +2,7 @@
 ghost use Rattle.std.specs.Prelude.{◌≡◌, IsTrue, MatchOption, false};
 ghost use Rattle.iox2_store.specs.machine.Environments.{fixed_handlers};
 ghost use Rattle.iox2_store.specs.machine.SingleCalls.{HoldsPublisher};
+ghost use Rattle.iox2_domain.specs.Boxes.{answers_of};
 ghost use Rattle.iox2_domain.specs.Kept.{state_of};
 ghost use Rattle.iox2_domain.specs.Fields.{kept_of};
 ghost use Rattle.iox2_domain.specs.Invariant.{IsDomain};
@@ -10,10 +11,10 @@ ghost use Rattle.iox2_domain.specs.SentLoans.{IsLeftLoan, IsReadyToSend, SendsLo
 ghost use Rattle.iox2_store.specs.machine.State.{is_blocked};
 ghost use Rattle.iox2_messages.specs.SendEnds.{IsKept, end_result};
 
-use crate::deliveries::send_ready;
+use crate::deliveries::{has_handler_at, send_ready, send_unasked};
 use crate::send_end::SendEnd;
-use iox2_domain::{DomainState, LoanAt};
-use iox2_store::UniquePublisherId;
+use iox2_domain::{Boxes, DomainState, LoanAt};
+use iox2_store::{BackpressureFn, UniquePublisherId};
 use iox2_updates::update_publisher;
 
 // Whether the loan lies where its handle says, and its publisher is due for no update.
@@ -63,15 +64,16 @@ fn update_and_find<T: Drop, U: Default + Drop>(
 // Updates the publisher of a loan, where it is due, and sends the loan, wherever both are. Of a
 // publisher that is gone the loan is lost.
 #[inline(never)]
-fn update_and_send<T: Drop, U: Default + Drop>(
+fn update_and_send<T: Drop, U: Default + Drop, F: BackpressureFn>(
     state: &mut DomainState<T, U>,
+    boxes: &Boxes<F>,
     publisher: UniquePublisherId,
     number: u128,
 ) -> SendEnd
     requires agrees { IsDomain state.old }
     requires live { HoldsWritten (state_of (kept_of state.old)) publisher number }
     requires unblocked { is_blocked (state_of (kept_of state.old)) publisher ≡ false }
-    ensures sends { SendsLoan fixed_handlers state.old state.new number (end_result result) }
+    ensures sends { SendsLoan (answers_of F.allows (boxes.now).boxes) state.old state.new number (end_result result) }
     ensures kept { HoldsPublisher (state_of (kept_of state.old)) publisher → IsKept result }
 {
     let Some(ready) = update_and_find(state, publisher, number) else {
@@ -79,24 +81,31 @@ fn update_and_send<T: Drop, U: Default + Drop>(
         state.let_go(at.book, at.slot);
         return SendEnd::Lost;
     };
-    send_ready(state, ready.place, ready.slot)
+    send_ready(state, boxes, ready.place, ready.slot)
 }
 
 /// Sends a publisher's written loan to its receivers, and returns how that ended. The publisher's
 /// connections are updated first. Where memory for a connection is refused, that is a warning. Of a
 /// publisher that is gone the loan is lost. The loan is out no more afterwards, unless the send is
-/// blocked.
+/// blocked. A publisher that has a box for a handler asks the one that it has among these boxes.
+///
+/// The boxes are handed on in one call alone, so that where they lie isn't on the path of a message
+/// of a publisher without a handler.
 ///
 /// iceoryx2's `PublisherSharedState::send_sample` (`src/port/publisher.rs`).
-pub fn send_loan<T: Drop, U: Default + Drop>(state: &mut DomainState<T, U>, loan: LoanAt) -> SendEnd
+pub fn send_loan<T: Drop, U: Default + Drop, F: BackpressureFn>(
+    state: &mut DomainState<T, U>,
+    boxes: &Boxes<F>,
+    loan: LoanAt,
+) -> SendEnd
     requires agrees { IsDomain state.old }
     requires live { HoldsWritten (state_of (kept_of state.old)) loan.publisher loan.number }
     requires unblocked { is_blocked (state_of (kept_of state.old)) loan.publisher ≡ false }
-    ensures sends { SendsLoan fixed_handlers state.old state.new loan.number (end_result result) }
+    ensures sends { SendsLoan (answers_of F.allows (boxes.now).boxes) state.old state.new loan.number (end_result result) }
     ensures kept { HoldsPublisher (state_of (kept_of state.old)) loan.publisher → IsKept result }
 {
-    if is_ready(state, &loan) {
-        return send_ready(state, loan.place, loan.slot);
+    if is_ready(state, &loan) && !has_handler_at(state, loan.place) {
+        return send_unasked(state, loan.place, loan.slot);
     }
-    update_and_send(state, loan.publisher, loan.number)
+    update_and_send(state, boxes, loan.publisher, loan.number)
 }

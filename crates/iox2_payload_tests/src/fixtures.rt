@@ -9,8 +9,8 @@ use iox2_store::BackpressureStrategy;
 pub(crate) fn slice_factory<T: Drop, U: Default + Drop>(
     domain: &Domain<T, U>,
 ) -> slice::PortFactoryPublisher
-    ensures strategy { result.backpressure_strategy ≡ BackpressureStrategy.DiscardData }
-    ensures handler { result.backpressure_handler ≡ None }
+    ensures strategy { result.settings.backpressure_strategy ≡ BackpressureStrategy.DiscardData }
+    ensures handler { result.settings.backpressure_handler ≡ None }
 {
     domain
         .slice_publisher_builder()

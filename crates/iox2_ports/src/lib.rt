@@ -5,6 +5,7 @@
 #![tactic(auto)]
 
 mod closes;
+mod given_handlers;
 mod publisher_closes;
 mod publisher_entry;
 mod segments;

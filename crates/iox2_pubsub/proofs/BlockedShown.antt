@@ -4,9 +4,8 @@ use Rattle.std.proofs.lemmas.Option.{same_Some}
 use Rattle.std.specs.Option.{option_map}
 use Rattle.std.specs.declared.time.Duration.{Duration}
 use Rattle.std.specs.Prelude.{slice_index_or}
-use Rattle.iox2_store.specs.machine.Environments.{fixed_handlers}
 use Rattle.iox2_store.specs.machine.Mailbox.{is_borrowed}
-use Rattle.iox2_store.specs.machine.Records.{Entry, Loan, Publisher, BlockedSend}
+use Rattle.iox2_store.specs.machine.Records.{Entry, Environment, Loan, Publisher, BlockedSend}
 use Rattle.iox2_store.specs.machine.Sends.{Retry, GiveUp, SendResult, Blocked_send, Delivered_to, Send_error}
 use Rattle.iox2_store.specs.machine.SingleCalls.{HoldsBlocked}
 use Rattle.iox2_store.specs.machine.State.{State, Messages}
@@ -121,25 +120,25 @@ module _ {T U F : Type 0} {boxes : List (PortBox F)} (f g : Fields T U) (kept : 
   spared : IsSpared (A_blocked_send p) p
   spared other = other refl
 
-  module _ (x : Publisher) (b : BlockedSend) (at : s.publishers p ≡ Some x) (has : x.blocked ≡ Some b) (elapsed : Duration) (agrees : IsDomain g) (h : Retry fixed_handlers s p b elapsed (state_of (kept_of g)) result)
+  module _ (environment : Environment) (x : Publisher) (b : BlockedSend) (at : s.publishers p ≡ Some x) (has : x.blocked ≡ Some b) (elapsed : Duration) (agrees : IsDomain g) (h : Retry environment s p b elapsed (state_of (kept_of g)) result)
       (entries : (k : ℕ) (entry : Entry T U) → entries_of (kept_of g) k ≡ Some entry → entries_of (kept_of f) k ≡ Some entry) where
     pub retry-shown : Shows (kept_of g) m (state_of (kept_of g))
-    retry-shown = goes-shown agrees (retry_advances fixed_handlers s p b elapsed _ result h) (retry_loans fixed_handlers s p b elapsed _ result h) entries
+    retry-shown = goes-shown agrees (retry_advances environment s p b elapsed _ result h) (retry_loans environment s p b elapsed _ result h) entries
 
     pub retry-stays : StaysBut (A_blocked_send p) kept (keeping boxes g)
-    retry-stays = goes-stays retry-shown (retry_remains fixed_handlers s p b elapsed _ result h) (retry_loans fixed_handlers s p b elapsed _ result h)
-        (retry_waits (IsSpared (A_blocked_send p)) p spared fixed_handlers s b elapsed _ result h)
-        (spared-on x b at has (λ mild none. (retry-unfailed fixed_handlers s p b elapsed _ result mild none h).0))
+    retry-stays = goes-stays retry-shown (retry_remains environment s p b elapsed _ result h) (retry_loans environment s p b elapsed _ result h)
+        (retry_waits (IsSpared (A_blocked_send p)) p spared environment s b elapsed _ result h)
+        (spared-on x b at has (λ mild none. (retry-unfailed environment s p b elapsed _ result mild none h).0))
 
-  module _ (x : Publisher) (b : BlockedSend) (at : s.publishers p ≡ Some x) (has : x.blocked ≡ Some b) (agrees : IsDomain g) (h : GiveUp fixed_handlers s p b (state_of (kept_of g)) result)
+  module _ (environment : Environment) (x : Publisher) (b : BlockedSend) (at : s.publishers p ≡ Some x) (has : x.blocked ≡ Some b) (agrees : IsDomain g) (h : GiveUp environment s p b (state_of (kept_of g)) result)
       (entries : (k : ℕ) (entry : Entry T U) → entries_of (kept_of g) k ≡ Some entry → entries_of (kept_of f) k ≡ Some entry) where
     pub give-up-shown : Shows (kept_of g) m (state_of (kept_of g))
-    give-up-shown = goes-shown agrees (give_up_advances fixed_handlers s p b _ result h) (give_up_loans fixed_handlers s p b _ result h) entries
+    give-up-shown = goes-shown agrees (give_up_advances environment s p b _ result h) (give_up_loans environment s p b _ result h) entries
 
     pub give-up-stays : StaysBut (A_blocked_send p) kept (keeping boxes g)
-    give-up-stays = goes-stays give-up-shown (give_up_remains fixed_handlers s p b _ result h) (give_up_loans fixed_handlers s p b _ result h)
-        (give_up_waits (IsSpared (A_blocked_send p)) p spared fixed_handlers s b _ result h)
-        (spared-on x b at has (λ mild none. (give-up-unfailed fixed_handlers s p b _ result mild none h).0))
+    give-up-stays = goes-stays give-up-shown (give_up_remains environment s p b _ result h) (give_up_loans environment s p b _ result h)
+        (give_up_waits (IsSpared (A_blocked_send p)) p spared environment s b _ result h)
+        (spared-on x b at has (λ mild none. (give-up-unfailed environment s p b _ result mild none h).0))
 
 -- ---- a send that isn't blocked again has freed its publisher
 
@@ -152,11 +151,11 @@ module _ {T U F : Type 0} (new : Kept T U F) (m : Messages T U) (s s' : State T 
       unblocked-free new key (subst (λ (t : State T U). IsFree t key.port) shown.state (subst (IsFree s') (sym its)
       ((shown.well_formed.publishers p there.0 there.1).is_known, frees)))
 
-  pub retry-frees-key : (elapsed : Duration) → Retry fixed_handlers s p b elapsed s' result → (key : Key) → key.port ≡ p → IsUnblocked new key
-  retry-frees-key elapsed h = freed (retry_remains fixed_handlers s p b elapsed s' result h) (retry_frees fixed_handlers s p b elapsed s' result free h)
+  pub retry-frees-key : (environment : Environment) (elapsed : Duration) → Retry environment s p b elapsed s' result → (key : Key) → key.port ≡ p → IsUnblocked new key
+  retry-frees-key environment elapsed h = freed (retry_remains environment s p b elapsed s' result h) (retry_frees environment s p b elapsed s' result free h)
 
-  pub give-up-frees-key : GiveUp fixed_handlers s p b s' result → (key : Key) → key.port ≡ p → IsUnblocked new key
-  give-up-frees-key h = freed (give_up_remains fixed_handlers s p b s' result h) (give_up_frees fixed_handlers s p b s' result free h)
+  pub give-up-frees-key : (environment : Environment) → GiveUp environment s p b s' result → (key : Key) → key.port ≡ p → IsUnblocked new key
+  give-up-frees-key environment h = freed (give_up_remains environment s p b s' result h) (give_up_frees environment s p b s' result free h)
 
 -- the one error is that of a handler
 pub only-undelivered : (end : SendEnd) → IsKept end → (result : Result SendOutcome SendError) → result_of_send result ≡ end_result end → IfErr result (λ error. error ≡ UnableToDeliver)

@@ -2,7 +2,7 @@
 use Rattle.std.proofs.Common.{◌≡◌, Bool, ℕ, ◌<◌, List, [], refl, true, false, sym, ap, subst, ◌∙◌, Option, None, Some, Result, Ok, Err, inl, inr, arith}
 use Rattle.std.specs.Prelude.{◌≢◌}
 use Rattle.std.proofs.lemmas.Bool.{cases_eq, ne_eqb, true≢false}
-use Rattle.iox2_store.specs.machine.Environments.{ample_memory, fixed_handlers}
+use Rattle.iox2_store.specs.machine.Environments.{ample_memory}
 use Rattle.iox2_store.specs.machine.Loans.{entry_of}
 use Rattle.iox2_store.specs.machine.Mailbox.{is_borrowed}
 use Rattle.iox2_store.specs.machine.Numbers.{put_at, contains}
@@ -52,6 +52,16 @@ use Rattle.iox2_pubsub.proofs.UnfailedSends.{IsMild, HasNotFailed, blocked-unfai
 -- a domain shows some state
 pub always-shown : {T U F : Type 0} {boxes : List (PortBox F)} (f : Fields T U) (kept : Kept T U F) → IsDomain f → keeping boxes f ≡ kept → (m : Messages T U) × (s : State T U) × Shows kept m s
 always-shown {T} {U} {F} f kept sound view = (entries_of (kept_of f), state_of (kept_of f), subst (λ (k : Kept T U F). Shows k (entries_of (kept_of f)) (state_of (kept_of f))) view (shows_itself f sound))
+
+-- the next id is that of no publisher that is there
+pub apart-from-next : {T U F : Type 0} {boxes : List (PortBox F)} (f : Fields T U) (kept : Kept T U F) → IsDomain f → keeping boxes f ≡ kept → (key : Key) → IsPublisherKey kept key
+    → key.port ≢ f.next_port
+apart-from-next {T} {U} {F} f kept sound view key live same =
+    let it = always-shown f kept sound view in
+    let has = (publisher-parts kept key live).2 in
+    let known : key.port < (it.1).next_port = ((it.2).well_formed.publishers key.port has.0 (ap (λ (t : State T U). t.publishers key.port) (it.2).state ∙ has.1)).is_known in
+    let next : (it.1).next_port ≡ f.next_port = ap (λ (t : State T U). t.next_port) (it.2).state ∙ ap (λ (k : Kept T U F). k.next_port) (sym view) in
+    omega arith
 
 -- two publishers whose messages with one number are borrowed are one
 one-origin : {T U F : Type 0} (kept : Kept T U F) (m : Messages T U) (s : State T U) → Shows kept m s → (p p' q q' n : ℕ)
@@ -190,10 +200,10 @@ module _ {T U F : Type 0} (old new : Kept T U F) (m : Messages T U) (s : State T
       (λ i j k at _. same_borrowed s s' stay i j k ∙ at) (loan_set_waits (IsSpared (A_loan n)) s n (Some l)) (none-spared _ old s s' (λ _. tt)) boxes
 
   -- a send leaves what is borrowed and the ports, and each publisher but its own waits as it did
-  module _ (n : ℕ) (l : Loan T U) (out : s.loans n ≡ Some l) (result : SendResult) (s' : State T U) (h : Send fixed_handlers s n l s' result) where
+  module _ (environment : Environment) (n : ℕ) (l : Loan T U) (out : s.loans n ≡ Some l) (result : SendResult) (s' : State T U) (h : Send environment s n l s' result) where
     sent-remain : (spent : Item) → PortsRemainBut spent s s'
     sent-remain spent =
-        let remain = send_remains fixed_handlers s n l s' result h in
+        let remain = send_remains environment s n l s' result h in
         record {
           config = remain.config;
           publishers = λ p x here _. remain.publishers p x here;
@@ -202,12 +212,12 @@ module _ {T U F : Type 0} (old new : Kept T U F) (m : Messages T U) (s : State T
 
     sent-borrowed : (spent : Item) → SamplesStayBut spent s s'
     sent-borrowed spent p q k at other =
-        ap (λ (ns : List ℕ). is_borrowed k (record { waiting = []; borrowed = ns })) ((send_remains fixed_handlers s n l s' result h).borrowed p q) ∙ at
+        ap (λ (ns : List ℕ). is_borrowed k (record { waiting = []; borrowed = ns })) ((send_remains environment s n l s' result h).borrowed p q) ∙ at
 
     -- where it isn't blocked, so does its own
     unblocked-waits : (Spared : ℕ → Type 0) → (result ≡ Blocked_send → ⊥) → ((x : Publisher) → s.publishers l.publisher ≡ Some x → x.blocked ≡ None) → Waits Spared s s'
     unblocked-waits Spared ends free =
-        let mine = send_spared (λ (q : ℕ). q ≡ l.publisher) fixed_handlers s n l refl s' result h in
+        let mine = send_spared (λ (q : ℕ). q ≡ l.publisher) environment s n l refl s' result h in
         record {
           next_port = mine.next_port;
           publishers = λ p x' low at.
@@ -221,7 +231,7 @@ module _ {T U F : Type 0} (old new : Kept T U F) (m : Messages T U) (s : State T
                     | inr away ↦ was.2.blocked away
                     | inl same ↦
                         let none : (was.0).blocked ≡ None = free was.0 (ap s.publishers (sym same) ∙ was.1) in
-                        let there = ((send_stays fixed_handlers s n l s' result h ends).remain).publishers p was.0 was.1 in
+                        let there = ((send_stays environment s n l s' result h ends).remain).publishers p was.0 was.1 in
                         let both : Some x' ≡ Some there.0 = sym at ∙ there.1 in
                         let is : x' ≡ there.0 = cc in
                         ap (λ (x : Publisher). x.blocked) is ∙ there.2 none ∙ sym none
@@ -234,7 +244,7 @@ module _ {T U F : Type 0} (old new : Kept T U F) (m : Messages T U) (s : State T
     sent-keeps : (spent : Item) → BoxesStayBut spent old new → ((k : ℕ) → IsOtherLoan spent k → k ≢ n) → Waits (IsSpared spent) s s' → SparedPublishers spent old s s' → (m' : Messages T U) → Shows new m' s' → ((k : ℕ) (entry : Entry T U) → m k ≡ Some entry → m' k ≡ Some entry)
         → StaysBut spent old new
     sent-keeps spent boxes others waits goes-on m' shown' sent =
-        let loans : s'.loans ≡ put_at s.loans n None = send_loans fixed_handlers s n l s' result h in
+        let loans : s'.loans ≡ put_at s.loans n None = send_loans environment s n l s' result h in
         stays-between spent old new m m' s s' shown shown' sent (sent-remain spent)
         (λ k loan at other. ap (λ (f : ℕ → Option (Loan T U)). f k) loans ∙ put_at-other s.loans n None k (ne_eqb k n (others k other)) ∙ at)
         (sent-borrowed spent) waits goes-on boxes
@@ -245,34 +255,34 @@ module _ {T U F : Type 0} (old new : Kept T U F) (m : Messages T U) (s : State T
         let clash : None ≡ Some other = sym (shown.unsent n l out) ∙ ap m (sym e) ∙ at in absurd cc)) ∙ at
 
   -- a send that may fail, or be blocked
-  pub sent-stays : (loan : SampleMut) (l : Loan T U) → s.loans loan.loan.number ≡ Some l → l.publisher ≡ loan.loan.publisher → ((x : Publisher) → s.publishers l.publisher ≡ Some x → x.blocked ≡ None)
+  pub sent-stays : (environment : Environment) (loan : SampleMut) (l : Loan T U) → s.loans loan.loan.number ≡ Some l → l.publisher ≡ loan.loan.publisher → ((x : Publisher) → s.publishers l.publisher ≡ Some x → x.blocked ≡ None)
       → (result : Result SendOutcome SendError) (s' : State T U) → Shows new (messages_after m loan.loan.number l result) s'
-      → Sends s loan.loan.number l result s' → BoxesStayBut (spent_by_send loan result) old new → StaysBut (spent_by_send loan result) old new
-  sent-stays loan l out its free (Ok (Delivered count)) s' shown' h boxes =
-      sent-keeps loan.loan.number l out (Delivered_to count) s' h (A_sent_loan loan.loan.number loan.loan.publisher false) boxes (λ k other. other)
-      (unblocked-waits loan.loan.number l out (Delivered_to count) s' h (IsSpared (A_sent_loan loan.loan.number loan.loan.publisher false)) (λ e. let clash : Delivered_to count ≡ Blocked_send = e in cc) free) (none-spared _ old s s' (λ _. tt))
-      _ shown' (λ k entry at. sent-before loan.loan.number l out (Delivered_to count) s' h k (entry_of l) entry at)
-  sent-stays loan l out its free (Ok (Blocked blocked)) s' shown' h boxes =
-      sent-keeps loan.loan.number l out Blocked_send s' h (A_sent_loan loan.loan.number loan.loan.publisher true) boxes (λ k other. other)
-      (send_spared (IsSpared (A_sent_loan loan.loan.number loan.loan.publisher true)) fixed_handlers s loan.loan.number l (λ other. other its) s' Blocked_send h)
+      → Sends environment s loan.loan.number l result s' → BoxesStayBut (spent_by_send loan result) old new → StaysBut (spent_by_send loan result) old new
+  sent-stays environment loan l out its free (Ok (Delivered count)) s' shown' h boxes =
+      sent-keeps environment loan.loan.number l out (Delivered_to count) s' h (A_sent_loan loan.loan.number loan.loan.publisher false) boxes (λ k other. other)
+      (unblocked-waits environment loan.loan.number l out (Delivered_to count) s' h (IsSpared (A_sent_loan loan.loan.number loan.loan.publisher false)) (λ e. let clash : Delivered_to count ≡ Blocked_send = e in cc) free) (none-spared _ old s s' (λ _. tt))
+      _ shown' (λ k entry at. sent-before environment loan.loan.number l out (Delivered_to count) s' h k (entry_of l) entry at)
+  sent-stays environment loan l out its free (Ok (Blocked blocked)) s' shown' h boxes =
+      sent-keeps environment loan.loan.number l out Blocked_send s' h (A_sent_loan loan.loan.number loan.loan.publisher true) boxes (λ k other. other)
+      (send_spared (IsSpared (A_sent_loan loan.loan.number loan.loan.publisher true)) environment s loan.loan.number l (λ other. other its) s' Blocked_send h)
       (record {
         unfailed = λ p spared low mild none. elim (cases_eq p loan.loan.publisher) [
           | inr away ↦ absurd (spared away)
           | inl same ↦
               let is : p ≡ l.publisher = same ∙ sym its in
-              subst (HasNotFailed s') (sym is) (blocked-unfailed fixed_handlers s loan.loan.number l s' (subst (λ (q : ℕ). q < s.next_port) is low) (subst (IsMild s) is mild) h)
+              subst (HasNotFailed s') (sym is) (blocked-unfailed environment s loan.loan.number l s' (subst (λ (q : ℕ). q < s.next_port) is low) (subst (IsMild s) is mild) h)
         ];
         waits = λ key spared never. elim (cases_eq key.port loan.loan.publisher) [
           | inr away ↦ absurd (spared away)
-          | inl same ↦ never-waits-send old key m s shown never loan.loan.number l out (same ∙ sym its) s' h
+          | inl same ↦ never-waits-send environment old key m s shown never loan.loan.number l out (same ∙ sym its) s' h
         ];
       })
-      _ shown' (λ k entry at. sent-before loan.loan.number l out Blocked_send s' h k (entry_of l) entry at)
-  sent-stays loan l out its free (Err error) s' shown' h boxes =
-      sent-keeps loan.loan.number l out (Send_error error) s' h (A_sent_loan loan.loan.number loan.loan.publisher false) boxes (λ k other. other)
-      (unblocked-waits loan.loan.number l out (Send_error error) s' h (IsSpared (A_sent_loan loan.loan.number loan.loan.publisher false)) (λ e. let clash : Send_error error ≡ Blocked_send = e in cc) free) (none-spared _ old s s' (λ _. tt))
+      _ shown' (λ k entry at. sent-before environment loan.loan.number l out Blocked_send s' h k (entry_of l) entry at)
+  sent-stays environment loan l out its free (Err error) s' shown' h boxes =
+      sent-keeps environment loan.loan.number l out (Send_error error) s' h (A_sent_loan loan.loan.number loan.loan.publisher false) boxes (λ k other. other)
+      (unblocked-waits environment loan.loan.number l out (Send_error error) s' h (IsSpared (A_sent_loan loan.loan.number loan.loan.publisher false)) (λ e. let clash : Send_error error ≡ Blocked_send = e in cc) free) (none-spared _ old s s' (λ _. tt))
       _ shown' (λ k entry at. elim (after-error m loan.loan.number l error) [
-        | inl sent ↦ ap (λ (f : Messages T U). f k) sent.1 ∙ sent-before loan.loan.number l out (Send_error error) s' h k (entry_of l) entry at
+        | inl sent ↦ ap (λ (f : Messages T U). f k) sent.1 ∙ sent-before environment loan.loan.number l out (Send_error error) s' h k (entry_of l) entry at
         | inr lost ↦ ap (λ (f : Messages T U). f k) lost.1 ∙ at
       ])
 

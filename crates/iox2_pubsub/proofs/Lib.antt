@@ -35,4 +35,5 @@ pub mod LoansLeftShown
 pub mod SureLoans
 pub mod KeptCounts
 pub mod BlockedShown
+pub mod BoxesAlike
 pub mod ReceiversAhead

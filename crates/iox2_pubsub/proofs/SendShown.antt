@@ -6,7 +6,6 @@ use Rattle.std.specs.declared.option.Option.TheVariants.{None, Some}
 use Rattle.iox2_store.specs.machine.Loans.{entry_of}
 use Rattle.iox2_store.specs.machine.Numbers.{put_at}
 use Rattle.iox2_store.specs.machine.Records.{Entry, Loan, Publisher, Environment}
-use Rattle.iox2_store.specs.machine.Environments.{fixed_handlers}
 use Rattle.iox2_store.specs.machine.Sends.{SendResult, Send, ConcludeSend, Send_error, Blocked_send, Delivered_to, published, with_mailboxes}
 use Rattle.iox2_store.specs.machine.SingleCalls.{HoldsPublisher}
 use Rattle.iox2_store.specs.declared.errors.SendError.{SendError}
@@ -133,10 +132,10 @@ only-ok SendEnd.Blocked kept unfailed (Err error) is = let clash : Send_error er
 only-ok SendEnd.Lost kept unfailed (Err error) is = absurd kept
 
 -- a send of a loan whose publisher's handler fails none
-pub never-fails-here : {T U F : Type 0} {boxes : List (PortBox F)} (old : Kept T U F) (f g : Fields T U) → keeping boxes f ≡ old → (n p : ℕ) → NeverFails old p → (result : SendResult) (sends : SendsLoan fixed_handlers f g n result)
+pub never-fails-here : {T U F : Type 0} {boxes : List (PortBox F)} (environment : Environment) (old : Kept T U F) (f g : Fields T U) → keeping boxes f ≡ old → (n p : ℕ) → NeverFails old p → (result : SendResult) (sends : SendsLoan environment f g n result)
     → (sends.loan).publisher ≡ p → result ≡ Send_error UnableToDeliver → ⊥
-never-fails-here {T} {U} {F} old f g same n p never result sends its = elim (unfailed-parts old p never).1 [
-  | inl over ↦ (overflowing-send fixed_handlers (state_of (kept_of f)) n sends.loan (state_of (kept_of g)) result (ap (λ (k : Kept T U F). (k.config).enable_safe_overflow) same ∙ over) sends.sends).1
+never-fails-here {T} {U} {F} environment old f g same n p never result sends its = elim (unfailed-parts old p never).1 [
+  | inl over ↦ (overflowing-send environment (state_of (kept_of f)) n sends.loan (state_of (kept_of g)) result (ap (λ (k : Kept T U F). (k.config).enable_safe_overflow) same ∙ over) sends.sends).1
   | inr mild ↦ sends.unfailed (λ x at. mild x (ap (λ (k : Kept T U F). (state_of k).publishers p) (sym same) ∙ ap (state_of (kept_of f)).publishers (sym its) ∙ at))
 ]
 
@@ -149,22 +148,22 @@ handler-error SendEnd.Blocked kept (Err error) is = let clash : Send_error error
 handler-error SendEnd.Lost kept (Err error) is = absurd kept
 
 -- and else that it is gone
-pub either-error : {T U : Type 0} (f g : Fields T U) (n p : ℕ) (end : SendEnd) → (HoldsPublisher (state_of (kept_of f)) p → IsKept end)
-    → (sends : SendsLoan fixed_handlers f g n (end_result end)) → sends.loan.publisher ≡ p
+pub either-error : {T U : Type 0} (environment : Environment) (f g : Fields T U) (n p : ℕ) (end : SendEnd) → (HoldsPublisher (state_of (kept_of f)) p → IsKept end)
+    → (sends : SendsLoan environment f g n (end_result end)) → sends.loan.publisher ≡ p
     → (outcome : Result SendOutcome SendError) → result_of_send outcome ≡ end_result end → IfErr outcome (λ error. (error ≡ ConnectionBrokenSinceSenderNoLongerExists) ⊎ (error ≡ UnableToDeliver))
-either-error {T} {U} f g n p end kept sends its (Ok delivered) is = tt
-either-error {T} {U} f g n p end kept sends its (Err error) is =
+either-error {T} {U} environment f g n p end kept sends its (Ok delivered) is = tt
+either-error {T} {U} environment f g n p end kept sends its (Err error) is =
     by_option ((error ≡ ConnectionBrokenSinceSenderNoLongerExists) ⊎ (error ≡ UnableToDeliver)) ((state_of (kept_of f)).publishers sends.loan.publisher) _ _ sends.sends
     (λ _ gone. inl (let same : Send_error error ≡ Send_error ConnectionBrokenSinceSenderNoLongerExists = is ∙ gone.1 in cc))
     (λ x there _. inr (handler-error end (kept (x, ap (state_of (kept_of f)).publishers (sym its) ∙ there)) (Err error) is))
 
 -- a send whose publisher is there, and whose handler fails none, succeeds, and so each error is that it is gone
-pub only-error : {T U : Type 0} (f g : Fields T U) (n p : ℕ) (end : SendEnd) → (HoldsPublisher (state_of (kept_of f)) p → IsKept end)
-    → (sends : SendsLoan fixed_handlers f g n (end_result end)) → sends.loan.publisher ≡ p
+pub only-error : {T U : Type 0} (environment : Environment) (f g : Fields T U) (n p : ℕ) (end : SendEnd) → (HoldsPublisher (state_of (kept_of f)) p → IsKept end)
+    → (sends : SendsLoan environment f g n (end_result end)) → sends.loan.publisher ≡ p
     → (end_result end ≡ Send_error UnableToDeliver → ⊥)
     → (outcome : Result SendOutcome SendError) → result_of_send outcome ≡ end_result end → IfErr outcome (λ error. error ≡ ConnectionBrokenSinceSenderNoLongerExists)
-only-error {T} {U} f g n p end kept sends its never (Ok delivered) is = tt
-only-error {T} {U} f g n p end kept sends its never (Err error) is =
+only-error {T} {U} environment f g n p end kept sends its never (Ok delivered) is = tt
+only-error {T} {U} environment f g n p end kept sends its never (Err error) is =
     by_option (error ≡ ConnectionBrokenSinceSenderNoLongerExists) ((state_of (kept_of f)).publishers sends.loan.publisher) _ _ sends.sends
     (λ _ gone. let same : Send_error error ≡ Send_error ConnectionBrokenSinceSenderNoLongerExists = is ∙ gone.1 in cc)
     (λ x there _. absurd (let no : false ≡ true = only-ok end (kept (x, ap (state_of (kept_of f)).publishers (sym its) ∙ there)) never (Err error) is in cc))
@@ -230,13 +229,13 @@ whose-blocked kept key id its (Ok (Blocked it)) is = ap (λ (k : Key). A_blocked
 whose-blocked kept key id its (Err error) is = tt
 
 -- nor does one that never waits
-pub never-waits-send : {T U F : Type 0} (old : Kept T U F) (key : Key) (m : Messages T U) (s : State T U) → Shows old m s → NeverWaits old key → (n : ℕ) (l : Loan T U) → s.loans n ≡ Some l
-    → key.port ≡ l.publisher → (s' : State T U) → Send fixed_handlers s n l s' Blocked_send → ⊥
-never-waits-send {T} {U} old key m s shown never n l out its s' h = elim (passes-parts old key never.passes).1 [
+pub never-waits-send : {T U F : Type 0} (environment : Environment) (old : Kept T U F) (key : Key) (m : Messages T U) (s : State T U) → Shows old m s → NeverWaits old key → (n : ℕ) (l : Loan T U) → s.loans n ≡ Some l
+    → key.port ≡ l.publisher → (s' : State T U) → Send environment s n l s' Blocked_send → ⊥
+never-waits-send {T} {U} environment old key m s shown never n l out its s' h = elim (passes-parts old key never.passes).1 [
   | inl over ↦
-      (overflowing-send fixed_handlers s n l s' Blocked_send (ap (λ (t : State T U). (t.config).enable_safe_overflow) shown.state ∙ over) h).0 refl
+      (overflowing-send environment s n l s' Blocked_send (ap (λ (t : State T U). (t.config).enable_safe_overflow) shown.state ∙ over) h).0 refl
   | inr past ↦
-      never-blocked fixed_handlers s n l s' (shown.well_formed.loans n l out).known
+      never-blocked environment s n l s' (shown.well_formed.loans n l out).known
       (λ x at. past x (sym (ap (λ (t : State T U). t.publishers key.port) shown.state) ∙ ap s.publishers its ∙ at)) h
 ]
 

@@ -65,6 +65,12 @@ module _ {T U F : Type 0} where
   unfolding handler_box
   other-boxes f g kept view same = record { at = λ key live other. same key.port other ∙ ap (λ (k : Kept T U F). box_of key.port k.boxes) view }
 
+  -- where it changes the box of no publisher that is there
+  pub live-boxes : {boxes boxes' : List (PortBox F)} {spent : Item} (f g : Fields T U) (kept : Kept T U F) → keeping boxes f ≡ kept
+      → ((key : Key) → IsPublisherKey kept key → IsOtherPublisher spent key.port → box_of key.port boxes' ≡ box_of key.port boxes) → BoxesStayBut spent kept (keeping boxes' g)
+  unfolding handler_box
+  live-boxes f g kept view same = record { at = λ key live other. same key live other ∙ ap (λ (k : Kept T U F). box_of key.port k.boxes) view }
+
   -- a publisher has the box that is kept under its id
   pub box-is : (boxes : List (PortBox F)) (f : Fields T U) (p : ℕ) (box : Option F) → box_of p boxes ≡ box → handler_box (keeping boxes f) p ≡ box
   unfolding handler_box

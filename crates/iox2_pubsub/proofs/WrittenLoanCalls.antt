@@ -7,7 +7,7 @@ use Rattle.std.specs.Option.{MatchOption}
 use Rattle.std.specs.Prelude.{IfErr}
 use Rattle.iox2_store.specs.machine.Environments.{ample_memory}
 use Rattle.iox2_store.specs.machine.Loans.{GrantLoan, written}
-use Rattle.iox2_store.specs.machine.Records.{Loan}
+use Rattle.iox2_store.specs.machine.Records.{Environment, Loan}
 use Rattle.iox2_store.specs.machine.SingleCalls.{GrantWrittenLoan, GrantDefaultSlice, WriteAllFrom}
 use Rattle.iox2_store.specs.machine.State.{State, Messages, with_loan}
 use Rattle.iox2_store.specs.declared.errors.LoanError.{LoanError}
@@ -36,24 +36,24 @@ module _ {T U : Type 0} (s mid : State T U) (p n : ℕ) (next : n ≡ s.next_mes
   written-out = ap (λ b. cond b (Some (written l value)) (mid.loans n)) (eq-eqb n n refl)
 
   -- and sent
-  copy-granted : (is_default : U → Type 0) → is_default user_header → (m : Messages T U) (number : ℕ) → number ≡ n → (result : Result SendOutcome SendError) (s' : State T U)
-      → Sends with_value number (written l value) result s' → SendsGranted is_default m s p value result (messages_after m number (written l value) result) s'
-  copy-granted is_default default m number same result s' sends = record {
+  copy-granted : (environment : Environment) (is_default : U → Type 0) → is_default user_header → (m : Messages T U) (number : ℕ) → number ≡ n → (result : Result SendOutcome SendError) (s' : State T U)
+      → Sends environment with_value number (written l value) result s' → SendsGranted environment is_default m s p value result (messages_after m number (written l value) result) s'
+  copy-granted environment is_default default m number same result s' sends = record {
     user_header = user_header;
     default = default;
     granted = with_value;
     grants = written-grants;
     loan = written l value;
     out = ap with_value.loans (sym next) ∙ written-out;
-    sends = subst (λ (k : ℕ). Sends with_value k (written l value) result s') (same ∙ next) sends;
+    sends = subst (λ (k : ℕ). Sends environment with_value k (written l value) result s') (same ∙ next) sends;
     messages = ap (λ (k : ℕ). messages_after m k (written l value) result) (same ∙ next);
   }
 
-  pub copy-sent : (is_default : U → Type 0) → is_default user_header → (m : Messages T U) (number : ℕ) → number ≡ n → (result : Result SendOutcome SendError)
+  pub copy-sent : (environment : Environment) (is_default : U → Type 0) → is_default user_header → (m : Messages T U) (number : ℕ) → number ≡ n → (result : Result SendOutcome SendError)
       → IfErr result (λ error. error ≡ UnableToDeliver) → (s' : State T U)
-      → Sends with_value number (written l value) result s' → SendsCopy is_default m s p value result (messages_after m number (written l value) result) s'
-  copy-sent is_default default m number same (Ok outcome) failed s' sends = copy-granted is_default default m number same (Ok outcome) s' sends
-  copy-sent is_default default m number same (Err e) failed s' sends = inl (failed, copy-granted is_default default m number same (Err e) s' sends)
+      → Sends environment with_value number (written l value) result s' → SendsCopy environment is_default m s p value result (messages_after m number (written l value) result) s'
+  copy-sent environment is_default default m number same (Ok outcome) failed s' sends = copy-granted environment is_default default m number same (Ok outcome) s' sends
+  copy-sent environment is_default default m number same (Err e) failed s' sends = inl (failed, copy-granted environment is_default default m number same (Err e) s' sends)
 
 -- a loan that is refused is refused with any value
 pub written-refused : {T U : Type 0} (s s' : State T U) (p : ℕ) (e : LoanError) → ((user_header : U) → GrantLoan ample_memory user_header false 1 s p s' (Some e))

@@ -7,13 +7,6 @@ use Rattle.iox2_store.specs.machine.Records.{Handler}
 use Rattle.iox2_store.specs.machine.Records as machine
 use Rattle.iox2_store.specs.declared.backpressure.BackpressureAction.{BackpressureAction}
 use Rattle.iox2_store.specs.declared.backpressure.BackpressureStrategy.{BackpressureStrategy}
-use Rattle.iox2_store.specs.declared.backpressure_handler.BackpressureHandler.{BackpressureHandler}
-use Rattle.iox2_store.specs.declared.backpressure_handler.BackpressureHandler.TheVariants.{Fixed, Custom}
-
--- The handler always gives the same answer.
-abbrev pub IsFixed : {F : Type 0} → BackpressureHandler F → Type 0
-IsFixed (Fixed action) = Unit {0}
-IsFixed (Custom function) = ⊥
 
 -- A send may wait for a full receiver: the strategy says so, or a handler that always gives the same answer, or there is a box.
 abbrev pub may_wait : BackpressureStrategy → Option (Handler BackpressureAction) → Bool

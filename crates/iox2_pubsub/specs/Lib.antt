@@ -10,4 +10,5 @@ pub mod LoanLends
 pub mod Slices
 pub mod WrittenLoans
 pub mod Handlers
+pub mod Factories
 pub mod BlockedSends

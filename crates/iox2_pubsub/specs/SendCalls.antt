@@ -3,10 +3,9 @@ use Rattle.std.specs.Prelude.{ℕ, Bool, true, false, ◌≡◌, ◌⊎◌}
 use Rattle.std.specs.declared.option.Option.TheVariants.{Some}
 use Rattle.std.specs.declared.result.Result.{Result}
 use Rattle.std.specs.declared.result.Result.TheVariants.{Ok, Err}
-use Rattle.iox2_store.specs.machine.Environments.{fixed_handlers}
 use Rattle.iox2_store.specs.machine.Loans.{entry_of}
 use Rattle.iox2_store.specs.machine.Numbers.{put_at}
-use Rattle.iox2_store.specs.machine.Records.{Loan}
+use Rattle.iox2_store.specs.machine.Records.{Environment, Loan}
 use Rattle.iox2_store.specs.machine.Sends.{SendResult, Delivered_to, Blocked_send, Send_error, Send}
 use Rattle.iox2_store.specs.machine.State.{State, Messages}
 use Rattle.iox2_store.specs.declared.errors.SendError.{SendError}
@@ -54,9 +53,9 @@ abbrev pub result_of_send : Result SendOutcome SendError → SendResult
 result_of_send (Ok outcome) = sent_result outcome
 result_of_send (Err error) = Send_error error
 
--- The loan n was sent, with this outcome or error.
-abbrev pub Sends : {T U : Type 0} → State T U → (n : ℕ) → Loan T U → Result SendOutcome SendError → State T U → Type 0
-Sends s n l result s' = Send fixed_handlers s n l s' (result_of_send result)
+-- The loan n was sent where handlers answer so, with this outcome or error.
+abbrev pub Sends : {T U : Type 0} → Environment → State T U → (n : ℕ) → Loan T U → Result SendOutcome SendError → State T U → Type 0
+Sends environment s n l result s' = Send environment s n l s' (result_of_send result)
 
 -- The messages after a send of the loan n, which is one of them from then on. After an error it is none, but where a handler
 -- failed the send.

@@ -4,7 +4,7 @@ use Rattle.std.specs.List.{All}
 use Rattle.std.specs.declared.option.Option.TheVariants.{None, Some}
 use Rattle.std.specs.declared.result.Result.TheVariants.{Ok, Err}
 use Rattle.iox2_store.specs.machine.Environments.{ample_memory}
-use Rattle.iox2_store.specs.machine.Records.{Loan}
+use Rattle.iox2_store.specs.machine.Records.{Environment, Loan}
 use Rattle.iox2_store.specs.machine.SingleCalls.{GrantWrittenLoan, GrantDefaultSlice}
 use Rattle.iox2_store.specs.machine.State.{State, Messages}
 use Rattle.iox2_store.specs.declared.errors.LoanError.{LoanError}
@@ -30,15 +30,15 @@ module _ {T U : Type 0} where
       (λ _. (values : List T) × (user_header : U) × is_default user_header × GrantDefaultSlice ample_memory IsValue values user_header len s p s' None)
       (λ e. (s' ≡ s) × ((values : List T) (user_header : U) → All IsValue values → GrantDefaultSlice ample_memory IsValue values user_header len s p s' (Some e)))
 
-  -- The publisher p was lent this value, and the loan is sent, with this outcome or error.
-  pub record SendsGranted (is_default : U → Type 0) (m : Messages T U) (s : State T U) (p : ℕ) (value : T) (outcome : Result SendOutcome SendError) (m' : Messages T U) (s' : State T U) : Type 0 where
+  -- The publisher p was lent this value, and the loan is sent where handlers answer so, with this outcome or error.
+  pub record SendsGranted (environment : Environment) (is_default : U → Type 0) (m : Messages T U) (s : State T U) (p : ℕ) (value : T) (outcome : Result SendOutcome SendError) (m' : Messages T U) (s' : State T U) : Type 0 where
     pub user_header : U
     pub default : is_default user_header
     pub granted : State T U
     pub grants : GrantWrittenLoan ample_memory value user_header false 1 s p granted None
     pub loan : Loan T U
     pub out : granted.loans s.next_message ≡ Some loan
-    pub sends : Sends granted s.next_message loan outcome s'
+    pub sends : Sends environment granted s.next_message loan outcome s'
     pub messages : m' ≡ messages_after m s.next_message loan outcome
 
   -- The publisher p lends nothing, for this reason, and nothing changes.
@@ -51,8 +51,8 @@ module _ {T U : Type 0} where
 
   -- The publisher p is asked to send this value: a loan with it is granted and sent, or refused. Where a handler failed the
   -- send, it was sent.
-  abbrev pub SendsCopy : (is_default : U → Type 0) → Messages T U → State T U → (p : ℕ) → (value : T) → Result SendOutcome SendError → Messages T U → State T U → Type 0
-  SendsCopy is_default m s p value result m' s' =
+  abbrev pub SendsCopy : Environment → (is_default : U → Type 0) → Messages T U → State T U → (p : ℕ) → (value : T) → Result SendOutcome SendError → Messages T U → State T U → Type 0
+  SendsCopy environment is_default m s p value result m' s' =
       MatchResult result
-      (λ outcome. SendsGranted is_default m s p value (Ok outcome) m' s')
-      (λ error. ((error ≡ UnableToDeliver) × SendsGranted is_default m s p value (Err error) m' s') ⊎ RefusesLoan m s p error m' s')
+      (λ outcome. SendsGranted environment is_default m s p value (Ok outcome) m' s')
+      (λ error. ((error ≡ UnableToDeliver) × SendsGranted environment is_default m s p value (Err error) m' s') ⊎ RefusesLoan m s p error m' s')

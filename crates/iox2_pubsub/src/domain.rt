@@ -16,8 +16,9 @@ use iox2_store::{BackpressureFn, DegradationFn, DomainCreateError, ServiceConfig
 use std::alloc::Global;
 use std::marker::{Model, PhantomData};
 
-/// A service and all of its ports, whose messages have payloads of `T` and user headers of `U`, and
-/// whose ports may have handlers of `F` and `G`, by default boxes. No port has one yet.
+/// A service and all of its ports, whose messages have payloads of `T` and user headers of `U`. Its
+/// publishers may have handlers of `F`, by default boxes. `G` is for handlers of refused
+/// connections; no port has one yet.
 ///
 /// This library's own, where iceoryx2 has a `Service` and shared memory.
 #[derive(Drop)]

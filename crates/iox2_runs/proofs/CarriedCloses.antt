@@ -43,7 +43,7 @@ publisher-leaves {T} {U} s p x free =
       publishers = others;
       subscribers = λ q y other there is_open. let v = publisher_closed_subscribers s p x q y there in (v.0, v.1, v.2 ∙ is_open);
       next_port = come.next_port;
-      came = λ i z low there. let was = come.publishers i z low there in (was.0, was.1);
+      came = λ i z low there. let was = waits.publishers i z low there in (was.0, was.1, (was.2).handler);
       opened = come.subscribers;
       blocked = λ i n other low. (
         λ has. elim (cases_eq i p) [
@@ -60,14 +60,15 @@ publisher-leaves {T} {U} s p x free =
 -- each port but the subscriber stays, and none comes back
 subscriber-leaves : {T U : Type 0} (s : State T U) (q : ℕ) (y : Subscriber) → PortsKeep (Subscriber_handle q) No_handle s (subscriber_closed s q y)
 subscriber-leaves s q y =
-    let come = subscriber_closed_comes s q y in record {
+    let come = subscriber_closed_comes s q y in
+    let waits = subscriber_closed_waits Nobody s q y in record {
       config = (subscriber_closed_advances s q y).config;
       publishers = λ p x other there. let v = subscriber_closed_publishers s q y p x there in (v.0, v.1);
       subscribers = λ i z other there is_open. (z, subscriber_closed_others s q y i (λ e. other (ap Subscriber_handle e)) ∙ there, is_open);
       next_port = come.next_port;
-      came = λ p x' low there. let was = come.publishers p x' low there in (was.0, was.1);
+      came = λ p x' low there. let was = waits.publishers p x' low there in (was.0, was.1, (was.2).handler);
       opened = come.subscribers;
-      blocked = λ p n other low. waits_still Nobody s (subscriber_closed s q y) (subscriber_closed_waits Nobody s q y)
+      blocked = λ p n other low. waits_still Nobody s (subscriber_closed s q y) waits
           (λ i x there. let v = subscriber_closed_publishers s q y i x there in (v.0, v.1)) p n (λ nobody. nobody) low;
     }
 

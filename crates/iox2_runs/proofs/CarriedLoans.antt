@@ -1,5 +1,5 @@
 -- Commands on loans, with what a run holds.
-use Rattle.std.proofs.Common.{◌≡◌, ◌⊎◌, inl, inr, ℕ, true, false, List, [], ◌∷◌, ◌++◌, map, refl, sym, ap, subst, ◌∙◌, None, Some}
+use Rattle.std.proofs.Common.{◌≡◌, ◌⊎◌, inl, inr, ℕ, ◌<◌, true, false, List, [], ◌∷◌, ◌++◌, map, refl, sym, ap, subst, ◌∙◌, None, Some}
 use Rattle.std.specs.Prelude.{IfOk, IfErr, slice_get, slice_set, slice_index_or}
 use Rattle.std.specs.declared.result.Result.{Result}
 use Rattle.std.specs.declared.result.Result.TheVariants.{Ok, Err}
@@ -8,15 +8,17 @@ use Rattle.iox2_store.specs.machine.Records.{Loan, Environment}
 use Rattle.iox2_store.specs.machine.State.{State, Messages, with_loan}
 use Rattle.iox2_store.specs.machine.Environments.{ample_memory, fixed_handlers}
 use Rattle.iox2_store.specs.machine.Loans.{GrantLoan, written, entry_of}
-use Rattle.iox2_store.specs.machine.Sends.{Delivered_to, Blocked_send, Send_error}
+use Rattle.iox2_store.specs.machine.Sends.{Send, SendResult, Delivered_to, Blocked_send, Send_error}
 use Rattle.iox2_store.specs.declared.errors.LoanError.{LoanError}
 use Rattle.iox2_store.specs.declared.errors.SendError.{SendError}
 use Rattle.iox2_store.specs.declared.errors.SendError.TheVariants.{ConnectionBrokenSinceSenderNoLongerExists, UnableToDeliver}
+use Rattle.iox2_laws.proofs.Waits.{send_waits}
 use Rattle.iox2_domain.specs.Kept.{Kept as Domain}
 use Rattle.iox2_store.specs.declared.key.Key.{Key}
 use Rattle.iox2_domain.specs.Shows.{Shows}
+use Rattle.iox2_domain.proofs.lemmas.updates.AnyBoxes.{AllowsUpdates}
 use Rattle.iox2_pubsub.specs.Live.{IsBlockedSend, blocked_key, written_key}
-use Rattle.iox2_pubsub.specs.SendCalls.{FailsSend, IfBlocked, Sends, messages_after}
+use Rattle.iox2_pubsub.specs.SendCalls.{FailsSend, IfBlocked, Sends, messages_after, result_of_send}
 use Rattle.iox2_pubsub.specs.declared.publisher.Publisher.{Publisher as PublisherHandle}
 use Rattle.iox2_pubsub.specs.declared.send_outcome.SendOutcome.{SendOutcome}
 use Rattle.iox2_pubsub.specs.declared.send_outcome.SendOutcome.TheVariants.{Delivered as WasDelivered, Blocked as IsBlocked}
@@ -24,7 +26,7 @@ use Rattle.iox2_pubsub.specs.declared.sample_mut_uninit.SampleMutUninit.{SampleM
 use Rattle.iox2_pubsub.specs.declared.sample_mut.SampleMut.{SampleMut}
 use Rattle.iox2_commands.specs.Outcomes.{Handle, No_handle, Loan_handle, Blocked_handle, Sample_handle, Event, No_event, Message_sent}
 use Rattle.iox2_commands.specs.Runs.{Defaults}
-use Rattle.iox2_runs.specs.Tables.{TableEntry, No_entry, Unwritten_entry, Written_entry, IsUnblocked, IsTable}
+use Rattle.iox2_runs.specs.Tables.{TableEntry, No_entry, Unwritten_entry, Written_entry, IsUnblocked, HasNoBox, IsTable}
 use Rattle.iox2_runs.specs.RunSteps.{Comes}
 use Rattle.iox2_runs.specs.Carries.{entry_for, Carries}
 use Rattle.iox2_runs.specs.SendReplies.{reply_to_send, made_by_send}
@@ -33,7 +35,8 @@ use Rattle.iox2_commands.specs.declared.reply.Reply.TheVariants.{Done, Skipped, 
 use Rattle.iox2_runs.specs.declared.runs.made.Made.{Made}
 use Rattle.iox2_runs.specs.declared.runs.made.Made.TheVariants.{Nothing, Publisher as MadePublisher, Unwritten, Written, Blocked as MadeBlocked}
 use Rattle.iox2_runs.proofs.CarriedBlocked.{blocked_entry}
-use Rattle.iox2_runs.proofs.TableLooks.{is_publisher_entry, is_unwritten_entry, is_written_entry, has_written}
+use Rattle.iox2_runs.proofs.FixedSends.{unboxed_still, sends_fixed}
+use Rattle.iox2_runs.proofs.TableLooks.{is_publisher_entry, is_unwritten_entry, is_written_entry, has_written, handle_of}
 use Rattle.iox2_runs.proofs.TableCalls.{write_comes, write_skipped, send_comes, send_waiting, send_skipped}
 use Rattle.iox2_runs.proofs.TableMakes.{loan_skipped, loan_waiting, loan_elsewhere, loan_comes, loan_refused_comes, loan_any}
 use Rattle.iox2_runs.proofs.TableEntries.{entries-set, entry-stands, lacks}
@@ -141,8 +144,14 @@ module _ {T U F : Type 0} (defaults : Defaults T U) (new : Domain T U F) (table 
     (is_value : defaults.IsDefaultValue default_value) (is_header : defaults.IsDefaultHeader default_header)
     (stand : slice_get (map entry_for table) of ≡ Some (Written_entry h.service_id h.loan.publisher h.loan.number)) (unblocked : IsUnblocked s h.loan.publisher)
     (l : Loan T U) (out : s.loans h.loan.number ≡ Some l) (lender : l.publisher ≡ h.loan.publisher) where
+  -- its publisher still has no box
+  lender-unboxed : (result : SendResult) (s' : State T U) → Send fixed_handlers s h.loan.number l s' result → HasNoBox s' h.loan.publisher
+  lender-unboxed result s' sends =
+      let named = handle_of s handles events (map entry_for table) w of (Written_entry h.service_id h.loan.publisher h.loan.number) stand in
+      unboxed_still (λ i. i ≡ l.publisher) s s' (send_waits (λ i. i ≡ l.publisher) fixed_handlers s h.loan.number l refl s' result sends) h.loan.publisher ((named.2).2).1 (named.2).3
+
   sent-by : (came : Result SendOutcome SendError) → IfOk came (λ it. IfBlocked it (λ blocked. IsBlockedSend new blocked × (blocked_key blocked ≡ written_key h)))
-      → IfErr came (λ error. (error ≡ ConnectionBrokenSinceSenderNoLongerExists) ⊎ (error ≡ UnableToDeliver)) → (s' : State T U) → Shows new (messages_after m h.loan.number l came) s' → Sends s h.loan.number l came s'
+      → IfErr came (λ error. (error ≡ ConnectionBrokenSinceSenderNoLongerExists) ⊎ (error ≡ UnableToDeliver)) → (s' : State T U) → Shows new (messages_after m h.loan.number l came) s' → Sends fixed_handlers s h.loan.number l came s'
       → Comes fixed_handlers defaults (Shows new) m s handles events (SendLoan of) (reply_to_send came) (slice_set (map entry_for table) of No_entry ++ entry_for (made_by_send came) ∷ [])
   sent-by (Ok (WasDelivered count)) waits broken s' shown sends =
       send_comes fixed_handlers defaults (Shows new) m s handles events (map entry_for table) w default_value default_header is_value is_header of h.service_id h.loan.publisher h.loan.number stand unblocked l out
@@ -153,28 +162,28 @@ module _ {T U F : Type 0} (defaults : Defaults T U) (new : Domain T U F) (table 
       s' Blocked_send sends Blocked (Blocked_handle h.loan.publisher h.loan.number) (Message_sent l.publisher h.loan.number (entry_of l)) (entry_for (MadeBlocked blocked))
       (ap (λ (p : ℕ). record { reply = Blocked; handle = Blocked_handle p h.loan.number; event = Message_sent l.publisher h.loan.number (entry_of l); state = s' }) (sym lender)) refl
       (λ k e. let clash : Blocked_handle h.loan.publisher h.loan.number ≡ Loan_handle k = e in absurd cc) (λ p q k e. let clash : Blocked_handle h.loan.publisher h.loan.number ≡ Sample_handle p q k = e in absurd cc)
-      (λ p k e. let same : Blocked_handle h.loan.publisher h.loan.number ≡ Blocked_handle p k = e in (cc, cc)) shown (blocked_entry new _ s' shown blocked waits.0 (written_key h) waits.1)
+      (λ p k e. let same : Blocked_handle h.loan.publisher h.loan.number ≡ Blocked_handle p k = e in (cc, cc)) shown (blocked_entry new _ s' shown blocked waits.0 (written_key h) waits.1 (lender-unboxed Blocked_send s' sends))
   sent-by (Err error) waits (inr failed) s' shown sends =
-      let so : Sends s h.loan.number l (Err UnableToDeliver) s' = subst (λ (e : SendError). Sends s h.loan.number l (Err e) s') failed sends in
+      let so : Sends fixed_handlers s h.loan.number l (Err UnableToDeliver) s' = subst (λ (e : SendError). Sends fixed_handlers s h.loan.number l (Err e) s') failed sends in
       let there : Shows new (messages_after m h.loan.number l (Err UnableToDeliver)) s' = subst (λ (e : SendError). Shows new (messages_after m h.loan.number l (Err e)) s') failed shown in
       subst (λ (e : SendError). Comes fixed_handlers defaults (Shows new) m s handles events (SendLoan of) (SendRefused e) (slice_set (map entry_for table) of No_entry ++ No_entry ∷ [])) (sym failed)
       (send_comes fixed_handlers defaults (Shows new) m s handles events (map entry_for table) w default_value default_header is_value is_header of h.service_id h.loan.publisher h.loan.number stand unblocked l out
       s' (Send_error UnableToDeliver) so (SendRefused UnableToDeliver) No_handle (Message_sent l.publisher h.loan.number (entry_of l)) No_entry refl refl
       (λ k e. let clash : No_handle ≡ Loan_handle k = e in absurd cc) (λ p q k e. let clash : No_handle ≡ Sample_handle p q k = e in absurd cc) (λ p k e. let clash : No_handle ≡ Blocked_handle p k = e in absurd cc) there tt)
   sent-by (Err error) waits (inl broken) s' shown sends =
-      let so : Sends s h.loan.number l (Err ConnectionBrokenSinceSenderNoLongerExists) s' = subst (λ (e : SendError). Sends s h.loan.number l (Err e) s') broken sends in
+      let so : Sends fixed_handlers s h.loan.number l (Err ConnectionBrokenSinceSenderNoLongerExists) s' = subst (λ (e : SendError). Sends fixed_handlers s h.loan.number l (Err e) s') broken sends in
       let there : Shows new m s' = subst (λ (e : SendError). Shows new (messages_after m h.loan.number l (Err e)) s') broken shown in
       subst (λ (e : SendError). Comes fixed_handlers defaults (Shows new) m s handles events (SendLoan of) (SendRefused e) (slice_set (map entry_for table) of No_entry ++ No_entry ∷ [])) (sym broken)
       (send_comes fixed_handlers defaults (Shows new) m s handles events (map entry_for table) w default_value default_header is_value is_header of h.service_id h.loan.publisher h.loan.number stand unblocked l out
       s' (Send_error ConnectionBrokenSinceSenderNoLongerExists) so (SendRefused ConnectionBrokenSinceSenderNoLongerExists) No_handle No_event No_entry refl refl
       (λ k e. let clash : No_handle ≡ Loan_handle k = e in absurd cc) (λ p q k e. let clash : No_handle ≡ Sample_handle p q k = e in absurd cc) (λ p k e. let clash : No_handle ≡ Blocked_handle p k = e in absurd cc) there tt)
 
-module _ {T U F : Type 0} (defaults : Defaults T U) (old new : Domain T U F) (table table' : List Made) (of : ℕ) where
+module _ {T U F : Type 0} (environment : Environment) (updates : AllowsUpdates environment fixed_handlers) (defaults : Defaults T U) (old new : Domain T U F) (table table' : List Made) (of : ℕ) where
   -- the loan is sent: to all receivers, or it waits for one, or its publisher is gone, or a handler failed the send
   pub send_carried : (h : SampleMut) (outcome : Result SendOutcome SendError) → slice_index_or table of Nothing ≡ Written h
       → ((m : Messages T U) (s : State T U) → Shows old m s → IsUnblocked s h.loan.publisher)
       → ((m : Messages T U) (s : State T U) (l : Loan T U) → Shows old m s → s.loans h.loan.number ≡ Some l
-      → (s' : State T U) × Shows new (messages_after m h.loan.number l outcome) s' × Sends s h.loan.number l outcome s')
+      → (s' : State T U) × Shows new (messages_after m h.loan.number l outcome) s' × Sends environment s h.loan.number l outcome s')
       → IfOk outcome (λ came. IfBlocked came (λ blocked. IsBlockedSend new blocked × (blocked_key blocked ≡ written_key h)))
       → IfErr outcome (λ error. (error ≡ ConnectionBrokenSinceSenderNoLongerExists) ⊎ (error ≡ UnableToDeliver))
       → table' ≡ slice_set table of Nothing
@@ -183,9 +192,13 @@ module _ {T U F : Type 0} (defaults : Defaults T U) (old new : Domain T U F) (ta
       let stand = entry-stands table of (Written h) at (λ e. let clash : Written h ≡ Nothing = e in cc) in
       let named = has_written s handles events (map entry_for table) w of h.service_id h.loan.publisher h.loan.number stand in
       let sent = sends m s named.0 shown named.3 in
+      let its = handle_of s handles events (map entry_for table) w of (entry_for (Written h)) stand in
+      let low : (named.0).publisher < s.next_port = subst (λ (p : ℕ). p < s.next_port) (sym named.4) ((its.2).2).1 in
+      let unboxed : HasNoBox s (named.0).publisher = subst (HasNoBox s) (sym named.4) (its.2).3 in
+      let fixed : Sends fixed_handlers s h.loan.number named.0 outcome sent.0 = sends_fixed environment updates s h.loan.number named.0 sent.0 (result_of_send outcome) low unboxed sent.2 in
       let after : map entry_for table' ≡ slice_set (map entry_for table) of No_entry = ap (λ (t : List Made). map entry_for t) is ∙ entries-set table of Nothing in
       subst (λ (ks : List TableEntry). Comes fixed_handlers defaults (Shows new) m s handles events (SendLoan of) (reply_to_send outcome) (ks ++ entry_for (made_by_send outcome) ∷ [])) (sym after)
-      (sent-by defaults new table of h m s handles events w default_value default_header is_value is_header stand (free m s shown) named.0 named.3 named.4 outcome blocked gone sent.0 sent.1 sent.2)
+      (sent-by defaults new table of h m s handles events w default_value default_header is_value is_header stand (free m s shown) named.0 named.3 named.4 outcome blocked gone sent.0 sent.1 fixed)
 
 -- why a send fails, without what is so then
 pub either-failure : {T U F : Type 0} (domain : Domain T U F) (key : Key) (outcome : Result SendOutcome SendError) → IfErr outcome (FailsSend domain key)

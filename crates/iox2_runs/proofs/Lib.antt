@@ -1,4 +1,5 @@
 pub mod TableSteps
+pub mod FixedSends
 pub mod TableLooks
 pub mod TableCalls
 pub mod TableMakes

@@ -97,7 +97,7 @@ module _ {T U : Type 0} (environment : Environment) (defaults : Defaults T U) (S
         follows = λ once. table_next s s' handles events table w No_handle No_event No_entry (slice_set table of (Written_entry service p n))
             (later_but s s' n l found.3 (omega arith) (omega arith) (λ k low other. put_at-other s.loans n (Some (written l value)) k (ne_eqb k n other))) (set_length table of (Written_entry service p n))
             (others_still s s' handles events table w of named.0 (Written_entry service p n) (ports-keep named.0 No_handle s s' stay.remain (loan_set_comes s n (Some (written l value))) (loan_set_waits Nobody s n (Some (written l value)))) named.1
-            ((named.2).0, (named.2).1, ((written l value, put_at-same s.loans n (Some (written l value)), found.4, refl), ((named.2).2).1))
+            ((named.2).0, (named.2).1, ((written l value, put_at-same s.loans n (Some (written l value)), found.4, refl), ((named.2).2).1), (named.2).3)
             (λ k low other. put_at-other s.loans n (Some (written l value)) k (ne_eqb k n (λ e. other ((named.2).1 ∙ ap Loan_handle (sym e)))))
             (λ i p q n _ _. refl))
             tt (no_next s s' _) once;

@@ -50,7 +50,7 @@ module _ {T U : Type 0} (environment : Environment) (defaults : Defaults T U) (S
     unwritten_changes at mark =
         let named = handle_of s handles events table w of (Unwritten_entry service p n) at in
         sets (((named.2).2).0).0 (((named.2).2).0).1 named.0 (Unwritten_entry service p n) named.1 (named.2).1
-        ((named.2).0, (named.2).1, ((l, put_at-same s.loans n (Some l), publisher, mark), ((named.2).2).1))
+        ((named.2).0, (named.2).1, ((l, put_at-same s.loans n (Some l), publisher, mark), ((named.2).2).1), (named.2).3)
 
     -- or is written from then on
     pub unwritten_taken : slice_get table of ≡ Some (Unwritten_entry service p n) → l.is_written ≡ true
@@ -58,7 +58,7 @@ module _ {T U : Type 0} (environment : Environment) (defaults : Defaults T U) (S
     unwritten_taken at mark =
         let named = handle_of s handles events table w of (Unwritten_entry service p n) at in
         sets (((named.2).2).0).0 (((named.2).2).0).1 named.0 (Written_entry service p n) named.1 (named.2).1
-        ((named.2).0, (named.2).1, ((l, put_at-same s.loans n (Some l), publisher, mark), ((named.2).2).1))
+        ((named.2).0, (named.2).1, ((l, put_at-same s.loans n (Some l), publisher, mark), ((named.2).2).1), (named.2).3)
 
     -- and a written one stays written
     pub written_changes : slice_get table of ≡ Some (Written_entry service p n) → l.is_written ≡ true
@@ -66,4 +66,4 @@ module _ {T U : Type 0} (environment : Environment) (defaults : Defaults T U) (S
     written_changes at mark =
         let named = handle_of s handles events table w of (Written_entry service p n) at in
         sets (((named.2).2).0).0 (((named.2).2).0).1 named.0 (Written_entry service p n) named.1 (named.2).1
-        ((named.2).0, (named.2).1, ((l, put_at-same s.loans n (Some l), publisher, mark), ((named.2).2).1))
+        ((named.2).0, (named.2).1, ((l, put_at-same s.loans n (Some l), publisher, mark), ((named.2).2).1), (named.2).3)

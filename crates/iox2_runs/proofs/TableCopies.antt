@@ -30,8 +30,9 @@ use Rattle.iox2_commands.specs.declared.reply.Reply.{Reply}
 use Rattle.iox2_commands.specs.declared.reply.Reply.TheVariants.{Skipped, Loaned, LoanRefused, SendRefused}
 use Rattle.iox2_runs.specs.Tables.{port_of, TableEntry, No_entry, Publisher_entry, Written_entry, IsUnblocked, IsEntryOf, IsTable}
 use Rattle.iox2_runs.specs.RunSteps.{Comes}
+use Rattle.iox2_runs.proofs.FixedSends.{unboxed_still}
 use Rattle.iox2_runs.proofs.TableCalls.{quiet_comes, skip_comes, at_none, at_some}
-use Rattle.iox2_runs.proofs.TableLooks.{Lacks, is_publisher_entry, lacks_publisher, has_free_publisher, waiting_publisher, handle_of}
+use Rattle.iox2_runs.proofs.TableLooks.{Lacks, is_publisher_entry, lacks_publisher, has_free_publisher, waiting_publisher, handle_of, publisher_unboxed}
 use Rattle.iox2_runs.proofs.Services.{single_named, single_elsewhere, single_nothing}
 use Rattle.iox2_runs.proofs.TableMakes.{loan_any}
 use Rattle.iox2_runs.proofs.TablePassed.{Passed, passed_keeps, send_passes}
@@ -153,6 +154,7 @@ module _ {T U : Type 0} (environment : Environment) (defaults : Defaults T U) (S
                 (copied environment s p value header s' h, copied-there environment s p value header s' h, copied-publisher environment s p value header s' h, refl),
                 (let up = come.next_port in omega (arith, below, up)),
               ),
+              unboxed_still Nobody s s' waits p below (publisher_unboxed s handles events table w of service p at),
             )
             (next_loan s s' (omega (arith, rises))) once;
       }

@@ -10,7 +10,7 @@ use Rattle.iox2_store.specs.machine.State.{State, is_blocked}
 use Rattle.iox2_commands.specs.Outcomes.{Handle, No_handle, Publisher_handle, Subscriber_handle, Loan_handle, Blocked_handle, Sample_handle, Event}
 use Rattle.iox2_store.specs.machine.SingleCalls.{HoldsBlocked}
 use Rattle.iox2_commands.specs.Step.{publisher_at, unblocked_at, subscriber_at, loan_at, unwritten_at, written_at, sendable_at, blocked_at, sample_at}
-use Rattle.iox2_runs.specs.Tables.{TableEntry, No_entry, Publisher_entry, Subscriber_entry, Unwritten_entry, Written_entry, Blocked_entry, Sample_entry, IsUnblocked, HasLoan, IsEntryOf, IsTable}
+use Rattle.iox2_runs.specs.Tables.{TableEntry, No_entry, Publisher_entry, Subscriber_entry, Unwritten_entry, Written_entry, Blocked_entry, Sample_entry, IsUnblocked, HasLoan, HasNoBox, IsEntryOf, IsTable}
 
 -- What kind of thing the entry names.
 abbrev pub is_publisher_entry : TableEntry → Bool
@@ -229,6 +229,14 @@ module _ {T U : Type 0} (s : State T U) where
     -- the entry there is that of the handle there
     pub handle_of : (e : TableEntry) → slice_get table of ≡ Some e → (h : Handle) × (slice_get handles of ≡ Some h) × IsEntryOf s h e
     handle_of e at = let v = matched table handles of e w.count at in (v.0, v.1, w.entries of v.0 e v.1 at)
+
+    -- the publisher of an entry has no box
+    pub publisher_unboxed : (service p : ℕ) → slice_get table of ≡ Some (Publisher_entry service p) → HasNoBox s p
+    publisher_unboxed service p at = let v = handle_of (Publisher_entry service p) at in (v.2).4
+
+    -- nor has one that lent a loan which is written now
+    pub lender_unboxed : (service p n : ℕ) → slice_get table of ≡ Some (Written_entry service p n) → HasNoBox s p
+    lender_unboxed service p n at = let v = handle_of (Written_entry service p n) at in (v.2).3
 
     -- a look-up that finds nothing at any handle with another entry finds nothing here
     lacks : {A : Type 0} (look : Option Handle → Option A) → look None ≡ None → (kind : TableEntry → Bool)

@@ -26,7 +26,7 @@ use Rattle.iox2_laws.proofs.LoanKeeping.{create_publisher_loans, create_subscrib
 use Rattle.iox2_commands.specs.Outcomes.{Handle, Publisher_handle, Subscriber_handle, Loan_handle, Blocked_handle, Sample_handle, Event, No_event, outcome, replied}
 use Rattle.iox2_commands.specs.Runs.{Defaults}
 use Rattle.iox2_commands.specs.Step.{Step, publisher_settings, unblocked_at}
-use Rattle.iox2_runs.specs.Tables.{port_of, TableEntry, No_entry, Publisher_entry, Subscriber_entry, Unwritten_entry, IsUnblocked, IsEntryOf, IsTable}
+use Rattle.iox2_runs.specs.Tables.{port_of, TableEntry, No_entry, Publisher_entry, Subscriber_entry, Unwritten_entry, IsUnblocked, HasNoBox, IsEntryOf, IsTable}
 use Rattle.iox2_runs.specs.RunSteps.{Comes}
 use Rattle.iox2_runs.specs.Services.{has_slices}
 use Rattle.iox2_commands.specs.declared.command.Command.{Command}
@@ -37,20 +37,21 @@ use Rattle.iox2_laws.proofs.PortsCome.{PortsCome, ports_come_trans, update_publi
 use Rattle.iox2_laws.proofs.PortsStay.{PortsStay, update_subscriber_stays, warning_stays, create_publisher_stays, create_subscriber_stays, grant_loan_stays, ports_stay_trans}
 use Rattle.iox2_laws.proofs.SendsRemain.{created_as}
 use Rattle.iox2_laws.proofs.Waits.{Waits, create_publisher_waits, create_subscriber_waits, grant_loan_waits}
+use Rattle.iox2_runs.proofs.FixedSends.{fixed_unboxed, unboxed_there, unboxed_still}
 use Rattle.iox2_runs.proofs.TableSteps.{Nobody, later_same, next_loan, table_next, all_still}
-use Rattle.iox2_runs.proofs.TableLooks.{Lacks, is_publisher_entry, lacks_publisher, has_free_publisher, waiting_publisher, handle_of}
+use Rattle.iox2_runs.proofs.TableLooks.{Lacks, is_publisher_entry, lacks_publisher, has_free_publisher, waiting_publisher, handle_of, publisher_unboxed}
 use Rattle.iox2_laws.proofs.SamplesStay.{same_borrowed}
 use Rattle.iox2_laws.proofs.NextLoan.{IsNextLoan, loan_next, loan_refused}
 use Rattle.iox2_runs.proofs.Services.{single_named, single_elsewhere, single_nothing, slice_named, slice_elsewhere, slice_nothing}
 use Rattle.iox2_runs.proofs.TableCalls.{quiet_comes, skip_comes, at_none, at_some}
 
 module _ {T U : Type 0} (environment : Environment) (s : State T U) where
-  -- a publisher that was made is there
+  -- a publisher that was made is there, with the handler that it was to have
   pub publisher_made : (given : PublisherSettings) (s' : State T U) → CreatePublisher environment s given s' None
-      → ((x : Publisher) × (s'.publishers s.next_port ≡ Some x)) × (s.next_port < s'.next_port)
+      → ((x : Publisher) × (s'.publishers s.next_port ≡ Some x) × (x.backpressure_handler ≡ given.backpressure_handler)) × (s.next_port < s'.next_port)
   publisher_made given s' h =
       let made = created_as environment s given s' h in (
-        (made.0, made.1),
+        (made.0, made.1, made.3),
         by_bool IsKnown (s.next_port == last_number) _ _ h (λ _ k. absurd (none-some _ k.1)) (λ _ k.
             by_option IsKnown (free_place (s.config).max_publishers s.publisher_places) _ _ k (λ _ j. absurd (none-some _ j.1)) (λ place _ j.
             by_bool IsKnown (first_segment_fits s.config given) _ _ j (λ _ i. known place i) (λ _ i. absurd (none-some _ i.1)))),
@@ -125,9 +126,10 @@ module _ {T U : Type 0} (environment : Environment) (defaults : Defaults T U) (S
       let given = publisher_settings (s.config).variant loans strategy allocation len override_slots degradation backpressure in
       let stay : PortsStay s s' = create_publisher_stays environment s given s' None h in
       let made = publisher_made environment s given s' h in
+      let unboxed : HasNoBox s' s.next_port = unboxed_there s' s.next_port (made.0).0 (made.0).1 (λ boxed. fixed_unboxed backpressure (sym (made.0).2 ∙ boxed)) in
       port_comes (PublisherCommand loans strategy allocation len override_slots degradation backpressure) (PublisherMade s.next_port) (Publisher_handle s.next_port)
       (Publisher_entry service s.next_port) s' (s', None, h, refl) shown stay (create_publisher_comes environment s given s' None h) (create_publisher_waits Nobody environment s given s' None h) (create_publisher_loans environment s given s' None h) rises
-      (ours, refl, (made.0).0, (made.0).1) refl made.1
+      (ours, refl, (made.0).0, (made.0).1, unboxed) refl made.1
       (λ n e. let clash : Publisher_handle s.next_port ≡ Loan_handle n = e in absurd (cc)) (λ p q n e. let clash : Publisher_handle s.next_port ≡ Sample_handle p q n = e in absurd (cc)) (λ p n e. let clash : Publisher_handle s.next_port ≡ Blocked_handle p n = e in absurd (cc))
 
   pub publisher_refused_comes : (loans : ℕ) (strategy : BackpressureStrategy) (allocation : AllocationStrategy) (len : ℕ) (override_slots : Option ℕ) (degradation : DegradationAction)
@@ -199,6 +201,7 @@ module _ {T U : Type 0} (environment : Environment) (defaults : Defaults T U) (S
                 (next.loan, next.there, next.publisher, next.unwritten),
                 (let up = come.next_port in omega (arith, known, up)),
               ),
+              unboxed_still Nobody s s' waits p known (publisher_unboxed s handles events table w of service p at),
             )
             (next_loan s s' (omega (arith, next.next))) once;
       }

@@ -42,7 +42,7 @@ module _ {T U : Type 0} (spent : Handle) (p n : ℕ) (s s' : State T U) (passed 
     publishers = λ i x other there. (passed.remain).publishers i x there;
     subscribers = λ q y other there is_open. (passed.remain).subscribers q y there is_open;
     next_port = (passed.waits).next_port;
-    came = λ i x' low there. let was = (passed.waits).publishers i x' low there in (was.0, was.1);
+    came = λ i x' low there. let was = (passed.waits).publishers i x' low there in (was.0, was.1, (was.2).handler);
     opened = λ q y' low there is_open. (y', ap (λ (f : ℕ → Option Subscriber). f q) (sym passed.subscribers) ∙ there, is_open);
     blocked = λ i k other low. elim (cases_eq i p) [
       | inl same ↦ (

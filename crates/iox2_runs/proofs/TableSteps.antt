@@ -11,7 +11,7 @@ use Rattle.iox2_store.specs.machine.State.{State}
 use Rattle.iox2_store.specs.declared.service_config.ServiceConfig.{ServiceConfig}
 use Rattle.iox2_commands.specs.Outcomes.{Handle, No_handle, Publisher_handle, Subscriber_handle, Loan_handle, Blocked_handle, Sample_handle, Event, Message_received}
 use Rattle.iox2_commands.specs.Runs.{received}
-use Rattle.iox2_runs.specs.Tables.{port_of, TableEntry, No_entry, Publisher_entry, Subscriber_entry, Unwritten_entry, Written_entry, Blocked_entry, Sample_entry, HasLoan, IsEntryOf, IsTable}
+use Rattle.iox2_runs.specs.Tables.{port_of, TableEntry, No_entry, Publisher_entry, Subscriber_entry, Unwritten_entry, Written_entry, Blocked_entry, Sample_entry, HasLoan, HasNoBox, IsEntryOf, IsTable}
 use Rattle.iox2_laws.proofs.NumberLemmas.{IsOnce-apart, contains_left, contains_right, contains_first}
 use Rattle.iox2_commands.proofs.GrowingLists.{old_or_last, longer}
 use Rattle.iox2_laws.proofs.PortsCome.{PortsCome}
@@ -23,15 +23,16 @@ use Rattle.iox2_commands.proofs.Order.{received-append}
 abbrev pub Nobody : ℕ → Type 0
 Nobody p = ⊥
 
--- The ports stay there but for one that is spent, and none comes back; each send that is blocked stays so but for the one that goes
--- on, and no other is.
+-- The ports stay there but for one that is spent, and none comes back; each publisher has the handler that it had; each send that is
+-- blocked stays so but for the one that goes on, and no other is.
 pub record PortsKeep {T U : Type 0} (spent moved : Handle) (s s' : State T U) : Type 0 where
   pub config : s'.config ≡ s.config
   pub publishers : (p : ℕ) (x : Publisher) → (Publisher_handle p ≡ spent → ⊥) → s.publishers p ≡ Some x → (x' : Publisher) × (s'.publishers p ≡ Some x')
   pub subscribers : (q : ℕ) (y : Subscriber) → (Subscriber_handle q ≡ spent → ⊥) → s.subscribers q ≡ Some y → y.is_open ≡ true
       → (y' : Subscriber) × (s'.subscribers q ≡ Some y') × (y'.is_open ≡ true)
   pub next_port : s.next_port ≤ s'.next_port
-  pub came : (p : ℕ) (x' : Publisher) → p < s.next_port → s'.publishers p ≡ Some x' → (x : Publisher) × (s.publishers p ≡ Some x)
+  pub came : (p : ℕ) (x' : Publisher) → p < s.next_port → s'.publishers p ≡ Some x'
+      → (x : Publisher) × (s.publishers p ≡ Some x) × (x'.backpressure_handler ≡ x.backpressure_handler)
   pub opened : (q : ℕ) (y' : Subscriber) → q < s.next_port → s'.subscribers q ≡ Some y' → y'.is_open ≡ true → (y : Subscriber) × (s.subscribers q ≡ Some y) × (y.is_open ≡ true)
   pub blocked : (p n : ℕ) → (Blocked_handle p n ≡ moved → ⊥) → p < s.next_port → (HoldsBlocked s p n → HoldsBlocked s' p n) × (HoldsBlocked s' p n → HoldsBlocked s p n)
 
@@ -98,7 +99,7 @@ ports-keep spent moved s s' remain come waits = record {
   publishers = λ p x other there. let v = remain.publishers p x there in (v.0, v.1);
   subscribers = λ q y other there is_open. remain.subscribers q y there is_open;
   next_port = come.next_port;
-  came = λ p x' low there. let v = come.publishers p x' low there in (v.0, v.1);
+  came = λ p x' low there. let v = waits.publishers p x' low there in (v.0, v.1, (v.2).handler);
   opened = come.subscribers;
   blocked = λ p n _ low. waits_still Nobody s s' waits (λ p x there. let v = remain.publishers p x there in (v.0, v.1)) p n (λ nobody. nobody) low;
 }
@@ -112,7 +113,8 @@ keep-trans spent moved s mid s' a b = record {
   next_port = (let first = a.next_port in let second = b.next_port in omega (arith, first, second));
   came = λ p x' low there.
       let up = a.next_port in
-      let v = b.came p x' (omega (arith, low, up)) there in a.came p v.0 low v.1;
+      let v = b.came p x' (omega (arith, low, up)) there in
+      let u = a.came p v.0 low v.1 in (u.0, u.1, v.2 ∙ u.2);
   opened = λ q y' low there is_open.
       let up = a.next_port in
       let v = b.opened q y' (omega (arith, low, up)) there is_open in a.opened q v.0 low v.1 v.2;
@@ -133,6 +135,10 @@ module _ {T U : Type 0} (spent moved : Handle) (s s' : State T U) (keep : PortsK
     by : (o : Option Publisher) → s'.publishers p ≡ o → s'.publishers p ≡ None
     by None there = there
     by (Some x) there = let before = keep.came p x low there in absurd (none-some before.0 (sym none ∙ before.1))
+
+  -- nor does one get a box
+  boxless : {p : ℕ} → p < s.next_port → HasNoBox s p → HasNoBox s' p
+  boxless {p} low none x there boxed = let was = keep.came p x low there in none was.0 was.1 (sym was.2 ∙ boxed)
 
   -- nor is a subscriber opened
   shut : (q : ℕ) → q < s.next_port → ((y : Subscriber) → s.subscribers q ≡ Some y → y.is_open ≡ false) → (y : Subscriber) → s'.subscribers q ≡ Some y → y.is_open ≡ false
@@ -162,14 +168,14 @@ module _ {T U : Type 0} (spent moved : Handle) (s s' : State T U) (keep : PortsK
   still_entry (Sample_handle p q n) No_entry loans samples ports sends h = samples p q n refl ∙ h
   still_entry named (Publisher_entry service p) loans samples ports sends h =
       let other = (ports p (ap port_of h.1)).1 in
-      let v = keep.publishers p h.2 (λ e. other (h.1 ∙ e)) h.3 in (same h.0, h.1, v.0, v.1)
+      let v = keep.publishers p h.2 (λ e. other (h.1 ∙ e)) h.3 in (same h.0, h.1, v.0, v.1, boxless (ports p (ap port_of h.1)).0 h.4)
   still_entry named (Subscriber_entry service q) loans samples ports sends h =
       let other = (ports q (ap port_of h.1)).1 in
       let v = keep.subscribers q h.2 (λ e. other (h.1 ∙ e)) h.3 h.4 in (same h.0, h.1, v.0, v.1, v.2)
-  still_entry named (Unwritten_entry service p n) loans samples ports sends h = (same h.0, h.1, loan_kept (loans n h.1) h.2)
-  still_entry named (Written_entry service p n) loans samples ports sends h = (same h.0, h.1, loan_kept (loans n h.1) h.2)
+  still_entry named (Unwritten_entry service p n) loans samples ports sends h = (same h.0, h.1, loan_kept (loans n h.1) h.2, boxless (h.2).1 h.3)
+  still_entry named (Written_entry service p n) loans samples ports sends h = (same h.0, h.1, loan_kept (loans n h.1) h.2, boxless (h.2).1 h.3)
   still_entry named (Blocked_entry service p n) loans samples ports sends h =
-      let known = sends p n h.1 in (same h.0, h.1, (keep.blocked p n (λ e. known.1 (h.1 ∙ e)) known.0).0 h.2)
+      let known = sends p n h.1 in (same h.0, h.1, (keep.blocked p n (λ e. known.1 (h.1 ∙ e)) known.0).0 h.2, boxless known.0 h.3)
   still_entry named (Sample_entry service p q n) loans samples ports sends h = (same h.0, h.1, samples p q n h.1 ∙ h.2)
 
 set_here : {A : Type 0} (xs : List A) (i : ℕ) (x : A) → i < length xs → slice_get (slice_set xs i x) i ≡ Some x

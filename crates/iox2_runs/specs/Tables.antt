@@ -4,7 +4,7 @@ use Rattle.std.specs.declared.option.Option.{Option}
 use Rattle.std.specs.declared.option.Option.TheVariants.{None, Some}
 use Rattle.iox2_store.specs.machine.Numbers.{contains}
 use Rattle.iox2_store.specs.machine.Mailbox.{is_borrowed}
-use Rattle.iox2_store.specs.machine.Records.{Loan, Publisher, Subscriber}
+use Rattle.iox2_store.specs.machine.Records.{Loan, Publisher, Subscriber, Custom}
 use Rattle.iox2_store.specs.machine.SingleCalls.{HoldsBlocked}
 use Rattle.iox2_store.specs.machine.State.{State}
 use Rattle.iox2_commands.specs.Outcomes.{Handle, No_handle, Publisher_handle, Subscriber_handle, Loan_handle, Blocked_handle, Sample_handle, Event}
@@ -40,20 +40,25 @@ module _ {T U : Type 0} (s : State T U) where
   abbrev pub IsUnblocked : (p : ℕ) → Type 0
   IsUnblocked p = (x : Publisher) → s.publishers p ≡ Some x → x.blocked ≡ None
 
+  -- No box answers full buffers for the publisher, where it is there.
+  abbrev pub HasNoBox : (p : ℕ) → Type 0
+  HasNoBox p = (x : Publisher) → s.publishers p ≡ Some x → x.backpressure_handler ≡ Some Custom → ⊥
+
   -- The loan n is out, which is written or not. The publisher that lent it may be closed.
   abbrev pub HasLoan : (p n : ℕ) → (is_written : Bool) → Type 0
   HasLoan p n is_written = ((l : Loan T U) × (s.loans n ≡ Some l) × (l.publisher ≡ p) × (l.is_written ≡ is_written)) × (p < s.next_port)
 
-  -- The entry names what the handle names in this service, and that is live.
+  -- The entry names what the handle names in this service, and that is live. The publisher that it names has no box, but a sample's may
+  -- have one.
   abbrev pub IsEntryOf : Handle → TableEntry → Type 0
   IsEntryOf handle No_entry = IsSpent handle
   IsEntryOf handle (Publisher_entry service p) =
-      (service ≡ (s.config).service_id) × (handle ≡ Publisher_handle p) × (x : Publisher) × (s.publishers p ≡ Some x)
+      (service ≡ (s.config).service_id) × (handle ≡ Publisher_handle p) × (x : Publisher) × (s.publishers p ≡ Some x) × HasNoBox p
   IsEntryOf handle (Subscriber_entry service q) =
       (service ≡ (s.config).service_id) × (handle ≡ Subscriber_handle q) × (y : Subscriber) × (s.subscribers q ≡ Some y) × (y.is_open ≡ true)
-  IsEntryOf handle (Unwritten_entry service p n) = (service ≡ (s.config).service_id) × (handle ≡ Loan_handle n) × HasLoan p n false
-  IsEntryOf handle (Written_entry service p n) = (service ≡ (s.config).service_id) × (handle ≡ Loan_handle n) × HasLoan p n true
-  IsEntryOf handle (Blocked_entry service p n) = (service ≡ (s.config).service_id) × (handle ≡ Blocked_handle p n) × HoldsBlocked s p n
+  IsEntryOf handle (Unwritten_entry service p n) = (service ≡ (s.config).service_id) × (handle ≡ Loan_handle n) × HasLoan p n false × HasNoBox p
+  IsEntryOf handle (Written_entry service p n) = (service ≡ (s.config).service_id) × (handle ≡ Loan_handle n) × HasLoan p n true × HasNoBox p
+  IsEntryOf handle (Blocked_entry service p n) = (service ≡ (s.config).service_id) × (handle ≡ Blocked_handle p n) × HoldsBlocked s p n × HasNoBox p
   IsEntryOf handle (Sample_entry service p q n) =
       (service ≡ (s.config).service_id) × (handle ≡ Sample_handle p q n) × (is_borrowed n (s.mailboxes p q) ≡ true)
 

@@ -1,6 +1,8 @@
 -- A loan is sent, and its message is delivered.
 pub mod LoanAlone
 pub mod DeliverySteps
+pub mod AskedBoxes
+pub mod AnySends
 pub mod SentSlots
 pub mod SendEnded
 pub mod HistoryLeft

@@ -1,4 +1,5 @@
 -- A port goes over the places of the other side.
+pub mod AnyBoxes
 pub mod Extensions
 pub mod MadeConnections
 pub mod MadeRoom

@@ -13,7 +13,6 @@ use std::time::Duration;
 
 impl BlockedSend {
     ghost use Rattle.std.specs.Prelude.{Some};
-    ghost use Rattle.iox2_store.specs.machine.Environments.{fixed_handlers};
     ghost use Rattle.iox2_store.specs.machine.Records.{Publisher as Record, BlockedSend as Waiting};
     ghost use Rattle.iox2_store.specs.machine.Sends.{Retry, GiveUp};
     ghost use Rattle.iox2_store.specs.machine.State.{State, Messages};
@@ -21,6 +20,7 @@ impl BlockedSend {
     ghost use Rattle.iox2_pubsub.specs.LoansLeft.{HasOneMoreLeft, LoansLeftStay};
     ghost use Rattle.iox2_pubsub.specs.SendCalls.{IsDelivered};
     ghost use Rattle.iox2_pubsub.specs.declared.sample_mut.SampleMut.{SampleMut};
+    ghost use Rattle.iox2_domain.specs.Boxes.{answers_of};
     ghost use Rattle.iox2_domain.specs.Kept.{Kept};
     ghost use Rattle.iox2_domain.specs.Shows.{Shows};
 
@@ -41,7 +41,7 @@ impl BlockedSend {
     ) -> Result<SendOutcome, SendError>
         requires { IsBlockedSend domain.old self }
         ensures retries { (m : Messages T U) (s : State T U) (x : Record) (b : Waiting) → Shows domain.old m s → s.publishers self.loan.publisher ≡ Some x → x.blocked ≡ Some b
-            → (s' : State T U) × Shows domain.new m s' × Retry fixed_handlers s self.loan.publisher b elapsed s' (result_of_send result) }
+            → (s' : State T U) × Shows domain.new m s' × Retry (answers_of F.allows (domain.old).boxes) s self.loan.publisher b elapsed s' (result_of_send result) }
         ensures blocked { IfOk result (λ outcome. IfBlocked outcome (λ blocked. IsBlockedSend domain.new blocked × (blocked_key blocked ≡ blocked_key self))) }
         ensures no_more { IfOk result (λ outcome. IfBlocked outcome (λ blocked. receivers_ahead domain.new blocked ≤ receivers_ahead domain.old self)) }
         ensures ok { NeverFails domain.old self.loan.publisher → IsOk result }
@@ -58,7 +58,7 @@ impl BlockedSend {
     {
         let BlockedSend { service_id, loan } = self;
         let place = domain.state.find_live_publisher(loan.publisher, loan.place);
-        let end = retry_send(&mut domain.state, place, elapsed);
+        let end = retry_send(&mut domain.state, &domain.boxes, place, elapsed);
         outcome_of(BlockedSend { service_id, loan }, end)
     }
 
@@ -74,7 +74,7 @@ impl BlockedSend {
     ) -> Result<SendOutcome, SendError>
         requires { IsBlockedSend domain.old self }
         ensures gives_up { (m : Messages T U) (s : State T U) (x : Record) (b : Waiting) → Shows domain.old m s → s.publishers self.loan.publisher ≡ Some x → x.blocked ≡ Some b
-            → (s' : State T U) × Shows domain.new m s' × GiveUp fixed_handlers s self.loan.publisher b s' (result_of_send result) }
+            → (s' : State T U) × Shows domain.new m s' × GiveUp (answers_of F.allows (domain.old).boxes) s self.loan.publisher b s' (result_of_send result) }
         ensures blocked { IfOk result (λ outcome. IfBlocked outcome (λ blocked. IsBlockedSend domain.new blocked × (blocked_key blocked ≡ blocked_key self))) }
         ensures fewer { IfOk result (λ outcome. IfBlocked outcome (λ blocked. receivers_ahead domain.new blocked < receivers_ahead domain.old self)) }
         ensures ok { NeverFails domain.old self.loan.publisher → IsOk result }
@@ -91,7 +91,7 @@ impl BlockedSend {
     {
         let BlockedSend { service_id, loan } = self;
         let place = domain.state.find_live_publisher(loan.publisher, loan.place);
-        let end = give_up_send(&mut domain.state, place);
+        let end = give_up_send(&mut domain.state, &domain.boxes, place);
         outcome_of(BlockedSend { service_id, loan }, end)
     }
 }

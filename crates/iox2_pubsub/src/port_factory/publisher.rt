@@ -3,12 +3,14 @@ ghost use Rattle.std.specs.Prelude.{◌≡◌, ◌≤◌, ℕ, true, false, None
 ghost use Rattle.iox2_store.specs.machine.Environments.{fixed_handlers};
 ghost use Rattle.iox2_store.specs.machine.Ports.{CreatePublisher};
 ghost use Rattle.iox2_store.specs.machine.State.{State, Messages};
-ghost use Rattle.iox2_pubsub.specs.Live.{IsNewIn, IsReadyPublisher, NeverFails, NeverWaits, Stays, publisher_key, publisher_port, payloads, waiting};
+ghost use Rattle.iox2_pubsub.specs.Live.{IsNewIn, IsReadyPublisher, NeverFails, NeverWaits, Stays, handler_box, publisher_key, publisher_port, payloads, waiting};
 ghost use Rattle.iox2_pubsub.specs.LoansLeft.{HasLoansLeft, LoansLeftStay};
 ghost use Rattle.iox2_domain.specs.NewPublisher.{plain_publisher, static_publisher};
-ghost use Rattle.iox2_domain.specs.Handlers.{fixed_handler, may_fail};
-ghost use Rattle.iox2_ends.specs.Handlers.{mark_of};
-ghost use Rattle.iox2_pubsub.specs.Handlers.{IsFixed, may_wait};
+ghost use Rattle.iox2_domain.specs.Handlers.{may_fail};
+ghost use Rattle.iox2_ends.specs.Handlers.{marks_of};
+ghost use Rattle.iox2_ports.specs.Handlers.{custom_box};
+ghost use Rattle.iox2_pubsub.specs.Factories.{with_handler};
+ghost use Rattle.iox2_pubsub.specs.Handlers.{may_wait};
 ghost use Rattle.iox2_pubsub.specs.declared.subscriber.Subscriber.{Subscriber};
 ghost use Rattle.iox2_domain.specs.Shows.{Shows};
 
@@ -16,8 +18,7 @@ use crate::domain::Domain;
 use crate::publisher::Publisher;
 use iox2_ports::create_publisher;
 use iox2_store::{
-    BackpressureAction, BackpressureFn, BackpressureHandler, BackpressureStrategy, DegradationFn,
-    PublisherCreateError,
+    BackpressureFn, BackpressureHandler, BackpressureStrategy, DegradationFn, PublisherCreateError,
 };
 use std::marker::Model;
 
@@ -27,20 +28,24 @@ use std::marker::Model;
 ///
 /// iceoryx2's `PortFactoryPublisher` (`src/service/port_factory/publisher.rs`).
 #[derive(Drop)]
-pub struct PortFactoryPublisher {
+pub struct PortFactoryPublisher<F = Box<dyn BackpressureFn>> {
     max_loaned_samples: usize,
     backpressure_strategy: BackpressureStrategy,
-    backpressure_handler: Option<BackpressureAction>,
+    backpressure_handler: Option<BackpressureHandler<F>>,
 }
 
-impl Model for PortFactoryPublisher {
-    ghost use Rattle.iox2_store.specs.machine.Records.{PublisherSettings};
-    ghost use Rattle.iox2_domain.specs.Handlers.{fixed_handler};
+impl<F> Model for PortFactoryPublisher<F> {
     ghost use Rattle.iox2_domain.specs.NewPublisher.{static_publisher};
+    ghost use Rattle.iox2_ends.specs.Handlers.{marks_of};
+    ghost use Rattle.iox2_ports.specs.Handlers.{custom_box};
+    ghost use Rattle.iox2_pubsub.specs.Factories.{PublisherFactory};
 
-    ghost Value = { PublisherSettings };
+    ghost Value = { PublisherFactory F };
 
-    ghost view = { λ factory. static_publisher factory.max_loaned_samples factory.backpressure_strategy (fixed_handler factory.backpressure_handler) 1 };
+    ghost view = { λ factory. record {
+      settings = static_publisher factory.max_loaned_samples factory.backpressure_strategy (marks_of factory.backpressure_handler) 1;
+      box = custom_box factory.backpressure_handler;
+    } };
 }
 
 impl<T: Drop, U: Default + Drop, F: BackpressureFn, G: DegradationFn> Domain<T, U, F, G> {
@@ -48,8 +53,8 @@ impl<T: Drop, U: Default + Drop, F: BackpressureFn, G: DegradationFn> Domain<T, 
     /// with their strategy.
     ///
     /// iceoryx2's `publisher_builder` of a service's factory of ports.
-    pub fn publisher_builder(&self) -> PortFactoryPublisher
-        ensures { result ≡ plain_publisher (self.now.config).publisher_max_loaned_samples (self.now.config).backpressure_strategy 1 }
+    pub fn publisher_builder(&self) -> PortFactoryPublisher<F>
+        ensures { result ≡ record { settings = plain_publisher (self.now.config).publisher_max_loaned_samples (self.now.config).backpressure_strategy 1; box = None } }
     {
         PortFactoryPublisher {
             max_loaned_samples: self.state.config().publisher_max_loaned_samples,
@@ -59,13 +64,13 @@ impl<T: Drop, U: Default + Drop, F: BackpressureFn, G: DegradationFn> Domain<T, 
     }
 }
 
-impl PortFactoryPublisher {
+impl<F: BackpressureFn> PortFactoryPublisher<F> {
     /// Sets how many loans of the publisher may be out at a time, 0 or more.
     ///
     /// iceoryx2's `PortFactoryPublisher::max_loaned_samples`
     /// (`src/service/port_factory/publisher.rs`).
     pub fn max_loaned_samples(self, value: usize) -> Self
-        ensures { result ≡ record self { max_loaned_samples = value } }
+        ensures { result ≡ record self { settings = record (self.settings) { max_loaned_samples = value } } }
     {
         PortFactoryPublisher {
             max_loaned_samples: value,
@@ -80,7 +85,7 @@ impl PortFactoryPublisher {
     /// iceoryx2's `PortFactoryPublisher::backpressure_strategy`
     /// (`src/service/port_factory/publisher.rs`).
     pub fn backpressure_strategy(self, value: BackpressureStrategy) -> Self
-        ensures { result ≡ record self { backpressure_strategy = value } }
+        ensures { result ≡ record self { settings = record (self.settings) { backpressure_strategy = value } } }
     {
         PortFactoryPublisher {
             max_loaned_samples: self.max_loaned_samples,
@@ -91,22 +96,18 @@ impl PortFactoryPublisher {
 
     /// Sets what answers where the buffer of a subscriber is full and the service doesn't overflow,
     /// in place of the strategy: the send is blocked, or the subscriber doesn't get the message, and
-    /// then the send may fail. The handler has to be one with a fixed answer, as
-    /// `BackpressureHandler::new_with` makes it.
+    /// then the send may fail. A handler that is a box goes with the publisher to the domain, which
+    /// keeps it until the publisher is closed.
     ///
     /// iceoryx2's `PortFactoryPublisher::set_backpressure_handler`
     /// (`src/service/port_factory/publisher.rs`).
-    pub fn set_backpressure_handler(self, handler: BackpressureHandler) -> Self
-        requires fixed { IsFixed handler }
-        ensures { result ≡ record self { backpressure_handler = Some (mark_of handler) } }
+    pub fn set_backpressure_handler(self, handler: BackpressureHandler<F>) -> Self
+        ensures { result ≡ with_handler self handler }
     {
-        match handler {
-            BackpressureHandler::Fixed(action) => PortFactoryPublisher {
-                max_loaned_samples: self.max_loaned_samples,
-                backpressure_strategy: self.backpressure_strategy,
-                backpressure_handler: Some(action),
-            },
-            BackpressureHandler::Custom(_) => unreachable!(),
+        PortFactoryPublisher {
+            max_loaned_samples: self.max_loaned_samples,
+            backpressure_strategy: self.backpressure_strategy,
+            backpressure_handler: Some(handler),
         }
     }
 
@@ -118,30 +119,31 @@ impl PortFactoryPublisher {
     /// `ExceedsMaxSupportedPublishers` where as many publishers are open as may be, with
     /// `UnableToCreateDataSegment` where the number of slots or their size doesn't fit `usize`.
     /// After these, where memory is refused: with `UnableToCreateDataSegment` if it was for the
-    /// slots, with `FailedToDeployThreadsafetyPolicy` if it was for the publisher's state. No id is
-    /// then used, and the domain stays as it is.
+    /// slots, with `FailedToDeployThreadsafetyPolicy` if it was for the publisher's state or its box.
+    /// No id is then used, and the domain stays as it is.
     ///
     /// iceoryx2's `PortFactoryPublisher::create` (`src/service/port_factory/publisher.rs`) and
     /// `Publisher::new` (`src/port/publisher.rs`).
-    pub fn create<T: Drop, U: Default + Drop, F: BackpressureFn, G: DegradationFn>(
+    pub fn create<T: Drop, U: Default + Drop, G: DegradationFn>(
         self,
         domain: &mut Domain<T, U, F, G>,
     ) -> Result<Publisher, PublisherCreateError>
         ensures creates { (m : Messages T U) (s : State T U) → Shows domain.old m s → (s' : State T U) × Shows domain.new m s'
             × MatchResult result
-            (λ publisher. (publisher.id ≡ s.next_port) × CreatePublisher fixed_handlers s self s' None)
-            (λ e. CreatePublisher fixed_handlers s self s' (Some e)) }
+            (λ publisher. (publisher.id ≡ s.next_port) × CreatePublisher fixed_handlers s self.settings s' None)
+            (λ e. CreatePublisher fixed_handlers s self.settings s' (Some e)) }
         ensures ready { IfOk result (λ publisher. IsReadyPublisher domain.new publisher) }
-        ensures discards { self.backpressure_strategy ≡ BackpressureStrategy.DiscardData → self.backpressure_handler ≡ None → IfOk result (λ publisher. NeverWaits domain.new (publisher_key publisher)) }
-        ensures passes { may_wait self.backpressure_strategy self.backpressure_handler ≡ false → may_fail self.backpressure_handler ≡ false → IfOk result (λ publisher. NeverWaits domain.new (publisher_key publisher)) }
+        ensures discards { self.settings.backpressure_strategy ≡ BackpressureStrategy.DiscardData → self.settings.backpressure_handler ≡ None → IfOk result (λ publisher. NeverWaits domain.new (publisher_key publisher)) }
+        ensures passes { may_wait self.settings.backpressure_strategy self.settings.backpressure_handler ≡ false → may_fail self.settings.backpressure_handler ≡ false → IfOk result (λ publisher. NeverWaits domain.new (publisher_key publisher)) }
         ensures overflows { (domain.old.config).enable_safe_overflow ≡ true → IfOk result (λ publisher. NeverWaits domain.new (publisher_key publisher)) }
-        ensures never_fails { may_fail self.backpressure_handler ≡ false → IfOk result (λ publisher. NeverFails domain.new publisher.id) }
-        ensures strategy { IfOk result (λ publisher. publisher.strategy ≡ self.backpressure_strategy) }
+        ensures never_fails { may_fail self.settings.backpressure_handler ≡ false → IfOk result (λ publisher. NeverFails domain.new publisher.id) }
+        ensures boxed { IfOk result (λ publisher. handler_box domain.new publisher.id ≡ self.box) }
+        ensures strategy { IfOk result (λ publisher. publisher.strategy ≡ self.settings.backpressure_strategy) }
         ensures new { IfOk result (λ publisher. IsNewIn domain.old (publisher_port publisher)) }
         ensures refused { OnErr result (payloads domain.new ≡ payloads domain.old) }
         ensures no_fewer { (subscriber : Subscriber) → waiting domain.old subscriber ≤ waiting domain.new subscriber }
         ensures loans_left { LoansLeftStay domain.old domain.new }
-        ensures left { IfOk result (λ publisher. HasLoansLeft domain.new publisher self.max_loaned_samples) }
+        ensures left { IfOk result (λ publisher. HasLoansLeft domain.new publisher self.settings.max_loaned_samples) }
         ensures stays { Stays domain.old domain.new }
     {
         create_plain(
@@ -160,18 +162,19 @@ pub(crate) fn create_plain<T: Drop, U: Default + Drop, F: BackpressureFn, G: Deg
     domain: &mut Domain<T, U, F, G>,
     max_loaned_samples: usize,
     strategy: BackpressureStrategy,
-    handler: Option<BackpressureAction>,
+    handler: Option<BackpressureHandler<F>>,
     initial_max_slice_len: usize,
 ) -> Result<Publisher, PublisherCreateError>
     ensures creates { (m : Messages T U) (s : State T U) → Shows domain.old m s → (s' : State T U) × Shows domain.new m s'
         × MatchResult result
-        (λ publisher. (publisher.id ≡ s.next_port) × CreatePublisher fixed_handlers s (static_publisher max_loaned_samples strategy (fixed_handler handler) initial_max_slice_len) s' None)
-        (λ e. CreatePublisher fixed_handlers s (static_publisher max_loaned_samples strategy (fixed_handler handler) initial_max_slice_len) s' (Some e)) }
+        (λ publisher. (publisher.id ≡ s.next_port) × CreatePublisher fixed_handlers s (static_publisher max_loaned_samples strategy (marks_of handler) initial_max_slice_len) s' None)
+        (λ e. CreatePublisher fixed_handlers s (static_publisher max_loaned_samples strategy (marks_of handler) initial_max_slice_len) s' (Some e)) }
     ensures ready { IfOk result (λ publisher. IsReadyPublisher domain.new publisher) }
-    ensures discards { strategy ≡ BackpressureStrategy.DiscardData → fixed_handler handler ≡ None → IfOk result (λ publisher. NeverWaits domain.new (publisher_key publisher)) }
-    ensures passes { may_wait strategy (fixed_handler handler) ≡ false → may_fail (fixed_handler handler) ≡ false → IfOk result (λ publisher. NeverWaits domain.new (publisher_key publisher)) }
+    ensures discards { strategy ≡ BackpressureStrategy.DiscardData → marks_of handler ≡ None → IfOk result (λ publisher. NeverWaits domain.new (publisher_key publisher)) }
+    ensures passes { may_wait strategy (marks_of handler) ≡ false → may_fail (marks_of handler) ≡ false → IfOk result (λ publisher. NeverWaits domain.new (publisher_key publisher)) }
     ensures overflows { (domain.old.config).enable_safe_overflow ≡ true → IfOk result (λ publisher. NeverWaits domain.new (publisher_key publisher)) }
-    ensures never_fails { may_fail (fixed_handler handler) ≡ false → IfOk result (λ publisher. NeverFails domain.new publisher.id) }
+    ensures never_fails { may_fail (marks_of handler) ≡ false → IfOk result (λ publisher. NeverFails domain.new publisher.id) }
+    ensures boxed { IfOk result (λ publisher. handler_box domain.new publisher.id ≡ custom_box handler) }
     ensures strategy { IfOk result (λ publisher. publisher.strategy ≡ strategy) }
     ensures longest { IfOk result (λ publisher. publisher.initial_max_slice_len ≡ initial_max_slice_len) }
     ensures new { IfOk result (λ publisher. IsNewIn domain.old (publisher_port publisher)) }
@@ -184,6 +187,7 @@ pub(crate) fn create_plain<T: Drop, U: Default + Drop, F: BackpressureFn, G: Deg
     let service_id = domain.state.config().service_id;
     let port = create_publisher(
         &mut domain.state,
+        &mut domain.boxes,
         max_loaned_samples,
         strategy,
         handler,

@@ -9,6 +9,7 @@ use iox2_store::{BackpressureFn, DegradationFn, SendError};
 
 impl Publisher {
     ghost use Rattle.iox2_store.specs.machine.State.{State, Messages};
+    ghost use Rattle.iox2_domain.specs.Boxes.{answers_of};
     ghost use Rattle.iox2_domain.specs.Shows.{Shows};
     ghost use Rattle.iox2_pubsub.specs.Live.{A_blocked_send, AddAtMost, IsBlockedSend, IsReadyPublisher, IsSingleValued, NeverFails, NeverWaits, StaysBut, UpToDateStay, blocked_key, blocked_send, lender_key, publisher_key};
     ghost use Rattle.iox2_pubsub.specs.LoansLeft.{HasLoansLeft, HasNumbersLeft, TakesOneLeft};
@@ -28,7 +29,7 @@ impl Publisher {
         requires ready { IsReadyPublisher domain.old self.now }
         requires single_valued { IsSingleValued domain.old }
         ensures sends { (m : Messages T U) (s : State T U) → Shows domain.old m s
-            → (m' : Messages T U) × (s' : State T U) × Shows domain.new m' s' × SendsCopy U.is_default m s self.now.id value result m' s' }
+            → (m' : Messages T U) × (s' : State T U) × Shows domain.new m' s' × SendsCopy (answers_of F.allows (domain.old).boxes) U.is_default m s self.now.id value result m' s' }
         ensures delivered { NeverWaits domain.old (publisher_key self.now) → IfOk result IsDelivered }
         ensures blocked { IfOk result (λ outcome. IfBlocked outcome (λ blocked. IsBlockedSend domain.new blocked × (lender_key (blocked_key blocked) ≡ publisher_key self.now))) }
         ensures whose { IfOk result (λ outcome. IfBlocked outcome (λ blocked. blocked_send blocked ≡ A_blocked_send self.now.id)) }

@@ -20,12 +20,13 @@ impl SampleMut {
     ghost use Rattle.iox2_pubsub.specs.Slices.{HasValues};
     ghost use Rattle.iox2_pubsub.specs.SendCalls.{FailsSend, IsDelivered, Sends, messages_after, spent_by_send};
     ghost use Rattle.iox2_pubsub.specs.declared.subscriber.Subscriber.{Subscriber};
+    ghost use Rattle.iox2_domain.specs.Boxes.{answers_of};
     ghost use Rattle.iox2_domain.specs.Shows.{Shows};
 
-    /// Sends the message to every subscriber that is open. Where the buffer of one is full, the
-    /// publisher's strategy says what comes of that: the subscriber doesn't get it, or the send is
-    /// blocked, and waits for this subscriber. Returns how many subscribers took it, or the blocked
-    /// send.
+    /// Sends the message to every subscriber that is open. Where the buffer of one is full and the
+    /// service doesn't overflow, the publisher's handler says what comes of that, or without one its
+    /// strategy: the subscriber doesn't get it, or the send is blocked, and waits for this
+    /// subscriber. Returns how many subscribers took it, or the blocked send.
     ///
     /// Fails with `ConnectionBrokenSinceSenderNoLongerExists` where the publisher is gone: the message
     /// is lost. Fails with `UnableToDeliver` where the publisher's handler failed the send at some
@@ -46,7 +47,7 @@ impl SampleMut {
         ensures ok { HasLender domain.old (written_key self) → NeverFails domain.old self.loan.publisher → IsOk result }
         ensures errors { IfErr result (FailsSend domain.old (written_key self)) }
         ensures sent { (m : Messages T U) (s : State T U) (l : Loan T U) → Shows domain.old m s → s.loans self.loan.number ≡ Some l
-            → (s' : State T U) × Shows domain.new (messages_after m self.loan.number l result) s' × Sends s self.loan.number l result s' }
+            → (s' : State T U) × Shows domain.new (messages_after m self.loan.number l result) s' × Sends (answers_of F.allows (domain.old).boxes) s self.loan.number l result s' }
         ensures delivered { NeverWaits domain.old (written_key self) → IfOk result IsDelivered }
         ensures blocked { IfOk result (λ outcome. IfBlocked outcome (λ blocked. IsBlockedSend domain.new blocked × (blocked_key blocked ≡ written_key self))) }
         ensures spent { IsLoanKey domain.new (written_key self) → ⊥ }
@@ -69,7 +70,7 @@ impl SampleMut {
                 slot: loan.slot,
             },
         };
-        outcome_of(blocked, send_loan(&mut domain.state, loan))
+        outcome_of(blocked, send_loan(&mut domain.state, &domain.boxes, loan))
     }
 }
 

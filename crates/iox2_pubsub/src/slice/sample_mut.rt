@@ -22,6 +22,7 @@ impl SampleMut {
     ghost use Rattle.iox2_store.specs.machine.Loans.{loan_discarded};
     ghost use Rattle.iox2_store.specs.machine.Records.{Loan};
     ghost use Rattle.iox2_store.specs.machine.State.{State, Messages};
+    ghost use Rattle.iox2_domain.specs.Boxes.{answers_of};
     ghost use Rattle.iox2_domain.specs.Shows.{Shows};
     ghost use Rattle.iox2_pubsub.specs.Live.{AddAtMost, AreAllSlices, HasLender, IsBlockedSend, IsLoanKey, IsUnblocked, IsWritten, LoanHasHeader, LoanHasUserHeader, NeverFails, NeverWaits, StaysBut, blocked_key, UpToDateStay, payloads, waiting, written_key, written_loan};
     ghost use Rattle.iox2_pubsub.specs.declared.subscriber.Subscriber.{Subscriber};
@@ -54,7 +55,7 @@ impl SampleMut {
         ensures ok { HasLender domain.old (written_key self.sample) → NeverFails domain.old self.sample.loan.publisher → IsOk result }
         ensures errors { IfErr result (FailsSend domain.old (written_key self.sample)) }
         ensures sent { (m : Messages T U) (s : State T U) (l : Loan T U) → Shows domain.old m s → s.loans self.sample.loan.number ≡ Some l
-            → (s' : State T U) × Shows domain.new (messages_after m self.sample.loan.number l result) s' × Sends s self.sample.loan.number l result s' }
+            → (s' : State T U) × Shows domain.new (messages_after m self.sample.loan.number l result) s' × Sends (answers_of F.allows (domain.old).boxes) s self.sample.loan.number l result s' }
         ensures delivered { NeverWaits domain.old (written_key self.sample) → IfOk result IsDelivered }
         ensures blocked { IfOk result (λ outcome. IfBlocked outcome (λ blocked. IsBlockedSend domain.new blocked × (blocked_key blocked ≡ written_key self.sample))) }
         ensures spent { IsLoanKey domain.new (written_key self.sample) → ⊥ }

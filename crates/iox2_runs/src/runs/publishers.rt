@@ -25,15 +25,15 @@ fn value_factory<T: Drop, U: Default + Drop, F: BackpressureFn, G: DegradationFn
     loans: usize,
     strategy: BackpressureStrategy,
     backpressure: Option<BackpressureAction>,
-) -> PortFactoryPublisher
-    ensures { result ≡ static_publisher loans strategy (fixed_handler backpressure) 1 }
+) -> PortFactoryPublisher<F>
+    ensures { result.settings ≡ static_publisher loans strategy (fixed_handler backpressure) 1 }
 {
     let factory = domain
         .publisher_builder()
         .max_loaned_samples(loans)
         .backpressure_strategy(strategy);
     match backpressure {
-        Some(action) => factory.set_backpressure_handler(BackpressureHandler::new_with(action)),
+        Some(action) => factory.set_backpressure_handler(BackpressureHandler::Fixed(action)),
         None => factory,
     }
 }
@@ -45,8 +45,8 @@ fn slice_factory<T: Drop, U: Default + Drop, F: BackpressureFn, G: DegradationFn
     strategy: BackpressureStrategy,
     len: usize,
     backpressure: Option<BackpressureAction>,
-) -> slice::PortFactoryPublisher
-    ensures { result ≡ static_publisher loans strategy (fixed_handler backpressure) len }
+) -> slice::PortFactoryPublisher<F>
+    ensures { result.settings ≡ static_publisher loans strategy (fixed_handler backpressure) len }
 {
     let factory = domain
         .slice_publisher_builder()
@@ -54,7 +54,7 @@ fn slice_factory<T: Drop, U: Default + Drop, F: BackpressureFn, G: DegradationFn
         .backpressure_strategy(strategy)
         .initial_max_slice_len(len);
     match backpressure {
-        Some(action) => factory.set_backpressure_handler(BackpressureHandler::new_with(action)),
+        Some(action) => factory.set_backpressure_handler(BackpressureHandler::Fixed(action)),
         None => factory,
     }
 }

@@ -15,7 +15,6 @@ use Rattle.iox2_store.specs.machine.Ports.{new_publisher, with_new_publisher}
 use Rattle.iox2_slots.specs.SlotBook.{Book}
 use Rattle.iox2_slots.specs.SlotContents.{ContentState}
 use Rattle.iox2_laws.proofs.PortLaws.{new_publisher_keeps}
-use Rattle.iox2_domain.specs.Handlers.{HasNoBox}
 use Rattle.iox2_domain.specs.Ports.{PublisherFields, slot_length}
 use Rattle.iox2_domain.specs.Kept.{Named, state_of, ids}
 use Rattle.iox2_domain.specs.Fields.{Fields, kept_of, publisher_of}
@@ -37,10 +36,10 @@ module _ {T U : Type 0} (f : Fields T U) where
 
 module _ {T U : Type 0} (f : Fields T U) (sound : IsDomain f) (place loans : ℕ) (strategy : BackpressureStrategy) (handler : Option (Handler BackpressureAction)) (len loan_room key_room key : ℕ) (books : Slab Book) (contents : List (Option (List (ContentState T U))))
     (free : get_or f.publishers place None ≡ None)
-    (book : BookEnters f.next_port (worst_case f.config loans) (slot_length len * (f.config).units_per_element) key f.books f.contents books contents) (forms : HasForms f.config contents) (no_box : HasNoBox handler) where
+    (book : BookEnters f.next_port (worst_case f.config loans) (slot_length len * (f.config).units_per_element) key f.books f.contents books contents) (forms : HasForms f.config contents) where
   -- the new publisher among the fields whose subscribers are due
   abbrev pub enters : PublisherEnters (with_subscribers_due f) place loans strategy handler len loan_room key_room key books contents
-  enters = record { sound = subscribers_due-agree f sound; free = free; book = book; forms = forms; no_box = no_box }
+  enters = record { sound = subscribers_due-agree f sound; free = free; book = book; forms = forms }
 
   -- the fields with every subscriber due, and with the new publisher
   abbrev pub with_admitted : Fields T U

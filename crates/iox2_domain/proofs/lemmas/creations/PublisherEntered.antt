@@ -18,7 +18,6 @@ use Rattle.iox2_slots.specs.SlotContents.{ContentState}
 use Rattle.iox2_store.specs.machine.Mailbox.{Mailbox}
 use Rattle.iox2_ends.specs.LookUp.{look_up, IsOnly}
 use Rattle.iox2_laws.proofs.PortLaws.{no_publisher_yet}
-use Rattle.iox2_domain.specs.Handlers.{HasNoBox}
 use Rattle.iox2_domain.specs.Ports.{PublisherFields, slot_length}
 use Rattle.iox2_domain.specs.Kept.{Named, Between, state_of, port_named, ids, is_named, loan_in, stands_between, box_if_any}
 use Rattle.iox2_domain.specs.Fields.{Fields, kept_of, publisher_of}
@@ -37,7 +36,6 @@ pub record PublisherEnters {T U : Type 0} (f : Fields T U) (place loans : ℕ) (
   pub free : get_or f.publishers place None ≡ None
   pub book : BookEnters f.next_port (worst_case f.config loans) (slot_length len * (f.config).units_per_element) key f.books f.contents books contents
   pub forms : HasForms f.config contents
-  pub no_box : HasNoBox handler
 
 module _ {T U : Type 0} (f : Fields T U) (place loans : ℕ) (strategy : BackpressureStrategy) (handler : Option (Handler BackpressureAction)) (len loan_room key_room key : ℕ) (books : Slab Book) (contents : List (Option (List (ContentState T U))))
     (enters : PublisherEnters f place loans strategy handler len loan_room key_room key books contents) where

@@ -273,7 +273,7 @@ module _ {T U : Type 0} (f : Fields T U) (place loans : ℕ) (strategy : Backpre
       warning_room = enters.sound.parts.warning_room;
       shapes = record { at = shaped };
       forms = enters.forms;
-      plain = λ i x at. elim (was i x at) [ inl e ↦ rw e.1 (record { backpressure = enters.no_box; degradation = refl; lent = λ b e. absurd cc; allocation = refl }) | inr old ↦ enters.sound.parts.plain i x old ];
+      plain = λ i x at. elim (was i x at) [ inl e ↦ rw e.1 (record { degradation = refl; lent = λ b e. absurd cc; allocation = refl }) | inr old ↦ enters.sound.parts.plain i x old ];
       plain_subscribers = enters.sound.parts.plain_subscribers;
     };
     kept_books = kept_books;

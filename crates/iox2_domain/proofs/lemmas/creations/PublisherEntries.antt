@@ -17,7 +17,6 @@ use Rattle.iox2_store.specs.SingleValues.{is_single_valued}
 use Rattle.iox2_slots.specs.SlotBook.{Book, IsAligned}
 use Rattle.iox2_slots.specs.SlotContents.{ContentState}
 use Rattle.iox2_store.specs.declared.errors.PublisherCreateError.TheVariants.{UnableToCreatePortTag, ExceedsMaxSupportedPublishers}
-use Rattle.iox2_domain.specs.Handlers.{HasNoBox, fixed_handler}
 use Rattle.iox2_domain.specs.Ports.{PublisherFields, slot_length}
 use Rattle.iox2_domain.specs.Kept.{state_of}
 use Rattle.iox2_domain.specs.Fields.{Fields, kept_of}
@@ -29,11 +28,6 @@ use Rattle.iox2_domain.proofs.lemmas.fields.NamedBooks.{names-books}
 use Rattle.iox2_domain.proofs.lemmas.containers.FreePlaces.{lowest_empty-low, lowest_empty-free}
 use Rattle.iox2_domain.proofs.lemmas.containers.Placed.{placed-here, placed-others}
 use Rattle.iox2_domain.proofs.lemmas.creations.PublisherAdmitted.{with_admitted, admitted-reaches}
-
--- a handler with a fixed answer is no box
-pub fixed-no_box : (answer : Option BackpressureAction) → HasNoBox (fixed_handler answer)
-fixed-no_box None = tt
-fixed-no_box (Some action) = tt
 
 -- the tests of a place that a publisher has, in their order
 pub record HasPlace {T U : Type 0} (f : Fields T U) (place : ℕ) : Type 0 where
@@ -130,7 +124,6 @@ module _ {T U : Type 0} (f : Fields T U) where
   pub record HasEntered (loans slots : ℕ) (strategy : BackpressureStrategy) (handler : Option (Handler BackpressureAction)) (len place : ℕ) (x : PublisherFields) (book : Book) (slot_contents : List (ContentState T U)) (books : Slab Book) (before new : Fields T U) : Type 0 where
     pub publisher : x ≡ entering_publisher before.next_port place (before.books).vacant_key loans slots strategy handler len x.loan_room (buffer [] (before.config).history_size) x.key_room
     pub room : HasPublisherRoom before.config x
-    pub no_box : HasNoBox handler
     pub is_its : book.publisher ≡ before.next_port
     pub unused : book.holders ≡ replicate slots 0
     pub aligned : IsAligned book
@@ -180,7 +173,7 @@ module _ {T U : Type 0} (f : Fields T U) where
           | inr away ↦ sound.parts.forms.at several k zs (sym (placed-others slot_contents f.contents key k away) ∙ there)
         ];
       } in
-      let after : Fields T U = with_admitted f sound place loans strategy handler len x.loan_room x.key_room key books contents free enters forms e.no_box in
+      let after : Fields T U = with_admitted f sound place loans strategy handler len x.loan_room x.key_room key books contents free enters forms in
       let same : new ≡ after = e.changed ∙ ap (λ (z : PublisherFields). record f {
         next_port = f.next_port + 1;
         publishers = placed f.publishers place z;
@@ -189,7 +182,7 @@ module _ {T U : Type 0} (f : Fields T U) where
         contents = contents;
       }) is in
       subst (λ (g : Fields T U). Reaches f g (with_new_publisher (state_of (kept_of f)) (static_publisher loans strategy handler len) place)) (sym same)
-      (admitted-reaches f sound place loans strategy handler len x.loan_room x.key_room key books contents free enters forms e.no_box (subst (HasPublisherRoom f.config) is e.room)
+      (admitted-reaches f sound place loans strategy handler len x.loan_room x.key_room key books contents free enters forms (subst (HasPublisherRoom f.config) is e.room)
       (subst (λ (p : ℕ). suc p ≤ (f.config).max_publishers) has.lowest (ltb-true _ _ has.low)) next)
 
   -- the same, where the fields are known by another name

@@ -271,7 +271,7 @@ module _ {T U : Type 0} (f : Fields T U) (parts : HasParts f) (publishers : List
     forms = parts.forms;
     plain = λ i x at. let was = g.senders i x at in let has = parts.plain i was.0 was.1 in
         subst IsPlain (sym was.2.fields)
-        (record { backpressure = has.backpressure; degradation = has.degradation; lent = has.lent; allocation = has.allocation });
+        (record { degradation = has.degradation; lent = has.lent; allocation = has.allocation });
     plain_subscribers = λ i y at. let was = g.receivers i y at in let has = parts.plain_subscribers i was.0 was.1 in
         subst IsPlainSubscriber (sym was.2.fields) (record { degradation = has.degradation });
   }

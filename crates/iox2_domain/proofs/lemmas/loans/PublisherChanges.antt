@@ -16,7 +16,6 @@ use Rattle.iox2_ends.specs.Homes.{IsSenderLinked}
 use Rattle.std.proofs.lemmas.List.{get_or-set_same, get_or-set_other}
 use Rattle.iox2_ends.proofs.MailboxChanges.{within_if_some}
 use Rattle.iox2_ends.proofs.LookUps.{look_up-changed, look_up-found}
-use Rattle.iox2_domain.specs.Handlers.{HasNoBox}
 use Rattle.iox2_domain.specs.Ports.{PublisherFields}
 use Rattle.iox2_domain.specs.Kept.{Named, state_of, port_named, ids, is_named}
 use Rattle.iox2_domain.specs.Fields.{Fields, kept_of, publisher_of, is_book_of, numbers_of}
@@ -264,7 +263,6 @@ module _ {T U : Type 0} (f : Fields T U) (i : ℕ) (x y : PublisherFields) (at :
     | inl is ↦
         let has = plain i x at in
         rw is.1 (record {
-          backpressure = subst HasNoBox (sym keeps.backpressure_handler) has.backpressure;
           degradation = keeps.degradation_handler ∙ has.degradation;
           lent = lends has.lent;
           allocation = keeps.allocation ∙ has.allocation;

@@ -22,7 +22,10 @@ use Rattle.iox2_ends.specs.Mailboxes.{mailboxes_of, sender_ends}
 use Rattle.iox2_ends.specs.Receivers.{IsReadyToDeliver, buffers_of, has_id}
 use Rattle.iox2_ends.specs.Recounts.{Recounts}
 use Rattle.iox2_laws.proofs.Cases.{by_bool}
-use Rattle.iox2_domain.specs.Handlers.{HasNoBox, is_failing, may_fail}
+use Rattle.iox2_domain.specs.Boxes.{BoxAnswers, box_of, answers_of}
+use Rattle.iox2_domain.specs.Handlers.{AsksFor, is_failing, may_fail}
+use Rattle.iox2_domain.specs.declared.boxes.PortBox.{PortBox}
+use Rattle.iox2_domain.specs.declared.handlers.AskedBox.{AskedBox}
 use Rattle.iox2_domain.specs.Ports.{PublisherFields}
 use Rattle.iox2_domain.specs.Fields.{Fields}
 use Rattle.iox2_domain.specs.Invariant.{IsDomain, IsCounted, details_of, is_subscriber, holders_of, HasParts}
@@ -34,6 +37,9 @@ use Rattle.iox2_domain.proofs.lemmas.slots.HeldMessages.{own-in_use as held-itse
 use Rattle.iox2_domain.proofs.lemmas.slots.RecountedLoans.{recounted_fields, parts-recounted}
 use Rattle.std.proofs.lemmas.List.{get_or-set_same, length-set}
 use Rattle.iox2_ends.proofs.MailboxChanges.{within_if_some}
+use Rattle.iox2_ends.specs.Handlers.{asked, marks_of}
+use Rattle.iox2_store.specs.declared.backpressure_handler.BackpressureHandler.{BackpressureHandler}
+use Rattle.iox2_store.specs.declared.backpressure_handler.BackpressureHandler.TheVariants as handlers
 use Rattle.iox2_ends.proofs.AnyEnvironment.{AllowsAsMuch, Deliver-any}
 use Rattle.iox2_ends.proofs.Counts.{in_range, times-cons, one_if_same, get_or-one_holder_more}
 use Rattle.iox2_ends.proofs.ReclaimedPuts.{own-in_use, own-still}
@@ -100,28 +106,63 @@ never-fails environment f x slot start elapsed outcome new d none so_far count h
     number : ℕ → ℕ → ℕ
     number p slot = 0
 
--- where the handler is no box, nothing depends on what a box may answer
-pub as-much : (e e' : Environment) (p : ℕ) (h : Option (Handler BackpressureAction)) → HasNoBox h → AllowsAsMuch e e' p h
-as-much e e' p None no_box = tt
-as-much e e' p (Some (Fixed action)) no_box = tt
-as-much e e' p (Some Custom) no_box = absurd no_box
+module _ {F : Type 0} (allows : F → BackpressureInfo → BackpressureAction → Type 0) where
+  -- what a box that is asked may answer
+  abbrev pub Asked : AskedBox F → BackpressureInfo → BackpressureAction → Type 0
+  Asked a info action = BoxAnswers allows (box_of a.id (a.boxes.now).boxes) info action
 
-module _ {T U : Type 0} (f : Fields T U) (parts : HasParts f) (i : ℕ) (y : PublisherFields) (stands : get_or f.publishers i None ≡ Some y)
-    (slot : ℕ) (start : Progress) (elapsed : Duration) (outcome : DeliveryOutcome) (new : Slab Link) where
+  -- a handler that asks among these boxes answers as they do
+  pub asks-boxes : (id : ℕ) (boxes : List (PortBox F)) (h : Option (BackpressureHandler (AskedBox F))) → AsksFor id boxes h → AllowsAsMuch (asked Asked h) (answers_of allows boxes) id (marks_of h)
+  asks-boxes id boxes None asks = tt
+  asks-boxes id boxes (Some (handlers.Fixed action)) asks = tt
+  asks-boxes id boxes (Some (handlers.Custom a)) asks = λ info action answers.
+      subst (λ (p : ℕ). BoxAnswers allows (box_of p boxes) info action) asks.0
+      (subst (λ (all : List (PortBox F)). BoxAnswers allows (box_of a.id all) info action) asks.1 answers)
+
+module _ {T U : Type 0} (e e' : Environment) (old : Fields T U) (x : PublisherFields) (slot : ℕ) (outcome : DeliveryOutcome) (new : Fields T U) (allows : AllowsAsMuch e e' x.id x.backpressure_handler) where
+  delivers-alike : (start : Progress) (elapsed : Duration) → DeliversFrom e old x slot start elapsed outcome new → DeliversFrom e' old x slot start elapsed outcome new
+  delivers-alike start elapsed d = record {
+    book = d.book;
+    stands = d.stands;
+    holders = d.holders;
+    connections = d.connections;
+    delivered = d.delivered;
+    recounts = d.recounts;
+    alone = d.alone;
+    delivers = λ number.
+        Deliver-any e e' old.config x.id x.strategy x.backpressure_handler (buffers_of (map (option_map details_of) old.subscribers)) (number x.id slot) allows
+        start.retries elapsed start.place (drop start.place (sender_ends old.connections x.keys)) start.count start.has_failed (mailboxes_of number old.connections x.id)
+        (end_of (number x.id slot) (sender_ends old.connections x.keys) outcome) (mailboxes_of number d.connections x.id) (d.delivers number);
+  }
+
+module _ {T U : Type 0} (e e' : Environment) (old : Fields T U) (place : ℕ) (x : PublisherFields) (outcome : DeliveryOutcome) (new : Fields T U) (allows : AllowsAsMuch e e' x.id x.backpressure_handler) where
+  -- what is sent where a box may answer so is sent where it may answer as much
+  pub sends-alike : (slot : ℕ) → SendsSlot e old place x slot outcome new → SendsSlot e' old place x slot outcome new
+  sends-alike slot s = record {
+    delivered = s.delivered;
+    delivers = delivers-alike e e' old x slot outcome s.delivered allows begun no_time s.delivers;
+    book = s.book;
+    stands = s.stands;
+    ended = s.ended;
+  }
+
+  -- a blocked send that goes on where a box may answer so goes on where it may answer as much
+  pub goes-alike : (b : BlockedDelivery) (start : Progress) (elapsed : Duration) → GoesOn e old place x b start elapsed outcome new → GoesOn e' old place x b start elapsed outcome new
+  goes-alike b start elapsed s = record {
+    delivered = s.delivered;
+    delivers = delivers-alike e e' old x b.slot outcome s.delivered allows start elapsed s.delivers;
+    book = s.book;
+    stands = s.stands;
+    ended = s.ended;
+  }
+
+module _ {T U : Type 0} (f : Fields T U) (y : PublisherFields) (slot : ℕ) (start : Progress) (elapsed : Duration) (outcome : DeliveryOutcome) (new : Slab Link) where
   -- the publisher's slot is delivered where this handler answers for it
   abbrev pub DeliversWith : Environment → Option (Handler BackpressureAction) → Type 0
   DeliversWith environment h = (number : ℕ → ℕ → ℕ)
       → Deliver environment f.config y.id y.strategy h (buffers_of (map (option_map details_of) f.subscribers)) (number y.id slot)
       start.retries elapsed start.place (drop start.place (sender_ends f.connections y.keys)) start.count start.has_failed (mailboxes_of number f.connections y.id)
       (end_of (number y.id slot) (sender_ends f.connections y.keys) outcome) (mailboxes_of number new y.id)
-
-  -- the publisher's own is no box, and so answers in any environment
-  pub delivers-alike : (e e' : Environment) (h : Option (Handler BackpressureAction)) → h ≡ y.backpressure_handler → DeliversWith e h → DeliversWith e' y.backpressure_handler
-  delivers-alike e e' h same delivers number =
-      Deliver-any e e' f.config y.id y.strategy y.backpressure_handler (buffers_of (map (option_map details_of) f.subscribers)) (number y.id slot) (as-much e e' y.id y.backpressure_handler (parts.plain i y stands).backpressure)
-      start.retries elapsed start.place (drop start.place (sender_ends f.connections y.keys)) start.count start.has_failed (mailboxes_of number f.connections y.id)
-      (end_of (number y.id slot) (sender_ends f.connections y.keys) outcome) (mailboxes_of number new y.id)
-      (subst (λ (o : Option (Handler BackpressureAction)). DeliversWith e o) same delivers number)
 
 -- a delivery leaves its publisher's history
 pub delivered-history : (o : DeliveryOutcome) (slot : ℕ) (x : PublisherFields) → (with_delivered o slot x).history ≡ x.history
@@ -153,6 +194,11 @@ module _ {T U : Type 0} (f : Fields T U) (parts : HasParts f) (i : ℕ) (x : Pub
   }
 
 module _ {T U : Type 0} (environment : Environment) (before f : Fields T U) (same : f ≡ before) (i : ℕ) (y : PublisherFields) (stands : get_or f.publishers i None ≡ Some y) where
+  -- this handler is the publisher's own
+  pub delivers-own : (slot : ℕ) (start : Progress) (elapsed : Duration) (outcome : DeliveryOutcome) (new : Slab Link) (h : Option (Handler BackpressureAction)) → h ≡ y.backpressure_handler
+      → DeliversWith f y slot start elapsed outcome new environment h → DeliversWith f y slot start elapsed outcome new environment y.backpressure_handler
+  delivers-own slot start elapsed outcome new h own delivers = subst (λ (o : Option (Handler BackpressureAction)). DeliversWith f y slot start elapsed outcome new environment o) own delivers
+
   -- the delivery of the publisher that stands at the place
   module _ (b book : Book) (at : get f.books y.book ≡ Some b) (new : Slab Link) (is : book ≡ with_counters b book.holders) (r : Recounts y.id b.holders f.connections book.holders new)
       (slot : ℕ) (start : Progress) (elapsed : Duration) (outcome : DeliveryOutcome) (alone : GrowsAlone slot b.holders book.holders)

@@ -1,16 +1,14 @@
-use Rattle.std.proofs.Common.{◌≡◌, ◌<◌, ◌^◌, None, Some, slice_index_or, sym, ◌∙◌, ap, subst, arith, length}
+use Rattle.std.proofs.Common.{◌<◌, ◌^◌, None, Some, slice_index_or, sym, ◌∙◌, ap, subst, arith, length}
 use Rattle.iox2_slots.specs.SlotBook.{Book}
-use Rattle.iox2_store.specs.machine.Environments.{fixed_handlers}
 use Rattle.iox2_store.specs.machine.Delivery.{no_time}
 use Rattle.iox2_ends.specs.Deliveries.{begun}
 use Rattle.iox2_domain.specs.Deliveries.{with_delivered, pushed, leaving, with_sent, with_left}
-use Rattle.iox2_store.specs.declared.backpressure.BackpressureAction.TheVariants.{FollowBackpressureyStrategy}
 use Rattle.iox2_ends.specs.Handlers.{asked, marks_of}
 use Rattle.iox2_domain.specs.Ports.{PublisherFields}
 use Rattle.iox2_domain.specs.Fields.{Fields}
 use Rattle.iox2_domain.specs.Invariant.{IsDomain}
 use Rattle.iox2_domain.proofs.lemmas.slots.PublisherBooks.{read-there, book-covers}
-use Rattle.iox2_domain.proofs.lemmas.sends.DeliverySteps.{ready-to-deliver, delivers-alike, sends-slot, sent-once, sent-alone, sent-own, sent-in_use, leaves-in_use, delivered-history, history-holder-long, history-holder-used}
+use Rattle.iox2_domain.proofs.lemmas.sends.DeliverySteps.{ready-to-deliver, delivers-own, sends-slot, sent-once, sent-alone, sent-own, sent-in_use, leaves-in_use, delivered-history, history-holder-long, history-holder-used}
 use Rattle.iox2_messages.proofs.deliveries.send_slot.Goals as goal
 
 pub deliver-outcome-requires-clause-ready : goal.deliver-outcome-requires-clause-ready
@@ -83,11 +81,10 @@ pub returns : goal.returns
 returns g c = λ x at.
     let delivered = c.conclude.ensures.publisher ∙ ap (with_delivered c.deliver-outcome.result c.args.slot) (sym c.publisher.view_is) in
     let history = ap (λ (y : PublisherFields). y.history) delivered ∙ delivered-history c.deliver-outcome.result c.args.slot _ in
-    sends-slot fixed_handlers _ _ c.state.view_is c.args.place _ (read-there _ c.args.place _ _ (ap (λ (f : Fields g.row.T.Denot g.row.U.Denot). slice_index_or f.publishers c.args.place None) c.state.view_is ∙ c.requires.can.1) c.index_mut.ensures.value ∙ c.in-Some.is ∙ ap Some (sym c.publisher.view_is)) _ _ c.index_mut-book.ensures.value _ c.deliver-outcome.ensures.book
+    sends-slot (asked g.X.BackpressureFn.allows c.args.handler.now) _ _ c.state.view_is c.args.place _ (read-there _ c.args.place _ _ (ap (λ (f : Fields g.row.T.Denot g.row.U.Denot). slice_index_or f.publishers c.args.place None) c.state.view_is ∙ c.requires.can.1) c.index_mut.ensures.value ∙ c.in-Some.is ∙ ap Some (sym c.publisher.view_is)) _ _ c.index_mut-book.ensures.value _ c.deliver-outcome.ensures.book
     (rw c.value.ensures at c.deliver-outcome.ensures.recounts) c.args.slot c.deliver-outcome.result c.deliver-outcome.ensures.alone
-    (delivers-alike _ (subst (IsDomain {T = g.row.T.Denot} {U = g.row.U.Denot}) (sym c.state.view_is) c.requires.agrees).parts c.args.place _
-    (read-there _ c.args.place _ _ (ap (λ (f : Fields g.row.T.Denot g.row.U.Denot). slice_index_or f.publishers c.args.place None) c.state.view_is ∙ c.requires.can.1) c.index_mut.ensures.value ∙ c.in-Some.is ∙ ap Some (sym c.publisher.view_is))
-    c.args.slot begun no_time c.deliver-outcome.result c.deliver-outcome.new.connections (asked (λ function info answer. answer ≡ FollowBackpressureyStrategy) c.args.handler.now) fixed_handlers (marks_of c.args.handler.now)
+    (delivers-own (asked g.X.BackpressureFn.allows c.args.handler.now) _ _ c.state.view_is c.args.place _ (read-there _ c.args.place _ _ (ap (λ (f : Fields g.row.T.Denot g.row.U.Denot). slice_index_or f.publishers c.args.place None) c.state.view_is ∙ c.requires.can.1) c.index_mut.ensures.value ∙ c.in-Some.is ∙ ap Some (sym c.publisher.view_is))
+    c.args.slot begun no_time c.deliver-outcome.result c.deliver-outcome.new.connections (marks_of c.args.handler.now)
     (c.requires.handler _ (sym (ap (λ (f : Fields g.row.T.Denot g.row.U.Denot). slice_index_or f.publishers c.args.place None) c.state.view_is) ∙ (read-there _ c.args.place _ _ (ap (λ (f : Fields g.row.T.Denot g.row.U.Denot). slice_index_or f.publishers c.args.place None) c.state.view_is ∙ c.requires.can.1) c.index_mut.ensures.value ∙ c.in-Some.is ∙ ap Some (sym c.publisher.view_is))))
     (rw (c.value.ensures, c.deref.ensures.value, c.begun.ensures) at c.deliver-outcome.ensures.delivers))
     _ (c.remember.ensures.publisher ∙ (λ t. record (delivered t) { history = pushed (history t) c.args.slot }))

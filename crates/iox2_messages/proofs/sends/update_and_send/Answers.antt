@@ -10,6 +10,8 @@ use Rattle.iox2_domain.specs.Kept.{state_of}
 use Rattle.iox2_domain.specs.SentLoans.{SendsLoan}
 use Rattle.iox2_domain.proofs.lemmas.discards.LeftLoan.{can-let-go, left-sent}
 use Rattle.iox2_domain.proofs.lemmas.slots.LeftConnections.{unknown, stands-nowhere}
+use Rattle.iox2_domain.specs.Boxes.{answers_of}
+use Rattle.iox2_domain.proofs.lemmas.sends.AskedBoxes.{ready-boxes}
 use Rattle.iox2_domain.proofs.lemmas.sends.SendSteps.{sender-stands, updated-agrees, can-send, sends-loan}
 use Rattle.iox2_domain.proofs.lemmas.fields.ConnectionEnds.{free-of}
 use Rattle.iox2_messages.proofs.sends.update_and_send.Goals as goal
@@ -30,8 +32,8 @@ send_ready-requires-clause-can g c =
 
 pub returns-clause-sends : goal.returns-clause-sends
 returns-clause-sends g c =
-    let r = c.in-Some.ensures in
-    rw c.send_ready.ensures.sends.1 (sends-loan fixed_handlers c.args.state.now c.requires.agrees c.args.publisher c.args.number c.in-Some.ready.place c.requires.live (r.publisher, r.stands, r.is_its) (free-of c.args.state.now c.requires.agrees.parts c.args.publisher c.in-Some.ready.place r.publisher r.stands r.is_its c.requires.unblocked) c.update_and_find.new.state r.updated
+    let r = ready-boxes g.F.BackpressureFn.allows c.args.boxes.now.boxes c.args.state.now c.update_and_find.new.state c.args.publisher c.args.number c.in-Some.ready.place c.in-Some.ready.slot c.in-Some.ensures in
+    rw c.send_ready.ensures.sends.1 (sends-loan (answers_of g.F.BackpressureFn.allows c.args.boxes.now.boxes) c.args.state.now c.requires.agrees c.args.publisher c.args.number c.in-Some.ready.place c.requires.live (r.publisher, r.stands, r.is_its) (free-of c.args.state.now c.requires.agrees.parts c.args.publisher c.in-Some.ready.place r.publisher r.stands r.is_its c.requires.unblocked) c.update_and_find.new.state r.updated
     r.key c.in-Some.ready.slot r.lies c.send_ready.ensures.sends.0 c.send_ready.new.state c.send_ready.ensures.sends.2)
 
 -- ---- of a publisher that is gone
@@ -50,11 +52,11 @@ let_go-requires g c =
 
 pub returns-in_default-clause-sends : goal.returns-in_default-clause-sends
 returns-in_default-clause-sends g c =
-    subst (λ (f : Fields g.row.T.Denot g.row.U.Denot). SendsLoan fixed_handlers f c.let_go.new.self c.args.number (Send_error ConnectionBrokenSinceSenderNoLongerExists)) c.in_default.ensures.same
+    subst (λ (f : Fields g.row.T.Denot g.row.U.Denot). SendsLoan (answers_of g.F.BackpressureFn.allows c.args.boxes.now.boxes) f c.let_go.new.self c.args.number (Send_error ConnectionBrokenSinceSenderNoLongerExists)) c.in_default.ensures.same
     (left-sent c.update_and_find.new.state (subst (IsDomain {T = g.row.T.Denot} {U = g.row.U.Denot}) (sym c.in_default.ensures.same) c.requires.agrees) c.args.publisher c.args.number
     c.search_loan-at.result.book c.search_loan-at.result.slot c.search_loan-at.ensures
     (ap (λ (f : Fields g.row.T.Denot g.row.U.Denot). look_up (is_publisher c.args.publisher) f.publishers) c.in_default.ensures.same ∙ c.in_default.ensures.is_gone)
-    fixed_handlers c.let_go.new.self c.let_go.ensures)
+    (answers_of g.F.BackpressureFn.allows c.args.boxes.now.boxes) c.let_go.new.self c.let_go.ensures)
 
 pub returns-in_default-clause-kept : goal.returns-in_default-clause-kept
 returns-in_default-clause-kept g c = λ holds.

@@ -4,14 +4,14 @@ use Rattle.std.specs.Option.{option_map}
 use Rattle.std.specs.declared.option.Option.TheVariants.{None}
 use Rattle.circular_buffer.specs.Buffer.{buffer}
 use Rattle.iox2_store.specs.machine.Limits.{last_number, segment_fits}
-use Rattle.iox2_domain.specs.Handlers.{fixed_handler}
+use Rattle.iox2_domain.specs.Handlers.{handler_if_any}
 use Rattle.iox2_domain.specs.NewPublisher.{entering_publisher, subscriber_due}
 use Rattle.iox2_domain.specs.Ports.{PublisherFields}
 use Rattle.iox2_domain.specs.Fields.{Fields}
 use Rattle.iox2_domain.specs.Placed.{placed}
 use Rattle.iox2_domain.proofs.lemmas.containers.Placed.{placed-here}
 use Rattle.iox2_domain.proofs.lemmas.fields.ReachesShows.{reaches-same}
-use Rattle.iox2_domain.proofs.lemmas.creations.PublisherEntries.{fixed-no_box, entered-reaches-as, room-reaches, numbered-low, place-low}
+use Rattle.iox2_domain.proofs.lemmas.creations.PublisherEntries.{entered-reaches-as, room-reaches, numbered-low, place-low}
 use Rattle.iox2_ports.proofs.publisher_entry.admit_publisher.Goals as goal
 
 pub returns-in_default-entering-clause-step : goal.returns-in_default-entering-clause-step
@@ -57,13 +57,12 @@ overflow_add-state g c =
 pub returns-clause-step : goal.returns-clause-step
 returns-clause-step g c =
     let loans = c.args.max_loaned_samples in
-    entered-reaches-as {T = g.row.T.Denot} {U = g.row.U.Denot} c.args.state.now _ _ c.state.view_is c.requires.agrees loans c.args.slots c.args.strategy (fixed_handler c.args.handler) c.args.initial_max_slice_len c.args.place c.in-Ok-entering.publisher c.in-Ok.segment.book c.in-Ok.segment.contents
+    entered-reaches-as {T = g.row.T.Denot} {U = g.row.U.Denot} c.args.state.now _ _ c.state.view_is c.requires.agrees loans c.args.slots c.args.strategy (handler_if_any c.args.handler) c.args.initial_max_slice_len c.args.place c.in-Ok-entering.publisher c.in-Ok.segment.book c.in-Ok.segment.contents
     c.add_segment.new.books c.requires.has_place c.requires.slots (record {
       publisher = c.in-Ok-entering.ensures.enters
-          ∙ ap (λ id. entering_publisher id c.args.place c.vacant_key-key.result loans c.args.slots c.args.strategy (fixed_handler c.args.handler) c.args.initial_max_slice_len c.in-Ok-entering.publisher.loan_room (buffer [] c.state.inside.config.history_size) c.in-Ok-entering.publisher.key_room) c.new-id.ensures
-          ∙ ap (λ key. entering_publisher c.state.inside.next_port c.args.place key loans c.args.slots c.args.strategy (fixed_handler c.args.handler) c.args.initial_max_slice_len c.in-Ok-entering.publisher.loan_room (buffer [] c.state.inside.config.history_size) c.in-Ok-entering.publisher.key_room) c.vacant_key-key.ensures.value;
+          ∙ ap (λ id. entering_publisher id c.args.place c.vacant_key-key.result loans c.args.slots c.args.strategy (handler_if_any c.args.handler) c.args.initial_max_slice_len c.in-Ok-entering.publisher.loan_room (buffer [] c.state.inside.config.history_size) c.in-Ok-entering.publisher.key_room) c.new-id.ensures
+          ∙ ap (λ key. entering_publisher c.state.inside.next_port c.args.place key loans c.args.slots c.args.strategy (handler_if_any c.args.handler) c.args.initial_max_slice_len c.in-Ok-entering.publisher.loan_room (buffer [] c.state.inside.config.history_size) c.in-Ok-entering.publisher.key_room) c.vacant_key-key.ensures.value;
       room = c.in-Ok-entering.ensures.room;
-      no_box = fixed-no_box c.args.handler;
       is_its = c.in-Ok.ensures.is_its ∙ c.new-id.ensures;
       unused = c.in-Ok.ensures.unused;
       aligned = c.in-Ok.ensures.aligned;

@@ -1,16 +1,23 @@
-use Rattle.std.proofs.Common.{◌≡◌, ap, sym, subst, ℕ, false, get_or, refl, ◌∙◌}
+use Rattle.std.proofs.Common.{◌≡◌, ap, sym, subst, ℕ, false, get_or, refl, ◌∙◌, inr, List}
+use Rattle.std.specs.declared.option.Option.{Option}
 use Rattle.std.proofs.lemmas.Result.{err_from_is_err_and}
 use Rattle.std.proofs.lemmas.List.{get_or-set_same}
 use Rattle.std.specs.Prelude.{IsTrue}
 use Rattle.std.specs.declared.option.Option.TheVariants.{None, Some}
 use Rattle.iox2_store.specs.machine.Environments.{fixed_handlers}
 use Rattle.iox2_store.specs.machine.Limits.{worst_case, segment_fits}
-use Rattle.iox2_store.specs.machine.Ports.{first_segment_fits}
+use Rattle.iox2_store.specs.machine.Ports.{first_segment_fits, with_new_publisher}
+use Rattle.iox2_store.specs.machine.Records.{Handler}
+use Rattle.iox2_store.specs.declared.backpressure.BackpressureAction.{BackpressureAction}
+use Rattle.iox2_store.specs.declared.errors.PublisherCreateError.TheVariants.{FailedToDeployThreadsafetyPolicy}
 use Rattle.iox2_store.specs.machine.PublisherUpdate.{UpdatePublisher}
 use Rattle.iox2_ends.proofs.MailboxChanges.{within_if_some, both-true}
+use Rattle.iox2_domain.specs.Boxes.{box_of}
 use Rattle.iox2_domain.specs.Kept.{state_of}
+use Rattle.iox2_domain.specs.Reaches.{Reaches}
+use Rattle.iox2_domain.specs.declared.boxes.PortBox.{PortBox}
 use Rattle.iox2_domain.specs.Fields.{Fields, kept_of}
-use Rattle.iox2_domain.specs.Handlers.{fixed_handler}
+use Rattle.iox2_ends.specs.Handlers.{marks_of}
 use Rattle.iox2_domain.specs.Ports.{PublisherFields}
 use Rattle.iox2_domain.specs.NewPublisher.{static_publisher}
 use Rattle.iox2_domain.proofs.lemmas.creations.PublisherCreations.{created-refused, created-unfit, created-made, created-updated}
@@ -21,14 +28,14 @@ pub returns-in_err-place-clause-step : goal.returns-in_err-place-clause-step
 returns-in_err-place-clause-step g c =
     let refused = err_from_is_err_and c.from_residual.result c.from_residual.ensures.1 in
     rw (refused.1, refused.2) (
-      created-refused {T = g.row.T.Denot} {U = g.row.U.Denot} c.args.state.now c.args.max_loaned_samples c.args.strategy (fixed_handler c.args.handler) c.args.initial_max_slice_len fixed_handlers c.in_err-place.field-0.0 (sym c.place_for_publisher.ensures ∙ c.in_err-place.was),
+      created-refused {T = g.row.T.Denot} {U = g.row.U.Denot} c.args.state.now c.args.max_loaned_samples c.args.strategy (marks_of c.args.handler) c.args.initial_max_slice_len fixed_handlers c.in_err-place.field-0.0 (sym c.place_for_publisher.ensures ∙ c.in_err-place.was),
       reaches-same c.args.state.now c.requires,
     )
 
 pub returns-in_default-clause-step : goal.returns-in_default-clause-step
 returns-in_default-clause-step g c = (
-  created-unfit {T = g.row.T.Denot} {U = g.row.U.Denot} c.args.state.now c.args.max_loaned_samples c.args.strategy (fixed_handler c.args.handler) c.args.initial_max_slice_len fixed_handlers c.in_ok-place.place (sym c.place_for_publisher.ensures ∙ c.in_ok-place.was)
-      (subst (λ (f : Fields g.row.T.Denot g.row.U.Denot). IsTrue (first_segment_fits f.config (static_publisher c.args.max_loaned_samples c.args.strategy (fixed_handler c.args.handler) c.args.initial_max_slice_len)) → ⊥) c.state.view_is c.in_default.ensures),
+  created-unfit {T = g.row.T.Denot} {U = g.row.U.Denot} c.args.state.now c.args.max_loaned_samples c.args.strategy (marks_of c.args.handler) c.args.initial_max_slice_len fixed_handlers c.in_ok-place.place (sym c.place_for_publisher.ensures ∙ c.in_ok-place.was)
+      (subst (λ (f : Fields g.row.T.Denot g.row.U.Denot). IsTrue (first_segment_fits f.config (static_publisher c.args.max_loaned_samples c.args.strategy (marks_of c.args.handler) c.args.initial_max_slice_len)) → ⊥) c.state.view_is c.in_default.ensures),
   reaches-same c.args.state.now c.requires,
 )
 
@@ -36,9 +43,9 @@ pub returns-in_err-id-clause-step : goal.returns-in_err-id-clause-step
 returns-in_err-id-clause-step g c =
     let refused = err_from_is_err_and c.from_residual-in_err-id.result c.from_residual-in_err-id.ensures.1 in
     rw (refused.1, refused.2) (
-      created-made {T = g.row.T.Denot} {U = g.row.U.Denot} c.args.state.now c.args.max_loaned_samples c.args.strategy (fixed_handler c.args.handler) c.args.initial_max_slice_len fixed_handlers c.in_ok-place.place (state_of (kept_of c.args.state.now)) (Some c.in_err-id.field-0.0)
+      created-made {T = g.row.T.Denot} {U = g.row.U.Denot} c.args.state.now c.args.max_loaned_samples c.args.strategy (marks_of c.args.handler) c.args.initial_max_slice_len fixed_handlers c.in_ok-place.place (state_of (kept_of c.args.state.now)) (Some c.in_err-id.field-0.0)
           (sym c.place_for_publisher.ensures ∙ c.in_ok-place.was)
-          (subst (λ (f : Fields g.row.T.Denot g.row.U.Denot). IsTrue (first_segment_fits f.config (static_publisher c.args.max_loaned_samples c.args.strategy (fixed_handler c.args.handler) c.args.initial_max_slice_len))) c.state.view_is c.in-Some.ensures.0)
+          (subst (λ (f : Fields g.row.T.Denot g.row.U.Denot). IsTrue (first_segment_fits f.config (static_publisher c.args.max_loaned_samples c.args.strategy (marks_of c.args.handler) c.args.initial_max_slice_len))) c.state.view_is c.in-Some.ensures.0)
           (tt, refl, c.in_err-id.ensures.step.1),
       c.in_err-id.ensures.step.0,
     )
@@ -58,10 +65,25 @@ pub returns-clause-step : goal.returns-clause-step
 returns-clause-step g c =
     let entered = c.in_ok-id.ensures in
     let updated = c.update_publisher.ensures entered.stands.0 entered.stands.1 in
-    created-updated {T = g.row.T.Denot} {U = g.row.U.Denot} c.args.state.now c.args.max_loaned_samples c.args.strategy (fixed_handler c.args.handler) c.args.initial_max_slice_len fixed_handlers
+    created-updated {T = g.row.T.Denot} {U = g.row.U.Denot} c.args.state.now c.args.max_loaned_samples c.args.strategy (marks_of c.args.handler) c.args.initial_max_slice_len fixed_handlers
     c.admit_publisher.new.state c.update_publisher.new.state c.in_ok-place.place updated.after (sym c.place_for_publisher.ensures ∙ c.in_ok-place.was)
-    (subst (λ (f : Fields g.row.T.Denot g.row.U.Denot). IsTrue (first_segment_fits f.config (static_publisher c.args.max_loaned_samples c.args.strategy (fixed_handler c.args.handler) c.args.initial_max_slice_len))) c.state.view_is c.in-Some.ensures.0)
-    entered.step (subst (λ (id : ℕ). UpdatePublisher fixed_handlers (state_of (kept_of c.admit_publisher.new.state)) id updated.after None) entered.stands.2 updated.updates) updated.reaches
+    (subst (λ (f : Fields g.row.T.Denot g.row.U.Denot). IsTrue (first_segment_fits f.config (static_publisher c.args.max_loaned_samples c.args.strategy (marks_of c.args.handler) c.args.initial_max_slice_len))) c.state.view_is c.in-Some.ensures.0)
+    (subst (λ (h : Option (Handler BackpressureAction)). Reaches c.args.state.now c.admit_publisher.new.state
+    (with_new_publisher (state_of (kept_of c.args.state.now)) (static_publisher c.args.max_loaned_samples c.args.strategy h c.args.initial_max_slice_len) c.in_ok-place.place)) c.mark_of.ensures entered.step)
+    (subst (λ (id : ℕ). UpdatePublisher fixed_handlers (state_of (kept_of c.admit_publisher.new.state)) id updated.after None) entered.stands.2 updated.updates) updated.reaches
+
+pub returns-in_default-reserve_for-clause-step : goal.returns-in_default-reserve_for-clause-step
+returns-in_default-reserve_for-clause-step g c = (
+  created-made {T = g.row.T.Denot} {U = g.row.U.Denot} c.args.state.now c.args.max_loaned_samples c.args.strategy (marks_of c.args.handler) c.args.initial_max_slice_len fixed_handlers c.in_ok-place.place (state_of (kept_of c.args.state.now)) (Some FailedToDeployThreadsafetyPolicy)
+      (sym c.place_for_publisher.ensures ∙ c.in_ok-place.was)
+      (subst (λ (f : Fields g.row.T.Denot g.row.U.Denot). IsTrue (first_segment_fits f.config (static_publisher c.args.max_loaned_samples c.args.strategy (marks_of c.args.handler) c.args.initial_max_slice_len))) c.state.view_is c.in-Some.ensures.0)
+      (tt, refl, inr refl),
+  reaches-same c.args.state.now c.requires,
+)
+
+pub returns-clause-others : goal.returns-clause-others
+returns-clause-others g c = λ port away.
+    c.keep_box.ensures.others port (λ is. away (is ∙ c.in_ok-id.ensures.id)) ∙ ap (λ (all : List (PortBox g.row.F.Denot)). box_of port all) c.reserve_for.ensures.same
 
 pub admit_publisher-requires-clause-has_place : goal.admit_publisher-requires-clause-has_place
 admit_publisher-requires-clause-has_place g c = sym c.place_for_publisher.ensures ∙ c.in_ok-place.was
@@ -85,8 +107,8 @@ returns-clause-stands g c =
 
 pub admit_publisher-requires-clause-size : goal.admit_publisher-requires-clause-size
 admit_publisher-requires-clause-size g c =
-    let fits : IsTrue (first_segment_fits c.args.state.now.config (static_publisher c.args.max_loaned_samples c.args.strategy (fixed_handler c.args.handler) c.args.initial_max_slice_len)) =
-    subst (λ (f : Fields g.row.T.Denot g.row.U.Denot). IsTrue (first_segment_fits f.config (static_publisher c.args.max_loaned_samples c.args.strategy (fixed_handler c.args.handler) c.args.initial_max_slice_len))) c.state.view_is c.in-Some.ensures.0 in
+    let fits : IsTrue (first_segment_fits c.args.state.now.config (static_publisher c.args.max_loaned_samples c.args.strategy (marks_of c.args.handler) c.args.initial_max_slice_len)) =
+    subst (λ (f : Fields g.row.T.Denot g.row.U.Denot). IsTrue (first_segment_fits f.config (static_publisher c.args.max_loaned_samples c.args.strategy (marks_of c.args.handler) c.args.initial_max_slice_len))) c.state.view_is c.in-Some.ensures.0 in
     let slots : c.in-Some.slots ≡ worst_case c.args.state.now.config c.args.max_loaned_samples =
     c.in-Some.ensures.1 ∙ ap (λ (f : Fields g.row.T.Denot g.row.U.Denot). worst_case f.config c.args.max_loaned_samples) c.state.view_is in
     ap (λ (n : ℕ). segment_fits c.args.state.now.config n c.args.initial_max_slice_len) slots ∙ (both-true _ _ fits).1

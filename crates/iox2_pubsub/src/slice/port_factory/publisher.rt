@@ -3,12 +3,12 @@ ghost use Rattle.std.specs.Prelude.{◌≡◌, ◌≤◌, true, false, None, Som
 ghost use Rattle.iox2_store.specs.machine.Environments.{fixed_handlers};
 ghost use Rattle.iox2_store.specs.machine.Ports.{CreatePublisher};
 ghost use Rattle.iox2_store.specs.machine.State.{State, Messages};
-ghost use Rattle.iox2_pubsub.specs.Live.{IsNewIn, IsReadyPublisher, NeverFails, NeverWaits, Stays, publisher_key, publisher_port, payloads, waiting};
+ghost use Rattle.iox2_pubsub.specs.Live.{IsNewIn, IsReadyPublisher, NeverFails, NeverWaits, Stays, handler_box, publisher_key, publisher_port, payloads, waiting};
 ghost use Rattle.iox2_pubsub.specs.LoansLeft.{HasLoansLeft, LoansLeftStay};
 ghost use Rattle.iox2_domain.specs.NewPublisher.{plain_publisher};
 ghost use Rattle.iox2_domain.specs.Handlers.{may_fail};
-ghost use Rattle.iox2_ends.specs.Handlers.{mark_of};
-ghost use Rattle.iox2_pubsub.specs.Handlers.{IsFixed, may_wait};
+ghost use Rattle.iox2_pubsub.specs.Factories.{with_handler};
+ghost use Rattle.iox2_pubsub.specs.Handlers.{may_wait};
 ghost use Rattle.iox2_pubsub.specs.declared.subscriber.Subscriber.{Subscriber};
 ghost use Rattle.iox2_domain.specs.Shows.{Shows};
 
@@ -16,8 +16,7 @@ use crate::domain::Domain;
 use crate::port_factory::publisher::create_plain;
 use crate::slice::Publisher;
 use iox2_store::{
-    BackpressureAction, BackpressureFn, BackpressureHandler, BackpressureStrategy, DegradationFn,
-    PublisherCreateError,
+    BackpressureFn, BackpressureHandler, BackpressureStrategy, DegradationFn, PublisherCreateError,
 };
 use std::marker::Model;
 
@@ -27,21 +26,25 @@ use std::marker::Model;
 ///
 /// iceoryx2's `PortFactoryPublisher` of a slice (`src/service/port_factory/publisher.rs`).
 #[derive(Drop)]
-pub struct PortFactoryPublisher {
+pub struct PortFactoryPublisher<F = Box<dyn BackpressureFn>> {
     max_loaned_samples: usize,
     backpressure_strategy: BackpressureStrategy,
-    backpressure_handler: Option<BackpressureAction>,
+    backpressure_handler: Option<BackpressureHandler<F>>,
     initial_max_slice_len: usize,
 }
 
-impl Model for PortFactoryPublisher {
-    ghost use Rattle.iox2_store.specs.machine.Records.{PublisherSettings};
-    ghost use Rattle.iox2_domain.specs.Handlers.{fixed_handler};
+impl<F> Model for PortFactoryPublisher<F> {
     ghost use Rattle.iox2_domain.specs.NewPublisher.{static_publisher};
+    ghost use Rattle.iox2_ends.specs.Handlers.{marks_of};
+    ghost use Rattle.iox2_ports.specs.Handlers.{custom_box};
+    ghost use Rattle.iox2_pubsub.specs.Factories.{PublisherFactory};
 
-    ghost Value = { PublisherSettings };
+    ghost Value = { PublisherFactory F };
 
-    ghost view = { λ factory. static_publisher factory.max_loaned_samples factory.backpressure_strategy (fixed_handler factory.backpressure_handler) factory.initial_max_slice_len };
+    ghost view = { λ factory. record {
+      settings = static_publisher factory.max_loaned_samples factory.backpressure_strategy (marks_of factory.backpressure_handler) factory.initial_max_slice_len;
+      box = custom_box factory.backpressure_handler;
+    } };
 }
 
 impl<T: Drop, U: Default + Drop, F: BackpressureFn, G: DegradationFn> Domain<T, U, F, G> {
@@ -49,8 +52,8 @@ impl<T: Drop, U: Default + Drop, F: BackpressureFn, G: DegradationFn> Domain<T, 
     /// publisher, each of one element at most, and with their strategy.
     ///
     /// iceoryx2's `publisher_builder` of a service's factory of ports.
-    pub fn slice_publisher_builder(&self) -> PortFactoryPublisher
-        ensures { result ≡ plain_publisher (self.now.config).publisher_max_loaned_samples (self.now.config).backpressure_strategy 1 }
+    pub fn slice_publisher_builder(&self) -> PortFactoryPublisher<F>
+        ensures { result ≡ record { settings = plain_publisher (self.now.config).publisher_max_loaned_samples (self.now.config).backpressure_strategy 1; box = None } }
     {
         PortFactoryPublisher {
             max_loaned_samples: self.state.config().publisher_max_loaned_samples,
@@ -61,13 +64,13 @@ impl<T: Drop, U: Default + Drop, F: BackpressureFn, G: DegradationFn> Domain<T, 
     }
 }
 
-impl PortFactoryPublisher {
+impl<F: BackpressureFn> PortFactoryPublisher<F> {
     /// Sets how many loans of the publisher may be out at a time, 0 or more.
     ///
     /// iceoryx2's `PortFactoryPublisher::max_loaned_samples`
     /// (`src/service/port_factory/publisher.rs`).
     pub fn max_loaned_samples(self, value: usize) -> Self
-        ensures { result ≡ record self { max_loaned_samples = value } }
+        ensures { result ≡ record self { settings = record (self.settings) { max_loaned_samples = value } } }
     {
         PortFactoryPublisher {
             max_loaned_samples: value,
@@ -83,7 +86,7 @@ impl PortFactoryPublisher {
     /// iceoryx2's `PortFactoryPublisher::backpressure_strategy`
     /// (`src/service/port_factory/publisher.rs`).
     pub fn backpressure_strategy(self, value: BackpressureStrategy) -> Self
-        ensures { result ≡ record self { backpressure_strategy = value } }
+        ensures { result ≡ record self { settings = record (self.settings) { backpressure_strategy = value } } }
     {
         PortFactoryPublisher {
             max_loaned_samples: self.max_loaned_samples,
@@ -95,23 +98,19 @@ impl PortFactoryPublisher {
 
     /// Sets what answers where the buffer of a subscriber is full and the service doesn't overflow,
     /// in place of the strategy: the send is blocked, or the subscriber doesn't get the message, and
-    /// then the send may fail. The handler has to be one with a fixed answer, as
-    /// `BackpressureHandler::new_with` makes it.
+    /// then the send may fail. A handler that is a box goes with the publisher to the domain, which
+    /// keeps it until the publisher is closed.
     ///
     /// iceoryx2's `PortFactoryPublisher::set_backpressure_handler`
     /// (`src/service/port_factory/publisher.rs`).
-    pub fn set_backpressure_handler(self, handler: BackpressureHandler) -> Self
-        requires fixed { IsFixed handler }
-        ensures { result ≡ record self { backpressure_handler = Some (mark_of handler) } }
+    pub fn set_backpressure_handler(self, handler: BackpressureHandler<F>) -> Self
+        ensures { result ≡ with_handler self handler }
     {
-        match handler {
-            BackpressureHandler::Fixed(action) => PortFactoryPublisher {
-                max_loaned_samples: self.max_loaned_samples,
-                backpressure_strategy: self.backpressure_strategy,
-                backpressure_handler: Some(action),
-                initial_max_slice_len: self.initial_max_slice_len,
-            },
-            BackpressureHandler::Custom(_) => unreachable!(),
+        PortFactoryPublisher {
+            max_loaned_samples: self.max_loaned_samples,
+            backpressure_strategy: self.backpressure_strategy,
+            backpressure_handler: Some(handler),
+            initial_max_slice_len: self.initial_max_slice_len,
         }
     }
 
@@ -120,7 +119,7 @@ impl PortFactoryPublisher {
     /// iceoryx2's `PortFactoryPublisher::initial_max_slice_len`
     /// (`src/service/port_factory/publisher.rs`).
     pub fn initial_max_slice_len(self, value: usize) -> Self
-        ensures { result ≡ record self { initial_max_slice_len = value } }
+        ensures { result ≡ record self { settings = record (self.settings) { initial_max_slice_len = value } } }
     {
         PortFactoryPublisher {
             max_loaned_samples: self.max_loaned_samples,
@@ -138,30 +137,32 @@ impl PortFactoryPublisher {
     /// `UnableToCreateDataSegment` where the number of slots, or that times the longest length times
     /// the units of an element, doesn't fit `usize`. After these, where memory is refused: with
     /// `UnableToCreateDataSegment` if it was for the slots, with `FailedToDeployThreadsafetyPolicy`
-    /// if it was for the publisher's state. No id is then used, and the domain stays as it is.
+    /// if it was for the publisher's state or its box. No id is then used, and the domain stays as it
+    /// is.
     ///
     /// iceoryx2's `PortFactoryPublisher::create` (`src/service/port_factory/publisher.rs`) and
     /// `Publisher::new` (`src/port/publisher.rs`).
-    pub fn create<T: Drop, U: Default + Drop, F: BackpressureFn, G: DegradationFn>(
+    pub fn create<T: Drop, U: Default + Drop, G: DegradationFn>(
         self,
         domain: &mut Domain<T, U, F, G>,
     ) -> Result<Publisher, PublisherCreateError>
         ensures creates { (m : Messages T U) (s : State T U) → Shows domain.old m s → (s' : State T U) × Shows domain.new m s'
             × MatchResult result
-            (λ publisher. (publisher.publisher.id ≡ s.next_port) × CreatePublisher fixed_handlers s self s' None)
-            (λ e. CreatePublisher fixed_handlers s self s' (Some e)) }
+            (λ publisher. (publisher.publisher.id ≡ s.next_port) × CreatePublisher fixed_handlers s self.settings s' None)
+            (λ e. CreatePublisher fixed_handlers s self.settings s' (Some e)) }
         ensures ready { IfOk result (λ publisher. IsReadyPublisher domain.new publisher.publisher) }
-        ensures discards { self.backpressure_strategy ≡ BackpressureStrategy.DiscardData → self.backpressure_handler ≡ None → IfOk result (λ publisher. NeverWaits domain.new (publisher_key publisher.publisher)) }
-        ensures passes { may_wait self.backpressure_strategy self.backpressure_handler ≡ false → may_fail self.backpressure_handler ≡ false → IfOk result (λ publisher. NeverWaits domain.new (publisher_key publisher.publisher)) }
+        ensures discards { self.settings.backpressure_strategy ≡ BackpressureStrategy.DiscardData → self.settings.backpressure_handler ≡ None → IfOk result (λ publisher. NeverWaits domain.new (publisher_key publisher.publisher)) }
+        ensures passes { may_wait self.settings.backpressure_strategy self.settings.backpressure_handler ≡ false → may_fail self.settings.backpressure_handler ≡ false → IfOk result (λ publisher. NeverWaits domain.new (publisher_key publisher.publisher)) }
         ensures overflows { (domain.old.config).enable_safe_overflow ≡ true → IfOk result (λ publisher. NeverWaits domain.new (publisher_key publisher.publisher)) }
-        ensures never_fails { may_fail self.backpressure_handler ≡ false → IfOk result (λ publisher. NeverFails domain.new publisher.publisher.id) }
-        ensures strategy { IfOk result (λ publisher. publisher.publisher.strategy ≡ self.backpressure_strategy) }
-        ensures longest { IfOk result (λ publisher. publisher.publisher.initial_max_slice_len ≡ self.initial_max_slice_len) }
+        ensures never_fails { may_fail self.settings.backpressure_handler ≡ false → IfOk result (λ publisher. NeverFails domain.new publisher.publisher.id) }
+        ensures boxed { IfOk result (λ publisher. handler_box domain.new publisher.publisher.id ≡ self.box) }
+        ensures strategy { IfOk result (λ publisher. publisher.publisher.strategy ≡ self.settings.backpressure_strategy) }
+        ensures longest { IfOk result (λ publisher. publisher.publisher.initial_max_slice_len ≡ self.settings.initial_max_slice_len) }
         ensures new { IfOk result (λ publisher. IsNewIn domain.old (publisher_port publisher.publisher)) }
         ensures refused { OnErr result (payloads domain.new ≡ payloads domain.old) }
         ensures no_fewer { (subscriber : Subscriber) → waiting domain.old subscriber ≤ waiting domain.new subscriber }
         ensures loans_left { LoansLeftStay domain.old domain.new }
-        ensures left { IfOk result (λ publisher. HasLoansLeft domain.new publisher.publisher self.max_loaned_samples) }
+        ensures left { IfOk result (λ publisher. HasLoansLeft domain.new publisher.publisher self.settings.max_loaned_samples) }
         ensures stays { Stays domain.old domain.new }
     {
         match create_plain(

@@ -3,7 +3,9 @@ use Rattle.std.proofs.lemmas.Result.{err_from_is_err_and}
 use Rattle.iox2_store.specs.declared.key.Key.{Key}
 use Rattle.iox2_store.specs.machine.Loans.{written}
 use Rattle.iox2_store.specs.machine.State.{State}
-use Rattle.iox2_pubsub.specs.Live.{written_key}
+use Rattle.iox2_domain.specs.Boxes.{answers_of}
+use Rattle.iox2_pubsub.specs.Live.{publisher_key, written_key}
+use Rattle.iox2_pubsub.proofs.BoxesAlike.{sends-kept, written-lender}
 use Rattle.iox2_pubsub.proofs.SendShown.{fails-copy, fails-there, whose-blocked}
 use Rattle.iox2_pubsub.specs.SendCalls.{FailsCopy}
 use Rattle.iox2_pubsub.proofs.WrittenLoanCalls.{with_value, written-out, copy-sent, written-refused}
@@ -34,12 +36,21 @@ returns-clause-sends g c = λ m s shown.
     let same = ap (λ (k : Key). k.message) c.write_payload.ensures.key in
     let mid = with_value s lends.0 c.args.self.now.id c.in_ok-loan.loan.loan.number next wrote.0 wrote.1 c.args.value (lends.2).0 (lends.2).2 in
     let out = written-out s lends.0 c.args.self.now.id c.in_ok-loan.loan.loan.number next wrote.0 wrote.1 c.args.value (lends.2).0 (lends.2).2 in
-    let sent = c.send.ensures.sent m mid (written wrote.0 c.args.value) wrote.2 (ap mid.loans same ∙ out) in (
+    let sent = c.send.ensures.sent m mid (written wrote.0 c.args.value) wrote.2 (ap mid.loans same ∙ out) in
+    let key = publisher_key c.args.self.now in
+    let there = c.requires.ready.there in
+    let still = c.in_ok-loan.ensures.stays.publishers key there tt in
+    let boxed = c.write_payload.ensures.stays.boxes key still tt ∙ c.in_ok-loan.ensures.stays.boxes key there tt in
+    let lender =
+    written-lender _ c.write_payload.result c.write_payload.ensures.out m mid wrote.2 (written wrote.0 c.args.value) (ap mid.loans same ∙ out)
+    ∙ ap (λ (k : Key). k.port) c.write_payload.ensures.key ∙ c.in_ok-loan.ensures.publisher in (
       _,
       sent.0,
       sent.1,
       copy-sent s lends.0 c.args.self.now.id c.in_ok-loan.loan.loan.number next wrote.0 wrote.1 c.args.value (lends.2).0 (lends.2).2
-          g.U.Default.is_default (lends.2).1 m c.write_payload.result.loan.number same c.send.result (fails-there _ (written_key c.write_payload.result) (c.write_payload.ensures.lent c.in_ok-loan.ensures.lent) c.send.result c.send.ensures.errors) sent.0 sent.2,
+          (answers_of g.F.BackpressureFn.allows c.args.domain.now.boxes) g.U.Default.is_default (lends.2).1 m c.write_payload.result.loan.number same c.send.result
+          (fails-there _ (written_key c.write_payload.result) (c.write_payload.ensures.lent c.in_ok-loan.ensures.lent) c.send.result c.send.ensures.errors) sent.0
+          (sends-kept g.F.BackpressureFn.allows c.args.domain.now _ c.args.self.now.id boxed mid c.write_payload.result.loan.number (written wrote.0 c.args.value) c.send.result sent.0 lender sent.2),
     )
 
 pub send-requires-clause-unblocked : goal.send-requires-clause-unblocked

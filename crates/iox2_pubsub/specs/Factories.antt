@@ -1,0 +1,19 @@
+-- What a factory of publishers was told.
+use Rattle.std.specs.declared.option.Option.{Option}
+use Rattle.std.specs.declared.option.Option.TheVariants.{None, Some}
+use Rattle.iox2_store.specs.machine.Records.{PublisherSettings}
+use Rattle.iox2_store.specs.declared.backpressure_handler.BackpressureHandler.{BackpressureHandler}
+use Rattle.iox2_ends.specs.Handlers.{mark_of}
+use Rattle.iox2_ports.specs.Handlers.{custom_box}
+
+-- The settings of the publishers that it makes, and the box that answers full buffers for them, where there is one.
+pub record PublisherFactory (F : Type 0) : Type 0 where
+  pub settings : PublisherSettings
+  pub box : Option F
+
+-- The factory, told of this handler of full buffers.
+abbrev pub with_handler : {F : Type 0} → PublisherFactory F → BackpressureHandler F → PublisherFactory F
+with_handler factory handler = record {
+  settings = record (factory.settings) { backpressure_handler = Some (mark_of handler) };
+  box = custom_box (Some handler);
+}
