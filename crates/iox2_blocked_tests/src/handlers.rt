@@ -27,8 +27,8 @@ fn publisher_with(
     factory.create(domain).expect(rt, "a publisher")
 }
 
-// Why the send failed.
-fn failed(rt: &impl Abort, sent: Result<SendOutcome, SendError>) -> SendError
+/// Why the send failed.
+pub(crate) fn failed(rt: &impl Abort, sent: Result<SendOutcome, SendError>) -> SendError
     ensures { sent ≡ Err result }
 {
     match sent {

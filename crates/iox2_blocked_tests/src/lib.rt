@@ -11,6 +11,8 @@ mod blocked_slices;
 #[cfg(test)]
 mod blocked_slots;
 #[cfg(test)]
+mod boxes;
+#[cfg(test)]
 mod handlers;
 #[cfg(test)]
 mod waiting_publishers;

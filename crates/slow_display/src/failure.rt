@@ -1,6 +1,7 @@
 use iox2_pubsub::{
     DomainCreateError, PublisherCreateError, ReceiveError, SendError, SubscriberCreateError,
 };
+use std::alloc::AllocFailed;
 use std::io;
 
 /// Why the program ends early.
@@ -8,6 +9,8 @@ use std::io;
 pub enum Failure {
     /// There is no domain.
     Domain(DomainCreateError),
+    /// There is no memory for a handler.
+    Memory,
     /// There is no publisher.
     Publisher(PublisherCreateError),
     /// There is no subscriber.
@@ -23,6 +26,12 @@ pub enum Failure {
 impl From<DomainCreateError> for Failure {
     fn from(error: DomainCreateError) -> Self {
         Failure::Domain(error)
+    }
+}
+
+impl<T: Drop> From<AllocFailed<T>> for Failure {
+    fn from(_error: AllocFailed<T>) -> Self {
+        Failure::Memory
     }
 }
 

@@ -1,18 +1,23 @@
 //! A thermometer sends its readings to a display that is slow, and waits for it where it is full.
 //!
 //! This is how a program handles a send that is blocked: it matches on what came of the send, and
-//! spends the blocked send by another try or by giving up. Nothing else is tested when it runs.
+//! spends the blocked send by another try or by giving up. Nothing else is tested when it runs. How
+//! often a reading is tried again is said by a handler of its own.
 #![tactic(auto)]
 
 ghost use Rattle.iox2_pubsub.specs.Live.{IsLiveSubscriber, IsReadyPublisher, IsSingleValued, Stays};
 
 mod display;
 mod failure;
+mod patience;
 mod sending;
 
 use display::show_all;
 use failure::Failure;
-use iox2_pubsub::{Domain, Publisher, ServiceConfig, Subscriber};
+use iox2_pubsub::{
+    BackpressureFn, BackpressureHandler, Domain, Publisher, ServiceConfig, Subscriber,
+};
+use patience::Patience;
 use sending::{give_up, send_until_full, try_again};
 
 fn main(rt: HostRuntime) -> Result<(), Failure> {
@@ -29,14 +34,18 @@ fn main(rt: HostRuntime) -> Result<(), Failure> {
     outcome
 }
 
-// Makes the thermometer's publisher, which waits for a full display as the settings say, reports with
-// it and closes it.
+// Makes the thermometer's publisher, which has patience with a full display, reports with it and
+// closes it.
 fn run(rt: &HostRuntime, domain: &mut Domain<u32, ()>, display: &Subscriber) -> Result<(), Failure>
     requires single_valued { IsSingleValued domain.old }
     requires display { IsLiveSubscriber domain.old display.now }
     ensures { Stays domain.old domain.new }
 {
-    let publisher = domain.publisher_builder().create(domain)?;
+    let patience: Box<dyn BackpressureFn> = Box::new(rt.alloc(), Patience { retries: 2 })?;
+    let factory = domain.publisher_builder();
+    let publisher = factory
+        .set_backpressure_handler(BackpressureHandler::Custom(patience))
+        .create(domain)?;
     let outcome = report(rt, domain, &publisher, display);
     publisher.close(domain);
     outcome

@@ -1,0 +1,147 @@
+//! Publishers whose handler is a box.
+ghost use Rattle.std.specs.Prelude.{◌≡◌, nat_lt, cond};
+ghost use Rattle.std.specs.declared.result.Result.TheVariants.{Ok};
+ghost use Rattle.iox2_pubsub.specs.Live.{IsNewIn, IsReadyPublisher, IsSingleValued, Stays, publisher_port};
+ghost use Rattle.iox2_store.specs.declared.backpressure.BackpressureAction.TheVariants.{Retry, DiscardDataAndFail};
+
+use crate::handlers::failed;
+use crate::waiting_publishers::{blocked, delivered, next_reading, subscriber_of, waiting_domain};
+use iox2_fixtures::{Reading, Station};
+use iox2_pubsub::{
+    BackpressureAction, BackpressureFn, BackpressureHandler, BackpressureInfo,
+    BackpressureStrategy, Domain, Publisher, SendError,
+};
+use std::alloc::Global;
+use std::process::Abort;
+use std::time::Duration;
+
+// Tries a delivery again so many times, and fails it then.
+#[derive(Drop)]
+struct Patience {
+    retries: u64,
+}
+
+impl BackpressureFn for Patience {
+    ghost allows = { λ patience info action. action ≡ cond (nat_lt info.retries patience.retries) Retry DiscardDataAndFail };
+
+    fn call(&self, info: &BackpressureInfo) -> BackpressureAction {
+        if info.retries < self.retries {
+            BackpressureAction::Retry
+        } else {
+            BackpressureAction::DiscardDataAndFail
+        }
+    }
+}
+
+// A publisher that would discard, but that its box tries a delivery again so many times.
+fn patient_publisher(
+    rt: &impl Abort,
+    alloc: Global,
+    domain: &mut Domain<Reading, Station>,
+    retries: u64,
+) -> Publisher
+    ensures ready { IsReadyPublisher domain.new result }
+    ensures new { IsNewIn domain.old (publisher_port result) }
+    ensures stays { Stays domain.old domain.new }
+{
+    let patience: Box<dyn BackpressureFn> = Box::new(alloc, Patience { retries }).expect(
+        rt, "memory",
+    );
+    let factory = domain
+        .publisher_builder()
+        .backpressure_strategy(BackpressureStrategy::DiscardData)
+        .set_backpressure_handler(BackpressureHandler::Custom(patience));
+    factory.create(domain).expect(rt, "a publisher")
+}
+
+#[test]
+fn a_box_waits_twice_and_fails_the_send_then(rt: HostRuntime) {
+    let mut domain = waiting_domain(&rt, rt.alloc());
+    let subscriber = subscriber_of(&rt, &mut domain, 1);
+    let publisher = patient_publisher(&rt, rt.alloc(), &mut domain, 2);
+    let sent = publisher.send_copy(&mut domain, Reading { celsius: 1 });
+    let first = delivered(&rt, sent);
+    let sent = publisher.send_copy(&mut domain, Reading { celsius: 2 });
+    let waiting = blocked(&rt, sent);
+    let waiting = blocked(&rt, waiting.retry(&mut domain, Duration::from_millis(5)));
+    let error = failed(&rt, waiting.retry(&mut domain, Duration::from_millis(9)));
+    let is_blocked = publisher.is_blocked(&domain);
+    let read = next_reading(&rt, &mut domain, &subscriber);
+    let nothing = next_reading(&rt, &mut domain, &subscriber);
+    publisher.disown();
+    subscriber.disown();
+    drop(domain);
+    assert!(rt; first == 1);
+    assert!(rt; error == SendError::UnableToDeliver);
+    assert!(rt; !is_blocked);
+    assert!(rt; [read, nothing] == [Some(1), None]);
+}
+
+#[test]
+fn what_a_box_waits_for_is_given_up(rt: HostRuntime) {
+    let mut domain = waiting_domain(&rt, rt.alloc());
+    let subscriber = subscriber_of(&rt, &mut domain, 1);
+    let publisher = patient_publisher(&rt, rt.alloc(), &mut domain, 2);
+    let sent = publisher.send_copy(&mut domain, Reading { celsius: 1 });
+    let first = delivered(&rt, sent);
+    let sent = publisher.send_copy(&mut domain, Reading { celsius: 2 });
+    let waiting = blocked(&rt, sent);
+    let second = delivered(&rt, waiting.give_up(&mut domain));
+    publisher.disown();
+    subscriber.disown();
+    drop(domain);
+    assert!(rt; [first, second] == [1, 0]);
+}
+
+// Asked about it, the box would wait again.
+#[test]
+fn no_box_is_asked_about_a_closed_subscriber(rt: HostRuntime) {
+    let mut domain = waiting_domain(&rt, rt.alloc());
+    let subscriber = subscriber_of(&rt, &mut domain, 1);
+    let publisher = patient_publisher(&rt, rt.alloc(), &mut domain, 2);
+    let sent = publisher.send_copy(&mut domain, Reading { celsius: 1 });
+    let first = delivered(&rt, sent);
+    let sent = publisher.send_copy(&mut domain, Reading { celsius: 2 });
+    let waiting = blocked(&rt, sent);
+    subscriber.close(&mut domain);
+    let second = delivered(&rt, waiting.retry(&mut domain, Duration::from_millis(5)));
+    publisher.disown();
+    drop(domain);
+    assert!(rt; [first, second] == [1, 0]);
+}
+
+// The one box waits, the other one fails the send at once. Neither stays for a publisher that comes
+// when its own is closed.
+#[test]
+fn each_publisher_asks_its_own_box(rt: HostRuntime) {
+    let mut domain = waiting_domain(&rt, rt.alloc());
+    let subscriber = subscriber_of(&rt, &mut domain, 1);
+    let patient = patient_publisher(&rt, rt.alloc(), &mut domain, 1);
+    let hasty = patient_publisher(&rt, rt.alloc(), &mut domain, 0);
+    let sent = hasty.send_copy(&mut domain, Reading { celsius: 1 });
+    let first = delivered(&rt, sent);
+    let sent = hasty.send_copy(&mut domain, Reading { celsius: 2 });
+    let of_hasty = failed(&rt, sent);
+    let sent = patient.send_copy(&mut domain, Reading { celsius: 3 });
+    let second = delivered(&rt, sent);
+    let sent = patient.send_copy(&mut domain, Reading { celsius: 4 });
+    let waiting = blocked(&rt, sent);
+    let of_patient = failed(&rt, waiting.retry(&mut domain, Duration::ZERO));
+    hasty.close(&mut domain);
+    let plain = domain
+        .publisher_builder()
+        .create(&mut domain)
+        .expect(&rt, "a publisher");
+    let sent = plain.send_copy(&mut domain, Reading { celsius: 5 });
+    let third = delivered(&rt, sent);
+    let sent = plain.send_copy(&mut domain, Reading { celsius: 6 });
+    let waiting = blocked(&rt, sent);
+    let fourth = delivered(&rt, waiting.give_up(&mut domain));
+    patient.disown();
+    plain.disown();
+    subscriber.disown();
+    drop(domain);
+    assert!(rt; of_hasty == SendError::UnableToDeliver);
+    assert!(rt; of_patient == SendError::UnableToDeliver);
+    assert!(rt; [first, second, third, fourth] == [1, 1, 1, 0]);
+}
