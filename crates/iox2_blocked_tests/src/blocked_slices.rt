@@ -17,8 +17,8 @@ use std::time::Duration;
 #[derive(Default, Drop)]
 struct Tag(u64);
 
-// The settings of a domain of slices, with one publisher and one subscriber.
-fn slices() -> ServiceConfig
+/// The settings of a domain of slices, with one publisher and one subscriber.
+pub(crate) fn slices() -> ServiceConfig
     ensures { result ≡ record (default_config 7) { variant = Dynamic; node_id = 3; max_publishers = 1; max_subscribers = 1; enable_safe_overflow = false } }
 {
     ServiceConfig {

@@ -4,12 +4,13 @@ ghost use Rattle.std.specs.declared.result.Result.TheVariants.{Ok};
 ghost use Rattle.iox2_pubsub.specs.Live.{IsNewIn, IsReadyPublisher, IsSingleValued, Stays, publisher_port};
 ghost use Rattle.iox2_store.specs.declared.backpressure.BackpressureAction.TheVariants.{Retry, DiscardDataAndFail};
 
+use crate::blocked_slices::slices;
 use crate::handlers::failed;
 use crate::waiting_publishers::{blocked, delivered, next_reading, subscriber_of, waiting_domain};
 use iox2_fixtures::{Reading, Station};
 use iox2_pubsub::{
     BackpressureAction, BackpressureFn, BackpressureHandler, BackpressureInfo,
-    BackpressureStrategy, Domain, Publisher, SendError,
+    BackpressureStrategy, DegradationFn, Domain, Publisher, SendError,
 };
 use std::alloc::Global;
 use std::process::Abort;
@@ -144,4 +145,29 @@ fn each_publisher_asks_its_own_box(rt: HostRuntime) {
     assert!(rt; of_hasty == SendError::UnableToDeliver);
     assert!(rt; of_patient == SendError::UnableToDeliver);
     assert!(rt; [first, second, third, fourth] == [1, 1, 1, 0]);
+}
+
+// The domain's handlers are of this type, and not boxed.
+#[test]
+fn a_handler_of_the_domains_own_type_answers_for_slices(rt: HostRuntime) {
+    let made = Domain::with_handlers(rt.alloc(), slices());
+    let mut domain: Domain<u64, u64, Patience, Box<dyn DegradationFn>> = made.expect(
+        &rt, "a domain",
+    );
+    let factory = domain.slice_subscriber_builder().buffer_size(1);
+    let subscriber = factory.create(&mut domain).expect(&rt, "a subscriber");
+    let factory = domain
+        .slice_publisher_builder()
+        .set_backpressure_handler(BackpressureHandler::Custom(Patience { retries: 1 }));
+    let publisher = factory.create(&mut domain).expect(&rt, "a publisher");
+    let message = publisher.loan_slice(&mut domain, 1).expect(&rt, "a loan");
+    let first = delivered(&rt, message.send(&mut domain));
+    let message = publisher.loan_slice(&mut domain, 1).expect(&rt, "a loan");
+    let waiting = blocked(&rt, message.send(&mut domain));
+    let error = failed(&rt, waiting.retry(&mut domain, Duration::ZERO));
+    publisher.disown();
+    subscriber.disown();
+    drop(domain);
+    assert!(rt; first == 1);
+    assert!(rt; error == SendError::UnableToDeliver);
 }

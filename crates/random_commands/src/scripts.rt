@@ -15,7 +15,8 @@ pub struct Script {
     pub commands: Vec<Command<u64, u64>>,
 }
 
-/// The script with this number of those that the seed gives, of 1 to `most` commands.
+/// The script with this number of those that the seed gives, of 1 to `most` commands. A command for
+/// which the model has no rule is its last.
 pub fn draw_script(
     alloc: Global,
     seed: u64,
@@ -46,8 +47,12 @@ fn draw_commands(
         }
         let wish = draw_wish(chance, mood);
         let command = draw_word(chance, &model, config, wish);
-        model.carry_out(command, None)?;
         commands.push(command)?;
+        match model.carry_out(command, None) {
+            Ok(_) => {}
+            Err(ModelError::NoRule) => break,
+            Err(ModelError::OutOfMemory) => return Err(ModelError::OutOfMemory),
+        }
     }
     Ok(commands)
 }
