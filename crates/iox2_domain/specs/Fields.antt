@@ -7,7 +7,7 @@ use Rattle.slab.specs.Slab.{Slab}
 use Rattle.iox2_slots.specs.Link.{Link}
 use Rattle.iox2_store.specs.machine.Places.{occupants}
 use Rattle.iox2_slots.specs.SlotBook.{Book, holders_at}
-use Rattle.iox2_slots.specs.SlotContents.{ContentState}
+use Rattle.iox2_contents.specs.SlotContents.{ContentState}
 use Rattle.iox2_store.specs.machine.Records.{Publisher, Subscriber, BlockedSend}
 use Rattle.iox2_store.specs.declared.header.Header.{Header}
 use Rattle.iox2_slots.specs.declared.slots.mark.SlotMark.{SlotMark}

@@ -9,7 +9,7 @@ use Rattle.iox2_store.specs.machine.Limits.{warning_limit, segment_fits}
 use Rattle.iox2_slots.specs.Link.{Link}
 use Rattle.iox2_store.specs.SingleValues.{is_single_valued}
 use Rattle.iox2_slots.specs.SlotBook.{Book, IsAligned, holders_at}
-use Rattle.iox2_slots.specs.SlotContents.{ContentState}
+use Rattle.iox2_contents.specs.SlotContents.{ContentState}
 use Rattle.iox2_store.specs.machine.Loans.{is_static}
 use Rattle.iox2_store.specs.machine.Records.{Fixed}
 use Rattle.iox2_store.specs.machine.WellFormed.{IsWellFormed}

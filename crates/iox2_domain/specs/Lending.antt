@@ -7,7 +7,7 @@ use Rattle.slab.specs.Slab.{get, with_value}
 use Rattle.iox2_store.specs.machine.Limits.{last_number}
 use Rattle.iox2_store.specs.machine.Loans.{is_static, GrantLoan, loan_granted}
 use Rattle.iox2_slots.specs.SlotBook.{Book, holders_at}
-use Rattle.iox2_slots.specs.SlotContents.{ContentState, with_changed, unwritten_content}
+use Rattle.iox2_contents.specs.SlotContents.{ContentState, with_changed, unwritten_content}
 use Rattle.iox2_store.specs.machine.State.{State}
 use Rattle.iox2_store.specs.declared.errors.LoanError.{LoanError}
 use Rattle.iox2_store.specs.declared.header.Header.{Header}

@@ -9,7 +9,7 @@ use Rattle.iox2_store.specs.machine.Records.{Loan}
 use Rattle.iox2_store.specs.machine.State.{State, with_loan}
 use Rattle.iox2_store.specs.machine.Loans.{is_initialized, initialized}
 use Rattle.iox2_slots.specs.SlotBook.{Book}
-use Rattle.iox2_slots.specs.SlotContents.{ContentState, SomeAt, with_changed}
+use Rattle.iox2_contents.specs.SlotContents.{ContentState, SomeAt, with_changed}
 use Rattle.iox2_store.specs.declared.header.Header.{Header}
 use Rattle.iox2_slots.specs.declared.slots.mark.SlotMark.{SlotMark}
 use Rattle.iox2_domain.specs.Kept.{state_of}

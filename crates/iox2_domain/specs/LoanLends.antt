@@ -3,8 +3,8 @@ use Rattle.std.specs.Prelude.{ℕ, List, Option, slice_set}
 use Rattle.std.specs.declared.option.Option.TheVariants.{Some}
 use Rattle.std.specs.Borrow.{Lends, MutBor, Fml, RattleType, Array}
 use Rattle.std.specs.contracts.option.Option.{the_row as option_row}
-use Rattle.iox2_slots.specs.SlotContents.{ContentState, with_first_cell, with_cells, with_first_value, with_values, with_user_header}
-use Rattle.iox2_slots.specs.contracts.slots.contents.Contents.{the_row as contents_row}
+use Rattle.iox2_contents.specs.SlotContents.{ContentState, with_first_cell, with_cells, with_first_value, with_values, with_user_header}
+use Rattle.iox2_contents.specs.contracts.contents.Contents.{the_row as contents_row}
 use Rattle.iox2_domain.specs.Fields.{Fields}
 use Rattle.iox2_domain.specs.LoanCalls.{with_content}
 use Rattle.iox2_domain.specs.contracts.state.DomainState.{the_row}

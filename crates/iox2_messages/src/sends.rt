@@ -9,10 +9,9 @@ ghost use Rattle.iox2_domain.specs.Invariant.{IsDomain};
 ghost use Rattle.iox2_domain.specs.LoanCalls.{HoldsWritten};
 ghost use Rattle.iox2_domain.specs.SentLoans.{IsLeftLoan, IsReadyToSend, SendsLoan};
 ghost use Rattle.iox2_store.specs.machine.State.{is_blocked};
-ghost use Rattle.iox2_messages.specs.SendEnds.{IsKept, end_result};
+ghost use Rattle.iox2_deliveries.specs.SendEnds.{IsKept, end_result};
 
-use crate::deliveries::{has_handler_at, send_ready, send_unasked};
-use crate::send_end::SendEnd;
+use iox2_deliveries::{SendEnd, has_handler_at, send_ready, send_unasked};
 use iox2_domain::{Boxes, DomainState, LoanAt};
 use iox2_store::{BackpressureFn, UniquePublisherId};
 use iox2_updates::update_publisher;

@@ -6,8 +6,9 @@ ghost use Rattle.iox2_domain.specs.NewPublisher.{IsNewSegment};
 ghost use Rattle.iox2_domain.specs.Ports.{slot_length};
 ghost use Rattle.iox2_domain.specs.Placed.{placed};
 
+use iox2_contents::Contents;
 use iox2_domain::{put_at_place, reserve_place, units_of};
-use iox2_slots::{Contents, SlotBook};
+use iox2_slots::SlotBook;
 use iox2_store::{ServiceConfig, UniquePublisherId, worst_case_slots};
 use slab::Slab;
 use std::alloc::{AllocError, Global};

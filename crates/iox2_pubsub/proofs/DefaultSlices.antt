@@ -2,7 +2,7 @@
 use Rattle.std.proofs.Common.{ℕ, ◌+◌, List, [], ◌∷◌}
 use Rattle.std.specs.List.{All, FoldsTo, enumerate_from}
 use Rattle.std.proofs.lemmas.List.Elements.{All-nil, All-cons}
-use Rattle.iox2_slots.specs.SlotCalls.{AnswersInOrder}
+use Rattle.iox2_contents.specs.SlotCalls.{AnswersInOrder}
 
 module _ {F T : Type 0} (step : F → ℕ → T → F → Type 0) (IsValue : T → Type 0) (each : (f : F) (i : ℕ) (value : T) (g : F) → step f i value g → IsValue value) where
   answered-from : (n : ℕ) (answers : List T) (f last : F) → FoldsTo (λ before call after. step before call.0 call.1 after) f (enumerate_from n answers) last → All IsValue answers

@@ -7,7 +7,7 @@ use Rattle.std.specs.declared.option.Option.TheVariants.{None, Some}
 use Rattle.iox2_store.specs.declared.header.Header.{Header}
 use Rattle.iox2_store.specs.declared.key.Key.{Key}
 use Rattle.iox2_store.specs.SingleValues.{is_single_valued}
-use Rattle.iox2_slots.specs.SlotContents.{ContentState, with_first_cell, with_first_value, with_user_header as with_header_in, with_cells as with_cells_in, with_values as with_values_in, first_cell_at, first_value_at, cells_at, values_at, user_header_at}
+use Rattle.iox2_contents.specs.SlotContents.{ContentState, with_first_cell, with_first_value, with_user_header as with_header_in, with_cells as with_cells_in, with_values as with_values_in, first_cell_at, first_value_at, cells_at, values_at, user_header_at}
 use Rattle.iox2_store.specs.machine.Records.{Loan}
 use Rattle.iox2_store.specs.machine.SingleCalls.{HoldsLoan}
 use Rattle.iox2_store.specs.machine.State.{State, Messages, with_loan}

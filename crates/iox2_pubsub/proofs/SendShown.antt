@@ -33,8 +33,8 @@ use Rattle.iox2_domain.specs.declared.boxes.PortBox.{PortBox}
 use Rattle.iox2_domain.specs.Fields.{Fields, kept_of, keeping}
 use Rattle.iox2_domain.specs.Kept.{state_of}
 use Rattle.iox2_domain.specs.SentLoans.{SendsLoan}
-use Rattle.iox2_messages.specs.SendEnds.{IsKept, end_result}
-use Rattle.iox2_messages.specs.declared.send_end.SendEnd.{SendEnd}
+use Rattle.iox2_deliveries.specs.SendEnds.{IsKept, end_result}
+use Rattle.iox2_deliveries.specs.declared.send_end.SendEnd.{SendEnd}
 use Rattle.iox2_domain.specs.Shows.{Shows}
 use Rattle.std.specs.declared.result.Result.{Result}
 use Rattle.std.specs.declared.result.Result.TheVariants.{Ok, Err}

@@ -5,8 +5,8 @@ ghost use Rattle.iox2_pubsub.specs.Live.{blocked_key};
 mod retry;
 
 use crate::domain::Domain;
+use iox2_deliveries::has_blocked_send;
 use iox2_domain::LoanAt;
-use iox2_messages::has_blocked_send;
 use iox2_store::{BackpressureFn, DegradationFn, Key, UniquePublisherId};
 
 /// A send that waits for a subscriber whose buffer is full. It is a value to be spent: until then

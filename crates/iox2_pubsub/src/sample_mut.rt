@@ -7,8 +7,8 @@ pub(crate) mod send;
 mod user_header_mut;
 
 use crate::domain::Domain;
+use iox2_deliveries::{is_waiting, loan_header, loan_user_header, loan_value};
 use iox2_domain::LoanAt;
-use iox2_messages::{is_waiting, loan_header, loan_user_header, loan_value};
 use iox2_store::{BackpressureFn, DegradationFn, Header, Key};
 
 /// A loan whose payload is written. It is a value to be spent: the domain keeps the loan until its

@@ -8,8 +8,8 @@ mod user_header_mut;
 mod write_payload;
 
 use crate::domain::Domain;
+use iox2_deliveries::{loan_cell, loan_header, loan_user_header};
 use iox2_domain::LoanAt;
-use iox2_messages::{loan_cell, loan_header, loan_user_header};
 use iox2_store::{BackpressureFn, DegradationFn, Header, Key};
 
 /// A loan whose payload isn't written. It is a value to be spent: the domain keeps the loan until

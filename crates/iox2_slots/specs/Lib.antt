@@ -1,12 +1,4 @@
 pub mod SlotFree
 pub mod SlotBook
-pub mod SlotCalls
-pub mod SlotElements
-pub mod ElementLends
-pub mod SlotPayload
-pub mod PayloadLends
-pub mod SlotContents
-pub mod ContentLends
-pub mod ContentsLends
 pub mod Link
 pub mod LinkFields

@@ -1,8 +1,8 @@
-//! The slots of a publisher, and the connections of ports.
+//! The book of a publisher's slots, and the connections of ports.
 #![tactic(auto)]
 
 mod connection;
 mod slots;
 
 pub use connection::{Connection, Home, PutOutcome};
-pub use slots::{Contents, SlotBook, SlotMark};
+pub use slots::{SlotBook, SlotMark};

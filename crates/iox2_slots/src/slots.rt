@@ -1,12 +1,7 @@
-//! Where messages lie: the slots of a publisher, their book and their contents.
+//! The slots of a publisher, in their book.
 mod book;
-mod content;
-mod contents;
-mod elements;
 mod mark;
-mod payload;
 mod slot;
 
 pub use book::SlotBook;
-pub use contents::Contents;
 pub use mark::SlotMark;

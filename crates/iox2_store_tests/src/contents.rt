@@ -1,4 +1,4 @@
-use iox2_slots::Contents;
+use iox2_contents::Contents;
 use std::alloc::Global;
 use std::process::Abort;
 

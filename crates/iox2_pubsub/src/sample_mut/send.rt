@@ -1,14 +1,15 @@
 //! A message is sent.
 ghost use Rattle.std.specs.Prelude.{◌≡◌, ◌⊎◌, IfErr, IfOk, IsOk, ◌+◌};
-ghost use Rattle.iox2_messages.specs.SendEnds.{end_result};
+ghost use Rattle.iox2_deliveries.specs.SendEnds.{end_result};
 ghost use Rattle.iox2_pubsub.specs.SendCalls.{IfBlocked, result_of_send};
 
 use crate::blocked_send::BlockedSend;
 use crate::domain::Domain;
 use crate::sample_mut::SampleMut;
 use crate::send_outcome::SendOutcome;
+use iox2_deliveries::SendEnd;
 use iox2_domain::LoanAt;
-use iox2_messages::{SendEnd, send_loan};
+use iox2_messages::send_loan;
 use iox2_store::{BackpressureFn, DegradationFn, SendError};
 
 impl SampleMut {

@@ -6,7 +6,7 @@ mod user_header_mut;
 
 use crate::domain::Domain;
 use crate::slice::SampleMut;
-use iox2_messages::{loan_cells, write_loan_from_fn, write_loan_from_slice};
+use iox2_deliveries::{loan_cells, write_loan_from_fn, write_loan_from_slice};
 use iox2_store::{BackpressureFn, DegradationFn, Header, Key};
 
 /// A loan of a slice whose payload isn't written. It is a value to be spent, as the loan of a single
@@ -20,7 +20,7 @@ pub struct SampleMutUninit {
 impl SampleMutUninit {
     ghost use Rattle.std.specs.Prelude.{Some, Option, List, length, map, is_some, IfOk, IsOkAnd, IsErr, MatchResult, true, false};
     ghost use Rattle.std.specs.List.{list_all};
-    ghost use Rattle.iox2_slots.specs.SlotCalls.{AnswersInOrder};
+    ghost use Rattle.iox2_contents.specs.SlotCalls.{AnswersInOrder};
     ghost use Rattle.iox2_store.specs.declared.header.Header.{Header};
     ghost use Rattle.iox2_store.specs.machine.Loans.{initialized, is_initialized, loan_discarded};
     ghost use Rattle.iox2_store.specs.machine.Records.{Loan};

@@ -14,7 +14,7 @@ use Rattle.iox2_store.specs.machine.Places.{set_place}
 use Rattle.iox2_store.specs.machine.Records.{Publisher, Handler}
 use Rattle.iox2_store.specs.machine.Ports.{new_publisher}
 use Rattle.iox2_slots.specs.SlotBook.{Book}
-use Rattle.iox2_slots.specs.SlotContents.{ContentState}
+use Rattle.iox2_contents.specs.SlotContents.{ContentState}
 use Rattle.iox2_store.specs.machine.Mailbox.{Mailbox}
 use Rattle.iox2_ends.specs.LookUp.{look_up, IsOnly}
 use Rattle.iox2_laws.proofs.PortLaws.{no_publisher_yet}

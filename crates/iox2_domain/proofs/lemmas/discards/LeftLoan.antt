@@ -14,7 +14,7 @@ use Rattle.iox2_store.specs.declared.errors.SendError.TheVariants.{ConnectionBro
 use Rattle.iox2_store.specs.machine.State.{State, with_loan}
 use Rattle.iox2_store.specs.machine.WellFormed.{IsWellFormed}
 use Rattle.iox2_slots.specs.SlotBook.{Book, holders_at}
-use Rattle.iox2_slots.specs.SlotContents.{ContentState}
+use Rattle.iox2_contents.specs.SlotContents.{ContentState}
 use Rattle.iox2_store.specs.Stored.{IsHeldMessage}
 use Rattle.iox2_ends.specs.Counters.{times, stands}
 use Rattle.iox2_ends.specs.LookUp.{look_up}

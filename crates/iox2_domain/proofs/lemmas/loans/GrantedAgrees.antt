@@ -13,7 +13,7 @@ use Rattle.iox2_store.specs.machine.Records.{Publisher}
 use Rattle.iox2_store.specs.machine.Numbers.{put_at, size}
 use Rattle.iox2_store.specs.machine.State.{State, held}
 use Rattle.iox2_slots.specs.SlotBook.{Book, holders_at}
-use Rattle.iox2_slots.specs.SlotContents.{ContentState, unwritten_content}
+use Rattle.iox2_contents.specs.SlotContents.{ContentState, unwritten_content}
 use Rattle.iox2_store.specs.machine.Loans.{loan_granted}
 use Rattle.iox2_store.specs.machine.WellFormed.{IsWellFormed}
 use Rattle.iox2_store.specs.Stored.{IsHeldMessage}

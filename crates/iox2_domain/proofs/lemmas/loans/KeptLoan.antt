@@ -10,9 +10,9 @@ use Rattle.slab.specs.Slab.{Slab, get, with_value}
 use Rattle.iox2_store.specs.machine.Records.{Loan}
 use Rattle.iox2_store.specs.machine.State.{with_loan}
 use Rattle.iox2_slots.specs.SlotBook.{Book}
-use Rattle.iox2_slots.specs.SlotContents.{ContentState, with_changed}
+use Rattle.iox2_contents.specs.SlotContents.{ContentState, with_changed}
 use Rattle.iox2_slots.specs.declared.slots.mark.SlotMark.{SlotMark}
-use Rattle.iox2_slots.proofs.SlotReads.{set_same}
+use Rattle.iox2_contents.proofs.SlotReads.{set_same}
 use Rattle.iox2_domain.specs.Kept.{KeptBook, KeptMessage, state_of, loan_changed, with_loan_changed}
 use Rattle.iox2_domain.specs.Fields.{Fields, kept_of, map_from, message_in, contents_at, kept_book}
 use Rattle.iox2_domain.specs.Invariant.{IsDomain}

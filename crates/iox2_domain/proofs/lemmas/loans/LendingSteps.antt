@@ -11,7 +11,7 @@ use Rattle.circular_buffer.proofs.Places.{slice_get-some}
 use Rattle.std.proofs.lemmas.Option.{get_or_from_slice_get}
 use Rattle.slab.specs.Slab.{get, with_value}
 use Rattle.iox2_slots.specs.SlotBook.{Book, TakesFreeSlot}
-use Rattle.iox2_slots.specs.SlotContents.{ContentState, SomeAt}
+use Rattle.iox2_contents.specs.SlotContents.{ContentState, SomeAt}
 use Rattle.iox2_store.specs.machine.Loans.{is_static}
 use Rattle.iox2_store.specs.declared.service_config.TypeVariant.TheVariants.{FixedSize}
 use Rattle.iox2_store.specs.declared.header.Header.{Header}

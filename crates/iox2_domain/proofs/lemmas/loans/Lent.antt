@@ -12,7 +12,7 @@ use Rattle.iox2_store.specs.machine.Loans.{is_static, loan_granted, GrantLoan}
 use Rattle.iox2_store.specs.machine.Numbers.{size}
 use Rattle.iox2_store.specs.machine.Records.{Publisher}
 use Rattle.iox2_slots.specs.SlotBook.{Book}
-use Rattle.iox2_slots.specs.SlotContents.{ContentState, with_changed, unwritten_content}
+use Rattle.iox2_contents.specs.SlotContents.{ContentState, with_changed, unwritten_content}
 use Rattle.iox2_store.specs.machine.State.{State, held}
 use Rattle.iox2_store.specs.declared.service_config.TypeVariant.TheVariants.{FixedSize}
 use Rattle.iox2_store.specs.declared.errors.LoanError.{LoanError}

@@ -7,7 +7,7 @@ use Rattle.std.specs.declared.option.Option.{Option}
 use Rattle.std.specs.declared.option.Option.TheVariants.{None, Some}
 use Rattle.iox2_store.specs.machine.Records.{Loan}
 use Rattle.iox2_store.specs.machine.State.{with_loan}
-use Rattle.iox2_slots.specs.SlotContents.{ContentState, with_first_cell, with_cells, with_first_value, with_values, with_user_header}
+use Rattle.iox2_contents.specs.SlotContents.{ContentState, with_first_cell, with_cells, with_first_value, with_values, with_user_header}
 use Rattle.iox2_slots.specs.declared.slots.mark.SlotMark.{SlotMark}
 use Rattle.iox2_slots.specs.declared.slots.mark.SlotMark.TheVariants.{Unwritten, Written}
 use Rattle.iox2_domain.specs.Kept.{Lent_message, state_of, with_loan_changed}

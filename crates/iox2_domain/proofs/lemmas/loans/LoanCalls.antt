@@ -14,7 +14,7 @@ use Rattle.iox2_store.specs.machine.State.{with_loan}
 use Rattle.iox2_store.specs.SingleValues.{is_single_valued}
 use Rattle.iox2_store.specs.machine.Loans.{is_initialized}
 use Rattle.iox2_slots.specs.SlotBook.{Book}
-use Rattle.iox2_slots.specs.SlotContents.{ContentState, SomeAt, WritesValues, AssumesWritten, with_changed, written_content, first_cell_at, first_value_at, cells_at, values_at, user_header_at}
+use Rattle.iox2_contents.specs.SlotContents.{ContentState, SomeAt, WritesValues, AssumesWritten, with_changed, written_content, first_cell_at, first_value_at, cells_at, values_at, user_header_at}
 use Rattle.iox2_store.specs.declared.header.Header.{Header}
 use Rattle.iox2_slots.specs.declared.slots.mark.SlotMark.TheVariants.{Written}
 use Rattle.iox2_domain.specs.Reaches.{Reaches}

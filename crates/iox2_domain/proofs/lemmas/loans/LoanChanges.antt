@@ -10,7 +10,7 @@ use Rattle.std.specs.declared.option.Option.TheVariants.{Some}
 use Rattle.iox2_store.specs.machine.Loans.{is_initialized}
 use Rattle.iox2_store.specs.machine.Records.{Loan}
 use Rattle.iox2_slots.specs.SlotBook.{Book}
-use Rattle.iox2_slots.specs.SlotContents.{ContentState, written_content, with_user_header}
+use Rattle.iox2_contents.specs.SlotContents.{ContentState, written_content, with_user_header}
 use Rattle.iox2_slots.specs.declared.slots.mark.SlotMark.{SlotMark}
 use Rattle.iox2_slots.specs.declared.slots.mark.SlotMark.TheVariants.{Unwritten, Written, Sent}
 use Rattle.iox2_domain.specs.Kept.{Lent_message}

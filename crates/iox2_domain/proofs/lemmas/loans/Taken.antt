@@ -13,7 +13,7 @@ use Rattle.slab.specs.Slab.{Slab, get, with_value}
 use Rattle.iox2_store.specs.machine.Numbers.{put_at}
 use Rattle.iox2_store.specs.machine.Records.{Loan}
 use Rattle.iox2_slots.specs.SlotBook.{Book, IsAligned, holders_at}
-use Rattle.iox2_slots.specs.SlotContents.{ContentState, with_changed, unwritten_content}
+use Rattle.iox2_contents.specs.SlotContents.{ContentState, with_changed, unwritten_content}
 use Rattle.iox2_store.specs.declared.header.Header.{Header}
 use Rattle.iox2_slots.specs.declared.slots.mark.SlotMark.TheVariants.{Unwritten}
 use Rattle.iox2_ends.specs.LookUp.{look_up, IsOnly}

@@ -8,7 +8,7 @@ use Rattle.slab.specs.Slab.{get}
 use Rattle.iox2_store.specs.machine.Records.{Entry}
 use Rattle.iox2_store.specs.SingleValues.{is_single_valued}
 use Rattle.iox2_slots.specs.SlotBook.{Book}
-use Rattle.iox2_slots.specs.SlotContents.{ContentState, SomeAt, first_value_at, values_at, user_header_at}
+use Rattle.iox2_contents.specs.SlotContents.{ContentState, SomeAt, first_value_at, values_at, user_header_at}
 use Rattle.iox2_store.specs.declared.header.Header.{Header}
 use Rattle.iox2_store.specs.declared.service_config.TypeVariant.TheVariants.{FixedSize}
 use Rattle.iox2_ends.proofs.MailboxChanges.{within_if_some}

@@ -7,7 +7,7 @@ use Rattle.std.specs.Option.{option_map, option_map_or}
 use Rattle.slab.specs.Slab.{Slab, get}
 use Rattle.iox2_slots.specs.Link.{Link}
 use Rattle.iox2_slots.specs.SlotBook.{Book, holders_at}
-use Rattle.iox2_slots.specs.SlotContents.{ContentState}
+use Rattle.iox2_contents.specs.SlotContents.{ContentState}
 use Rattle.iox2_ends.specs.LookUp.{look_up, IsOnly}
 use Rattle.iox2_ends.proofs.LookUps.{look_up-nothing}
 use Rattle.iox2_ends.specs.Mailboxes.{sender_ends}

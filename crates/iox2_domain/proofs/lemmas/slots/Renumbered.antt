@@ -7,7 +7,7 @@ use Rattle.slab.specs.Slab.{Slab, get}
 use Rattle.iox2_slots.specs.Link.{Link}
 use Rattle.iox2_store.specs.machine.Numbers.{contains}
 use Rattle.iox2_slots.specs.SlotBook.{Book}
-use Rattle.iox2_slots.specs.SlotContents.{ContentState}
+use Rattle.iox2_contents.specs.SlotContents.{ContentState}
 use Rattle.iox2_ends.specs.LookUp.{look_up}
 use Rattle.iox2_ends.specs.Counters.{times}
 use Rattle.iox2_ends.specs.Mailboxes.{sender_ends}

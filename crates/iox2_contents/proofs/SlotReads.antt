@@ -1,0 +1,29 @@
+-- What is read at a slot of the contents.
+use Rattle.std.proofs.Common.{◌≡◌, ℕ, zero, suc, ◌<◌, List, [], ◌∷◌, length, Some, arith, get_or, slice_set, Bool, true, false, refl, ap, sym}
+use Rattle.std.proofs.lemmas.Option.{slice_get_read}
+use Rattle.std.specs.Prelude.{slice_get}
+use Rattle.std.specs.Bool.{MatchBool}
+use Rattle.iox2_contents.specs.SlotContents.{SomeAt}
+
+-- There is a slot of which something holds.
+pub some_within : {A : Type 0} (contents : List A) (slot : ℕ) (P : A → Type 0) → SomeAt contents slot P → slot < length contents
+some_within [] slot P h = absurd h
+some_within (x ∷ xs) zero P h = omega arith
+some_within (x ∷ xs) (suc slot) P h = let rest = some_within xs slot P h in omega arith
+
+-- It holds of the content that indexing gives there.
+pub some_read : {A : Type 0} (contents : List A) (slot : ℕ) (P : A → Type 0) (x : A) → SomeAt contents slot P → x ≡ get_or contents slot x → (slice_get contents slot ≡ Some x) × P x
+some_read contents slot P x h e =
+    let read = slice_get_read contents _ slot x refl (some_within contents slot P h) e in
+    (read, rw read at h)
+
+-- Writing what is there changes nothing.
+pub set_same : {A : Type 0} (contents : List A) (slot : ℕ) (x : A) → slice_get contents slot ≡ Some x → slice_set contents slot x ≡ contents
+set_same [] slot x at = refl
+set_same (y ∷ ys) zero x at = let same : Some y ≡ Some x = at in let is : y ≡ x = cc in ap (λ z. z ∷ ys) (sym is)
+set_same (y ∷ ys) (suc slot) x at = ap (λ zs. y ∷ zs) (set_same ys slot x at)
+
+-- What a test's answer decides.
+pub by_result : {A B : Type 0} (b : Bool) → (b ≡ true → A) → (b ≡ false → B) → MatchBool b A B
+by_result true whole partial = whole refl
+by_result false whole partial = partial refl

@@ -1,0 +1,15 @@
+use Rattle.std.proofs.Common.{◌≡◌, ◌∙◌, [], true, false, refl, arith}
+use Rattle.std.proofs.lemmas.List.{length_push}
+use Rattle.std.proofs.lemmas.List.Elements.{All-push}
+use Rattle.iox2_contents.proofs.contents.Contents.new.Goals as goal
+
+pub loop-preserved : goal.loop-preserved
+loop-preserved g c = record {
+  default = rw c.push_reserved.ensures.items (All-push (λ content. g.U.Default.is_default content.user_header) _ _ c.loop.invariant.default c.in_ok-new.ensures.default);
+  empty = rw c.push_reserved.ensures.items (All-push (λ content. (content.cells ≡ []) × (content.values ≡ [])) _ _ c.loop.invariant.empty (c.in_ok-new.ensures.cells, c.in_ok-new.ensures.values));
+  rooms = rw c.push_reserved.ensures.items (All-push (λ content. content.room ≡ c.args.room) _ _ c.loop.invariant.rooms c.in_ok-new.ensures.room);
+  in_lists = rw c.push_reserved.ensures.items (All-push (λ content. c.args.in_lists ≡ true → content.is_in_place ≡ false) _ _ c.loop.invariant.in_lists c.in_ok-new.ensures.in_lists);
+  count = rw (c.push_reserved.ensures.items, length_push, c.loop.invariant.count) refl;
+  len = omega arith;
+  capacity = c.push_reserved.ensures.capacity ∙ c.loop.invariant.capacity;
+}

@@ -1,0 +1,13 @@
+use Rattle.std.proofs.Common.{◌≡◌, [], length, true, false, All}
+use Rattle.iox2_contents.proofs.contents.Contents.new.Given as goal
+
+abbrev pub invariant-loop : goal.invariant-loop
+invariant-loop g l = record {
+  default : All (λ content. g.U.Default.is_default content.user_header) l.contents.items;
+  empty : All (λ content. (content.cells ≡ []) × (content.values ≡ [])) l.contents.items;
+  rooms : All (λ content. content.room ≡ l.room) l.contents.items;
+  in_lists : All (λ content. l.in_lists ≡ true → content.is_in_place ≡ false) l.contents.items;
+  count : length l.contents.items ≡ l.counter;
+  len : l.contents.len ≡ l.counter;
+  capacity : l.contents.cap ≡ l.slots;
+}

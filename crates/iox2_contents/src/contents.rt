@@ -1,0 +1,186 @@
+//! The contents of a publisher's slots.
+ghost use Rattle.std.specs.Prelude.{◌≡◌, ◌<◌, ◌≤◌, List, [], ◌∷◌, length, true, false, Some, IfOk};
+ghost use Rattle.std.specs.Borrow.{sem};
+ghost use Rattle.std.specs.List.{All};
+ghost use Rattle.iox2_contents.specs.SlotCalls.{AnswersInOrder};
+ghost use Rattle.iox2_contents.specs.SlotContents.{SomeAt, WritesValues, AssumesWritten, StartsLoan, with_changed, written_content, user_header_at, cells_at, values_at, first_cell_at, first_value_at};
+
+use crate::content::Content;
+use std::alloc::{AllocError, Global};
+use std::marker::Model;
+
+/// What a publisher's users write and its subscribers' users read: for each slot the user header
+/// and the payload.
+///
+/// A payload stays in its slot until the next loan starts there or the contents go, and is dropped
+/// then.
+#[derive(Drop)]
+pub struct Contents<T, U> {
+    slots: Vec<Content<T, U>>,
+}
+
+impl<T, U> Model for Contents<T, U> {
+    ghost use Rattle.std.specs.Prelude.{List};
+    ghost use Rattle.iox2_contents.specs.SlotContents.{ContentState};
+
+    ghost Value = { List (ContentState T U) };
+
+    ghost view = { λ contents. contents.slots.items };
+}
+
+impl<T: Drop, U: Default + Drop> Contents<T, U> {
+    /// The contents of so many slots, each with room for so many elements. Each has a default user
+    /// header, no cells and no values. With room for one element a slot has it in place, and else in
+    /// lists of its own. Fails where memory runs out; no other call on contents takes memory.
+    pub fn new(alloc: Global, slots: usize, room: usize, in_lists: bool) -> Result<Self, AllocError>
+        ensures len { IfOk result (λ contents. length contents ≡ slots) }
+        ensures default { IfOk result (All (λ content. U.is_default content.user_header)) }
+        ensures empty { IfOk result (All (λ content. (content.cells ≡ []) × (content.values ≡ []))) }
+        ensures room { IfOk result (All (λ content. content.room ≡ room)) }
+        ensures in_lists { IfOk result (All (λ content. in_lists ≡ true → content.is_in_place ≡ false)) }
+    {
+        let mut contents = Vec::with_capacity(alloc, slots)?;
+        for _ in 0..slots {
+            contents.push_reserved(Content::new(alloc, room, in_lists)?);
+        }
+        Ok(Contents { slots: contents })
+    }
+
+    /// Makes the slot an unwritten loan of this length, which must fit the slot's room. What lay in
+    /// it before is dropped.
+    pub fn start(&mut self, slot: usize, len: usize)
+        requires { SomeAt self.old slot (λ content. len ≤ content.room) }
+        ensures { StartsLoan U.is_default self.old self.new slot len }
+    {
+        self.slots[slot].start(len);
+    }
+
+    /// Writes the value of a loan of one element, which then counts as written.
+    pub fn write_payload(&mut self, slot: usize, value: T)
+        requires { SomeAt self.old slot (λ content. length content.cells ≡ 1) }
+        ensures { self.new ≡ with_changed self.old slot (written_content (value ∷ [])) }
+    {
+        self.slots[slot].write_payload(value);
+    }
+
+    /// Writes into each cell of the slot's loan what the function returns for its index. It is
+    /// called for 0, 1 and so on, in this order. The loan then counts as written.
+    pub fn write_from_fn<F: FnMut(usize) -> T + Drop>(&mut self, slot: usize, f: F)
+        requires callable { F.IsAlwaysCallable f }
+        requires in_lists { SomeAt self.old slot (λ content. content.is_in_place ≡ false) }
+        ensures { (answers : List T) × AnswersInOrder F.step f answers × WritesValues self.old self.new slot answers }
+    {
+        self.slots[slot].write_from_fn(f);
+    }
+
+    /// Takes the cells of the slot's loan as its values, where each is written. Returns whether it
+    /// did; where some cell isn't written nothing changes.
+    pub fn assume_init(&mut self, slot: usize) -> bool
+        requires { SomeAt self.old slot (λ content. content.is_in_place ≡ true → length content.cells ≡ 1) }
+        ensures { AssumesWritten self.old self.new slot result }
+    {
+        self.slots[slot].assume_init()
+    }
+}
+
+impl<T: Copy + Drop, U: Default + Drop> Contents<T, U> {
+    /// Writes copies of the values, one into each cell of the slot's loan, which then counts as
+    /// written.
+    pub fn write_from_slice(&mut self, slot: usize, values: &[T])
+        requires { SomeAt self.old slot (λ content. (content.is_in_place ≡ false) × (length values.now ≡ length content.cells)) }
+        ensures { WritesValues self.old self.new slot values.now }
+    {
+        self.slots[slot].write_from_slice(values);
+    }
+}
+
+impl<T, U> Contents<T, U> {
+    ghost use Rattle.iox2_contents.specs.ContentsLends.{LendsCell, LendsCells, LendsValue, LendsValues, LendsUserHeader};
+
+    /// The user header of the slot's loan or message.
+    pub fn user_header(&self, slot: usize) -> &U
+        requires { slot < length self.now }
+        ensures { user_header_at self.now slot ≡ Some result.now }
+    {
+        self.slots[slot].user_header()
+    }
+
+    /// The first cell of the slot's loan, which isn't written.
+    pub fn cell(&self, slot: usize) -> &Option<T>
+        requires { SomeAt self.now slot (λ content. 0 < length content.cells) }
+        ensures { first_cell_at self.now slot ≡ Some result.now }
+    {
+        self.slots[slot].cell()
+    }
+
+    /// The cells of the slot's loan, and none once it is written. A cell that lies in place is
+    /// read by `cell`.
+    pub fn cells(&self, slot: usize) -> &[Option<T>]
+        requires { SomeAt self.now slot (λ content. content.is_in_place ≡ false) }
+        ensures { cells_at self.now slot ≡ Some result.now }
+    {
+        self.slots[slot].cells()
+    }
+
+    /// The first value of the slot's loan or message, which is written.
+    pub fn value(&self, slot: usize) -> &T
+        requires { SomeAt self.now slot (λ content. 0 < length content.values) }
+        ensures { first_value_at self.now slot ≡ Some result.now }
+    {
+        self.slots[slot].value()
+    }
+
+    /// The values of the slot's loan or message, and none before it is written. A value that
+    /// lies in place is read by `value`.
+    pub fn values(&self, slot: usize) -> &[T]
+        requires { SomeAt self.now slot (λ content. content.is_in_place ≡ false) }
+        ensures { values_at self.now slot ≡ Some result.now }
+    {
+        self.slots[slot].values()
+    }
+
+    /// The user header of the slot's loan, to be changed.
+    pub fn user_header_mut(&mut self, slot: usize) -> &mut U
+        requires { slot < length self.old }
+        ensures* writes_back { sem 𝓛 (LendsUserHeader T.row U.row self.entry slot result) }
+        ensures value { user_header_at self.old slot ≡ Some result.now }
+    {
+        self.slots[slot].user_header_mut()
+    }
+
+    /// The first cell of the slot's loan, which isn't written, to be changed.
+    pub fn cell_mut(&mut self, slot: usize) -> &mut Option<T>
+        requires { SomeAt self.old slot (λ content. 0 < length content.cells) }
+        ensures* writes_back { sem 𝓛 (LendsCell T.row U.row self.entry slot result) }
+        ensures value { first_cell_at self.old slot ≡ Some result.now }
+    {
+        self.slots[slot].cell_mut()
+    }
+
+    /// The cells of the slot's loan, to be changed, and none once it is written.
+    pub fn cells_mut(&mut self, slot: usize) -> &mut [Option<T>]
+        requires { SomeAt self.old slot (λ content. content.is_in_place ≡ false) }
+        ensures* writes_back { sem 𝓛 (LendsCells T.row U.row self.entry slot result) }
+        ensures value { cells_at self.old slot ≡ Some result.now }
+    {
+        self.slots[slot].cells_mut()
+    }
+
+    /// The first value of the slot's loan, which is written, to be changed.
+    pub fn value_mut(&mut self, slot: usize) -> &mut T
+        requires { SomeAt self.old slot (λ content. 0 < length content.values) }
+        ensures* writes_back { sem 𝓛 (LendsValue T.row U.row self.entry slot result) }
+        ensures value { first_value_at self.old slot ≡ Some result.now }
+    {
+        self.slots[slot].value_mut()
+    }
+
+    /// The values of the slot's loan, to be changed, and none before it is written.
+    pub fn values_mut(&mut self, slot: usize) -> &mut [T]
+        requires { SomeAt self.old slot (λ content. content.is_in_place ≡ false) }
+        ensures* writes_back { sem 𝓛 (LendsValues T.row U.row self.entry slot result) }
+        ensures value { values_at self.old slot ≡ Some result.now }
+    {
+        self.slots[slot].values_mut()
+    }
+}

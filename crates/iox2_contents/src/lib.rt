@@ -1,0 +1,11 @@
+//! What lies in the slots of a publisher: payloads and user headers.
+//!
+//! It names no other crate of this library, so that it is proved beside the plain types.
+#![tactic(auto)]
+
+mod content;
+mod contents;
+mod elements;
+mod payload;
+
+pub use contents::Contents;

@@ -1,0 +1,282 @@
+//! The payload of one slot.
+ghost use Rattle.std.specs.Prelude.{◌≡◌, ◌<◌, ◌≤◌, [], ◌∷◌, length, map, replicate, slice_get, true, false, Some, None, IfOk, is_some};
+ghost use Rattle.std.specs.Borrow.{sem};
+ghost use Rattle.std.specs.List.{list_all};
+ghost use Rattle.iox2_contents.specs.SlotCalls.{AnswersInOrder};
+ghost use Rattle.iox2_contents.specs.SlotPayload.{cells_of, values_of, room_of, is_in_place};
+
+use crate::elements::Elements;
+use std::alloc::{AllocError, Global};
+
+/// The elements of an unwritten or a written payload. A single value lies in the payload itself.
+#[derive(Drop)]
+pub(crate) enum Payload<T> {
+    /// There is room for one element, and none is there.
+    Empty,
+    /// There is room for one element, and its cell isn't written.
+    Unwritten(Option<T>),
+    /// There is room for one element, and it is written.
+    Written(T),
+    /// There is room for another number of elements.
+    Elements(Box<Elements<T>>),
+}
+
+impl<T: Drop> Payload<T> {
+    /// No elements, with room for so many. A single one lies in place, for which no memory is
+    /// taken, but where it is to be in a list.
+    pub(crate) fn new(alloc: Global, room: usize, in_lists: bool) -> Result<Self, AllocError>
+        ensures cells { IfOk result (λ payload. cells_of payload ≡ []) }
+        ensures values { IfOk result (λ payload. values_of payload ≡ []) }
+        ensures room { IfOk result (λ payload. room_of payload ≡ room) }
+        ensures in_lists { IfOk result (λ payload. in_lists ≡ true → is_in_place payload ≡ false) }
+    {
+        if room == 1 && !in_lists {
+            return Ok(Payload::Empty);
+        }
+        let elements = Elements::new(alloc, room)?;
+        Ok(Payload::Elements(Box::new(alloc, elements)?))
+    }
+
+    /// Drops what was there, and makes it so many unwritten cells.
+    pub(crate) fn start(&mut self, len: usize)
+        requires { len ≤ room_of self.old }
+        ensures cells { cells_of self.new ≡ replicate len None }
+        ensures values { values_of self.new ≡ [] }
+        ensures room { room_of self.new ≡ room_of self.old }
+        ensures in_place { is_in_place self.new ≡ is_in_place self.old }
+    {
+        match self {
+            Payload::Elements(elements) => elements.start(len),
+            _ if len == 0 => *self = Payload::Empty,
+            _ => *self = Payload::Unwritten(None),
+        }
+    }
+
+    /// Writes the value of a single cell.
+    pub(crate) fn write(&mut self, value: T)
+        requires { length (cells_of self.old) ≡ 1 }
+        ensures cells { cells_of self.new ≡ [] }
+        ensures values { values_of self.new ≡ value ∷ [] }
+        ensures room { room_of self.new ≡ room_of self.old }
+        ensures in_place { is_in_place self.new ≡ is_in_place self.old }
+    {
+        match self {
+            Payload::Elements(elements) => elements.write(value),
+            _ => *self = Payload::Written(value),
+        }
+    }
+
+    /// Writes into each cell what the function returns for its index, which is called for 0, 1 and
+    /// so on.
+    pub(crate) fn write_from_fn<F: FnMut(usize) -> T + Drop>(&mut self, f: F)
+        requires callable { F.IsAlwaysCallable f }
+        requires in_lists { is_in_place self.old ≡ false }
+        ensures answers { AnswersInOrder F.step f (values_of self.new) }
+        ensures count { length (values_of self.new) ≡ length (cells_of self.old) }
+        ensures cells { cells_of self.new ≡ [] }
+        ensures room { room_of self.new ≡ room_of self.old }
+        ensures in_place { is_in_place self.new ≡ is_in_place self.old }
+    {
+        match self {
+            Payload::Elements(elements) => elements.write_from_fn(f),
+            _ => unreachable!(),
+        }
+    }
+
+    /// Takes the cells as written. Nothing changes where some cell isn't.
+    pub(crate) fn assume_init(&mut self) -> bool
+        requires { is_in_place self.old ≡ true → length (cells_of self.old) ≡ 1 }
+        ensures all { result ≡ list_all is_some (cells_of self.old) }
+        ensures refused { result ≡ false → self.new ≡ self.old }
+        ensures values { result ≡ true → map Some (values_of self.new) ≡ cells_of self.old }
+        ensures cells { result ≡ true → cells_of self.new ≡ [] }
+        ensures room { room_of self.new ≡ room_of self.old }
+        ensures in_place { is_in_place self.new ≡ is_in_place self.old }
+    {
+        match self {
+            Payload::Elements(elements) => elements.assume_init(),
+            Payload::Unwritten(cell) => match cell.take() {
+                Some(value) => {
+                    *self = Payload::Written(value);
+                    true
+                }
+                None => false,
+            },
+            Payload::Empty | Payload::Written(_) => unreachable!(),
+        }
+    }
+}
+
+impl<T: Copy + Drop> Payload<T> {
+    /// Writes copies of the values, one into each cell.
+    pub(crate) fn write_from_slice(&mut self, values: &[T])
+        requires lengths { length values.now ≡ length (cells_of self.old) }
+        requires in_lists { is_in_place self.old ≡ false }
+        ensures cells { cells_of self.new ≡ [] }
+        ensures values { values_of self.new ≡ values.now }
+        ensures room { room_of self.new ≡ room_of self.old }
+        ensures in_place { is_in_place self.new ≡ is_in_place self.old }
+    {
+        match self {
+            Payload::Elements(elements) => elements.write_from_slice(values),
+            _ => unreachable!(),
+        }
+    }
+}
+
+impl<T> Payload<T> {
+    ghost use Rattle.iox2_contents.specs.PayloadLends.{LendsCell, LendsCells, LendsValue, LendsValues};
+
+    // Whether it lies in its slot, and not in lists.
+    fn is_in_place(&self) -> bool
+        ensures { result ≡ is_in_place self.now }
+    {
+        !matches!(self, Payload::Elements(_))
+    }
+
+    /// The first cell.
+    pub(crate) fn cell(&self) -> &Option<T>
+        requires { 0 < length (cells_of self.now) }
+        ensures { slice_get (cells_of self.now) 0 ≡ Some result.now }
+    {
+        match self {
+            Payload::Unwritten(cell) => cell,
+            Payload::Elements(elements) => &elements.cells()[0],
+            Payload::Empty | Payload::Written(_) => unreachable!(),
+        }
+    }
+
+    /// The cells, and none once they are written.
+    pub(crate) fn cells(&self) -> &[Option<T>]
+        requires { is_in_place self.now ≡ false }
+        ensures { result.now ≡ cells_of self.now }
+    {
+        match self {
+            Payload::Elements(elements) => elements.cells(),
+            _ => unreachable!(),
+        }
+    }
+
+    /// The first value.
+    pub(crate) fn value(&self) -> &T
+        requires { 0 < length (values_of self.now) }
+        ensures { slice_get (values_of self.now) 0 ≡ Some result.now }
+    {
+        match self {
+            Payload::Written(value) => value,
+            Payload::Elements(elements) => &elements.values()[0],
+            Payload::Empty | Payload::Unwritten(_) => unreachable!(),
+        }
+    }
+
+    /// The values, and none before they are written.
+    pub(crate) fn values(&self) -> &[T]
+        requires { is_in_place self.now ≡ false }
+        ensures { result.now ≡ values_of self.now }
+    {
+        match self {
+            Payload::Elements(elements) => elements.values(),
+            _ => unreachable!(),
+        }
+    }
+
+    /// The first cell, to be changed.
+    pub(crate) fn cell_mut(&mut self) -> &mut Option<T>
+        requires { 0 < length (cells_of self.old) }
+        ensures* writes_back { sem 𝓛 (LendsCell T.row self.entry result) }
+        ensures value { slice_get (cells_of self.old) 0 ≡ Some result.now }
+    {
+        if self.is_in_place() {
+            return self.placed_cell_mut();
+        }
+        self.listed_cell_mut()
+    }
+
+    // The cell that lies in place.
+    fn placed_cell_mut(&mut self) -> &mut Option<T>
+        requires first { 0 < length (cells_of self.old) }
+        requires in_place { is_in_place self.old ≡ true }
+        ensures* writes_back { sem 𝓛 (LendsCell T.row self.entry result) }
+        ensures value { slice_get (cells_of self.old) 0 ≡ Some result.now }
+    {
+        match self {
+            Payload::Unwritten(cell) => cell,
+            _ => unreachable!(),
+        }
+    }
+
+    // The first cell of a list.
+    fn listed_cell_mut(&mut self) -> &mut Option<T>
+        requires first { 0 < length (cells_of self.old) }
+        requires in_lists { is_in_place self.old ≡ false }
+        ensures* writes_back { sem 𝓛 (LendsCell T.row self.entry result) }
+        ensures value { slice_get (cells_of self.old) 0 ≡ Some result.now }
+    {
+        match self {
+            Payload::Elements(elements) => elements.cell_mut(),
+            _ => unreachable!(),
+        }
+    }
+
+    /// The cells, to be changed.
+    pub(crate) fn cells_mut(&mut self) -> &mut [Option<T>]
+        requires { is_in_place self.old ≡ false }
+        ensures* writes_back { sem 𝓛 (LendsCells T.row self.entry result) }
+        ensures value { result.now ≡ cells_of self.old }
+    {
+        match self {
+            Payload::Elements(elements) => elements.cells_mut(),
+            _ => unreachable!(),
+        }
+    }
+
+    /// The first value, to be changed.
+    pub(crate) fn value_mut(&mut self) -> &mut T
+        requires { 0 < length (values_of self.old) }
+        ensures* writes_back { sem 𝓛 (LendsValue T.row self.entry result) }
+        ensures value { slice_get (values_of self.old) 0 ≡ Some result.now }
+    {
+        if self.is_in_place() {
+            return self.placed_value_mut();
+        }
+        self.listed_value_mut()
+    }
+
+    // The value that lies in place.
+    fn placed_value_mut(&mut self) -> &mut T
+        requires first { 0 < length (values_of self.old) }
+        requires in_place { is_in_place self.old ≡ true }
+        ensures* writes_back { sem 𝓛 (LendsValue T.row self.entry result) }
+        ensures value { slice_get (values_of self.old) 0 ≡ Some result.now }
+    {
+        match self {
+            Payload::Written(value) => value,
+            _ => unreachable!(),
+        }
+    }
+
+    // The first value of a list.
+    fn listed_value_mut(&mut self) -> &mut T
+        requires first { 0 < length (values_of self.old) }
+        requires in_lists { is_in_place self.old ≡ false }
+        ensures* writes_back { sem 𝓛 (LendsValue T.row self.entry result) }
+        ensures value { slice_get (values_of self.old) 0 ≡ Some result.now }
+    {
+        match self {
+            Payload::Elements(elements) => elements.value_mut(),
+            _ => unreachable!(),
+        }
+    }
+
+    /// The values, to be changed.
+    pub(crate) fn values_mut(&mut self) -> &mut [T]
+        requires { is_in_place self.old ≡ false }
+        ensures* writes_back { sem 𝓛 (LendsValues T.row self.entry result) }
+        ensures value { result.now ≡ values_of self.old }
+    {
+        match self {
+            Payload::Elements(elements) => elements.values_mut(),
+            _ => unreachable!(),
+        }
+    }
+}

@@ -1,0 +1,33 @@
+use Rattle.std.proofs.Common.{◌≡◌, slice_set, Some, ap, sym, ◌∙◌}
+use Rattle.std.specs.Prelude.{slice_index_or}
+use Rattle.std.specs.declared.option.Option.TheVariants.{None}
+use Rattle.slab.specs.Slab.{get, with_value}
+use Rattle.iox2_domain.specs.Deliveries.{with_loan_out}
+use Rattle.iox2_domain.specs.Discards.{with_holder_gone, with_loan_returned}
+use Rattle.iox2_domain.specs.Fields.{Fields}
+use Rattle.iox2_domain.specs.Ports.{PublisherFields}
+use Rattle.iox2_domain.proofs.lemmas.slots.PublisherBooks.{read-there}
+use Rattle.iox2_deliveries.proofs.discards.return_loan.Goals as goal
+
+pub returns : goal.returns
+returns g c = λ x b at has.
+    let there : slice_index_or c.state.inside.publishers.items c.args.place None ≡ Some x = ap (λ (f : Fields g.row.T.Denot g.row.U.Denot). slice_index_or f.publishers c.args.place None) c.state.view_is ∙ at in
+    let read : Some x ≡ Some c.in-Some.publisher = sym there ∙ read-there _ c.args.place _ _ there c.index_mut.ensures.value ∙ c.in-Some.is in
+    let publisher : c.in-Some.publisher ≡ x = cc in
+    let out : c.remove_loan.new.self ≡ with_loan_out c.args.slot x = c.remove_loan.ensures ∙ ap (with_loan_out c.args.slot) publisher in
+    let key : c.publisher.inside.book ≡ x.book = ap (λ (p : PublisherFields). p.book) (c.publisher.view_is ∙ out) in
+    let found : Some c.index_mut-book.result.now ≡ Some b =
+    sym c.index_mut-book.ensures.value ∙ ap (get c.state.inside.books) key ∙ ap (λ (f : Fields g.row.T.Denot g.row.U.Denot). get f.books x.book) c.state.view_is ∙ has in
+    let book : c.index_mut-book.result.now ≡ b = cc in
+    let given : c.release.new.self ≡ with_holder_gone c.args.slot b = c.release.ensures.released ∙ ap (with_holder_gone c.args.slot) book in
+    (λ i. record {
+      config = c.state.inside.config;
+      next_port = c.state.inside.next_port;
+      next_message = c.state.inside.next_message;
+      warnings = c.state.inside.warnings;
+      publishers = slice_set c.state.inside.publishers.items c.args.place (Some (out i));
+      subscribers = c.state.inside.subscribers.items;
+      connections = c.state.inside.connections;
+      books = with_value c.state.inside.books (key i) (given i);
+      contents = c.state.inside.contents.items;
+    }) ∙ ap (λ (f : Fields g.row.T.Denot g.row.U.Denot). with_loan_returned f c.args.place x c.args.slot b) c.state.view_is

@@ -1,0 +1,185 @@
+//! A publisher delivers a message.
+ghost use Rattle.std.specs.Prelude.{◌≡◌, ℕ, ◌+◌, ◌<◌, ◌≤◌, ◌^◌, None, Some, length, slice_index_or};
+ghost use Rattle.std.specs.Option.{is_some};
+ghost use Rattle.iox2_slots.specs.SlotBook.{IsInUse, holders_at};
+ghost use Rattle.iox2_store.specs.machine.Environments.{fixed_handlers};
+ghost use Rattle.iox2_ends.specs.Counters.{times};
+ghost use Rattle.iox2_ends.specs.Handlers.{asked, marks_of};
+ghost use Rattle.iox2_domain.specs.Boxes.{answers_of};
+ghost use Rattle.iox2_domain.specs.Handlers.{AsksFor};
+ghost use Rattle.iox2_domain.specs.Ports.{PublisherFields};
+ghost use Rattle.iox2_domain.specs.Invariant.{IsDomain};
+ghost use Rattle.iox2_domain.specs.Deliveries.{CanSend, SendsSlot, with_delivered, with_history_holder, pushed, leaving, result_of_send, with_left, with_sent};
+ghost use Rattle.iox2_ends.specs.declared.sender.DeliveryOutcome.{DeliveryOutcome};
+ghost use Rattle.iox2_deliveries.specs.SendEnds.{IsKept, end_result};
+
+use crate::send_end::SendEnd;
+use iox2_domain::{AskedBox, BlockedDelivery, Boxes, DomainState, PublisherState};
+use iox2_ends::sender::{Delivery, DeliveryOutcome, Progress, deliver};
+use iox2_slots::{SlotBook, SlotMark};
+use iox2_store::{BackpressureFn, BackpressureHandler};
+use std::time::Duration;
+
+// The loan in a slot that was delivered is out no more, or its publisher waits for a receiver, and
+// there is one holder more for the history that is to have it.
+#[inline(always)]
+fn conclude(
+    publisher: &mut PublisherState,
+    book: &mut SlotBook,
+    slot: usize,
+    outcome: DeliveryOutcome,
+)
+    requires once { times slot publisher.old.loans ≤ 1 }
+    requires in_use { IsInUse book.old slot }
+    requires fits { holders_at book.old slot + 1 < 2 ^ 64 }
+    ensures publisher { publisher.new ≡ with_delivered outcome slot publisher.old }
+    ensures book { book.new ≡ with_history_holder outcome slot book.old }
+{
+    match outcome {
+        DeliveryOutcome::Complete { .. } => publisher.remove_loan(slot),
+        DeliveryOutcome::Suspended(progress) => {
+            book.hold(slot);
+            publisher.blocked = Some(BlockedDelivery { slot, progress });
+        }
+    }
+}
+
+// The message in a slot is sent, and stands last in the history. What leaves the history for it has
+// one holder less.
+#[inline(always)]
+fn remember(publisher: &mut PublisherState, book: &mut SlotBook, slot: usize)
+    requires below { slot < length book.old.holders }
+    requires leaves { (oldest : ℕ) → leaving publisher.old.history slot ≡ Some oldest → IsInUse book.old oldest }
+    ensures publisher { publisher.new ≡ record publisher.old { history = pushed publisher.old.history slot } }
+    ensures book { book.new ≡ with_left (leaving publisher.old.history slot) (with_sent slot book.old) }
+{
+    book.set_mark(slot, SlotMark::Sent);
+    if let Some(oldest) = publisher.history.push_back(slot) {
+        book.release(oldest);
+    }
+}
+
+/// Whether anything answers for the publisher at a place at a full buffer.
+#[inline(always)]
+pub fn has_handler_at<T: Drop, U: Default + Drop>(state: &DomainState<T, U>, place: usize) -> bool
+    requires { (x : PublisherFields) × (slice_index_or state.now.publishers place None ≡ Some x) }
+    ensures { (x : PublisherFields) → slice_index_or state.now.publishers place None ≡ Some x → result ≡ is_some x.backpressure_handler }
+{
+    let Some(publisher) = &state.publishers[place] else {
+        unreachable!();
+    };
+    publisher.has_handler()
+}
+
+// What answers for the publisher at a place at a full buffer.
+fn handler_at<'a, T: Drop, U: Default + Drop, F: BackpressureFn>(
+    state: &DomainState<T, U>,
+    boxes: &'a Boxes<F>,
+    place: usize,
+) -> Option<BackpressureHandler<AskedBox<'a, F>>>
+    requires { (x : PublisherFields) × (slice_index_or state.now.publishers place None ≡ Some x) }
+    ensures marks { (x : PublisherFields) → slice_index_or state.now.publishers place None ≡ Some x → marks_of result ≡ x.backpressure_handler }
+    ensures asks { (x : PublisherFields) → slice_index_or state.now.publishers place None ≡ Some x → AsksFor x.id (boxes.now).boxes result }
+{
+    let Some(publisher) = &state.publishers[place] else {
+        unreachable!();
+    };
+    publisher.handler(boxes)
+}
+
+// Delivers the loan in a slot of the publisher at a place, for which the handler answers. Where it
+// reached all receivers it is out no more afterwards, else its publisher waits for a receiver.
+#[inline(always)]
+fn send_slot<T: Drop, U: Default + Drop, X: BackpressureFn>(
+    state: &mut DomainState<T, U>,
+    place: usize,
+    slot: usize,
+    handler: &Option<BackpressureHandler<X>>,
+) -> DeliveryOutcome
+    requires agrees { IsDomain state.old }
+    requires can { (x : PublisherFields) × (slice_index_or state.old.publishers place None ≡ Some x) × CanSend state.old x slot }
+    requires handler { (x : PublisherFields) → slice_index_or state.old.publishers place None ≡ Some x → marks_of handler.now ≡ x.backpressure_handler }
+    ensures { (x : PublisherFields) → slice_index_or state.old.publishers place None ≡ Some x → SendsSlot (asked X.allows handler.now) state.old place x slot result state.new }
+{
+    let Some(publisher) = &mut state.publishers[place] else {
+        unreachable!();
+    };
+    let book = &mut state.books[publisher.book];
+    let delivery = Delivery {
+        publisher: publisher.id.value(),
+        slot,
+        strategy: publisher.strategy,
+        start: Progress::begun(),
+        elapsed: Duration::ZERO,
+    };
+    let outcome = deliver(
+        &state.config,
+        &delivery,
+        handler,
+        &mut state.connections,
+        book,
+        &publisher.keys,
+        &state.subscribers,
+    );
+    conclude(publisher, book, slot, outcome);
+    remember(publisher, book, slot);
+    outcome
+}
+
+// Sends the loan in a slot of the publisher at a place, whatever answers for it at a full buffer.
+#[inline(never)]
+fn send_by_handler<T: Drop, U: Default + Drop, F: BackpressureFn>(
+    state: &mut DomainState<T, U>,
+    boxes: &Boxes<F>,
+    place: usize,
+    slot: usize,
+) -> SendEnd
+    requires agrees { IsDomain state.old }
+    requires can { (x : PublisherFields) × (slice_index_or state.old.publishers place None ≡ Some x) × CanSend state.old x slot }
+    ensures sends { (outcome : DeliveryOutcome) × (end_result result ≡ result_of_send outcome)
+        × ((x : PublisherFields) → slice_index_or state.old.publishers place None ≡ Some x → SendsSlot (answers_of F.allows (boxes.now).boxes) state.old place x slot outcome state.new) }
+    ensures kept { IsKept result }
+{
+    let handler = handler_at(state, boxes, place);
+    SendEnd::of(send_slot(state, place, slot, &handler))
+}
+
+/// Delivers the loan in a slot of the publisher at a place, which has no handler. Where it reached
+/// all receivers it is out no more afterwards, else its publisher waits for a receiver. Nothing of a
+/// handler is on the path of the message.
+#[inline(always)]
+pub fn send_unasked<T: Drop, U: Default + Drop>(
+    state: &mut DomainState<T, U>,
+    place: usize,
+    slot: usize,
+) -> SendEnd
+    requires agrees { IsDomain state.old }
+    requires can { (x : PublisherFields) × (slice_index_or state.old.publishers place None ≡ Some x) × CanSend state.old x slot }
+    requires unasked { (x : PublisherFields) → slice_index_or state.old.publishers place None ≡ Some x → None ≡ x.backpressure_handler }
+    ensures sends { (outcome : DeliveryOutcome) × (end_result result ≡ result_of_send outcome)
+        × ((x : PublisherFields) → slice_index_or state.old.publishers place None ≡ Some x → SendsSlot fixed_handlers state.old place x slot outcome state.new) }
+    ensures kept { IsKept result }
+{
+    SendEnd::of(send_slot(state, place, slot, &None::<BackpressureHandler>))
+}
+
+/// The same, whether the publisher has a handler or not. A box is among these boxes.
+#[inline(always)]
+pub fn send_ready<T: Drop, U: Default + Drop, F: BackpressureFn>(
+    state: &mut DomainState<T, U>,
+    boxes: &Boxes<F>,
+    place: usize,
+    slot: usize,
+) -> SendEnd
+    requires agrees { IsDomain state.old }
+    requires can { (x : PublisherFields) × (slice_index_or state.old.publishers place None ≡ Some x) × CanSend state.old x slot }
+    ensures sends { (outcome : DeliveryOutcome) × (end_result result ≡ result_of_send outcome)
+        × ((x : PublisherFields) → slice_index_or state.old.publishers place None ≡ Some x → SendsSlot (answers_of F.allows (boxes.now).boxes) state.old place x slot outcome state.new) }
+    ensures kept { IsKept result }
+{
+    if has_handler_at(state, place) {
+        send_by_handler(state, boxes, place, slot)
+    } else {
+        send_unasked(state, place, slot)
+    }
+}

@@ -1,0 +1,253 @@
+//! Calls on a loan that is out.
+ghost use Rattle.std.specs.Prelude.{◌≡◌, false, List, ◌∷◌, [], Some, length, map};
+ghost use Rattle.iox2_store.specs.SingleValues.{is_single_valued};
+ghost use Rattle.iox2_contents.specs.SlotCalls.{AnswersInOrder};
+ghost use Rattle.iox2_store.specs.machine.Records.{Loan};
+ghost use Rattle.iox2_store.specs.machine.SingleCalls.{HoldsLoan};
+ghost use Rattle.iox2_store.specs.declared.service_config.TypeVariant.TheVariants.{FixedSize};
+ghost use Rattle.iox2_domain.specs.Kept.{state_of};
+ghost use Rattle.iox2_domain.specs.Fields.{kept_of};
+ghost use Rattle.iox2_domain.specs.Invariant.{IsDomain};
+ghost use Rattle.iox2_domain.specs.LoanCalls.{HoldsUnwritten, HoldsWritten, HasCells, HasCell, HasLoanHeader, HasLoanUserHeader, WritesLoan, AssumesLoan};
+ghost use Rattle.iox2_domain.specs.LoanSlots.{LiesInSlot};
+
+use crate::contents::{contents_mut, mark_written};
+use iox2_domain::{DomainState, LoanAt, MessageSlot};
+use iox2_store::{Header, UniquePublisherId};
+
+/// Writes the value of a publisher's unwritten loan of one element, which counts as written from
+/// then on. Returns the loan with its book and the slot in which it lies.
+pub fn write_loan<T: Drop, U: Default + Drop>(
+    state: &mut DomainState<T, U>,
+    loan: LoanAt,
+    value: T,
+) -> LoanAt
+    requires agrees { IsDomain state.old }
+    requires fixed_size { (state.old.config).variant ≡ FixedSize }
+    requires single { (state.old.config).units_per_element ≡ 1 }
+    requires live { HoldsUnwritten (state_of (kept_of state.old)) loan.publisher loan.number }
+    ensures writes { WritesLoan state.old state.new loan.number (value ∷ []) }
+    ensures same { result ≡ record loan { book = result.book; slot = result.slot } }
+    ensures lies { LiesInSlot state.old loan.publisher loan.number result.book result.slot }
+{
+    if state.is_loan_at_hint(&loan) {
+        write_slot(
+            state,
+            loan.publisher,
+            loan.number,
+            loan.book,
+            loan.slot,
+            value,
+        );
+        return loan;
+    }
+    let at = search_and_write(state, loan.publisher, loan.number, value);
+    found(loan, at)
+}
+
+// The same, wherever the loan lies, of which this says where.
+#[inline(never)]
+fn search_and_write<T: Drop, U: Default + Drop>(
+    state: &mut DomainState<T, U>,
+    publisher: UniquePublisherId,
+    number: u128,
+    value: T,
+) -> MessageSlot
+    requires agrees { IsDomain state.old }
+    requires fixed_size { (state.old.config).variant ≡ FixedSize }
+    requires single { (state.old.config).units_per_element ≡ 1 }
+    requires live { HoldsUnwritten (state_of (kept_of state.old)) publisher number }
+    ensures writes { WritesLoan state.old state.new number (value ∷ []) }
+    ensures lies { LiesInSlot state.old publisher number result.book result.slot }
+{
+    let at = state.search_loan(publisher, number);
+    write_slot(state, publisher, number, at.book, at.slot, value);
+    at
+}
+
+// The same of a loan that lies in this slot of this book.
+#[inline(always)]
+fn write_slot<T: Drop, U: Default + Drop>(
+    state: &mut DomainState<T, U>,
+    publisher: UniquePublisherId,
+    number: u128,
+    book: usize,
+    slot: usize,
+    value: T,
+)
+    requires agrees { IsDomain state.old }
+    requires fixed_size { (state.old.config).variant ≡ FixedSize }
+    requires single { (state.old.config).units_per_element ≡ 1 }
+    requires live { HoldsUnwritten (state_of (kept_of state.old)) publisher number }
+    requires lies { LiesInSlot state.old publisher number book slot }
+    ensures { WritesLoan state.old state.new number (value ∷ []) }
+{
+    mark_written(state, MessageSlot { book, slot });
+    contents_mut(state, book).write_payload(slot, value);
+}
+
+/// Writes into each cell of a publisher's unwritten loan what the function returns for its index. It
+/// is called for 0, 1 and so on, in this order. The loan counts as written from then on. Returns it
+/// with its book and the slot in which it lies.
+pub fn write_loan_from_fn<T: Drop, U: Default + Drop, F: FnMut(usize) -> T + Drop>(
+    state: &mut DomainState<T, U>,
+    loan: LoanAt,
+    f: F,
+) -> LoanAt
+    requires agrees { IsDomain state.old }
+    requires several { is_single_valued state.old.config ≡ false }
+    requires live { HoldsUnwritten (state_of (kept_of state.old)) loan.publisher loan.number }
+    requires callable { F.IsAlwaysCallable f }
+    ensures writes { (answers : List T) × AnswersInOrder F.step f answers × WritesLoan state.old state.new loan.number answers }
+    ensures same { result ≡ record loan { book = result.book; slot = result.slot } }
+{
+    let at = state.find_live_loan(&loan);
+    mark_written(state, at);
+    contents_mut(state, at.book).write_from_fn(at.slot, f);
+    found(loan, at)
+}
+
+/// Writes copies of the values, one into each cell of a publisher's unwritten loan, which has as
+/// many. It counts as written from then on. Returns it with its book and the slot in which it lies.
+pub fn write_loan_from_slice<T: Copy + Drop, U: Default + Drop>(
+    state: &mut DomainState<T, U>,
+    loan: LoanAt,
+    values: &[T],
+) -> LoanAt
+    requires agrees { IsDomain state.old }
+    requires several { is_single_valued state.old.config ≡ false }
+    requires live { HoldsUnwritten (state_of (kept_of state.old)) loan.publisher loan.number }
+    requires lengths { (l : Loan T U) → (state_of (kept_of state.old)).loans loan.number ≡ Some l → length values.now ≡ length l.cells }
+    ensures writes { WritesLoan state.old state.new loan.number values.now }
+    ensures same { result ≡ record loan { book = result.book; slot = result.slot } }
+{
+    let at = state.find_live_loan(&loan);
+    mark_written(state, at);
+    contents_mut(state, at.book).write_from_slice(at.slot, values);
+    found(loan, at)
+}
+
+/// Takes a publisher's unwritten loan as written, where each of its cells is, and returns whether it
+/// did. Nothing changes where some cell isn't written.
+pub fn assume_loan<T: Drop, U: Default + Drop>(state: &mut DomainState<T, U>, loan: &LoanAt) -> bool
+    requires agrees { IsDomain state.old }
+    requires live { HoldsUnwritten (state_of (kept_of state.old)) loan.now.publisher loan.now.number }
+    ensures { AssumesLoan state.old state.new loan.now.number result }
+{
+    let at = state.find_live_loan(loan);
+    if !contents_mut(state, at.book).assume_init(at.slot) {
+        return false;
+    }
+    mark_written(state, at);
+    true
+}
+
+// The loan, with its book and the slot in which it lies.
+fn found(loan: LoanAt, at: MessageSlot) -> LoanAt
+    ensures { result ≡ record loan { book = at.book; slot = at.slot } }
+{
+    LoanAt {
+        book: at.book,
+        slot: at.slot,
+        ..loan
+    }
+}
+
+/// The cell of a publisher's unwritten loan of one element.
+pub fn loan_cell<'a, T: Drop, U: Default + Drop>(
+    state: &'a DomainState<T, U>,
+    loan: &LoanAt,
+) -> &'a Option<T>
+    requires agrees { IsDomain state.now }
+    requires fixed_size { (state.now.config).variant ≡ FixedSize }
+    requires single { (state.now.config).units_per_element ≡ 1 }
+    requires live { HoldsUnwritten (state_of (kept_of state.now)) loan.now.publisher loan.now.number }
+    ensures { HasCell (state_of (kept_of state.now)) loan.now.number result.now }
+{
+    let at = state.find_live_loan(loan);
+    let Some(contents) = &state.contents[at.book] else {
+        unreachable!()
+    };
+    contents.cell(at.slot)
+}
+
+/// The value of a publisher's written loan of one element.
+pub fn loan_value<'a, T: Drop, U: Default + Drop>(
+    state: &'a DomainState<T, U>,
+    loan: &LoanAt,
+) -> &'a T
+    requires agrees { IsDomain state.now }
+    requires fixed_size { (state.now.config).variant ≡ FixedSize }
+    requires single { (state.now.config).units_per_element ≡ 1 }
+    requires live { HoldsWritten (state_of (kept_of state.now)) loan.now.publisher loan.now.number }
+    ensures { HasCell (state_of (kept_of state.now)) loan.now.number (Some result.now) }
+{
+    let at = state.find_live_loan(loan);
+    let Some(contents) = &state.contents[at.book] else {
+        unreachable!()
+    };
+    contents.value(at.slot)
+}
+
+/// The cells of a publisher's unwritten loan, where messages aren't single values.
+pub fn loan_cells<'a, T: Drop, U: Default + Drop>(
+    state: &'a DomainState<T, U>,
+    loan: &LoanAt,
+) -> &'a [Option<T>]
+    requires agrees { IsDomain state.now }
+    requires several { is_single_valued state.now.config ≡ false }
+    requires live { HoldsUnwritten (state_of (kept_of state.now)) loan.now.publisher loan.now.number }
+    ensures { HasCells (state_of (kept_of state.now)) loan.now.number result.now }
+{
+    let at = state.find_live_loan(loan);
+    let Some(contents) = &state.contents[at.book] else {
+        unreachable!()
+    };
+    contents.cells(at.slot)
+}
+
+/// The values of a publisher's written loan, where messages aren't single values.
+pub fn loan_values<'a, T: Drop, U: Default + Drop>(
+    state: &'a DomainState<T, U>,
+    loan: &LoanAt,
+) -> &'a [T]
+    requires agrees { IsDomain state.now }
+    requires several { is_single_valued state.now.config ≡ false }
+    requires live { HoldsWritten (state_of (kept_of state.now)) loan.now.publisher loan.now.number }
+    ensures { HasCells (state_of (kept_of state.now)) loan.now.number (map Some result.now) }
+{
+    let at = state.find_live_loan(loan);
+    let Some(contents) = &state.contents[at.book] else {
+        unreachable!()
+    };
+    contents.values(at.slot)
+}
+
+/// The header of a publisher's loan.
+pub fn loan_header<'a, T: Drop, U: Default + Drop>(
+    state: &'a DomainState<T, U>,
+    loan: &LoanAt,
+) -> &'a Header
+    requires agrees { IsDomain state.now }
+    requires live { HoldsLoan (state_of (kept_of state.now)) loan.now.publisher loan.now.number }
+    ensures { HasLoanHeader (state_of (kept_of state.now)) loan.now.number result.now }
+{
+    let at = state.find_live_loan(loan);
+    state.books[at.book].header(at.slot)
+}
+
+/// The user header of a publisher's loan.
+pub fn loan_user_header<'a, T: Drop, U: Default + Drop>(
+    state: &'a DomainState<T, U>,
+    loan: &LoanAt,
+) -> &'a U
+    requires agrees { IsDomain state.now }
+    requires live { HoldsLoan (state_of (kept_of state.now)) loan.now.publisher loan.now.number }
+    ensures { HasLoanUserHeader (state_of (kept_of state.now)) loan.now.number result.now }
+{
+    let at = state.find_live_loan(loan);
+    let Some(contents) = &state.contents[at.book] else {
+        unreachable!()
+    };
+    contents.user_header(at.slot)
+}
