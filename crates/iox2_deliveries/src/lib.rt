@@ -1,5 +1,5 @@
-//! What is done with messages while connections stay as they are: loans, writes, deliveries, blocked
-//! sends that go on, discards and reads.
+//! What is done with messages while no connection is made or removed: loans, writes, deliveries,
+//! blocked sends that go on, discards and reads.
 //!
 //! Each function works on the state of `iox2_domain`, in whose words it says what it does. That it
 //! isn't part of `iox2_messages` is for the prover's time alone: it is proved beside `iox2_updates`.
