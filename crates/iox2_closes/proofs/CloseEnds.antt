@@ -32,7 +32,7 @@ use Rattle.iox2_domain.specs.Kept.{state_of}
 use Rattle.iox2_domain.specs.Fields.{Fields, kept_of, subscriber_of, numbers_of}
 use Rattle.iox2_domain.specs.Invariant.{IsDomain, HasParts, KeepsBooks}
 use Rattle.iox2_domain.proofs.lemmas.containers.LookUps.{map-at}
-use Rattle.iox2_domain.proofs.lemmas.creations.PublishersDue.{with_publishers_due, publishers_due-are}
+use Rattle.iox2_steps.proofs.creations.PublishersDue.{with_publishers_due, publishers_due-are}
 use Rattle.iox2_domain.proofs.lemmas.fields.OwnKeys.{receiver-leads}
 use Rattle.iox2_domain.proofs.lemmas.fields.Standing.{some_is}
 use Rattle.iox2_domain.proofs.lemmas.fields.Views.{mailboxes-are}
@@ -40,9 +40,9 @@ use Rattle.iox2_domain.specs.Midway.{IsMidway}
 use Rattle.iox2_domain.specs.Reaches.{Reaches}
 use Rattle.iox2_domain.proofs.lemmas.fields.KeptBooks.{kept-but}
 use Rattle.iox2_domain.proofs.lemmas.fields.Parts.{whole_of}
-use Rattle.iox2_domain.proofs.lemmas.releases.Leaving.{FreesMidway}
+use Rattle.iox2_steps.proofs.releases.Leaving.{FreesMidway}
 use Rattle.iox2_domain.proofs.lemmas.fields.ConnectionEnds.{publisher-stands, subscriber-stands}
-use Rattle.iox2_domain.proofs.lemmas.receivers.DepartedEnds.{nothing-returned}
+use Rattle.iox2_steps.proofs.receivers.DepartedEnds.{nothing-returned}
 use Rattle.iox2_closes.specs.Agreement.{IsOrphan, HasOwnedParts, KeepsMessages}
 use Rattle.iox2_closes.specs.Closes.{HasNoPublisher, is_empty_link}
 use Rattle.iox2_closes.proofs.OwnedParts.{due-parts}

@@ -19,10 +19,10 @@ use Rattle.iox2_domain.specs.Invariant.{IsBookOf, IsDomain, details_of}
 use Rattle.iox2_domain.specs.LeftBooks.{CanGo, SettlesBook}
 use Rattle.iox2_domain.specs.Updates.{changed_at}
 use Rattle.iox2_domain.proofs.lemmas.containers.LookUps.{map-at}
-use Rattle.iox2_domain.proofs.lemmas.releases.BookFreed.{contents-within, unused-book}
+use Rattle.iox2_steps.proofs.releases.BookFreed.{contents-within, unused-book}
 use Rattle.iox2_domain.proofs.lemmas.fields.LostConnections.{no-length}
 use Rattle.iox2_domain.proofs.lemmas.containers.ChangedRecords.{changed-here}
-use Rattle.iox2_domain.proofs.lemmas.creations.PublishersDue.{with_publishers_due}
+use Rattle.iox2_steps.proofs.creations.PublishersDue.{with_publishers_due}
 use Rattle.iox2_domain.proofs.lemmas.fields.Standing.{some_is}
 use Rattle.iox2_closes.specs.Agreement.{IsOrphan, HasOwnedParts}
 use Rattle.iox2_closes.specs.Closes.{HasNoPublisher, IsBusy, IsLeftAt, IsStanding, FreesBook, ForgetsIfEmpty, LosesLeft, LosesWaiting, is_empty_link, shut_subscriber}
@@ -32,7 +32,7 @@ use Rattle.iox2_closes.proofs.CloseWalk.{IsClosing, closing-begins, closing-pass
 use Rattle.iox2_closes.proofs.CloseKeys.{ExpiredBelow, ExpiredLeft, KeysLeft}
 use Rattle.iox2_domain.specs.OpenMarks.{IsUnmarkedReceiver}
 use Rattle.iox2_domain.proofs.lemmas.slots.PublisherBooks.{link-held}
-use Rattle.iox2_domain.proofs.lemmas.receivers.DepartedEnds.{nothing-returned}
+use Rattle.iox2_steps.proofs.receivers.DepartedEnds.{nothing-returned}
 
 -- there is something
 pub some-of : {A : Type 0} (o : Option A) → IsSome o → (x : A) × (o ≡ Some x)

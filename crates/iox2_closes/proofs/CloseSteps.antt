@@ -31,12 +31,12 @@ use Rattle.iox2_domain.proofs.lemmas.containers.ChangedRecords.{changed-here}
 use Rattle.iox2_domain.proofs.lemmas.fields.Views.{mailboxes-are}
 use Rattle.iox2_domain.proofs.lemmas.fields.LostConnections.{IsEmptyLink}
 use Rattle.iox2_domain.proofs.lemmas.fields.Standing.{some_is}
-use Rattle.iox2_domain.proofs.lemmas.releases.Forgotten.{forgetting}
+use Rattle.iox2_steps.proofs.releases.Forgotten.{forgetting}
 use Rattle.iox2_domain.proofs.lemmas.slots.BookChanges.{book-others}
 use Rattle.iox2_domain.proofs.lemmas.fields.ConnectionEnds.{subscriber-stands}
-use Rattle.iox2_domain.proofs.lemmas.releases.Departed.{gone-in}
+use Rattle.iox2_steps.proofs.releases.Departed.{gone-in}
 use Rattle.iox2_domain.proofs.lemmas.slots.PublisherBooks.{its-book, link-held}
-use Rattle.iox2_domain.proofs.lemmas.receivers.DepartedEnds.{nothing-returned}
+use Rattle.iox2_steps.proofs.receivers.DepartedEnds.{nothing-returned}
 use Rattle.iox2_closes.specs.Agreement.{IsOrphan, HasOwnedParts}
 use Rattle.iox2_closes.specs.Closes.{HasNoPublisher, IsBusy, LosesWaiting, FreesBook, ForgetsIfEmpty, is_empty_link, lost_from, forgotten_if_empty, without_publisher}
 use Rattle.iox2_closes.proofs.ClosedSubscribers.{forgetful-parts, forgetful-is}

@@ -23,9 +23,9 @@ use Rattle.iox2_domain.proofs.lemmas.fields.ForgottenKeys.{ForgetsReceiverKeys, 
 use Rattle.iox2_domain.proofs.lemmas.fields.LostConnections.{IsEmptyLink}
 use Rattle.iox2_domain.proofs.lemmas.fields.OpenReceivers.{open-still}
 use Rattle.iox2_domain.proofs.lemmas.fields.Standing.{some_is}
-use Rattle.iox2_domain.proofs.lemmas.receivers.DepartedEnds.{among}
-use Rattle.iox2_domain.proofs.lemmas.receivers.LeftStates.{occupants-without, same-lead}
-use Rattle.iox2_domain.proofs.lemmas.releases.Forgotten.{forgetting, forgetting-is, forgetting-it}
+use Rattle.iox2_steps.proofs.receivers.DepartedEnds.{among}
+use Rattle.iox2_steps.proofs.receivers.LeftStates.{occupants-without, same-lead}
+use Rattle.iox2_steps.proofs.releases.Forgotten.{forgetting, forgetting-is, forgetting-it}
 use Rattle.iox2_closes.specs.Agreement.{HasOwnedParts}
 use Rattle.iox2_closes.proofs.OwnedParts.{forgotten-owned}
 

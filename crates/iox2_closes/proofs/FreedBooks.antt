@@ -12,7 +12,7 @@ use Rattle.iox2_domain.specs.Fields.{Fields, contents_at, message_in}
 use Rattle.iox2_domain.specs.Invariant.{IsUsed}
 use Rattle.iox2_domain.specs.LeftBooks.{IsUnused, CanGo, SettlesBook, with_book_gone, without_book}
 use Rattle.iox2_domain.proofs.lemmas.fields.Standing.{some_is}
-use Rattle.iox2_domain.proofs.lemmas.releases.BookFreed.{contents-within, unused-book, used-book}
+use Rattle.iox2_steps.proofs.releases.BookFreed.{contents-within, unused-book, used-book}
 use Rattle.iox2_domain.proofs.lemmas.slots.BookGone.{gone-parts, gone-state}
 use Rattle.iox2_domain.proofs.lemmas.slots.Messages.{lies_at, message_at-book, message_in-parts}
 use Rattle.iox2_domain.proofs.lemmas.slots.PublisherBooks.{link-held}

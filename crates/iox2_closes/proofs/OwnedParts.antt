@@ -8,7 +8,7 @@ use Rattle.iox2_slots.specs.SlotBook.{Book}
 use Rattle.iox2_domain.specs.Fields.{Fields}
 use Rattle.iox2_domain.specs.Ports.{PublisherFields, SubscriberFields}
 use Rattle.iox2_domain.specs.Invariant.{IsUsed, IsDomain}
-use Rattle.iox2_domain.proofs.lemmas.creations.PublishersDue.{with_publishers_due, publishers_due-consistent, owned-due, gone-due}
+use Rattle.iox2_steps.proofs.creations.PublishersDue.{with_publishers_due, publishers_due-consistent, owned-due, gone-due}
 use Rattle.iox2_domain.proofs.lemmas.fields.ForgottenKeys.{Forgets, forgotten, forgotten-parts, owned-still, gone-still}
 use Rattle.iox2_closes.specs.Agreement.{IsOrphan, HasOwnedParts}
 

@@ -14,7 +14,7 @@ use Rattle.iox2_domain.specs.Boxes.{BoxAnswers, answers_of, box_of}
 use Rattle.iox2_domain.specs.Kept.{Kept}
 use Rattle.iox2_domain.specs.Shows.{Shows}
 use Rattle.iox2_domain.specs.declared.boxes.PortBox.{PortBox}
-use Rattle.iox2_domain.proofs.lemmas.sends.AnySends.{sends-alike}
+use Rattle.iox2_steps.proofs.sends.AnySends.{sends-alike}
 use Rattle.iox2_pubsub.specs.Live.{IsWritten, handler_box}
 use Rattle.iox2_pubsub.specs.SendCalls.{Sends, result_of_send}
 use Rattle.iox2_pubsub.specs.declared.sample_mut.SampleMut.{SampleMut}

@@ -25,7 +25,7 @@ use Rattle.iox2_pubsub.proofs.UnfailedSends.{HasNotFailed}
 use Rattle.iox2_domain.specs.Reaches.{Reaches}
 use Rattle.iox2_domain.specs.Shows.{Shows}
 use Rattle.iox2_domain.proofs.lemmas.fields.ReachesShows.{reaches-shows-same}
-use Rattle.iox2_domain.proofs.lemmas.creations.PublisherCreations.{create-keeps, create-holds}
+use Rattle.iox2_steps.proofs.creations.PublisherCreations.{create-keeps, create-holds}
 
 module _ {T U : Type 0} (f g : Fields T U) (loans : ℕ) (strategy : BackpressureStrategy) (handler : Option (Handler BackpressureAction)) (len : ℕ) (environment : Environment) where
   -- a domain that shows a state shows the one that a creation comes to

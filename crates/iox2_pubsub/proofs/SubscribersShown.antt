@@ -14,7 +14,7 @@ use Rattle.iox2_pubsub.proofs.LiveParts.{subscriber-live}
 use Rattle.iox2_domain.specs.Reaches.{Reaches}
 use Rattle.iox2_domain.specs.Shows.{Shows}
 use Rattle.iox2_domain.proofs.lemmas.fields.ReachesShows.{reaches-shows-same}
-use Rattle.iox2_domain.proofs.lemmas.creations.SubscriberCreations.{create-keeps, create-open}
+use Rattle.iox2_steps.proofs.creations.SubscriberCreations.{create-keeps, create-open}
 
 module _ {T U F : Type 0} {boxes : List (PortBox F)} (environment : Environment) (old new : Fields T U) (before : Kept T U F) (is_before : keeping boxes old ≡ before) where
   was : (m : Messages T U) (s : State T U) → Shows before m s → Shows (kept_of old) m s

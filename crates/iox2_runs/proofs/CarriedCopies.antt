@@ -17,7 +17,7 @@ use Rattle.iox2_store.specs.declared.errors.SendError.{SendError}
 use Rattle.iox2_store.specs.declared.errors.SendError.TheVariants.{UnableToDeliver}
 use Rattle.iox2_domain.specs.Kept.{Kept as Domain}
 use Rattle.iox2_domain.specs.Shows.{Shows}
-use Rattle.iox2_domain.proofs.lemmas.updates.AnyBoxes.{AllowsUpdates}
+use Rattle.iox2_steps.proofs.updates.AnyBoxes.{AllowsUpdates}
 use Rattle.iox2_store.specs.declared.key.Key.{Key}
 use Rattle.iox2_pubsub.specs.Live.{IsBlockedSend, blocked_key, lender_key, publisher_key}
 use Rattle.iox2_pubsub.proofs.LiveParts.{blocked-parts}

@@ -13,8 +13,8 @@ use Rattle.iox2_laws.proofs.Waits.{Waits, update_publisher_waits}
 use Rattle.iox2_ends.proofs.AnyEnvironment.{AllowsAsMuch}
 use Rattle.iox2_domain.specs.Boxes.{answers_of}
 use Rattle.iox2_domain.specs.declared.boxes.PortBox.{PortBox}
-use Rattle.iox2_domain.proofs.lemmas.sends.AnySends.{MayAnswerAsMuch, sends-alike, retries-alike, gives_up-alike}
-use Rattle.iox2_domain.proofs.lemmas.updates.AnyBoxes.{AllowsUpdates}
+use Rattle.iox2_steps.proofs.sends.AnySends.{MayAnswerAsMuch, sends-alike, retries-alike, gives_up-alike}
+use Rattle.iox2_steps.proofs.updates.AnyBoxes.{AllowsUpdates}
 use Rattle.iox2_runs.specs.Tables.{HasNoBox}
 use Rattle.iox2_runs.proofs.TableSteps.{Nobody}
 

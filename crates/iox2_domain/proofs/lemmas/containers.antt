@@ -11,3 +11,5 @@ pub mod ConnectionKeys
 pub mod ForgottenKeys
 pub mod KeyWalks
 pub mod FewerSums
+pub mod Extensions
+pub mod MadeConnections

@@ -2,7 +2,7 @@ use Rattle.std.proofs.Common.{None, get_or, ◌∙◌, ap}
 use Rattle.iox2_ends.specs.declared.sender.Progress.{Progress}
 use Rattle.iox2_domain.specs.Boxes.{answers_of}
 use Rattle.iox2_domain.specs.Fields.{Fields}
-use Rattle.iox2_domain.proofs.lemmas.sends.BlockedSteps.{can-give_up, gives-up-as}
+use Rattle.iox2_steps.proofs.sends.BlockedSteps.{can-give_up, gives-up-as}
 use Rattle.iox2_deliveries.proofs.blocked_sends.give_up_send.Goals as goal
 
 pub go_on-requires-clause-can : goal.go_on-requires-clause-can

@@ -10,8 +10,8 @@ use Rattle.iox2_ends.proofs.AnyEnvironment.{AllowsAsMuch}
 use Rattle.iox2_domain.specs.Fields.{Fields}
 use Rattle.iox2_domain.specs.Invariant.{IsDomain}
 use Rattle.iox2_domain.proofs.lemmas.slots.PublisherBooks.{read-there, book-there, book-covers}
-use Rattle.iox2_domain.proofs.lemmas.sends.DeliverySteps.{Asked, asks-boxes, ready-to-deliver, delivers-own, goes-alike, goes-slot}
-use Rattle.iox2_domain.proofs.lemmas.sends.BlockedSteps.{waits-own, waits-once, waits-few, waits-in_use}
+use Rattle.iox2_steps.proofs.sends.DeliverySteps.{Asked, asks-boxes, ready-to-deliver, delivers-own, goes-alike, goes-slot}
+use Rattle.iox2_steps.proofs.sends.BlockedSteps.{waits-own, waits-once, waits-few, waits-in_use}
 use Rattle.iox2_deliveries.proofs.blocked_sends.go_on.Goals as goal
 
 pub index_mut-book-requires : goal.index_mut-book-requires

@@ -2,7 +2,7 @@ use Rattle.std.proofs.Common.{None, Some, slice_index_or, sym, ◌∙◌, ap, su
 use Rattle.iox2_domain.specs.Fields.{Fields}
 use Rattle.iox2_domain.specs.Invariant.{IsDomain}
 use Rattle.iox2_domain.proofs.lemmas.slots.PublisherBooks.{read-there}
-use Rattle.iox2_domain.proofs.lemmas.sends.BlockedSteps.{waits-within}
+use Rattle.iox2_steps.proofs.sends.BlockedSteps.{waits-within}
 use Rattle.iox2_deliveries.proofs.blocked_sends.progress_behind.Goals as goal
 
 pub overflow_add-result : goal.overflow_add-result

@@ -3,7 +3,7 @@ use Rattle.iox2_store.specs.machine.Sends.{more_retries}
 use Rattle.iox2_ends.specs.declared.sender.Progress.{Progress}
 use Rattle.iox2_domain.specs.Boxes.{answers_of}
 use Rattle.iox2_domain.specs.Fields.{Fields}
-use Rattle.iox2_domain.proofs.lemmas.sends.BlockedSteps.{can-retry, retries-as}
+use Rattle.iox2_steps.proofs.sends.BlockedSteps.{can-retry, retries-as}
 use Rattle.iox2_deliveries.proofs.blocked_sends.retry_send.Goals as goal
 
 pub go_on-requires-clause-can : goal.go_on-requires-clause-can

@@ -19,7 +19,7 @@ use Rattle.iox2_domain.proofs.lemmas.fields.ConnectionEnds.{publisher-stands}
 use Rattle.iox2_domain.proofs.lemmas.loans.LoanSlots.{number-at}
 use Rattle.iox2_domain.proofs.lemmas.slots.ConnectionSlots.{index-got}
 use Rattle.iox2_domain.proofs.lemmas.slots.PublisherBooks.{read-there, book-there, book-own}
-use Rattle.iox2_domain.proofs.lemmas.sends.BlockedSteps.{waits-own}
+use Rattle.iox2_steps.proofs.sends.BlockedSteps.{waits-own}
 use Rattle.iox2_deliveries.proofs.blocked_sends.waits_with.Goals as goal
 
 module _ {T U : Type 0} (f : Fields T U) (sound : IsDomain f) (i : ℕ) (x : PublisherFields) (here : get_or f.publishers i None ≡ Some x) (n : ℕ) where

@@ -2,7 +2,7 @@ use Rattle.std.proofs.Common.{subst}
 use Rattle.iox2_ends.specs.Handlers.{asked}
 use Rattle.iox2_ends.proofs.AnyEnvironment.{AllowsAsMuch}
 use Rattle.iox2_domain.specs.Boxes.{answers_of}
-use Rattle.iox2_domain.proofs.lemmas.sends.DeliverySteps.{Asked, asks-boxes, sends-alike}
+use Rattle.iox2_steps.proofs.sends.DeliverySteps.{Asked, asks-boxes, sends-alike}
 use Rattle.iox2_deliveries.proofs.deliveries.send_by_handler.Goals as goal
 
 pub returns-clause-sends : goal.returns-clause-sends

@@ -1,8 +1,8 @@
 use Rattle.std.proofs.Common.{sym, ◌∙◌}
 use Rattle.iox2_store.specs.machine.Environments.{fixed_handlers}
 use Rattle.iox2_domain.specs.Boxes.{answers_of}
-use Rattle.iox2_domain.proofs.lemmas.sends.AskedBoxes.{unasked, unhandled}
-use Rattle.iox2_domain.proofs.lemmas.sends.DeliverySteps.{sends-alike}
+use Rattle.iox2_steps.proofs.sends.AskedBoxes.{unasked, unhandled}
+use Rattle.iox2_steps.proofs.sends.DeliverySteps.{sends-alike}
 use Rattle.iox2_deliveries.proofs.deliveries.send_ready.Goals as goal
 
 pub send_unasked-requires-clause-unasked : goal.send_unasked-requires-clause-unasked

@@ -8,7 +8,7 @@ use Rattle.iox2_domain.specs.Ports.{PublisherFields}
 use Rattle.iox2_domain.specs.Fields.{Fields}
 use Rattle.iox2_domain.specs.Invariant.{IsDomain}
 use Rattle.iox2_domain.proofs.lemmas.slots.PublisherBooks.{read-there, book-covers}
-use Rattle.iox2_domain.proofs.lemmas.sends.DeliverySteps.{ready-to-deliver, delivers-own, sends-slot, sent-once, sent-alone, sent-own, sent-in_use, leaves-in_use, delivered-history, history-holder-long, history-holder-used}
+use Rattle.iox2_steps.proofs.sends.DeliverySteps.{ready-to-deliver, delivers-own, sends-slot, sent-once, sent-alone, sent-own, sent-in_use, leaves-in_use, delivered-history, history-holder-long, history-holder-used}
 use Rattle.iox2_deliveries.proofs.deliveries.send_slot.Goals as goal
 
 pub deliver-outcome-requires-clause-ready : goal.deliver-outcome-requires-clause-ready

@@ -1,5 +1,5 @@
-use Rattle.iox2_domain.proofs.lemmas.discards.DiscardSteps.{can-return, once-lent, discards-loan}
-use Rattle.iox2_domain.proofs.lemmas.discards.LeftLoan.{can-let-go, left-discarded}
+use Rattle.iox2_steps.proofs.discards.DiscardSteps.{can-return, once-lent, discards-loan}
+use Rattle.iox2_steps.proofs.discards.LeftLoan.{can-let-go, left-discarded}
 use Rattle.iox2_deliveries.proofs.discards.discard_loan.Goals as goal
 
 pub return_loan-requires : goal.return_loan-requires

@@ -12,7 +12,7 @@ use Rattle.iox2_domain.specs.Ports.{SubscriberFields}
 use Rattle.iox2_domain.specs.Fields.{Fields}
 use Rattle.iox2_domain.specs.Invariant.{IsDomain, HasExpiredRoom, connection_count, one_if_receivers}
 use Rattle.iox2_domain.proofs.lemmas.fields.Standing.{one-subscriber}
-use Rattle.iox2_domain.proofs.lemmas.updates.MadeConnections.{sum-updated}
+use Rattle.iox2_domain.proofs.lemmas.containers.MadeConnections.{sum-updated}
 
 -- two lists have the same sum where at each index stands what counts the same
 sum-alike : {A : Type 0} (f : Option A → ℕ) → f None ≡ 0 → (xs ys : List (Option A)) → ((k : ℕ) → f (get_or ys k None) ≡ f (get_or xs k None)) → sum_by f ys ≡ sum_by f xs

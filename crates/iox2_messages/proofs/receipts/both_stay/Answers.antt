@@ -1,5 +1,5 @@
 use Rattle.std.proofs.Common.{◌∙◌, sym}
-use Rattle.iox2_domain.proofs.lemmas.releases.ReturnedHere.{connection-there, is-returnable}
+use Rattle.iox2_steps.proofs.releases.ReturnedHere.{connection-there, is-returnable}
 use Rattle.iox2_messages.proofs.receipts.both_stay.Goals as goal
 
 pub index-requires : goal.index-requires

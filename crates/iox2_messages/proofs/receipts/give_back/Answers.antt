@@ -3,7 +3,7 @@ use Rattle.slab.specs.Slab.{get}
 use Rattle.iox2_slots.specs.Link.{Link}
 use Rattle.iox2_store.specs.machine.Numbers.{IsOnce}
 use Rattle.iox2_domain.specs.Fields.{Fields}
-use Rattle.iox2_domain.proofs.lemmas.releases.ReturnedHere.{borrowed-at, once-at, returns-here, its-lender}
+use Rattle.iox2_steps.proofs.releases.ReturnedHere.{borrowed-at, once-at, returns-here, its-lender}
 use Rattle.iox2_messages.proofs.receipts.give_back.Goals as goal
 
 pub release-requires-clause-borrowed : goal.release-requires-clause-borrowed

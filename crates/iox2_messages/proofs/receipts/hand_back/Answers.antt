@@ -5,8 +5,8 @@ use Rattle.iox2_slots.specs.Link.{Link}
 use Rattle.iox2_store.specs.machine.Numbers.{IsOnce}
 use Rattle.iox2_ends.proofs.MailboxChanges.{within_if_some}
 use Rattle.iox2_domain.specs.Fields.{Fields}
-use Rattle.iox2_domain.proofs.lemmas.releases.Forgets.{ItsSubscriber, its-place, prunes}
-use Rattle.iox2_domain.proofs.lemmas.releases.HandedBack.{book-there, borrowed-there, is-given-back, is-let-go, once-there, slot-in_use, subscriber-here}
+use Rattle.iox2_steps.proofs.releases.Forgets.{ItsSubscriber, its-place, prunes}
+use Rattle.iox2_steps.proofs.releases.HandedBack.{book-there, borrowed-there, is-given-back, is-let-go, once-there, slot-in_use, subscriber-here}
 use Rattle.iox2_messages.proofs.receipts.hand_back.Goals as goal
 
 -- ---- a publisher that is there

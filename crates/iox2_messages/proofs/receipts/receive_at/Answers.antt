@@ -4,7 +4,7 @@ use Rattle.iox2_domain.specs.Fields.{Fields}
 use Rattle.iox2_domain.specs.Ports.{SubscriberFields}
 use Rattle.iox2_domain.specs.ReceiverSteps.{UpdatesReceiver}
 use Rattle.iox2_domain.specs.Updates.{is_subscriber_due}
-use Rattle.iox2_domain.proofs.lemmas.receivers.Walks.{idle-at}
+use Rattle.iox2_steps.proofs.receivers.Walks.{idle-at}
 use Rattle.iox2_domain.proofs.lemmas.receives.Reception.{updated-stands, receives-at, receives-failed}
 use Rattle.iox2_messages.proofs.receipts.receive_at.Goals.{then-is_due_at+in_default, else-is_due_at}
 use Rattle.iox2_messages.proofs.receipts.receive_at.Goals as goal

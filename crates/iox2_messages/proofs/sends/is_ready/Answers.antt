@@ -3,7 +3,7 @@ use Rattle.std.proofs.Common.{◌≡◌, List, Option, None, Some, slice_index_o
 use Rattle.std.proofs.lemmas.Bool.{eqb-true, true≢false}
 use Rattle.iox2_domain.specs.Ports.{PublisherFields}
 use Rattle.iox2_domain.specs.Fields.{Fields}
-use Rattle.iox2_domain.proofs.lemmas.sends.SendSteps.{ready-in-book}
+use Rattle.iox2_steps.proofs.sends.SendSteps.{ready-in-book}
 use Rattle.iox2_messages.proofs.sends.is_ready.Goals as goal
 use Rattle.iox2_messages.proofs.sends.is_ready.Goals.{then-not-publisher, else-not-publisher}
 

@@ -1,9 +1,9 @@
 use Rattle.std.proofs.Common.{sym, ◌∙◌}
 use Rattle.iox2_store.specs.machine.Environments.{fixed_handlers}
 use Rattle.iox2_domain.specs.Boxes.{answers_of}
-use Rattle.iox2_domain.proofs.lemmas.sends.AskedBoxes.{ready-boxes, unasked, unhandled}
-use Rattle.iox2_domain.proofs.lemmas.sends.DeliverySteps.{sends-alike}
-use Rattle.iox2_domain.proofs.lemmas.sends.SendSteps.{sender-stands, can-send, sends-loan}
+use Rattle.iox2_steps.proofs.sends.AskedBoxes.{ready-boxes, unasked, unhandled}
+use Rattle.iox2_steps.proofs.sends.DeliverySteps.{sends-alike}
+use Rattle.iox2_steps.proofs.sends.SendSteps.{sender-stands, can-send, sends-loan}
 use Rattle.iox2_domain.proofs.lemmas.fields.ConnectionEnds.{free-of}
 use Rattle.iox2_messages.proofs.sends.send_loan.Goals as goal
 

@@ -1,6 +1,6 @@
 use Rattle.std.proofs.Common.{refl, ◌≡◌, sym, ◌∙◌, ap}
 use Rattle.iox2_store.specs.machine.Environments.{fixed_handlers}
-use Rattle.iox2_domain.proofs.lemmas.sends.SendSteps.{updated-agrees, still-holds}
+use Rattle.iox2_steps.proofs.sends.SendSteps.{updated-agrees, still-holds}
 use Rattle.std.specs.declared.option.Option.TheVariants.{Some}
 use Rattle.iox2_domain.specs.Ports.{PublisherFields}
 use Rattle.iox2_domain.proofs.lemmas.fields.ConnectionEnds.{free-of}

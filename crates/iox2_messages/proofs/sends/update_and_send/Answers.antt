@@ -8,11 +8,11 @@ use Rattle.iox2_domain.specs.Fields.{Fields, kept_of}
 use Rattle.iox2_domain.specs.Invariant.{IsDomain, is_publisher}
 use Rattle.iox2_domain.specs.Kept.{state_of}
 use Rattle.iox2_domain.specs.SentLoans.{SendsLoan}
-use Rattle.iox2_domain.proofs.lemmas.discards.LeftLoan.{can-let-go, left-sent}
+use Rattle.iox2_steps.proofs.discards.LeftLoan.{can-let-go, left-sent}
 use Rattle.iox2_domain.proofs.lemmas.slots.LeftConnections.{unknown, stands-nowhere}
 use Rattle.iox2_domain.specs.Boxes.{answers_of}
-use Rattle.iox2_domain.proofs.lemmas.sends.AskedBoxes.{ready-boxes}
-use Rattle.iox2_domain.proofs.lemmas.sends.SendSteps.{sender-stands, updated-agrees, can-send, sends-loan}
+use Rattle.iox2_steps.proofs.sends.AskedBoxes.{ready-boxes}
+use Rattle.iox2_steps.proofs.sends.SendSteps.{sender-stands, updated-agrees, can-send, sends-loan}
 use Rattle.iox2_domain.proofs.lemmas.fields.ConnectionEnds.{free-of}
 use Rattle.iox2_messages.proofs.sends.update_and_send.Goals as goal
 

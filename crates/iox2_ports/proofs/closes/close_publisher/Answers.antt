@@ -1,6 +1,6 @@
 use Rattle.std.proofs.Common.{None, slice_index_or, ap, sym, ◌∙◌}
 use Rattle.iox2_domain.specs.Fields.{Fields}
-use Rattle.iox2_domain.proofs.lemmas.updates.MarkedEnds.{marks-publisher, closed-publisher}
+use Rattle.iox2_steps.proofs.updates.MarkedEnds.{marks-publisher, closed-publisher}
 use Rattle.iox2_ports.proofs.closes.close_publisher.Goals as goal
 
 pub close_publisher-requires-clause-agrees : goal.close_publisher-requires-clause-agrees

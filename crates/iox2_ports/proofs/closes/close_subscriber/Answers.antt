@@ -1,7 +1,7 @@
 use Rattle.std.proofs.Common.{None, slice_index_or, sym, subst}
 use Rattle.std.specs.Option.{IsSome}
 use Rattle.iox2_domain.specs.Fields.{Fields}
-use Rattle.iox2_domain.proofs.lemmas.updates.MarkedEnds.{closed-subscriber}
+use Rattle.iox2_steps.proofs.updates.MarkedEnds.{closed-subscriber}
 use Rattle.iox2_ports.proofs.closes.close_subscriber.Goals as goal
 
 pub close_subscriber-requires-clause-agrees : goal.close_subscriber-requires-clause-agrees

@@ -1,4 +1,4 @@
-use Rattle.iox2_domain.proofs.lemmas.closes.CloseSteps.{closes-freed}
+use Rattle.iox2_steps.proofs.closes.CloseSteps.{closes-freed}
 use Rattle.iox2_ports.proofs.publisher_closes.close_publisher.Goals as goal
 
 pub free_book_if_unused-requires : goal.free_book_if_unused-requires

@@ -4,7 +4,7 @@ use Rattle.iox2_ends.proofs.Counts.{IsCovered-follows}
 use Rattle.iox2_domain.specs.Closes.{LeavesAt, SomeHasKey}
 use Rattle.iox2_domain.specs.Departures.{HasKey}
 use Rattle.iox2_domain.specs.Ports.{PublisherFields}
-use Rattle.iox2_domain.proofs.lemmas.closes.LeaveSteps.{leaves-all}
+use Rattle.iox2_steps.proofs.closes.LeaveSteps.{leaves-all}
 use Rattle.iox2_ports.proofs.publisher_closes.leave_connections.Goals as goal
 
 pub leave_subscribers-requires : goal.leave_subscribers-requires

@@ -5,7 +5,7 @@ use Rattle.iox2_domain.specs.Closes.{left_subscriber}
 use Rattle.iox2_domain.specs.Fields.{Fields}
 use Rattle.iox2_domain.specs.OpenMarks.{IsUnmarkedSender}
 use Rattle.iox2_domain.proofs.lemmas.slots.PublisherBooks.{read-there}
-use Rattle.iox2_domain.proofs.lemmas.closes.CloseSteps.{closes-book, closes-covered, closes-finds, closes-history, closes-done}
+use Rattle.iox2_steps.proofs.closes.CloseSteps.{closes-book, closes-covered, closes-finds, closes-history, closes-done}
 use Rattle.iox2_ports.proofs.publisher_closes.leave_domain.Goals as goal
 
 pub index_mut-book-requires : goal.index_mut-book-requires

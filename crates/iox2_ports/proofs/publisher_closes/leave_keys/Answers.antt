@@ -5,7 +5,7 @@ use Rattle.iox2_slots.specs.SlotBook.{Book}
 use Rattle.iox2_ends.specs.Counters.{with_counters}
 use Rattle.iox2_ends.proofs.Counts.{CountersFollow-trans, IsCovered-follows}
 use Rattle.iox2_domain.specs.Departures.{HasKey}
-use Rattle.iox2_domain.proofs.lemmas.closes.LeaveSteps.{leaves-none, leaves-both, leaves-among}
+use Rattle.iox2_steps.proofs.closes.LeaveSteps.{leaves-none, leaves-both, leaves-among}
 use Rattle.iox2_domain.proofs.lemmas.containers.KeyWalks.{HasKeyBelow, next-key, all-keys}
 use Rattle.iox2_ports.proofs.publisher_closes.leave_keys.Goals as goal
 

@@ -5,7 +5,7 @@ use Rattle.iox2_ends.specs.Counters.{with_counters}
 use Rattle.iox2_ends.proofs.Counts.{CountersFollow-trans, IsCovered-follows}
 use Rattle.iox2_domain.specs.Closes.{SomeHasKey, LeavesAt}
 use Rattle.iox2_domain.specs.Updates.{receiver_key}
-use Rattle.iox2_domain.proofs.lemmas.closes.LeaveSteps.{SomeHasKeyBelow, leaves-none, leaves-both, leaves-among, next-subscriber, all-subscribers}
+use Rattle.iox2_steps.proofs.closes.LeaveSteps.{SomeHasKeyBelow, leaves-none, leaves-both, leaves-among, next-subscriber, all-subscribers}
 use Rattle.iox2_ports.proofs.publisher_closes.leave_subscribers.Goals as goal
 
 pub loop-index-init : goal.loop-index-init

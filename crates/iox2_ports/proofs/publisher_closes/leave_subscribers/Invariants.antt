@@ -1,7 +1,7 @@
 use Rattle.std.proofs.Common.{◌≡◌, length}
 use Rattle.iox2_ends.specs.Counters.{IsCovered, CountersFollow, with_counters}
 use Rattle.iox2_domain.specs.Closes.{LeavesAt}
-use Rattle.iox2_domain.proofs.lemmas.closes.LeaveSteps.{SomeHasKeyBelow}
+use Rattle.iox2_steps.proofs.closes.LeaveSteps.{SomeHasKeyBelow}
 use Rattle.iox2_ports.proofs.publisher_closes.leave_subscribers.Given as goal
 
 abbrev pub invariant-loop-index : goal.invariant-loop-index

@@ -11,7 +11,7 @@ use Rattle.iox2_domain.specs.Fields.{Fields}
 use Rattle.iox2_domain.specs.Placed.{placed}
 use Rattle.iox2_domain.proofs.lemmas.containers.Placed.{placed-here}
 use Rattle.iox2_domain.proofs.lemmas.fields.ReachesShows.{reaches-same}
-use Rattle.iox2_domain.proofs.lemmas.creations.PublisherEntries.{entered-reaches-as, room-reaches, numbered-low, place-low}
+use Rattle.iox2_steps.proofs.creations.PublisherEntries.{entered-reaches-as, room-reaches, numbered-low, place-low}
 use Rattle.iox2_ports.proofs.publisher_entry.admit_publisher.Goals as goal
 
 pub returns-in_default-entering-clause-step : goal.returns-in_default-entering-clause-step

@@ -20,7 +20,7 @@ use Rattle.iox2_domain.specs.Fields.{Fields, kept_of}
 use Rattle.iox2_ends.specs.Handlers.{marks_of}
 use Rattle.iox2_domain.specs.Ports.{PublisherFields}
 use Rattle.iox2_domain.specs.NewPublisher.{static_publisher}
-use Rattle.iox2_domain.proofs.lemmas.creations.PublisherCreations.{created-refused, created-unfit, created-made, created-updated}
+use Rattle.iox2_steps.proofs.creations.PublisherCreations.{created-refused, created-unfit, created-made, created-updated}
 use Rattle.iox2_domain.proofs.lemmas.fields.ReachesShows.{reaches-same}
 use Rattle.iox2_ports.proofs.publisher_entry.create_publisher.Goals as goal
 

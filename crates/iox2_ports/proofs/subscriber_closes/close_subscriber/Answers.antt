@@ -9,7 +9,7 @@ use Rattle.iox2_domain.specs.Kept.{state_of}
 use Rattle.iox2_domain.specs.Ports.{SubscriberFields, due}
 use Rattle.iox2_domain.specs.Updates.{changed_at}
 use Rattle.iox2_domain.specs.Invariant.{HasParts}
-use Rattle.iox2_domain.proofs.lemmas.releases.Leaving.{FreesMidway}
+use Rattle.iox2_steps.proofs.releases.Leaving.{FreesMidway}
 use Rattle.iox2_closes.specs.Closes.{HasNoPublisher, shut_subscriber}
 use Rattle.iox2_closes.proofs.CloseReads.{some-of, closing-starts, closing-turns, due-read}
 use Rattle.iox2_closes.proofs.CloseKeys.{KeysLeft, expired-known, closing-expired, key-known, closing-key, none-left}

@@ -4,7 +4,7 @@ use Rattle.std.specs.Option.{option_map}
 use Rattle.iox2_domain.specs.Fields.{Fields}
 use Rattle.iox2_domain.specs.Ports.{due, entering}
 use Rattle.iox2_domain.specs.Placed.{placed}
-use Rattle.iox2_domain.proofs.lemmas.creations.SubscriberEntries.{has-entered, place-low}
+use Rattle.iox2_steps.proofs.creations.SubscriberEntries.{has-entered, place-low}
 use Rattle.iox2_ports.proofs.subscriber_entry.admit_subscriber.Goals as goal
 
 pub returns-in_default-clause-step : goal.returns-in_default-clause-step

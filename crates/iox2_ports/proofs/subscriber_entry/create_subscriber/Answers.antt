@@ -3,7 +3,7 @@ use Rattle.std.proofs.lemmas.Result.{err_from_is_err_and}
 use Rattle.iox2_store.specs.machine.Environments.{fixed_handlers}
 use Rattle.iox2_domain.specs.Kept.{state_of}
 use Rattle.iox2_domain.specs.Fields.{kept_of}
-use Rattle.iox2_domain.proofs.lemmas.creations.SubscriberEntries.{created-reaches, created-refused, created-made}
+use Rattle.iox2_steps.proofs.creations.SubscriberEntries.{created-reaches, created-refused, created-made}
 use Rattle.iox2_ports.proofs.subscriber_entry.create_subscriber.Goals as goal
 
 pub returns-in_err-place-clause-step : goal.returns-in_err-place-clause-step

@@ -5,7 +5,7 @@ use Rattle.iox2_domain.specs.WarningRing.{warning_ring}
 use Rattle.iox2_domain.specs.Fields.{Fields}
 use Rattle.iox2_domain.specs.Ports.{SubscriberFields}
 use Rattle.iox2_domain.specs.SubscriberEntry.{failure_warned}
-use Rattle.iox2_domain.proofs.lemmas.creations.FirstUpdates.{first-updates}
+use Rattle.iox2_steps.proofs.creations.FirstUpdates.{first-updates}
 use Rattle.iox2_ports.proofs.subscriber_entry.update_first.Goals as goal
 
 pub update_subscriber-failure-requires-clause-stands : goal.update_subscriber-failure-requires-clause-stands

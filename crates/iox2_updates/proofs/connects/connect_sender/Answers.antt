@@ -2,9 +2,9 @@ use Rattle.std.proofs.Common.{◌≡◌, ◌∙◌, false, None, ap, sym}
 use Rattle.iox2_store.specs.machine.Environments.{fixed_handlers}
 use Rattle.iox2_domain.specs.Fields.{Fields}
 use Rattle.iox2_domain.specs.Updates.{is_open_subscriber}
-use Rattle.iox2_domain.proofs.lemmas.updates.PlaceCalls.{nothing-there}
-use Rattle.iox2_domain.proofs.lemmas.updates.HistoryConnects.{new-end, connects-with-history}
-use Rattle.iox2_domain.proofs.lemmas.updates.MarkedEnds.{connects-marked}
+use Rattle.iox2_steps.proofs.updates.PlaceCalls.{nothing-there}
+use Rattle.iox2_steps.proofs.updates.HistoryConnects.{new-end, connects-with-history}
+use Rattle.iox2_steps.proofs.updates.MarkedEnds.{connects-marked}
 use Rattle.iox2_updates.proofs.connects.connect_sender.Goals as goal
 
 pub hand_out_history-requires-clause-agrees : goal.hand_out_history-requires-clause-agrees

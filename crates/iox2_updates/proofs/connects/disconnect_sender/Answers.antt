@@ -10,7 +10,7 @@ use Rattle.iox2_domain.specs.contracts.state.DomainState.{the_view}
 use denote.Param.{param}
 use Rattle.iox2_domain.specs.Invariant.{IsDomain}
 use Rattle.iox2_domain.proofs.lemmas.slots.PublisherBooks.{read-there, book-there, book-covers}
-use Rattle.iox2_domain.proofs.lemmas.updates.DropCalls.{end-its, end-lost}
+use Rattle.iox2_steps.proofs.updates.DropCalls.{end-its, end-lost}
 use Rattle.iox2_updates.proofs.connects.disconnect_sender.Goals as goal
 
 pub index_mut-book-requires : goal.index_mut-book-requires

@@ -2,7 +2,7 @@ use Rattle.std.proofs.Common.{None, slice_index_or, sym, ◌∙◌, ap, subst, S
 use Rattle.iox2_domain.specs.Fields.{Fields}
 use Rattle.iox2_domain.specs.Invariant.{IsDomain}
 use Rattle.iox2_domain.proofs.lemmas.slots.PublisherBooks.{read-there, book-there, book-covers}
-use Rattle.iox2_domain.proofs.lemmas.updates.DropCalls.{end-its, waiting-lost}
+use Rattle.iox2_steps.proofs.updates.DropCalls.{end-its, waiting-lost}
 use Rattle.iox2_updates.proofs.connects.drop_waiting_at.Goals as goal
 
 pub index_mut-book-requires : goal.index_mut-book-requires

@@ -2,7 +2,7 @@ use Rattle.std.proofs.Common.{None, Some, slice_index_or, sym, ◌∙◌, ap, su
 use Rattle.iox2_domain.specs.Fields.{Fields}
 use Rattle.iox2_domain.specs.Invariant.{IsDomain}
 use Rattle.iox2_domain.proofs.lemmas.slots.PublisherBooks.{read-there, book-there, sender-linked, book-covers}
-use Rattle.iox2_domain.proofs.lemmas.updates.HistoryConnects.{end-there, end-empty, end-in_use, end-fits, end-handed}
+use Rattle.iox2_steps.proofs.updates.HistoryConnects.{end-there, end-empty, end-in_use, end-fits, end-handed}
 use Rattle.iox2_updates.proofs.connects.hand_out_history.Goals as goal
 
 pub index_mut-book-requires : goal.index_mut-book-requires

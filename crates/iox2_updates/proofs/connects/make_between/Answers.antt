@@ -5,7 +5,7 @@ use Rattle.std.specs.Prelude.{IfOk}
 use Rattle.iox2_domain.specs.Fields.{Fields}
 use Rattle.iox2_domain.specs.Invariant.{connection_count}
 use Rattle.iox2_domain.specs.Updates.{MakesConnection}
-use Rattle.iox2_domain.proofs.lemmas.updates.MadeRoom.{always, gets-sender-room, gets-receiver-room, keeps-receiver-room, makes-room}
+use Rattle.iox2_steps.proofs.updates.MadeRoom.{always, gets-sender-room, gets-receiver-room, keeps-receiver-room, makes-room}
 use Rattle.iox2_updates.proofs.connects.make_between.Goals as goal
 
 pub returns-in_err-reserve_key_at-clause-grows : goal.returns-in_err-reserve_key_at-clause-grows

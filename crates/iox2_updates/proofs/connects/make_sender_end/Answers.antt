@@ -9,7 +9,7 @@ use Rattle.iox2_domain.specs.WarningRing.{warning_ring}
 use Rattle.iox2_domain.specs.Fields.{Fields}
 use Rattle.iox2_domain.specs.Updates.{receiver_key, changed_at, key_from, with_sender_key}
 use Rattle.iox2_domain.proofs.lemmas.fields.Standing.{some-buffer}
-use Rattle.iox2_domain.proofs.lemmas.updates.SenderOutcomes.{answers-warn, joins-room, joins-as, makes-as, misses-as}
+use Rattle.iox2_steps.proofs.updates.SenderOutcomes.{answers-warn, joins-room, joins-as, makes-as, misses-as}
 use Rattle.iox2_updates.proofs.connects.make_sender_end.Goals as goal
 
 pub set_key_at-requires-clause-room : goal.set_key_at-requires-clause-room

@@ -6,7 +6,7 @@ use Rattle.iox2_store.specs.machine.Environments.{fixed_handlers}
 use Rattle.iox2_domain.specs.Fields.{Fields}
 use Rattle.iox2_domain.specs.Drops.{StandsElsewhere}
 use Rattle.iox2_domain.specs.Updates.{sender_key, is_open_subscriber}
-use Rattle.iox2_domain.proofs.lemmas.updates.PlaceCalls.{stands-elsewhere, stands-there, alone-there, unused-there, end-stands, keeps-there, drops-there, loses-there, lost-stands, lost-within, lost-settled, lost-free, lost-key}
+use Rattle.iox2_steps.proofs.updates.PlaceCalls.{stands-elsewhere, stands-there, alone-there, unused-there, end-stands, keeps-there, drops-there, loses-there, lost-stands, lost-within, lost-settled, lost-free, lost-key}
 use Rattle.iox2_updates.proofs.connects.update_sender_place.Goals as goal
 
 pub index-requires : goal.index-requires

@@ -1,7 +1,7 @@
 use Rattle.std.proofs.Common.{◌≡◌, ◌+◌, None, Some, arith}
 use Rattle.std.specs.Prelude.{slice_index_or}
 use Rattle.iox2_domain.proofs.lemmas.containers.KeyWalks.{HasKeyBelow, next-key, all-keys}
-use Rattle.iox2_domain.proofs.lemmas.releases.Drops.{nothing-both}
+use Rattle.iox2_steps.proofs.releases.Drops.{nothing-both}
 use Rattle.iox2_updates.proofs.departures.borrows_at_places.Goals as goal
 
 pub loop-place-init : goal.loop-place-init

@@ -1,7 +1,7 @@
 use Rattle.std.proofs.Common.{◌≡◌, ◌+◌, map, Some, arith}
 use Rattle.std.specs.Prelude.{slice_index}
 use Rattle.iox2_domain.proofs.lemmas.containers.KeyWalks.{HasKeyBelow, next-listed, all-listed}
-use Rattle.iox2_domain.proofs.lemmas.releases.Drops.{nothing-both}
+use Rattle.iox2_steps.proofs.releases.Drops.{nothing-both}
 use Rattle.iox2_updates.proofs.departures.borrows_expired.Goals as goal
 
 pub loop-index-init : goal.loop-index-init

@@ -7,7 +7,7 @@ use Rattle.iox2_domain.specs.Departures.{key_forgotten}
 use Rattle.iox2_domain.specs.Fields.{Fields}
 use Rattle.iox2_domain.specs.Ports.{SubscriberFields}
 use Rattle.iox2_domain.specs.Updates.{changed_at}
-use Rattle.iox2_domain.proofs.lemmas.releases.Forgets.{without_connection}
+use Rattle.iox2_steps.proofs.releases.Forgets.{without_connection}
 use Rattle.iox2_updates.proofs.departures.forget_if_empty.Goals as goal
 
 pub returns-then-is_empty-clause-empty : goal.returns-then-is_empty-clause-empty

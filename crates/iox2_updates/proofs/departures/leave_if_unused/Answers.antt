@@ -5,7 +5,7 @@ use Rattle.std.specs.Option.{option_map}
 use Rattle.iox2_domain.specs.Departures.{BorrowsNothing, BorrowsSome, DropsUnshared, KnowsKey}
 use Rattle.iox2_domain.specs.Fields.{Fields}
 use Rattle.iox2_domain.specs.Ports.{PublisherFields, SubscriberFields, due}
-use Rattle.iox2_domain.proofs.lemmas.releases.Leaving.{FreesMidway, leaves, stays-open, stays-used, without_subscriber}
+use Rattle.iox2_steps.proofs.releases.Leaving.{FreesMidway, leaves, stays-open, stays-used, without_subscriber}
 use Rattle.iox2_domain.proofs.lemmas.slots.PublisherBooks.{read-there}
 use Rattle.iox2_updates.proofs.departures.leave_if_unused.Goals.{then-subscriber-via-then-subscriber, then-subscriber-via-else-subscriber+then-has_borrowed}
 use Rattle.iox2_updates.proofs.departures.leave_if_unused.Goals as goal

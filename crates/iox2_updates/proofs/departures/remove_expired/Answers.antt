@@ -2,7 +2,7 @@ use Rattle.std.proofs.Common.{◌≡◌, ◌+◌, map, Some, arith}
 use Rattle.std.specs.Prelude.{slice_index}
 use Rattle.iox2_domain.specs.Departures.{HasKey}
 use Rattle.iox2_domain.proofs.lemmas.containers.KeyWalks.{HasKeyBelow, next-listed, all-listed}
-use Rattle.iox2_domain.proofs.lemmas.releases.Drops.{drops-none, drops-both, drops-among}
+use Rattle.iox2_steps.proofs.releases.Drops.{drops-none, drops-both, drops-among}
 use Rattle.iox2_updates.proofs.departures.remove_expired.Goals as goal
 
 pub loop-index-init : goal.loop-index-init

@@ -9,7 +9,7 @@ use Rattle.iox2_domain.specs.Fields.{Fields}
 use Rattle.iox2_domain.specs.OpenMarks.{ChangesMarks}
 use Rattle.iox2_domain.specs.Ports.{SubscriberFields}
 use Rattle.iox2_domain.specs.Updates.{sender_key, is_open_subscriber}
-use Rattle.iox2_domain.proofs.lemmas.updates.MarkedEnds.{end-there, end-open, end-marked}
+use Rattle.iox2_steps.proofs.updates.MarkedEnds.{end-there, end-open, end-marked}
 use Rattle.iox2_updates.proofs.marks.mark_end.Goals as goal
 
 pub index-requires : goal.index-requires

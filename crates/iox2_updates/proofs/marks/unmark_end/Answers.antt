@@ -3,7 +3,7 @@ use Rattle.slab.specs.Slab.{ContainsKey, get, with_value}
 use Rattle.iox2_domain.specs.Fields.{Fields}
 use Rattle.iox2_domain.specs.OpenMarks.{ClearsEnd}
 use Rattle.iox2_domain.specs.Updates.{sender_key}
-use Rattle.iox2_domain.proofs.lemmas.updates.MarkedEnds.{end-there, end-cleared, none-cleared}
+use Rattle.iox2_steps.proofs.updates.MarkedEnds.{end-there, end-cleared, none-cleared}
 use Rattle.iox2_updates.proofs.marks.unmark_end.Goals as goal
 
 pub index_mut-requires : goal.index_mut-requires

@@ -1,6 +1,6 @@
 use Rattle.std.proofs.Common.{◌≡◌, length, ap, arith}
 use Rattle.iox2_domain.specs.Fields.{Fields}
-use Rattle.iox2_domain.proofs.lemmas.updates.MarkedEnds.{sender-begins, sender-more, sender-cleared}
+use Rattle.iox2_steps.proofs.updates.MarkedEnds.{sender-begins, sender-more, sender-cleared}
 use Rattle.iox2_updates.proofs.marks.unmark_publisher.Goals as goal
 
 pub loop-subscriber_place-init : goal.loop-subscriber_place-init

@@ -1,4 +1,4 @@
-use Rattle.iox2_domain.proofs.lemmas.updates.MarkedEnds.{ClearsSender}
+use Rattle.iox2_steps.proofs.updates.MarkedEnds.{ClearsSender}
 use Rattle.iox2_updates.proofs.marks.unmark_publisher.Given as goal
 
 -- the marks at lower places are cleared

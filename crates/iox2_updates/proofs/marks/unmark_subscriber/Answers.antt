@@ -1,6 +1,6 @@
 use Rattle.std.proofs.Common.{◌≡◌, length, ap, arith}
 use Rattle.iox2_domain.specs.Fields.{Fields}
-use Rattle.iox2_domain.proofs.lemmas.updates.MarkedEnds.{receiver-begins, receiver-more, receiver-cleared}
+use Rattle.iox2_steps.proofs.updates.MarkedEnds.{receiver-begins, receiver-more, receiver-cleared}
 use Rattle.iox2_updates.proofs.marks.unmark_subscriber.Goals as goal
 
 pub loop-publisher_place-init : goal.loop-publisher_place-init

@@ -5,8 +5,8 @@ use Rattle.iox2_store.specs.machine.Environments.{fixed_handlers}
 use Rattle.iox2_domain.specs.Ports.{PublisherFields}
 use Rattle.iox2_domain.specs.Fields.{Fields}
 use Rattle.iox2_domain.specs.Updates.{receiver_key}
-use Rattle.iox2_domain.proofs.lemmas.receivers.FoundEnds.{no-id, its-id, key-of}
-use Rattle.iox2_domain.proofs.lemmas.receivers.Connects.{empty-place, makes-end}
+use Rattle.iox2_steps.proofs.receivers.FoundEnds.{no-id, its-id, key-of}
+use Rattle.iox2_steps.proofs.receivers.Connects.{empty-place, makes-end}
 use Rattle.iox2_updates.proofs.receiver_updates.connect_at.Goals as goal
 
 pub returns-in_default : goal.returns-in_default

@@ -12,8 +12,8 @@ use Rattle.iox2_domain.specs.WarningRing.{warning_ring}
 use Rattle.iox2_domain.specs.Fields.{Fields}
 use Rattle.iox2_domain.specs.ReceiverSteps.{NotJoined, JoinsAt}
 use Rattle.iox2_domain.specs.Updates.{changed_at, with_receiver_key}
-use Rattle.iox2_domain.proofs.lemmas.updates.SenderOutcomes.{answers-warn}
-use Rattle.iox2_domain.proofs.lemmas.receivers.Outcomes.{joins-as, makes-as, misses-as}
+use Rattle.iox2_steps.proofs.updates.SenderOutcomes.{answers-warn}
+use Rattle.iox2_steps.proofs.receivers.Outcomes.{joins-as, makes-as, misses-as}
 use Rattle.iox2_domain.proofs.lemmas.fields.Standing.{receiver-room, sender-joins, some-buffer}
 use Rattle.iox2_updates.proofs.receiver_updates.connect_end.Goals as goal
 

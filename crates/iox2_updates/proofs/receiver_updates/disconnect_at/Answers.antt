@@ -7,8 +7,8 @@ use Rattle.iox2_domain.specs.Ports.{PublisherFields}
 use Rattle.iox2_domain.specs.Fields.{Fields}
 use Rattle.iox2_domain.specs.ReceiverSteps.{RetiresReceiver, DisconnectsAt}
 use Rattle.iox2_domain.specs.Updates.{receiver_key}
-use Rattle.iox2_domain.proofs.lemmas.receivers.FoundEnds.{somebody, nobody-there, key-there, key-of}
-use Rattle.iox2_domain.proofs.lemmas.receivers.Disconnects.{taken-place, no-end, departed-end, retired-there, refused-there}
+use Rattle.iox2_steps.proofs.receivers.FoundEnds.{somebody, nobody-there, key-there, key-of}
+use Rattle.iox2_steps.proofs.receivers.Disconnects.{taken-place, no-end, departed-end, retired-there, refused-there}
 use Rattle.iox2_updates.proofs.receiver_updates.disconnect_at.Goals as goal
 
 pub returns-then-is_some : goal.returns-then-is_some

@@ -2,7 +2,7 @@ use Rattle.std.proofs.Common.{◌∙◌, ap, sym, subst}
 use Rattle.slab.specs.Slab.{ContainsKey}
 use Rattle.iox2_domain.specs.Fields.{Fields}
 use Rattle.iox2_domain.specs.Updates.{sender_key}
-use Rattle.iox2_domain.proofs.lemmas.receivers.FoundEnds.{sender-stands}
+use Rattle.iox2_steps.proofs.receivers.FoundEnds.{sender-stands}
 use Rattle.iox2_updates.proofs.receiver_updates.joined_key.Goals as goal
 
 pub index-requires : goal.index-requires

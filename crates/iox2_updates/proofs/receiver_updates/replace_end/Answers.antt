@@ -5,8 +5,8 @@ use Rattle.iox2_store.specs.machine.Environments.{fixed_handlers}
 use Rattle.iox2_store.specs.declared.errors.ConnectionFailure.{ConnectionFailure}
 use Rattle.iox2_domain.specs.Ports.{SubscriberFields}
 use Rattle.iox2_domain.specs.ReceiverSteps.{RetiresReceiver, ConnectsAt, ConnectsEnd}
-use Rattle.iox2_domain.proofs.lemmas.receivers.FoundEnds.{receiver-stands}
-use Rattle.iox2_domain.proofs.lemmas.receivers.Connects.{keeps-end, departed-end, refused-there, after-retirement}
+use Rattle.iox2_steps.proofs.receivers.FoundEnds.{receiver-stands}
+use Rattle.iox2_steps.proofs.receivers.Connects.{keeps-end, departed-end, refused-there, after-retirement}
 use Rattle.iox2_domain.proofs.lemmas.fields.Standing.{receiver-link}
 use Rattle.iox2_updates.proofs.receiver_updates.replace_end.Goals as goal
 

@@ -2,7 +2,7 @@ use Rattle.std.proofs.Common.{◌∙◌, ap, sym}
 use Rattle.iox2_store.specs.machine.Environments.{fixed_handlers}
 use Rattle.iox2_domain.specs.Fields.{Fields}
 use Rattle.iox2_domain.specs.Updates.{is_subscriber_due}
-use Rattle.iox2_domain.proofs.lemmas.receivers.Walks.{idle-at}
+use Rattle.iox2_steps.proofs.receivers.Walks.{idle-at}
 use Rattle.iox2_updates.proofs.receiver_updates.update_subscriber.Goals as goal
 
 pub returns-else-is_due_at : goal.returns-else-is_due_at

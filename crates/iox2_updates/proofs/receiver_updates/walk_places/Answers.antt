@@ -4,7 +4,7 @@ use Rattle.iox2_store.specs.machine.Environments.{fixed_handlers}
 use Rattle.iox2_domain.specs.Ports.{SubscriberFields}
 use Rattle.iox2_domain.specs.Fields.{Fields}
 use Rattle.iox2_domain.specs.Updates.{changed_at}
-use Rattle.iox2_domain.proofs.lemmas.receivers.Walks.{walker, begins-first, first-more, walked-length, begins-both, both-more, both-update}
+use Rattle.iox2_steps.proofs.receivers.Walks.{walker, begins-first, first-more, walked-length, begins-both, both-more, both-update}
 use Rattle.iox2_updates.proofs.receiver_updates.walk_places.Goals as goal
 
 pub loop-other-init : goal.loop-other-init

@@ -1,5 +1,5 @@
 use Rattle.iox2_store.specs.machine.Environments.{fixed_handlers}
-use Rattle.iox2_domain.proofs.lemmas.receivers.Walks.{WalksFirst, WalksBoth}
+use Rattle.iox2_steps.proofs.receivers.Walks.{WalksFirst, WalksBoth}
 use Rattle.iox2_updates.proofs.receiver_updates.walk_places.Given as goal
 
 -- the places so far are walked over

@@ -5,7 +5,7 @@ use Rattle.iox2_store.specs.machine.Numbers.{contains}
 use Rattle.iox2_domain.specs.Ports.{SubscriberFields}
 use Rattle.iox2_domain.specs.Fields.{Fields}
 use Rattle.iox2_domain.proofs.lemmas.slots.PublisherBooks.{read-there}
-use Rattle.iox2_domain.proofs.lemmas.receivers.RetiredFields.{expired-there}
+use Rattle.iox2_steps.proofs.receivers.RetiredFields.{expired-there}
 use Rattle.iox2_updates.proofs.retirements.choose.Goals as goal
 
 pub choose_retirement-requires-clause-expired : goal.choose_retirement-requires-clause-expired

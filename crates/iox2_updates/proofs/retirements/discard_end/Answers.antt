@@ -4,7 +4,7 @@ use Rattle.std.specs.declared.option.Option.TheVariants.{None}
 use Rattle.iox2_ends.proofs.MailboxChanges.{within_if_some}
 use Rattle.iox2_domain.specs.Fields.{Fields}
 use Rattle.iox2_domain.specs.Updates.{changed_at, without_receiver_key}
-use Rattle.iox2_domain.proofs.lemmas.receivers.RetiredFields.{discarded-changes, frees-book, frees-changes, spares-same}
+use Rattle.iox2_steps.proofs.receivers.RetiredFields.{discarded-changes, frees-book, frees-changes, spares-same}
 use Rattle.iox2_domain.proofs.lemmas.slots.PublisherBooks.{its-book}
 use Rattle.iox2_updates.proofs.retirements.discard_end.Goals as goal
 

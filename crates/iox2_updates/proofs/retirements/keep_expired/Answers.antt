@@ -5,8 +5,8 @@ use Rattle.iox2_domain.specs.Ports.{SubscriberFields}
 use Rattle.iox2_domain.specs.Fields.{Fields}
 use Rattle.iox2_domain.specs.ReceiverSteps.{with_expired}
 use Rattle.iox2_domain.specs.Updates.{changed_at}
-use Rattle.iox2_domain.proofs.lemmas.receivers.ExpiredKeys.{room-to-expire}
-use Rattle.iox2_domain.proofs.lemmas.receivers.RetiredFields.{kept-changes}
+use Rattle.iox2_steps.proofs.receivers.ExpiredKeys.{room-to-expire}
+use Rattle.iox2_steps.proofs.receivers.RetiredFields.{kept-changes}
 use Rattle.iox2_updates.proofs.retirements.keep_expired.Goals as goal
 
 pub expire_at-requires-clause-room : goal.expire_at-requires-clause-room

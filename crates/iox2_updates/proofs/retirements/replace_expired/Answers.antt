@@ -6,8 +6,8 @@ use Rattle.iox2_domain.specs.Ports.{SubscriberFields}
 use Rattle.iox2_domain.specs.Fields.{Fields}
 use Rattle.iox2_domain.specs.ReceiverSteps.{replacing_expired}
 use Rattle.iox2_domain.specs.Updates.{changed_at}
-use Rattle.iox2_domain.proofs.lemmas.receivers.ExpiredKeys.{expired-link, room-to-expire}
-use Rattle.iox2_domain.proofs.lemmas.receivers.RetiredFields.{evicted-changes, frees-book, frees-changes, spares-same}
+use Rattle.iox2_steps.proofs.receivers.ExpiredKeys.{expired-link, room-to-expire}
+use Rattle.iox2_steps.proofs.receivers.RetiredFields.{evicted-changes, frees-book, frees-changes, spares-same}
 use Rattle.iox2_domain.proofs.lemmas.slots.PublisherBooks.{its-book}
 use Rattle.iox2_updates.proofs.retirements.replace_expired.Goals as goal
 

@@ -6,8 +6,8 @@ use Rattle.iox2_ends.specs.declared.retirement.Retirement.TheVariants.{KeepExpir
 use Rattle.iox2_domain.specs.Ports.{SubscriberFields}
 use Rattle.iox2_domain.specs.Fields.{Fields}
 use Rattle.iox2_domain.specs.Updates.{changed_at}
-use Rattle.iox2_domain.proofs.lemmas.receivers.Choices.{chosen-evicts, chosen-discards}
-use Rattle.iox2_domain.proofs.lemmas.receivers.RetiredFields.{refused-changes, retires-as, refuses-as, first-link}
+use Rattle.iox2_steps.proofs.receivers.Choices.{chosen-evicts, chosen-discards}
+use Rattle.iox2_steps.proofs.receivers.RetiredFields.{refused-changes, retires-as, refuses-as, first-link}
 use Rattle.iox2_updates.proofs.retirements.retire.Goals as goal
 
 pub replace_expired-requires-clause-first : goal.replace_expired-requires-clause-first

@@ -6,7 +6,7 @@ use Rattle.std.specs.Option.{option_map, option_map_or}
 use Rattle.iox2_store.specs.machine.Environments.{fixed_handlers}
 use Rattle.iox2_domain.specs.Fields.{Fields}
 use Rattle.iox2_domain.specs.Updates.{changed_at, updated_publisher}
-use Rattle.iox2_domain.proofs.lemmas.updates.SenderUpdates.{WalksSender, walk-begins, walk-more, walk-updates, walking-stands, walking-subscribers, due-at}
+use Rattle.iox2_steps.proofs.updates.SenderUpdates.{WalksSender, walk-begins, walk-more, walk-updates, walking-stands, walking-subscribers, due-at}
 use Rattle.iox2_updates.proofs.updates.connect_publisher.Goals as goal
 
 pub loop-other-init : goal.loop-other-init

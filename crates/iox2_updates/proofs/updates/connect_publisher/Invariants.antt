@@ -2,7 +2,7 @@ use Rattle.std.proofs.Common.{◌≡◌, slice_index_or}
 use Rattle.std.specs.declared.option.Option.TheVariants.{None, Some}
 use Rattle.iox2_store.specs.machine.Environments.{fixed_handlers}
 use Rattle.iox2_domain.specs.Ports.{PublisherFields}
-use Rattle.iox2_domain.proofs.lemmas.updates.SenderUpdates.{WalksSender}
+use Rattle.iox2_steps.proofs.updates.SenderUpdates.{WalksSender}
 use Rattle.iox2_updates.proofs.updates.connect_publisher.Given as goal
 
 abbrev pub invariant-loop-other : goal.invariant-loop-other

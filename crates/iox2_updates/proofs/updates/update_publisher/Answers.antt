@@ -2,7 +2,7 @@ use Rattle.std.proofs.Common.{◌≡◌, ◌∙◌, false, ap, sym}
 use Rattle.iox2_store.specs.machine.Environments.{fixed_handlers}
 use Rattle.iox2_domain.specs.Fields.{Fields}
 use Rattle.iox2_domain.specs.Updates.{is_publisher_due}
-use Rattle.iox2_domain.proofs.lemmas.updates.SenderUpdates.{idle-updates, due-at}
+use Rattle.iox2_steps.proofs.updates.SenderUpdates.{idle-updates, due-at}
 use Rattle.iox2_updates.proofs.updates.update_publisher.Goals as goal
 
 pub connect_publisher-requires-clause-due : goal.connect_publisher-requires-clause-due

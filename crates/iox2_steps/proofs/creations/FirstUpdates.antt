@@ -1,0 +1,55 @@
+-- A new subscriber's first update, of whose failure there is a warning.
+use Rattle.std.proofs.Common.{◌≡◌, ℕ, Option, None, Some, get_or, refl, ap, sym, subst, ◌∙◌}
+use Rattle.iox2_store.specs.machine.Limits.{warning_limit}
+use Rattle.iox2_store.specs.machine.Ports.{with_failure_warning}
+use Rattle.iox2_store.specs.machine.Records.{Environment}
+use Rattle.iox2_store.specs.machine.State.{warned}
+use Rattle.iox2_store.specs.declared.errors.ConnectionFailure.{ConnectionFailure}
+use Rattle.iox2_store.specs.declared.warning.Warning.TheVariants.{SubscriberPartlyConnected}
+use Rattle.iox2_laws.proofs.PortChanges.{with_warning_keeps}
+use Rattle.iox2_domain.specs.WarningRing.{WarningRing, warning_ring}
+use Rattle.iox2_domain.specs.Ports.{SubscriberFields}
+use Rattle.iox2_domain.specs.Kept.{state_of}
+use Rattle.iox2_domain.specs.Fields.{Fields, kept_of}
+use Rattle.iox2_domain.specs.Invariant.{IsDomain}
+use Rattle.iox2_domain.specs.Reaches.{Reaches}
+use Rattle.iox2_domain.specs.ReceiverSteps.{UpdatesReceiver}
+use Rattle.iox2_domain.specs.SubscriberEntry.{FirstUpdates, failure_warned}
+use Rattle.iox2_domain.proofs.lemmas.fields.Parts.{whole_of}
+use Rattle.iox2_domain.proofs.lemmas.fields.ReachesShows.{reaches-then}
+use Rattle.iox2_domain.proofs.lemmas.fields.Views.{held-before}
+use Rattle.iox2_steps.proofs.receivers.LeftChanges.{parts-warned}
+use Rattle.iox2_domain.proofs.lemmas.receives.Reception.{updated, updated-stands, updated-reaches}
+
+module _ {T U : Type 0} where
+  -- warnings change, and nothing else
+  warned-reaches : (f : Fields T U) → IsDomain f → (warnings : WarningRing) → warnings.capacity ≡ warning_limit
+      → Reaches f (record f { warnings = warnings }) (record (state_of (kept_of f)) { warnings = warnings.items })
+  warned-reaches f sound warnings room = record {
+    agrees = whole_of (record f { warnings = warnings }) (parts-warned f warnings sound.parts room) sound.lone sound.kept_books
+        (with_warning_keeps (state_of (kept_of f)) sound.well_formed warnings.items)
+        (λ p n held. sound.entries p n (held-before (state_of (kept_of f)) (record (state_of (kept_of f)) { warnings = warnings.items }) p n (λ q. refl)
+        (λ x at. (x, at, record { history = refl; blocked = refl })) held));
+    state = refl;
+    entries = λ n entry at. at;
+  }
+
+  failure-reaches : (f : Fields T U) → IsDomain f → (q : ℕ) (failure : Option ConnectionFailure)
+      → Reaches f (record f { warnings = warning_ring (failure_warned q failure f.warnings.items) warning_limit }) (with_failure_warning (state_of (kept_of f)) (SubscriberPartlyConnected q) failure)
+  failure-reaches f sound q None = warned-reaches f sound (warning_ring f.warnings.items warning_limit) refl
+  failure-reaches f sound q (Some e) = warned-reaches f sound (warning_ring (warned f.warnings.items (SubscriberPartlyConnected q e)) warning_limit) refl
+
+  -- an update, and a warning of its failure, are a first update
+  pub first-updates : (environment : Environment) (f mid new : Fields T U) (place q : ℕ) (failure : Option ConnectionFailure) (y : SubscriberFields)
+      → UpdatesReceiver environment f place y mid failure → get_or f.subscribers place None ≡ Some y → y.id ≡ q
+      → new ≡ record mid { warnings = warning_ring (failure_warned q failure mid.warnings.items) warning_limit } → FirstUpdates environment f place y new
+  first-updates environment f mid new place q failure y u at its is = record {
+    after = with_failure_warning (state_of (kept_of mid)) (SubscriberPartlyConnected q) failure;
+    updates = (state_of (kept_of mid), failure, u.updates, ap (λ (r : ℕ). with_failure_warning (state_of (kept_of mid)) (SubscriberPartlyConnected r) failure) (sym its));
+    reaches = reaches-then f mid new (state_of (kept_of mid)) (with_failure_warning (state_of (kept_of mid)) (SubscriberPartlyConnected q) failure)
+        (updated-reaches environment f mid place y failure u)
+        (subst (λ (g : Fields T U). Reaches mid g (with_failure_warning (state_of (kept_of mid)) (SubscriberPartlyConnected q) failure)) (sym is) (failure-reaches mid u.changes.agrees q failure));
+    subscriber = updated environment f mid place y failure u;
+    stands = ap (λ (g : Fields T U). get_or g.subscribers place None) is ∙ updated-stands environment f mid place y failure u at;
+    is_its = refl;
+  }

@@ -1,0 +1,190 @@
+-- A departed publisher's connection goes, of which nothing is borrowed, and what waits there is lost.
+use Rattle.std.proofs.Common.{◌≡◌, ◌≢◌, ℕ, List, [], map, Bool, true, false, cond, eqb, get_or, refl, ap, sym, subst, ◌∙◌, inl, inr, ◌⊎◌, arith}
+use Rattle.std.specs.declared.option.Option.{Option}
+use Rattle.std.specs.declared.option.Option.TheVariants.{None, Some}
+use Rattle.slab.specs.Slab.{Slab, get, with_value}
+use Rattle.iox2_slots.specs.Link.{Link}
+use Rattle.iox2_slots.specs.SlotBook.{Book}
+use Rattle.iox2_store.specs.machine.Mailbox.{Mailbox, waiting_dropped, numbers_in}
+use Rattle.iox2_store.specs.machine.Numbers.{put_at, contains, without}
+use Rattle.iox2_store.specs.machine.Places.{occupants, set_place}
+use Rattle.iox2_store.specs.machine.Records.{Entry, Subscriber}
+use Rattle.iox2_store.specs.machine.State.{State}
+use Rattle.iox2_store.specs.Stored.{IsHeldMessage, In_history, In_mailbox, In_blocked_send}
+use Rattle.iox2_laws.proofs.NumberLemmas.{contains_right}
+use Rattle.iox2_laws.proofs.Puts.{at_each}
+use Rattle.iox2_ends.specs.Counters.{with_counters}
+use Rattle.iox2_ends.specs.Drops.{RemovesDropped}
+use Rattle.iox2_ends.specs.Mailboxes.{mailbox_of, mailboxes_of, with_box, publisher_of_key, receiver_ends}
+use Rattle.iox2_ends.specs.Recounts.{Recounts}
+use Rattle.iox2_ends.proofs.DropSteps.{drops-recount}
+use Rattle.iox2_ends.proofs.MailboxChanges.{Updates-with_value, mailbox-there, mailboxes-changed, put_at-own}
+use Rattle.iox2_domain.specs.Ports.{SubscriberFields}
+use Rattle.iox2_domain.specs.Kept.{state_of, entries_of}
+use Rattle.iox2_domain.specs.Invariant.{HasParts, IsDomain, HasLoneLoans, IsOwned, IsLeft, IsGone}
+use Rattle.iox2_domain.specs.Fields.{Fields, kept_of, subscriber_of, numbers_of}
+use Rattle.iox2_domain.proofs.lemmas.fields.SameEnds.{with_connections, same-publisher_of_key}
+use Rattle.iox2_domain.proofs.lemmas.fields.Views.{mailboxes-are}
+use Rattle.iox2_domain.proofs.lemmas.slots.BookChanges.{book-was, book-here}
+use Rattle.iox2_domain.proofs.lemmas.slots.LoneLoans.{lone-counters}
+use Rattle.iox2_steps.proofs.receivers.DepartedEnds.{nothing-returned}
+use Rattle.iox2_domain.proofs.lemmas.slots.RecountedLoans as counts
+use Rattle.iox2_steps.proofs.receivers.LeftEnds.{IsDeparted, LeavesReceiver, left_fields, left-parts, end-goes, expired-goes}
+use Rattle.iox2_steps.proofs.receivers.LeftStates.{left-is, ends-left, expired-left}
+use mathlib.Core.Path.{fun_ext}
+
+-- the mailboxes of which one's waiting messages are lost, as the subscriber sees them
+pub dropped-box : (boxes : ℕ → ℕ → Mailbox) (p q : ℕ) (box : Mailbox) → with_box boxes p q box ≡ (λ (r : ℕ). put_at (boxes r) q (put_at (λ (i : ℕ). boxes i q) p box r))
+dropped-box boxes p q box = fun_ext (λ r. by r (eqb r p) refl) where
+  by : (r : ℕ) (b : Bool) → eqb r p ≡ b → cond b (put_at (boxes p) q box) (boxes r) ≡ put_at (boxes r) q (cond b box (boxes r q))
+  by r true same = ap (λ (i : ℕ). put_at (boxes i) q box) (sym (let e : r ≡ p = grind (arith, same) in e))
+  by r false away = put_at-own (boxes r) q
+
+-- who holds a message where waiting ones were lost held it before
+pub held-dropped : {T U : Type 0} (s : State T U) (p q r n : ℕ)
+    → IsHeldMessage (record s { mailboxes = with_box s.mailboxes p q (waiting_dropped (s.mailboxes p q)) }) r n → IsHeldMessage s r n
+held-dropped s p q r n (In_history x at is) = In_history x at is
+held-dropped s p q r n (In_blocked_send x b at blocked is) = In_blocked_send x b at blocked is
+held-dropped s p q r n (In_mailbox k is) =
+    In_mailbox k (at_each s.mailboxes p (put_at (s.mailboxes p) q (waiting_dropped (s.mailboxes p q)))
+    (λ i row. contains (numbers_in (row k)) n ≡ true → contains (numbers_in (s.mailboxes i k)) n ≡ true) r
+    (λ _. at_each (s.mailboxes p) q (waiting_dropped (s.mailboxes p q))
+    (λ i box. contains (numbers_in box) n ≡ true → contains (numbers_in (s.mailboxes p i)) n ≡ true) k
+    (λ _ has. contains_right (s.mailboxes p q).waiting (s.mailboxes p q).borrowed n has)
+    (λ _ has. has))
+    (λ _ has. has) is)
+
+module _ {T U : Type 0} (f : Fields T U) (sound : IsDomain f) (j : ℕ) (y : SubscriberFields) (at : get_or f.subscribers j None ≡ Some y)
+    (key : ℕ) (c : Link) (link : get f.connections key ≡ Some c) (departed : IsDeparted f y c) (unborrowed : c.borrowed ≡ [])
+    (b : Book) (at_b : get f.books c.home.book ≡ Some b) (mine : b.publisher ≡ c.home.publisher)
+    (holders : List ℕ) (new : Slab Link) (removes : RemovesDropped b.holders f.connections key c holders new) where
+  abbrev s : State T U
+  s = state_of (kept_of f)
+
+  abbrev Q : Subscriber
+  Q = (subscriber_of f.books f.connections y).port
+
+  abbrev p : ℕ
+  p = c.home.publisher
+
+  -- the connection, in which nothing is left
+  abbrev pub emptied : Link
+  emptied = record c { waiting = [] }
+
+  abbrev pub between : Slab Link
+  between = with_value f.connections key emptied
+
+  pub recounts : Recounts p b.holders f.connections holders between
+  recounts = drops-recount p b.holders holders f.connections key c emptied link refl removes.drops
+
+  -- ---- its slots are given back
+
+  -- the fields where nothing waits there
+  abbrev pub dropped_fields : Fields T U
+  dropped_fields = counts.recounted_fields f sound p c.home.book b at_b mine holders between recounts
+
+  pub dropped-parts : HasParts dropped_fields
+  dropped-parts = counts.parts-recounted f sound p c.home.book b at_b mine holders between recounts
+
+  -- the waiting messages of one mailbox are lost
+  boxes-dropped : mailboxes_of (numbers_of f.books) between ≡ with_box s.mailboxes p y.id (waiting_dropped (s.mailboxes p y.id))
+  boxes-dropped =
+      mailboxes-changed (numbers_of f.books) f.connections between key c emptied sound.parts.apart link refl (Updates-with_value f.connections key c emptied link)
+      ∙ (λ k. with_box (are k) p (departed.subscriber k) (waiting_dropped (box k)))
+    where
+      are : mailboxes_of (numbers_of f.books) f.connections ≡ s.mailboxes
+      are = fun_ext (λ r. fun_ext (λ q. sym (mailboxes-are f r q)))
+
+      box : mailbox_of (numbers_of f.books p) c ≡ s.mailboxes p y.id
+      box = sym (mailboxes-are f p y.id ∙ mailbox-there (numbers_of f.books) f.connections key p y.id c sound.parts.apart link refl departed.subscriber)
+
+  pub dropped-is : state_of (kept_of dropped_fields) ≡ record s { mailboxes = with_box s.mailboxes p y.id (waiting_dropped (s.mailboxes p y.id)) }
+  dropped-is =
+      counts.recounted-is f sound p c.home.book b at_b mine holders between recounts
+      ∙ ap (λ (boxes : ℕ → ℕ → Mailbox). record s { mailboxes = boxes }) boxes-dropped
+
+  -- each loan still has one holder
+  pub dropped-lone : HasLoneLoans dropped_fields.books
+  dropped-lone = lone-counters f.books c.home.book b holders at_b sound.lone removes.drops.shrinks
+
+  -- the book is a departed publisher's
+  book-gone : IsGone f.next_port f.publishers b.publisher
+  book-gone = elim (sound.kept_books.at c.home.book b at_b) [
+    | inl has ↦ absurd (departed.publisher has.place has.publisher has.stands (has.is_its ∙ mine))
+    | inr lost ↦ lost.0
+  ]
+
+  pub dropped-gone : (d : Book) → get dropped_fields.books c.home.book ≡ Some d → IsGone f.next_port f.publishers d.publisher
+  dropped-gone d at_d =
+      let same : Some (with_counters b holders) ≡ Some d =
+      sym (book-here (with_connections f between recounts.homes) c.home.book b (with_counters b holders) at_b (record { publisher = refl; numbers = refl; slots = recounts.slots })) ∙ at_d in
+      let is : d ≡ with_counters b holders = cc in
+      rw is book-gone
+
+  -- the other books are somebody's, or left, still
+  pub dropped-kept : (k : ℕ) (d : Book) → k ≢ c.home.book → get dropped_fields.books k ≡ Some d → IsOwned f.publishers k d.publisher ⊎ IsLeft f.next_port f.publishers d
+  dropped-kept k d away at_d = elim (book-was (with_connections f between recounts.homes) c.home.book b (with_counters b holders) at_b (record { publisher = refl; numbers = refl; slots = recounts.slots }) k d at_d) [
+    | inl here ↦ absurd (away here.0)
+    | inr was ↦ sound.kept_books.at k d was.1
+  ]
+
+  pub dropped-entries : (n : ℕ) (entry : Entry T U) → entries_of (kept_of dropped_fields) n ≡ Some entry → entries_of (kept_of f) n ≡ Some entry
+  dropped-entries = counts.recounted-entries f sound p c.home.book b at_b mine holders between recounts
+
+  -- each message that somebody holds has its entry
+  pub dropped-keeps : (r n : ℕ) → IsHeldMessage (state_of (kept_of dropped_fields)) r n → (entry : Entry T U) × (entries_of (kept_of dropped_fields) n ≡ Some entry) × ((entry.header).publisher_id ≡ r)
+  dropped-keeps r n held =
+      let old = sound.entries r n (held-dropped s p y.id r n (subst (λ (t : State T U). IsHeldMessage t r n) dropped-is held)) in
+      (old.0, counts.recounted-keeps f sound p c.home.book b at_b mine holders between recounts r n old.0 held old.1, old.2)
+
+  -- ---- the connection goes
+
+  linked : get between key ≡ Some emptied
+  linked = (Updates-with_value f.connections key c emptied link).changed
+
+  returned : c.returned ≡ []
+  returned = nothing-returned f sound.parts key c link departed.publisher
+
+  still-departed : IsDeparted dropped_fields y emptied
+  still-departed = record { subscriber = departed.subscriber; publisher = departed.publisher }
+
+  -- it was the end at a place
+  pub place-fits : (i : ℕ) → get_or y.keys i None ≡ Some key → contains y.expired key ≡ false → LeavesReceiver dropped_fields y (set_place y.keys i None) y.expired new
+  place-fits i has unexpired = end-goes dropped_fields dropped-parts j y at key emptied linked still-departed refl unborrowed returned new removes.goes i has unexpired
+
+  -- it was among those that expired
+  pub expired-fits : ((place : ℕ) → get_or y.keys place None ≢ Some key) → LeavesReceiver dropped_fields y y.keys (without key y.expired) new
+  expired-fits nowhere = expired-goes dropped_fields dropped-parts j y at key emptied linked still-departed refl unborrowed returned new removes.goes nowhere
+
+  module _ (keys : List (Option ℕ)) (expired : List ℕ) (fits : LeavesReceiver dropped_fields y keys expired new) where
+    -- the fields without it
+    abbrev pub removed_fields : Fields T U
+    removed_fields = left_fields dropped_fields dropped-parts j y at keys expired y.is_due new fits
+
+    pub removed-parts : HasParts removed_fields
+    removed-parts = left-parts dropped_fields dropped-parts j y at keys expired y.is_due new fits
+
+    leads : publisher_of_key between ≡ publisher_of_key f.connections
+    leads = same-publisher_of_key f.connections between recounts.homes
+
+    -- the machine's subscriber then
+    abbrev pub removed_port : Subscriber
+    removed_port = record Q { ends = receiver_ends f.connections keys; expired = occupants (receiver_ends f.connections (map Some expired)); is_due = y.is_due }
+
+    -- the machine's state then
+    pub removed-is : state_of (kept_of removed_fields) ≡ record s {
+      subscribers = put_at s.subscribers y.id (Some removed_port);
+      mailboxes = λ r. put_at (s.mailboxes r) y.id (put_at (λ i. s.mailboxes i y.id) p (waiting_dropped (s.mailboxes p y.id)) r);
+    }
+    removed-is =
+        left-is dropped_fields dropped-parts j y at keys expired y.is_due new fits
+        ∙ (λ k. record (dropped-is k) { subscribers = put_at ((dropped-is k).subscribers) y.id (Some (record Q { ends = map (leads k) keys; expired = occupants (map (leads k) (map Some expired)); is_due = y.is_due })) })
+        ∙ ap (λ (boxes : ℕ → ℕ → Mailbox). record s { subscribers = put_at s.subscribers y.id (Some removed_port); mailboxes = boxes })
+        (dropped-box s.mailboxes p y.id (waiting_dropped (s.mailboxes p y.id)))
+
+    -- the keys that are left lead where they led
+    pub ends-removed : receiver_ends new keys ≡ receiver_ends f.connections keys
+    ends-removed = ends-left dropped_fields dropped-parts j y at keys expired y.is_due new fits ∙ ap (λ (lead : Option ℕ → Option ℕ). map lead keys) leads
+
+    pub expired-removed : receiver_ends new (map Some expired) ≡ receiver_ends f.connections (map Some expired)
+    expired-removed = expired-left dropped_fields dropped-parts j y at keys expired y.is_due new fits ∙ ap (λ (lead : Option ℕ → Option ℕ). map lead (map Some expired)) leads

@@ -1,0 +1,103 @@
+-- A subscriber's ends leave, and no connection goes: what its update comes to.
+use Rattle.std.proofs.Common.{◌≡◌, ℕ, List, get_or, refl, ap, sym, ◌∙◌}
+use Rattle.std.specs.declared.option.Option.{Option}
+use Rattle.std.specs.declared.option.Option.TheVariants.{None, Some}
+use Rattle.iox2_store.specs.machine.Limits.{warning_limit}
+use Rattle.iox2_store.specs.machine.Numbers.{put_at}
+use Rattle.iox2_store.specs.machine.Records.{Subscriber}
+use Rattle.iox2_store.specs.machine.State.{State}
+use Rattle.iox2_store.specs.machine.SubscriberUpdate.{ReceiverSide, receiver_side, with_receiver_side}
+use Rattle.iox2_laws.proofs.ReceiverSides.{ReceiverSideIsWellFormed, receiver_side_begins, receiver_side_marked}
+use Rattle.iox2_laws.proofs.SubscriberUpdates.{with_receiver_side_keeps}
+use Rattle.iox2_domain.specs.WarningRing.{WarningRing}
+use Rattle.iox2_domain.specs.Ports.{SubscriberFields}
+use Rattle.iox2_domain.specs.Kept.{state_of}
+use Rattle.iox2_domain.specs.Invariant.{HasParts, IsDomain}
+use Rattle.iox2_domain.specs.Fields.{Fields, kept_of, subscriber_of}
+use Rattle.iox2_domain.specs.ReceiverSteps.{current_side, ChangesReceiver}
+use Rattle.iox2_domain.proofs.lemmas.fields.Views.{held-before}
+use Rattle.iox2_domain.proofs.lemmas.fields.Parts.{whole_of}
+use Rattle.iox2_steps.proofs.receivers.LeftEnds.{LeavesReceiver, left_fields, left-parts}
+use Rattle.iox2_steps.proofs.receivers.LeftStates.{left-is, left_port}
+use Rattle.iox2_domain.proofs.lemmas.fields.ConnectionEnds.{subscriber-stands}
+
+-- warnings matter to nothing else
+pub parts-warned : {T U : Type 0} (f : Fields T U) (warnings : WarningRing) → HasParts f → warnings.capacity ≡ warning_limit → HasParts (record f { warnings = warnings })
+parts-warned f warnings parts room = record {
+  publisher_ids = parts.publisher_ids;
+  subscriber_ids = parts.subscriber_ids;
+  apart = parts.apart;
+  linked = record {
+    senders = parts.linked.senders;
+    receivers = parts.linked.receivers;
+    expired = parts.linked.expired;
+    ends = parts.linked.ends;
+    receiver_places = parts.linked.receiver_places;
+    knows = parts.linked.knows;
+    knows_publishers = parts.linked.knows_publishers;
+    sender_rooms = parts.linked.sender_rooms;
+    receiver_rooms = parts.linked.receiver_rooms;
+    limits = parts.linked.limits;
+    returned = parts.linked.returned;
+    marked = parts.linked.marked;
+  };
+  expired_room = parts.expired_room;
+  books = record {
+    one_each = parts.books.one_each;
+    books = parts.books.books;
+    publishers = λ k x at_x. let has = parts.books.publishers k x at_x in
+        record { book = has.book; stands = has.stands; is_its = has.is_its; slots = has.slots; no_more = has.no_more; room = has.room };
+    no_others = parts.books.no_others;
+  };
+  names = parts.names;
+  counted = record { at = parts.counted.at };
+  numbered = parts.numbered;
+  publisher_room = parts.publisher_room;
+  warning_room = room;
+  shapes = record { at = parts.shapes.at };
+  forms = parts.forms;
+  plain = parts.plain;
+  plain_subscribers = parts.plain_subscribers;
+}
+
+module _ {T U : Type 0} (f : Fields T U) (sound : IsDomain f) (j : ℕ) (y : SubscriberFields) (at : get_or f.subscribers j None ≡ Some y) where
+  abbrev s : State T U
+  s = state_of (kept_of f)
+
+  abbrev Q : Subscriber
+  Q = (subscriber_of f.books f.connections y).port
+
+  abbrev parts : HasParts f
+  parts = sound.parts
+
+  pub present : s.subscribers y.id ≡ Some Q
+  present = subscriber-stands f sound.parts j y at
+
+  -- its side is well-formed
+  pub side-well_formed : ReceiverSideIsWellFormed s y.id (current_side s y.id Q)
+  side-well_formed = receiver_side_marked s y.id (receiver_side s y.id Q) y.is_due s.warnings (receiver_side_begins s sound.well_formed y.id Q present)
+
+  -- its ends change, and no connection goes
+  pub left-changes : (keys : List (Option ℕ)) (expired : List ℕ) (fits : LeavesReceiver f y keys expired f.connections) (side : ReceiverSide) → ReceiverSideIsWellFormed s y.id side
+      → state_of (kept_of (left_fields f sound.parts j y at keys expired side.is_due f.connections fits)) ≡ with_receiver_side s y.id Q side
+      → ChangesReceiver f j y side (left_fields f sound.parts j y at keys expired side.is_due f.connections fits)
+  left-changes keys expired fits side well state = record {
+    agrees = whole_of after (left-parts f parts j y at keys expired side.is_due f.connections fits) sound.lone (record { at = sound.kept_books.at })
+        (rw state (with_receiver_side_keeps s sound.well_formed y.id Q side present well))
+        (λ p n held. sound.entries p n (held-before s (state_of (kept_of after)) p n
+        (λ q. ap (λ (t : State T U). t.mailboxes p q) is)
+        (λ w at_w. (w, sym (ap (λ (t : State T U). t.publishers p) is) ∙ at_w, record { history = refl; blocked = refl })) held));
+    keys = keys;
+    key_room = y.key_room;
+    expired = expired;
+    expired_room = y.expired_room;
+    fields = refl;
+    others = refl;
+    state = state;
+    entries = λ n entry e. e;
+  } where
+    after : Fields T U
+    after = left_fields f parts j y at keys expired side.is_due f.connections fits
+
+    is : state_of (kept_of after) ≡ record s { subscribers = put_at s.subscribers y.id (Some (left_port f sound.parts j y at keys expired side.is_due f.connections fits)) }
+    is = left-is f parts j y at keys expired side.is_due f.connections fits

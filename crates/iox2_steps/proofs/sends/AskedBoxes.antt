@@ -1,0 +1,37 @@
+-- A send where a publisher's box may be asked.
+use Rattle.std.proofs.Common.{◌≡◌, ℕ, true, false, List, refl}
+use Rattle.std.specs.Option.{is_some}
+use Rattle.std.specs.declared.option.Option.{Option}
+use Rattle.std.specs.declared.option.Option.TheVariants.{None, Some}
+use Rattle.iox2_store.specs.machine.Environments.{fixed_handlers}
+use Rattle.iox2_store.specs.machine.Records.{Environment, Handler}
+use Rattle.iox2_store.specs.declared.backpressure.BackpressureAction.{BackpressureAction}
+use Rattle.iox2_store.specs.declared.backpressure.BackpressureInfo.{BackpressureInfo}
+use Rattle.iox2_ends.proofs.AnyEnvironment.{AllowsAsMuch}
+use Rattle.iox2_domain.specs.Boxes.{answers_of}
+use Rattle.iox2_domain.specs.Fields.{Fields}
+use Rattle.iox2_domain.specs.SentLoans.{IsReadyToSend}
+use Rattle.iox2_domain.specs.declared.boxes.PortBox.{PortBox}
+use Rattle.iox2_steps.proofs.updates.AnyBoxes.{updates-alike}
+
+-- a publisher for which nothing answers has no handler
+pub unhandled : (h : Option (Handler BackpressureAction)) → is_some h ≡ false → None ≡ h
+unhandled None e = refl
+unhandled (Some h) e = absurd (let no : true ≡ false = e in cc)
+
+-- and depends on no box
+pub unasked : (e e' : Environment) (p : ℕ) (h : Option (Handler BackpressureAction)) → is_some h ≡ false → AllowsAsMuch e e' p h
+unasked e e' p None none = tt
+unasked e e' p (Some h) none = absurd (let no : true ≡ false = none in cc)
+
+-- an update asks no box for full buffers
+pub ready-boxes : {T U F : Type 0} (allows : F → BackpressureInfo → BackpressureAction → Type 0) (boxes : List (PortBox F)) (old new : Fields T U) (p n place slot : ℕ)
+    → IsReadyToSend fixed_handlers old new p n place slot → IsReadyToSend (answers_of allows boxes) old new p n place slot
+ready-boxes allows boxes old new p n place slot ready = record {
+  publisher = ready.publisher;
+  stands = ready.stands;
+  is_its = ready.is_its;
+  updated = updates-alike fixed_handlers (answers_of allows boxes) (record { memory = λ m. m; answers = λ port cause info action a. a }) old place ready.publisher new None ready.updated;
+  key = ready.key;
+  lies = ready.lies;
+}

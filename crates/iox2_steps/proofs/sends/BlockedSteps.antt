@@ -1,0 +1,144 @@
+-- A publisher with a blocked delivery takes it up: what the delivery needs is there, and what it comes to is the machine's.
+use Rattle.std.proofs.Common.{◌≡◌, ℕ, ◌+◌, ◌<◌, ◌≤◌, cond, List, drop-drop, length, get_or, refl, ap, sym, subst, ◌∙◌, arith}
+use Rattle.std.proofs.lemmas.Bool.{eq-eqb}
+use Rattle.std.proofs.lemmas.List.{length-map}
+use Rattle.std.proofs.lemmas.Option.{same_Some}
+use Rattle.std.specs.declared.option.Option.{Option}
+use Rattle.std.specs.declared.option.Option.TheVariants.{None, Some}
+use Rattle.std.specs.declared.time.Duration.{Duration}
+use Rattle.std.specs.Option.{option_map, option_map_or}
+use Rattle.slab.specs.Slab.{get, Slab}
+use Rattle.iox2_slots.specs.Link.{Link}
+use Rattle.iox2_slots.specs.SlotBook.{Book, holders_at}
+use Rattle.iox2_store.specs.machine.Delivery.{no_time}
+use Rattle.iox2_store.specs.machine.Records.{Publisher, BlockedSend, Environment}
+use Rattle.iox2_store.specs.machine.Sends.{DeliverAndConclude, Retry, GiveUp, more_retries}
+use Rattle.iox2_store.specs.machine.State.{State}
+use Rattle.iox2_store.specs.machine.WellFormed.{BlockedIsWellFormed}
+use Rattle.iox2_ends.specs.LookUp.{look_up}
+use Rattle.iox2_ends.specs.Counters.{times, HoldsItself}
+use Rattle.iox2_ends.specs.Mailboxes.{sender_ends, subscriber_of_key}
+use Rattle.iox2_ends.specs.Receivers.{HasReclaimed}
+use Rattle.iox2_ends.specs.Recounts.{Recounts}
+use Rattle.iox2_ends.specs.declared.sender.Progress.{Progress}
+use Rattle.iox2_ends.specs.declared.sender.DeliveryOutcome.{DeliveryOutcome}
+use Rattle.iox2_ends.proofs.Counts.{in_range}
+use Rattle.iox2_ends.proofs.LookUps.{look_up-found}
+use Rattle.iox2_ends.proofs.ReclaimedPuts.{own-in_use, own-still}
+use Rattle.iox2_laws.proofs.PlaceLemmas.{occupied_within}
+use Rattle.iox2_domain.specs.declared.publisher_state.BlockedDelivery.{BlockedDelivery}
+use Rattle.iox2_domain.specs.Ports.{PublisherFields}
+use Rattle.iox2_domain.specs.Kept.{state_of}
+use Rattle.iox2_domain.specs.Fields.{Fields, kept_of, publisher_of, numbers_of, is_book_of, blocked_send}
+use Rattle.iox2_domain.specs.Invariant.{IsDomain, is_publisher, own_holders, holders_of, is_loan_in}
+use Rattle.iox2_domain.specs.Reaches.{Reaches}
+use Rattle.iox2_domain.specs.Deliveries.{result_of_send}
+use Rattle.iox2_domain.specs.BlockedSends.{CanGoOn, GoesOn, ConcludesAs, RetriesAs, GivesUpAs, waiting_send}
+use Rattle.iox2_domain.proofs.lemmas.fields.ConnectionEnds.{publisher-stands}
+use Rattle.iox2_domain.proofs.lemmas.slots.PublisherBooks.{book-own}
+use Rattle.iox2_steps.proofs.updates.HistoryBounds.{held-few}
+use Rattle.iox2_steps.proofs.sends.LoanAlone.{once-times}
+use Rattle.iox2_steps.proofs.sends.GoneOn.{goes-on}
+
+module _ {T U : Type 0} (f : Fields T U) (sound : IsDomain f) (i : ℕ) (x : PublisherFields) (here : get_or f.publishers i None ≡ Some x)
+    (w : BlockedDelivery) (waits : x.blocked ≡ Some w) where
+  abbrev port : Publisher
+  port = (publisher_of f.books f.connections x).port
+
+  stands : (state_of (kept_of f)).publishers x.id ≡ Some port
+  stands = publisher-stands f sound.parts i x here
+
+  well : BlockedIsWellFormed (state_of (kept_of f)) x.id port (waiting_send f x w)
+  well = (sound.well_formed.publishers x.id port stands).blocked (waiting_send f x w) (ap (option_map (blocked_send (numbers_of f.books x.id) (sender_ends f.connections x.keys))) waits)
+
+  -- it waits at one of its publisher's places, and no more receivers took it
+  pub waits-within : ((w.progress).place < length x.keys) × ((w.progress).count ≤ (w.progress).place)
+  waits-within =
+      (omega (arith, occupied_within port.ends (w.progress).place well.waits.0 well.waits.1, length-map x.keys (subscriber_of_key f.connections)), well.count_bound)
+
+  -- it may be tried again
+  pub can-retry : (start : Progress) → start.place ≡ (w.progress).place → start.count ≡ (w.progress).count → CanGoOn x w start
+  can-retry start place count = record {
+    later = omega (arith, place);
+    within = omega (arith, place, waits-within.0);
+    counted = omega (arith, place, count, waits-within.1);
+  }
+
+  -- or go on behind that place
+  pub can-give_up : (start : Progress) → start.place ≡ (w.progress).place + 1 → start.count ≡ (w.progress).count → CanGoOn x w start
+  can-give_up start place count = record {
+    later = omega (arith, place);
+    within = omega (arith, place, waits-within.0);
+    counted = omega (arith, place, count, waits-within.1);
+  }
+
+  pub waits-once : times w.slot x.loans ≤ 1
+  waits-once = once-times (numbers_of f.books x.id) w.slot x.loans (sound.well_formed.publishers x.id port stands).loans_once
+
+  module _ (b : Book) (at : get f.books x.book ≡ Some b) where
+    -- its publisher holds the slot itself
+    pub waits-own : HoldsItself x.id w.slot b.holders f.connections.slots
+    waits-own =
+        let own = book-own f sound.parts i x here b at in
+        let now : holders_of f.books x.id w.slot ≡ holders_at b w.slot =
+        ap (λ o. option_map_or (λ (c : Book). holders_at c w.slot) o 0) (look_up-found (is_book_of x.id) f.books.slots x.book b (sound.parts.books.one_each x.id) at (eq-eqb b.publisher x.id own)) in
+        let mine : own_holders f x.id w.slot ≡ times w.slot x.loans + times w.slot (x.history).items =
+        ap (λ o. option_map_or (λ (z : PublisherFields). times w.slot z.loans + times w.slot (z.history).items) o
+        (option_map_or (λ c. cond (is_loan_in c w.slot) 1 0) (look_up (is_book_of x.id) f.books.slots) 0))
+        (look_up-found (is_publisher x.id) f.publishers i x (sound.parts.publisher_ids x.id) here (eq-eqb x.id x.id refl)) in
+        let lent : 0 < times w.slot x.loans = (sound.parts.plain i x here).lent w waits in
+        record { more = omega (arith, now, mine, sound.parts.counted.at x.id w.slot, lent) }
+
+    pub waits-few : HasReclaimed f.connections x.keys → holders_at b w.slot ≤ length x.keys + 2
+    waits-few reclaimed = (held-few f sound i x here b at reclaimed w.slot).0
+
+    -- it is in use after the delivery
+    pub waits-in_use : (holders : List ℕ) (new : Slab Link) → Recounts x.id b.holders f.connections holders new → (w.slot < length holders) × (0 < get_or holders w.slot 0)
+    waits-in_use holders new r =
+        let some = own-in_use x.id w.slot holders new.slots (own-still x.id w.slot b.holders holders f.connections new waits-own r) in
+        (in_range holders w.slot some, some)
+
+-- ---- the machine's steps
+
+module _ {T U : Type 0} (environment : Environment) (f0 f1 f2 : Fields T U) (sound0 : IsDomain f0) (reclaimed : Reaches f0 f1 (state_of (kept_of f0))) (i : ℕ) (x : PublisherFields)
+    (before : get_or f0.publishers i None ≡ Some x) (now : get_or f1.publishers i None ≡ Some x) (w : BlockedDelivery) (waits : x.blocked ≡ Some w) where
+  -- what waits is the same before slots are reclaimed
+  waiting-same : waiting_send f1 x w ≡ waiting_send f0 x w
+  waiting-same =
+      let ports : (publisher_of f1.books f1.connections x).port ≡ (publisher_of f0.books f0.connections x).port =
+      same_Some _ _ (sym (publisher-stands f1 reclaimed.agrees.parts i x now) ∙ ap (λ (s : State T U). s.publishers x.id) reclaimed.state ∙ publisher-stands f0 sound0.parts i x before) in
+      same_Some _ _
+      (sym (ap (option_map (blocked_send (numbers_of f1.books x.id) (sender_ends f1.connections x.keys))) waits)
+      ∙ ap (λ (p : Publisher). p.blocked) ports
+      ∙ ap (option_map (blocked_send (numbers_of f0.books x.id) (sender_ends f0.connections x.keys))) waits)
+
+  module _ (outcome : DeliveryOutcome) where
+    -- it was tried again
+    pub retries-as : (elapsed : Duration) → (start : Progress) → start ≡ record w.progress { retries = more_retries (w.progress).retries }
+        → GoesOn environment f1 i x w start elapsed outcome f2 → RetriesAs environment f0 f2 x w elapsed (result_of_send outcome)
+    retries-as elapsed start is goes = record {
+      agrees = went.agrees;
+      retries = subst (λ (c : BlockedSend). Retry environment (state_of (kept_of f0)) x.id c elapsed (state_of (kept_of f2)) (result_of_send outcome)) waiting-same
+          (subst (λ (s : State T U). Retry environment s x.id (waiting_send f1 x w) elapsed (state_of (kept_of f2)) (result_of_send outcome)) reclaimed.state went.concludes);
+      entries = λ m entry e. reclaimed.entries m entry (went.entries m entry e);
+    } where
+      went : ConcludesAs environment f1 f2 x (numbers_of f1.books x.id w.slot) (record w.progress { retries = more_retries (w.progress).retries }) elapsed (result_of_send outcome)
+      went = goes-on environment f1 reclaimed.agrees i x now w waits (record w.progress { retries = more_retries (w.progress).retries })
+          (can-retry f1 reclaimed.agrees i x now w waits (record w.progress { retries = more_retries (w.progress).retries }) refl refl) elapsed outcome f2
+          (subst (λ (v : Progress). GoesOn environment f1 i x w v elapsed outcome f2) is goes)
+
+    -- it was given up there
+    pub gives-up-as : (start : Progress) → start ≡ record w.progress { place = (w.progress).place + 1; retries = 0 }
+        → GoesOn environment f1 i x w start no_time outcome f2 → GivesUpAs environment f0 f2 x w (result_of_send outcome)
+    gives-up-as start is goes = record {
+      agrees = went.agrees;
+      gives_up = subst (λ (c : BlockedSend). GiveUp environment (state_of (kept_of f0)) x.id c (state_of (kept_of f2)) (result_of_send outcome)) waiting-same
+          (subst (λ (s : State T U). GiveUp environment s x.id (waiting_send f1 x w) (state_of (kept_of f2)) (result_of_send outcome)) reclaimed.state
+          (subst (λ (ends : List (Option ℕ)). DeliverAndConclude environment (state_of (kept_of f1)) x.id (numbers_of f1.books x.id w.slot) 0 no_time ((w.progress).place + 1) ends (w.progress).count (w.progress).has_failed (state_of (kept_of f2)) (result_of_send outcome))
+          (sym (drop-drop 1 (w.progress).place (sender_ends f1.connections x.keys))) went.concludes));
+      entries = λ m entry e. reclaimed.entries m entry (went.entries m entry e);
+    } where
+      went : ConcludesAs environment f1 f2 x (numbers_of f1.books x.id w.slot) (record w.progress { place = (w.progress).place + 1; retries = 0 }) no_time (result_of_send outcome)
+      went = goes-on environment f1 reclaimed.agrees i x now w waits (record w.progress { place = (w.progress).place + 1; retries = 0 })
+          (can-give_up f1 reclaimed.agrees i x now w waits (record w.progress { place = (w.progress).place + 1; retries = 0 }) refl refl) no_time outcome f2
+          (subst (λ (v : Progress). GoesOn environment f1 i x w v no_time outcome f2) is goes)

@@ -1,0 +1,457 @@
+-- A blocked send goes on: its message is delivered to the receivers that remain, and it ends or is blocked again.
+use Rattle.std.proofs.Common.{◌≡◌, ◌≢◌, ℕ, ◌+◌, ◌-◌, ◌<◌, ◌≤◌, true, false, cond, List, drop, length, map, get_or, refl, ap, sym, subst, ◌∙◌, inl, inr, ⊎_elim, arith, set-set}
+use Rattle.std.proofs.lemmas.Bool.{cases_eq, ne_eqb, eq-eqb}
+use Rattle.std.proofs.lemmas.List.{length-set}
+use Rattle.std.specs.Prelude.{slice_index, slice_get, slice_set, nat_lt}
+use Rattle.std.specs.declared.option.Option.{Option}
+use Rattle.std.specs.declared.option.Option.TheVariants.{None, Some}
+use Rattle.std.specs.declared.time.Duration.{Duration}
+use Rattle.std.specs.Option.{option_map, option_map_or}
+use Rattle.slab.specs.Slab.{get, Slab, with_value}
+use Rattle.iox2_store.specs.machine.Delivery.{DeliveryEnd, Complete, Suspended, Deliver}
+use Rattle.iox2_slots.specs.SlotBook.{Book, holders_at}
+use Rattle.iox2_slots.specs.declared.slots.mark.SlotMark.{SlotMark}
+use Rattle.iox2_slots.specs.declared.slots.mark.SlotMark.TheVariants.{Unwritten, Written, Sent}
+use Rattle.iox2_store.specs.machine.Mailbox.{Mailbox, numbers_in}
+use Rattle.iox2_store.specs.machine.Numbers.{put_at, contains, without}
+use Rattle.iox2_store.specs.machine.Places.{occupant}
+use Rattle.iox2_store.specs.machine.Records.{Entry, Loan, Publisher, BlockedSend, Environment}
+use Rattle.iox2_store.specs.machine.Sends.{ConcludeSend, DeliverAndConclude, with_mailboxes}
+use Rattle.iox2_store.specs.Stored.{IsHeldMessage, In_history, In_mailbox, In_blocked_send}
+use Rattle.iox2_store.specs.machine.State.{State, receiving_buffer}
+use Rattle.iox2_store.specs.machine.WellFormed.{IsWellFormed, IsInjective, LeadsTo}
+use Rattle.iox2_ends.specs.Counters.{times, with_counters, one_holder_less}
+use Rattle.iox2_ends.specs.Deliveries.{end_of}
+use Rattle.iox2_ends.specs.declared.sender.Progress.{Progress}
+use Rattle.iox2_ends.specs.declared.sender.DeliveryOutcome.{DeliveryOutcome}
+use Rattle.iox2_ends.proofs.Counts.{one_if, one_if_same, one_if_other, get_or-one_holder_less}
+use Rattle.iox2_ends.proofs.LookUps.{look_up-found}
+use Rattle.iox2_ends.specs.Mailboxes.{mailboxes_of, sender_ends}
+use Rattle.iox2_ends.proofs.MailboxChanges.{others-stay, both-true}
+use Rattle.iox2_laws.proofs.DeliveryLaws.{Delivered, deliver_is}
+use Rattle.iox2_laws.proofs.MailboxLemmas.{contains_in_appended}
+use Rattle.iox2_laws.proofs.PlaceLemmas.{occupant-drop}
+use Rattle.iox2_laws.proofs.Puts.{found_put}
+use Rattle.iox2_laws.proofs.SendLaws.{delivery_goes_on_keeps}
+use Rattle.iox2_domain.specs.declared.publisher_state.BlockedDelivery.{BlockedDelivery}
+use Rattle.iox2_domain.specs.Ports.{PublisherFields}
+use Rattle.iox2_domain.specs.Kept.{Lent_message, Sent_message, state_of, entries_of}
+use Rattle.iox2_domain.specs.Fields.{Fields, kept_of, publisher_of, numbers_of, is_book_of, message_of, blocked_send, contents_at}
+use Rattle.iox2_domain.specs.Invariant.{IsDomain, IsOwned, HasParts, HasNumber, LendsBlocked, holders_of, is_lent, is_loan_in, HasLoneLoans}
+use Rattle.iox2_domain.specs.Deliveries.{DeliversFrom, result_of_send}
+use Rattle.iox2_domain.specs.BlockedSends.{with_outcome, counters_after, CanGoOn, GoesOn, ConcludesAs}
+use Rattle.iox2_domain.proofs.lemmas.fields.Views.{mailboxes-are}
+use Rattle.iox2_domain.proofs.lemmas.fields.ConnectionEnds.{publisher-stands}
+use Rattle.iox2_domain.proofs.lemmas.fields.Parts.{whole_of}
+use Rattle.iox2_domain.proofs.lemmas.fields.SameEnds.{with_connections, same-subscriber_of_key}
+use Rattle.iox2_domain.proofs.lemmas.slots.Messages.{lies_at, message_in-parts, message_at-slot, has_number, entry-there}
+use Rattle.iox2_domain.proofs.lemmas.slots.BookChanges.{KeepsSlots, book-here, holders-here}
+use Rattle.iox2_domain.proofs.lemmas.slots.HeldMessages.{own-in_use, holders-there}
+use Rattle.iox2_domain.proofs.lemmas.slots.PublisherBooks.{book-own, book-owned}
+use Rattle.iox2_domain.proofs.lemmas.slots.Recounts.{back}
+use Rattle.iox2_domain.proofs.lemmas.slots.RecountedFields.{same-numbers}
+use Rattle.iox2_domain.proofs.lemmas.slots.RecountedLoans.{recounted_fields, recounted-kept, parts-recounted, recounted-is, recounted-entries, recounted-keeps}
+use Rattle.iox2_domain.proofs.lemmas.slots.LoneLoans.{IsLoneIn, lone-changed, lone-fewer}
+use Rattle.iox2_domain.proofs.lemmas.slots.Rebooked.{rebooked, rebooked-parts, rebooked-is, rebooked-entries, rebooked-keeps, rebooked-kept}
+use Rattle.iox2_steps.proofs.sends.LoanAlone.{once-times}
+use Rattle.iox2_steps.proofs.sends.SentSlots.{times-without, map-without}
+use Rattle.iox2_steps.proofs.sends.Published.{match-some, buffers-are}
+use Rattle.iox2_domain.proofs.lemmas.loans.PublisherChanges.{KeepsSettings}
+use mathlib.Core.Path.{fun_ext}
+
+-- a message that was sent has that mark
+mark-sent : {T U : Type 0} (p number : ℕ) (header : _) (content : _) (n : ℕ) (entry : Entry T U) (mark : SlotMark) → Sent_message n entry ≡ message_of {T = T} {U = U} p number header content mark → mark ≡ Sent
+mark-sent p number header content n entry Unwritten e = absurd cc
+mark-sent p number header content n entry Written e = absurd cc
+mark-sent p number header content n entry Sent e = refl
+
+module _ {T U : Type 0} (environment : Environment) (f : Fields T U) (sound : IsDomain f) (i : ℕ) (x : PublisherFields) (here : get_or f.publishers i None ≡ Some x)
+    (w : BlockedDelivery) (waits : x.blocked ≡ Some w) (start : Progress) (can : CanGoOn x w start) (elapsed : Duration)
+    (outcome : DeliveryOutcome) (g : Fields T U) (d : DeliversFrom environment f x w.slot start elapsed outcome g) where
+  own : (d.book).publisher ≡ x.id
+  own = book-own f sound.parts i x here d.book d.stands
+
+  owned : IsOwned f.publishers x.book x.id
+  owned = book-owned f sound.parts i x here
+
+  -- the fields after the delivery
+  abbrev mid : Fields T U
+  mid = recounted_fields f sound x.id x.book d.book d.stands own d.holders d.connections d.recounts
+
+  parts : HasParts mid
+  parts = parts-recounted f sound x.id x.book d.book d.stands own d.holders d.connections d.recounts
+
+  abbrev book : Book
+  book = with_counters d.book d.holders
+
+  keeps : KeepsSlots d.book book
+  keeps = record { publisher = refl; numbers = refl; slots = d.recounts.slots }
+
+  book-stands : get mid.books x.book ≡ Some book
+  book-stands = book-here (with_connections f d.connections d.recounts.homes) x.book d.book book d.stands keeps
+
+  -- ---- the state before
+
+  abbrev s : State T U
+  s = state_of (kept_of f)
+
+  abbrev port : Publisher
+  port = (publisher_of f.books f.connections x).port
+
+  abbrev boxes : ℕ → ℕ → Mailbox
+  boxes = mailboxes_of (numbers_of f.books) d.connections
+
+  abbrev n : ℕ
+  n = numbers_of f.books x.id w.slot
+
+  -- what waits, to the machine
+  abbrev b : BlockedSend
+  b = blocked_send (numbers_of f.books x.id) (sender_ends f.connections x.keys) w
+
+  stands : s.publishers x.id ≡ Some port
+  stands = publisher-stands f sound.parts i x here
+
+  port-waits : port.blocked ≡ Some b
+  port-waits = ap (option_map (blocked_send (numbers_of f.books x.id) (sender_ends f.connections x.keys))) waits
+
+  -- ---- its slot
+
+  lent : 0 < times w.slot x.loans
+  lent = (sound.parts.plain i x here).lent w waits
+
+  once : times w.slot x.loans ≤ 1
+  once = once-times (numbers_of f.books x.id) w.slot x.loans (sound.well_formed.publishers x.id port stands).loans_once
+
+  slot-used : 0 < holders_at d.book w.slot
+  slot-used =
+      let held : 0 < holders_of f.books x.id w.slot = own-in_use f sound.parts.counted sound.parts.publisher_ids i w.slot x here (omega (arith, lent)) in
+      let is : holders_of f.books x.id w.slot ≡ holders_at d.book w.slot =
+      ap (λ o. option_map_or (λ (c : Book). holders_at c w.slot) o 0) (look_up-found (is_book_of x.id) f.books.slots x.book d.book (sound.parts.books.one_each x.id) d.stands (eq-eqb (d.book).publisher x.id own)) in
+      omega (arith, held, is)
+
+  has : HasNumber f.books x.book w.slot n
+  has = record {
+    book = d.book;
+    stands = d.stands;
+    in_use = slot-used;
+    number = sym (ap (λ o. option_map_or (λ (c : Book). slice_index c.numbers w.slot) o 0)
+        (look_up-found (is_book_of x.id) f.books.slots x.book d.book (sound.parts.books.one_each x.id) d.stands (eq-eqb (d.book).publisher x.id own)));
+  }
+
+  -- its message was sent
+  sent : (entry : Entry T U) × (entries_of (kept_of f) n ≡ Some entry) × ((entry.header).publisher_id ≡ x.id)
+  sent = sound.entries x.id n (In_blocked_send port b stands port-waits refl)
+
+  lies : lies_at f x.book w.slot ≡ Some (Sent_message n sent.0)
+  lies =
+      let there = entry-there f n sent.0 sent.1 in
+      let same = sound.parts.numbered.one there.0 x.book there.1 w.slot n (has_number f.contents f.books there.0 there.1 n (Sent_message n sent.0) there.2 (eq-eqb n n refl)) has in
+      sym (ap (λ k. lies_at f k w.slot) same.0) ∙ sym (ap (λ j. lies_at f there.0 j) same.1) ∙ there.2
+
+  marked : slice_get (d.book).marks w.slot ≡ Some Sent
+  marked =
+      let parts = message_in-parts d.book (contents_at f.contents x.book) w.slot (Sent_message n sent.0) (sym (message_at-slot f.contents f.books x.book w.slot d.book d.stands) ∙ lies) in
+      parts.marks ∙ ap Some (mark-sent (d.book).publisher _ parts.header parts.content n sent.0 parts.mark parts.is)
+
+  -- it is in use after the delivery
+  used-still : 0 < holders_at book w.slot
+  used-still =
+      let some : 0 < holders_of mid.books x.id w.slot = own-in_use mid parts.counted parts.publisher_ids i w.slot x here (omega (arith, lent)) in
+      omega (arith, some, holders-here (with_connections f d.connections d.recounts.homes) x.book d.book book d.stands keeps sound.parts.books.one_each x.id w.slot own)
+
+  -- the other slots of loans have other numbers
+  only : (r : ℕ) → 0 < times r x.loans → numbers_of f.books x.id r ≡ n → r ≡ w.slot
+  only r some is =
+      let there = holders-there f x.id r (own-in_use f sound.parts.counted sound.parts.publisher_ids i r x here (omega (arith, some))) in
+      (sound.parts.numbered.one there.0 x.book r w.slot n (record { book = there.1; stands = there.2; in_use = there.4; number = there.5 ∙ is }) has).1
+
+  -- ---- the publisher and its counters afterwards
+
+  settings : (o : DeliveryOutcome) → KeepsSettings x (with_outcome o w.slot x)
+  settings (DeliveryOutcome.Complete count has_failed) = record {
+    id = refl;
+    book = refl;
+    max_loaned_samples = refl;
+    slots = refl;
+    strategy = refl;
+    backpressure_handler = refl;
+    degradation_handler = refl;
+    allocation = refl;
+    initial_max_slice_len = refl;
+    loan_room = omega arith;
+    history_room = refl;
+    key_room = omega arith;
+  }
+  settings (DeliveryOutcome.Suspended progress) = record {
+    id = refl;
+    book = refl;
+    max_loaned_samples = refl;
+    slots = refl;
+    strategy = refl;
+    backpressure_handler = refl;
+    degradation_handler = refl;
+    allocation = refl;
+    initial_max_slice_len = refl;
+    loan_room = omega arith;
+    history_room = refl;
+    key_room = omega arith;
+  }
+
+  same-keys : (o : DeliveryOutcome) → (with_outcome o w.slot x).keys ≡ x.keys
+  same-keys (DeliveryOutcome.Complete count has_failed) = refl
+  same-keys (DeliveryOutcome.Suspended progress) = refl
+
+  lends : (o : DeliveryOutcome) → LendsBlocked x → LendsBlocked (with_outcome o w.slot x)
+  lends (DeliveryOutcome.Complete count has_failed) had c e = absurd cc
+  lends (DeliveryOutcome.Suspended progress) had c e = subst (λ (slot : ℕ). 0 < times slot x.loans) (slot-is c e) lent where
+    slot-is : (c : BlockedDelivery) → Some (record { slot = w.slot; progress = progress }) ≡ Some c → w.slot ≡ c.slot
+    slot-is c e = ap (λ (o : Option BlockedDelivery). option_map_or (λ (v : BlockedDelivery). v.slot) o 0) e
+
+  less : (r : ℕ) → get_or (one_holder_less w.slot book.holders) r 0 + one_if r w.slot ≡ holders_at book r
+  less r = get_or-one_holder_less book.holders w.slot r used-still
+
+  long : (o : DeliveryOutcome) → length (counters_after o w.slot book.holders) ≡ length book.holders
+  long (DeliveryOutcome.Complete count has_failed) = length-set book.holders w.slot _
+  long (DeliveryOutcome.Suspended progress) = refl
+
+  fewer : (o : DeliveryOutcome) (r : ℕ) → get_or (counters_after o w.slot book.holders) r 0 ≤ holders_at book r
+  fewer (DeliveryOutcome.Complete count has_failed) r = omega (arith, less r)
+  fewer (DeliveryOutcome.Suspended progress) r = omega arith
+
+  was-used : (o : DeliveryOutcome) (r : ℕ) → 0 < get_or (counters_after o w.slot book.holders) r 0 → 0 < holders_at book r
+  was-used o r some = omega (arith, some, fewer o r)
+
+  without-slot : (r : ℕ) → times r (without w.slot x.loans) + one_if r w.slot ≡ times r x.loans
+  without-slot r = elim (cases_eq r w.slot) [
+    | inl is ↦
+        let e : times r (without w.slot x.loans) + times w.slot x.loans ≡ times r x.loans =
+        sym (ap (λ t. times r (without w.slot x.loans) + cond t (times w.slot x.loans) 0) (eq-eqb r w.slot is)) ∙ times-without r w.slot x.loans in
+        omega (arith, e, once, lent, ap (λ (k : ℕ). one_if k w.slot) is, one_if_same w.slot)
+    | inr away ↦
+        let e : times r (without w.slot x.loans) + 0 ≡ times r x.loans =
+        sym (ap (λ t. times r (without w.slot x.loans) + cond t (times w.slot x.loans) 0) (ne_eqb r w.slot away)) ∙ times-without r w.slot x.loans in
+        omega (arith, e, one_if_other r w.slot away)
+  ]
+
+  counts : (o : DeliveryOutcome) (r : ℕ) → times r (with_outcome o w.slot x).loans + times r ((with_outcome o w.slot x).history).items + holders_at book r
+      ≡ times r x.loans + times r (x.history).items + get_or (counters_after o w.slot book.holders) r 0
+  counts (DeliveryOutcome.Complete count has_failed) r = omega (arith, less r, without-slot r)
+  counts (DeliveryOutcome.Suspended progress) r = refl
+
+  -- no loan lies in a slot that goes out of use
+  stays-lent : (o : DeliveryOutcome) (r m : ℕ) (l : Loan T U) → get_or (counters_after o w.slot book.holders) r 0 ≡ 0 → lies_at mid x.book r ≡ Some (Lent_message m l) → ⊥
+  stays-lent o r m l none lying = elim (cases_eq r w.slot) [
+    | inl same ↦
+        let lay : lies_at f x.book r ≡ Some (Lent_message m l) = back f sound.parts x.id x.book d.book d.stands own d.holders d.connections d.recounts x.book r (Lent_message m l) lying in
+        absurd (let both : Some (Lent_message m l) ≡ Some (Sent_message n sent.0) = sym lay ∙ ap (λ j. lies_at f x.book j) same ∙ lies in cc)
+    | inr away ↦
+        let in_use : 0 < holders_at book r =
+        (message_in-parts book (contents_at f.contents x.book) r (Lent_message m l) (sym (message_at-slot f.contents mid.books x.book r book book-stands) ∙ lying)).in_use in
+        absurd (apart o none in_use away)
+  ] where
+    apart : (o : DeliveryOutcome) → get_or (counters_after o w.slot book.holders) r 0 ≡ 0 → 0 < holders_at book r → r ≢ w.slot → ⊥
+    apart (DeliveryOutcome.Complete count has_failed) none in_use away = absurd (let e = less r in let z = one_if_other r w.slot away in omega arith)
+    apart (DeliveryOutcome.Suspended progress) none in_use away = absurd (omega (arith, none, in_use))
+
+  -- ---- the fields afterwards
+
+  abbrev after : Fields T U
+  after = rebooked mid parts i x here book book-stands own (with_outcome outcome w.slot x) (settings outcome) (same-keys outcome) (lends outcome)
+      (counters_after outcome w.slot book.holders) (long outcome) (was-used outcome) (counts outcome) (stays-lent outcome)
+
+  parts-after : HasParts after
+  parts-after = rebooked-parts mid parts i x here book book-stands own (with_outcome outcome w.slot x) (settings outcome) (same-keys outcome) (lends outcome)
+      (counters_after outcome w.slot book.holders) (long outcome) (was-used outcome) (counts outcome) (stays-lent outcome)
+
+  lone-after : HasLoneLoans after.books
+  lone-after =
+      subst HasLoneLoans (sym (ap (λ (books : List (Option Book)). let slab : Slab Book = record f.books { slots = books } in slab)
+      (set-set f.books.slots x.book (Some book) (Some (with_counters book (counters_after outcome w.slot book.holders))))))
+      (lone-changed f.books x.book d.book (with_counters book (counters_after outcome w.slot book.holders)) d.stands sound.lone one)
+    where
+      one : (r : ℕ) → IsLoneIn d.book r → IsLoneIn (with_counters book (counters_after outcome w.slot book.holders)) r
+      one r had = elim (cases_eq r w.slot) [
+        | inl same ↦ λ loan. absurd (unlent r same loan)
+        | inr away ↦ lone-fewer d.book (with_counters book (counters_after outcome w.slot book.holders)) r refl (omega (arith, fewer outcome r, d.alone.others r away)) had
+      ] where
+        unlent : (r : ℕ) → r ≡ w.slot → is_loan_in (with_counters book (counters_after outcome w.slot book.holders)) r ≡ true → ⊥
+        unlent r same loan =
+            let mark : slice_get (d.book).marks r ≡ Some Sent = ap (slice_get (d.book).marks) same ∙ marked in
+            absurd (let no : false ≡ true = sym (ap (λ o. option_map_or is_lent o false) mark) ∙ (both-true (nat_lt 0 (holders_at (with_counters book (counters_after outcome w.slot book.holders)) r)) (option_map_or is_lent (slice_get (d.book).marks r) false) loan).1 in cc)
+
+  -- ---- the state afterwards
+
+  numbers-are : numbers_of mid.books ≡ numbers_of f.books
+  numbers-are = same-numbers f sound.parts x.id x.book d.book d.stands own d.holders d.connections d.recounts
+
+  ends-are : sender_ends d.connections x.keys ≡ sender_ends f.connections x.keys
+  ends-are = λ t. map (same-subscriber_of_key f.connections d.connections d.recounts.homes t) x.keys
+
+  mid-is : state_of (kept_of mid) ≡ record s { mailboxes = boxes }
+  mid-is = recounted-is f sound x.id x.book d.book d.stands own d.holders d.connections d.recounts
+
+  -- the machine's publisher afterwards
+  abbrev change : DeliveryEnd → Publisher → Publisher
+  change (Complete count has_failed) v = record v { loans = without n v.loans; blocked = None }
+  change (Suspended waiting) v = record v { blocked = Some waiting }
+
+  abbrev how : DeliveryEnd
+  how = end_of n port.ends outcome
+
+  sender-is : (o : DeliveryOutcome) → (publisher_of mid.books mid.connections (with_outcome o w.slot x)).port ≡ change (end_of n port.ends o) port
+  sender-is (DeliveryOutcome.Complete count has_failed) =
+      (λ t. record port {
+        loans = map (numbers-are t x.id) (without w.slot x.loans);
+        history = map (numbers-are t x.id) (x.history).items;
+        ends = ends-are t;
+        blocked = None;
+      })
+      ∙ (λ t. record port { loans = map-without (numbers_of f.books x.id) w.slot n refl x.loans only t; blocked = None })
+  sender-is (DeliveryOutcome.Suspended progress) =
+      λ t. record port {
+        loans = map (numbers-are t x.id) x.loans;
+        history = map (numbers-are t x.id) (x.history).items;
+        ends = ends-are t;
+        blocked = Some (blocked_send (numbers-are t x.id) (ends-are t) (record { slot = w.slot; progress = progress }));
+      }
+
+  after-is : state_of (kept_of after) ≡ record s { mailboxes = boxes; publishers = put_at s.publishers x.id (Some (change how port)) }
+  after-is =
+      rebooked-is mid parts i x here book book-stands own (with_outcome outcome w.slot x) (settings outcome) (same-keys outcome) (lends outcome)
+      (counters_after outcome w.slot book.holders) (long outcome) (was-used outcome) (counts outcome) (stays-lent outcome)
+      ∙ ap (λ (z : Publisher). record (state_of (kept_of mid)) { publishers = put_at (state_of (kept_of mid)).publishers x.id (Some z) }) (sender-is outcome)
+      ∙ ap (λ (t : State T U). record t { publishers = put_at t.publishers x.id (Some (change how port)) }) mid-is
+
+  other-boxes : (q r : ℕ) → q ≢ x.id → boxes q r ≡ s.mailboxes q r
+  other-boxes q r away =
+      others-stay (numbers_of f.books) f.connections d.connections x.id q r sound.parts.apart d.recounts.homes d.recounts.others away ∙ sym (mailboxes-are f q r)
+
+  boxes-are : boxes ≡ put_at s.mailboxes x.id (boxes x.id)
+  boxes-are = fun_ext (λ q. fun_ext (λ r. elim (cases_eq q x.id) [
+    | inl same ↦ ap (λ p. boxes p r) same ∙ sym (ap (λ t. (cond t (boxes x.id) (s.mailboxes q)) r) (eq-eqb q x.id same))
+    | inr away ↦ other-boxes q r away ∙ sym (ap (λ t. (cond t (boxes x.id) (s.mailboxes q)) r) (ne_eqb q x.id away))
+  ]))
+
+  -- as the machine writes it
+  after-shown : state_of (kept_of after) ≡ record s { mailboxes = put_at s.mailboxes x.id (boxes x.id); publishers = put_at s.publishers x.id (option_map (change how) (s.publishers x.id)) }
+  after-shown = after-is ∙ (λ t. record s { mailboxes = boxes-are t; publishers = put_at s.publishers x.id (option_map (change how) (sym stands t)) })
+
+  -- ---- the machine's step
+
+  delivers : Deliver environment f.config x.id x.strategy x.backpressure_handler (receiving_buffer s) n start.retries elapsed start.place (drop start.place port.ends) start.count start.has_failed (s.mailboxes x.id) how (boxes x.id)
+  delivers =
+      subst (λ (row : ℕ → Mailbox). Deliver environment f.config x.id x.strategy x.backpressure_handler (receiving_buffer s) n start.retries elapsed start.place (drop start.place port.ends) start.count start.has_failed row how (boxes x.id))
+      (fun_ext (λ r. sym (mailboxes-are f x.id r)))
+      (subst (λ (buffers : ℕ → Option ℕ). Deliver environment f.config x.id x.strategy x.backpressure_handler buffers n start.retries elapsed start.place (drop start.place port.ends) start.count start.has_failed
+      (mailboxes_of (numbers_of f.books) f.connections x.id) how (boxes x.id)) (buffers-are f) (d.delivers (numbers_of f.books)))
+
+  ends-so : (o : DeliveryOutcome) → state_of (kept_of after) ≡ record s { mailboxes = put_at s.mailboxes x.id (boxes x.id); publishers = put_at s.publishers x.id (option_map (change (end_of n port.ends o)) (s.publishers x.id)) }
+      → ConcludeSend (with_mailboxes s x.id (boxes x.id)) x.id n (end_of n port.ends o) (state_of (kept_of after)) (result_of_send o)
+  ends-so (DeliveryOutcome.Complete count has_failed) is = (is, refl)
+  ends-so (DeliveryOutcome.Suspended progress) is = (is, refl)
+
+  concludes : DeliverAndConclude environment s x.id n start.retries elapsed start.place (drop start.place port.ends) start.count start.has_failed (state_of (kept_of after)) (result_of_send outcome)
+  concludes = match-some (s.publishers x.id) port ⊥ _ stands (how, boxes x.id, delivers, ends-so outcome after-shown)
+
+  -- the ends that remain are among those that remained
+  remained : (q : ℕ) → LeadsTo (drop start.place port.ends) q → LeadsTo b.ends q
+  remained q leads =
+      let more : (w.progress).place + (start.place - (w.progress).place) ≡ start.place = omega (arith, can.later) in
+      let same : (w.progress).place + (start.place - (w.progress).place + leads.0) ≡ start.place + leads.0 = omega (arith, more) in (
+        start.place - (w.progress).place + leads.0,
+        occupant-drop (w.progress).place port.ends (start.place - (w.progress).place + leads.0)
+            ∙ ap (occupant port.ends) same ∙ sym (occupant-drop start.place port.ends leads.0) ∙ leads.1,
+      )
+
+  well : IsWellFormed (state_of (kept_of after))
+  well = delivery_goes_on_keeps environment s x.id port b start.retries elapsed start.place (drop start.place port.ends) start.count start.has_failed (state_of (kept_of after)) (result_of_send outcome)
+      sound.well_formed stands port-waits refl can.counted remained concludes
+
+  -- ---- entries
+
+  held-waiting : (z : DeliveryEnd) (q : ℕ) (v : Publisher) (c : BlockedSend) → (o : DeliveryOutcome) → z ≡ end_of n port.ends o → v ≡ change z port → v.blocked ≡ Some c → c.message ≡ n
+  held-waiting z q v c (DeliveryOutcome.Complete count has_failed) e is waits_now = absurd (let no : None ≡ Some c = sym (ap (λ (u : Publisher). u.blocked) (is ∙ ap (λ y. change y port) e)) ∙ waits_now in cc)
+  held-waiting z q v c (DeliveryOutcome.Suspended progress) e is waits_now =
+      let same : Some (blocked_send (numbers_of f.books x.id) port.ends (record { slot = w.slot; progress = progress })) ≡ Some c = sym (ap (λ (u : Publisher). u.blocked) (is ∙ ap (λ y. change y port) e)) ∙ waits_now in
+      sym (ap (λ (o : Option BlockedSend). option_map_or (λ (u : BlockedSend). u.message) o 0) same)
+
+  history-same : (z : DeliveryEnd) → (change z port).history ≡ port.history
+  history-same (Complete count has_failed) = refl
+  history-same (Suspended waiting) = refl
+
+  -- who holds a message afterwards held it after the delivery
+  held-mid : (q m : ℕ) → IsHeldMessage (record s { mailboxes = boxes; publishers = put_at s.publishers x.id (Some (change how port)) }) q m → IsHeldMessage (record s { mailboxes = boxes }) q m
+  held-mid q m (In_history y at is) = found_put s.publishers x.id (change how port) (λ j z. contains z.history m ≡ true → IsHeldMessage (record s { mailboxes = boxes }) j m) q y at
+      (λ _ h. In_history port stands (ap (λ ns. contains ns m) (sym (history-same how)) ∙ h))
+      (λ _ there h. In_history y there h) is
+  held-mid q m (In_mailbox r is) = In_mailbox r is
+  held-mid q m (In_blocked_send y c at waits_now is) = found_put s.publishers x.id (change how port) (λ j z. z.blocked ≡ Some c → IsHeldMessage (record s { mailboxes = boxes }) j m) q y at
+      (λ _ h. In_blocked_send port b stands port-waits (sym (held-waiting how q (change how port) c outcome refl refl h) ∙ is)) (λ _ there h. In_blocked_send y c there h is) waits_now
+
+  injective-drop : IsInjective (drop start.place port.ends)
+  injective-drop i j id h e =
+      let same : start.place + i ≡ start.place + j = (sound.well_formed.publishers x.id port stands).ends_apart (start.place + i) (start.place + j) id (sym (occupant-drop start.place port.ends i) ∙ h) (sym (occupant-drop start.place port.ends j) ∙ e) in omega (arith, same)
+
+  delivered : Delivered (receiving_buffer s) n port.ends (drop start.place port.ends) (s.mailboxes x.id) how (boxes x.id)
+  delivered = deliver_is environment f.config x.id x.strategy x.backpressure_handler (receiving_buffer s) n start.retries elapsed start.place (drop start.place port.ends) start.count start.has_failed port.ends (s.mailboxes x.id) how (boxes x.id)
+      injective-drop refl can.counted delivers
+
+  -- and before it
+  held-before-it : (q m : ℕ) → IsHeldMessage (record s { mailboxes = boxes }) q m → IsHeldMessage s q m
+  held-before-it q m (In_history y at is) = In_history y at is
+  held-before-it q m (In_blocked_send y c at waits_now is) = In_blocked_send y c at waits_now is
+  held-before-it q m (In_mailbox r is) = elim (cases_eq q x.id) [
+    | inl same ↦ subst (λ (p : ℕ). IsHeldMessage s p m) (sym same) (row (ap (λ p. contains (numbers_in (boxes p r)) m) (sym same) ∙ is))
+    | inr other ↦ In_mailbox r (ap (λ box. contains (numbers_in box) m) (sym (other-boxes q r other)) ∙ is)
+  ]
+    where
+      row : contains (numbers_in (boxes x.id r)) m ≡ true → IsHeldMessage s x.id m
+      row h = ⊎_elim
+          (λ same. In_mailbox r (ap (λ box. contains (numbers_in box) m) (sym same) ∙ h))
+          (λ put. ⊎_elim (λ is_n. In_blocked_send port b stands port-waits (sym is_n)) (λ was. In_mailbox r was)
+          (contains_in_appended (put.1).0 n (s.mailboxes x.id r) m (ap (λ box. contains (numbers_in box) m) (sym (put.1).2) ∙ h)))
+          (delivered.each r)
+
+  entries-after : (q m : ℕ) → IsHeldMessage (state_of (kept_of after)) q m → (entry : Entry T U) × (entries_of (kept_of after) m ≡ Some entry) × ((entry.header).publisher_id ≡ q)
+  entries-after q m is =
+      let in_mid : IsHeldMessage (record s { mailboxes = boxes }) q m = held-mid q m (subst (λ t. IsHeldMessage t q m) after-is is) in
+      let old = sound.entries q m (held-before-it q m in_mid) in
+      let kept : entries_of (kept_of mid) m ≡ Some old.0 =
+      recounted-keeps f sound x.id x.book d.book d.stands own d.holders d.connections d.recounts q m old.0 (subst (λ t. IsHeldMessage t q m) (sym mid-is) in_mid) old.1 in (
+        old.0,
+        rebooked-keeps mid parts i x here book book-stands own (with_outcome outcome w.slot x) (settings outcome) (same-keys outcome) (lends outcome)
+            (counters_after outcome w.slot book.holders) (long outcome) (was-used outcome) (counts outcome) (stays-lent outcome) q m old.0 is kept,
+        old.2,
+      )
+
+  -- the machine's delivery goes on
+  gone-on : ConcludesAs environment f after x n start elapsed (result_of_send outcome)
+  gone-on = record {
+    agrees = whole_of after parts-after lone-after
+        (rebooked-kept mid parts i x here book book-stands own (with_outcome outcome w.slot x) (settings outcome) (same-keys outcome) (lends outcome)
+        (counters_after outcome w.slot book.holders) (long outcome) (was-used outcome) (counts outcome) (stays-lent outcome) owned
+        (recounted-kept f sound x.id x.book d.book d.stands own d.holders d.connections d.recounts owned))
+        well entries-after;
+    concludes = concludes;
+    entries = λ m entry e. recounted-entries f sound x.id x.book d.book d.stands own d.holders d.connections d.recounts m entry
+        (rebooked-entries mid parts i x here book book-stands own (with_outcome outcome w.slot x) (settings outcome) (same-keys outcome) (lends outcome)
+        (counters_after outcome w.slot book.holders) (long outcome) (was-used outcome) (counts outcome) (stays-lent outcome) m entry e);
+  }
+
+  -- with the fields that the code makes of those after the delivery
+  made-goes-on : (h : Fields T U) (c : Book) → get g.books x.book ≡ Some c
+      → h ≡ record g { publishers = slice_set g.publishers i (Some (with_outcome outcome w.slot x)); books = with_value g.books x.book (with_counters c (counters_after outcome w.slot c.holders)) }
+      → ConcludesAs environment f h x n start elapsed (result_of_send outcome)
+  made-goes-on h c there is = subst (λ (k : Fields T U). ConcludesAs environment f k x n start elapsed (result_of_send outcome)) (sym (is
+      ∙ ap (λ (v : Book). record g { publishers = slice_set g.publishers i (Some (with_outcome outcome w.slot x)); books = with_value g.books x.book (with_counters v (counters_after outcome w.slot v.holders)) }) delivered-book
+      ∙ ap (λ (k : Fields T U). record k { publishers = slice_set k.publishers i (Some (with_outcome outcome w.slot x)); books = with_value k.books x.book (with_counters book (counters_after outcome w.slot book.holders)) }) d.delivered)) gone-on
+    where
+      delivered-book : c ≡ book
+      delivered-book = let both : Some c ≡ Some book = sym there ∙ ap (λ (k : Fields T U). get k.books x.book) d.delivered ∙ book-stands in cc
+
+-- a blocked delivery that is taken up is the machine's
+pub goes-on : {T U : Type 0} (environment : Environment) (f : Fields T U) (sound : IsDomain f) (i : ℕ) (x : PublisherFields) (here : get_or f.publishers i None ≡ Some x)
+    (w : BlockedDelivery) (waits : x.blocked ≡ Some w) (start : Progress) (can : CanGoOn x w start) (elapsed : Duration) (outcome : DeliveryOutcome) (h : Fields T U)
+    → GoesOn environment f i x w start elapsed outcome h → ConcludesAs environment f h x (numbers_of f.books x.id w.slot) start elapsed (result_of_send outcome)
+goes-on environment f sound i x here w waits start can elapsed outcome h goes =
+    made-goes-on environment f sound i x here w waits start can elapsed outcome goes.delivered goes.delivers h goes.book goes.stands goes.ended

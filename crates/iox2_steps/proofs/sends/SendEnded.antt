@@ -1,0 +1,314 @@
+-- The send of a loan has ended: its slot has a message, which the history holds in place of the user.
+use Rattle.std.proofs.Common.{◌≡◌, ◌≢◌, ℕ, ◌+◌, ◌<◌, Bool, true, false, cond, eqb, suc, List, [], ◌∷◌, ◌++◌, length, map, get_or, refl, ap, sym, subst, ◌∙◌, inl, inr, ◌⊎◌, arith}
+use Rattle.std.proofs.lemmas.Bool.{cases_eq, ne_eqb, eq-eqb}
+use Rattle.std.proofs.lemmas.List.{length-set, map-append}
+use Rattle.std.specs.Prelude.{slice_index, slice_set}
+use Rattle.std.specs.declared.option.Option.{Option}
+use Rattle.std.specs.declared.option.Option.TheVariants.{None, Some}
+use Rattle.std.specs.Option.{option_map, option_map_or}
+use Rattle.std.specs.List.{sum_by}
+use Rattle.slab.specs.Slab.{get, with_value}
+use Rattle.iox2_store.specs.machine.Loans.{entry_of}
+use Rattle.iox2_slots.specs.SlotBook.{Book, IsAligned, IsInUse, holders_at}
+use Rattle.iox2_store.specs.machine.Numbers.{put_at, without}
+use Rattle.iox2_store.specs.machine.Records.{Entry, Loan, Publisher}
+use Rattle.iox2_store.specs.machine.State.{State}
+use Rattle.iox2_ends.specs.LookUp.{look_up}
+use Rattle.iox2_ends.specs.Counters.{times, stands}
+use Rattle.iox2_ends.proofs.Counts.{one_if, one_if_same, one_if_other, times_push}
+use Rattle.iox2_ends.proofs.LookUps.{look_up-found}
+use Rattle.iox2_ends.specs.Mailboxes.{sender_ends}
+use Rattle.iox2_domain.specs.Ports.{PublisherFields}
+use Rattle.iox2_domain.specs.Kept.{KeptMessage, Lent_message, Sent_message, state_of, entries_of, is_numbered, message_numbered, loan_in, entry_in}
+use Rattle.iox2_domain.specs.Fields.{Fields, kept_of, publisher_of, numbers_of, is_book_of, message_in, contents_at, blocked_send}
+use Rattle.iox2_domain.specs.Invariant.{IsCounted, IsNumbered, HasNumber, HasShape, HasShapes, is_publisher, own_holders, holders_of, is_loan_in, HasParts}
+use Rattle.iox2_domain.specs.Deliveries.{with_remembered, with_sent}
+use Rattle.iox2_domain.proofs.lemmas.fields.NamedBooks.{names-books}
+use Rattle.iox2_domain.proofs.lemmas.slots.Messages.{lies_at, message_at-book, message_at-slot, has_number, loan-there, entry-there, ChangesSlot, message_numbered-others}
+use Rattle.iox2_domain.proofs.lemmas.slots.BookChanges.{book-after, with_book, book-here, book-others, book-was, holders-here, other-book, numbers-same, book-state, books-changed, linked-book}
+use Rattle.iox2_domain.proofs.lemmas.loans.PublisherChanges.{KeepsSettings, changed-ids_apart, changed-is, changed-linked_same, changed-books, changed-room, changed-plain, changed-own}
+use Rattle.iox2_steps.proofs.sends.SentSlots.{times-without, map-without, sent-keeps, sent-others, LiesWritten, written-loan, sent-lies, sent-is, values-of}
+use mathlib.Core.Path.{fun_ext}
+
+module _ {T U : Type 0} (f : Fields T U) (parts : HasParts f) (i : ℕ) (x : PublisherFields) (here : get_or f.publishers i None ≡ Some x)
+    (b : Book) (at : get f.books x.book ≡ Some b) (mine : b.publisher ≡ x.id) (slot n : ℕ) (l : Loan T U) (in_use : IsInUse b slot)
+    (lies : lies_at f x.book slot ≡ Some (Lent_message n l)) (is_written : l.is_written ≡ true) (once : times slot x.loans ≡ 1) (free : x.blocked ≡ None) where
+  -- the fields afterwards
+  abbrev pub ended : Fields T U
+  ended = record f { publishers = slice_set f.publishers i (Some (with_remembered slot x)); books = with_value f.books x.book (with_sent slot b) }
+
+  -- with the book alone changed
+  abbrev between : Fields T U
+  between = with_book f x.book (with_sent slot b)
+
+  keeps : KeepsSettings x (with_remembered slot x)
+  keeps = record {
+    id = refl;
+    book = refl;
+    max_loaned_samples = refl;
+    slots = refl;
+    strategy = refl;
+    backpressure_handler = refl;
+    degradation_handler = refl;
+    allocation = refl;
+    initial_max_slice_len = refl;
+    loan_room = omega arith;
+    history_room = refl;
+    key_room = omega arith;
+  }
+
+  -- ---- slots and messages
+
+  -- a slot in use was so before, with its number
+  pub was-number : (k s m : ℕ) → HasNumber ended.books k s m → HasNumber f.books k s m
+  was-number k s m has = elim (book-was f x.book b (with_sent slot b) at (sent-keeps b slot) k has.book has.stands) [
+    | inl is ↦ record {
+      book = b;
+      stands = ap (get f.books) is.0 ∙ at;
+      in_use = subst (λ (c : Book). 0 < holders_at c s) is.1 has.in_use;
+      number = ap (λ (c : Book). slice_index c.numbers s) (sym is.1) ∙ has.number;
+    }
+    | inr away ↦ record { book = has.book; stands = away.1; in_use = has.in_use; number = has.number }
+  ]
+
+  pub ended-numbered : IsNumbered f.next_message ended.books
+  ended-numbered = record {
+    one = λ k k' s s' m this that. parts.numbered.one k k' s s' m (was-number k s m this) (was-number k' s' m that);
+    below = λ k s m this. parts.numbered.below k s m (was-number k s m this);
+  }
+
+  lay : message_in b (contents_at f.contents x.book) slot ≡ Some (Lent_message n l)
+  lay = sym (message_at-slot f.contents f.books x.book slot b at) ∙ lies
+
+  written : LiesWritten b slot (contents_at f.contents x.book) n l
+  written = written-loan b slot (contents_at f.contents x.book) n l is_written lay
+
+  low : slot < length b.marks
+  low = omega (arith, in_use.in_bounds, (parts.books.books x.book b at).aligned.marks)
+
+  here-now : (s : ℕ) → lies_at ended x.book s ≡ message_in (with_sent slot b) (contents_at f.contents x.book) s
+  here-now s = message_at-slot f.contents ended.books x.book s (with_sent slot b) (book-here f x.book b (with_sent slot b) at (sent-keeps b slot))
+
+  -- what lies in the slot is the message
+  pub lies-sent : (m : KeptMessage T U) → lies_at ended x.book slot ≡ Some m → m ≡ Sent_message n (entry_of l)
+  lies-sent m e = sent-is b slot (contents_at f.contents x.book) n l written low m (sym (here-now slot) ∙ e)
+
+  -- it lies there where somebody holds it
+  pub sent-there : 0 < holders_at (with_sent slot b) slot → lies_at ended x.book slot ≡ Some (Sent_message n (entry_of l))
+  sent-there some = here-now slot ∙ sent-lies b slot (contents_at f.contents x.book) n l written low some
+
+  -- in each other slot lies what lay there
+  pub others-lie : (k s : ℕ) → ((k ≡ x.book) × (s ≡ slot) → ⊥) → lies_at ended k s ≡ lies_at f k s
+  others-lie k s away = elim (cases_eq k x.book) [
+    | inl same ↦
+        ap (λ j. lies_at ended j s) same ∙ here-now s
+        ∙ sent-others b slot (contents_at f.contents x.book) s (λ e. away (same, e))
+        ∙ sym (message_at-slot f.contents f.books x.book s b at) ∙ sym (ap (λ j. lies_at f j s) same)
+    | inr apart ↦ alike k s (book-others f x.book b (with_sent slot b) at (sent-keeps b slot) k apart)
+  ]
+    where
+      alike : (k s : ℕ) → get ended.books k ≡ get f.books k → lies_at ended k s ≡ lies_at f k s
+      alike k s e = rw e refl
+
+  -- only the slot changes, in which only this number lies
+  pub changes-slot : ChangesSlot f ended x.book slot n
+  changes-slot = record {
+    others = others-lie;
+    before = λ m e. let both : Some (Lent_message n l) ≡ Some m = sym lies ∙ e in let is : Lent_message n l ≡ m = cc in ap_numbered (Lent_message n l) m is (eq-eqb n n refl);
+    after = λ m e. ap_numbered (Sent_message n (entry_of l)) m (sym (lies-sent m e)) (eq-eqb n n refl);
+  }
+    where
+      ap_numbered : (m m' : KeptMessage T U) → m ≡ m' → is_numbered n m ≡ true → is_numbered n m' ≡ true
+      ap_numbered m m' e h = ap (is_numbered n) (sym e) ∙ h
+
+  -- the number lies in no other slot
+  pub only-slot : (k s : ℕ) → HasNumber ended.books k s n → (k ≡ x.book) × (s ≡ slot)
+  only-slot k s has = parts.numbered.one k x.book s slot n (was-number k s n has) (has_number f.contents f.books x.book slot n (Lent_message n l) lies (eq-eqb n n refl))
+
+  -- all other numbers are found as before
+  pub others-same : (m : ℕ) → m ≢ n → message_numbered m (kept_of ended).books ≡ message_numbered m (kept_of f).books
+  others-same m away = message_numbered-others f ended x.book slot n ended-numbered changes-slot m away
+
+  -- the sent entry is newly kept, if any is
+  pub ended-entries : (m : ℕ) (entry : Entry T U) → entries_of (kept_of ended) m ≡ Some entry → ((m ≡ n) × (entry ≡ entry_of l)) ⊎ (entries_of (kept_of f) m ≡ Some entry)
+  ended-entries m entry e = elim (cases_eq m n) [
+    | inl same ↦
+        let there = entry-there ended m entry e in
+        let has = has_number f.contents ended.books there.0 there.1 m (Sent_message m entry) there.2 (eq-eqb m m refl) in
+        let at_slot = only-slot there.0 there.1 (subst (HasNumber ended.books there.0 there.1) same has) in
+        let now : lies_at ended x.book slot ≡ Some (Sent_message m entry) = sym (ap (λ s. lies_at ended x.book s) at_slot.1) ∙ sym (ap (λ k. lies_at ended k there.1) at_slot.0) ∙ there.2 in
+        let is : Sent_message m entry ≡ Sent_message n (entry_of l) = lies-sent (Sent_message m entry) now in
+        inl (same, ap (entry_or entry) is)
+    | inr away ↦ inr (sym (ap (λ o. found_entry o) (others-same m away)) ∙ e)
+  ]
+    where
+      entry_or : Entry T U → KeptMessage T U → Entry T U
+      entry_or none (Lent_message number loan) = none
+      entry_or none (Sent_message number entry) = entry
+
+      found_entry : Option (KeptMessage T U) → Option (Entry T U)
+      found_entry None = None
+      found_entry (Some m) = entry_in m
+
+  -- ---- the state
+
+  -- the loan is out no more
+  ended-loans : (state_of (kept_of ended)).loans ≡ put_at (state_of (kept_of f)).loans n None
+  ended-loans = fun_ext (λ m. by m (eqb m n) refl) where
+    found_loan : Option (KeptMessage T U) → Option (Loan T U)
+    found_loan None = None
+    found_loan (Some m) = loan_in m
+
+    none : (o : Option (Loan T U)) → (state_of (kept_of ended)).loans n ≡ o → o ≡ None
+    none None e = refl
+    none (Some k) e =
+        let there = loan-there ended n k e in
+        let at_slot = only-slot there.0 there.1 (has_number f.contents ended.books there.0 there.1 n (Lent_message n k) there.2 (eq-eqb n n refl)) in
+        let now : lies_at ended x.book slot ≡ Some (Lent_message n k) = sym (ap (λ s. lies_at ended x.book s) at_slot.1) ∙ sym (ap (λ j. lies_at ended j there.1) at_slot.0) ∙ there.2 in
+        absurd (let is : Lent_message n k ≡ Sent_message n (entry_of l) = lies-sent (Lent_message n k) now in cc)
+
+    by : (m : ℕ) (t : Bool) → eqb m n ≡ t → (state_of (kept_of ended)).loans m ≡ cond t None ((state_of (kept_of f)).loans m)
+    by m true e = ap (state_of (kept_of ended)).loans (eqb-is m n e) ∙ none ((state_of (kept_of ended)).loans n) refl where
+      eqb-is : (a c : ℕ) → eqb a c ≡ true → a ≡ c
+      eqb-is a c h = grind arith
+    by m false e = ap found_loan (others-same m (λ same. let yes : eqb m n ≡ true = eq-eqb m n same in let no : true ≡ false = sym yes ∙ e in absurd cc))
+
+  -- the numbers of its publisher's loans are without its own, which is the last of the history
+  pub ended-is : ((s : ℕ) → 0 < times s x.loans → numbers_of f.books x.id s ≡ n → s ≡ slot) → numbers_of f.books x.id slot ≡ n
+      → state_of (kept_of ended) ≡ record (state_of (kept_of f)) {
+        publishers = put_at (state_of (kept_of f)).publishers x.id
+            (Some (record (publisher_of f.books f.connections x).port { loans = without n (map (numbers_of f.books x.id) x.loans); history = map (numbers_of f.books x.id) (x.history).items ++ n ∷ [] }));
+        loans = put_at (state_of (kept_of f)).loans n None;
+      }
+  ended-is only is =
+      changed-is between i x (with_remembered slot x) here refl parts.publisher_ids
+      ∙ ap (λ (s : State T U). record s {
+        publishers = put_at s.publishers x.id (Some ((publisher_of between.books f.connections (with_remembered slot x)).port));
+      }) (book-state f x.book b (with_sent slot b) at (sent-keeps b slot) parts.books.one_each)
+      ∙ ap (λ (loans : ℕ → Option (Loan T U)). record (state_of (kept_of f)) {
+        publishers = put_at (state_of (kept_of f)).publishers x.id (Some ((publisher_of between.books f.connections (with_remembered slot x)).port));
+        loans = loans;
+      }) ended-loans
+      ∙ ap (λ (y : Publisher). record (state_of (kept_of f)) {
+        publishers = put_at (state_of (kept_of f)).publishers x.id (Some y);
+        loans = put_at (state_of (kept_of f)).loans n None;
+      }) port
+    where
+      remembered : map (numbers_of f.books x.id) ((x.history).items ++ slot ∷ []) ≡ map (numbers_of f.books x.id) (x.history).items ++ n ∷ []
+      remembered = map-append (numbers_of f.books x.id) (x.history).items (slot ∷ []) ∙ ap (λ (m : ℕ). map (numbers_of f.books x.id) (x.history).items ++ m ∷ []) is
+
+      port : (publisher_of between.books f.connections (with_remembered slot x)).port
+          ≡ record (publisher_of f.books f.connections x).port { loans = without n (map (numbers_of f.books x.id) x.loans); history = map (numbers_of f.books x.id) (x.history).items ++ n ∷ [] }
+      port =
+          (λ t. record (publisher_of f.books f.connections (with_remembered slot x)).port {
+            loans = map (numbers-same f x.book b (with_sent slot b) at (sent-keeps b slot) parts.books.one_each t x.id) (without slot x.loans);
+            history = map (numbers-same f x.book b (with_sent slot b) at (sent-keeps b slot) parts.books.one_each t x.id) ((x.history).items ++ slot ∷ []);
+            blocked = option_map (blocked_send (numbers-same f x.book b (with_sent slot b) at (sent-keeps b slot) parts.books.one_each t x.id) (sender_ends f.connections x.keys)) x.blocked;
+          })
+          ∙ (λ t. record (publisher_of f.books f.connections x).port { loans = map-without (numbers_of f.books x.id) slot n is x.loans only t; history = remembered t })
+
+  -- ---- the parts
+
+  -- what the publisher itself has of the slot, or what is out of one that is gone
+  abbrev own : (s : ℕ) → Option PublisherFields → Option Book → ℕ
+  own s o book =
+      option_map_or (λ (z : PublisherFields). times s z.loans + times s (z.history).items) o
+      (option_map_or (λ c. cond (is_loan_in c s) 1 0) book 0)
+
+  ended-counted : IsCounted ended
+  ended-counted = record { at = λ p s. elim (cases_eq p x.id) [ inl is ↦ rw is (its s) | inr away ↦ others p s away ] } where
+    its : (s : ℕ) → holders_of ended.books x.id s ≡ own_holders ended x.id s + sum_by (stands x.id s) f.connections.slots
+    its s =
+        let now : holders_of ended.books x.id s ≡ holders_at (with_sent slot b) s = holders-here f x.book b (with_sent slot b) at (sent-keeps b slot) parts.books.one_each x.id s mine in
+        let then : holders_of f.books x.id s ≡ holders_at b s =
+        ap (λ o. option_map_or (λ (c : Book). holders_at c s) o 0) (look_up-found (is_book_of x.id) f.books.slots x.book b (parts.books.one_each x.id) at (eq-eqb b.publisher x.id mine)) in
+        let has : own_holders f x.id s ≡ times s x.loans + times s (x.history).items =
+        ap (λ o. own s o (look_up (is_book_of x.id) f.books.slots)) (look_up-found (is_publisher x.id) f.publishers i x (parts.publisher_ids x.id) here (eq-eqb x.id x.id refl)) in
+        let left : own_holders ended x.id s ≡ times s (without slot x.loans) + times s ((x.history).items ++ slot ∷ []) =
+        changed-own between i x (with_remembered slot x) here refl parts.publisher_ids x.id s
+        ∙ ap (λ t. cond t (times s (without slot x.loans) + times s ((x.history).items ++ slot ∷ [])) (own_holders between x.id s)) (eq-eqb x.id x.id refl) in
+        omega (arith, now, then, has, left, parts.counted.at x.id s, times_push s (x.history).items slot, fewer s)
+      where
+        fewer : (s : ℕ) → times s (without slot x.loans) + one_if s slot ≡ times s x.loans
+        fewer s = elim (cases_eq s slot) [
+          | inl is ↦
+              let e : times s (without slot x.loans) + times slot x.loans ≡ times s x.loans =
+              sym (ap (λ t. times s (without slot x.loans) + cond t (times slot x.loans) 0) (eq-eqb s slot is)) ∙ times-without s slot x.loans in
+              omega (arith, e, once, ap (λ (k : ℕ). one_if k slot) is, one_if_same slot)
+          | inr away ↦
+              let e : times s (without slot x.loans) + 0 ≡ times s x.loans =
+              sym (ap (λ t. times s (without slot x.loans) + cond t (times slot x.loans) 0) (ne_eqb s slot away)) ∙ times-without s slot x.loans in
+              omega (arith, e, one_if_other s slot away)
+        ]
+
+    others : (p s : ℕ) → p ≢ x.id → holders_of ended.books p s ≡ own_holders ended p s + sum_by (stands p s) f.connections.slots
+    others p s away =
+        let book : look_up (is_book_of p) ended.books.slots ≡ look_up (is_book_of p) f.books.slots =
+        other-book f x.book b (with_sent slot b) at (sent-keeps b slot) parts.books.one_each p (ne_eqb b.publisher p (λ same. away (sym same ∙ mine))) in
+        let now : holders_of ended.books p s ≡ holders_of f.books p s = ap (λ o. option_map_or (λ (c : Book). holders_at c s) o 0) book in
+        let left : own_holders ended p s ≡ own_holders between p s =
+        changed-own between i x (with_remembered slot x) here refl parts.publisher_ids p s
+        ∙ ap (λ t. cond t (times s (without slot x.loans) + times s ((x.history).items ++ slot ∷ [])) (own_holders between p s)) (ne_eqb x.id p (λ same. away (sym same))) in
+        let same : own_holders between p s ≡ own_holders f p s = ap (own s (look_up (is_publisher p) f.publishers)) book in
+        omega (arith, now, left, same, parts.counted.at p s)
+
+  ended-shapes : HasShapes ended
+  ended-shapes = record { at = λ k s c m stands e. shape k s m (message_at-slot f.contents ended.books k s c stands ∙ e) } where
+    old : (k s : ℕ) (m : KeptMessage T U) → lies_at f k s ≡ Some m → HasShape f.config m
+    old k s m e = let there = message_at-book f.contents f.books k s m e in parts.shapes.at k s there.0 m there.1 there.2
+
+    sent : HasShape f.config (Sent_message n (entry_of l))
+    sent =
+        let was : HasShape f.config (Lent_message n l) = old x.book slot (Lent_message n l) lies in
+        let long : length (entry_of l).values ≡ length l.cells = same_length in
+        record { length = long ∙ was.length; single = was.single }
+      where
+        values : length (map {B = Option T} Some (written.content).values) ≡ length (written.content).values
+        values = by (written.content).values where
+          by : (vs : List T) → length (map {B = Option T} Some vs) ≡ length vs
+          by [] = refl
+          by (v ∷ vs) = ap suc (by vs)
+
+        same_length : length (entry_of l).values ≡ length l.cells
+        same_length =
+            ap (λ (k : Loan T U). length (entry_of k).values) written.loan
+            ∙ ap (length {A = T}) (values-of (written.content).values)
+            ∙ sym values ∙ sym (ap (λ (k : Loan T U). length k.cells) written.loan)
+
+    shape : (k s : ℕ) (m : KeptMessage T U) → lies_at ended k s ≡ Some m → HasShape f.config m
+    shape k s m e = elim (cases_eq k x.book) [
+      | inl key ↦ elim (cases_eq s slot) [
+        | inl here ↦ subst (HasShape f.config) (sym (lies-sent m (sym (ap (λ j. lies_at ended x.book j) here) ∙ sym (ap (λ j. lies_at ended j s) key) ∙ e))) sent
+        | inr away ↦ old k s m (sym (others-lie k s (λ both. away both.1)) ∙ e)
+      ]
+      | inr away ↦ old k s m (sym (others-lie k s (λ both. away both.0)) ∙ e)
+    ]
+
+  -- the fields agree with one another
+  pub ended-parts : HasParts ended
+  ended-parts = record {
+    publisher_ids = changed-ids_apart f i x (with_remembered slot x) here refl parts.publisher_ids;
+    subscriber_ids = parts.subscriber_ids;
+    apart = parts.apart;
+    linked = changed-linked_same between i x (with_remembered slot x) here refl (linked-book f x.book b (with_sent slot b) at (sent-keeps b slot) parts.linked) keeps.key_room refl;
+    expired_room = parts.expired_room;
+    books = changed-books between i x (with_remembered slot x) here refl (books-changed f x.book b (with_sent slot b) at (sent-keeps b slot) parts.books aligned) keeps;
+    names = names-books f.books _ f.connections (book-after f x.book b (with_sent slot b) at (sent-keeps b slot)) parts.names;
+    counted = ended-counted;
+    numbered = ended-numbered;
+    publisher_room = changed-room f i x (with_remembered slot x) here refl parts.publisher_room keeps;
+    warning_room = parts.warning_room;
+    shapes = ended-shapes;
+    forms = parts.forms;
+    plain = changed-plain f i x (with_remembered slot x) here refl parts.plain keeps (λ has d e. absurd (let no : None ≡ Some d = sym free ∙ e in cc));
+    plain_subscribers = parts.plain_subscribers;
+  }
+    where
+      aligned : IsAligned (with_sent slot b)
+      aligned =
+          let old : IsAligned b = (parts.books.books x.book b at).aligned in
+          record {
+            numbers = old.numbers;
+            headers = old.headers;
+            marks = length-set b.marks slot _ ∙ old.marks;
+          }

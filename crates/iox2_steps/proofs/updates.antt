@@ -1,0 +1,24 @@
+-- A port goes over the places of the other side.
+pub mod AnyBoxes
+pub mod MadeRoom
+pub mod Grown
+pub mod SenderChanges
+pub mod SenderAgrees
+pub mod SenderLeft
+pub mod WaitingDropped
+pub mod SenderDisconnects
+pub mod SenderActions
+pub mod SenderSteps
+pub mod SenderCases
+pub mod SenderOutcomes
+pub mod HistoryBounds
+pub mod HistoryHanded
+pub mod SenderWalk
+pub mod SenderPlaces
+pub mod DropCalls
+pub mod PlaceCalls
+pub mod HistoryConnects
+pub mod SenderUpdates
+pub mod ReceiverChanges
+pub mod ReceiverActions
+pub mod MarkedEnds

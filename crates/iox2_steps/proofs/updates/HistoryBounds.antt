@@ -1,0 +1,139 @@
+-- How many holders a slot in a publisher's history has.
+use Rattle.std.proofs.Common.{◌≡◌, ℕ, ◌+◌, ◌<◌, ◌≤◌, ◌^◌, true, cond, List, [], ◌∷◌, ◌++◌, length, map, get_or, refl, ap, sym, subst, ◌∙◌, inl, inr, arith}
+use Rattle.std.proofs.lemmas.Bool.{cases_eq, ne_eqb, eq-eqb}
+use Rattle.std.proofs.lemmas.List.{map-append}
+use Rattle.std.specs.declared.option.Option.{Option}
+use Rattle.std.specs.declared.option.Option.TheVariants.{None, Some}
+use Rattle.std.specs.Option.{option_map, option_map_or}
+use Rattle.std.specs.List.{sum_by}
+use Rattle.slab.specs.Slab.{get}
+use Rattle.iox2_slots.specs.Link.{Link}
+use Rattle.iox2_slots.specs.SlotBook.{Book, holders_at}
+use Rattle.iox2_store.specs.machine.Mailbox.{numbers_in, has_numbers}
+use Rattle.iox2_store.specs.machine.Numbers.{IsOnce}
+use Rattle.iox2_store.specs.machine.Records.{Publisher}
+use Rattle.iox2_store.specs.machine.State.{State}
+use Rattle.iox2_store.specs.machine.WellFormed.{LeadsTo}
+use Rattle.iox2_ends.specs.LookUp.{look_up}
+use Rattle.iox2_ends.specs.Counters.{times, stands, stands_in}
+use Rattle.iox2_ends.specs.Homes.{IsSenders}
+use Rattle.iox2_ends.specs.Mailboxes.{mailbox_of, subscriber_of_key}
+use Rattle.iox2_ends.specs.Receivers.{HasReclaimed}
+use Rattle.iox2_ends.proofs.Empties.{sum-keys}
+use Rattle.iox2_ends.proofs.Histories.{times-append}
+use Rattle.iox2_ends.proofs.LookUps.{look_up-found}
+use Rattle.iox2_ends.proofs.MailboxChanges.{mailbox-there, is_between-own}
+use Rattle.iox2_domain.specs.Ports.{PublisherFields}
+use Rattle.iox2_domain.specs.Kept.{state_of}
+use Rattle.iox2_domain.specs.Fields.{Fields, kept_of, publisher_of, numbers_of, is_book_of}
+use Rattle.iox2_domain.specs.Invariant.{IsDomain, is_publisher, own_holders, holders_of, is_loan_in}
+use Rattle.iox2_domain.proofs.lemmas.fields.ConnectionEnds.{publisher-stands, occupant-sender_ends}
+use Rattle.iox2_domain.proofs.lemmas.fields.Standing.{one-publisher, some_is}
+use Rattle.iox2_domain.proofs.lemmas.fields.Views.{mailboxes-are}
+use Rattle.iox2_domain.proofs.lemmas.slots.HeldMessages.{own-in_use}
+use Rattle.iox2_domain.proofs.lemmas.slots.PublisherBooks.{book-own}
+use Rattle.iox2_steps.proofs.sends.LoanAlone.{once-times}
+
+module _ {T U : Type 0} (f : Fields T U) (sound : IsDomain f) (i : ℕ) (x : PublisherFields) (here : get_or f.publishers i None ≡ Some x)
+    (b : Book) (at : get f.books x.book ≡ Some b) where
+  abbrev s : State T U
+  s = state_of (kept_of f)
+
+  abbrev P : Publisher
+  P = (publisher_of f.books f.connections x).port
+
+  present : s.publishers x.id ≡ Some P
+  present = publisher-stands f sound.parts i x here
+
+  mine : b.publisher ≡ x.id
+  mine = book-own f sound.parts i x here b at
+
+  counts : (slot : ℕ) → holders_of f.books x.id slot ≡ holders_at b slot
+  counts slot = ap (λ o. option_map_or (λ (e : Book). holders_at e slot) o 0) (look_up-found (is_book_of x.id) f.books.slots x.book b (sound.parts.books.one_each x.id) at (eq-eqb b.publisher x.id mine))
+
+  -- each slot of the history has a holder
+  pub remembered-in_use : (slot : ℕ) → 0 < times slot (x.history).items → 0 < holders_at b slot
+  remembered-in_use slot some =
+      let held : 0 < holders_of f.books x.id slot = own-in_use f sound.parts.counted sound.parts.publisher_ids i slot x here (omega (arith, some)) in
+      omega (arith, held, counts slot)
+
+  -- ---- how often a slot stands in one connection
+
+  box-is : (key : ℕ) (c : Link) → get f.connections key ≡ Some c → c.home.publisher ≡ x.id → s.mailboxes x.id c.home.subscriber ≡ mailbox_of (numbers_of f.books x.id) c
+  box-is key c there its = mailboxes-are f x.id c.home.subscriber ∙ mailbox-there (numbers_of f.books) f.connections key x.id c.home.subscriber c sound.parts.apart there its refl
+
+  module _ (reclaimed : HasReclaimed f.connections x.keys) where
+    nothing-returned : (key : ℕ) (c : Link) → get f.connections key ≡ Some c → c.home.publisher ≡ x.id → c.returned ≡ []
+    nothing-returned key c there its = elim (sound.parts.linked.returned key c there) [
+      | inr none ↦ none
+      | inl has ↦
+          let place : c.home.publisher_place ≡ i = one-publisher f sound.parts c.home.publisher_place i has.publisher x has.stands here (has.is_its ∙ its) in
+          let both : Some has.publisher ≡ Some x = sym has.stands ∙ ap (λ (n : ℕ). get_or f.publishers n None) place ∙ here in
+          let is : has.publisher ≡ x = cc in
+          reclaimed.at c.home.subscriber_place key c (ap (λ (z : PublisherFields). get_or z.keys c.home.subscriber_place None) (sym is) ∙ has.has) there
+    ]
+
+    stands-once : (slot key : ℕ) (c : Link) → get f.connections key ≡ Some c → c.home.publisher ≡ x.id → (times slot (c.waiting ++ c.borrowed) ≡ stands_in slot c) × (stands_in slot c ≤ 1)
+    stands-once slot key c there its =
+        let all : times slot (c.waiting ++ c.borrowed) ≡ times slot c.waiting + times slot c.borrowed = times-append slot c.waiting c.borrowed in
+        let none : times slot c.returned ≡ 0 = ap (times slot) (nothing-returned key c there its) in
+        let numbers : numbers_in (s.mailboxes x.id c.home.subscriber) ≡ map (numbers_of f.books x.id) (c.waiting ++ c.borrowed) =
+        ap numbers_in (box-is key c there its) ∙ sym (map-append (numbers_of f.books x.id) c.waiting c.borrowed) in
+        let once : times slot (c.waiting ++ c.borrowed) ≤ 1 = once-times (numbers_of f.books x.id) slot (c.waiting ++ c.borrowed) (subst IsOnce numbers (sound.well_formed.mailboxes x.id c.home.subscriber).within.once) in
+        (omega (arith, all, none), omega (arith, all, none, once))
+
+    few : (slot key : ℕ) → stands x.id slot (get f.connections key) ≤ 1
+    few slot key = by (get f.connections key) refl where
+      by : (o : Option Link) → get f.connections key ≡ o → stands x.id slot o ≤ 1
+      by None e = omega arith
+      by (Some c) e = elim (cases_eq c.home.publisher x.id) [
+        | inl its ↦
+            let is : stands x.id slot (Some c) ≡ stands_in slot c = ap (λ t. cond {A = ℕ} t (stands_in slot c) 0) (eq-eqb c.home.publisher x.id its) in
+            omega (arith, is, (stands-once slot key c e its).1)
+        | inr away ↦ let is : stands x.id slot (Some c) ≡ 0 = ap (λ t. cond {A = ℕ} t (stands_in slot c) 0) (ne_eqb c.home.publisher x.id away) in omega (arith, is)
+      ]
+
+    -- where it stands, the publisher has the connection's key
+    known : (slot key : ℕ) → 0 < stands x.id slot (get f.connections key) → (j : ℕ) × (get_or x.keys j None ≡ Some key)
+    known slot key some = by (get f.connections key) refl some where
+      filled : (number : ℕ → ℕ) (ws bs : List ℕ) → 0 < times slot (ws ++ bs) → has_numbers (record { waiting = map number ws; borrowed = map number bs }) ≡ true
+      filled number [] [] h = absurd (let no : times slot [] ≡ 0 = refl in omega (arith, h, no))
+      filled number [] (x ∷ bs) h = refl
+      filled number (x ∷ ws) bs h = refl
+
+      leading : (c : Link) → get f.connections key ≡ Some c → c.home.publisher ≡ x.id → (j : ℕ) → (o : Option ℕ) → get_or x.keys j None ≡ o → subscriber_of_key f.connections o ≡ Some c.home.subscriber → get_or x.keys j None ≡ Some key
+      leading c there its j None e to = absurd cc
+      leading c there its j (Some k) e to =
+          let own = some_is (IsSenders x.id j) (get f.connections k) ((sound.parts.linked.senders i x here).at j k e) in
+          let same : Some own.0.home.subscriber ≡ Some c.home.subscriber = sym (ap (option_map (λ (d : Link). d.home.subscriber)) own.1) ∙ to in
+          let subscriber : own.0.home.subscriber ≡ c.home.subscriber = cc in
+          let one : k ≡ key = (sound.parts.apart.one x.id c.home.subscriber).one k key own.0 c own.1 there (is_between-own x.id c.home.subscriber own.0 own.2.publisher subscriber) (is_between-own x.id c.home.subscriber c its refl) in
+          e ∙ ap Some one
+
+      by : (o : Option Link) → get f.connections key ≡ o → 0 < stands x.id slot o → (j : ℕ) × (get_or x.keys j None ≡ Some key)
+      by None e h = absurd (omega arith)
+      by (Some c) e h = elim (cases_eq c.home.publisher x.id) [
+        | inl its ↦
+            let is : stands x.id slot (Some c) ≡ stands_in slot c = ap (λ t. cond {A = ℕ} t (stands_in slot c) 0) (eq-eqb c.home.publisher x.id its) in
+            let there : 0 < times slot (c.waiting ++ c.borrowed) = omega (arith, h, is, (stands-once slot key c e its).0) in
+            let numbers : has_numbers (s.mailboxes x.id c.home.subscriber) ≡ true = ap has_numbers (box-is key c e its) ∙ filled (numbers_of f.books x.id) c.waiting c.borrowed there in
+            let leads : LeadsTo P.ends c.home.subscriber = (sound.well_formed.mailboxes x.id c.home.subscriber).sender_end P present numbers in
+            (leads.0, leading c e its leads.0 (get_or x.keys leads.0 None) refl (sym (occupant-sender_ends f.connections x.keys leads.0) ∙ leads.1))
+        | inr away ↦ absurd (let is : stands x.id slot (Some c) ≡ 0 = ap (λ t. cond {A = ℕ} t (stands_in slot c) 0) (ne_eqb c.home.publisher x.id away) in omega (arith, h, is))
+      ]
+
+    -- so a slot has few holders
+    pub held-few : (slot : ℕ) → (holders_at b slot ≤ length x.keys + 2) × (times slot (x.history).items ≤ 1)
+    held-few slot =
+        let own : own_holders f x.id slot ≡ times slot x.loans + times slot (x.history).items =
+        ap (λ o. option_map_or (λ (z : PublisherFields). times slot z.loans + times slot (z.history).items) o
+        (option_map_or (λ e. cond (is_loan_in e slot) 1 0) (look_up (is_book_of x.id) f.books.slots) 0))
+        (look_up-found (is_publisher x.id) f.publishers i x (sound.parts.publisher_ids x.id) here (eq-eqb x.id x.id refl)) in
+        let u = sound.well_formed.publishers x.id P present in
+        let lent : times slot x.loans ≤ 1 = once-times (numbers_of f.books x.id) slot x.loans u.loans_once in
+        let remembered : times slot (x.history).items ≤ 1 = once-times (numbers_of f.books x.id) slot (x.history).items u.history_once in
+        let standing : sum_by (stands x.id slot) f.connections.slots ≤ length x.keys = sum-keys (stands x.id slot) refl x.keys f.connections.slots (few slot) (known slot) in
+        (omega (arith, counts slot, own, lent, remembered, standing, sound.parts.counted.at x.id slot), remembered)
+
+    pub remembered-fits : length x.keys < 2 ^ 63 → (slot : ℕ) → holders_at b slot + times slot (x.history).items < 2 ^ 64
+    remembered-fits short slot = omega (arith, (held-few slot).0, (held-few slot).1, short)

@@ -1,0 +1,268 @@
+-- A publisher's end is made, and the last messages of its history wait there.
+use Rattle.std.proofs.Common.{◌≡◌, ℕ, ◌+◌, ◌<◌, ◌^◌, List, [], length, map, get_or, slice_set, refl, ap, sym, subst, ◌∙◌, set-set}
+use Rattle.std.proofs.lemmas.List.{get_or-set_same}
+use Rattle.std.specs.declared.option.Option.{Option}
+use Rattle.std.specs.declared.option.Option.TheVariants.{None, Some}
+use Rattle.std.specs.Option.{option_map}
+use Rattle.iox2_domain.specs.Updates.{subscriber_but_room}
+use Rattle.slab.specs.Slab.{Slab, get, with_value, ContainsKey}
+use Rattle.iox2_slots.specs.Link.{Link, load}
+use Rattle.iox2_slots.specs.SlotBook.{Book, holders_at}
+use Rattle.iox2_store.specs.machine.Mailbox.{Mailbox, with_waiting}
+use Rattle.iox2_store.specs.machine.Numbers.{put_at, last_n}
+use Rattle.iox2_store.specs.machine.PublisherUpdate.{SenderSide, connected, sender_side, with_sender_side}
+use Rattle.iox2_store.specs.machine.Records.{Publisher, Environment}
+use Rattle.iox2_store.specs.machine.State.{State}
+use Rattle.iox2_store.specs.machine.WellFormed.{IsWellFormed}
+use Rattle.iox2_ends.specs.Counters.{times, with_counters}
+use Rattle.iox2_ends.specs.Mailboxes.{with_box}
+use Rattle.iox2_ends.specs.Receivers.{HasReclaimed}
+use Rattle.iox2_ends.specs.Reclaims.{Reclaims}
+use Rattle.iox2_ends.proofs.Empties.{still-empty}
+use Rattle.iox2_ends.proofs.MailboxChanges.{within_if_some}
+use Rattle.iox2_laws.proofs.PublisherUpdates.{with_sender_side_keeps}
+use Rattle.iox2_laws.proofs.Puts.{put_at-same}
+use Rattle.iox2_laws.proofs.SenderSides.{sender_side_begins, performed_keeps}
+use Rattle.iox2_domain.specs.Ports.{PublisherFields}
+use Rattle.iox2_domain.specs.Kept.{state_of, entries_of}
+use Rattle.iox2_domain.specs.Fields.{Fields, kept_of, publisher_of, numbers_of}
+use Rattle.iox2_domain.specs.Invariant.{IsDomain}
+use Rattle.iox2_domain.specs.Connects.{MakesSenderEnd, ConnectsSender}
+use Rattle.iox2_domain.specs.Histories.{with_history_waiting, HasNewEnd, HandsOut}
+use Rattle.iox2_domain.proofs.lemmas.fields.ConnectionEnds.{publisher-stands}
+use Rattle.iox2_domain.proofs.lemmas.fields.Standing.{place-within}
+use Rattle.iox2_domain.proofs.lemmas.fields.Views.{unblocked}
+use Rattle.iox2_domain.proofs.lemmas.slots.BookChanges.{book-here}
+use Rattle.iox2_domain.proofs.lemmas.slots.PublisherBooks.{book-own, book-owned}
+use Rattle.iox2_domain.proofs.lemmas.slots.ReclaimSteps.{with_reclaimed, reclaimed-is, reclaimed-reaches}
+use Rattle.iox2_domain.proofs.lemmas.slots.RecountedFields.{same-numbers}
+use Rattle.iox2_steps.proofs.updates.HistoryBounds.{remembered-in_use, remembered-fits}
+use Rattle.iox2_steps.proofs.updates.HistoryHanded.{handed, hands-out}
+use Rattle.iox2_steps.proofs.updates.SenderWalk.{put_at-twice}
+
+-- ---- slots are reclaimed, and the history goes out
+
+module _ {T U : Type 0} (before f : Fields T U) (same : f ≡ before) (sound : IsDomain f) (i : ℕ) (x : PublisherFields) (here : get_or f.publishers i None ≡ Some x)
+    (key : ℕ) (c : Link) (there : get f.connections key ≡ Some c) (its : c.home.publisher ≡ x.id) (empty : load c ≡ 0)
+    (b : Book) (at : get f.books x.book ≡ Some b) (b1 : Book) (is1 : b1 ≡ with_counters b b1.holders) (new : Slab Link) (r : Reclaims x.id b.holders f.connections b1.holders new) where
+  abbrev mine : b.publisher ≡ x.id
+  mine = book-own f sound.parts i x here b at
+
+  -- the fields without what was given back
+  abbrev g : Fields T U
+  g = with_reclaimed f sound x.id x.book b at (book-own f sound.parts i x here b at) (book-owned f sound.parts i x here) b1.holders new r
+
+  g-agrees : IsDomain (with_reclaimed f sound x.id x.book b at (book-own f sound.parts i x here b at) (book-owned f sound.parts i x here) b1.holders new r)
+  g-agrees = (reclaimed-reaches f sound x.id x.book b at (book-own f sound.parts i x here b at) (book-owned f sound.parts i x here) b1.holders new r).agrees
+
+  at-g : get g.books x.book ≡ Some (with_counters b b1.holders)
+  at-g = book-here f x.book b (with_counters b b1.holders) at (record { publisher = refl; numbers = refl; slots = r.recounts.slots })
+
+  -- the connection is still there
+  pub new-there : get new key ≡ Some c
+  new-there = still-empty x.id b.holders b1.holders f.connections new sound.parts.apart r key c there empty
+
+  -- each slot of the history has a holder, and may have one more
+  pub new-in_use : (slot : ℕ) → 0 < times slot (x.history).items → 0 < holders_at b1 slot
+  new-in_use slot some = subst (λ (d : Book). 0 < holders_at d slot) (sym is1) (remembered-in_use g g-agrees i x here (with_counters b b1.holders) at-g slot some)
+
+  pub new-fits : HasReclaimed new x.keys → length x.keys < 2 ^ 63 → (slot : ℕ) → holders_at b1 slot + times slot (x.history).items < 2 ^ 64
+  new-fits reclaimed short slot =
+      subst (λ (d : Book). holders_at d slot + times slot (x.history).items < 2 ^ 64) (sym is1)
+      (remembered-fits g g-agrees i x here (with_counters b b1.holders) at-g (record { at = reclaimed.at }) short slot)
+
+  waiting-same : with_history_waiting g x c ≡ with_history_waiting f x c
+  waiting-same = λ t. record (state t) {
+    mailboxes = with_box (state t).mailboxes x.id c.home.subscriber (with_waiting (last_n c.buffer (map (numbers t x.id) (x.history).items)) ((state t).mailboxes x.id c.home.subscriber));
+  } where
+    state : state_of (kept_of (with_reclaimed f sound x.id x.book b at (book-own f sound.parts i x here b at) (book-owned f sound.parts i x here) b1.holders new r)) ≡ state_of (kept_of f)
+    state = reclaimed-is f sound x.id x.book b at (book-own f sound.parts i x here b at) (book-owned f sound.parts i x here) b1.holders new r
+
+    numbers : numbers_of (with_value f.books x.book (with_counters b b1.holders)) ≡ numbers_of f.books
+    numbers = same-numbers f sound.parts x.id x.book b at (book-own f sound.parts i x here b at) b1.holders new r.recounts
+
+  -- it waits in the connection
+  pub reclaimed-hands-out : (b2 : Book) → b2 ≡ with_counters b1 b2.holders → length b2.holders ≡ length b1.holders
+      → ((slot : ℕ) → holders_at b2 slot ≡ holders_at b1 slot + times slot (last_n c.buffer (x.history).items))
+      → IsWellFormed (with_history_waiting before x c)
+      → HandsOut before x c (record f { connections = with_value new key (record c { waiting = last_n c.buffer (x.history).items }); books = with_value f.books x.book b2 })
+  reclaimed-hands-out b2 is2 long counters well = subst (λ (h : Fields T U). HandsOut h x c (record f { connections = with_value new key (record c { waiting = last_n c.buffer (x.history).items }); books = with_value f.books x.book b2 })) same
+      (subst (λ (h : Fields T U). HandsOut f x c h) as-made (record {
+        agrees = out.agrees;
+        fields = refl;
+        state = out.state ∙ waiting-same;
+        entries = λ n entry e. (reclaimed-reaches f sound x.id x.book b at (book-own f sound.parts i x here b at) (book-owned f sound.parts i x here) b1.holders new r).entries n entry (out.entries n entry e);
+      }))
+    where
+      after : Fields T U
+      after = handed g g-agrees i x here (with_counters b b1.holders) at-g key c new-there its empty b2.holders long counters
+
+      well-f : IsWellFormed (with_history_waiting f x c)
+      well-f = subst (λ (h : Fields T U). IsWellFormed (with_history_waiting h x c)) (sym same) well
+
+      out : HandsOut g x c (handed g g-agrees i x here (with_counters b b1.holders) at-g key c new-there its empty b2.holders long counters)
+      out = hands-out g g-agrees i x here (with_counters b b1.holders) at-g key c new-there its empty b2.holders long counters (subst IsWellFormed (sym waiting-same) well-f)
+
+      book2 : with_counters b b2.holders ≡ b2
+      book2 = sym (is2 ∙ ap (λ (d : Book). with_counters d b2.holders) is1)
+
+      as-made : handed g g-agrees i x here (with_counters b b1.holders) at-g key c new-there its empty b2.holders long counters
+          ≡ record f { connections = with_value new key (record c { waiting = last_n c.buffer (x.history).items }); books = with_value f.books x.book b2 }
+      as-made =
+          ap (λ (slots : List (Option Book)). let slab : Slab Book = record f.books { slots = slots } in
+          let h : Fields T U = record f { connections = with_value new key (record c { waiting = last_n c.buffer (x.history).items }); books = slab } in h)
+          (set-set f.books.slots x.book (Some (with_counters b b1.holders)) (Some (with_counters b b2.holders))
+          ∙ ap (λ (d : Book). slice_set f.books.slots x.book (Some d)) book2)
+
+-- with the end that a call of it names
+module _ {T U : Type 0} (before f : Fields T U) (same : f ≡ before) (agrees : IsDomain before) (i key : ℕ) (end : HasNewEnd before i key)
+    (x : PublisherFields) (here : get_or f.publishers i None ≡ Some x)
+    (b : Book) (at : get f.books x.book ≡ Some b) (b1 : Book) (is1 : b1 ≡ with_counters b b1.holders) (new : Slab Link) (r : Reclaims x.id b.holders f.connections b1.holders new) where
+  sound : IsDomain f
+  sound = subst (IsDomain {T = T} {U = U}) (sym same) agrees
+
+  publisher-is : (e : HasNewEnd before i key) → e.publisher ≡ x
+  publisher-is e = let both : Some e.publisher ≡ Some x = sym e.stands ∙ sym (ap (λ (h : Fields T U). get_or h.publishers i None) same) ∙ here in cc
+
+  there : get f.connections key ≡ Some end.link
+  there = ap (λ (h : Fields T U). get h.connections key) same ∙ end.connected
+
+  its : (end.link).home.publisher ≡ x.id
+  its = end.is_its ∙ ap (λ (z : PublisherFields). z.id) (publisher-is end)
+
+  link-there : get new key ≡ Some end.link
+  link-there = new-there before f same sound i x here key end.link there its end.empty b at b1 is1 new r
+
+  -- the connection is there
+  pub end-there : ContainsKey new key
+  end-there = rw link-there refl
+
+  link-is : (c : Link) → get new key ≡ Some c → c ≡ end.link
+  link-is c at_c = let both : Some c ≡ Some end.link = sym at_c ∙ link-there in cc
+
+  -- no slot stands in it
+  pub end-empty : (c : Link) → get new key ≡ Some c → load c ≡ 0
+  end-empty c at_c = ap load (link-is c at_c) ∙ end.empty
+
+  pub end-in_use : (slot : ℕ) → 0 < times slot (x.history).items → 0 < holders_at b1 slot
+  end-in_use = new-in_use before f same sound i x here key end.link there its end.empty b at b1 is1 new r
+
+  pub end-fits : HasReclaimed new x.keys → length x.keys < 2 ^ 63 → (slot : ℕ) → holders_at b1 slot + times slot (x.history).items < 2 ^ 64
+  end-fits = new-fits before f same sound i x here key end.link there its end.empty b at b1 is1 new r
+
+  -- the history waits there
+  pub end-handed : (c : Link) → get new key ≡ Some c → (d : Link) → d ≡ record c { waiting = last_n c.buffer (x.history).items } → (b2 : Book) → b2 ≡ with_counters b1 b2.holders
+      → length b2.holders ≡ length b1.holders → ((slot : ℕ) → holders_at b2 slot ≡ holders_at b1 slot + times slot (last_n c.buffer (x.history).items))
+      → (e : HasNewEnd before i key) → HandsOut before e.publisher e.link (record f { connections = with_value new key d; books = with_value f.books x.book b2 })
+  end-handed c at_c d is_d b2 is2 long counters e =
+      subst (λ (z : PublisherFields). HandsOut before z e.link after) (sym (publisher-is e))
+      (subst (λ (k : Link). HandsOut before x k after) (sym one)
+      (subst (λ (k : Link). HandsOut before x end.link (record f { connections = with_value new key k; books = with_value f.books x.book b2 })) (sym d-is)
+      (reclaimed-hands-out before f same sound i x here key end.link there its end.empty b at b1 is1 new r b2 is2 long (λ slot. counters slot ∙ ap (λ (k : Link). holders_at b1 slot + times slot (last_n k.buffer (x.history).items)) (link-is c at_c))
+      (subst (λ (z : PublisherFields). IsWellFormed (with_history_waiting before z end.link)) (publisher-is end) end.well_formed))))
+    where
+      after : Fields T U
+      after = record f { connections = with_value new key d; books = with_value f.books x.book b2 }
+
+      one : e.link ≡ end.link
+      one = let both : Some e.link ≡ Some end.link = sym e.connected ∙ end.connected in cc
+
+      d-is : d ≡ record end.link { waiting = last_n (end.link).buffer (x.history).items }
+      d-is = is_d ∙ ap (λ (k : Link). let filled : Link = record k { waiting = last_n k.buffer (x.history).items } in filled) (link-is c at_c)
+
+-- ---- the machine's step
+
+module _ {T U : Type 0} (environment : Environment) (f : Fields T U) (sound : IsDomain f) (i j : ℕ) (x : PublisherFields) (at : get_or f.publishers i None ≡ Some x)
+    (free : x.blocked ≡ None) (low : j < length f.subscribers) (key : ℕ) (f1 : Fields T U) (made : MakesSenderEnd environment f i j x key f1) where
+  abbrev s : State T U
+  s = state_of (kept_of f)
+
+  abbrev P : Publisher
+  P = (publisher_of f.books f.connections x).port
+
+  abbrev q : ℕ
+  q = made.link.home.subscriber
+
+  abbrev size : ℕ
+  size = made.link.buffer
+
+  -- the publisher with its new key
+  abbrev pub keyed : PublisherFields
+  keyed = record x { keys = made.keys; key_room = made.key_room }
+
+  keyed-stands : get_or f1.publishers i None ≡ Some keyed
+  keyed-stands = ap (λ (h : Fields T U). get_or h.publishers i None) made.fields ∙ get_or-set_same f.publishers i (Some keyed) None (within_if_some f.publishers i x at)
+
+  -- the end, with nothing there and with the history
+  abbrev bare : SenderSide
+  bare = connected [] (sender_side s x.id P) j q size
+
+  abbrev full : SenderSide
+  full = connected P.history (sender_side s x.id P) j q size
+
+  waits-is : with_history_waiting f1 keyed made.link ≡ with_sender_side s x.id P full
+  waits-is =
+      (λ t. record (made.state t) {
+        mailboxes = with_box (made.state t).mailboxes x.id q (with_waiting (last_n size (map (numbers_of ((made.fields t).books) x.id) (x.history).items)) ((made.state t).mailboxes x.id q));
+      })
+      ∙ ap (λ (boxes : ℕ → ℕ → Mailbox). record (with_sender_side s x.id P full) { mailboxes = boxes }) boxes-are
+    where
+      rows : ℕ → Mailbox
+      rows = bare.mailboxes
+
+      row-is : put_at s.mailboxes x.id bare.mailboxes x.id ≡ bare.mailboxes
+      row-is = put_at-same s.mailboxes x.id bare.mailboxes
+
+      old : Mailbox
+      old = s.mailboxes x.id q
+
+      boxes-are : with_box (put_at s.mailboxes x.id bare.mailboxes) x.id q (with_waiting (last_n size P.history) (put_at s.mailboxes x.id bare.mailboxes x.id q))
+          ≡ put_at s.mailboxes x.id full.mailboxes
+      boxes-are =
+          (λ t. put_at (put_at s.mailboxes x.id bare.mailboxes) x.id (put_at (row-is t) q (with_waiting (last_n size P.history) (row-is t q))))
+          ∙ put_at-twice s.mailboxes x.id bare.mailboxes (put_at bare.mailboxes q (with_waiting (last_n size P.history) (bare.mailboxes q)))
+          ∙ ap (put_at s.mailboxes x.id)
+          (ap (λ (box : Mailbox). put_at bare.mailboxes q (with_waiting (last_n size P.history) box)) (put_at-same (s.mailboxes x.id) q (with_waiting (last_n size []) (s.mailboxes x.id q)))
+          ∙ put_at-twice (s.mailboxes x.id) q (with_waiting (last_n size []) (s.mailboxes x.id q)) (with_waiting (last_n size P.history) (s.mailboxes x.id q)))
+
+  present : s.publishers x.id ≡ Some P
+  present = publisher-stands f sound.parts i x at
+
+  well : IsWellFormed (with_sender_side s x.id P full)
+  well =
+      with_sender_side_keeps s sound.well_formed x.id P present (unblocked f.books f.connections x free) full
+      (performed_keeps s sound.well_formed x.id P present environment j _ _ (sender_side s x.id P) full None
+      (place-within f j low) refl refl (sender_side_begins s sound.well_formed x.id P present) made.steps)
+
+  -- the history may go out
+  pub new-end : HasNewEnd f1 i key
+  new-end = record {
+    publisher = keyed;
+    stands = keyed-stands;
+    link = made.link;
+    connected = made.stands;
+    is_its = made.is_its;
+    empty = made.empty;
+    well_formed = subst IsWellFormed (sym waits-is) well;
+  }
+
+  -- and then the machine's step is done
+  pub connects-with-history : (f2 : Fields T U) → ((end : HasNewEnd f1 i key) → HandsOut f1 end.publisher end.link f2) → ConnectsSender environment f i j x f2 None
+  unfolding new-end
+  connects-with-history f2 hands = record {
+    agrees = out.agrees;
+    keys = made.keys;
+    key_room = made.key_room;
+    fields = out.fields ∙ (λ t. record (made.fields t) { connections = f2.connections; books = f2.books })
+        ∙ (λ t. record f { publishers = slice_set f.publishers i (Some keyed); subscribers = sym (ap (λ (h : Fields T U). h.subscribers) out.fields) t; connections = f2.connections; books = f2.books; warnings = sym warnings-same t });
+    others = ap (λ (h : Fields T U). map (option_map subscriber_but_room) h.subscribers) out.fields ∙ made.others;
+    side = full;
+    steps = made.steps;
+    state = out.state ∙ waits-is;
+    entries = λ n entry e. sym (ap (λ (h : Fields T U). entries_of (kept_of h) n) made.fields) ∙ out.entries n entry e;
+  } where
+    out : HandsOut f1 keyed made.link f2
+    out = hands new-end
+
+    warnings-same : f2.warnings ≡ f.warnings
+    warnings-same = ap (λ (h : Fields T U). h.warnings) out.fields ∙ ap (λ (h : Fields T U). h.warnings) made.fields
