@@ -104,3 +104,32 @@ fn a_handler_blocks_slices_of_a_publisher_that_would_discard(rt: HostRuntime) {
     assert!(rt; during == [true, true]);
     assert!(rt; after == [false, false]);
 }
+
+// Its loans are as long as those of the factory, and its subscriber has the same buffer.
+#[test]
+fn a_partial_clone_of_a_factory_of_slices_has_its_settings(rt: HostRuntime) {
+    let mut domain: Domain<u64, u64> = Domain::new(rt.alloc(), slices()).expect(&rt, "a domain");
+    let factory = domain.slice_subscriber_builder().buffer_size(1);
+    let copied = factory.internal_partial_clone();
+    let subscriber = copied.create(&mut domain).expect(&rt, "a subscriber");
+    let action = BackpressureAction::DiscardDataAndFail;
+    let factory = domain
+        .slice_publisher_builder()
+        .initial_max_slice_len(3)
+        .set_backpressure_handler(BackpressureHandler::new_with(action));
+    let copied = factory.internal_partial_clone();
+    let publisher = copied.create(&mut domain).expect(&rt, "a publisher");
+    let loan = publisher.loan_slice_uninit(&mut domain, 3);
+    let loan = loan.expect(&rt, "a loan");
+    let message = loan.write_from_slice(&mut domain, &[1, 2, 3]);
+    let first = delivered(&rt, message.send(&mut domain));
+    let message = publisher.loan_slice(&mut domain, 1).expect(&rt, "a loan");
+    let waiting = blocked(&rt, message.send(&mut domain));
+    let second = delivered(&rt, waiting.give_up(&mut domain));
+    let read = next_sum(&rt, &mut domain, &subscriber);
+    publisher.disown();
+    subscriber.disown();
+    drop(domain);
+    assert!(rt; [first, second] == [1, 0]);
+    assert!(rt; read == Some(1 + 2 + 3));
+}

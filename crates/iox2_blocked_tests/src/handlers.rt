@@ -119,3 +119,33 @@ fn a_handler_discards_for_a_publisher_that_would_wait(rt: HostRuntime) {
     assert!(rt; [first, second] == [1, 0]);
     assert!(rt; [read, nothing] == [Some(20), None]);
 }
+
+// The factory still has its handler.
+#[test]
+fn a_partial_clone_of_a_factory_has_no_handler(rt: HostRuntime) {
+    let mut domain = waiting_domain(&rt, rt.alloc());
+    let subscriber = subscriber_of(&rt, &mut domain, 1);
+    let action = BackpressureAction::DiscardDataAndFail;
+    let factory = domain
+        .publisher_builder()
+        .backpressure_strategy(BackpressureStrategy::RetryUntilDelivered)
+        .set_backpressure_handler(BackpressureHandler::new_with(action));
+    let plain = factory.internal_partial_clone();
+    let failing = factory.create(&mut domain).expect(&rt, "a publisher");
+    let waiting = plain.create(&mut domain).expect(&rt, "a publisher");
+    let sent = waiting.send_copy(&mut domain, Reading { celsius: 20 });
+    let first = delivered(&rt, sent);
+    let sent = failing.send_copy(&mut domain, Reading { celsius: 21 });
+    let second = delivered(&rt, sent);
+    let sent = failing.send_copy(&mut domain, Reading { celsius: 22 });
+    let error = failed(&rt, sent);
+    let sent = waiting.send_copy(&mut domain, Reading { celsius: 23 });
+    let send = blocked(&rt, sent);
+    let third = delivered(&rt, send.give_up(&mut domain));
+    failing.disown();
+    waiting.disown();
+    subscriber.disown();
+    drop(domain);
+    assert!(rt; [first, second, third] == [1, 1, 0]);
+    assert!(rt; error == SendError::UnableToDeliver);
+}

@@ -1,5 +1,6 @@
 //! The warnings of a domain.
 ghost use Rattle.std.specs.Prelude.{◌≡◌, IfOk};
+ghost use Rattle.circular_buffer.specs.Buffer.{buffer};
 ghost use Rattle.iox2_store.specs.machine.Limits.{warning_limit};
 ghost use Rattle.iox2_store.specs.machine.State.{no_warnings, refusal_counted, warned};
 ghost use Rattle.iox2_domain.specs.WarningRing.{warning_ring};
@@ -52,6 +53,13 @@ impl Warnings {
         ensures { self.new ≡ warning_ring (refusal_counted self.old.items) self.old.capacity }
     {
         self.refused_connections = self.refused_connections.saturating_add(1);
+    }
+
+    /// The last warnings, oldest first.
+    pub fn latest(&self) -> &HeapCircularBuffer<Warning>
+        ensures { result.now ≡ buffer self.now.items.latest self.now.capacity }
+    {
+        &self.latest
     }
 
     /// How many connections were refused memory: `u64::MAX` says at least so many.

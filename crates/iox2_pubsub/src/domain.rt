@@ -2,7 +2,8 @@
 ghost use Rattle.std.specs.Prelude.{◌≡◌, ◌<◌, ℕ, IfOk};
 ghost use Rattle.std.specs.List.{count_by};
 ghost use Rattle.std.specs.Option.{is_some};
-ghost use Rattle.iox2_store.specs.machine.Limits.{last_number};
+ghost use Rattle.circular_buffer.specs.Buffer.{buffer};
+ghost use Rattle.iox2_store.specs.machine.Limits.{last_number, warning_limit};
 ghost use Rattle.iox2_store.specs.machine.State.{Messages, fresh, no_messages};
 ghost use Rattle.iox2_domain.specs.Kept.{state_of};
 ghost use Rattle.iox2_store.specs.declared.service_config.TypeVariant.TheVariants.{Dynamic, FixedSize};
@@ -11,8 +12,11 @@ ghost use Rattle.iox2_pubsub.specs.Live.{IsSingleValued};
 ghost use Rattle.iox2_pubsub.specs.LoansLeft.{HasNumbersLeft};
 ghost use Rattle.iox2_pubsub.specs.Slices.{IsSliced};
 
+use circular_buffer::HeapCircularBuffer;
 use iox2_domain::{Boxes, DomainState};
-use iox2_store::{BackpressureFn, DegradationFn, DomainCreateError, ServiceConfig, TypeVariant};
+use iox2_store::{
+    BackpressureFn, DegradationFn, DomainCreateError, ServiceConfig, TypeVariant, Warning,
+};
 use std::alloc::Global;
 use std::marker::{Model, PhantomData};
 
@@ -86,6 +90,16 @@ impl<T: Drop, U: Default + Drop, F: BackpressureFn, G: DegradationFn> Domain<T, 
         ensures shown { (messages : Messages T U) × Shows self.now messages (state_of self.now) }
     {
         self.state.config()
+    }
+
+    /// The last warnings, oldest first: 32 at most, since each one past that makes the domain forget
+    /// the oldest. Reading them forgets none.
+    ///
+    /// This library's own, where iceoryx2 writes them to its log.
+    pub fn warnings(&self) -> &HeapCircularBuffer<Warning>
+        ensures { result.now ≡ buffer (self.now.warnings).latest warning_limit }
+    {
+        self.state.warnings.latest()
     }
 
     /// How often a port was refused memory for a connection since the domain was made;

@@ -15,6 +15,7 @@ mod subscriber;
 mod update_connections;
 
 pub use blocked_send::BlockedSend;
+pub use circular_buffer::HeapCircularBuffer;
 pub use custom_markers::{CustomHeaderMarker, CustomPayloadMarker};
 pub use domain::Domain;
 pub use iox2_store::{
@@ -22,7 +23,8 @@ pub use iox2_store::{
     BackpressureStrategy, ConnectionFailure, DegradationAction, DegradationCause, DegradationFn,
     DegradationInfo, DomainCreateError, Header, Key, LoanError, PublisherCreateError, ReceiveError,
     SendError, ServiceConfig, SharedMemoryOpenError, SubscriberCreateError, TypeVariant,
-    UniqueNodeId, UniquePublisherId, UniqueSubscriberId, ZeroCopyCreationError, worst_case_slots,
+    UniqueNodeId, UniquePublisherId, UniqueSubscriberId, Warning, ZeroCopyCreationError,
+    worst_case_slots,
 };
 pub use port_factory::publisher::PortFactoryPublisher;
 pub use port_factory::subscriber::PortFactorySubscriber;

@@ -30,3 +30,5 @@ mod stays;
 mod subscribers;
 #[cfg(test)]
 mod updates;
+#[cfg(test)]
+mod warnings;

@@ -111,6 +111,20 @@ impl<F: BackpressureFn> PortFactoryPublisher<F> {
         }
     }
 
+    /// A factory with the same settings, which makes publishers without a handler.
+    ///
+    /// iceoryx2's `PortFactoryPublisher::__internal_partial_clone`
+    /// (`src/service/port_factory/publisher.rs`).
+    pub fn internal_partial_clone(&self) -> Self
+        ensures { result ≡ record { settings = record (self.now.settings) { backpressure_handler = None }; box = None } }
+    {
+        PortFactoryPublisher {
+            max_loaned_samples: self.max_loaned_samples,
+            backpressure_strategy: self.backpressure_strategy,
+            backpressure_handler: None,
+        }
+    }
+
     /// Makes the publisher, with the next id at the lowest free place, and connects it with the
     /// subscribers that there are; where memory for a connection is refused, that is a warning.
     /// Every subscriber is then due for an update.

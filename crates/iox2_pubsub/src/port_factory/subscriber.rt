@@ -40,6 +40,18 @@ impl PortFactorySubscriber {
         PortFactorySubscriber { buffer_size: value }
     }
 
+    /// A factory with the same settings.
+    ///
+    /// iceoryx2's `PortFactorySubscriber::__internal_partial_clone`
+    /// (`src/service/port_factory/subscriber.rs`).
+    pub fn internal_partial_clone(&self) -> Self
+        ensures { result ≡ self.now }
+    {
+        PortFactorySubscriber {
+            buffer_size: self.buffer_size,
+        }
+    }
+
     /// Makes the subscriber in the domain, with the next id at the lowest free place, and connects
     /// it with the publishers that are there. Every publisher is then due for an update. Where
     /// memory for a connection is refused, the domain warns of it and goes on. It also warns where

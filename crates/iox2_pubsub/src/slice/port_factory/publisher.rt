@@ -129,6 +129,21 @@ impl<F: BackpressureFn> PortFactoryPublisher<F> {
         }
     }
 
+    /// A factory with the same settings, which makes publishers without a handler.
+    ///
+    /// iceoryx2's `PortFactoryPublisher::__internal_partial_clone`
+    /// (`src/service/port_factory/publisher.rs`).
+    pub fn internal_partial_clone(&self) -> Self
+        ensures { result ≡ record { settings = record (self.now.settings) { backpressure_handler = None }; box = None } }
+    {
+        PortFactoryPublisher {
+            max_loaned_samples: self.max_loaned_samples,
+            backpressure_strategy: self.backpressure_strategy,
+            backpressure_handler: None,
+            initial_max_slice_len: self.initial_max_slice_len,
+        }
+    }
+
     /// Makes the publisher, as the factory of publishers of single values does. Each of its slots has
     /// room for the longest loan.
     ///

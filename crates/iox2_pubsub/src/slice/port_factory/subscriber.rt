@@ -40,6 +40,18 @@ impl PortFactorySubscriber {
         }
     }
 
+    /// A factory with the same settings.
+    ///
+    /// iceoryx2's `PortFactorySubscriber::__internal_partial_clone`
+    /// (`src/service/port_factory/subscriber.rs`).
+    pub fn internal_partial_clone(&self) -> Self
+        ensures { result ≡ self.now }
+    {
+        PortFactorySubscriber {
+            factory: self.factory.internal_partial_clone(),
+        }
+    }
+
     /// Makes the subscriber in the domain, as the factory of subscribers of single values does, and
     /// fails as that does.
     ///
