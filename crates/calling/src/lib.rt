@@ -1,0 +1,17 @@
+//! What a caller of `iox2_pubsub` writes. `docs/CALLING.md` shows these functions, and says what each
+//! clause is for.
+#![tactic(auto)]
+
+mod closing;
+mod failure;
+mod generic;
+mod pairs;
+mod passing;
+mod station;
+
+pub use closing::pass_once;
+pub use failure::Failure;
+pub use generic::pass_value;
+pub use pairs::{change, next_change};
+pub use passing::{drain, pass, receive_next, send, send_all};
+pub use station::Station;
