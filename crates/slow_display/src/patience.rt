@@ -1,5 +1,6 @@
 //! The thermometer's handler of a full display.
 ghost use Rattle.std.specs.Prelude.{◌≡◌, cond, nat_lt};
+ghost use Rattle.iox2_pubsub.specs.declared.BackpressureAction.TheVariants.{DiscardData, Retry};
 
 use iox2_pubsub::{BackpressureAction, BackpressureFn, BackpressureInfo};
 
@@ -11,7 +12,7 @@ pub struct Patience {
 }
 
 impl BackpressureFn for Patience {
-    ghost allows = { λ patience info action. action ≡ cond (nat_lt info.retries patience.retries) BackpressureAction.Retry BackpressureAction.DiscardData };
+    ghost allows = { λ patience info action. action ≡ cond (nat_lt info.retries patience.retries) Retry DiscardData };
 
     fn call(&self, info: &BackpressureInfo) -> BackpressureAction {
         if info.retries < self.retries {
