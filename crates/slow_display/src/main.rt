@@ -27,23 +27,28 @@ fn main(rt: HostRuntime) -> Result<(), Failure> {
         enable_safe_overflow: false,
         ..ServiceConfig::new(1)
     };
+    let patience: Box<dyn BackpressureFn> = Box::new(rt.alloc(), Patience { retries: 2 })?;
     let mut domain = Domain::<u32, ()>::new(rt.alloc(), config)?;
     let display = domain.subscriber_builder().create(&mut domain)?;
-    let outcome = run(&rt, &mut domain, &display);
+    let outcome = run(&rt, &mut domain, &display, patience);
     display.close(&mut domain);
     outcome
 }
 
-// Makes the thermometer's publisher, which has patience with a full display, reports with it and
+// Makes the thermometer's publisher, which has this patience with a full display, reports with it and
 // closes it.
-fn run(rt: &HostRuntime, domain: &mut Domain<u32, ()>, display: &Subscriber) -> Result<(), Failure>
+fn run(
+    rt: &HostRuntime,
+    domain: &mut Domain<u32, ()>,
+    display: &Subscriber,
+    patience: Box<dyn BackpressureFn>,
+) -> Result<(), Failure>
     requires single_valued { IsSingleValued domain.old }
     requires display { IsLiveSubscriber domain.old display.now }
     ensures { Stays domain.old domain.new }
 {
-    let patience: Box<dyn BackpressureFn> = Box::new(rt.alloc(), Patience { retries: 2 })?;
-    let factory = domain.publisher_builder();
-    let publisher = factory
+    let publisher = domain
+        .publisher_builder()
         .set_backpressure_handler(BackpressureHandler::Custom(patience))
         .create(domain)?;
     let outcome = report(rt, domain, &publisher, display);
