@@ -2,7 +2,8 @@
 ghost use Rattle.std.specs.Prelude.{◌≡◌, false};
 ghost use Rattle.iox2_store.specs.Defaults.{default_config};
 ghost use Rattle.iox2_store.specs.declared.service_config.TypeVariant.TheVariants.{Dynamic};
-ghost use Rattle.iox2_pubsub.specs.Live.{IsLivePublisher, IsUnwrittenLoan, IsWrittenLoan, Stays, StaysBut, unwritten_loan};
+ghost use Rattle.iox2_pubsub.specs.Slices.{IsSliced};
+ghost use Rattle.iox2_pubsub.specs.Live.{IsLivePublisher, IsLiveSubscriber, IsUnwrittenLoan, IsWrittenLoan, Stays, StaysBut, unwritten_loan};
 
 use crate::fixtures::slice_factory;
 use iox2_fixtures::{receiver_count, settings};
@@ -32,6 +33,26 @@ fn set(values: &mut [u64], index: usize, value: u64) {
     }
 }
 
+// Receives the next slice and gives it back. Whether it reads so, and how many elements its header
+// says that it has.
+fn read_next(
+    rt: &impl Abort,
+    domain: &mut Domain<u64, u64>,
+    subscriber: &Subscriber,
+    written: &[u64],
+) -> (bool, u64)
+    requires sliced { IsSliced domain.old }
+    requires live { IsLiveSubscriber domain.old subscriber.now.subscriber }
+    ensures { Stays domain.old domain.new }
+{
+    let received = subscriber.receive(domain).expect(rt, "an answer");
+    let sample = received.expect(rt, "a sample");
+    let is_read = sample.payload(domain) == written;
+    let elements = sample.header(domain).number_of_elements();
+    sample.release(domain);
+    (is_read, elements)
+}
+
 #[test]
 fn a_slice_is_sent_as_it_was_written(rt: HostRuntime) {
     let mut domain: Domain<u64, u64> = Domain::new(rt.alloc(), slices()).expect(&rt, "a domain");
@@ -44,14 +65,10 @@ fn a_slice_is_sent_as_it_was_written(rt: HostRuntime) {
     let mut message = loan.write_from_fn(&mut domain, |index| (index as u64).wrapping_mul(1234));
     set(SampleMut::payload_mut(&mut domain, &mut message), 0, 42);
     let takers = message.send(&mut domain).ok().and_then(receiver_count);
-    let received = subscriber.receive(&mut domain).expect(&rt, "an answer");
-    let sample = received.expect(&rt, "a sample");
     let written = [
         42, 1234, 2468, 3702, 4936, 6170, 7404, 8638, 9872, 11106, 12340, 13574,
     ];
-    let is_read = sample.payload(&domain) == written.as_slice();
-    let elements = sample.header(&domain).number_of_elements();
-    sample.release(&mut domain);
+    let (is_read, elements) = read_next(&rt, &mut domain, &subscriber, written.as_slice());
     publisher.close(&mut domain);
     subscriber.close(&mut domain);
     drop(domain);
