@@ -2,8 +2,8 @@ use Rattle.std.proofs.Common.{◌≡◌, ◌≢◌, ℕ, ◌<◌, ◌≤◌, Boo
 use Rattle.std.proofs.lemmas.List.Sums.{sum_by-cons}
 use Rattle.std.specs.List.{sum_by}
 use Rattle.slab.specs.Slab.{Slab, get, Updates}
-use Rattle.iox2_store.specs.Link.{Link, empty_link}
-use Rattle.iox2_store.specs.declared.connection.Home.{Home}
+use Rattle.iox2_slots.specs.Link.{Link, empty_link}
+use Rattle.iox2_slots.specs.declared.connection.Home.{Home}
 use Rattle.iox2_ends.specs.Counters.{stands, stands_in, one_holder_more, IsCovered, HoldsItself}
 use Rattle.iox2_ends.proofs.Counts.{one_if, one_if_same, times-cons, in_range, get_or-one_holder_more}
 use Rattle.iox2_ends_tests.proofs.handlers.outcome_at.Goals as goal
