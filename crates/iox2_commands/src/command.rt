@@ -12,7 +12,7 @@ use std::time::Duration;
 /// changes nothing. So is one whose `at` is past the end, a loan or `SendCopy` in a service of the other kind, and a loan,
 /// send, update or close of a publisher that waits for a receiver. In a service whose `units_per_element` isn't 1 each
 /// loan, `SendCopy` and `Receive` is skipped.
-#[derive(Copy)]
+#[derive(Debug, Copy, PartialEq, Eq)]
 pub enum Command<T, U> {
     /// Does nothing.
     Nothing,
