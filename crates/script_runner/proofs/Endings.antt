@@ -3,11 +3,12 @@ use Rattle.std.proofs.Common.{◌≡◌, ap}
 use Rattle.script_text.specs.declared.failure.ScriptError.{ScriptError}
 use Rattle.script_text.specs.declared.failure.ScriptError.TheVariants.{OutOfMemory}
 use Rattle.script_runner.specs.declared.ending.Ending.{Ending}
-use Rattle.script_runner.specs.declared.ending.Ending.TheVariants.{Printed, Reported, Unreported}
+use Rattle.script_runner.specs.declared.ending.Ending.TheVariants.{Printed, Unwarned, Reported, Unreported}
 
 -- The failure of an ending, if it is one.
 abbrev failure_of : Ending → ScriptError
 failure_of Printed = OutOfMemory
+failure_of Unwarned = OutOfMemory
 failure_of (Reported error) = error
 failure_of (Unreported error) = error
 
