@@ -8,7 +8,7 @@ ghost use Rattle.script_runner.specs.Script.{IsFailure, PrintsAll, PrintsReplies
 ghost use Rattle.script_runner.specs.Writing.{AppendsPart};
 
 use crate::ending::Ending;
-use crate::replies::{Played, play};
+use crate::replies::play;
 use crate::report::report;
 use crate::sink::write_all;
 use arrayvec::ArrayString;
@@ -66,13 +66,13 @@ fn print_replies<R: Read, W: Write>(
     ensures err { IfErr result (IsFailure (R.remaining input.old) (W.contents output.old) (W.contents output.new)) }
     ensures untouched { IfErr result (λ error. error ≢ OutputFailed → output.new ≡ output.old) }
 {
-    let Played { replies, warnings } = play(alloc, input)?;
-    let text = reply_lines(alloc, &replies)?;
+    let played = play(alloc, input)?;
+    let text = reply_lines(alloc, &played.replies)?;
     let Ok(()) = write_all(output, text.as_bytes()) else {
         return Err(ScriptError::OutputFailed);
     };
     let Ok(()) = output.flush() else {
         return Err(ScriptError::OutputFailed);
     };
-    Ok(warnings)
+    Ok(played.warnings)
 }
