@@ -1,5 +1,5 @@
 -- A send before which the publisher's update fails: the loan is given back, and no message was sent.
-use Rattle.std.proofs.Common.{◌≡◌, ℕ, List, refl, ap, sym, subst, ◌∙◌, inr}
+use Rattle.std.proofs.Common.{◌≡◌, ℕ, List, refl, ap, sym, subst, ◌∙◌, inr, None}
 use Rattle.std.specs.declared.option.Option.{Option}
 use Rattle.std.specs.declared.option.Option.TheVariants.{Some}
 use Rattle.iox2_store.specs.machine.Environments.{fixed_handlers}
