@@ -16,11 +16,19 @@ pub enum DegradationHandler {
 }
 
 impl DegradationHandler {
+    /// A handler that always answers with this action.
+    pub fn new_with(action: DegradationAction) -> Self
+        ensures { result ≡ DegradationHandler.Fixed action }
+    {
+        DegradationHandler::Fixed(action)
+    }
+
     /// The action that it always answers with.
     pub(crate) fn answer(self) -> DegradationAction
         ensures { answer_of self ≡ Fixed result }
     {
-        let DegradationHandler::Fixed(action) = self;
-        action
+        match self {
+            DegradationHandler::Fixed(action) => action,
+        }
     }
 }
