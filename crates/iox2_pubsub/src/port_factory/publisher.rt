@@ -192,7 +192,8 @@ impl<F: BackpressureFn> PortFactoryPublisher<F> {
         ensures left { IfOk result (λ publisher. HasLoansLeft domain.new publisher self.settings.max_loaned_samples) }
         ensures stays { Stays domain.old domain.new }
     {
-        create_plain(domain, &self.options, self.backpressure_handler)
+        let options = self.options;
+        create_plain(domain, &options, self.backpressure_handler)
     }
 }
 

@@ -206,7 +206,8 @@ impl<F: BackpressureFn> PortFactoryPublisher<F> {
         ensures left { IfOk result (λ publisher. HasLoansLeft domain.new publisher.publisher self.settings.max_loaned_samples) }
         ensures stays { Stays domain.old domain.new }
     {
-        match create_plain(domain, &self.options, self.backpressure_handler) {
+        let options = self.options;
+        match create_plain(domain, &options, self.backpressure_handler) {
             Ok(publisher) => Ok(Publisher { publisher }),
             Err(error) => Err(error),
         }
