@@ -9,9 +9,7 @@ use crate::fixtures::slice_factory;
 use iox2_fixtures::{receiver_count, settings};
 use iox2_pubsub::slice::{Publisher, SampleMut, SampleMutUninit, Subscriber};
 use iox2_pubsub::{DegradationHandler, Domain, UpdateConnections};
-use iox2_store::{
-    DegradationAction, LoanError, PublisherCreateError, ServiceConfig, TypeVariant,
-};
+use iox2_store::{DegradationAction, LoanError, PublisherCreateError, ServiceConfig, TypeVariant};
 use std::process::Abort;
 
 /// A payload that is neither `Copy` nor `Clone`.

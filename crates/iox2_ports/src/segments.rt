@@ -20,11 +20,7 @@ pub(crate) fn first_segment(config: &ServiceConfig, given: &PublisherOptions) ->
     ensures { SomeIff result (IsTrue (first_segment_fits config.now (static_publisher given.now None))) (slots_for config.now (static_publisher given.now None)) }
 {
     let slots = worst_case_slots(config, given.max_loaned_samples)?;
-    segment_size(
-        slots,
-        given.initial_max_slice_len,
-        config.units_per_element,
-    )?;
+    segment_size(slots, given.initial_max_slice_len, config.units_per_element)?;
     Some(slots)
 }
 

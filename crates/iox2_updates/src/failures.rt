@@ -33,9 +33,7 @@ pub(crate) fn degrade(
             None
         }
         DegradationAction::DegradeAndFail => {
-            Some(ConnectionFailure::FailedToEstablishConnection(
-                ZeroCopyCreationError::OutOfMemory,
-            ))
+            Some(ConnectionFailure::FailedToEstablishConnection(ZeroCopyCreationError::OutOfMemory))
         }
     }
 }

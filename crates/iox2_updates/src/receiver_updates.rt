@@ -13,9 +13,7 @@ ghost use Rattle.iox2_domain.specs.ReceiverSteps.{NotJoined, JoinsAt, ConnectsEn
 use crate::connects::{home_of, make_between};
 use crate::failures::{degrade, first_of};
 use crate::retirements::retire;
-use iox2_domain::{
-    DomainState, PublisherState, answer_at, is_due_at, key_at, set_key_at, settle,
-};
+use iox2_domain::{DomainState, PublisherState, answer_at, is_due_at, key_at, set_key_at, settle};
 use iox2_slots::Home;
 use iox2_store::{ConnectionFailure, ZeroCopyCreationError};
 

@@ -11,12 +11,15 @@ pub returns-in_default : goal.returns-in_default
 returns-in_default g c = record { is_gone = c.in_default.ensures; same = refl }
 
 pub returns-in-Some-update_publisher : goal.returns-in-Some-update_publisher
-returns-in-Some-update_publisher g c = (c.in-Some.place, record {
-  publisher = c.in-Some.ensures.0;
-  stands = c.in-Some.ensures.1;
-  is_its = c.in-Some.ensures.2;
-  updated = subst (UpdatesPublisher fixed_handlers c.args.state.now c.in-Some.place c.in-Some.ensures.0 c.update_publisher.new.state) c.in-Some-update_publisher.is (c.update_publisher.ensures _ c.in-Some.ensures.1);
-})
+returns-in-Some-update_publisher g c = (
+  c.in-Some.place,
+  record {
+    publisher = c.in-Some.ensures.0;
+    stands = c.in-Some.ensures.1;
+    is_its = c.in-Some.ensures.2;
+    updated = subst (UpdatesPublisher fixed_handlers c.args.state.now c.in-Some.place c.in-Some.ensures.0 c.update_publisher.new.state) c.in-Some-update_publisher.is (c.update_publisher.ensures _ c.in-Some.ensures.1);
+  },
+)
 
 pub find_loan-requires : goal.find_loan-requires
 find_loan-requires g c =
