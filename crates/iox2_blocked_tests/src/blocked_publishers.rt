@@ -1,13 +1,14 @@
 //! What goes on while a publisher waits for a full subscriber.
 ghost use Rattle.std.specs.Prelude.{◌≡◌};
-ghost use Rattle.iox2_pubsub.specs.Live.{IsLiveSubscriber, IsSingleValued, IsUnblocked, IsUnwritten, IsWritten, StaysBut, unwritten_key, unwritten_loan, written_key, written_loan};
+ghost use Rattle.iox2_pubsub.specs.Live.{IsSingleValued, IsUnwritten, IsWritten, StaysBut, unwritten_loan, written_loan};
 
 use crate::waiting_publishers::{
-    blocked, delivered, next_reading, next_readings, subscriber_of, waiting_domain,
-    waiting_publisher,
+    assert_blocked, assert_ready, assert_single_valued, block, blocked, blocked_again,
+    close_publisher, deliver, delivered, delivered_at_last, given_up, has_blocked_send,
+    next_reading, next_readings, subscriber_of, waiting_domain, waiting_publisher,
 };
-use iox2_fixtures::{Reading, Station, factory_for, publish};
-use iox2_pubsub::{Domain, SampleMut, SampleMutUninit, Subscriber};
+use iox2_fixtures::{Reading, Station, factory_for};
+use iox2_pubsub::{BlockedSend, Domain, Publisher, SampleMut, SampleMutUninit};
 use iox2_store::BackpressureStrategy;
 use std::process::Abort;
 use std::time::Duration;
@@ -28,26 +29,27 @@ fn other_ports_go_on(rt: HostRuntime) {
     let full = subscriber_of(&rt, &mut domain, 1);
     let wide = subscriber_of(&rt, &mut domain, 2);
     let publisher = waiting_publisher(&rt, &mut domain);
-    let sent = publisher.send_copy(&mut domain, Reading { celsius: 1 });
-    let to_both = delivered(&rt, sent);
-    let sent = publisher.send_copy(&mut domain, Reading { celsius: 2 });
-    let waiting = blocked(&rt, sent);
+    let to_both = deliver(&rt, &mut domain, &publisher, 1);
+    let waiting = block(&rt, &mut domain, &publisher, 2);
     let factory = factory_for(&domain);
     let other = factory.create(&mut domain).expect(&rt, "a publisher");
     let strategy = other.backpressure_strategy();
-    let first = publish(&mut domain, &other, 4);
-    let second = publish(&mut domain, &other, 8);
+    let first = deliver(&rt, &mut domain, &other, 4);
+    let second = deliver(&rt, &mut domain, &other, 8);
     let late = subscriber_of(&rt, &mut domain, 1);
-    let third = publish(&mut domain, &other, 16);
+    let third = deliver(&rt, &mut domain, &other, 16);
     let read = [
         sum_of(next_readings(&rt, &mut domain, &full)),
         sum_of(next_readings(&rt, &mut domain, &wide)),
         sum_of(next_readings(&rt, &mut domain, &late)),
     ];
-    let is_blocked = [publisher.is_blocked(&domain), other.is_blocked(&domain)];
+    let is_blocked = [
+        has_blocked_send(&rt, &domain, &publisher),
+        has_blocked_send(&rt, &domain, &other),
+    ];
     publisher.disown();
-    other.close(&mut domain);
-    let takers = delivered(&rt, waiting.retry(&mut domain, Duration::ZERO));
+    close_publisher(&rt, &mut domain, other);
+    let takers = delivered_at_last(&rt, &mut domain, waiting);
     let after = [
         sum_of(next_readings(&rt, &mut domain, &full)),
         sum_of(next_readings(&rt, &mut domain, &wide)),
@@ -59,7 +61,7 @@ fn other_ports_go_on(rt: HostRuntime) {
     drop(domain);
     assert!(rt; strategy == BackpressureStrategy::DiscardData);
     assert!(rt; to_both == 2);
-    assert!(rt; [first, second, third] == [Some(2), Some(1), Some(1)]);
+    assert!(rt; [first, second, third] == [2, 1, 1]);
     assert!(rt; read == [1 + 4, 1 + 4 + 8, 16]);
     assert!(rt; is_blocked == [true, false]);
     assert!(rt; takers == 2);
@@ -89,7 +91,6 @@ fn write_and_change(
     requires single_valued { IsSingleValued domain.old }
     requires loan { IsUnwritten domain.old loan }
     ensures out { IsWritten domain.new result.0 }
-    ensures key { written_key result.0 ≡ unwritten_key loan }
     ensures stays { StaysBut (unwritten_loan loan) domain.old domain.new }
 {
     let mut message = loan.write_payload(domain, Reading { celsius: 0 });
@@ -98,52 +99,75 @@ fn write_and_change(
     (message, station)
 }
 
-// Sends the message, and reads what the subscriber receives next. Returns how many took it, too.
-fn send_and_read(
+// Lends two messages, writes the first and sends it, which is blocked. Returns the other loan, too.
+fn block_beside_a_loan(
     rt: &impl Abort,
     domain: &mut Domain<Reading, Station>,
-    message: SampleMut,
-    subscriber: &Subscriber,
-) -> (usize, Option<u64>)
-    requires single_valued { IsSingleValued domain.old }
-    requires message { IsWritten domain.old message }
-    requires unblocked { IsUnblocked domain.old (written_key message) }
-    requires live { IsLiveSubscriber domain.old subscriber.now }
+    publisher: &Publisher,
+    celsius: u64,
+) -> (BlockedSend, SampleMutUninit)
+    ensures single_valued { IsSingleValued domain.new }
+    ensures loan { IsUnwritten domain.new result.1 }
 {
-    let count = delivered(rt, message.send(domain));
-    (count, next_reading(rt, domain, subscriber))
+    assert_single_valued(rt, domain);
+    assert_ready(rt, domain, publisher);
+    let loan = publisher.loan_uninit(domain).expect(rt, "a loan");
+    let later = publisher.loan_uninit(domain).expect(rt, "a loan");
+    let message = loan.write_payload(domain, Reading { celsius });
+    (blocked(rt, message.send(domain)), later)
 }
 
-// While a send of its publisher is blocked, a loan is written, changed and given back; it is sent
-// once that send has ended.
+// Sends the message, whose publisher has no blocked send. Returns how many took it.
+fn send_message(rt: &impl Abort, domain: &mut Domain<Reading, Station>, message: SampleMut) -> usize
+    requires { IsWritten domain.old message }
+{
+    assert!(rt; !message.is_blocked(domain));
+    delivered(rt, message.send(domain))
+}
+
+// While a send of its publisher is blocked, a loan is written and changed; it is sent once that send
+// has ended.
 #[test]
-fn loans_of_a_blocked_publisher_are_written_and_given_back(rt: HostRuntime) {
+fn a_loan_of_a_blocked_publisher_is_written(rt: HostRuntime) {
     let mut domain = waiting_domain(&rt, rt.alloc());
     let subscriber = subscriber_of(&rt, &mut domain, 1);
-    let factory = domain.publisher_builder().max_loaned_samples(3);
-    let publisher = factory.create(&mut domain).expect(&rt, "a publisher");
-    let sent = publisher.send_copy(&mut domain, Reading { celsius: 20 });
-    let first = delivered(&rt, sent);
-    let loan = publisher.loan_uninit(&mut domain).expect(&rt, "a loan");
-    let later = publisher.loan_uninit(&mut domain).expect(&rt, "a loan");
-    let spare = publisher.loan_uninit(&mut domain).expect(&rt, "a loan");
-    let message = loan.write_payload(&mut domain, Reading { celsius: 21 });
-    let waiting = blocked(&rt, message.send(&mut domain));
-    spare.discard(&mut domain);
+    let publisher = waiting_publisher(&rt, &mut domain);
+    let first = deliver(&rt, &mut domain, &publisher, 20);
+    let (waiting, later) = block_beside_a_loan(&rt, &mut domain, &publisher, 21);
+    publisher.disown();
     let (message, station) = write_and_change(&mut domain, later, 23, 5);
     let before = message.is_blocked(&domain);
     let read = next_reading(&rt, &mut domain, &subscriber);
+    assert_blocked(&rt, &domain, &waiting);
     let second = delivered(&rt, waiting.retry(&mut domain, Duration::ZERO));
-    let after = message.is_blocked(&domain);
     let then = next_reading(&rt, &mut domain, &subscriber);
-    let (third, last) = send_and_read(&rt, &mut domain, message, &subscriber);
-    publisher.disown();
+    let after = message.is_blocked(&domain);
+    let third = send_message(&rt, &mut domain, message);
+    let last = next_reading(&rt, &mut domain, &subscriber);
     subscriber.disown();
     drop(domain);
     assert!(rt; [first, second, third] == [1, 1, 1]);
     assert!(rt; station == 5);
     assert!(rt; [before, after] == [true, false]);
     assert!(rt; [read, then, last] == [Some(20), Some(21), Some(23)]);
+}
+
+#[test]
+fn a_loan_of_a_blocked_publisher_is_given_back(rt: HostRuntime) {
+    let mut domain = waiting_domain(&rt, rt.alloc());
+    let subscriber = subscriber_of(&rt, &mut domain, 1);
+    subscriber.disown();
+    let publisher = waiting_publisher(&rt, &mut domain);
+    let first = deliver(&rt, &mut domain, &publisher, 20);
+    let (waiting, spare) = block_beside_a_loan(&rt, &mut domain, &publisher, 21);
+    publisher.disown();
+    let key = spare.key();
+    spare.discard(&mut domain);
+    let is_loan = domain.holds_loan(key);
+    let second = given_up(&rt, &mut domain, waiting);
+    drop(domain);
+    assert!(rt; [first, second] == [1, 0]);
+    assert!(rt; !is_loan);
 }
 
 // Two publishers wait for the same subscriber, and are tried again in the other order. Either has its
@@ -155,21 +179,20 @@ fn two_publishers_wait_for_one_subscriber(rt: HostRuntime) {
     let first = waiting_publisher(&rt, &mut domain);
     let factory = domain.publisher_builder();
     let second = factory.create(&mut domain).expect(&rt, "a publisher");
-    let sent = first.send_copy(&mut domain, Reading { celsius: 1 });
-    let first_takers = delivered(&rt, sent);
-    let sent = first.send_copy(&mut domain, Reading { celsius: 2 });
-    let first_waits = blocked(&rt, sent);
+    let first_takers = deliver(&rt, &mut domain, &first, 1);
+    let first_waits = block(&rt, &mut domain, &first, 2);
     let both_read = next_reading(&rt, &mut domain, &subscriber);
-    let sent = second.send_copy(&mut domain, Reading { celsius: 4 });
-    let second_takers = delivered(&rt, sent);
-    let sent = second.send_copy(&mut domain, Reading { celsius: 8 });
-    let second_waits = blocked(&rt, sent);
+    let second_takers = deliver(&rt, &mut domain, &second, 4);
+    let second_waits = block(&rt, &mut domain, &second, 8);
     let names_differ = first_waits.key() != second_waits.key();
-    let second_waits = blocked(&rt, second_waits.retry(&mut domain, Duration::ZERO));
+    let second_waits = blocked_again(&rt, &mut domain, second_waits);
     let read = next_reading(&rt, &mut domain, &subscriber);
-    let second_retried = delivered(&rt, second_waits.retry(&mut domain, Duration::ZERO));
-    let is_blocked = [first.is_blocked(&domain), second.is_blocked(&domain)];
-    let first_retried = delivered(&rt, first_waits.retry(&mut domain, Duration::ZERO));
+    let second_retried = delivered_at_last(&rt, &mut domain, second_waits);
+    let is_blocked = [
+        has_blocked_send(&rt, &domain, &first),
+        has_blocked_send(&rt, &domain, &second),
+    ];
+    let first_retried = delivered_at_last(&rt, &mut domain, first_waits);
     first.disown();
     second.disown();
     let last = sum_of(next_readings(&rt, &mut domain, &subscriber));

@@ -1,11 +1,48 @@
 //! Sends that wait for a full subscriber are tried again and given up.
 use crate::waiting_publishers::{
-    blocked, delivered, next_reading, subscriber_of, waiting_domain, waiting_publisher,
+    assert_ready, assert_single_valued, block, blocked, blocked_again, close_publisher,
+    close_subscriber, deliver, delivered, delivered_at_last, give_up, given_up, has_blocked_send,
+    next_reading, subscriber_of, waiting_domain, waiting_publisher,
 };
 use iox2_fixtures::{Reading, Station, settings};
-use iox2_pubsub::Domain;
+use iox2_pubsub::{BlockedSend, Domain, Publisher};
 use iox2_store::{BackpressureStrategy, Key, ServiceConfig};
+use std::process::Abort;
 use std::time::Duration;
+
+// That the publisher goes on once its send has ended is proved here, where nothing is tested before
+// the calls.
+#[test]
+fn a_publisher_goes_on_once_its_send_has_ended(rt: HostRuntime) {
+    let mut domain = waiting_domain(&rt, rt.alloc());
+    let subscriber = subscriber_of(&rt, &mut domain, 1);
+    subscriber.disown();
+    let publisher = waiting_publisher(&rt, &mut domain);
+    let sent = publisher.send_copy(&mut domain, Reading { celsius: 20 });
+    let first = delivered(&rt, sent);
+    let sent = publisher.send_copy(&mut domain, Reading { celsius: 21 });
+    let waiting = blocked(&rt, sent);
+    let waiting = blocked(&rt, waiting.retry(&mut domain, Duration::ZERO));
+    let second = delivered(&rt, waiting.give_up(&mut domain));
+    publisher.close(&mut domain);
+    drop(domain);
+    assert!(rt; [first, second] == [1, 0]);
+}
+
+// Lends, writes and sends a message, which is blocked. Returns the key of its loan, too.
+fn block_a_loan(
+    rt: &impl Abort,
+    domain: &mut Domain<Reading, Station>,
+    publisher: &Publisher,
+    celsius: u64,
+) -> (Key, BlockedSend) {
+    assert_single_valued(rt, domain);
+    assert_ready(rt, domain, publisher);
+    let loan = publisher.loan_uninit(domain).expect(rt, "a loan");
+    let key = loan.key();
+    let message = loan.write_payload(domain, Reading { celsius });
+    (key, blocked(rt, message.send(domain)))
+}
 
 #[test]
 fn a_full_subscriber_blocks_the_send_until_it_has_room(rt: HostRuntime) {
@@ -13,24 +50,20 @@ fn a_full_subscriber_blocks_the_send_until_it_has_room(rt: HostRuntime) {
     let subscriber = subscriber_of(&rt, &mut domain, 1);
     let publisher = waiting_publisher(&rt, &mut domain);
     let strategy = publisher.backpressure_strategy();
-    let sent = publisher.send_copy(&mut domain, Reading { celsius: 20 });
-    let first = delivered(&rt, sent);
-    let before = publisher.is_blocked(&domain);
-    let loan = publisher.loan_uninit(&mut domain).expect(&rt, "a loan");
-    let key = loan.key();
-    let message = loan.write_payload(&mut domain, Reading { celsius: 21 });
-    let waiting = blocked(&rt, message.send(&mut domain));
+    let first = deliver(&rt, &mut domain, &publisher, 20);
+    let before = has_blocked_send(&rt, &domain, &publisher);
+    let (key, waiting) = block_a_loan(&rt, &mut domain, &publisher, 21);
     let names_its_loan = waiting.key() == key;
     let is_loan = domain.holds_loan(key);
-    let meanwhile = publisher.is_blocked(&domain);
+    let meanwhile = has_blocked_send(&rt, &domain, &publisher);
     let read = next_reading(&rt, &mut domain, &subscriber);
-    let until_retried = publisher.is_blocked(&domain);
+    let until_retried = has_blocked_send(&rt, &domain, &publisher);
     let nothing = next_reading(&rt, &mut domain, &subscriber);
-    let second = delivered(&rt, waiting.retry(&mut domain, Duration::ZERO));
-    let after = publisher.is_blocked(&domain);
+    let second = delivered_at_last(&rt, &mut domain, waiting);
+    let after = has_blocked_send(&rt, &domain, &publisher);
     let last = next_reading(&rt, &mut domain, &subscriber);
-    publisher.close(&mut domain);
-    subscriber.close(&mut domain);
+    close_publisher(&rt, &mut domain, publisher);
+    close_subscriber(&rt, &mut domain, subscriber);
     drop(domain);
     assert!(rt; strategy == BackpressureStrategy::RetryUntilDelivered);
     assert!(rt; [first, second] == [1, 1]);
@@ -44,10 +77,8 @@ fn a_blocked_send_is_held_until_it_has_ended(rt: HostRuntime) {
     let mut domain = waiting_domain(&rt, rt.alloc());
     let subscriber = subscriber_of(&rt, &mut domain, 1);
     let publisher = waiting_publisher(&rt, &mut domain);
-    let sent = publisher.send_copy(&mut domain, Reading { celsius: 20 });
-    let first = delivered(&rt, sent);
-    let sent = publisher.send_copy(&mut domain, Reading { celsius: 21 });
-    let waiting = blocked(&rt, sent);
+    let first = deliver(&rt, &mut domain, &publisher, 20);
+    let waiting = block(&rt, &mut domain, &publisher, 21);
     let key = waiting.key();
     let delivered_one = Key { message: 0, ..key };
     let of_the_subscriber = Key {
@@ -64,7 +95,7 @@ fn a_blocked_send_is_held_until_it_has_ended(rt: HostRuntime) {
         domain.holds_blocked(of_the_subscriber),
         domain.holds_blocked(elsewhere),
     ];
-    let second = delivered(&rt, waiting.give_up(&mut domain));
+    let second = given_up(&rt, &mut domain, waiting);
     let after = domain.holds_blocked(key);
     subscriber.disown();
     publisher.disown();
@@ -79,17 +110,15 @@ fn a_retry_without_room_stays_blocked(rt: HostRuntime) {
     let mut domain = waiting_domain(&rt, rt.alloc());
     let subscriber = subscriber_of(&rt, &mut domain, 1);
     let publisher = waiting_publisher(&rt, &mut domain);
-    let sent = publisher.send_copy(&mut domain, Reading { celsius: 20 });
-    let first = delivered(&rt, sent);
-    let sent = publisher.send_copy(&mut domain, Reading { celsius: 21 });
-    let waiting = blocked(&rt, sent);
+    let first = deliver(&rt, &mut domain, &publisher, 20);
+    let waiting = block(&rt, &mut domain, &publisher, 21);
     let key = waiting.key();
-    let waiting = blocked(&rt, waiting.retry(&mut domain, Duration::ZERO));
+    let waiting = blocked_again(&rt, &mut domain, waiting);
     let again = waiting.key();
-    let waiting = blocked(&rt, waiting.retry(&mut domain, Duration::ZERO));
-    let is_blocked = publisher.is_blocked(&domain);
+    let waiting = blocked_again(&rt, &mut domain, waiting);
+    let is_blocked = has_blocked_send(&rt, &domain, &publisher);
     let read = next_reading(&rt, &mut domain, &subscriber);
-    let second = delivered(&rt, waiting.retry(&mut domain, Duration::ZERO));
+    let second = delivered_at_last(&rt, &mut domain, waiting);
     let last = next_reading(&rt, &mut domain, &subscriber);
     let nothing = next_reading(&rt, &mut domain, &subscriber);
     subscriber.disown();
@@ -110,23 +139,21 @@ fn a_retry_goes_on_where_the_send_waits(rt: HostRuntime) {
     let second = subscriber_of(&rt, &mut domain, 1);
     let third = subscriber_of(&rt, &mut domain, 1);
     let publisher = waiting_publisher(&rt, &mut domain);
-    let sent = publisher.send_copy(&mut domain, Reading { celsius: 20 });
-    let to_all = delivered(&rt, sent);
-    let sent = publisher.send_copy(&mut domain, Reading { celsius: 21 });
+    let to_all = deliver(&rt, &mut domain, &publisher, 20);
+    let waiting = block(&rt, &mut domain, &publisher, 21);
     publisher.disown();
-    let waiting = blocked(&rt, sent);
     let before = [
         next_reading(&rt, &mut domain, &wide),
         next_reading(&rt, &mut domain, &wide),
         next_reading(&rt, &mut domain, &second),
     ];
-    let waiting = blocked(&rt, waiting.retry(&mut domain, Duration::ZERO));
+    let waiting = blocked_again(&rt, &mut domain, waiting);
     let between = [
         next_reading(&rt, &mut domain, &wide),
         next_reading(&rt, &mut domain, &second),
         next_reading(&rt, &mut domain, &third),
     ];
-    let takers = delivered(&rt, waiting.retry(&mut domain, Duration::ZERO));
+    let takers = delivered_at_last(&rt, &mut domain, waiting);
     let after = [
         next_reading(&rt, &mut domain, &wide),
         next_reading(&rt, &mut domain, &second),
@@ -149,15 +176,13 @@ fn giving_up_passes_a_full_subscriber_over(rt: HostRuntime) {
     let second = subscriber_of(&rt, &mut domain, 1);
     let wide = subscriber_of(&rt, &mut domain, 2);
     let publisher = waiting_publisher(&rt, &mut domain);
-    let sent = publisher.send_copy(&mut domain, Reading { celsius: 20 });
-    let to_all = delivered(&rt, sent);
-    let sent = publisher.send_copy(&mut domain, Reading { celsius: 21 });
-    let waiting = blocked(&rt, sent);
+    let to_all = deliver(&rt, &mut domain, &publisher, 20);
+    let waiting = block(&rt, &mut domain, &publisher, 21);
     let key = waiting.key();
-    let waiting = blocked(&rt, waiting.give_up(&mut domain));
+    let waiting = blocked(&rt, give_up(&rt, &mut domain, waiting));
     let names_the_same = waiting.key() == key;
-    let takers = delivered(&rt, waiting.give_up(&mut domain));
-    let is_blocked = publisher.is_blocked(&domain);
+    let takers = given_up(&rt, &mut domain, waiting);
+    let is_blocked = has_blocked_send(&rt, &domain, &publisher);
     publisher.disown();
     let read = [
         next_reading(&rt, &mut domain, &first),
@@ -182,21 +207,18 @@ fn a_closed_subscriber_blocks_no_more(rt: HostRuntime) {
     let wide = subscriber_of(&rt, &mut domain, 2);
     let narrow = subscriber_of(&rt, &mut domain, 1);
     let publisher = waiting_publisher(&rt, &mut domain);
-    let sent = publisher.send_copy(&mut domain, Reading { celsius: 20 });
-    let to_both = delivered(&rt, sent);
-    let sent = publisher.send_copy(&mut domain, Reading { celsius: 21 });
-    let waiting = blocked(&rt, sent);
-    narrow.close(&mut domain);
-    let is_blocked = publisher.is_blocked(&domain);
-    let takers = delivered(&rt, waiting.retry(&mut domain, Duration::ZERO));
-    let sent = publisher.send_copy(&mut domain, Reading { celsius: 22 });
+    let to_both = deliver(&rt, &mut domain, &publisher, 20);
+    let waiting = block(&rt, &mut domain, &publisher, 21);
+    close_subscriber(&rt, &mut domain, narrow);
+    let is_blocked = has_blocked_send(&rt, &domain, &publisher);
+    let takers = delivered_at_last(&rt, &mut domain, waiting);
+    let waiting = block(&rt, &mut domain, &publisher, 22);
     publisher.disown();
-    let waiting = blocked(&rt, sent);
     let read = [
         next_reading(&rt, &mut domain, &wide),
         next_reading(&rt, &mut domain, &wide),
     ];
-    let later = delivered(&rt, waiting.retry(&mut domain, Duration::ZERO));
+    let later = delivered_at_last(&rt, &mut domain, waiting);
     let last = next_reading(&rt, &mut domain, &wide);
     wide.disown();
     drop(domain);
@@ -218,11 +240,9 @@ fn nothing_blocks_where_buffers_overflow(rt: HostRuntime) {
     );
     let subscriber = subscriber_of(&rt, &mut domain, 1);
     let publisher = waiting_publisher(&rt, &mut domain);
-    let sent = publisher.send_copy(&mut domain, Reading { celsius: 20 });
-    let first = delivered(&rt, sent);
-    let sent = publisher.send_copy(&mut domain, Reading { celsius: 21 });
-    let second = delivered(&rt, sent);
-    let is_blocked = publisher.is_blocked(&domain);
+    let first = deliver(&rt, &mut domain, &publisher, 20);
+    let second = deliver(&rt, &mut domain, &publisher, 21);
+    let is_blocked = has_blocked_send(&rt, &domain, &publisher);
     publisher.disown();
     let read = next_reading(&rt, &mut domain, &subscriber);
     let nothing = next_reading(&rt, &mut domain, &subscriber);
@@ -239,13 +259,11 @@ fn a_disowned_send_blocks_its_publisher(rt: HostRuntime) {
     let mut domain = waiting_domain(&rt, rt.alloc());
     let subscriber = subscriber_of(&rt, &mut domain, 1);
     let publisher = waiting_publisher(&rt, &mut domain);
-    let sent = publisher.send_copy(&mut domain, Reading { celsius: 20 });
-    let first = delivered(&rt, sent);
-    let sent = publisher.send_copy(&mut domain, Reading { celsius: 21 });
-    blocked(&rt, sent).disown();
+    let first = deliver(&rt, &mut domain, &publisher, 20);
+    block(&rt, &mut domain, &publisher, 21).disown();
     let read = next_reading(&rt, &mut domain, &subscriber);
     let nothing = next_reading(&rt, &mut domain, &subscriber);
-    let is_blocked = publisher.is_blocked(&domain);
+    let is_blocked = has_blocked_send(&rt, &domain, &publisher);
     let is_live = domain.holds_publisher(publisher.key());
     subscriber.disown();
     publisher.disown();

@@ -1,35 +1,13 @@
 //! What becomes of the slots and of the history of a publisher that waits.
-ghost use Rattle.iox2_pubsub.specs.Live.{IsBlockedSend, IsLiveSample, IsLiveSubscriber, IsNewIn, IsReadyPublisher, IsSingleValued, IsUnblocked, Stays, StaysBut, blocked_key, blocked_send, lender_key, received_sample};
-
 use crate::waiting_publishers::{
-    blocked, delivered, lend_one, next_reading, next_readings, send_past, subscriber_of,
-    waiting_domain, waiting_publisher,
+    assert_live, assert_ready, block, deliver, delivered_at_last, given_up, lend_one, next_reading,
+    next_readings, send_past, subscriber_of, waiting_domain, waiting_publisher,
 };
 use iox2_fixtures::{Reading, Station, settings};
 use iox2_pubsub::{BlockedSend, Domain, Publisher, Sample, Subscriber, UpdateConnections};
 use iox2_store::{LoanError, ServiceConfig};
 use std::alloc::Global;
 use std::process::Abort;
-use std::time::Duration;
-
-// Sends a message that nobody takes as often as this, since the one subscriber is full.
-fn send_past_often(
-    rt: &impl Abort,
-    domain: &mut Domain<Reading, Station>,
-    publisher: &Publisher,
-    rounds: u8,
-) -> usize
-    requires ready { IsReadyPublisher domain.old publisher.now }
-    requires single_valued { IsSingleValued domain.old }
-    ensures ready { IsReadyPublisher domain.new publisher.now }
-    ensures single_valued { IsSingleValued domain.new }
-{
-    if rounds == 0 {
-        return 0;
-    }
-    let takers = send_past(rt, domain, publisher, 21);
-    takers.saturating_add(send_past_often(rt, domain, publisher, rounds - 1))
-}
 
 // A message that was given up at its only subscriber has its slot no more, and is no loan: the
 // publisher has 3 * (2 + 2) + 0 + 2 = 14 slots, and lends as much as it may after 100 of them.
@@ -39,44 +17,42 @@ fn a_given_up_message_frees_its_slot(rt: HostRuntime) {
     let subscriber = subscriber_of(&rt, &mut domain, 1);
     subscriber.disown();
     let publisher = waiting_publisher(&rt, &mut domain);
-    let sent = publisher.send_copy(&mut domain, Reading { celsius: 20 });
-    let first = delivered(&rt, sent);
-    let later = send_past_often(&rt, &mut domain, &publisher, 100);
-    let lent = [
-        lend_one(&mut domain, &publisher),
-        lend_one(&mut domain, &publisher),
-        lend_one(&mut domain, &publisher),
-    ];
+    let first = deliver(&rt, &mut domain, &publisher, 20);
+    for _ in 0..100 {
+        let takers = send_past(&rt, &mut domain, &publisher, 21);
+        assert!(rt; takers == 0);
+    }
+    let lent = lend_three(&rt, &mut domain, &publisher);
     publisher.disown();
     drop(domain);
-    assert!(rt; [first, later] == [1, 0]);
+    assert!(rt; first == 1);
     assert!(rt; lent == [Ok(()), Ok(()), Err(LoanError::ExceedsMaxLoans)]);
 }
 
+// Asks for three loans, which aren't used.
+fn lend_three(
+    rt: &impl Abort,
+    domain: &mut Domain<Reading, Station>,
+    publisher: &Publisher,
+) -> [Result<(), LoanError>; 3] {
+    [
+        lend_one(rt, domain, publisher),
+        lend_one(rt, domain, publisher),
+        lend_one(rt, domain, publisher),
+    ]
+}
+
 // Receives a message, which waits.
-fn take(rt: &impl Abort, domain: &mut Domain<Reading, Station>, subscriber: &Subscriber) -> Sample
-    requires { IsLiveSubscriber domain.old subscriber.now }
-    ensures live { IsLiveSample domain.new result }
-    ensures new { IsNewIn domain.old (received_sample result) }
-    ensures stays { Stays domain.old domain.new }
-{
+fn take(rt: &impl Abort, domain: &mut Domain<Reading, Station>, subscriber: &Subscriber) -> Sample {
+    assert_live(rt, domain, subscriber);
     let received = subscriber.receive(domain).expect(rt, "an answer");
     received.expect(rt, "a message")
 }
 
-// Sends a message that no subscriber is too full for. Returns how many took it.
-fn send_freely(
-    rt: &impl Abort,
-    domain: &mut Domain<Reading, Station>,
-    publisher: &Publisher,
-    celsius: u64,
-) -> usize
-    requires ready { IsReadyPublisher domain.old publisher.now }
-    requires single_valued { IsSingleValued domain.old }
-    ensures { Stays domain.old domain.new }
-{
-    let sent = publisher.send_copy(domain, Reading { celsius });
-    delivered(rt, sent)
+// Gives a message back.
+fn release(rt: &impl Abort, domain: &mut Domain<Reading, Station>, sample: Sample) {
+    assert!(rt; domain.holds_sample(sample.key()));
+    sample.release(domain);
 }
 
 // Has the first subscriber borrow two messages and two more wait for it, of which the second has none
@@ -87,21 +63,14 @@ fn fill_apart(
     publisher: &Publisher,
     first: &Subscriber,
     second: &Subscriber,
-) -> [usize; 8]
-    requires ready { IsReadyPublisher domain.old publisher.now }
-    requires single_valued { IsSingleValued domain.old }
-    requires first { IsLiveSubscriber domain.old first.now }
-    requires second { IsLiveSubscriber domain.old second.now }
-    ensures ready { IsReadyPublisher domain.new publisher.now }
-    ensures single_valued { IsSingleValued domain.new }
-{
-    let sixth = send_freely(rt, domain, publisher, 6);
-    let seventh = send_freely(rt, domain, publisher, 7);
+) -> [usize; 8] {
+    let sixth = deliver(rt, domain, publisher, 6);
+    let seventh = deliver(rt, domain, publisher, 7);
     take(rt, domain, first).disown();
     take(rt, domain, first).disown();
     next_readings(rt, domain, second);
-    let eighth = send_freely(rt, domain, publisher, 8);
-    let ninth = send_freely(rt, domain, publisher, 9);
+    let eighth = deliver(rt, domain, publisher, 8);
+    let ninth = deliver(rt, domain, publisher, 9);
     next_readings(rt, domain, second);
     let tenth = send_past(rt, domain, publisher, 10);
     let eleventh = send_past(rt, domain, publisher, 11);
@@ -114,6 +83,36 @@ fn fill_apart(
     ]
 }
 
+// Has two subscribers borrow two messages each and two more wait for either, and blocks a send. They
+// give back all of these while it waits. Returns how often a message was taken.
+fn give_back_while_a_send_waits(
+    rt: &impl Abort,
+    domain: &mut Domain<Reading, Station>,
+    publisher: &Publisher,
+    first: &Subscriber,
+    second: &Subscriber,
+) -> [usize; 5] {
+    let one = deliver(rt, domain, publisher, 1);
+    let two = deliver(rt, domain, publisher, 2);
+    let first_borrowed = take(rt, domain, first);
+    let second_borrowed = take(rt, domain, second);
+    let first_later = take(rt, domain, first);
+    let second_later = take(rt, domain, second);
+    let three = deliver(rt, domain, publisher, 3);
+    let four = deliver(rt, domain, publisher, 4);
+    let waiting = block(rt, domain, publisher, 5);
+    release(rt, domain, second_later);
+    release(rt, domain, first_later);
+    release(rt, domain, second_borrowed);
+    release(rt, domain, first_borrowed);
+    let first_read = next_readings(rt, domain, first);
+    let second_read = next_readings(rt, domain, second);
+    let five = delivered_at_last(rt, domain, waiting);
+    assert!(rt; first_read == [Some(3), Some(4), None, None]);
+    assert!(rt; second_read == [Some(3), Some(4), None, None]);
+    [one, two, three, four, five]
+}
+
 // Two subscribers give back all that they may have borrowed and all that may have waited for them
 // while a send waits, 4 messages each, and after it the fifth. Then all of the 2 * (2 + 2) + 0 + 2 = 10
 // slots are used at a time: either subscriber has 4 messages that the other hasn't, and 2 are lent.
@@ -123,23 +122,7 @@ fn all_slots_come_back_while_a_send_waits(rt: HostRuntime) {
     let first = subscriber_of(&rt, &mut domain, 2);
     let second = subscriber_of(&rt, &mut domain, 2);
     let publisher = waiting_publisher(&rt, &mut domain);
-    let one = send_freely(&rt, &mut domain, &publisher, 1);
-    let two = send_freely(&rt, &mut domain, &publisher, 2);
-    let first_borrowed = take(&rt, &mut domain, &first);
-    let second_borrowed = take(&rt, &mut domain, &second);
-    let first_later = take(&rt, &mut domain, &first);
-    let second_later = take(&rt, &mut domain, &second);
-    let three = send_freely(&rt, &mut domain, &publisher, 3);
-    let four = send_freely(&rt, &mut domain, &publisher, 4);
-    let sent = publisher.send_copy(&mut domain, Reading { celsius: 5 });
-    let waiting = blocked(&rt, sent);
-    second_later.release(&mut domain);
-    first_later.release(&mut domain);
-    second_borrowed.release(&mut domain);
-    first_borrowed.release(&mut domain);
-    let first_read = next_readings(&rt, &mut domain, &first);
-    let second_read = next_readings(&rt, &mut domain, &second);
-    let five = delivered(&rt, waiting.retry(&mut domain, Duration::ZERO));
+    let together = give_back_while_a_send_waits(&rt, &mut domain, &publisher, &first, &second);
     let last_read = [
         next_reading(&rt, &mut domain, &first),
         next_reading(&rt, &mut domain, &second),
@@ -147,16 +130,10 @@ fn all_slots_come_back_while_a_send_waits(rt: HostRuntime) {
     let apart = fill_apart(&rt, &mut domain, &publisher, &first, &second);
     first.disown();
     second.disown();
-    let lent = [
-        lend_one(&mut domain, &publisher),
-        lend_one(&mut domain, &publisher),
-        lend_one(&mut domain, &publisher),
-    ];
+    let lent = lend_three(&rt, &mut domain, &publisher);
     publisher.disown();
     drop(domain);
-    assert!(rt; [one, two, three, four, five] == [2, 2, 2, 2, 2]);
-    assert!(rt; first_read == [Some(3), Some(4), None, None]);
-    assert!(rt; second_read == [Some(3), Some(4), None, None]);
+    assert!(rt; together == [2, 2, 2, 2, 2]);
     assert!(rt; last_read == [Some(5), Some(5)]);
     assert!(rt; apart == [2, 2, 2, 2, 1, 1, 1, 1]);
     assert!(rt; lent == [Ok(()), Ok(()), Err(LoanError::ExceedsMaxLoans)]);
@@ -164,9 +141,11 @@ fn all_slots_come_back_while_a_send_waits(rt: HostRuntime) {
 
 // A domain of one publisher, which waits for a full subscriber and keeps so many messages, and of two
 // subscribers.
-fn two_subscribers(rt: &impl Abort, alloc: Global, history_size: usize) -> Domain<Reading, Station>
-    ensures { IsSingleValued result }
-{
+fn two_subscribers(
+    rt: &impl Abort,
+    alloc: Global,
+    history_size: usize,
+) -> Domain<Reading, Station> {
     let config = ServiceConfig {
         max_subscribers: 2,
         history_size,
@@ -181,15 +160,11 @@ fn end(
     domain: &mut Domain<Reading, Station>,
     waiting: BlockedSend,
     gives_up: bool,
-) -> usize
-    requires { IsBlockedSend domain.old waiting }
-    ensures unblocked { IsUnblocked domain.new (lender_key (blocked_key waiting)) }
-    ensures stays { StaysBut (blocked_send waiting) domain.old domain.new }
-{
+) -> usize {
     if gives_up {
-        delivered(rt, waiting.give_up(domain))
+        given_up(rt, domain, waiting)
     } else {
-        delivered(rt, waiting.retry(domain, Duration::ZERO))
+        delivered_at_last(rt, domain, waiting)
     }
 }
 
@@ -203,15 +178,15 @@ fn readings_of_a_late_subscriber(
     let mut domain = two_subscribers(rt, alloc, 1);
     let first = subscriber_of(rt, &mut domain, 1);
     let publisher = waiting_publisher(rt, &mut domain);
-    let takers = send_freely(rt, &mut domain, &publisher, 21);
+    let takers = deliver(rt, &mut domain, &publisher, 21);
     assert!(rt; takers == 1);
-    let sent = publisher.send_copy(&mut domain, Reading { celsius: 22 });
-    let waiting = blocked(rt, sent);
+    let waiting = block(rt, &mut domain, &publisher, 22);
     let late = subscriber_of(rt, &mut domain, 1);
     let before = next_reading(rt, &mut domain, &late);
     let old = next_reading(rt, &mut domain, &first);
     end(rt, &mut domain, waiting, gives_up);
     let between = next_reading(rt, &mut domain, &late);
+    assert_ready(rt, &domain, &publisher);
     let updated = publisher.update_connections(&mut domain).is_ok();
     publisher.disown();
     assert!(rt; updated);

@@ -1,12 +1,13 @@
 //! Publishers whose handler is a box.
 ghost use Rattle.std.specs.Prelude.{◌≡◌, nat_lt, cond};
-ghost use Rattle.std.specs.declared.result.Result.TheVariants.{Ok};
-ghost use Rattle.iox2_pubsub.specs.Live.{IsNewIn, IsReadyPublisher, IsSingleValued, Stays, publisher_port};
 ghost use Rattle.iox2_store.specs.declared.backpressure.BackpressureAction.TheVariants.{Retry, DiscardDataAndFail};
 
 use crate::blocked_slices::slices;
 use crate::handlers::failed;
-use crate::waiting_publishers::{blocked, delivered, next_reading, subscriber_of, waiting_domain};
+use crate::waiting_publishers::{
+    block, blocked, close_publisher, close_subscriber, deliver, delivered, given_up,
+    has_blocked_send, next_reading, retry, send, subscriber_of, waiting_domain,
+};
 use iox2_fixtures::{Reading, Station};
 use iox2_pubsub::{
     BackpressureAction, BackpressureFn, BackpressureHandler, BackpressureInfo,
@@ -40,11 +41,7 @@ fn patient_publisher(
     alloc: Global,
     domain: &mut Domain<Reading, Station>,
     retries: u64,
-) -> Publisher
-    ensures ready { IsReadyPublisher domain.new result }
-    ensures new { IsNewIn domain.old (publisher_port result) }
-    ensures stays { Stays domain.old domain.new }
-{
+) -> Publisher {
     let patience: Box<dyn BackpressureFn> = Box::new(alloc, Patience { retries }).expect(
         rt, "memory",
     );
@@ -60,13 +57,17 @@ fn a_box_waits_twice_and_fails_the_send_then(rt: HostRuntime) {
     let mut domain = waiting_domain(&rt, rt.alloc());
     let subscriber = subscriber_of(&rt, &mut domain, 1);
     let publisher = patient_publisher(&rt, rt.alloc(), &mut domain, 2);
-    let sent = publisher.send_copy(&mut domain, Reading { celsius: 1 });
-    let first = delivered(&rt, sent);
-    let sent = publisher.send_copy(&mut domain, Reading { celsius: 2 });
-    let waiting = blocked(&rt, sent);
-    let waiting = blocked(&rt, waiting.retry(&mut domain, Duration::from_millis(5)));
-    let error = failed(&rt, waiting.retry(&mut domain, Duration::from_millis(9)));
-    let is_blocked = publisher.is_blocked(&domain);
+    let first = deliver(&rt, &mut domain, &publisher, 1);
+    let waiting = block(&rt, &mut domain, &publisher, 2);
+    let waiting = blocked(
+        &rt,
+        retry(&rt, &mut domain, waiting, Duration::from_millis(5)),
+    );
+    let error = failed(
+        &rt,
+        retry(&rt, &mut domain, waiting, Duration::from_millis(9)),
+    );
+    let is_blocked = has_blocked_send(&rt, &domain, &publisher);
     let read = next_reading(&rt, &mut domain, &subscriber);
     let nothing = next_reading(&rt, &mut domain, &subscriber);
     publisher.disown();
@@ -83,11 +84,9 @@ fn what_a_box_waits_for_is_given_up(rt: HostRuntime) {
     let mut domain = waiting_domain(&rt, rt.alloc());
     let subscriber = subscriber_of(&rt, &mut domain, 1);
     let publisher = patient_publisher(&rt, rt.alloc(), &mut domain, 2);
-    let sent = publisher.send_copy(&mut domain, Reading { celsius: 1 });
-    let first = delivered(&rt, sent);
-    let sent = publisher.send_copy(&mut domain, Reading { celsius: 2 });
-    let waiting = blocked(&rt, sent);
-    let second = delivered(&rt, waiting.give_up(&mut domain));
+    let first = deliver(&rt, &mut domain, &publisher, 1);
+    let waiting = block(&rt, &mut domain, &publisher, 2);
+    let second = given_up(&rt, &mut domain, waiting);
     publisher.disown();
     subscriber.disown();
     drop(domain);
@@ -100,12 +99,13 @@ fn no_box_is_asked_about_a_closed_subscriber(rt: HostRuntime) {
     let mut domain = waiting_domain(&rt, rt.alloc());
     let subscriber = subscriber_of(&rt, &mut domain, 1);
     let publisher = patient_publisher(&rt, rt.alloc(), &mut domain, 2);
-    let sent = publisher.send_copy(&mut domain, Reading { celsius: 1 });
-    let first = delivered(&rt, sent);
-    let sent = publisher.send_copy(&mut domain, Reading { celsius: 2 });
-    let waiting = blocked(&rt, sent);
-    subscriber.close(&mut domain);
-    let second = delivered(&rt, waiting.retry(&mut domain, Duration::from_millis(5)));
+    let first = deliver(&rt, &mut domain, &publisher, 1);
+    let waiting = block(&rt, &mut domain, &publisher, 2);
+    close_subscriber(&rt, &mut domain, subscriber);
+    let second = delivered(
+        &rt,
+        retry(&rt, &mut domain, waiting, Duration::from_millis(5)),
+    );
     publisher.disown();
     drop(domain);
     assert!(rt; [first, second] == [1, 0]);
@@ -119,25 +119,19 @@ fn each_publisher_asks_its_own_box(rt: HostRuntime) {
     let subscriber = subscriber_of(&rt, &mut domain, 1);
     let patient = patient_publisher(&rt, rt.alloc(), &mut domain, 1);
     let hasty = patient_publisher(&rt, rt.alloc(), &mut domain, 0);
-    let sent = hasty.send_copy(&mut domain, Reading { celsius: 1 });
-    let first = delivered(&rt, sent);
-    let sent = hasty.send_copy(&mut domain, Reading { celsius: 2 });
-    let of_hasty = failed(&rt, sent);
-    let sent = patient.send_copy(&mut domain, Reading { celsius: 3 });
-    let second = delivered(&rt, sent);
-    let sent = patient.send_copy(&mut domain, Reading { celsius: 4 });
-    let waiting = blocked(&rt, sent);
-    let of_patient = failed(&rt, waiting.retry(&mut domain, Duration::ZERO));
-    hasty.close(&mut domain);
+    let first = deliver(&rt, &mut domain, &hasty, 1);
+    let of_hasty = failed(&rt, send(&rt, &mut domain, &hasty, 2));
+    let second = deliver(&rt, &mut domain, &patient, 3);
+    let waiting = block(&rt, &mut domain, &patient, 4);
+    let of_patient = failed(&rt, retry(&rt, &mut domain, waiting, Duration::ZERO));
+    close_publisher(&rt, &mut domain, hasty);
     let plain = domain
         .publisher_builder()
         .create(&mut domain)
         .expect(&rt, "a publisher");
-    let sent = plain.send_copy(&mut domain, Reading { celsius: 5 });
-    let third = delivered(&rt, sent);
-    let sent = plain.send_copy(&mut domain, Reading { celsius: 6 });
-    let waiting = blocked(&rt, sent);
-    let fourth = delivered(&rt, waiting.give_up(&mut domain));
+    let third = deliver(&rt, &mut domain, &plain, 5);
+    let waiting = block(&rt, &mut domain, &plain, 6);
+    let fourth = given_up(&rt, &mut domain, waiting);
     patient.disown();
     plain.disown();
     subscriber.disown();

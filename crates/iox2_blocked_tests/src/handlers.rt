@@ -1,14 +1,15 @@
 //! Publishers whose handler says what becomes of a message at a full subscriber.
 ghost use Rattle.std.specs.Prelude.{◌≡◌};
 ghost use Rattle.std.specs.declared.result.Result.TheVariants.{Err};
-ghost use Rattle.iox2_pubsub.specs.Live.{IsReadyPublisher, Stays};
 
-use crate::waiting_publishers::{blocked, delivered, next_reading, subscriber_of, waiting_domain};
+use crate::waiting_publishers::{
+    block, blocked_again, deliver, delivered_at_last, given_up, has_blocked_send, next_reading,
+    send, subscriber_of, waiting_domain,
+};
 use iox2_fixtures::{Reading, Station};
 use iox2_pubsub::{BackpressureHandler, Domain, Publisher, SendError, SendOutcome};
 use iox2_store::{BackpressureAction, BackpressureStrategy};
 use std::process::Abort;
-use std::time::Duration;
 
 // A publisher with a handler that always gives this answer, in place of the strategy.
 fn publisher_with(
@@ -16,10 +17,7 @@ fn publisher_with(
     domain: &mut Domain<Reading, Station>,
     strategy: BackpressureStrategy,
     action: BackpressureAction,
-) -> Publisher
-    ensures ready { IsReadyPublisher domain.new result }
-    ensures stays { Stays domain.old domain.new }
-{
+) -> Publisher {
     let factory = domain
         .publisher_builder()
         .backpressure_strategy(strategy)
@@ -53,11 +51,9 @@ fn a_handler_fails_a_send_at_a_full_subscriber(rt: HostRuntime) {
         BackpressureStrategy::RetryUntilDelivered,
         BackpressureAction::DiscardDataAndFail,
     );
-    let sent = publisher.send_copy(&mut domain, Reading { celsius: 20 });
-    let count = delivered(&rt, sent);
-    let sent = publisher.send_copy(&mut domain, Reading { celsius: 21 });
-    let error = failed(&rt, sent);
-    let is_blocked = publisher.is_blocked(&domain);
+    let count = deliver(&rt, &mut domain, &publisher, 20);
+    let error = failed(&rt, send(&rt, &mut domain, &publisher, 21));
+    let is_blocked = has_blocked_send(&rt, &domain, &publisher);
     let narrow_first = next_reading(&rt, &mut domain, &narrow);
     let narrow_second = next_reading(&rt, &mut domain, &narrow);
     let wide_first = next_reading(&rt, &mut domain, &wide);
@@ -83,13 +79,11 @@ fn a_handler_blocks_a_send_of_a_publisher_that_would_discard(rt: HostRuntime) {
         BackpressureStrategy::DiscardData,
         BackpressureAction::Retry,
     );
-    let sent = publisher.send_copy(&mut domain, Reading { celsius: 20 });
-    let first = delivered(&rt, sent);
-    let sent = publisher.send_copy(&mut domain, Reading { celsius: 21 });
-    let waiting = blocked(&rt, sent);
-    let waiting = blocked(&rt, waiting.retry(&mut domain, Duration::ZERO));
+    let first = deliver(&rt, &mut domain, &publisher, 20);
+    let waiting = block(&rt, &mut domain, &publisher, 21);
+    let waiting = blocked_again(&rt, &mut domain, waiting);
     let read = next_reading(&rt, &mut domain, &subscriber);
-    let second = delivered(&rt, waiting.retry(&mut domain, Duration::ZERO));
+    let second = delivered_at_last(&rt, &mut domain, waiting);
     publisher.disown();
     subscriber.disown();
     drop(domain);
@@ -107,10 +101,8 @@ fn a_handler_discards_for_a_publisher_that_would_wait(rt: HostRuntime) {
         BackpressureStrategy::RetryUntilDelivered,
         BackpressureAction::DiscardData,
     );
-    let sent = publisher.send_copy(&mut domain, Reading { celsius: 20 });
-    let first = delivered(&rt, sent);
-    let sent = publisher.send_copy(&mut domain, Reading { celsius: 21 });
-    let second = delivered(&rt, sent);
+    let first = deliver(&rt, &mut domain, &publisher, 20);
+    let second = deliver(&rt, &mut domain, &publisher, 21);
     let read = next_reading(&rt, &mut domain, &subscriber);
     let nothing = next_reading(&rt, &mut domain, &subscriber);
     publisher.disown();
@@ -133,15 +125,11 @@ fn a_partial_clone_of_a_factory_has_no_handler(rt: HostRuntime) {
     let plain = factory.internal_partial_clone();
     let failing = factory.create(&mut domain).expect(&rt, "a publisher");
     let waiting = plain.create(&mut domain).expect(&rt, "a publisher");
-    let sent = waiting.send_copy(&mut domain, Reading { celsius: 20 });
-    let first = delivered(&rt, sent);
-    let sent = failing.send_copy(&mut domain, Reading { celsius: 21 });
-    let second = delivered(&rt, sent);
-    let sent = failing.send_copy(&mut domain, Reading { celsius: 22 });
-    let error = failed(&rt, sent);
-    let sent = waiting.send_copy(&mut domain, Reading { celsius: 23 });
-    let send = blocked(&rt, sent);
-    let third = delivered(&rt, send.give_up(&mut domain));
+    let first = deliver(&rt, &mut domain, &waiting, 20);
+    let second = deliver(&rt, &mut domain, &failing, 21);
+    let error = failed(&rt, send(&rt, &mut domain, &failing, 22));
+    let send = block(&rt, &mut domain, &waiting, 23);
+    let third = given_up(&rt, &mut domain, send);
     failing.disown();
     waiting.disown();
     subscriber.disown();

@@ -1,13 +1,17 @@
-//! What tests of publishers that wait for a full subscriber start from.
-ghost use Rattle.std.specs.Prelude.{◌≡◌};
+//! What tests of publishers that wait for a full subscriber start from, and the calls that they make.
+//!
+//! These calls test at run time what they ask of their handles, so that a test of many of them has
+//! nothing to carry from one call to the next.
+ghost use Rattle.std.specs.Prelude.{◌≡◌, false};
 ghost use Rattle.std.specs.declared.result.Result.TheVariants.{Ok};
-ghost use Rattle.iox2_pubsub.specs.Live.{A_blocked_send, IsLiveSubscriber, IsNewIn, IsReadyPublisher, IsSingleValued, Stays, StaysBut, subscriber_port};
+ghost use Rattle.iox2_pubsub.specs.Live.{IsBlockedSend, IsLiveSubscriber, IsReadyPublisher, IsSingleValued, Stays};
 
 use iox2_fixtures::{Reading, Station, settings};
 use iox2_pubsub::{BlockedSend, Domain, LoanError, Publisher, SendError, SendOutcome, Subscriber};
-use iox2_store::ServiceConfig;
+use iox2_store::{ServiceConfig, TypeVariant};
 use std::alloc::Global;
 use std::process::Abort;
+use std::time::Duration;
 
 /// A domain of two publishers, which wait for a full subscriber, and of three subscribers. It keeps
 /// no history.
@@ -38,7 +42,6 @@ pub(crate) fn subscriber_of(
     buffer_size: usize,
 ) -> Subscriber
     ensures live { IsLiveSubscriber domain.new result }
-    ensures new { IsNewIn domain.old (subscriber_port result) }
     ensures stays { Stays domain.old domain.new }
 {
     let factory = domain.subscriber_builder().buffer_size(buffer_size);
@@ -70,34 +73,141 @@ pub(crate) fn delivered(rt: &impl Abort, sent: Result<SendOutcome, SendError>) -
     }
 }
 
-/// Reads and releases what the subscriber receives next. `None` where no message waits.
-pub(crate) fn next_reading(
-    rt: &impl Abort,
-    domain: &mut Domain<Reading, Station>,
-    subscriber: &Subscriber,
-) -> Option<u64>
-    requires single_valued { IsSingleValued domain.old }
-    requires live { IsLiveSubscriber domain.old subscriber.now }
-    ensures { Stays domain.old domain.new }
+// ---- what a call asks for is tested
+
+/// Asserts that messages are single values.
+pub(crate) fn assert_single_valued(rt: &impl Abort, domain: &Domain<Reading, Station>)
+    ensures { IsSingleValued domain.now }
 {
-    iox2_fixtures::next_reading(domain, subscriber).expect(rt, "an answer")
+    let config = domain.config();
+    assert!(rt; matches!(config.variant, TypeVariant::FixedSize));
+    assert!(rt; config.units_per_element == 1);
 }
 
-/// What the subscriber receives next, up to four messages.
-pub(crate) fn next_readings(
+/// Asserts that the publisher is one of the domain's that has no blocked send.
+pub(crate) fn assert_ready(
+    rt: &impl Abort,
+    domain: &Domain<Reading, Station>,
+    publisher: &Publisher,
+)
+    ensures { IsReadyPublisher domain.now publisher.now }
+{
+    assert!(rt; !has_blocked_send(rt, domain, publisher));
+}
+
+/// Asserts that the subscriber is one of the domain's.
+pub(crate) fn assert_live(
+    rt: &impl Abort,
+    domain: &Domain<Reading, Station>,
+    subscriber: &Subscriber,
+)
+    ensures { IsLiveSubscriber domain.now subscriber.now }
+{
+    assert!(rt; domain.holds_subscriber(subscriber.key()));
+}
+
+/// Asserts that the send is one of the domain's that is blocked.
+pub(crate) fn assert_blocked(
+    rt: &impl Abort,
+    domain: &Domain<Reading, Station>,
+    waiting: &BlockedSend,
+)
+    ensures { IsBlockedSend domain.now waiting.now }
+{
+    assert!(rt; domain.holds_blocked(waiting.key()));
+}
+
+/// Whether a send of the publisher is blocked, which is one of the domain's.
+pub(crate) fn has_blocked_send(
+    rt: &impl Abort,
+    domain: &Domain<Reading, Station>,
+    publisher: &Publisher,
+) -> bool
+    ensures { result ≡ false → IsReadyPublisher domain.now publisher.now }
+{
+    assert!(rt; domain.holds_publisher(publisher.key()));
+    publisher.is_blocked(domain)
+}
+
+/// Sends a value.
+pub(crate) fn send(
     rt: &impl Abort,
     domain: &mut Domain<Reading, Station>,
-    subscriber: &Subscriber,
-) -> [Option<u64>; 4]
-    requires single_valued { IsSingleValued domain.old }
-    requires live { IsLiveSubscriber domain.old subscriber.now }
-    ensures { Stays domain.old domain.new }
-{
-    let first = next_reading(rt, domain, subscriber);
-    let second = next_reading(rt, domain, subscriber);
-    let third = next_reading(rt, domain, subscriber);
-    let fourth = next_reading(rt, domain, subscriber);
-    [first, second, third, fourth]
+    publisher: &Publisher,
+    celsius: u64,
+) -> Result<SendOutcome, SendError> {
+    assert_single_valued(rt, domain);
+    assert_ready(rt, domain, publisher);
+    publisher.send_copy(domain, Reading { celsius })
+}
+
+/// Tries a blocked send again.
+pub(crate) fn retry(
+    rt: &impl Abort,
+    domain: &mut Domain<Reading, Station>,
+    waiting: BlockedSend,
+    elapsed: Duration,
+) -> Result<SendOutcome, SendError> {
+    assert_blocked(rt, domain, &waiting);
+    waiting.retry(domain, elapsed)
+}
+
+/// Gives up the subscriber that a blocked send waits for.
+pub(crate) fn give_up(
+    rt: &impl Abort,
+    domain: &mut Domain<Reading, Station>,
+    waiting: BlockedSend,
+) -> Result<SendOutcome, SendError> {
+    assert_blocked(rt, domain, &waiting);
+    waiting.give_up(domain)
+}
+
+/// Sends a value that isn't blocked. Returns how many subscribers took it.
+pub(crate) fn deliver(
+    rt: &impl Abort,
+    domain: &mut Domain<Reading, Station>,
+    publisher: &Publisher,
+    celsius: u64,
+) -> usize {
+    delivered(rt, send(rt, domain, publisher, celsius))
+}
+
+/// Sends a value, which is blocked.
+pub(crate) fn block(
+    rt: &impl Abort,
+    domain: &mut Domain<Reading, Station>,
+    publisher: &Publisher,
+    celsius: u64,
+) -> BlockedSend {
+    blocked(rt, send(rt, domain, publisher, celsius))
+}
+
+/// Tries a send again that isn't blocked then. Returns how many subscribers took it.
+pub(crate) fn delivered_at_last(
+    rt: &impl Abort,
+    domain: &mut Domain<Reading, Station>,
+    waiting: BlockedSend,
+) -> usize {
+    delivered(rt, retry(rt, domain, waiting, Duration::ZERO))
+}
+
+/// Tries a send again that stays blocked.
+pub(crate) fn blocked_again(
+    rt: &impl Abort,
+    domain: &mut Domain<Reading, Station>,
+    waiting: BlockedSend,
+) -> BlockedSend {
+    blocked(rt, retry(rt, domain, waiting, Duration::ZERO))
+}
+
+/// Gives up the subscriber that a send waits for, which isn't blocked then. Returns how many
+/// subscribers took it.
+pub(crate) fn given_up(
+    rt: &impl Abort,
+    domain: &mut Domain<Reading, Station>,
+    waiting: BlockedSend,
+) -> usize {
+    delivered(rt, give_up(rt, domain, waiting))
 }
 
 /// Sends a message that one subscriber isn't given, since it is full. Returns how many took it.
@@ -106,27 +216,66 @@ pub(crate) fn send_past(
     domain: &mut Domain<Reading, Station>,
     publisher: &Publisher,
     celsius: u64,
-) -> usize
-    requires ready { IsReadyPublisher domain.old publisher.now }
-    requires single_valued { IsSingleValued domain.old }
-    ensures ready { IsReadyPublisher domain.new publisher.now }
-    ensures stays { StaysBut (A_blocked_send publisher.now.id) domain.old domain.new }
+) -> usize {
+    let waiting = block(rt, domain, publisher, celsius);
+    given_up(rt, domain, waiting)
+}
+
+/// Reads and releases what the subscriber receives next. `None` where no message waits.
+pub(crate) fn next_reading(
+    rt: &impl Abort,
+    domain: &mut Domain<Reading, Station>,
+    subscriber: &Subscriber,
+) -> Option<u64>
+    ensures { Stays domain.old domain.new }
 {
-    let sent = publisher.send_copy(domain, Reading { celsius });
-    let waiting = blocked(rt, sent);
-    delivered(rt, waiting.give_up(domain))
+    assert_single_valued(rt, domain);
+    assert_live(rt, domain, subscriber);
+    iox2_fixtures::next_reading(domain, subscriber).expect(rt, "an answer")
+}
+
+/// What the subscriber receives next, up to four messages.
+pub(crate) fn next_readings(
+    rt: &impl Abort,
+    domain: &mut Domain<Reading, Station>,
+    subscriber: &Subscriber,
+) -> [Option<u64>; 4] {
+    let first = next_reading(rt, domain, subscriber);
+    let second = next_reading(rt, domain, subscriber);
+    let third = next_reading(rt, domain, subscriber);
+    let fourth = next_reading(rt, domain, subscriber);
+    [first, second, third, fourth]
 }
 
 /// Asks for a loan, which isn't used.
 pub(crate) fn lend_one(
+    rt: &impl Abort,
     domain: &mut Domain<Reading, Station>,
     publisher: &Publisher,
-) -> Result<(), LoanError>
-    requires ready { IsReadyPublisher domain.old publisher.now }
-    requires single_valued { IsSingleValued domain.old }
-    ensures { Stays domain.old domain.new }
-{
+) -> Result<(), LoanError> {
+    assert_single_valued(rt, domain);
+    assert_ready(rt, domain, publisher);
     let loan = publisher.loan_uninit(domain)?;
     loan.disown();
     Ok(())
+}
+
+/// Closes a publisher that has no blocked send.
+pub(crate) fn close_publisher(
+    rt: &impl Abort,
+    domain: &mut Domain<Reading, Station>,
+    publisher: Publisher,
+) {
+    assert_ready(rt, domain, &publisher);
+    publisher.close(domain);
+}
+
+/// Closes a subscriber.
+pub(crate) fn close_subscriber(
+    rt: &impl Abort,
+    domain: &mut Domain<Reading, Station>,
+    subscriber: Subscriber,
+) {
+    assert_live(rt, domain, &subscriber);
+    subscriber.close(domain);
 }
