@@ -1,6 +1,8 @@
 //! What several tests start from.
 
 ghost use Rattle.std.specs.Prelude.{◌≡◌, None};
+ghost use Rattle.iox2_store.specs.declared.degradation.DegradationAction.TheVariants.{Warn};
+ghost use Rattle.iox2_store.specs.machine.Records.{Fixed};
 
 use iox2_pubsub::{Domain, slice};
 use iox2_store::BackpressureStrategy;
@@ -11,6 +13,7 @@ pub(crate) fn slice_factory<T: Drop, U: Default + Drop>(
 ) -> slice::PortFactoryPublisher
     ensures strategy { result.settings.backpressure_strategy ≡ BackpressureStrategy.DiscardData }
     ensures handler { result.settings.backpressure_handler ≡ None }
+    ensures degradation { result.settings.degradation_handler ≡ Fixed Warn }
 {
     domain
         .slice_publisher_builder()

@@ -8,8 +8,8 @@ ghost use Rattle.iox2_pubsub.specs.Live.{IsLivePublisher, IsLiveSubscriber, IsUn
 use crate::fixtures::slice_factory;
 use iox2_fixtures::{receiver_count, settings};
 use iox2_pubsub::slice::{Publisher, SampleMut, SampleMutUninit, Subscriber};
-use iox2_pubsub::{Domain, UpdateConnections};
-use iox2_store::{LoanError, PublisherCreateError, ServiceConfig, TypeVariant};
+use iox2_pubsub::{DegradationHandler, Domain, UpdateConnections};
+use iox2_store::{DegradationAction, LoanError, PublisherCreateError, ServiceConfig, TypeVariant};
 use std::process::Abort;
 
 /// A payload that is neither `Copy` nor `Clone`.
@@ -380,4 +380,27 @@ fn slices_that_no_segment_holds_are_refused(rt: HostRuntime) {
     let created = created.map(|publisher| publisher.disown());
     drop(domain);
     assert!(rt; created == Err(PublisherCreateError::UnableToCreateDataSegment));
+}
+
+#[test]
+fn slices_arrive_whatever_a_refused_connection_would_do(rt: HostRuntime) {
+    let mut domain: Domain<u64, u64> = Domain::new(rt.alloc(), slices()).expect(&rt, "a domain");
+    let handler = DegradationHandler::new_with(DegradationAction::DegradeAndFail);
+    let factory = domain
+        .slice_subscriber_builder()
+        .set_degradation_handler(handler);
+    let subscriber = factory.create(&mut domain).expect(&rt, "a subscriber");
+    let factory = domain
+        .slice_publisher_builder()
+        .set_degradation_handler(handler);
+    let publisher = factory.create(&mut domain).expect(&rt, "a publisher");
+    let message = publisher.loan_slice(&mut domain, 1).expect(&rt, "a loan");
+    let sent = message.send(&mut domain).expect(&rt, "a send");
+    let count = receiver_count(sent);
+    let read = read_next(&rt, &mut domain, &subscriber, &[0]);
+    publisher.disown();
+    subscriber.disown();
+    drop(domain);
+    assert!(rt; count == Some(1));
+    assert!(rt; read == (true, 1));
 }

@@ -15,6 +15,7 @@ pub mod SentMessages
 pub mod OverflowSends
 pub mod PassingSends
 pub mod UnfailedSends
+pub mod SteadyUpdates
 pub mod SendShown
 pub mod AlwaysShows
 pub mod PublishersShown

@@ -10,7 +10,7 @@ use Rattle.iox2_store.specs.declared.header.Header.{Header}
 use Rattle.iox2_store.specs.declared.key.Key.{Key}
 use Rattle.iox2_store.specs.declared.service_config.TypeVariant.TheVariants.{FixedSize}
 use Rattle.iox2_domain.specs.Boxes.{box_of}
-use Rattle.iox2_domain.specs.Handlers.{may_fail}
+use Rattle.iox2_domain.specs.Handlers.{may_fail, may_fail_update}
 use Rattle.iox2_domain.specs.Kept.{Kept, state_of, entries_of}
 use Rattle.iox2_domain.specs.LoanCalls.{HasLoanHeader, HasLoanUserHeader}
 use Rattle.iox2_pubsub.specs.Handlers.{may_wait}
@@ -64,13 +64,14 @@ module _ {T U F : Type 0} (domain : Kept T U F) where
   abbrev pub Overflows : Type 0
   Overflows = (domain.config).enable_safe_overflow ≡ true
 
-  -- No handler of the publisher with this id fails a send, nor has it failed the one that is blocked: none is asked in a service
-  -- that overflows, and a publisher that was closed has none.
+  -- No handler of the publisher with this id fails a send, at a full buffer or where it can't make a connection, nor has it failed
+  -- the one that is blocked: none is asked of full buffers in a service that overflows, and a publisher that was closed has none.
   unfoldable pub NeverFails : (publisher : ℕ) → Type 0
   NeverFails publisher =
       (publisher < (state_of domain).next_port)
       × (Overflows ⊎ ((x : MachinePublisher) → (state_of domain).publishers publisher ≡ Some x → may_fail x.backpressure_handler ≡ false))
       × ((x : MachinePublisher) (b : MachineBlocked) → (state_of domain).publishers publisher ≡ Some x → x.blocked ≡ Some b → b.has_failed ≡ false)
+      × ((x : MachinePublisher) → (state_of domain).publishers publisher ≡ Some x → may_fail_update x.degradation_handler ≡ false)
 
   module _ (key : Key) where
     -- The key names a publisher of the domain that wasn't closed.

@@ -1,5 +1,6 @@
 //! Updates of a port's connections, by call.
 ghost use Rattle.std.specs.Prelude.{◌≡◌, ℕ};
+ghost use Rattle.iox2_pubsub.specs.UpdateCalls.{failure_of};
 
 use crate::domain::Domain;
 use iox2_store::{BackpressureFn, ConnectionFailure, DegradationFn};
@@ -32,7 +33,9 @@ pub trait UpdateConnections<T: Drop, U: Default + Drop, F: BackpressureFn, G: De
     ///
     /// Fails where there is no room to keep the connection of a publisher that departed: then it
     /// stays, the rest of the update is done, and the port is due again. Where memory for a
-    /// connection is refused, that is a warning of the domain.
+    /// connection is refused, the port's handler says what comes of that: nothing, a warning of the
+    /// domain, or that the update fails with `FailedToEstablishConnection(OutOfMemory)`, after the
+    /// rest of it is done. The first failure is returned.
     fn update_connections(&self, domain: &mut Domain<T, U, F, G>) -> Result<(), ConnectionFailure>
         requires { is_live domain.old self.now }
         ensures live { is_live domain.new self.now }
@@ -45,4 +48,14 @@ pub trait UpdateConnections<T: Drop, U: Default + Drop, F: BackpressureFn, G: De
 
     // A port that is live stays so where everything does.
     ghost live_stays: { (old new : Kept T U F) (port : Self) → Stays old new → is_live old port → is_live new port };
+}
+
+/// What an update with this failure, if any, returns.
+pub(crate) fn outcome_of(failure: Option<ConnectionFailure>) -> Result<(), ConnectionFailure>
+    ensures { failure_of result ≡ failure }
+{
+    match failure {
+        Some(failure) => Err(failure),
+        None => Ok(()),
+    }
 }

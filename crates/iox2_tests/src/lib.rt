@@ -5,6 +5,8 @@
 #[cfg(test)]
 mod closes;
 #[cfg(test)]
+mod degradations;
+#[cfg(test)]
 mod discards;
 #[cfg(test)]
 mod domains;

@@ -18,7 +18,7 @@ impl Publisher {
 
     /// Lends a message, moves the value into it, and sends it, as `send` does. Refused as
     /// `loan_uninit` is, with `SendError::LoanError`: the value is dropped then, and nothing changes.
-    /// Fails with `UnableToDeliver` as `send` does.
+    /// Fails with `ConnectionError` and `UnableToDeliver` as `send` does.
     ///
     /// iceoryx2's `Publisher::send_copy` (`src/port/publisher.rs`).
     pub fn send_copy<T: Drop, U: Default + Drop, F: BackpressureFn, G: DegradationFn>(

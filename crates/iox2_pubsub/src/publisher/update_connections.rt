@@ -2,7 +2,7 @@
 
 use crate::domain::Domain;
 use crate::publisher::Publisher;
-use crate::update_connections::UpdateConnections;
+use crate::update_connections::{UpdateConnections, outcome_of};
 use iox2_store::{BackpressureFn, ConnectionFailure, DegradationFn};
 use iox2_updates::update_publisher;
 
@@ -30,7 +30,6 @@ impl<T: Drop, U: Default + Drop, F: BackpressureFn, G: DegradationFn> UpdateConn
         let Some(place) = domain.state.find_publisher(self.id, self.place) else {
             unreachable!()
         };
-        update_publisher(&mut domain.state, place);
-        Ok(())
+        outcome_of(update_publisher(&mut domain.state, place))
     }
 }

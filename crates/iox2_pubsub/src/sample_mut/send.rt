@@ -30,13 +30,16 @@ impl SampleMut {
     /// subscriber. Returns how many subscribers took it, or the blocked send.
     ///
     /// Fails with `ConnectionBrokenSinceSenderNoLongerExists` where the publisher is gone: the message
-    /// is lost. Fails with `UnableToDeliver` where the publisher's handler failed the send at some
+    /// is lost. Fails with `ConnectionError` where memory for a connection with a new subscriber is
+    /// refused and the publisher's handler fails the call: the loan is given back, and no message was
+    /// sent. Fails with `UnableToDeliver` where the publisher's handler failed the send at some
     /// subscriber: the message was sent, and the others may have got it. No other error is returned.
     ///
     /// The loan counts among the publisher's loans until the send has ended. Its slot is free again
     /// when, besides, every subscriber that took the message has released it and no history keeps it.
     /// Memory is asked for only where the publisher gets a connection with a new subscriber: where it
-    /// is refused, that subscriber doesn't get the message, and the domain keeps a warning.
+    /// is refused and the send goes on, that subscriber doesn't get the message, and the domain keeps a
+    /// warning, as long as the publisher's handler says no other.
     ///
     /// iceoryx2's `SampleMut::send` (`src/sample_mut.rs`).
     pub fn send<T: Drop, U: Default + Drop, F: BackpressureFn, G: DegradationFn>(
@@ -93,6 +96,10 @@ pub(crate) fn outcome_of(blocked: BlockedSend, end: SendEnd) -> Result<SendOutco
         SendEnd::Lost => {
             blocked.disown();
             Err(SendError::ConnectionBrokenSinceSenderNoLongerExists)
+        }
+        SendEnd::Unconnected(failure) => {
+            blocked.disown();
+            Err(SendError::ConnectionError(failure))
         }
     }
 }

@@ -24,8 +24,7 @@ impl Subscriber {
     /// Fails with `ReceiveError::ExceedsMaxBorrows` where messages wait, but of each publisher that
     /// they come from as many are borrowed as may be. The update stands then, and no message moves.
     /// Fails with `ReceiveError::ConnectionFailure` where the update does, as
-    /// `UpdateConnections::update_connections` says. Where memory for a connection is refused, that
-    /// is a warning of the domain.
+    /// `UpdateConnections::update_connections` says.
     ///
     /// iceoryx2's `Subscriber::receive` (`src/port/subscriber.rs`).
     #[inline(always)]

@@ -1,10 +1,8 @@
 //! A subscriber updates its connections.
-ghost use Rattle.std.specs.Prelude.{◌≡◌};
-ghost use Rattle.iox2_pubsub.specs.UpdateCalls.{failure_of};
 
 use crate::domain::Domain;
 use crate::subscriber::Subscriber;
-use crate::update_connections::UpdateConnections;
+use crate::update_connections::{UpdateConnections, outcome_of};
 use iox2_store::{BackpressureFn, ConnectionFailure, DegradationFn};
 use iox2_updates::update_subscriber;
 
@@ -30,15 +28,5 @@ impl<T: Drop, U: Default + Drop, F: BackpressureFn, G: DegradationFn> UpdateConn
             unreachable!()
         };
         outcome_of(update_subscriber(&mut domain.state, place))
-    }
-}
-
-// What an update with this failure, if any, returns.
-fn outcome_of(failure: Option<ConnectionFailure>) -> Result<(), ConnectionFailure>
-    ensures { failure_of result ≡ failure }
-{
-    match failure {
-        Some(failure) => Err(failure),
-        None => Ok(()),
     }
 }

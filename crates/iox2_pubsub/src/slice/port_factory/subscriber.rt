@@ -1,12 +1,16 @@
 //! The factory of subscribers of slices.
 ghost use Rattle.std.specs.Prelude.{◌≡◌, None, Some, IfOk, MatchResult};
+ghost use Rattle.iox2_store.specs.declared.degradation.DegradationAction.TheVariants.{Warn};
 ghost use Rattle.iox2_store.specs.machine.Environments.{fixed_handlers};
+ghost use Rattle.iox2_store.specs.machine.Records.{Fixed};
 ghost use Rattle.iox2_store.specs.machine.Ports.{default_subscriber_settings, buffer_for, CreateSubscriber};
 ghost use Rattle.iox2_store.specs.machine.State.{State, Messages};
 ghost use Rattle.iox2_pubsub.specs.Live.{IsLiveSubscriber, IsNewIn, Stays, subscriber_port, UpToDateStay, payloads, waiting};
 ghost use Rattle.iox2_pubsub.specs.LoansLeft.{LoansLeftStay};
+ghost use Rattle.iox2_pubsub.specs.Factories.{answer_of};
 ghost use Rattle.iox2_domain.specs.Shows.{Shows};
 
+use crate::degradation_handler::DegradationHandler;
 use crate::domain::Domain;
 use crate::slice::Subscriber;
 use iox2_store::{BackpressureFn, DegradationFn, SubscriberCreateError};
@@ -40,12 +44,26 @@ impl PortFactorySubscriber {
         }
     }
 
-    /// A factory with the same settings.
+    /// Sets what answers where memory for a connection with a publisher is refused: the subscriber
+    /// goes on without it, or the domain warns of it too, as by default, or the call fails.
+    ///
+    /// iceoryx2's `PortFactorySubscriber::set_degradation_handler`
+    /// (`src/service/port_factory/subscriber.rs`).
+    pub fn set_degradation_handler(self, handler: DegradationHandler) -> Self
+        ensures { result ≡ record self { degradation_handler = answer_of handler } }
+    {
+        PortFactorySubscriber {
+            factory: self.factory.set_degradation_handler(handler),
+        }
+    }
+
+    /// A factory with the same settings, which makes subscribers without a handler: where memory for
+    /// a connection is refused, the domain warns of it.
     ///
     /// iceoryx2's `PortFactorySubscriber::__internal_partial_clone`
     /// (`src/service/port_factory/subscriber.rs`).
     pub fn internal_partial_clone(&self) -> Self
-        ensures { result ≡ self.now }
+        ensures { result ≡ record (self.now) { degradation_handler = Fixed Warn } }
     {
         PortFactorySubscriber {
             factory: self.factory.internal_partial_clone(),

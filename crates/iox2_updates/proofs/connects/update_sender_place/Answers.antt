@@ -157,7 +157,7 @@ returns-then-not-stands_at g c = λ x at.
     rw (sym (c.deref-2.ensures.value ∙ subscribers), sym c.home-subscriber.ensures.value) (stands-elsewhere _ c.args.subscriber_place _ c.stands_at.result c.stands_at.ensures c.if-not-stands_at.true) in
     let loses = c.disconnect_sender.ensures x at in
     loses-there old c.requires.agrees c.args.publisher_place c.args.subscriber_place x at (c.requires.settled x at) (c.requires.unblocked x at) c.in-Some.key named fixed_handlers c.index.result.now at_c
-    elsewhere c.disconnect_sender.new.state loses c.connect_sender-then-not-stands_at.new.state None
+    elsewhere c.disconnect_sender.new.state loses c.connect_sender-then-not-stands_at.new.state c.connect_sender-then-not-stands_at.result
     (c.connect_sender-then-not-stands_at.ensures _ (lost-stands old c.requires.agrees c.args.publisher_place c.args.subscriber_place x at (c.requires.settled x at) c.disconnect_sender.new.state loses))
 
 pub returns-then-not-is_open_at : goal.returns-then-not-is_open_at

@@ -15,7 +15,7 @@ use Rattle.iox2_domain.specs.Kept.{Kept, state_of}
 use Rattle.iox2_domain.specs.LoanCalls.{HoldsWritten}
 use Rattle.iox2_deliveries.specs.SendEnds.{end_result}
 use Rattle.iox2_domain.specs.Shows.{Shows}
-use Rattle.iox2_pubsub.proofs.SendShown.{machine-sends, only-ok, only-error, handler-error, either-error, fails-send, never-waits-send, never-fails-here, is-delivered, is-blocked, sent-entry, sent-shown}
+use Rattle.iox2_pubsub.proofs.SendShown.{machine-sends, steady-ok, never-unconnected-here, only-error, handler-error, either-error, fails-send, never-waits-send, never-fails-here, is-delivered, is-blocked, sent-entry, sent-shown}
 use Rattle.iox2_pubsub.specs.Live.{lender_key, written_key}
 use Rattle.iox2_pubsub.specs.SendCalls.{result_of_send}
 use Rattle.iox2_pubsub.proofs.CallsStay.{always-shown, sent-stays, send-spends}
@@ -66,13 +66,15 @@ pub returns-clause-ok : goal.returns-clause-ok
 returns-clause-ok g c = λ lent never.
     let has = (written-parts c.args.domain.now c.args.self c.requires.live).1 in
     let before = subst (λ (k : Kept g.row.T.Denot g.row.U.Denot g.row.F.Denot). HoldsWritten (state_of k) c.args.self.loan.publisher c.args.self.loan.number) (sym c.domain.view_is) has in
-    only-ok c.send_loan.result
+    steady-ok c.send_loan.result
     (c.send_loan.ensures.kept
     (subst (λ (k : Kept g.row.T.Denot g.row.U.Denot g.row.F.Denot). HoldsPublisher (state_of k) c.args.self.loan.publisher) (sym c.domain.view_is)
     (publisher-parts c.args.domain.now (lender_key (written_key c.args.self)) lent).2))
     (never-fails-here {T = g.row.T.Denot} {U = g.row.U.Denot} (answers_of g.F.BackpressureFn.allows c.domain.inside.boxes.boxes) c.args.domain.now c.domain.inside.state c.send_loan.new.state c.domain.view_is c.args.self.loan.number c.args.self.loan.publisher never
     (end_result c.send_loan.result) c.send_loan.ensures.sends
     (ap (λ (l : Loan g.row.T.Denot g.row.U.Denot). l.publisher) (same_Some _ before.0 (sym c.send_loan.ensures.sends.out ∙ before.1)) ∙ before.2))
+    (never-unconnected-here {T = g.row.T.Denot} {U = g.row.U.Denot} (answers_of g.F.BackpressureFn.allows c.domain.inside.boxes.boxes) c.args.domain.now c.domain.inside.state c.send_loan.new.state c.domain.view_is c.args.self.loan.number c.args.self.loan.publisher never
+    (end_result c.send_loan.result) c.send_loan.ensures.sends (ap (λ (l : Loan g.row.T.Denot g.row.U.Denot). l.publisher) (same_Some _ before.0 (sym c.send_loan.ensures.sends.out ∙ before.1)) ∙ before.2))
     c.outcome_of.result c.outcome_of.ensures.same
 
 pub returns-clause-errors : goal.returns-clause-errors
@@ -93,6 +95,8 @@ returns-clause-errors g c =
     only-error {T = g.row.T.Denot} {U = g.row.U.Denot} (answers_of g.F.BackpressureFn.allows c.domain.inside.boxes.boxes) c.domain.inside.state c.send_loan.new.state c.args.self.loan.number c.args.self.loan.publisher c.send_loan.result
     c.send_loan.ensures.kept c.send_loan.ensures.sends its
     (never-fails-here {T = g.row.T.Denot} {U = g.row.U.Denot} (answers_of g.F.BackpressureFn.allows c.domain.inside.boxes.boxes) c.args.domain.now c.domain.inside.state c.send_loan.new.state c.domain.view_is c.args.self.loan.number c.args.self.loan.publisher never
+    (end_result c.send_loan.result) c.send_loan.ensures.sends its)
+    (never-unconnected-here {T = g.row.T.Denot} {U = g.row.U.Denot} (answers_of g.F.BackpressureFn.allows c.domain.inside.boxes.boxes) c.args.domain.now c.domain.inside.state c.send_loan.new.state c.domain.view_is c.args.self.loan.number c.args.self.loan.publisher never
     (end_result c.send_loan.result) c.send_loan.ensures.sends its)
     c.outcome_of.result c.outcome_of.ensures.same)
 
