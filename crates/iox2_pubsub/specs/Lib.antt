@@ -1,4 +1,5 @@
 pub mod Live
+pub mod Handles
 pub mod ReceivedSamples
 pub mod SendCalls
 pub mod QuestionCalls

@@ -34,7 +34,7 @@ pub trait UpdateConnections<T: Drop, U: Default + Drop, F: BackpressureFn, G: De
     /// stays, the rest of the update is done, and the port is due again. Where memory for a
     /// connection is refused, that is a warning of the domain.
     fn update_connections(&self, domain: &mut Domain<T, U, F, G>) -> Result<(), ConnectionFailure>
-        requires { is_live domain.old self.now }
+        requires live { is_live domain.old self.now }
         ensures live { is_live domain.new self.now }
         ensures updates { (m : Messages T U) (s : State T U) → Shows domain.old m s
             → (s' : State T U) × Shows domain.new m s' × updates s self.now s' (failure_of result) }

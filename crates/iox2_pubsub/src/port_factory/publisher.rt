@@ -13,6 +13,7 @@ ghost use Rattle.iox2_pubsub.specs.Factories.{with_handler};
 ghost use Rattle.iox2_pubsub.specs.Handlers.{may_wait};
 ghost use Rattle.iox2_pubsub.specs.declared.subscriber.Subscriber.{Subscriber};
 ghost use Rattle.iox2_domain.specs.Shows.{Shows};
+ghost use Rattle.iox2_pubsub.specs.Handles.{max_slice_len_of, publisher_id, strategy_of};
 
 use crate::domain::Domain;
 use crate::publisher::Publisher;
@@ -65,6 +66,7 @@ impl<T: Drop, U: Default + Drop, F: BackpressureFn, G: DegradationFn> Domain<T, 
 }
 
 impl<F: BackpressureFn> PortFactoryPublisher<F> {
+    ghost use Rattle.iox2_pubsub.specs.Handles.{publisher_id, strategy_of};
     /// Sets how many loans of the publisher may be out at a time, 0 or more.
     ///
     /// iceoryx2's `PortFactoryPublisher::max_loaned_samples`
@@ -144,15 +146,15 @@ impl<F: BackpressureFn> PortFactoryPublisher<F> {
     ) -> Result<Publisher, PublisherCreateError>
         ensures creates { (m : Messages T U) (s : State T U) → Shows domain.old m s → (s' : State T U) × Shows domain.new m s'
             × MatchResult result
-            (λ publisher. (publisher.id ≡ s.next_port) × CreatePublisher fixed_handlers s self.settings s' None)
+            (λ publisher. (publisher_id publisher ≡ s.next_port) × CreatePublisher fixed_handlers s self.settings s' None)
             (λ e. CreatePublisher fixed_handlers s self.settings s' (Some e)) }
         ensures ready { IfOk result (λ publisher. IsReadyPublisher domain.new publisher) }
         ensures discards { self.settings.backpressure_strategy ≡ BackpressureStrategy.DiscardData → self.settings.backpressure_handler ≡ None → IfOk result (λ publisher. NeverWaits domain.new (publisher_key publisher)) }
         ensures passes { may_wait self.settings.backpressure_strategy self.settings.backpressure_handler ≡ false → may_fail self.settings.backpressure_handler ≡ false → IfOk result (λ publisher. NeverWaits domain.new (publisher_key publisher)) }
         ensures overflows { (domain.old.config).enable_safe_overflow ≡ true → IfOk result (λ publisher. NeverWaits domain.new (publisher_key publisher)) }
-        ensures never_fails { may_fail self.settings.backpressure_handler ≡ false → IfOk result (λ publisher. NeverFails domain.new publisher.id) }
-        ensures boxed { IfOk result (λ publisher. handler_box domain.new publisher.id ≡ self.box) }
-        ensures strategy { IfOk result (λ publisher. publisher.strategy ≡ self.settings.backpressure_strategy) }
+        ensures never_fails { may_fail self.settings.backpressure_handler ≡ false → IfOk result (λ publisher. NeverFails domain.new (publisher_id publisher)) }
+        ensures boxed { IfOk result (λ publisher. handler_box domain.new (publisher_id publisher) ≡ self.box) }
+        ensures strategy { IfOk result (λ publisher. strategy_of publisher ≡ self.settings.backpressure_strategy) }
         ensures new { IfOk result (λ publisher. IsNewIn domain.old (publisher_port publisher)) }
         ensures refused { OnErr result (payloads domain.new ≡ payloads domain.old) }
         ensures no_fewer { (subscriber : Subscriber) → waiting domain.old subscriber ≤ waiting domain.new subscriber }
@@ -181,16 +183,16 @@ pub(crate) fn create_plain<T: Drop, U: Default + Drop, F: BackpressureFn, G: Deg
 ) -> Result<Publisher, PublisherCreateError>
     ensures creates { (m : Messages T U) (s : State T U) → Shows domain.old m s → (s' : State T U) × Shows domain.new m s'
         × MatchResult result
-        (λ publisher. (publisher.id ≡ s.next_port) × CreatePublisher fixed_handlers s (static_publisher max_loaned_samples strategy (marks_of handler) initial_max_slice_len) s' None)
+        (λ publisher. (publisher_id publisher ≡ s.next_port) × CreatePublisher fixed_handlers s (static_publisher max_loaned_samples strategy (marks_of handler) initial_max_slice_len) s' None)
         (λ e. CreatePublisher fixed_handlers s (static_publisher max_loaned_samples strategy (marks_of handler) initial_max_slice_len) s' (Some e)) }
     ensures ready { IfOk result (λ publisher. IsReadyPublisher domain.new publisher) }
     ensures discards { strategy ≡ BackpressureStrategy.DiscardData → marks_of handler ≡ None → IfOk result (λ publisher. NeverWaits domain.new (publisher_key publisher)) }
     ensures passes { may_wait strategy (marks_of handler) ≡ false → may_fail (marks_of handler) ≡ false → IfOk result (λ publisher. NeverWaits domain.new (publisher_key publisher)) }
     ensures overflows { (domain.old.config).enable_safe_overflow ≡ true → IfOk result (λ publisher. NeverWaits domain.new (publisher_key publisher)) }
-    ensures never_fails { may_fail (marks_of handler) ≡ false → IfOk result (λ publisher. NeverFails domain.new publisher.id) }
-    ensures boxed { IfOk result (λ publisher. handler_box domain.new publisher.id ≡ custom_box handler) }
-    ensures strategy { IfOk result (λ publisher. publisher.strategy ≡ strategy) }
-    ensures longest { IfOk result (λ publisher. publisher.initial_max_slice_len ≡ initial_max_slice_len) }
+    ensures never_fails { may_fail (marks_of handler) ≡ false → IfOk result (λ publisher. NeverFails domain.new (publisher_id publisher)) }
+    ensures boxed { IfOk result (λ publisher. handler_box domain.new (publisher_id publisher) ≡ custom_box handler) }
+    ensures strategy { IfOk result (λ publisher. strategy_of publisher ≡ strategy) }
+    ensures longest { IfOk result (λ publisher. max_slice_len_of publisher ≡ initial_max_slice_len) }
     ensures new { IfOk result (λ publisher. IsNewIn domain.old (publisher_port publisher)) }
     ensures refused { OnErr result (payloads domain.new ≡ payloads domain.old) }
     ensures no_fewer { (subscriber : Subscriber) → waiting domain.old subscriber ≤ waiting domain.new subscriber }

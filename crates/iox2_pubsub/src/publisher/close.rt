@@ -26,7 +26,7 @@ impl Publisher {
         self,
         domain: &mut Domain<T, U, F, G>,
     )
-        requires { IsReadyPublisher domain.old self }
+        requires ready { IsReadyPublisher domain.old self }
         ensures closed { (m : Messages T U) (s : State T U) (x : Record) → Shows domain.old m s → s.publishers (publisher_key self).port ≡ Some x
             → Shows domain.new m (publisher_closed s (publisher_key self).port x) }
         ensures spent { IsPublisherKey domain.new (publisher_key self) → ⊥ }

@@ -24,7 +24,7 @@ impl Subscriber {
         self,
         domain: &mut Domain<T, U, F, G>,
     )
-        requires { IsLiveSubscriber domain.old self }
+        requires live { IsLiveSubscriber domain.old self }
         ensures closed { (m : Messages T U) (s : State T U) (y : Record) → Shows domain.old m s → s.subscribers (subscriber_key self).port ≡ Some y
             → Shows domain.new m (subscriber_closed s (subscriber_key self).port y) }
         ensures spent { IsLiveSubscriber domain.new self → ⊥ }

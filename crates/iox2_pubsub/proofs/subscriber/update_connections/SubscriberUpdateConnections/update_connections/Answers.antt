@@ -20,7 +20,7 @@ use Rattle.iox2_pubsub.proofs.subscriber.update_connections.SubscriberUpdateConn
 pub unreachable-requires : goal.unreachable-requires
 unreachable-requires g c =
     subscriber-missing {T = g.row.T.Denot} {U = g.row.U.Denot} c.domain.inside.state c.args.domain.now c.domain.view_is c.args.self.now
-    c.in_default.ensures c.requires
+    c.in_default.ensures c.requires.live
 
 pub invariant_of-domain : goal.invariant_of-domain
 invariant_of-domain g c = (c.update_subscriber.ensures c.in-Some.ensures.0 c.in-Some.ensures.1).changes.agrees
@@ -41,7 +41,7 @@ returns-clause-stays g c =
     (update_subscriber_waits (IsSpared No_item) fixed_handlers it.1 c.args.self.now.id step.0 (failure_of c.outcome_of.result) step.2) (same-boxes c.domain.inside.state c.update_subscriber.new.state c.args.domain.now c.domain.view_is)
 
 pub returns-clause-live : goal.returns-clause-live
-returns-clause-live g c = (returns-clause-stays g c).subscribers (subscriber_key c.args.self.now) c.requires tt
+returns-clause-live g c = (returns-clause-stays g c).subscribers (subscriber_key c.args.self.now) c.requires.live tt
 
 pub returns-clause-adds : goal.returns-clause-adds
 returns-clause-adds g c =
