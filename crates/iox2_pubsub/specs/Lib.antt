@@ -1,3 +1,4 @@
+pub mod ConnectedPorts
 pub mod Live
 pub mod Handles
 pub mod ReceivedSamples

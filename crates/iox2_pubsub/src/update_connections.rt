@@ -1,5 +1,5 @@
 //! Updates of a port's connections, by call.
-ghost use Rattle.std.specs.Prelude.{◌≡◌, ℕ};
+ghost use Rattle.std.specs.Prelude.{◌≡◌, ℕ, OnOk};
 
 use crate::domain::Domain;
 use iox2_store::{BackpressureFn, ConnectionFailure, DegradationFn};
@@ -24,6 +24,9 @@ pub trait UpdateConnections<T: Drop, U: Default + Drop, F: BackpressureFn, G: De
     // The machine's update of the port, with this failure if any.
     ghost updates: { State T U → Self → State T U → Option ConnectionFailure → Type 0 };
 
+    // What an update that didn't fail leaves true of the port.
+    ghost is_updated: { Kept T U F → Self → Type 0 };
+
     // How many messages more may wait for a subscriber afterwards.
     ghost adds: { Kept T U F → ℕ };
 
@@ -39,6 +42,7 @@ pub trait UpdateConnections<T: Drop, U: Default + Drop, F: BackpressureFn, G: De
         ensures updates { (m : Messages T U) (s : State T U) → Shows domain.old m s
             → (s' : State T U) × Shows domain.new m s' × updates s self.now s' (failure_of result) }
         ensures adds { AddAtMost (adds domain.old) domain.old domain.new }
+        ensures updated { OnOk result (is_updated domain.new self.now) }
         ensures up_to_date { UpToDateStay domain.old domain.new }
         ensures loans_left { LoansLeftStay domain.old domain.new }
         ensures stays { Stays domain.old domain.new };

@@ -16,7 +16,7 @@ impl SampleMut {
     ghost use Rattle.std.specs.Prelude.{List, Some};
     ghost use Rattle.iox2_store.specs.machine.Records.{Loan};
     ghost use Rattle.iox2_store.specs.machine.State.{State, Messages};
-    ghost use Rattle.iox2_pubsub.specs.Live.{HasLender, IsBlockedSend, IsLoanKey, IsUnblocked, IsWritten, NeverFails, NeverWaits, StaysBut, blocked_key, written_key, AddAtMost, AreAllSlices, UpToDateStay, payloads, waiting};
+    ghost use Rattle.iox2_pubsub.specs.Live.{HasLender, IsBlockedSend, IsConnected, IsLoanKey, IsServed, IsUnblocked, IsWritten, NeverFails, NeverWaits, StaysBut, blocked_key, written_key, AddAtMost, AreAllSlices, UpToDateStay, payloads, waiting};
     ghost use Rattle.iox2_pubsub.specs.LoansLeft.{HasOneMoreLeft, LoansLeftStay};
     ghost use Rattle.iox2_pubsub.specs.Slices.{HasValues};
     ghost use Rattle.iox2_pubsub.specs.SendCalls.{FailsSend, IsDelivered, Sends, messages_after, spent_by_send};
@@ -56,6 +56,8 @@ impl SampleMut {
         ensures adds { AddAtMost ((domain.old.config).history_size + 1) domain.old domain.new }
         ensures brings { (subscriber : Subscriber) (values : List T) → (domain.old.config).history_size ≡ 0 → waiting domain.old subscriber ≡ 0
             → HasValues domain.old (written_number self) values → AreAllSlices (payloads domain.new subscriber) values }
+        ensures serves { (subscriber : Subscriber) (values : List T) → IsConnected domain.old (written_lender self) subscriber → HasValues domain.old (written_number self) values
+            → IfOk result (λ outcome. IsDelivered outcome → IsServed domain.old domain.new (written_lender self) subscriber values) }
         ensures up_to_date { UpToDateStay domain.old domain.new }
         ensures loans_left { LoansLeftStay domain.old domain.new }
         ensures given_back { IfOk result IsDelivered → HasOneMoreLeft (written_lender self) domain.old domain.new }

@@ -24,7 +24,7 @@ impl SampleMut {
     ghost use Rattle.iox2_store.specs.machine.State.{State, Messages};
     ghost use Rattle.iox2_domain.specs.Boxes.{answers_of};
     ghost use Rattle.iox2_domain.specs.Shows.{Shows};
-    ghost use Rattle.iox2_pubsub.specs.Live.{AddAtMost, AreAllSlices, HasLender, IsBlockedSend, IsLoanKey, IsUnblocked, IsWritten, LoanHasHeader, LoanHasUserHeader, NeverFails, NeverWaits, StaysBut, blocked_key, UpToDateStay, payloads, waiting, written_key, written_loan};
+    ghost use Rattle.iox2_pubsub.specs.Live.{AddAtMost, AreAllSlices, HasLender, IsBlockedSend, IsConnected, IsLoanKey, IsServed, IsUnblocked, IsWritten, LoanHasHeader, LoanHasUserHeader, NeverFails, NeverWaits, StaysBut, blocked_key, UpToDateStay, payloads, waiting, written_key, written_loan};
     ghost use Rattle.iox2_pubsub.specs.declared.subscriber.Subscriber.{Subscriber};
     ghost use Rattle.iox2_pubsub.specs.LoansLeft.{HasOneMoreLeft, LoansLeftStay};
     ghost use Rattle.iox2_pubsub.specs.SendCalls.{FailsSend, IfBlocked, IsDelivered, Sends, messages_after, spent_by_send};
@@ -63,6 +63,8 @@ impl SampleMut {
         ensures adds { AddAtMost ((domain.old.config).history_size + 1) domain.old domain.new }
         ensures brings { (subscriber : Subscriber) (values : List T) → (domain.old.config).history_size ≡ 0 → waiting domain.old subscriber ≡ 0
             → HasValues domain.old (written_number (as_written self)) values → AreAllSlices (payloads domain.new subscriber) values }
+        ensures serves { (subscriber : Subscriber) (values : List T) → IsConnected domain.old (written_lender (as_written self)) subscriber → HasValues domain.old (written_number (as_written self)) values
+            → IfOk result (λ outcome. IsDelivered outcome → IsServed domain.old domain.new (written_lender (as_written self)) subscriber values) }
         ensures up_to_date { UpToDateStay domain.old domain.new }
         ensures loans_left { LoansLeftStay domain.old domain.new }
         ensures given_back { IfOk result IsDelivered → HasOneMoreLeft (written_lender (as_written self)) domain.old domain.new }

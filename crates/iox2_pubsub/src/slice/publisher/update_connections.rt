@@ -24,6 +24,8 @@ impl<T: Drop, U: Default + Drop, F: BackpressureFn, G: DegradationFn> UpdateConn
 
     ghost updates = { λ s publisher s' failure. UpdatePublisher fixed_handlers s (publisher_id (as_publisher publisher)) s' failure };
 
+    ghost is_updated = { λ domain publisher. Unit {0} };
+
     ghost adds = { λ domain. (domain.config).history_size };
 
     fn update_connections(&self, domain: &mut Domain<T, U, F, G>) -> Result<(), ConnectionFailure> {

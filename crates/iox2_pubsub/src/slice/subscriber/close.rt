@@ -1,5 +1,5 @@
 //! A subscriber of slices is closed.
-ghost use Rattle.std.specs.Prelude.{◌≡◌};
+ghost use Rattle.std.specs.Prelude.{◌≡◌, ◌≢◌, ℕ};
 
 use crate::domain::Domain;
 use crate::slice::Subscriber;
@@ -10,10 +10,11 @@ impl Subscriber {
     ghost use Rattle.iox2_store.specs.machine.Ports.{subscriber_closed};
     ghost use Rattle.iox2_store.specs.machine.Records.{Subscriber as Record};
     ghost use Rattle.iox2_store.specs.machine.State.{State, Messages};
-    ghost use Rattle.iox2_pubsub.specs.Live.{IsLiveSubscriber, OthersStayUpToDate, OthersWait, StaysBut, subscriber_key, subscriber_port, waiting};
+    ghost use Rattle.iox2_pubsub.specs.Live.{IsConnected, IsLiveSubscriber, OthersStayUpToDate, OthersWait, StaysBut, subscriber_key, subscriber_port, waiting};
     ghost use Rattle.iox2_pubsub.specs.LoansLeft.{LoansLeftStay};
+    ghost use Rattle.iox2_pubsub.specs.declared.subscriber.Subscriber.{Subscriber as Handle};
     ghost use Rattle.iox2_domain.specs.Shows.{Shows};
-    ghost use Rattle.iox2_pubsub.specs.Handles.{as_subscriber};
+    ghost use Rattle.iox2_pubsub.specs.Handles.{as_subscriber, subscriber_id};
 
     /// Closes the subscriber, as one of single values is closed.
     ///
@@ -29,6 +30,7 @@ impl Subscriber {
         ensures none { waiting domain.new (as_subscriber self) ≡ 0 }
         ensures others { OthersWait (as_subscriber self) domain.old domain.new }
         ensures up_to_date { OthersStayUpToDate (as_subscriber self) domain.old domain.new }
+        ensures connections { (publisher : ℕ) (other : Handle) → subscriber_id other ≢ subscriber_id (as_subscriber self) → IsConnected domain.old publisher other → IsConnected domain.new publisher other }
         ensures loans_left { LoansLeftStay domain.old domain.new }
         ensures stays { StaysBut (subscriber_port (as_subscriber self)) domain.old domain.new }
     {

@@ -8,6 +8,7 @@ use Rattle.iox2_pubsub.specs.Live.{publisher_key}
 use Rattle.iox2_pubsub.proofs.CallsStay.{always-shown}
 use Rattle.iox2_pubsub.proofs.ClosesShown.{publisher-close-shows, publisher-close-stays, publisher-close-spends}
 use Rattle.iox2_pubsub.proofs.ClosesWait.{publisher-close-no-fewer}
+use Rattle.iox2_pubsub.proofs.ConnectionsShown.{publisher-close-keeps, publisher-close-connections}
 use Rattle.iox2_pubsub.proofs.LiveParts.{publisher-parts, unblocked-test}
 use Rattle.iox2_pubsub.proofs.UninitLoans.{publisher-missing}
 use Rattle.iox2_pubsub.proofs.LoansLeftShown.{publisher-close-others, publisher-close-numbers}
@@ -84,3 +85,19 @@ close_publisher-requires-clause-unblocked g c = λ z at_z.
     ap (λ (w : PublisherFields). w.blocked) is
     ∙ free-of c.domain.inside.state c.domain.invariant.parts c.args.self.id c.find_live_publisher-place.result found.0 found.1 found.2
     (subst (λ (k : Kept g.row.T.Denot g.row.U.Denot g.row.F.Denot). is_blocked (state_of k) c.args.self.id ≡ false) (sym c.domain.view_is) (unblocked-test c.args.domain.now (publisher_key c.args.self) c.requires.ready.unblocked))
+
+pub returns-clause-keeps : goal.returns-clause-keeps
+returns-clause-keeps g c =
+    let it = always-shown {T = g.row.T.Denot} {U = g.row.U.Denot} c.domain.inside.state c.args.domain.now c.domain.invariant c.domain.view_is in
+    let has = (publisher-parts c.args.domain.now _ c.requires.ready.there).2 in
+    let there = ap (λ (t : State g.row.T.Denot g.row.U.Denot). t.publishers c.args.self.id) (it.2).state ∙ has.1 in
+    publisher-close-keeps {T = g.row.T.Denot} {U = g.row.U.Denot} c.args.domain.now (keeping _ c.close_publisher.new.state) it.0 it.1 it.2 c.args.self.id has.0
+    (returns-clause-closed g c it.0 it.1 has.0 it.2 there) there
+
+pub returns-clause-connections : goal.returns-clause-connections
+returns-clause-connections g c =
+    let it = always-shown {T = g.row.T.Denot} {U = g.row.U.Denot} c.domain.inside.state c.args.domain.now c.domain.invariant c.domain.view_is in
+    let has = (publisher-parts c.args.domain.now _ c.requires.ready.there).2 in
+    let there = ap (λ (t : State g.row.T.Denot g.row.U.Denot). t.publishers c.args.self.id) (it.2).state ∙ has.1 in
+    publisher-close-connections {T = g.row.T.Denot} {U = g.row.U.Denot} c.args.domain.now (keeping _ c.close_publisher.new.state) it.0 it.1 it.2 c.args.self.id has.0
+    (returns-clause-closed g c it.0 it.1 has.0 it.2 there) there

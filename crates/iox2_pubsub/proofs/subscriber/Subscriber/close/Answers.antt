@@ -6,6 +6,7 @@ use Rattle.iox2_pubsub.specs.Live.{subscriber_key}
 use Rattle.iox2_pubsub.proofs.CallsStay.{always-shown}
 use Rattle.iox2_pubsub.proofs.ClosesShown.{subscriber-close-shows, subscriber-close-stays, subscriber-close-spends}
 use Rattle.iox2_pubsub.proofs.ClosesWait.{subscriber-close-none, subscriber-close-others, subscriber-close-leaves}
+use Rattle.iox2_pubsub.proofs.ConnectionsShown.{subscriber-close-connections}
 use Rattle.iox2_pubsub.proofs.LiveParts.{subscriber-parts}
 use Rattle.iox2_pubsub.proofs.ReceptionShown.{subscriber-missing}
 use Rattle.iox2_pubsub.proofs.LoansLeftShown.{subscriber-close-left}
@@ -74,3 +75,11 @@ returns-clause-loans_left g c =
     let there = ap (λ (t : State g.row.T.Denot g.row.U.Denot). t.subscribers c.args.self.id) (it.2).state ∙ has.1 in
     subscriber-close-left {T = g.row.T.Denot} {U = g.row.U.Denot} c.args.domain.now (keeping _ c.close_subscriber.new.state) it.0 it.0 it.1 _ it.2
     (returns-clause-closed g c it.0 it.1 has.0 it.2 there) c.args.self.id has.0 refl
+
+pub returns-clause-connections : goal.returns-clause-connections
+returns-clause-connections g c =
+    let it = always-shown {T = g.row.T.Denot} {U = g.row.U.Denot} c.domain.inside.state c.args.domain.now c.domain.invariant c.domain.view_is in
+    let has = (subscriber-parts c.args.domain.now _ c.requires.live).2 in
+    let there = ap (λ (t : State g.row.T.Denot g.row.U.Denot). t.subscribers c.args.self.id) (it.2).state ∙ has.1 in
+    subscriber-close-connections {T = g.row.T.Denot} {U = g.row.U.Denot} c.args.domain.now (keeping _ c.close_subscriber.new.state) it.0 it.1 it.2 c.args.self.id has.0
+    (returns-clause-closed g c it.0 it.1 has.0 it.2 there)

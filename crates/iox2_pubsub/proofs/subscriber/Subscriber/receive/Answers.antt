@@ -7,7 +7,7 @@ use Rattle.iox2_pubsub.specs.ReceivedSamples.{received_result}
 use Rattle.iox2_domain.specs.declared.sample_slots.Receipt.{Receipt}
 use Rattle.iox2_pubsub.proofs.ReceptionShown.{reception-at, reception-shows, reception-live, reception-origin, subscriber-missing, error-shows}
 use Rattle.iox2_pubsub.proofs.CallsStay.{always-shown, receive-stays, received-is-new}
-use Rattle.iox2_pubsub.proofs.WaitingShown.{received-fewer, received-none, received-no-more, received-others, received-reads}
+use Rattle.iox2_pubsub.proofs.WaitingShown.{received-fewer, received-none, received-no-more, received-others, received-reads, received-oldest}
 use Rattle.iox2_pubsub.proofs.UpToDateShown.{receive-leaves, received-updated, received-one-fewer}
 use Rattle.iox2_pubsub.proofs.LoansLeftShown.{receive-left}
 use Rattle.iox2_pubsub.proofs.StaysBut.{same-boxes}
@@ -140,6 +140,13 @@ returns-clause-reads g c =
     let step = returns-clause-receives g c it.0 it.1 it.2 in
     received-reads {T = g.row.T.Denot} {U = g.row.U.Denot} c.args.domain.now (keeping (c.domain.inside.boxes).boxes c.receive_at.new.state) it.0 it.0 it.1 step.0 it.2 step.1 fixed_handlers c.args.self.now (λ n entry at. at) c.requires.live
     c.in-Some.receipt.publisher (record { service_id = c.args.self.now.service_id; origin = c.in-Some.receipt.publisher; sample = c.in-Some.receipt.sample }) step.2
+
+pub returns-clause-oldest : goal.returns-clause-oldest
+returns-clause-oldest g c =
+    let it = always-shown {T = g.row.T.Denot} {U = g.row.U.Denot} c.domain.inside.state c.args.domain.now c.domain.invariant c.domain.view_is in
+    let step = returns-clause-receives g c it.0 it.1 it.2 in
+    received-oldest {T = g.row.T.Denot} {U = g.row.U.Denot} c.args.domain.now (keeping (c.domain.inside.boxes).boxes c.receive_at.new.state) it.0 it.0 it.1 step.0 it.2 step.1 fixed_handlers c.args.self.now (λ n entry at. at) c.requires.live
+    (record { service_id = c.args.self.now.service_id; origin = c.in-Some.receipt.publisher; sample = c.in-Some.receipt.sample }) step.2
 
 pub returns-in_err-receipt-clause-up_to_date : goal.returns-in_err-receipt-clause-up_to_date
 returns-in_err-receipt-clause-up_to_date g c =
