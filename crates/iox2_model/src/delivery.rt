@@ -11,11 +11,12 @@ use std::alloc::Global;
 impl Model {
     // The written loan at the position, whose publisher waits for no receiver.
     fn sendable_at(&self, of: usize) -> Option<usize> {
-        let message = self.loan_at(of, true)?;
-        if self.is_blocked(self.loan(message)?.publisher) {
-            None
-        } else {
-            Some(message)
+        let Made::Loan(message) = self.made_at(of) else {
+            return None;
+        };
+        match self.loan(message) {
+            Some(loan) if loan.is_written && !self.is_blocked(loan.publisher) => Some(message),
+            _ => None,
         }
     }
 

@@ -102,7 +102,10 @@ impl Model {
 
     // The loan leaves its user's hands.
     pub(crate) fn take_loan(&mut self, message: usize) -> Option<Loan> {
-        self.loans.get_mut(message)?.take()
+        let Some(loan) = self.loans.get_mut(message) else {
+            return None;
+        };
+        loan.take()
     }
 
     // The loan is out no more.
@@ -126,7 +129,9 @@ impl Model {
 
     // The loan that is a written one, or that isn't.
     fn loan_at_mut(&mut self, of: usize, is_written: bool) -> Option<&mut Loan> {
-        let message = self.loan_at(of, is_written)?;
+        let Some(message) = self.loan_at(of, is_written) else {
+            return None;
+        };
         self.loan_mut(message)
     }
 

@@ -18,11 +18,17 @@ impl Mailboxes {
     }
 
     pub(crate) fn get(&self, publisher: usize, subscriber: usize) -> Option<&Mailbox> {
-        self.rows.get(publisher)?.get(subscriber)
+        let Some(row) = self.rows.get(publisher) else {
+            return None;
+        };
+        row.get(subscriber)
     }
 
     pub(crate) fn get_mut(&mut self, publisher: usize, subscriber: usize) -> Option<&mut Mailbox> {
-        self.rows.get_mut(publisher)?.get_mut(subscriber)
+        let Some(row) = self.rows.get_mut(publisher) else {
+            return None;
+        };
+        row.get_mut(subscriber)
     }
 
     // The mailbox, which is made where it isn't there.

@@ -1,7 +1,6 @@
 use crate::error::ModelError;
 use crate::mailboxes::Mailboxes;
 use crate::memory::Memory;
-use crate::places::occupant;
 use crate::records::{Delivery, Entry, Loan, Made, Publisher, Subscriber};
 use iox2_commands::Reply;
 use iox2_store::ServiceConfig;
@@ -136,11 +135,12 @@ impl Model {
     }
 
     pub(crate) fn loan_at(&self, of: usize, is_written: bool) -> Option<usize> {
-        let message = self.any_loan_at(of)?;
-        if self.loan(message)?.is_written == is_written {
-            Some(message)
-        } else {
-            None
+        let Made::Loan(message) = self.made_at(of) else {
+            return None;
+        };
+        match self.loan(message) {
+            Some(loan) if loan.is_written == is_written => Some(message),
+            _ => None,
         }
     }
 
@@ -149,11 +149,10 @@ impl Model {
         let Made::BlockedSend { publisher, message } = self.made_at(of) else {
             return None;
         };
-        let delivery = self.publisher(publisher)?.blocked?;
-        if delivery.message != message {
-            return None;
+        match self.blocked_delivery(publisher) {
+            Some(delivery) if delivery.message == message => Some((publisher, delivery)),
+            _ => None,
         }
-        Some((publisher, delivery))
     }
 
     // The publisher, the subscriber and the message.
@@ -173,33 +172,54 @@ impl Model {
     // ---- loans and messages
 
     pub(crate) fn loan(&self, message: usize) -> Option<&Loan> {
-        self.loans.get(message)?.as_ref()
+        let Some(loan) = self.loans.get(message) else {
+            return None;
+        };
+        loan.as_ref()
     }
 
     pub(crate) fn loan_mut(&mut self, message: usize) -> Option<&mut Loan> {
-        self.loans.get_mut(message)?.as_mut()
+        let Some(loan) = self.loans.get_mut(message) else {
+            return None;
+        };
+        loan.as_mut()
     }
 
     pub(crate) fn entry(&self, message: usize) -> Option<&Entry> {
-        self.entries.get(message)?.as_ref()
+        let Some(entry) = self.entries.get(message) else {
+            return None;
+        };
+        entry.as_ref()
     }
 
     // ---- ports
 
     pub(crate) fn publisher(&self, id: usize) -> Option<&Publisher> {
-        self.publishers.get(id)?.as_ref()
+        let Some(publisher) = self.publishers.get(id) else {
+            return None;
+        };
+        publisher.as_ref()
     }
 
     pub(crate) fn publisher_mut(&mut self, id: usize) -> Option<&mut Publisher> {
-        self.publishers.get_mut(id)?.as_mut()
+        let Some(publisher) = self.publishers.get_mut(id) else {
+            return None;
+        };
+        publisher.as_mut()
     }
 
     pub(crate) fn subscriber(&self, id: usize) -> Option<&Subscriber> {
-        self.subscribers.get(id)?.as_ref()
+        let Some(subscriber) = self.subscribers.get(id) else {
+            return None;
+        };
+        subscriber.as_ref()
     }
 
     pub(crate) fn subscriber_mut(&mut self, id: usize) -> Option<&mut Subscriber> {
-        self.subscribers.get_mut(id)?.as_mut()
+        let Some(subscriber) = self.subscribers.get_mut(id) else {
+            return None;
+        };
+        subscriber.as_mut()
     }
 
     pub(crate) fn is_present(&self, publisher: usize) -> bool {
@@ -208,33 +228,36 @@ impl Model {
 
     // The publisher waits for a receiver. One that was closed doesn't.
     pub(crate) fn is_blocked(&self, publisher: usize) -> bool {
+        self.blocked_delivery(publisher).is_some()
+    }
+
+    // The publisher's send that waits for a receiver.
+    fn blocked_delivery(&self, publisher: usize) -> Option<Delivery> {
         match self.publisher(publisher) {
-            None => false,
-            Some(publisher) => publisher.blocked.is_some(),
+            None => None,
+            Some(publisher) => publisher.blocked,
         }
     }
 
     // The buffer of a subscriber that takes messages.
     pub(crate) fn receiving_buffer(&self, subscriber: usize) -> Option<usize> {
-        let record = self.subscriber(subscriber)?;
-        if record.is_open {
-            Some(record.buffer)
-        } else {
-            None
+        match self.subscriber(subscriber) {
+            Some(record) if record.is_open => Some(record.buffer),
+            _ => None,
         }
     }
 
     pub(crate) fn has_sender_end(&self, publisher: usize, subscriber: usize) -> bool {
-        match (self.publisher(publisher), self.subscriber(subscriber)) {
-            (Some(x), Some(y)) => occupant(x.ends.as_slice(), y.place) == Some(subscriber),
-            _ => false,
+        match self.subscriber(subscriber) {
+            Some(record) => self.sender_end(publisher, record.place) == Some(subscriber),
+            None => false,
         }
     }
 
     pub(crate) fn has_receiver_end(&self, publisher: usize, subscriber: usize) -> bool {
-        match (self.publisher(publisher), self.subscriber(subscriber)) {
-            (Some(x), Some(y)) => occupant(y.ends.as_slice(), x.place) == Some(publisher),
-            _ => false,
+        match self.publisher(publisher) {
+            Some(record) => self.receiver_end(subscriber, record.place) == Some(publisher),
+            None => false,
         }
     }
 

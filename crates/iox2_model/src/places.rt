@@ -2,7 +2,10 @@ use crate::error::ModelError;
 
 // The port that stands at a place; nothing past the end.
 pub(crate) fn occupant(places: &[Option<usize>], place: usize) -> Option<usize> {
-    *places.get(place)?
+    let Some(port) = places.get(place) else {
+        return None;
+    };
+    *port
 }
 
 // The list with this at a place; it grows where it is too short.

@@ -118,14 +118,18 @@ pub(crate) fn when_full(
     strategy: BackpressureStrategy,
     handler: Option<BackpressureAction>,
 ) -> Put {
-    match handler {
-        Some(BackpressureAction::Retry) => Put::Blocked,
-        Some(BackpressureAction::DiscardData) => Put::Skipped,
-        Some(BackpressureAction::DiscardDataAndFail) => Put::Failed,
-        Some(BackpressureAction::FollowBackpressureyStrategy) | None => match strategy {
-            BackpressureStrategy::RetryUntilDelivered => Put::Blocked,
-            BackpressureStrategy::DiscardData => Put::Skipped,
-        },
+    let by_strategy = match strategy {
+        BackpressureStrategy::RetryUntilDelivered => Put::Blocked,
+        BackpressureStrategy::DiscardData => Put::Skipped,
+    };
+    let Some(action) = handler else {
+        return by_strategy;
+    };
+    match action {
+        BackpressureAction::Retry => Put::Blocked,
+        BackpressureAction::DiscardData => Put::Skipped,
+        BackpressureAction::DiscardDataAndFail => Put::Failed,
+        BackpressureAction::FollowBackpressureyStrategy => by_strategy,
     }
 }
 

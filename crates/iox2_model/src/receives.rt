@@ -1,7 +1,7 @@
 //! A subscriber receives, and messages are read.
 use crate::error::ModelError;
 use crate::model::{Model, Outcome};
-use crate::records::Made;
+use crate::records::{Entry, Made};
 use iox2_commands::Reply;
 use iox2_store::{
     ConnectionFailure, Header, ReceiveError, UniqueNodeId, UniquePublisherId, ZeroCopyCreationError,
@@ -55,7 +55,9 @@ impl Model {
     // The publisher to receive from: a departed one where there is such a one, and else any other.
     fn choose_publisher(&self, q: usize, given: Option<Reply<u64, u64>>) -> Option<usize> {
         let limit = self.config.subscriber_max_borrowed_samples;
-        let subscriber = self.subscriber(q)?;
+        let Some(subscriber) = self.subscriber(q) else {
+            return None;
+        };
         let mut chosen = None;
         for p in subscriber.expired.as_slice() {
             if self.mailboxes.can_receive(*p, q, limit)
@@ -140,30 +142,48 @@ impl Model {
     // A cell of a loan, or a value of a sample's message, where it has one there.
     fn cell_at(&self, of: usize, at: usize) -> Option<Option<u64>> {
         if let Some(message) = self.any_loan_at(of) {
-            return self.loan(message)?.cells.get(at).copied();
+            return match self.loan(message) {
+                Some(loan) => loan.cells.get(at).copied(),
+                None => None,
+            };
         }
-        let (_, _, message) = self.sample_at(of)?;
-        let value = *self.entry(message)?.values.get(at)?;
-        Some(Some(value))
+        let Some(entry) = self.entry_at(of) else {
+            return None;
+        };
+        match entry.values.get(at) {
+            Some(value) => Some(Some(*value)),
+            None => None,
+        }
     }
 
     // What the headers of a loan or of a sample's message say.
     fn headers_at(&self, of: usize) -> Option<Headers> {
         if let Some(message) = self.any_loan_at(of) {
-            let loan = self.loan(message)?;
-            return Some(Headers {
-                publisher: loan.publisher,
-                user_header: loan.user_header,
-                len: loan.cells.len(),
-            });
+            return match self.loan(message) {
+                Some(loan) => Some(Headers {
+                    publisher: loan.publisher,
+                    user_header: loan.user_header,
+                    len: loan.cells.len(),
+                }),
+                None => None,
+            };
         }
-        let (_, _, message) = self.sample_at(of)?;
-        let entry = self.entry(message)?;
+        let Some(entry) = self.entry_at(of) else {
+            return None;
+        };
         Some(Headers {
             publisher: entry.publisher,
             user_header: entry.user_header,
             len: entry.values.len(),
         })
+    }
+
+    // The message of the sample.
+    fn entry_at(&self, of: usize) -> Option<&Entry> {
+        match self.sample_at(of) {
+            Some((_, _, message)) => self.entry(message),
+            None => None,
+        }
     }
 
     /// How many cells the loan has, or values the sample's message, that the command at this position

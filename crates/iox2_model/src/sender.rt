@@ -43,8 +43,11 @@ impl Model {
     }
 
     // The subscriber to whose mailbox the publisher's end at the place leads.
-    fn sender_end(&self, p: usize, place: usize) -> Option<usize> {
-        occupant(self.publisher(p)?.ends.as_slice(), place)
+    pub(crate) fn sender_end(&self, p: usize, place: usize) -> Option<usize> {
+        match self.publisher(p) {
+            Some(publisher) => occupant(publisher.ends.as_slice(), place),
+            None => None,
+        }
     }
 
     // The end at the place goes, if there is one, and what waits in its mailbox with it.
@@ -102,10 +105,6 @@ pub(crate) fn last(
 ) -> Result<Vec<usize>, ModelError> {
     let from = numbers.len().saturating_sub(count);
     let mut found = Vec::new(alloc);
-    for index in from..numbers.len() {
-        if let Some(number) = numbers.get(index) {
-            found.push(*number)?;
-        }
-    }
+    found.extend_from_slice(&numbers[from..])?;
     Ok(found)
 }

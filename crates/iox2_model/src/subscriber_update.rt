@@ -40,8 +40,11 @@ impl Model {
     }
 
     // The publisher from whose mailbox the subscriber's end at the place leads.
-    fn receiver_end(&self, q: usize, place: usize) -> Option<usize> {
-        occupant(self.subscriber(q)?.ends.as_slice(), place)
+    pub(crate) fn receiver_end(&self, q: usize, place: usize) -> Option<usize> {
+        match self.subscriber(q) {
+            Some(subscriber) => occupant(subscriber.ends.as_slice(), place),
+            None => None,
+        }
     }
 
     // At a place where a publisher stands, an end to it stays or is made, after the one that stood

@@ -1,3 +1,6 @@
+ghost use Rattle.std.specs.Prelude.{◌≡◌, ◌<◌, length, false};
+ghost use Rattle.iox2_contents.specs.SlotContents.{SomeAt};
+
 use iox2_contents::Contents;
 use std::alloc::Global;
 use std::process::Abort;
@@ -29,36 +32,73 @@ fn a_loan_starts_with_empty_cells(rt: HostRuntime) {
     assert!(rt; station == 0 && is_empty && cells == [3, 1] && values == 0);
 }
 
-#[test]
-fn a_payload_is_written_and_read(rt: HostRuntime) {
-    let mut contents: Contents<Reading, Station> = Contents::new(rt.alloc(), 2, 3, true).expect(
-        &rt, "room",
+// The contents of two slots with room for three elements. A loan of three starts in the first, and one
+// of one in the second, which is written.
+fn written_beside_a_loan(rt: &impl Abort, alloc: Global, celsius: u64) -> Contents<Reading, Station>
+    ensures beside { SomeAt result 0 (λ content. content.is_in_place ≡ false) }
+    ensures written { SomeAt result 1 (λ content. (0 < length content.values) × (content.is_in_place ≡ false) × (content.room ≡ 3)) }
+{
+    let mut contents: Contents<Reading, Station> = Contents::new(alloc, 2, 3, true).expect(
+        rt, "room",
     );
     contents.start(0, 3);
     contents.start(1, 1);
-    contents.write_payload(1, Reading { celsius: 21 });
-    let celsius = contents.value(1).celsius;
-    let written = [
+    contents.write_payload(1, Reading { celsius });
+    contents
+}
+
+// How many values the second slot has, and how many cells the first and the second.
+fn lengths(contents: &Contents<Reading, Station>) -> [usize; 3]
+    requires first { SomeAt contents.now 0 (λ content. content.is_in_place ≡ false) }
+    requires second { SomeAt contents.now 1 (λ content. content.is_in_place ≡ false) }
+{
+    [
         contents.values(1).len(),
         contents.cells(0).len(),
         contents.cells(1).len(),
-    ];
+    ]
+}
+
+#[test]
+fn a_payload_is_written_and_read(rt: HostRuntime) {
+    let mut contents = written_beside_a_loan(&rt, rt.alloc(), 21);
+    let celsius = contents.value(1).celsius;
+    let written = lengths(&contents);
     contents.start(1, 2);
-    let again = [contents.values(1).len(), contents.cells(1).len()];
+    let again = lengths(&contents);
     drop(contents);
-    assert!(rt; celsius == 21 && written == [1, 3, 0] && again == [0, 2]);
+    assert!(rt; celsius == 21 && written == [1, 3, 0] && again == [0, 3, 2]);
+}
+
+// The contents of two slots with a loan of one element each, in place.
+fn two_loans(rt: &impl Abort, alloc: Global) -> Contents<Reading, Station>
+    ensures first { SomeAt result 0 (λ content. length content.cells ≡ 1) }
+    ensures second { SomeAt result 1 (λ content. (length content.cells ≡ 1) × (content.room ≡ 1)) }
+{
+    let mut contents: Contents<Reading, Station> = Contents::new(alloc, 2, 1, false).expect(
+        rt, "room",
+    );
+    contents.start(0, 1);
+    contents.start(1, 1);
+    contents
+}
+
+// Writes the second loan, and then the first.
+fn write_both(contents: &mut Contents<Reading, Station>, second: u64, first: u64)
+    requires first { SomeAt contents.old 0 (λ content. length content.cells ≡ 1) }
+    requires second { SomeAt contents.old 1 (λ content. (length content.cells ≡ 1) × (content.room ≡ 1)) }
+    ensures first { SomeAt contents.new 0 (λ content. 0 < length content.values) }
+    ensures second { SomeAt contents.new 1 (λ content. (0 < length content.values) × (content.room ≡ 1)) }
+{
+    contents.write_payload(1, Reading { celsius: second });
+    contents.write_payload(0, Reading { celsius: first });
 }
 
 #[test]
 fn a_single_value_is_written_and_read(rt: HostRuntime) {
-    let mut contents: Contents<Reading, Station> = Contents::new(rt.alloc(), 2, 1, false).expect(
-        &rt, "room",
-    );
-    contents.start(0, 1);
-    contents.start(1, 1);
+    let mut contents = two_loans(&rt, rt.alloc());
     let is_empty = contents.cell(1).is_none();
-    contents.write_payload(1, Reading { celsius: 21 });
-    contents.write_payload(0, Reading { celsius: 22 });
+    write_both(&mut contents, 21, 22);
     let written = [contents.value(1).celsius, contents.value(0).celsius];
     contents.start(1, 1);
     let is_empty_again = contents.cell(1).is_none();
@@ -67,36 +107,84 @@ fn a_single_value_is_written_and_read(rt: HostRuntime) {
     assert!(rt; is_empty && written == [21, 22] && is_empty_again && other == 22);
 }
 
+// The contents of one slot, in which a loan of so many elements lies in a list.
+fn listed(rt: &impl Abort, alloc: Global, len: usize) -> Contents<Reading, Station>
+    ensures { SomeAt result 0 (λ content. content.is_in_place ≡ false) }
+{
+    let mut contents: Contents<Reading, Station> = Contents::new(alloc, 1, len, true).expect(
+        rt, "room",
+    );
+    contents.start(0, len);
+    contents
+}
+
+// Writes one cell of the loan, if it has one there.
+fn write_cell(contents: &mut Contents<Reading, Station>, at: usize, celsius: u64)
+    requires { SomeAt contents.old 0 (λ content. content.is_in_place ≡ false) }
+    ensures { SomeAt contents.new 0 (λ content. content.is_in_place ≡ false) }
+{
+    if let Some(cell) = contents.cells_mut(0).get_mut(at) {
+        *cell = Some(Reading { celsius });
+    }
+}
+
+// Takes the cells of the loan as its values, where each is written.
+fn assume_init(contents: &mut Contents<Reading, Station>) -> bool
+    requires { SomeAt contents.old 0 (λ content. content.is_in_place ≡ false) }
+    ensures { SomeAt contents.new 0 (λ content. content.is_in_place ≡ false) }
+{
+    contents.assume_init(0)
+}
+
+// The value there, if the slot has one.
+fn celsius_at(contents: &Contents<Reading, Station>, at: usize) -> Option<u64>
+    requires { SomeAt contents.now 0 (λ content. content.is_in_place ≡ false) }
+{
+    match contents.values(0).get(at) {
+        Some(reading) => Some(reading.celsius),
+        None => None,
+    }
+}
+
+// Whether the cell there is written, if the slot has one.
+fn is_written_at(contents: &Contents<Reading, Station>, at: usize) -> Option<bool>
+    requires { SomeAt contents.now 0 (λ content. content.is_in_place ≡ false) }
+{
+    match contents.cells(0).get(at) {
+        Some(cell) => Some(cell.is_some()),
+        None => None,
+    }
+}
+
 #[test]
 fn a_slice_of_one_lies_in_a_list_where_it_is_to(rt: HostRuntime) {
-    let mut contents: Contents<Reading, Station> = Contents::new(rt.alloc(), 1, 1, true).expect(
-        &rt, "room",
-    );
-    contents.start(0, 1);
-    contents.cells_mut(0)[0] = Some(Reading { celsius: 21 });
-    let is_written = contents.assume_init(0);
-    let celsius = contents.values(0)[0].celsius;
-    contents.value_mut(0).celsius = 22;
-    let changed = contents.values(0)[0].celsius;
+    let mut contents = listed(&rt, rt.alloc(), 1);
+    write_cell(&mut contents, 0, 21);
+    let is_written = assume_init(&mut contents);
+    let read = [celsius_at(&contents, 0), celsius_at(&contents, 1)];
     drop(contents);
-    assert!(rt; is_written && celsius == 21 && changed == 22);
+    assert!(rt; is_written && read == [Some(21), None]);
+}
+
+#[test]
+fn a_value_is_changed_where_it_lies(rt: HostRuntime) {
+    let mut contents = written_beside_a_loan(&rt, rt.alloc(), 21);
+    contents.value_mut(1).celsius = 22;
+    let changed = contents.value(1).celsius;
+    drop(contents);
+    assert!(rt; changed == 22);
 }
 
 #[test]
 fn cells_are_taken_only_once_each_is_written(rt: HostRuntime) {
-    let mut contents: Contents<Reading, Station> = Contents::new(rt.alloc(), 1, 2, true).expect(
-        &rt, "room",
-    );
-    contents.start(0, 2);
-    contents.cells_mut(0)[1] = Some(Reading { celsius: 21 });
-    let is_written = contents.assume_init(0);
-    let kept = [
-        contents.cells(0)[0].is_none(),
-        contents.cells(0)[1].is_some(),
-    ];
-    contents.cells_mut(0)[0] = Some(Reading { celsius: 20 });
-    let is_written_later = contents.assume_init(0);
-    let values = [contents.values(0)[0].celsius, contents.values(0)[1].celsius];
+    let mut contents = listed(&rt, rt.alloc(), 2);
+    write_cell(&mut contents, 1, 21);
+    let is_written = assume_init(&mut contents);
+    let kept = [is_written_at(&contents, 0), is_written_at(&contents, 1)];
+    write_cell(&mut contents, 0, 20);
+    let is_written_later = assume_init(&mut contents);
+    let values = [celsius_at(&contents, 0), celsius_at(&contents, 1)];
     drop(contents);
-    assert!(rt; !is_written && kept == [true, true] && is_written_later && values == [20, 21]);
+    assert!(rt; !is_written && kept == [Some(false), Some(true)]);
+    assert!(rt; is_written_later && values == [Some(20), Some(21)]);
 }

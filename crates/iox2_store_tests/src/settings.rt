@@ -22,69 +22,38 @@ fn settings_start_with_the_defaults(rt: HostRuntime) {
     assert!(rt; is_alike);
 }
 
+// The defaults with one field changed, of which there are so many.
+const FIELDS: usize = 14;
+
+fn changed_at(field: usize) -> ServiceConfig {
+    let mut settings = ServiceConfig::new(7);
+    match field {
+        0 => settings.service_id = 8,
+        1 => settings.node_id = 1,
+        2 => settings.variant = TypeVariant::Dynamic,
+        3 => settings.units_per_element = 2,
+        4 => settings.max_publishers = 3,
+        5 => settings.max_subscribers = 9,
+        6 => settings.subscriber_max_buffer_size = 3,
+        7 => settings.subscriber_max_borrowed_samples = 3,
+        8 => settings.history_size = 1,
+        9 => settings.enable_safe_overflow = false,
+        10 => settings.subscriber_expired_connection_buffer = 129,
+        11 => settings.publisher_max_loaned_samples = 3,
+        12 => settings.backpressure_strategy = BackpressureStrategy::DiscardData,
+        13 => settings.publisher_allocation_strategy = AllocationStrategy::BestFit,
+        _ => {}
+    }
+    settings
+}
+
 #[test]
 fn settings_compare_by_every_field(rt: HostRuntime) {
     let settings = ServiceConfig::new(7);
-    let others = [
-        ServiceConfig {
-            service_id: 8,
-            ..settings
-        },
-        ServiceConfig {
-            node_id: 1,
-            ..settings
-        },
-        ServiceConfig {
-            variant: TypeVariant::Dynamic,
-            ..settings
-        },
-        ServiceConfig {
-            units_per_element: 2,
-            ..settings
-        },
-        ServiceConfig {
-            max_publishers: 3,
-            ..settings
-        },
-        ServiceConfig {
-            max_subscribers: 9,
-            ..settings
-        },
-        ServiceConfig {
-            subscriber_max_buffer_size: 3,
-            ..settings
-        },
-        ServiceConfig {
-            subscriber_max_borrowed_samples: 3,
-            ..settings
-        },
-        ServiceConfig {
-            history_size: 1,
-            ..settings
-        },
-        ServiceConfig {
-            enable_safe_overflow: false,
-            ..settings
-        },
-        ServiceConfig {
-            subscriber_expired_connection_buffer: 129,
-            ..settings
-        },
-        ServiceConfig {
-            publisher_max_loaned_samples: 3,
-            ..settings
-        },
-        ServiceConfig {
-            backpressure_strategy: BackpressureStrategy::DiscardData,
-            ..settings
-        },
-        ServiceConfig {
-            publisher_allocation_strategy: AllocationStrategy::BestFit,
-            ..settings
-        },
-    ];
     let copy = settings;
-    let is_alike = copy == settings;
-    let is_one_alike = others.contains(&settings);
-    assert!(rt; is_alike && !is_one_alike);
+    assert!(rt; copy == settings);
+    assert!(rt; changed_at(FIELDS) == settings);
+    for field in 0..FIELDS {
+        assert!(rt; changed_at(field) != settings);
+    }
 }
