@@ -1,9 +1,8 @@
 -- Which publisher is connected with which subscriber, seen from outside, and what that says of calls.
-use Rattle.std.proofs.Common.{◌≡◌, ℕ, suc, ◌+◌, ◌<◌, ◌≤◌, Bool, true, false, List, [], ◌∷◌, ◌++◌, map, drop, length, refl, sym, ap, subst, ◌∙◌, arith, Option, None, Some, ◌⊎◌, inl, inr, ⊎_elim}
+use Rattle.std.proofs.Common.{◌≡◌, ℕ, suc, ◌<◌, Bool, true, false, List, [], ◌∷◌, ◌++◌, map, drop, length, sym, ap, subst, ◌∙◌, arith, Option, None, Some, ◌⊎◌, inl, inr, ⊎_elim}
 use Rattle.std.specs.Prelude.{◌≢◌, IfOk, Result, Ok, Err}
 use Rattle.std.specs.Bool.{MatchBool}
 use Rattle.std.specs.List.{filter_map}
-use Rattle.std.specs.Option.{option_map_or}
 use Rattle.std.proofs.lemmas.Bool.{ne_eqb}
 use Rattle.std.proofs.lemmas.List.{length-map, map-append, drop-map}
 use Rattle.std.proofs.lemmas.Option.{none-some, same_Some}
@@ -14,7 +13,7 @@ use Rattle.iox2_store.specs.machine.Ports.{CreatePublisher, publisher_closed, su
 use Rattle.iox2_store.specs.machine.Records.{Entry, Environment, Loan, Publisher, PublisherSettings, Subscriber as MachineSubscriber}
 use Rattle.iox2_store.specs.machine.Sends.{Delivered_to, Send}
 use Rattle.iox2_store.specs.machine.State.{State, Messages, is_blocked}
-use Rattle.iox2_store.specs.machine.Waiting.{waiting_from, waiting_for}
+use Rattle.iox2_store.specs.machine.Waiting.{waiting_from}
 use Rattle.iox2_store.specs.declared.errors.PublisherCreateError.{PublisherCreateError}
 use Rattle.iox2_domain.specs.Kept.{Kept, state_of, entries_of}
 use Rattle.iox2_domain.specs.Shows.{Shows}
@@ -34,7 +33,7 @@ use Rattle.iox2_pubsub.proofs.ConnectionsMade.{create-publisher-connections, cre
 use Rattle.iox2_pubsub.proofs.ConnectionsStay.{publisher-closed-connections, subscriber-closed-connections}
 use Rattle.iox2_pubsub.proofs.ConnectedCounts.{publisher-closed-keeps}
 use Rattle.iox2_pubsub.proofs.PayloadLists.{map_same}
-use Rattle.iox2_pubsub.proofs.ServedLists.{ServedLists, send-served, send-counts, send-full}
+use Rattle.iox2_pubsub.proofs.ServedLists.{send-served, send-counts, send-full}
 use Rattle.iox2_pubsub.proofs.UpToDateShown.{connected, connected-in, up-to-date-in}
 use Rattle.iox2_pubsub.proofs.WaitingShown.{live-open, payload-is, payloads-from-are, same-payload, waiting-is, written-cells}
 
@@ -107,14 +106,18 @@ module _ {T U F : Type 0} (old new : Kept T U F) (m m' : Messages T U) (s s' : S
     pub served : IsServed old new l.publisher subscriber values
     served =
         served-parts old new l.publisher subscriber values (⊎_elim
-        (λ fits. inl (appended before (λ k at. at) fits ∙ ap (λ xs. xs ++ values ∷ []) old-payloads,
-        waiting-is new m' s' shown' subscriber ∙ send-counts environment s n l s' count shown.well_formed free h subscriber.id c fits ∙ ap suc (sym (waiting-is old m s shown subscriber))))
-        (λ full. inr (mapped-some eo before (payloads_from old l.publisher subscriber) (sym old-payloads) full.0,
-        subst (λ (b : Bool). MatchBool b
-        (payloads_from new l.publisher subscriber ≡ drop 1 (payloads_from old l.publisher subscriber) ++ values ∷ [])
-        (payloads_from new l.publisher subscriber ≡ payloads_from old l.publisher subscriber)) (ap (λ (t : State T U). (t.config).enable_safe_overflow) shown.state)
-        (matched (s.config).enable_safe_overflow full.1),
-        waiting-is new m' s' shown' subscriber ∙ send-full environment s n l s' count shown.well_formed free h subscriber.id c full.0 full.1 ∙ sym (waiting-is old m s shown subscriber)))
+        (λ fits. inl (
+          appended before (λ k at. at) fits ∙ ap (λ xs. xs ++ values ∷ []) old-payloads,
+          waiting-is new m' s' shown' subscriber ∙ send-counts environment s n l s' count shown.well_formed free h subscriber.id c fits ∙ ap suc (sym (waiting-is old m s shown subscriber)),
+        ))
+        (λ full. inr (
+          mapped-some eo before (payloads_from old l.publisher subscriber) (sym old-payloads) full.0,
+          subst (λ (b : Bool). MatchBool b
+              (payloads_from new l.publisher subscriber ≡ drop 1 (payloads_from old l.publisher subscriber) ++ values ∷ [])
+              (payloads_from new l.publisher subscriber ≡ payloads_from old l.publisher subscriber)) (ap (λ (t : State T U). (t.config).enable_safe_overflow) shown.state)
+              (matched (s.config).enable_safe_overflow full.1),
+          waiting-is new m' s' shown' subscriber ∙ send-full environment s n l s' count shown.well_formed free h subscriber.id c full.0 full.1 ∙ sym (waiting-is old m s shown subscriber),
+        ))
         (send-served environment s n l s' count shown.well_formed free h subscriber.id c))
       where
         matched : (overflow : Bool) → MatchBool overflow (now ≡ drop 1 before ++ n ∷ []) (now ≡ before)
