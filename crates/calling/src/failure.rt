@@ -1,32 +1,14 @@
-use iox2_pubsub::{
-    DomainCreateError, PublisherCreateError, ReceiveError, SendError, SubscriberCreateError,
-};
+use iox2_pubsub::{PublisherCreateError, ReceiveError, SendError};
 
 /// Why a function of this crate ends early.
 #[derive(Debug, Drop)]
 pub enum Failure {
-    /// There is no domain.
-    Domain(DomainCreateError),
     /// There is no publisher.
     Publisher(PublisherCreateError),
-    /// There is no subscriber.
-    Subscriber(SubscriberCreateError),
     /// A reading isn't sent.
     Send(SendError),
     /// Nothing is received.
     Receive(ReceiveError),
-}
-
-impl From<DomainCreateError> for Failure {
-    fn from(error: DomainCreateError) -> Self {
-        Failure::Domain(error)
-    }
-}
-
-impl From<SubscriberCreateError> for Failure {
-    fn from(error: SubscriberCreateError) -> Self {
-        Failure::Subscriber(error)
-    }
 }
 
 impl From<PublisherCreateError> for Failure {

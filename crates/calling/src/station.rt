@@ -1,8 +1,7 @@
 //! A struct owns a domain and its ports.
 use crate::failure::Failure;
 use crate::passing::pass;
-use iox2_pubsub::{BackpressureStrategy, Domain, Publisher, ServiceConfig, Subscriber};
-use std::alloc::Global;
+use iox2_pubsub::{Domain, Publisher, Subscriber};
 use std::marker::Model;
 
 /// A domain with a publisher and a subscriber, which are live.
@@ -23,27 +22,6 @@ impl Model for Station {
 }
 
 impl Station {
-    /// Makes a domain with a subscriber and a publisher that discards.
-    pub fn new(alloc: Global) -> Result<Station, Failure> {
-        let mut domain = Domain::new(alloc, ServiceConfig::new(1))?;
-        let subscriber = domain.subscriber_builder().create(&mut domain)?;
-        let made = domain
-            .publisher_builder()
-            .backpressure_strategy(BackpressureStrategy::DiscardData)
-            .create(&mut domain);
-        match made {
-            Ok(publisher) => Ok(Station {
-                domain,
-                publisher,
-                subscriber,
-            }),
-            Err(error) => {
-                subscriber.close(&mut domain);
-                Err(error.into())
-            }
-        }
-    }
-
     /// Sends a reading, and receives the next that waits.
     pub fn pass(&mut self, celsius: u32) -> Result<Option<u32>, Failure> {
         pass(&mut self.domain, &self.publisher, &self.subscriber, celsius)

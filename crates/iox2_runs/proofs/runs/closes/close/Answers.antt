@@ -12,8 +12,8 @@ use Rattle.iox2_pubsub.proofs.StaysBut.{nothing-is-new}
 use Rattle.iox2_runs.specs.declared.runs.made.Made.TheVariants.{Nothing, Publisher as MadePublisher, Subscriber as MadeSubscriber}
 use Rattle.iox2_runs.proofs.runs.closes.close.Goals as goal
 
-pub close-requires-in-Subscriber-clause-live : goal.close-requires-in-Subscriber-clause-live
-close-requires-in-Subscriber-clause-live g c =
+pub close-requires-in-Subscriber : goal.close-requires-in-Subscriber
+close-requires-in-Subscriber g c =
     live_subscriber {T = g.row.T.Denot} {U = g.row.U.Denot} c.args.domain.now c.args.table.now.items c.requires c.args.of c.in-Subscriber.subscriber (sym c.take.ensures.made ∙ c.in-Subscriber.is)
 
 pub returns-in-Subscriber-clause-carries : goal.returns-in-Subscriber-clause-carries
@@ -38,12 +38,12 @@ returns-in_default-clause-leaves g c =
     leaves-all {T = g.row.T.Denot} {U = g.row.U.Denot} c.args.domain.now c.args.domain.now c.args.table.now.items c.put-in_default.new.table.items refl
     (back c.args.table.now.items c.take.new.table.items c.put-in_default.new.table.items c.args.of c.take.result c.take.ensures.items (sym c.take.ensures.made) c.put-in_default.ensures.items)
 
-pub is_blocked-requires-clause-live : goal.is_blocked-requires-clause-live
-is_blocked-requires-clause-live g c =
+pub is_blocked-requires : goal.is_blocked-requires
+is_blocked-requires g c =
     live_publisher {T = g.row.T.Denot} {U = g.row.U.Denot} c.args.domain.now c.args.table.now.items c.requires c.args.of c.in-Publisher.publisher (sym c.take.ensures.made ∙ c.in-Publisher.is)
 
-pub close-requires-clause-ready : goal.close-requires-clause-ready
-close-requires-clause-ready g c =
+pub close-requires : goal.close-requires
+close-requires g c =
     ready_publisher {T = g.row.T.Denot} {U = g.row.U.Denot} c.args.domain.now c.args.table.now.items c.requires c.args.of c.in-Publisher.publisher (sym c.take.ensures.made ∙ c.in-Publisher.is) (c.is_blocked.ensures.0 c.if-is_blocked.false)
 
 pub returns-then-is_blocked-clause-carries : goal.returns-then-is_blocked-clause-carries

@@ -12,8 +12,8 @@ use Rattle.iox2_commands.specs.declared.reply.Reply.TheVariants.{Has, UpdateRefu
 use Rattle.iox2_runs.specs.declared.runs.made.Made.TheVariants.{Nothing}
 use Rattle.iox2_runs.proofs.runs.questions.has_samples.Goals as goal
 
-pub has_samples-requires-clause-live : goal.has_samples-requires-clause-live
-has_samples-requires-clause-live g c =
+pub has_samples-requires : goal.has_samples-requires
+has_samples-requires g c =
     live_subscriber {T = g.row.T.Denot} {U = g.row.U.Denot} c.args.domain.now c.args.table.now c.requires c.args.of c.in-Subscriber.subscriber
     (looked c.args.table.now c.args.of c.get.result c.in-Some.made _ c.get.ensures.lookup c.in-Some.is c.in-Subscriber.is)
 

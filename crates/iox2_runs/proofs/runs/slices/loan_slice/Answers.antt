@@ -92,8 +92,8 @@ returns-in_default-clause-leaves g c =
     leaves-all {T = g.row.T.Denot} {U = g.row.U.Denot} c.args.domain.now c.args.domain.now c.args.table.now.items c.put-in_default.new.table.items refl
     (back c.args.table.now.items c.take.new.table.items c.put-in_default.new.table.items c.args.of c.take.result c.take.ensures.items (sym c.take.ensures.made) c.put-in_default.ensures.items)
 
-pub is_blocked-requires-clause-live : goal.is_blocked-requires-clause-live
-is_blocked-requires-clause-live g c =
+pub is_blocked-requires : goal.is_blocked-requires
+is_blocked-requires g c =
     live_publisher {T = g.row.T.Denot} {U = g.row.U.Denot} c.args.domain.now c.args.table.now.items c.requires c.args.of c.in-Publisher.publisher (sym c.take.ensures.made ∙ c.in-Publisher.is)
 
 pub loan_slice_uninit-loaned-requires-clause-ready : goal.loan_slice_uninit-loaned-requires-clause-ready
