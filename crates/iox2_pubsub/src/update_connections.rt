@@ -1,5 +1,5 @@
 //! Updates of a port's connections, by call.
-ghost use Rattle.std.specs.Prelude.{◌≡◌, ℕ};
+ghost use Rattle.std.specs.Prelude.{◌≡◌, ℕ, OnOk};
 ghost use Rattle.iox2_pubsub.specs.UpdateCalls.{failure_of};
 
 use crate::domain::Domain;
@@ -25,6 +25,9 @@ pub trait UpdateConnections<T: Drop, U: Default + Drop, F: BackpressureFn, G: De
     // The machine's update of the port, with this failure if any.
     ghost updates: { State T U → Self → State T U → Option ConnectionFailure → Type 0 };
 
+    // What an update that didn't fail leaves true of the port.
+    ghost is_updated: { Kept T U F → Self → Type 0 };
+
     // How many messages more may wait for a subscriber afterwards.
     ghost adds: { Kept T U F → ℕ };
 
@@ -37,11 +40,12 @@ pub trait UpdateConnections<T: Drop, U: Default + Drop, F: BackpressureFn, G: De
     /// domain, or that the update fails with `FailedToEstablishConnection(OutOfMemory)`, after the
     /// rest of it is done. The first failure is returned.
     fn update_connections(&self, domain: &mut Domain<T, U, F, G>) -> Result<(), ConnectionFailure>
-        requires { is_live domain.old self.now }
+        requires live { is_live domain.old self.now }
         ensures live { is_live domain.new self.now }
         ensures updates { (m : Messages T U) (s : State T U) → Shows domain.old m s
             → (s' : State T U) × Shows domain.new m s' × updates s self.now s' (failure_of result) }
         ensures adds { AddAtMost (adds domain.old) domain.old domain.new }
+        ensures updated { OnOk result (is_updated domain.new self.now) }
         ensures up_to_date { UpToDateStay domain.old domain.new }
         ensures loans_left { LoansLeftStay domain.old domain.new }
         ensures stays { Stays domain.old domain.new };

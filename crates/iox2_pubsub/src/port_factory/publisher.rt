@@ -5,7 +5,7 @@ ghost use Rattle.iox2_store.specs.machine.Environments.{fixed_handlers};
 ghost use Rattle.iox2_store.specs.machine.Records.{Fixed};
 ghost use Rattle.iox2_store.specs.machine.Ports.{CreatePublisher};
 ghost use Rattle.iox2_store.specs.machine.State.{State, Messages};
-ghost use Rattle.iox2_pubsub.specs.Live.{IsNewIn, IsReadyPublisher, NeverFails, NeverWaits, Stays, handler_box, publisher_key, publisher_port, payloads, waiting};
+ghost use Rattle.iox2_pubsub.specs.Live.{ConnectionsStay, IsConnected, IsLiveSubscriber, IsNewIn, IsReadyPublisher, NeverFails, NeverWaits, NoneRefused, Stays, handler_box, publisher_key, publisher_port, payloads, waiting};
 ghost use Rattle.iox2_pubsub.specs.LoansLeft.{HasLoansLeft, LoansLeftStay};
 ghost use Rattle.iox2_domain.specs.NewPublisher.{plain_publisher, static_publisher};
 ghost use Rattle.iox2_domain.specs.Handlers.{fails_update, may_fail, may_fail_update};
@@ -15,6 +15,7 @@ ghost use Rattle.iox2_pubsub.specs.Factories.{answer_of, with_handler};
 ghost use Rattle.iox2_pubsub.specs.Handlers.{may_wait};
 ghost use Rattle.iox2_pubsub.specs.declared.subscriber.Subscriber.{Subscriber};
 ghost use Rattle.iox2_domain.specs.Shows.{Shows};
+ghost use Rattle.iox2_pubsub.specs.Handles.{max_slice_len_of, publisher_id, strategy_of};
 
 use crate::degradation_handler::DegradationHandler;
 use crate::domain::Domain;
@@ -73,6 +74,7 @@ impl<T: Drop, U: Default + Drop, F: BackpressureFn, G: DegradationFn> Domain<T, 
 }
 
 impl<F: BackpressureFn> PortFactoryPublisher<F> {
+    ghost use Rattle.iox2_pubsub.specs.Handles.{publisher_id, strategy_of};
     /// Sets how many loans of the publisher may be out at a time, 0 or more.
     ///
     /// iceoryx2's `PortFactoryPublisher::max_loaned_samples`
@@ -176,18 +178,20 @@ impl<F: BackpressureFn> PortFactoryPublisher<F> {
     ) -> Result<Publisher, PublisherCreateError>
         ensures creates { (m : Messages T U) (s : State T U) → Shows domain.old m s → (s' : State T U) × Shows domain.new m s'
             × MatchResult result
-            (λ publisher. (publisher.id ≡ s.next_port) × CreatePublisher fixed_handlers s self.settings s' None)
+            (λ publisher. (publisher_id publisher ≡ s.next_port) × CreatePublisher fixed_handlers s self.settings s' None)
             (λ e. CreatePublisher fixed_handlers s self.settings s' (Some e)) }
         ensures ready { IfOk result (λ publisher. IsReadyPublisher domain.new publisher) }
         ensures discards { self.settings.backpressure_strategy ≡ BackpressureStrategy.DiscardData → self.settings.backpressure_handler ≡ None → may_fail_update self.settings.degradation_handler ≡ false → IfOk result (λ publisher. NeverWaits domain.new (publisher_key publisher)) }
         ensures passes { may_wait self.settings.backpressure_strategy self.settings.backpressure_handler ≡ false → may_fail self.settings.backpressure_handler ≡ false → may_fail_update self.settings.degradation_handler ≡ false → IfOk result (λ publisher. NeverWaits domain.new (publisher_key publisher)) }
         ensures overflows { (domain.old.config).enable_safe_overflow ≡ true → may_fail_update self.settings.degradation_handler ≡ false → IfOk result (λ publisher. NeverWaits domain.new (publisher_key publisher)) }
-        ensures never_fails { may_fail self.settings.backpressure_handler ≡ false → may_fail_update self.settings.degradation_handler ≡ false → IfOk result (λ publisher. NeverFails domain.new publisher.id) }
-        ensures boxed { IfOk result (λ publisher. handler_box domain.new publisher.id ≡ self.box) }
-        ensures strategy { IfOk result (λ publisher. publisher.strategy ≡ self.settings.backpressure_strategy) }
+        ensures never_fails { may_fail self.settings.backpressure_handler ≡ false → may_fail_update self.settings.degradation_handler ≡ false → IfOk result (λ publisher. NeverFails domain.new (publisher_id publisher)) }
+        ensures boxed { IfOk result (λ publisher. handler_box domain.new (publisher_id publisher) ≡ self.box) }
+        ensures strategy { IfOk result (λ publisher. strategy_of publisher ≡ self.settings.backpressure_strategy) }
         ensures new { IfOk result (λ publisher. IsNewIn domain.old (publisher_port publisher)) }
         ensures refused { OnErr result (payloads domain.new ≡ payloads domain.old) }
         ensures no_fewer { (subscriber : Subscriber) → waiting domain.old subscriber ≤ waiting domain.new subscriber }
+        ensures connections { ConnectionsStay domain.old domain.new }
+        ensures connects { IfOk result (λ publisher. NoneRefused domain.old domain.new → (subscriber : Subscriber) → IsLiveSubscriber domain.old subscriber → IsConnected domain.new (publisher_id publisher) subscriber) }
         ensures loans_left { LoansLeftStay domain.old domain.new }
         ensures left { IfOk result (λ publisher. HasLoansLeft domain.new publisher self.settings.max_loaned_samples) }
         ensures stays { Stays domain.old domain.new }
@@ -205,19 +209,21 @@ pub(crate) fn create_plain<T: Drop, U: Default + Drop, F: BackpressureFn, G: Deg
 ) -> Result<Publisher, PublisherCreateError>
     ensures creates { (m : Messages T U) (s : State T U) → Shows domain.old m s → (s' : State T U) × Shows domain.new m s'
         × MatchResult result
-        (λ publisher. (publisher.id ≡ s.next_port) × CreatePublisher fixed_handlers s (static_publisher given.now (marks_of handler)) s' None)
+        (λ publisher. (publisher_id publisher ≡ s.next_port) × CreatePublisher fixed_handlers s (static_publisher given.now (marks_of handler)) s' None)
         (λ e. CreatePublisher fixed_handlers s (static_publisher given.now (marks_of handler)) s' (Some e)) }
     ensures ready { IfOk result (λ publisher. IsReadyPublisher domain.new publisher) }
     ensures discards { given.now.strategy ≡ BackpressureStrategy.DiscardData → marks_of handler ≡ None → fails_update given.now.degradation ≡ false → IfOk result (λ publisher. NeverWaits domain.new (publisher_key publisher)) }
     ensures passes { may_wait given.now.strategy (marks_of handler) ≡ false → may_fail (marks_of handler) ≡ false → fails_update given.now.degradation ≡ false → IfOk result (λ publisher. NeverWaits domain.new (publisher_key publisher)) }
     ensures overflows { (domain.old.config).enable_safe_overflow ≡ true → fails_update given.now.degradation ≡ false → IfOk result (λ publisher. NeverWaits domain.new (publisher_key publisher)) }
-    ensures never_fails { may_fail (marks_of handler) ≡ false → fails_update given.now.degradation ≡ false → IfOk result (λ publisher. NeverFails domain.new publisher.id) }
-    ensures boxed { IfOk result (λ publisher. handler_box domain.new publisher.id ≡ custom_box handler) }
-    ensures strategy { IfOk result (λ publisher. publisher.strategy ≡ given.now.strategy) }
-    ensures longest { IfOk result (λ publisher. publisher.initial_max_slice_len ≡ given.now.initial_max_slice_len) }
+    ensures never_fails { may_fail (marks_of handler) ≡ false → fails_update given.now.degradation ≡ false → IfOk result (λ publisher. NeverFails domain.new (publisher_id publisher)) }
+    ensures boxed { IfOk result (λ publisher. handler_box domain.new (publisher_id publisher) ≡ custom_box handler) }
+    ensures strategy { IfOk result (λ publisher. strategy_of publisher ≡ given.now.strategy) }
+    ensures longest { IfOk result (λ publisher. max_slice_len_of publisher ≡ given.now.initial_max_slice_len) }
     ensures new { IfOk result (λ publisher. IsNewIn domain.old (publisher_port publisher)) }
     ensures refused { OnErr result (payloads domain.new ≡ payloads domain.old) }
     ensures no_fewer { (subscriber : Subscriber) → waiting domain.old subscriber ≤ waiting domain.new subscriber }
+    ensures connections { ConnectionsStay domain.old domain.new }
+    ensures connects { IfOk result (λ publisher. NoneRefused domain.old domain.new → (subscriber : Subscriber) → IsLiveSubscriber domain.old subscriber → IsConnected domain.new (publisher_id publisher) subscriber) }
     ensures loans_left { LoansLeftStay domain.old domain.new }
     ensures left { IfOk result (λ publisher. HasLoansLeft domain.new publisher given.now.max_loaned_samples) }
     ensures stays { Stays domain.old domain.new }

@@ -36,6 +36,7 @@ impl Model for PortFactorySubscriber {
 }
 
 impl PortFactorySubscriber {
+    ghost use Rattle.iox2_pubsub.specs.Handles.{buffer_size_of, subscriber_id};
     /// Sets how many messages of one publisher may wait for the subscriber. Here 0 counts as 1.
     ///
     /// iceoryx2's `PortFactorySubscriber::buffer_size` (`src/service/port_factory/subscriber.rs`).
@@ -101,7 +102,7 @@ impl PortFactorySubscriber {
         domain: &mut Domain<T, U, F, G>,
     ) -> Result<Subscriber, SubscriberCreateError>
         ensures creates { (m : Messages T U) (s : State T U) → Shows domain.old m s → (s' : State T U) × Shows domain.new m s' × MatchResult result
-            (λ subscriber. CreateSubscriber fixed_handlers s self s' None × (subscriber.id ≡ s.next_port) × (subscriber.buffer_size ≡ buffer_for self))
+            (λ subscriber. CreateSubscriber fixed_handlers s self s' None × (subscriber_id subscriber ≡ s.next_port) × (buffer_size_of subscriber ≡ buffer_for self))
             (λ error. CreateSubscriber fixed_handlers s self s' (Some error)) }
         ensures live { IfOk result (λ subscriber. IsLiveSubscriber domain.new subscriber) }
         ensures new { IfOk result (λ subscriber. IsNewIn domain.old (subscriber_port subscriber)) }

@@ -14,6 +14,7 @@ impl<T: Drop, U: Default + Drop, F: BackpressureFn, G: DegradationFn> UpdateConn
     ghost use Rattle.iox2_store.specs.machine.Environments.{fixed_handlers};
     ghost use Rattle.iox2_store.specs.machine.PublisherUpdate.{UpdatePublisher};
     ghost use Rattle.iox2_pubsub.specs.Live.{IsReadyPublisher, publisher_key};
+    ghost use Rattle.iox2_pubsub.specs.Handles.{publisher_id};
 
     ghost is_live = { IsReadyPublisher };
 
@@ -22,7 +23,9 @@ impl<T: Drop, U: Default + Drop, F: BackpressureFn, G: DegradationFn> UpdateConn
       unblocked = stays.unblocked (publisher_key publisher) live.unblocked tt;
     } };
 
-    ghost updates = { λ s publisher s' failure. UpdatePublisher fixed_handlers s publisher.id s' failure };
+    ghost updates = { λ s publisher s' failure. UpdatePublisher fixed_handlers s (publisher_id publisher) s' failure };
+
+    ghost is_updated = { λ domain publisher. Unit {0} };
 
     ghost adds = { λ domain. (domain.config).history_size };
 

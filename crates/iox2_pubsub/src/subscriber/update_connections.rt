@@ -13,13 +13,16 @@ impl<T: Drop, U: Default + Drop, F: BackpressureFn, G: DegradationFn> UpdateConn
     for Subscriber {
     ghost use Rattle.iox2_store.specs.machine.Environments.{fixed_handlers};
     ghost use Rattle.iox2_store.specs.machine.SubscriberUpdate.{UpdateSubscriber};
-    ghost use Rattle.iox2_pubsub.specs.Live.{IsLiveSubscriber, subscriber_key};
+    ghost use Rattle.iox2_pubsub.specs.Live.{IsLiveSubscriber, IsUpToDate, subscriber_key};
+    ghost use Rattle.iox2_pubsub.specs.Handles.{subscriber_id};
 
     ghost is_live = { IsLiveSubscriber };
 
     ghost live_stays = { λ old new subscriber stays live. stays.subscribers (subscriber_key subscriber) live tt };
 
-    ghost updates = { λ s subscriber s' failure. UpdateSubscriber fixed_handlers s subscriber.id s' failure };
+    ghost updates = { λ s subscriber s' failure. UpdateSubscriber fixed_handlers s (subscriber_id subscriber) s' failure };
+
+    ghost is_updated = { IsUpToDate };
 
     ghost adds = { λ domain. 0 };
 

@@ -33,6 +33,7 @@ impl Model for PortFactorySubscriber {
 }
 
 impl PortFactorySubscriber {
+    ghost use Rattle.iox2_pubsub.specs.Handles.{as_subscriber, buffer_size_of, subscriber_id};
     /// Sets how many messages of one publisher may wait for the subscriber. Here 0 counts as 1.
     ///
     /// iceoryx2's `PortFactorySubscriber::buffer_size` (`src/service/port_factory/subscriber.rs`).
@@ -80,11 +81,11 @@ impl PortFactorySubscriber {
         domain: &mut Domain<T, U, F, G>,
     ) -> Result<Subscriber, SubscriberCreateError>
         ensures creates { (m : Messages T U) (s : State T U) → Shows domain.old m s → (s' : State T U) × Shows domain.new m s' × MatchResult result
-            (λ subscriber. CreateSubscriber fixed_handlers s self s' None × (subscriber.subscriber.id ≡ s.next_port) × (subscriber.subscriber.buffer_size ≡ buffer_for self))
+            (λ subscriber. CreateSubscriber fixed_handlers s self s' None × (subscriber_id (as_subscriber subscriber) ≡ s.next_port) × (buffer_size_of (as_subscriber subscriber) ≡ buffer_for self))
             (λ error. CreateSubscriber fixed_handlers s self s' (Some error)) }
-        ensures live { IfOk result (λ subscriber. IsLiveSubscriber domain.new subscriber.subscriber) }
-        ensures new { IfOk result (λ subscriber. IsNewIn domain.old (subscriber_port subscriber.subscriber)) }
-        ensures none { IfOk result (λ subscriber. waiting domain.new subscriber.subscriber ≡ 0) }
+        ensures live { IfOk result (λ subscriber. IsLiveSubscriber domain.new (as_subscriber subscriber)) }
+        ensures new { IfOk result (λ subscriber. IsNewIn domain.old (subscriber_port (as_subscriber subscriber))) }
+        ensures none { IfOk result (λ subscriber. waiting domain.new (as_subscriber subscriber) ≡ 0) }
         ensures waits { payloads domain.new ≡ payloads domain.old }
         ensures up_to_date { UpToDateStay domain.old domain.new }
         ensures loans_left { LoansLeftStay domain.old domain.new }

@@ -27,7 +27,7 @@ use Rattle.iox2_pubsub.proofs.publisher.update_connections.PublisherUpdateConnec
 pub unreachable-requires : goal.unreachable-requires
 unreachable-requires g c =
     publisher-missing {T = g.row.T.Denot} {U = g.row.U.Denot} c.domain.inside.state c.args.domain.now c.domain.view_is c.args.self.now
-    c.in_default.ensures c.requires.there
+    c.in_default.ensures c.requires.live.there
 
 pub invariant_of-domain : goal.invariant_of-domain
 invariant_of-domain g c = (c.update_publisher.ensures c.in-Some.ensures.0 c.in-Some.ensures.1).reaches.agrees
@@ -51,8 +51,8 @@ update_publisher-requires-clause-stands g c = (c.in-Some.ensures.0, c.in-Some.en
 
 pub returns-clause-live : goal.returns-clause-live
 returns-clause-live g c = record {
-  there = (returns-clause-stays g c).publishers (publisher_key c.args.self.now) c.requires.there tt;
-  unblocked = (returns-clause-stays g c).unblocked (publisher_key c.args.self.now) c.requires.unblocked tt;
+  there = (returns-clause-stays g c).publishers (publisher_key c.args.self.now) c.requires.live.there tt;
+  unblocked = (returns-clause-stays g c).unblocked (publisher_key c.args.self.now) c.requires.live.unblocked tt;
 }
 
 pub returns-clause-adds : goal.returns-clause-adds
@@ -80,4 +80,4 @@ update_publisher-requires-clause-unblocked g c = λ z at_z.
     let is : z ≡ found.0 = cc in
     ap (λ (w : PublisherFields). w.blocked) is
     ∙ free-of c.domain.inside.state c.domain.invariant.parts c.args.self.now.id c.in-Some.place found.0 found.1 found.2
-    (subst (λ (k : Kept g.row.T.Denot g.row.U.Denot g.row.F.Denot). is_blocked (state_of k) c.args.self.now.id ≡ false) (sym c.domain.view_is) (unblocked-test c.args.domain.now (publisher_key c.args.self.now) c.requires.unblocked))
+    (subst (λ (k : Kept g.row.T.Denot g.row.U.Denot g.row.F.Denot). is_blocked (state_of k) c.args.self.now.id ≡ false) (sym c.domain.view_is) (unblocked-test c.args.domain.now (publisher_key c.args.self.now) c.requires.live.unblocked))
