@@ -1,4 +1,7 @@
+ghost use Rattle.std.specs.Prelude.{◌≡◌, ⊤};
+
 use iox2_store::{AllocationStrategy, BackpressureAction, BackpressureStrategy, DegradationAction};
+use std::alloc::AllocError;
 use std::time::Duration;
 
 /// One call of a run, as plain data. It is this project's own.
@@ -9,7 +12,7 @@ use std::time::Duration;
 /// changes nothing. So is one whose `at` is past the end, a loan or `SendCopy` in a service of the other kind, and a loan,
 /// send, update or close of a publisher that waits for a receiver. In a service whose `units_per_element` isn't 1 each
 /// loan, `SendCopy` and `Receive` is skipped.
-#[derive(Debug, Clone, Copy, PartialEq, Eq)]
+#[derive(Debug, Copy, PartialEq, Eq)]
 pub enum Command<T, U> {
     /// Does nothing.
     Nothing,
@@ -162,4 +165,14 @@ pub enum Command<T, U> {
         /// The port.
         of: usize,
     },
+}
+
+impl<T: Copy, U: Copy> Clone for Command<T, U> {
+    ghost is_clone = { λ original clone. clone ≡ original };
+
+    ghost is_infallible = { λ _. ⊤ };
+
+    fn clone(&self) -> Result<Self, AllocError> {
+        Ok(*self)
+    }
 }

@@ -1,10 +1,13 @@
+ghost use Rattle.std.specs.Prelude.{◌≡◌, ⊤};
+
 use iox2_store::{
     ConnectionFailure, Header, LoanError, PublisherCreateError, ReceiveError, SendError,
     SubscriberCreateError, UniquePublisherId, UniqueSubscriberId,
 };
+use std::alloc::AllocError;
 
 /// What a command of a run comes to. It is this project's own.
-#[derive(Debug, Clone, Copy, PartialEq, Eq)]
+#[derive(Debug, Copy, PartialEq, Eq)]
 pub enum Reply<T, U> {
     /// The command was carried out, and has nothing to tell.
     Done,
@@ -46,4 +49,14 @@ pub enum Reply<T, U> {
     Header(Header),
     /// The user header that was read.
     UserHeader(U),
+}
+
+impl<T: Copy, U: Copy> Clone for Reply<T, U> {
+    ghost is_clone = { λ original clone. clone ≡ original };
+
+    ghost is_infallible = { λ _. ⊤ };
+
+    fn clone(&self) -> Result<Self, AllocError> {
+        Ok(*self)
+    }
 }

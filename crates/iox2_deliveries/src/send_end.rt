@@ -4,6 +4,7 @@ ghost use Rattle.iox2_domain.specs.Deliveries.{result_of_send};
 ghost use Rattle.iox2_deliveries.specs.SendEnds.{IsKept, end_result};
 
 use iox2_ends::sender::DeliveryOutcome;
+use iox2_store::ConnectionFailure;
 
 /// How a send ended, or that it waits. It is small enough to be returned in registers, as the outcome
 /// of a delivery isn't.
@@ -17,6 +18,8 @@ pub enum SendEnd {
     Blocked,
     /// The publisher is gone, and the loan with it.
     Lost,
+    /// The publisher's connections couldn't be updated, and the loan was given back.
+    Unconnected(ConnectionFailure),
 }
 
 impl SendEnd {

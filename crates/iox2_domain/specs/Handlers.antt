@@ -1,4 +1,4 @@
--- What answers for a publisher at a full buffer.
+-- What answers for a port: at a full buffer, and where it can't make a connection.
 use Rattle.std.specs.Prelude.{◌≡◌, ℕ, Bool, true, false, List}
 use Rattle.std.specs.declared.option.Option.{Option}
 use Rattle.std.specs.declared.option.Option.TheVariants.{None, Some}
@@ -12,6 +12,8 @@ use Rattle.iox2_domain.specs.declared.handlers.HandlerMark.{HandlerMark}
 use Rattle.iox2_domain.specs.declared.handlers.HandlerMark.TheVariants as mark
 use Rattle.iox2_store.specs.declared.backpressure.BackpressureAction.{BackpressureAction}
 use Rattle.iox2_store.specs.declared.backpressure.BackpressureAction.TheVariants.{FollowBackpressureyStrategy, Retry, DiscardData, DiscardDataAndFail}
+use Rattle.iox2_store.specs.declared.degradation.DegradationAction.{DegradationAction}
+use Rattle.iox2_store.specs.declared.degradation.DegradationAction.TheVariants.{Ignore, Warn, DegradeAndFail}
 
 -- The handler that always gives this answer, where there is one.
 abbrev pub fixed_handler : Option BackpressureAction → Option (Handler BackpressureAction)
@@ -44,3 +46,14 @@ abbrev pub may_fail : Option (Handler BackpressureAction) → Bool
 may_fail None = false
 may_fail (Some (Fixed action)) = is_failing action
 may_fail (Some Custom) = true
+
+-- The answer fails the update.
+abbrev pub fails_update : DegradationAction → Bool
+fails_update Ignore = false
+fails_update Warn = false
+fails_update DegradeAndFail = true
+
+-- The handler may fail an update: that is its answer, or it is a box.
+abbrev pub may_fail_update : Handler DegradationAction → Bool
+may_fail_update (Fixed action) = fails_update action
+may_fail_update Custom = true

@@ -11,10 +11,8 @@ use Rattle.iox2_store.specs.SingleValues.{is_single_valued}
 use Rattle.iox2_slots.specs.SlotBook.{Book, IsAligned, holders_at}
 use Rattle.iox2_contents.specs.SlotContents.{ContentState}
 use Rattle.iox2_store.specs.machine.Loans.{is_static}
-use Rattle.iox2_store.specs.machine.Records.{Fixed}
 use Rattle.iox2_store.specs.machine.WellFormed.{IsWellFormed}
 use Rattle.iox2_store.specs.declared.allocation.AllocationStrategy.TheVariants.{Static}
-use Rattle.iox2_store.specs.declared.degradation.DegradationAction.TheVariants.{Warn}
 use Rattle.iox2_store.specs.declared.service_config.ServiceConfig.{ServiceConfig}
 use Rattle.iox2_store.specs.declared.service_config.TypeVariant.TheVariants.{FixedSize}
 use Rattle.iox2_slots.specs.declared.slots.mark.SlotMark.{SlotMark}
@@ -254,15 +252,10 @@ pub record HasForms {T U : Type 0} (c : ServiceConfig) (contents : List (Option 
 abbrev pub LendsBlocked : PublisherFields → Type 0
 LendsBlocked x = (b : BlockedDelivery) → x.blocked ≡ Some b → 0 < times b.slot x.loans
 
--- The publisher has one segment and no boxed handler of degradations, and the slot of its blocked delivery is a loan of its.
+-- The publisher has one segment, and the slot of its blocked delivery is a loan of its.
 pub record IsPlain (x : PublisherFields) : Type 0 where
-  pub degradation : x.degradation_handler ≡ Fixed Warn
   pub lent : LendsBlocked x
   pub allocation : x.allocation ≡ Static
-
--- The subscriber has no handler.
-pub record IsPlainSubscriber (y : SubscriberFields) : Type 0 where
-  pub degradation : y.degradation_handler ≡ Fixed Warn
 
 -- ---- the whole
 
@@ -282,7 +275,6 @@ pub record HasParts {T U : Type 0} (f : Fields T U) : Type 0 where
   pub shapes : HasShapes f
   pub forms : HasForms f.config f.contents
   pub plain : (i : ℕ) (x : PublisherFields) → slice_index_or f.publishers i None ≡ Some x → IsPlain x
-  pub plain_subscribers : (i : ℕ) (y : SubscriberFields) → slice_index_or f.subscribers i None ≡ Some y → IsPlainSubscriber y
 
 -- The fields agree with one another, and what they keep is a well-formed state with an entry for each message that
 -- somebody holds.

@@ -19,6 +19,7 @@ pub mod Departures
 pub mod Midway
 pub mod NewPublisher
 pub mod SubscriberEntry
+pub mod FirstUpdates
 pub mod LoanSlots
 pub mod LeftBooks
 pub mod Connects

@@ -17,42 +17,45 @@ use Rattle.iox2_store.specs.declared.backpressure.BackpressureStrategy.{Backpres
 use Rattle.iox2_store.specs.declared.degradation.DegradationAction.TheVariants.{Warn}
 use Rattle.iox2_store.specs.declared.errors.PublisherCreateError.{PublisherCreateError}
 use Rattle.iox2_store.specs.declared.errors.PublisherCreateError.TheVariants.{UnableToCreatePortTag, ExceedsMaxSupportedPublishers}
+use Rattle.iox2_domain.specs.declared.options.PublisherOptions.{PublisherOptions}
 use Rattle.iox2_domain.specs.Ports.{PublisherFields, SubscriberFields}
 use Rattle.iox2_domain.specs.Fields.{Fields}
 use Rattle.iox2_domain.specs.Placed.{lowest_empty}
 
--- The settings of a publisher that follows this strategy, has this handler of full buffers, and one segment for messages of so
--- many elements.
-abbrev pub static_publisher : (max_loaned_samples : ℕ) → BackpressureStrategy → Option (Handler BackpressureAction) → (initial_max_slice_len : ℕ) → PublisherSettings
-static_publisher max_loaned_samples strategy handler initial_max_slice_len = record {
-  max_loaned_samples = max_loaned_samples;
-  backpressure_strategy = strategy;
+-- The settings of a publisher that is made with these options, has this handler of full buffers, and one segment.
+abbrev pub static_publisher : PublisherOptions → Option (Handler BackpressureAction) → PublisherSettings
+static_publisher given handler = record {
+  max_loaned_samples = given.max_loaned_samples;
+  backpressure_strategy = given.strategy;
   allocation_strategy = Static;
-  initial_max_slice_len = initial_max_slice_len;
+  initial_max_slice_len = given.initial_max_slice_len;
   asked_slots = None;
-  degradation_handler = Fixed Warn;
+  degradation_handler = Fixed given.degradation;
   backpressure_handler = handler;
 }
 
--- Those of one without handlers.
+-- Those of one without handlers, which warns where it can't make a connection.
 abbrev pub plain_publisher : (max_loaned_samples : ℕ) → BackpressureStrategy → (initial_max_slice_len : ℕ) → PublisherSettings
-plain_publisher max_loaned_samples strategy initial_max_slice_len = static_publisher max_loaned_samples strategy None initial_max_slice_len
+plain_publisher max_loaned_samples strategy initial_max_slice_len =
+    static_publisher (record { max_loaned_samples = max_loaned_samples; strategy = strategy; degradation = Warn; initial_max_slice_len = initial_max_slice_len }) None
 
--- A publisher that was just made, with this handler of full buffers, with these slots for messages of so many elements, and with room for so many
--- loans and connections.
-abbrev pub entering_publisher : (id place book max_loaned_samples slots : ℕ) → BackpressureStrategy → Option (Handler BackpressureAction) → (initial_max_slice_len loan_room : ℕ) (history : Buffer ℕ) (key_room : ℕ)
-    → PublisherFields
-entering_publisher id place book max_loaned_samples slots strategy handler initial_max_slice_len loan_room history key_room = record {
+-- The publisher is to have one segment.
+pub record IsForOneSegment (given : PublisherSettings) : Type 0 where
+  pub allocation : given.allocation_strategy ≡ Static
+
+-- A publisher that was just made with these settings, with so many slots, and with room for so many loans and connections.
+abbrev pub entering_publisher : (id place book : ℕ) → PublisherSettings → (slots loan_room : ℕ) (history : Buffer ℕ) (key_room : ℕ) → PublisherFields
+entering_publisher id place book given slots loan_room history key_room = record {
   id = id;
   place = place;
   book = book;
-  max_loaned_samples = max_loaned_samples;
+  max_loaned_samples = given.max_loaned_samples;
   slots = slots;
-  strategy = strategy;
-  backpressure_handler = handler;
-  degradation_handler = Fixed Warn;
-  allocation = Static;
-  initial_max_slice_len = initial_max_slice_len;
+  strategy = given.backpressure_strategy;
+  backpressure_handler = given.backpressure_handler;
+  degradation_handler = given.degradation_handler;
+  allocation = given.allocation_strategy;
+  initial_max_slice_len = given.initial_max_slice_len;
   longest_granted = 0;
   segments = 1;
   loans = [];

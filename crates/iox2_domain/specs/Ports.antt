@@ -2,13 +2,12 @@
 use Rattle.std.specs.Prelude.{ℕ, Bool, true, max, List, []}
 use Rattle.std.specs.declared.option.Option.{Option}
 use Rattle.circular_buffer.specs.Buffer.{Buffer}
-use Rattle.iox2_store.specs.machine.Records.{Handler, Fixed}
+use Rattle.iox2_store.specs.machine.Records.{Handler}
 use Rattle.iox2_store.specs.declared.allocation.AllocationStrategy.{AllocationStrategy}
 use Rattle.iox2_store.specs.declared.backpressure.BackpressureAction.{BackpressureAction}
 use Rattle.iox2_store.specs.declared.backpressure.BackpressureStrategy.{BackpressureStrategy}
 use Rattle.iox2_store.specs.declared.degradation.DegradationAction.{DegradationAction}
 use Rattle.iox2_domain.specs.declared.publisher_state.BlockedDelivery.{BlockedDelivery}
-use Rattle.iox2_store.specs.declared.degradation.DegradationAction.TheVariants.{Warn}
 
 pub record PublisherFields : Type 0 where
   pub id : ℕ
@@ -51,14 +50,14 @@ slot_length initial_max_slice_len = max 1 initial_max_slice_len
 abbrev pub due : PublisherFields → PublisherFields
 due x = record x { is_due = true }
 
--- A subscriber that was just made, without a handler of its own, and with room for so many connections and expired ones.
-abbrev pub entering : (id place buffer key_room expired_room : ℕ) → SubscriberFields
-entering id place buffer key_room expired_room = record {
+-- A subscriber that was just made, with this handler of degradations, and with room for so many connections and expired ones.
+abbrev pub entering : (id place buffer : ℕ) → Handler DegradationAction → (key_room expired_room : ℕ) → SubscriberFields
+entering id place buffer handler key_room expired_room = record {
   id = id;
   place = place;
   is_open = true;
   buffer = buffer;
-  degradation_handler = Fixed Warn;
+  degradation_handler = handler;
   keys = [];
   key_room = key_room;
   expired = [];

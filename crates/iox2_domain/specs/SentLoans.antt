@@ -5,6 +5,7 @@ use Rattle.iox2_store.specs.machine.Loans.{entry_of}
 use Rattle.iox2_store.specs.machine.Numbers.{put_at}
 use Rattle.iox2_store.specs.machine.Records.{Entry, Loan, Publisher, Environment}
 use Rattle.iox2_store.specs.machine.Sends.{SendResult, Send, Send_error}
+use Rattle.iox2_store.specs.declared.errors.ConnectionFailure.{ConnectionFailure}
 use Rattle.iox2_store.specs.declared.errors.SendError.{SendError}
 use Rattle.iox2_store.specs.declared.errors.SendError.TheVariants.{UnableToDeliver}
 use Rattle.iox2_ends.specs.LookUp.{look_up}
@@ -24,6 +25,13 @@ pub record IsReadyToSend {T U : Type 0} (environment : Environment) (old new : F
   pub updated : UpdatesPublisher environment old place publisher new None
   pub key : ℕ
   pub lies : LiesInSlot new p n key slot
+
+-- The publisher p stands at the place, and its update fails so.
+pub record IsNotUpdated {T U : Type 0} (environment : Environment) (old new : Fields T U) (p place : ℕ) (failure : ConnectionFailure) : Type 0 where
+  pub publisher : PublisherFields
+  pub stands : slice_index_or old.publishers place None ≡ Some publisher
+  pub is_its : publisher.id ≡ p
+  pub updated : UpdatesPublisher environment old place publisher new (Some failure)
 
 -- The publisher p is gone, and nothing was changed.
 pub record IsLeftLoan {T U : Type 0} (old new : Fields T U) (p : ℕ) : Type 0 where

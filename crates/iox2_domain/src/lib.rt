@@ -13,6 +13,7 @@ mod left_books;
 mod loan_slots;
 mod message_slots;
 mod open_ports;
+mod options;
 mod places;
 mod ports;
 mod publisher_state;
@@ -26,10 +27,11 @@ pub use boxes::Boxes;
 pub use handlers::{AskedBox, HandlerMark};
 pub use loan_slots::LoanAt;
 pub use message_slots::MessageSlot;
+pub use options::{PublisherOptions, SubscriberOptions};
 pub use places::{free_place, put_at_place, reserve_place, stands_at};
 pub use ports::{
-    Port, PortAt, clear_key_at, is_due_at, key_at, make_all_due, make_due, reserve_key_at,
-    set_key_at, settle,
+    Port, PortAt, answer_at, clear_key_at, is_due_at, key_at, make_all_due, make_due,
+    reserve_key_at, set_key_at, settle,
 };
 pub use publisher_state::{BlockedDelivery, PublisherState};
 pub use sample_slots::{Receipt, SampleAt, SampleSlot};

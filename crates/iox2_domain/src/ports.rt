@@ -1,8 +1,10 @@
 //! What publishers and subscribers have in common.
 ghost use Rattle.std.specs.Prelude.{◌≡◌, ◌<◌, ◌≤◌, ℕ, Bool, true, false, List, None, Some, length, map, slice_index_or, OnOk};
 ghost use Rattle.std.specs.Option.{option_map};
+ghost use Rattle.iox2_store.specs.machine.Records.{Fixed};
 ghost use Rattle.iox2_domain.specs.Updates.{changed_at, is_due_at, key_at, room_at};
 
+use iox2_store::DegradationAction;
 use std::alloc::AllocError;
 
 /// Names a port, and says where it is looked for first.
@@ -18,6 +20,8 @@ pub struct PortAt<I> {
 /// places of the other side's ports. It may be due for an update.
 pub trait Port {
     ghost use Rattle.std.specs.declared.option.Option.{Option};
+    ghost use Rattle.iox2_store.specs.machine.Records.{Handler, Fixed};
+    ghost use Rattle.iox2_store.specs.declared.degradation.DegradationAction.{DegradationAction};
 
     ghost number: { Self → ℕ };
 
@@ -26,6 +30,8 @@ pub trait Port {
     ghost key_room: { Self → ℕ };
 
     ghost is_due: { Self → Bool };
+
+    ghost degradation: { Self → Handler DegradationAction };
 
     ghost with_key: { (place key : ℕ) → Self → Self };
 
@@ -65,6 +71,10 @@ pub trait Port {
     /// Says whether it is due for an update.
     fn set_due(&mut self, due: bool)
         ensures { self.new ≡ with_due due self.old };
+
+    /// What answers for it where it can't make a connection.
+    fn degradation(&self) -> DegradationAction
+        ensures { degradation self.now ≡ Fixed result };
 }
 
 /// The key that the port at a place has for its connection with the other side's port at another.
@@ -125,6 +135,17 @@ pub fn is_due_at<P: Port>(ports: &[Option<P>], place: usize) -> bool
         Some(port) => port.is_due(),
         None => false,
     }
+}
+
+/// What answers for the port at a place where it can't make a connection.
+pub fn answer_at<P: Port>(ports: &[Option<P>], place: usize) -> DegradationAction
+    requires { (x : _) × (slice_index_or ports.now place None ≡ Some x) }
+    ensures { (x : _) → slice_index_or ports.now place None ≡ Some x → P.degradation x ≡ Fixed result }
+{
+    let Some(port) = &ports[place] else {
+        unreachable!();
+    };
+    port.degradation()
 }
 
 /// The port at the place is due no more.

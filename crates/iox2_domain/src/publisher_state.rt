@@ -5,6 +5,7 @@ ghost use Rattle.iox2_ends.specs.Counters.{times};
 
 use crate::boxes::Boxes;
 use crate::handlers::{AskedBox, HandlerMark};
+use crate::options::PublisherOptions;
 use crate::places::{clear_in, put_at_place, reserve_place};
 use crate::ports::Port;
 use circular_buffer::HeapCircularBuffer;
@@ -12,7 +13,7 @@ use iox2_ends::receiver::key_in;
 use iox2_ends::sender::Progress;
 use iox2_store::{
     AllocationStrategy, BackpressureAction, BackpressureHandler, BackpressureStrategy,
-    ServiceConfig, UniquePublisherId,
+    DegradationAction, ServiceConfig, UniquePublisherId,
 };
 use std::alloc::{AllocError, Global};
 use std::marker::Model;
@@ -41,6 +42,8 @@ pub struct PublisherState {
     pub strategy: BackpressureStrategy,
     // What answers for it at a full buffer.
     pub backpressure_handler: Option<HandlerMark<BackpressureAction>>,
+    // What answers for it where it can't make a connection.
+    pub degradation: DegradationAction,
     pub allocation: AllocationStrategy,
     pub initial_max_slice_len: usize,
     pub longest_granted: usize,
@@ -59,7 +62,6 @@ pub struct PublisherState {
 impl Model for PublisherState {
     ghost use Rattle.std.specs.Prelude.{vec_capacity};
     ghost use Rattle.iox2_store.specs.machine.Records.{Fixed};
-    ghost use Rattle.iox2_store.specs.declared.degradation.DegradationAction.TheVariants.{Warn};
     ghost use Rattle.iox2_domain.specs.Handlers.{handler_if_any};
     ghost use Rattle.iox2_domain.specs.Ports.{PublisherFields};
 
@@ -73,7 +75,7 @@ impl Model for PublisherState {
       slots = x.slots;
       strategy = x.strategy;
       backpressure_handler = handler_if_any x.backpressure_handler;
-      degradation_handler = Fixed Warn;
+      degradation_handler = Fixed x.degradation;
       allocation = x.allocation;
       initial_max_slice_len = x.initial_max_slice_len;
       longest_granted = x.longest_granted;
@@ -94,7 +96,7 @@ impl PublisherState {
     ghost use Rattle.std.specs.Prelude.{true};
     ghost use Rattle.iox2_store.specs.machine.Limits.{segment_fits};
     ghost use Rattle.iox2_domain.specs.Handlers.{handler_if_any};
-    ghost use Rattle.iox2_domain.specs.NewPublisher.{entering_publisher};
+    ghost use Rattle.iox2_domain.specs.NewPublisher.{entering_publisher, static_publisher};
 
     /// A publisher that enters at a place, with a book at a key of so many slots for messages of so
     /// many elements, and with room for all the loans and the history that it may get. It makes no
@@ -105,28 +107,27 @@ impl PublisherState {
         id: UniquePublisherId,
         place: usize,
         book: usize,
-        max_loaned_samples: usize,
-        slots: usize,
-        strategy: BackpressureStrategy,
+        given: &PublisherOptions,
         handler: Option<HandlerMark<BackpressureAction>>,
-        initial_max_slice_len: usize,
+        slots: usize,
     ) -> Result<Self, AllocError>
-        requires { segment_fits config.now slots initial_max_slice_len ≡ true }
-        ensures enters { IfOk result (λ x. x ≡ entering_publisher id place book max_loaned_samples slots strategy (handler_if_any handler) initial_max_slice_len x.loan_room (buffer [] (config.now).history_size) x.key_room) }
+        requires { segment_fits config.now slots given.now.initial_max_slice_len ≡ true }
+        ensures enters { IfOk result (λ x. x ≡ entering_publisher id place book (static_publisher given.now (handler_if_any handler)) slots x.loan_room (buffer [] (config.now).history_size) x.key_room) }
         ensures room { IfOk result (HasPublisherRoom config.now) }
     {
-        let loans = Vec::with_capacity(alloc, max_loaned_samples)?;
+        let loans = Vec::with_capacity(alloc, given.max_loaned_samples)?;
         let history = HeapCircularBuffer::with_capacity(alloc, config.history_size)?;
         Ok(PublisherState {
             id,
             place,
             book,
-            max_loaned_samples,
+            max_loaned_samples: given.max_loaned_samples,
             slots,
-            strategy,
+            strategy: given.strategy,
             backpressure_handler: handler,
+            degradation: given.degradation,
             allocation: AllocationStrategy::Static,
-            initial_max_slice_len,
+            initial_max_slice_len: given.initial_max_slice_len,
             longest_granted: 0,
             segments: 1,
             loans,
@@ -218,6 +219,8 @@ impl Port for PublisherState {
 
     ghost is_due = { λ x. x.is_due };
 
+    ghost degradation = { λ x. x.degradation_handler };
+
     ghost with_key = { with_sender_key };
 
     ghost without_key = { without_sender_key };
@@ -252,5 +255,9 @@ impl Port for PublisherState {
 
     fn set_due(&mut self, due: bool) {
         self.is_due = due;
+    }
+
+    fn degradation(&self) -> DegradationAction {
+        self.degradation
     }
 }

@@ -11,7 +11,7 @@ use crate::places::{clear_in, put_at_place, reserve_place};
 use crate::ports::Port;
 use iox2_ends::receiver::key_in;
 use iox2_ends::sender::{Receiver, ReceiverDetails};
-use iox2_store::UniqueSubscriberId;
+use iox2_store::{DegradationAction, UniqueSubscriberId};
 use std::alloc::{AllocError, Global};
 use std::marker::Model;
 
@@ -27,6 +27,8 @@ pub struct SubscriberState {
     pub is_open: bool,
     pub is_due: bool,
     pub buffer: usize,
+    // What answers for it where it can't make a connection.
+    pub degradation: DegradationAction,
     // At each publisher's place the key of the connection with it.
     pub keys: Vec<Option<usize>>,
     // The keys of the connections with departed publishers, in order of entry.
@@ -39,7 +41,6 @@ pub struct SubscriberState {
 impl Model for SubscriberState {
     ghost use Rattle.std.specs.Prelude.{vec_capacity};
     ghost use Rattle.iox2_store.specs.machine.Records.{Fixed};
-    ghost use Rattle.iox2_store.specs.declared.degradation.DegradationAction.TheVariants.{Warn};
     ghost use Rattle.iox2_domain.specs.Ports.{SubscriberFields};
 
     ghost Value = { SubscriberFields };
@@ -49,7 +50,7 @@ impl Model for SubscriberState {
       place = y.place;
       is_open = y.is_open;
       buffer = y.buffer;
-      degradation_handler = Fixed Warn;
+      degradation_handler = Fixed y.degradation;
       keys = y.keys.items;
       key_room = vec_capacity y.keys;
       expired = y.expired.items;
@@ -73,12 +74,19 @@ impl Receiver for SubscriberState {
 }
 
 impl SubscriberState {
+    ghost use Rattle.iox2_store.specs.machine.Records.{Fixed};
     ghost use Rattle.iox2_domain.specs.Departures.{key_forgotten};
     ghost use Rattle.iox2_domain.specs.Ports.{entering};
 
     /// A subscriber that enters at a place.
-    pub fn new(alloc: Global, id: UniqueSubscriberId, place: usize, buffer: usize) -> Self
-        ensures { result ≡ entering id place buffer result.key_room result.expired_room }
+    pub fn new(
+        alloc: Global,
+        id: UniqueSubscriberId,
+        place: usize,
+        buffer: usize,
+        degradation: DegradationAction,
+    ) -> Self
+        ensures { result ≡ entering id place buffer (Fixed degradation) result.key_room result.expired_room }
     {
         SubscriberState {
             id,
@@ -86,6 +94,7 @@ impl SubscriberState {
             is_open: true,
             is_due: true,
             buffer,
+            degradation,
             keys: Vec::new(alloc),
             expired: Vec::new(alloc),
             last_place: 0,
@@ -252,6 +261,8 @@ impl Port for SubscriberState {
 
     ghost is_due = { λ y. y.is_due };
 
+    ghost degradation = { λ y. y.degradation_handler };
+
     ghost with_key = { with_receiver_key };
 
     ghost without_key = { without_receiver_key };
@@ -286,5 +297,9 @@ impl Port for SubscriberState {
 
     fn set_due(&mut self, due: bool) {
         self.is_due = due;
+    }
+
+    fn degradation(&self) -> DegradationAction {
+        self.degradation
     }
 }

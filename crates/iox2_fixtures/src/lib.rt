@@ -3,6 +3,8 @@
 
 ghost use Rattle.std.specs.Prelude.{◌≡◌, None, false};
 ghost use Rattle.iox2_store.specs.Defaults.{default_config};
+ghost use Rattle.iox2_store.specs.declared.degradation.DegradationAction.TheVariants.{Warn};
+ghost use Rattle.iox2_store.specs.machine.Records.{Fixed};
 ghost use Rattle.iox2_pubsub.specs.Live.{IsLivePublisher, IsLiveSubscriber, IsSingleValued, Stays};
 
 use iox2_pubsub::{Domain, PortFactoryPublisher, Publisher, SendOutcome, Subscriber};
@@ -39,6 +41,7 @@ pub fn settings() -> ServiceConfig
 pub fn factory_for<T: Drop, U: Default + Drop>(domain: &Domain<T, U>) -> PortFactoryPublisher
     ensures strategy { result.settings.backpressure_strategy ≡ BackpressureStrategy.DiscardData }
     ensures handler { result.settings.backpressure_handler ≡ None }
+    ensures degradation { result.settings.degradation_handler ≡ Fixed Warn }
 {
     domain
         .publisher_builder()

@@ -206,16 +206,16 @@ module _ {T U : Type 0} where
 -- ---- a publisher that was made waits for nobody
 
 module _ {T U : Type 0} where
-  -- it has the strategy and the handler that were given
+  -- it has the strategy and the handlers that were given
   pub created_as : (environment : Environment) (s : State T U) (given : PublisherSettings) (s' : State T U) → CreatePublisher environment s given s' None
-      → (x : Publisher) × (s'.publishers s.next_port ≡ Some x) × (x.backpressure_strategy ≡ given.backpressure_strategy) × (x.backpressure_handler ≡ given.backpressure_handler) × (x.blocked ≡ None)
+      → (x : Publisher) × (s'.publishers s.next_port ≡ Some x) × (x.backpressure_strategy ≡ given.backpressure_strategy) × (x.backpressure_handler ≡ given.backpressure_handler) × (x.blocked ≡ None) × (x.degradation_handler ≡ given.degradation_handler)
   created_as environment s given s' h =
       by_bool (Made s') (s.next_port == last_number) _ _ h (λ _ k. let no : None ≡ Some _ = k.1 in absurd cc) (λ _ k.
       by_option (Made s') (free_place (s.config).max_publishers s.publisher_places) _ _ k (λ _ j. let no : None ≡ Some _ = j.1 in absurd cc) (λ place _ j.
       by_bool (Made s') (first_segment_fits s.config given) _ _ j (λ _ i. made place i) (λ _ i. let no : None ≡ Some _ = i.1 in absurd cc)))
     where
       Made : State T U → Type 0
-      Made t = (x : Publisher) × (t.publishers s.next_port ≡ Some x) × (x.backpressure_strategy ≡ given.backpressure_strategy) × (x.backpressure_handler ≡ given.backpressure_handler) × (x.blocked ≡ None)
+      Made t = (x : Publisher) × (t.publishers s.next_port ≡ Some x) × (x.backpressure_strategy ≡ given.backpressure_strategy) × (x.backpressure_handler ≡ given.backpressure_handler) × (x.blocked ≡ None) × (x.degradation_handler ≡ given.degradation_handler)
 
       made : (place : ℕ) → MakePublisher environment s given place s' None → Made s'
       made place h =
@@ -229,7 +229,7 @@ module _ {T U : Type 0} where
               let was = (update_publisher_waits (λ _. ⊥) environment (with_new_publisher s given place) s.next_port mid failure h).publishers s.next_port x (omega arith) at in
               let both : Some (new_publisher s given place) ≡ Some was.0 = sym (put_at-same s.publishers s.next_port (Some (new_publisher s given place))) ∙ was.1 in
               let is : new_publisher s given place ≡ was.0 = cc in
-              (x, at, was.2.strategy ∙ sym (ap (λ (y : Publisher). y.backpressure_strategy) is), was.2.handler ∙ sym (ap (λ (y : Publisher). y.backpressure_handler) is), free)
+              (x, at, was.2.strategy ∙ sym (ap (λ (y : Publisher). y.backpressure_strategy) is), was.2.handler ∙ sym (ap (λ (y : Publisher). y.backpressure_handler) is), free, was.2.degradation ∙ sym (ap (λ (y : Publisher). y.degradation_handler) is))
 
           warned : (mid : State T U) → Made mid → (failure : Option ConnectionFailure) → Made (with_failure_warning mid (PublisherPartlyConnected s.next_port) failure)
           warned mid made None = made

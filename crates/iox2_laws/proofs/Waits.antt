@@ -1,5 +1,5 @@
--- Who waits for a receiver: no operation changes what a publisher does with a full receiver, and only a send of its own, tried
--- again or given up, changes whether it waits, and with which message.
+-- Who waits for a receiver: no operation changes what a publisher does with a full receiver or without a connection, and only a
+-- send of its own, tried again or given up, changes whether it waits, and with which message.
 use Rattle.std.proofs.Common.{◌≡◌, ℕ, ◌≤◌, ◌<◌, Bool, true, false, List, [], ◌∷◌, ◌++◌, refl, sym, ap, subst, ◌∙◌, le_refl, le_trans, arith, Option, None, Some}
 use Rattle.std.specs.Prelude.{max, ◌==◌, nat_lt}
 use Rattle.std.specs.Option.{option_map}
@@ -29,10 +29,11 @@ use Rattle.iox2_store.specs.declared.warning.Warning.TheVariants.{PublisherPartl
 use Rattle.iox2_laws.proofs.Cases.{by_option, by_bool}
 use Rattle.iox2_laws.proofs.Puts.{at_each, found_put, found_removed, found_mapped}
 
--- the publisher does with a full receiver what it did, and waits as it did, unless it is spared
+-- the publisher does with a full receiver what it did, and without a connection, and waits as it did, unless it is spared
 pub record IsAsItWas (Spared : ℕ → Type 0) (p : ℕ) (x x' : Publisher) : Type 0 where
   pub strategy : x'.backpressure_strategy ≡ x.backpressure_strategy
   pub handler : x'.backpressure_handler ≡ x.backpressure_handler
+  pub degradation : x'.degradation_handler ≡ x.degradation_handler
   pub blocked : (Spared p → ⊥) → x'.blocked ≡ x.blocked
 
 -- where a publisher came from
@@ -46,10 +47,10 @@ pub record Waits {T U : Type 0} (Spared : ℕ → Type 0) (s s' : State T U) : T
 
 module _ (Spared : ℕ → Type 0) where
   as_it_is : (p : ℕ) (x : Publisher) → IsAsItWas Spared p x x
-  as_it_is p x = record { strategy = refl; handler = refl; blocked = λ _. refl }
+  as_it_is p x = record { strategy = refl; handler = refl; degradation = refl; blocked = λ _. refl }
 
   as_it_was : (p : ℕ) (x y z : Publisher) → IsAsItWas Spared p x y → IsAsItWas Spared p y z → IsAsItWas Spared p x z
-  as_it_was p x y z a b = record { strategy = b.strategy ∙ a.strategy; handler = b.handler ∙ a.handler; blocked = λ apart. b.blocked apart ∙ a.blocked apart }
+  as_it_was p x y z a b = record { strategy = b.strategy ∙ a.strategy; handler = b.handler ∙ a.handler; degradation = b.degradation ∙ a.degradation; blocked = λ apart. b.blocked apart ∙ a.blocked apart }
 
   -- a publisher is set
   put_publisher : (publishers : ℕ → Option Publisher) (next i : ℕ) (z : Publisher) → (i < next → WasPublisher Spared publishers i z)
@@ -86,7 +87,7 @@ module _ (Spared : ℕ → Type 0) where
     all_due : (s s' : State T U) → s.next_port ≤ s'.next_port → s'.publishers ≡ (λ p. option_map (λ (z : Publisher). record z { is_due = true }) (s.publishers p)) → Waits Spared s s'
     all_due s s' next publishers = record {
       next_port = next;
-      publishers = λ p x low e. mapped_publisher s.publishers (λ z. record z { is_due = true }) p (λ z. record { strategy = refl; handler = refl; blocked = λ _. refl }) x
+      publishers = λ p x low e. mapped_publisher s.publishers (λ z. record z { is_due = true }) p (λ z. record { strategy = refl; handler = refl; degradation = refl; blocked = λ _. refl }) x
           (ap (λ (f : ℕ → Option Publisher). f p) (sym publishers) ∙ e);
     }
 
@@ -99,7 +100,7 @@ module _ (Spared : ℕ → Type 0) where
         by_bool (Waits Spared s s') x.is_due _ _ h
         (λ _ h. subst (Waits Spared s) (sym h.2) (record {
           next_port = le_refl s.next_port;
-          publishers = put_publisher s.publishers s.next_port p (record x { ends = (h.0).ends; is_due = false }) (λ _. (x, present, record { strategy = refl; handler = refl; blocked = λ _. refl }));
+          publishers = put_publisher s.publishers s.next_port p (record x { ends = (h.0).ends; is_due = false }) (λ _. (x, present, record { strategy = refl; handler = refl; degradation = refl; blocked = λ _. refl }));
         }))
         (λ _ h. subst (Waits Spared s) (sym h.0) (waits_itself s)))
 
@@ -167,7 +168,7 @@ module _ (Spared : ℕ → Type 0) where
       next_port = le_refl s.next_port;
       publishers = put_publisher s.publishers s.next_port p
           (record x { loans = x.loans ++ s.next_message ∷ []; longest_granted = max x.longest_granted len; segments = segments })
-          (λ _. (x, present, record { strategy = refl; handler = refl; blocked = λ _. refl }));
+          (λ _. (x, present, record { strategy = refl; handler = refl; degradation = refl; blocked = λ _. refl }));
     }
 
     pub loan_set_waits : (s : State T U) (n : ℕ) (l : Option (Loan T U)) → Waits Spared s (with_loan s n l)
@@ -184,12 +185,12 @@ module _ (Spared : ℕ → Type 0) where
     pub published_waits : (s : State T U) (p n : ℕ) → Waits Spared s (published s p n)
     published_waits s p n =
         waits_trans s (with_loan s n None) (published s p n) (loan_set_waits s n None)
-        (publisher_changed_waits (with_loan s n None) p (λ x. record x { history = last_n (s.config).history_size (x.history ++ n ∷ []) }) (λ x. record { strategy = refl; handler = refl; blocked = λ _. refl }))
+        (publisher_changed_waits (with_loan s n None) p (λ x. record x { history = last_n (s.config).history_size (x.history ++ n ∷ []) }) (λ x. record { strategy = refl; handler = refl; degradation = refl; blocked = λ _. refl }))
 
     pub loan_discarded_waits : (s : State T U) (n : ℕ) (l : Loan T U) → Waits Spared s (loan_discarded s n l)
     loan_discarded_waits s n l =
         waits_trans s (with_loan s n None) (loan_discarded s n l) (loan_set_waits s n None)
-        (publisher_changed_waits (with_loan s n None) l.publisher (λ x. record x { loans = without n x.loans }) (λ x. record { strategy = refl; handler = refl; blocked = λ _. refl }))
+        (publisher_changed_waits (with_loan s n None) l.publisher (λ x. record x { loans = without n x.loans }) (λ x. record { strategy = refl; handler = refl; degradation = refl; blocked = λ _. refl }))
 
     static_waits : (default_header : U) (s : State T U) (p : ℕ) (x : Publisher) → s.publishers p ≡ Some x → (len : ℕ) (s' : State T U) (refusal : Option LoanError)
         → StaticLoan default_header s p x len s' refusal → Waits Spared s s'
@@ -221,10 +222,10 @@ module _ (Spared : ℕ → Type 0) where
       concluded_waits : (s : State T U) (n : ℕ) (how : DeliveryEnd) (s' : State T U) (result : SendResult) → ConcludeSend s p n how s' result → Waits Spared s s'
       concluded_waits s n (Complete count has_failed) s' result h =
           subst (Waits Spared s) (sym h.0) (publisher_changed_waits s p (λ x. record x { loans = without n x.loans; blocked = None })
-          (λ x. record { strategy = refl; handler = refl; blocked = λ apart. absurd (apart spared) }))
+          (λ x. record { strategy = refl; handler = refl; degradation = refl; blocked = λ apart. absurd (apart spared) }))
       concluded_waits s n (Suspended b) s' result h =
           subst (Waits Spared s) (sym h.0) (publisher_changed_waits s p (λ x. record x { blocked = Some b })
-          (λ x. record { strategy = refl; handler = refl; blocked = λ apart. absurd (apart spared) }))
+          (λ x. record { strategy = refl; handler = refl; degradation = refl; blocked = λ apart. absurd (apart spared) }))
 
       pub delivered_waits : (environment : Environment) (s : State T U) (n retries : ℕ) (elapsed : Duration) (place : ℕ) (ends : List (Option ℕ)) (count : ℕ)
           (has_failed : Bool) (s' : State T U) (result : SendResult)

@@ -1,5 +1,5 @@
 //! A loan is sent.
-ghost use Rattle.std.specs.Prelude.{◌≡◌, IsTrue, MatchOption, false};
+ghost use Rattle.std.specs.Prelude.{◌≡◌, ℕ, IsTrue, MatchOption, MatchResult, false};
 ghost use Rattle.iox2_store.specs.machine.Environments.{fixed_handlers};
 ghost use Rattle.iox2_store.specs.machine.SingleCalls.{HoldsPublisher};
 ghost use Rattle.iox2_domain.specs.Boxes.{answers_of};
@@ -7,13 +7,13 @@ ghost use Rattle.iox2_domain.specs.Kept.{state_of};
 ghost use Rattle.iox2_domain.specs.Fields.{kept_of};
 ghost use Rattle.iox2_domain.specs.Invariant.{IsDomain};
 ghost use Rattle.iox2_domain.specs.LoanCalls.{HoldsWritten};
-ghost use Rattle.iox2_domain.specs.SentLoans.{IsLeftLoan, IsReadyToSend, SendsLoan};
+ghost use Rattle.iox2_domain.specs.SentLoans.{IsLeftLoan, IsNotUpdated, IsReadyToSend, SendsLoan};
 ghost use Rattle.iox2_store.specs.machine.State.{is_blocked};
-ghost use Rattle.iox2_deliveries.specs.SendEnds.{IsKept, end_result};
+ghost use Rattle.iox2_deliveries.specs.SendEnds.{IsNotLost, end_result};
 
-use iox2_deliveries::{SendEnd, has_handler_at, send_ready, send_unasked};
+use iox2_deliveries::{SendEnd, discard_loan, has_handler_at, send_ready, send_unasked};
 use iox2_domain::{Boxes, DomainState, LoanAt};
-use iox2_store::{BackpressureFn, UniquePublisherId};
+use iox2_store::{BackpressureFn, ConnectionFailure, UniquePublisherId};
 use iox2_updates::update_publisher;
 
 // Whether the loan lies where its handle says, and its publisher is due for no update.
@@ -38,30 +38,36 @@ struct ReadyLoan {
 }
 
 // Updates the publisher of a loan, where it is due, and finds where both are. `None` where the
-// publisher is gone.
+// publisher is gone. Fails where the update does.
 fn update_and_find<T: Drop, U: Default + Drop>(
     state: &mut DomainState<T, U>,
     publisher: UniquePublisherId,
     number: u128,
-) -> Option<ReadyLoan>
+) -> Result<Option<ReadyLoan>, ConnectionFailure>
     requires agrees { IsDomain state.old }
     requires live { HoldsWritten (state_of (kept_of state.old)) publisher number }
     requires unblocked { is_blocked (state_of (kept_of state.old)) publisher ≡ false }
-    ensures { MatchOption result (IsLeftLoan state.old state.new publisher) (λ ready. IsReadyToSend fixed_handlers state.old state.new publisher number ready.place ready.slot) }
+    ensures { MatchResult result
+        (λ found. MatchOption found (IsLeftLoan state.old state.new publisher) (λ ready. IsReadyToSend fixed_handlers state.old state.new publisher number ready.place ready.slot))
+        (λ failure. (place : ℕ) × IsNotUpdated fixed_handlers state.old state.new publisher place failure) }
 {
-    let place = state.find_publisher(publisher, 0)?;
-    update_publisher(state, place);
+    let Some(place) = state.find_publisher(publisher, 0) else {
+        return Ok(None);
+    };
+    if let Some(failure) = update_publisher(state, place) {
+        return Err(failure);
+    }
     let Some(at) = state.find_loan(publisher, number) else {
         unreachable!()
     };
-    Some(ReadyLoan {
+    Ok(Some(ReadyLoan {
         place,
         slot: at.slot,
-    })
+    }))
 }
 
-// Updates the publisher of a loan, where it is due, and sends the loan, wherever both are. Of a
-// publisher that is gone the loan is lost.
+// Updates the publisher of a loan, where it is due, and sends the loan, wherever both are. Where the
+// update fails, the loan is given back. Of a publisher that is gone the loan is lost.
 #[inline(never)]
 fn update_and_send<T: Drop, U: Default + Drop, F: BackpressureFn>(
     state: &mut DomainState<T, U>,
@@ -73,20 +79,42 @@ fn update_and_send<T: Drop, U: Default + Drop, F: BackpressureFn>(
     requires live { HoldsWritten (state_of (kept_of state.old)) publisher number }
     requires unblocked { is_blocked (state_of (kept_of state.old)) publisher ≡ false }
     ensures sends { SendsLoan (answers_of F.allows (boxes.now).boxes) state.old state.new number (end_result result) }
-    ensures kept { HoldsPublisher (state_of (kept_of state.old)) publisher → IsKept result }
+    ensures kept { HoldsPublisher (state_of (kept_of state.old)) publisher → IsNotLost result }
 {
-    let Some(ready) = update_and_find(state, publisher, number) else {
-        let at = state.search_loan(publisher, number);
-        state.let_go(at.book, at.slot);
-        return SendEnd::Lost;
-    };
-    send_ready(state, boxes, ready.place, ready.slot)
+    match update_and_find(state, publisher, number) {
+        Ok(found) => match found {
+            Some(ready) => send_ready(state, boxes, ready.place, ready.slot),
+            None => {
+                let at = state.search_loan(publisher, number);
+                state.let_go(at.book, at.slot);
+                SendEnd::Lost
+            }
+        },
+        Err(failure) => {
+            discard_loan(state, loan_sought(publisher, number));
+            SendEnd::Unconnected(failure)
+        }
+    }
+}
+
+// A loan of which no place is known yet.
+fn loan_sought(publisher: UniquePublisherId, number: u128) -> LoanAt
+    ensures publisher { result.publisher ≡ publisher }
+    ensures number { result.number ≡ number }
+{
+    LoanAt {
+        publisher,
+        number,
+        place: 0,
+        book: 0,
+        slot: 0,
+    }
 }
 
 /// Sends a publisher's written loan to its receivers, and returns how that ended. The publisher's
-/// connections are updated first. Where memory for a connection is refused, that is a warning. Of a
-/// publisher that is gone the loan is lost. The loan is out no more afterwards, unless the send is
-/// blocked. A publisher that has a box for a handler asks the one that it has among these boxes.
+/// connections are updated first; where that fails, the loan is given back, and no message was sent.
+/// Of a publisher that is gone the loan is lost. The loan is out no more afterwards, unless the send
+/// is blocked. A publisher that has a box for a handler asks the one that it has among these boxes.
 ///
 /// The boxes are handed on in one call alone, so that where they lie isn't on the path of a message
 /// of a publisher without a handler.
@@ -101,7 +129,7 @@ pub fn send_loan<T: Drop, U: Default + Drop, F: BackpressureFn>(
     requires live { HoldsWritten (state_of (kept_of state.old)) loan.publisher loan.number }
     requires unblocked { is_blocked (state_of (kept_of state.old)) loan.publisher ≡ false }
     ensures sends { SendsLoan (answers_of F.allows (boxes.now).boxes) state.old state.new loan.number (end_result result) }
-    ensures kept { HoldsPublisher (state_of (kept_of state.old)) loan.publisher → IsKept result }
+    ensures kept { HoldsPublisher (state_of (kept_of state.old)) loan.publisher → IsNotLost result }
 {
     if is_ready(state, &loan) && !has_handler_at(state, loan.place) {
         return send_unasked(state, loan.place, loan.slot);

@@ -1,25 +1,26 @@
 //! The memory of a publisher: a book of its slots, and their contents at the book's key.
-ghost use Rattle.std.specs.Prelude.{◌≡◌, ◌&&◌, ◌*◌, ◌<◌, true, None, Some, IfOk, OnOk, OnErr, IsTrue, SomeIff};
+ghost use Rattle.std.specs.Prelude.{◌≡◌, ◌*◌, ◌<◌, true, None, Some, IfOk, OnOk, OnErr, IsTrue, SomeIff};
 ghost use Rattle.slab.specs.Slab.{Updates, get};
-ghost use Rattle.iox2_store.specs.machine.Limits.{worst_case, fits, segment_fits};
-ghost use Rattle.iox2_domain.specs.NewPublisher.{IsNewSegment};
+ghost use Rattle.iox2_store.specs.machine.Limits.{fits, segment_fits};
+ghost use Rattle.iox2_store.specs.machine.Ports.{first_segment_fits, slots_for};
+ghost use Rattle.iox2_domain.specs.NewPublisher.{IsNewSegment, static_publisher};
 ghost use Rattle.iox2_domain.specs.Ports.{slot_length};
 ghost use Rattle.iox2_domain.specs.Placed.{placed};
 
 use iox2_contents::Contents;
-use iox2_domain::{put_at_place, reserve_place, units_of};
+use iox2_domain::{PublisherOptions, put_at_place, reserve_place, units_of};
 use iox2_slots::SlotBook;
 use iox2_store::{ServiceConfig, UniquePublisherId, worst_case_slots};
 use slab::Slab;
 use std::alloc::{AllocError, Global};
 
-/// How many slots the first segment of a publisher has, whose messages have at most so many
-/// elements. `None` where their number or their size doesn't fit `usize`.
-pub(crate) fn first_segment(config: &ServiceConfig, loans: usize, len: usize) -> Option<usize>
-    ensures { SomeIff result (IsTrue (fits (worst_case config.now loans) && segment_fits config.now (worst_case config.now loans) len)) (worst_case config.now loans) }
+/// How many slots the first segment of a publisher with these options has. `None` where their number
+/// or their size doesn't fit `usize`.
+pub(crate) fn first_segment(config: &ServiceConfig, given: &PublisherOptions) -> Option<usize>
+    ensures { SomeIff result (IsTrue (first_segment_fits config.now (static_publisher given.now None))) (slots_for config.now (static_publisher given.now None)) }
 {
-    let slots = worst_case_slots(config, loans)?;
-    segment_size(slots, len, config.units_per_element)?;
+    let slots = worst_case_slots(config, given.max_loaned_samples)?;
+    segment_size(slots, given.initial_max_slice_len, config.units_per_element)?;
     Some(slots)
 }
 

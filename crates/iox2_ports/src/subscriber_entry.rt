@@ -5,17 +5,19 @@ ghost use Rattle.iox2_store.specs.machine.Environments.{fixed_handlers};
 ghost use Rattle.iox2_store.specs.machine.Ports.{with_new_subscriber, CreateSubscriber};
 ghost use Rattle.iox2_store.specs.machine.State.{State, warned};
 ghost use Rattle.iox2_store.specs.declared.errors.SubscriberCreateError.TheVariants.{FailedToDeployThreadsafetyPolicy};
-ghost use Rattle.iox2_store.specs.declared.warning.Warning.TheVariants.{ExpiredBufferRaised};
+ghost use Rattle.iox2_store.specs.declared.warning.Warning.TheVariants.{ExpiredBufferRaised, SubscriberPartlyConnected};
 ghost use Rattle.iox2_domain.specs.Ports.{SubscriberFields};
 ghost use Rattle.iox2_domain.specs.WarningRing.{warning_ring};
 ghost use Rattle.iox2_domain.specs.Kept.{state_of};
 ghost use Rattle.iox2_domain.specs.Fields.{kept_of};
 ghost use Rattle.iox2_domain.specs.Invariant.{IsDomain};
 ghost use Rattle.iox2_domain.specs.Reaches.{Reaches};
-ghost use Rattle.iox2_domain.specs.SubscriberEntry.{FirstUpdates, asked_for, failure_warned, place_for_subscriber};
+ghost use Rattle.iox2_domain.specs.FirstUpdates.{SubscriberFirstUpdates, failure_warned};
+ghost use Rattle.iox2_domain.specs.SubscriberEntry.{asked_for, place_for_subscriber};
 
 use iox2_domain::{
-    DomainState, PortAt, SubscriberState, Warnings, free_place, make_all_due, put_at_place,
+    DomainState, PortAt, SubscriberOptions, SubscriberState, Warnings, free_place, make_all_due,
+    put_at_place,
 };
 use iox2_store::{
     ConnectionFailure, ServiceConfig, SubscriberCreateError, UniqueSubscriberId, Warning,
@@ -43,7 +45,7 @@ fn warn_of_failure(
     failure: Option<ConnectionFailure>,
 )
     requires { warnings.old.capacity ≡ warning_limit }
-    ensures { warnings.new ≡ warning_ring (failure_warned subscriber failure warnings.old.items) warning_limit }
+    ensures { warnings.new ≡ warning_ring (failure_warned (SubscriberPartlyConnected subscriber) failure warnings.old.items) warning_limit }
 {
     if let Some(failure) = failure {
         warnings.warn(Warning::SubscriberPartlyConnected {
@@ -61,23 +63,23 @@ fn update_first<T: Drop, U: Default + Drop>(
 )
     requires agrees { IsDomain state.old }
     requires stands { (y : SubscriberFields) × (slice_index_or state.old.subscribers place None ≡ Some y) × (y.id ≡ subscriber) }
-    ensures { (y : SubscriberFields) → slice_index_or state.old.subscribers place None ≡ Some y → FirstUpdates fixed_handlers state.old place y state.new }
+    ensures { (y : SubscriberFields) → slice_index_or state.old.subscribers place None ≡ Some y → SubscriberFirstUpdates fixed_handlers state.old place y state.new }
 {
     let failure = update_subscriber(state, place);
     warn_of_failure(&mut state.warnings, subscriber, failure);
 }
 
-/// The place for a subscriber that asks for a buffer of that size, or why it is refused.
+/// The place for a subscriber with these options, or why it is refused.
 pub(crate) fn place_for_subscriber<T: Drop, U: Default + Drop>(
     state: &DomainState<T, U>,
-    asked: usize,
+    given: &SubscriberOptions,
 ) -> Result<usize, SubscriberCreateError>
-    ensures { result ≡ place_for_subscriber state.now asked }
+    ensures { result ≡ place_for_subscriber state.now (asked_for given.now) }
 {
     if state.next_port == u128::MAX {
         return Err(SubscriberCreateError::UnableToCreatePortTag);
     }
-    if asked.max(1) > state.config.subscriber_max_buffer_size.max(1) {
+    if given.buffer_size.max(1) > state.config.subscriber_max_buffer_size.max(1) {
         return Err(SubscriberCreateError::BufferSizeExceedsMaxSupportedBufferSizeOfService);
     }
     match free_place(&state.subscribers, state.config.max_subscribers) {
@@ -86,24 +88,30 @@ pub(crate) fn place_for_subscriber<T: Drop, U: Default + Drop>(
     }
 }
 
-/// A subscriber enters at the place that it has, and every publisher is due for an update.
-/// Returns its id, which was the next.
+/// A subscriber with these options enters at the place that it has, and every publisher is due for
+/// an update. Returns its id, which was the next.
 ///
 /// Where memory is refused nothing changes.
 pub(crate) fn admit_subscriber<T: Drop, U: Default + Drop>(
     state: &mut DomainState<T, U>,
     place: usize,
-    asked: usize,
+    given: &SubscriberOptions,
 ) -> Result<UniqueSubscriberId, SubscriberCreateError>
     requires agrees { IsDomain state.old }
-    requires has_place { place_for_subscriber state.old asked ≡ Ok place }
+    requires has_place { place_for_subscriber state.old (asked_for given.now) ≡ Ok place }
     ensures id { IfOk result (λ id. id ≡ state.old.next_port) }
     ensures step { MatchResult result
-        (λ _. Reaches state.old state.new (with_new_subscriber (state_of (kept_of state.old)) (asked_for asked) place) × (y : SubscriberFields) × (slice_index_or state.new.subscribers place None ≡ Some y) × (y.id ≡ state.old.next_port))
+        (λ _. Reaches state.old state.new (with_new_subscriber (state_of (kept_of state.old)) (asked_for given.now) place) × (y : SubscriberFields) × (slice_index_or state.new.subscribers place None ≡ Some y) × (y.id ≡ state.old.next_port))
         (λ e. (state.new ≡ state.old) × (e ≡ FailedToDeployThreadsafetyPolicy)) }
 {
     let id = UniqueSubscriberId::new(state.next_port);
-    let subscriber = SubscriberState::new(state.alloc, id, place, asked.max(1));
+    let subscriber = SubscriberState::new(
+        state.alloc,
+        id,
+        place,
+        given.buffer_size.max(1),
+        given.degradation,
+    );
     let Ok(()) = state.subscribers.try_reserve(1) else {
         return Err(SubscriberCreateError::FailedToDeployThreadsafetyPolicy);
     };
@@ -114,9 +122,8 @@ pub(crate) fn admit_subscriber<T: Drop, U: Default + Drop>(
     Ok(id)
 }
 
-/// Makes a subscriber with a buffer of that size, at least 1, and connects it with the publishers
-/// that there are. Returns its id, which was the next, and its place. A failure of its first update
-/// is a warning.
+/// Makes a subscriber with these options, and connects it with the publishers that there are; it is
+/// warned where that fails. Returns its id, which was the next, and its place.
 ///
 /// `UnableToCreatePortTag` where no id is left, then
 /// `BufferSizeExceedsMaxSupportedBufferSizeOfService`, then `ExceedsMaxSupportedSubscribers`
@@ -124,17 +131,17 @@ pub(crate) fn admit_subscriber<T: Drop, U: Default + Drop>(
 /// Nothing changes then.
 pub fn create_subscriber<T: Drop, U: Default + Drop>(
     state: &mut DomainState<T, U>,
-    asked: usize,
+    given: &SubscriberOptions,
 ) -> Result<PortAt<UniqueSubscriberId>, SubscriberCreateError>
     requires { IsDomain state.old }
     ensures id { IfOk result (λ port. port.id ≡ state.old.next_port) }
     ensures stands { IfOk result (λ port. (y : SubscriberFields) × (slice_index_or state.new.subscribers port.place None ≡ Some y) × (y.id ≡ port.id)) }
     ensures step { MatchResult result
-        (λ _. (s' : State T U) × CreateSubscriber fixed_handlers (state_of (kept_of state.old)) (asked_for asked) s' None × Reaches state.old state.new s')
-        (λ e. CreateSubscriber fixed_handlers (state_of (kept_of state.old)) (asked_for asked) (state_of (kept_of state.old)) (Some e) × (state.new ≡ state.old)) }
+        (λ _. (s' : State T U) × CreateSubscriber fixed_handlers (state_of (kept_of state.old)) (asked_for given.now) s' None × Reaches state.old state.new s')
+        (λ e. CreateSubscriber fixed_handlers (state_of (kept_of state.old)) (asked_for given.now) (state_of (kept_of state.old)) (Some e) × (state.new ≡ state.old)) }
 {
-    let place = place_for_subscriber(state, asked)?;
-    let id = admit_subscriber(state, place, asked)?;
+    let place = place_for_subscriber(state, given)?;
+    let id = admit_subscriber(state, place, given)?;
     update_first(state, place, id);
     Ok(PortAt { id, place })
 }

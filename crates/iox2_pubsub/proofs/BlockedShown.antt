@@ -164,3 +164,4 @@ only-undelivered (SendEnd.Delivered count) kept (Err error) is = absurd (let cla
 only-undelivered SendEnd.Undelivered kept (Err error) is = let same : Send_error error ≡ Send_error UnableToDeliver = is in cc
 only-undelivered SendEnd.Blocked kept (Err error) is = absurd (let clash : Send_error error ≡ Blocked_send = is in cc)
 only-undelivered SendEnd.Lost kept (Err error) is = absurd kept
+only-undelivered (SendEnd.Unconnected failure) kept (Err error) is = absurd kept

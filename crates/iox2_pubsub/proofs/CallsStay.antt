@@ -227,6 +227,7 @@ module _ {T U F : Type 0} (old new : Kept T U F) (m : Messages T U) (s : State T
                 record {
                   strategy = was.2.strategy;
                   handler = was.2.handler;
+                  degradation = was.2.degradation;
                   blocked = λ _. elim (cases_eq p l.publisher) [
                     | inr away ↦ was.2.blocked away
                     | inl same ↦

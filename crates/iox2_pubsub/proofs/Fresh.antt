@@ -100,7 +100,6 @@ module _ {T U : Type 0} (config : ServiceConfig) (v c v' c' : ℕ) where
       shapes = record { at = λ key slot b m at _. absurd (nothing_at key b at) };
       forms = record { at = λ several key cs at. absurd cc };
       plain = λ i x at. absurd (nothing_at i x at);
-      plain_subscribers = λ i y at. absurd (nothing_at i y at);
     };
     kept_books = record { at = λ key b at. absurd (nothing_at key b at) };
     lone = record { at = λ key slot b at _. absurd (nothing_at key b at) };

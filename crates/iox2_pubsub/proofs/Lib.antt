@@ -15,6 +15,7 @@ pub mod SentMessages
 pub mod OverflowSends
 pub mod PassingSends
 pub mod UnfailedSends
+pub mod SteadyUpdates
 pub mod SendShown
 pub mod AlwaysShows
 pub mod PublishersShown
@@ -28,8 +29,16 @@ pub mod UpdatesStay
 pub mod UpdateShown
 pub mod ClosesShown
 pub mod PayloadLists
+pub mod OldestFirst
+pub mod ConnectedSends
+pub mod SendsServe
+pub mod ConnectionsStay
+pub mod ConnectionsMade
+pub mod ConnectedCounts
+pub mod ServedLists
 pub mod WaitingShown
 pub mod UpToDateShown
+pub mod ConnectionsShown
 pub mod ClosesWait
 pub mod LoansLeftShown
 pub mod SureLoans

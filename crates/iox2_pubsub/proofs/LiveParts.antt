@@ -9,7 +9,7 @@ use Rattle.iox2_store.specs.machine.State.{is_blocked}
 use Rattle.iox2_store.specs.declared.header.Header.{Header}
 use Rattle.iox2_store.specs.declared.key.Key.{Key}
 use Rattle.iox2_store.specs.declared.service_config.TypeVariant.TheVariants.{FixedSize}
-use Rattle.iox2_domain.specs.Handlers.{may_fail}
+use Rattle.iox2_domain.specs.Handlers.{may_fail, may_fail_update}
 use Rattle.iox2_domain.specs.Kept.{Kept, state_of, entries_of}
 use Rattle.iox2_domain.specs.LoanCalls.{HasCell, HasLoanHeader, HasLoanUserHeader, HoldsUnwritten, HoldsWritten}
 use Rattle.iox2_pubsub.proofs.UnfailedSends.{HasNotFailed}
@@ -116,11 +116,15 @@ module _ {T U F : Type 0} (kept : Kept T U F) where
   abbrev pub HasMildHandler : (p : ℕ) → Type 0
   HasMildHandler p = (x : Publisher) → (state_of kept).publishers p ≡ Some x → may_fail x.backpressure_handler ≡ false
 
-  pub unfailed-parts : (p : ℕ) → NeverFails kept p → (p < (state_of kept).next_port) × (Overflows kept ⊎ HasMildHandler p) × HasNotFailed (state_of kept) p
+  -- nor does it fail one where the publisher can't make a connection
+  abbrev pub GoesOnUnconnected : (p : ℕ) → Type 0
+  GoesOnUnconnected p = (x : Publisher) → (state_of kept).publishers p ≡ Some x → may_fail_update x.degradation_handler ≡ false
+
+  pub unfailed-parts : (p : ℕ) → NeverFails kept p → (p < (state_of kept).next_port) × (Overflows kept ⊎ HasMildHandler p) × HasNotFailed (state_of kept) p × GoesOnUnconnected p
   unfolding NeverFails
   unfailed-parts p has = has
 
-  pub unfailed-from : (p : ℕ) → (p < (state_of kept).next_port) × (Overflows kept ⊎ HasMildHandler p) × HasNotFailed (state_of kept) p → NeverFails kept p
+  pub unfailed-from : (p : ℕ) → (p < (state_of kept).next_port) × (Overflows kept ⊎ HasMildHandler p) × HasNotFailed (state_of kept) p × GoesOnUnconnected p → NeverFails kept p
   unfolding NeverFails
   unfailed-from p parts = parts
 

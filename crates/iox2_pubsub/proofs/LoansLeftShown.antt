@@ -24,10 +24,10 @@ use Rattle.iox2_store.specs.declared.service_config.ServiceConfig.{ServiceConfig
 use Rattle.iox2_laws.proofs.PortsClose.{publisher_closed_others}
 use Rattle.iox2_laws.proofs.LoansLeft.{KeepsTerms, LoansKept, LoanTaken, LoanEnds, set_kept, update_publisher_kept, update_subscriber_kept, receive_kept, released_kept, subscriber_closed_kept, create_publisher_kept, created_lends, created_longest, create_subscriber_kept, kept_itself, kept_lends, closed_lends, loan_taken, discarded_ends, send_ends, send_blocked_kept, retry_ends, retry_blocked_kept, give_up_ends, give_up_blocked_kept, ended_lends, waited_lends, others_lend, lends_fewer}
 use Rattle.iox2_store.specs.declared.backpressure.BackpressureAction.{BackpressureAction}
-use Rattle.iox2_store.specs.declared.backpressure.BackpressureStrategy.{BackpressureStrategy}
 use Rattle.iox2_domain.specs.Kept.{Kept, state_of}
 use Rattle.iox2_domain.specs.Lending.{LoanCall}
 use Rattle.iox2_domain.specs.NewPublisher.{static_publisher}
+use Rattle.iox2_domain.specs.declared.options.PublisherOptions.{PublisherOptions}
 use Rattle.iox2_domain.specs.Shows.{Shows}
 use Rattle.iox2_pubsub.specs.LoansLeft.{LendsUpTo, HasLoansLeft, HasNumbersLeft, NumbersLeftStay, LoansLeftStay, OthersLoansLeftStay, HasOneMoreLeft, TakesOneLeft}
 use Rattle.iox2_pubsub.specs.SendCalls.{IsDelivered, result_of_send}
@@ -118,14 +118,14 @@ module _ {T U F : Type 0} (old new : Kept T U F) (m m' : Messages T U) (s s' : S
   subscriber-creation-left environment given refusal h = all-left (create_subscriber_kept environment s given s' refusal h)
 
   -- a publisher as factories make it so far
-  pub created-left : (environment : Environment) (loans : ℕ) (strategy : BackpressureStrategy) (handler : Option (Handler BackpressureAction)) (len : ℕ) (given : PublisherSettings) → static_publisher loans strategy handler len ≡ given → (publisher : Publisher) → publisher.id ≡ s.next_port
-      → publisher.initial_max_slice_len ≡ len → CreatePublisher environment s given s' None → HasLoansLeft new publisher given.max_loaned_samples
-  created-left environment loans strategy handler len given is publisher its long h =
-      let made : CreatePublisher environment s (static_publisher loans strategy handler len) s' None = subst (λ (z : PublisherSettings). CreatePublisher environment s z s' None) (sym is) h in
-      let longest = created_longest environment s (static_publisher loans strategy handler len) s' made in
+  pub created-left : (environment : Environment) (options : PublisherOptions) (handler : Option (Handler BackpressureAction)) (given : PublisherSettings) → static_publisher options handler ≡ given → (publisher : Publisher) → publisher.id ≡ s.next_port
+      → publisher.initial_max_slice_len ≡ options.initial_max_slice_len → CreatePublisher environment s given s' None → HasLoansLeft new publisher given.max_loaned_samples
+  created-left environment options handler given is publisher its long h =
+      let made : CreatePublisher environment s (static_publisher options handler) s' None = subst (λ (z : PublisherSettings). CreatePublisher environment s z s' None) (sym is) h in
+      let longest = created_longest environment s (static_publisher options handler) s' made in
       subst (λ (z : PublisherSettings). HasLoansLeft new publisher z.max_loaned_samples) is
-      (lends-from new m' s' shown' publisher loans
-      (subst (λ (p : ℕ). CanLend s' p loans) (sym its) (created_lends environment s (static_publisher loans strategy handler len) s' refl (omega arith) made))
+      (lends-from new m' s' shown' publisher options.max_loaned_samples
+      (subst (λ (p : ℕ). CanLend s' p options.max_loaned_samples) (sym its) (created_lends environment s (static_publisher options handler) s' refl (omega arith) made))
       (longest.0, ap s'.publishers its ∙ longest.1, longest.2 ∙ sym long))
 
   -- a call that changes nothing

@@ -22,7 +22,7 @@ pub all_same : {X : Type 0} (f g : ℕ → List X) (n : ℕ) → ((p : ℕ) → 
 all_same f g zero each = refl
 all_same f g (suc n) each = ap (λ xs. xs ++ f n) (all_same f g n each) ∙ ap (λ xs. all_below g n ++ xs) (each n)
 
-map_same : {X : Type 0} (f g : ℕ → X) (ns : List ℕ) → ((n : ℕ) → contains ns n ≡ true → f n ≡ g n) → map f ns ≡ map g ns
+pub map_same : {X : Type 0} (f g : ℕ → X) (ns : List ℕ) → ((n : ℕ) → contains ns n ≡ true → f n ≡ g n) → map f ns ≡ map g ns
 map_same f g [] each = refl
 map_same f g (n ∷ ns) each = ap (λ x. x ∷ map f ns) (each n (contains_first n ns)) ∙ ap (λ xs. g n ∷ xs) (map_same f g ns (λ m at. each m (contains_later n m ns at)))
 

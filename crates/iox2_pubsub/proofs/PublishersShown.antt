@@ -4,19 +4,16 @@ use Rattle.std.proofs.lemmas.Option.{same_Some}
 use Rattle.std.specs.declared.option.Option.{Option}
 use Rattle.std.specs.declared.option.Option.TheVariants.{None, Some}
 use Rattle.iox2_store.specs.machine.Ports.{CreatePublisher}
-use Rattle.iox2_store.specs.machine.Records.{Environment, Handler, Publisher as Record}
+use Rattle.iox2_store.specs.machine.Records.{Environment, Publisher as Record, PublisherSettings}
 use Rattle.iox2_store.specs.machine.SingleCalls.{HoldsPublisher}
 use Rattle.iox2_store.specs.machine.State.{State, Messages}
-use Rattle.iox2_store.specs.declared.backpressure.BackpressureAction.{BackpressureAction}
-use Rattle.iox2_store.specs.declared.backpressure.BackpressureStrategy.{BackpressureStrategy}
 use Rattle.iox2_store.specs.declared.errors.PublisherCreateError.{PublisherCreateError}
 use Rattle.iox2_store.specs.declared.service_config.ServiceConfig.{ServiceConfig}
 use Rattle.iox2_laws.proofs.SendsRemain.{created_as}
-use Rattle.iox2_domain.specs.Handlers.{may_fail}
+use Rattle.iox2_domain.specs.Handlers.{may_fail, may_fail_update}
 use Rattle.iox2_domain.specs.Kept.{state_of}
 use Rattle.iox2_domain.specs.declared.boxes.PortBox.{PortBox}
 use Rattle.iox2_domain.specs.Fields.{Fields, kept_of, keeping}
-use Rattle.iox2_domain.specs.NewPublisher.{static_publisher}
 use Rattle.iox2_pubsub.specs.Handlers.{may_wait}
 use Rattle.iox2_pubsub.specs.Live.{IsReadyPublisher, NeverFails, NeverWaits, publisher_key}
 use Rattle.iox2_pubsub.specs.declared.publisher.Publisher.{Publisher}
@@ -27,82 +24,82 @@ use Rattle.iox2_domain.specs.Shows.{Shows}
 use Rattle.iox2_domain.proofs.lemmas.fields.ReachesShows.{reaches-shows-same}
 use Rattle.iox2_steps.proofs.creations.PublisherCreations.{create-keeps, create-holds}
 
-module _ {T U : Type 0} (f g : Fields T U) (loans : ℕ) (strategy : BackpressureStrategy) (handler : Option (Handler BackpressureAction)) (len : ℕ) (environment : Environment) where
+module _ {T U : Type 0} (f g : Fields T U) (given : PublisherSettings) (environment : Environment) where
   -- a domain that shows a state shows the one that a creation comes to
   pub created-shows : (m : Messages T U) (s t : State T U) (refusal : Option PublisherCreateError) → Shows (kept_of f) m s
-      → CreatePublisher environment (state_of (kept_of f)) (static_publisher loans strategy handler len) t refusal → Reaches f g t
-      → Shows (kept_of g) m t × CreatePublisher environment s (static_publisher loans strategy handler len) t refusal
+      → CreatePublisher environment (state_of (kept_of f)) given t refusal → Reaches f g t
+      → Shows (kept_of g) m t × CreatePublisher environment s given t refusal
   created-shows m s t refusal shown made reached =
-      let keeps = create-keeps environment (state_of (kept_of f)) (static_publisher loans strategy handler len) t refusal made in (
+      let keeps = create-keeps environment (state_of (kept_of f)) given t refusal made in (
         reaches-shows-same f g m s t shown reached
             (keeps.next_message ∙ sym (ap (λ (u : State T U). u.next_message) shown.state)) (keeps.loans ∙ sym (ap (λ (u : State T U). u.loans) shown.state)),
-        subst (λ (u : State T U). CreatePublisher environment u (static_publisher loans strategy handler len) t refusal) (sym shown.state) made,
+        subst (λ (u : State T U). CreatePublisher environment u given t refusal) (sym shown.state) made,
       )
 
   -- the publisher that was made stands so
-  created-stands : (t : State T U) → CreatePublisher environment (state_of (kept_of f)) (static_publisher loans strategy handler len) t None → Reaches f g t
+  created-stands : (t : State T U) → CreatePublisher environment (state_of (kept_of f)) given t None → Reaches f g t
       → (publisher : Publisher) → publisher.id ≡ f.next_port
       → (publisher.id < (state_of (kept_of g)).next_port)
-      × ((x : Record) → (state_of (kept_of g)).publishers publisher.id ≡ Some x → (x.backpressure_strategy ≡ strategy) × (x.backpressure_handler ≡ handler) × (x.blocked ≡ None))
+      × ((x : Record) → (state_of (kept_of g)).publishers publisher.id ≡ Some x → (x.backpressure_strategy ≡ given.backpressure_strategy) × (x.backpressure_handler ≡ given.backpressure_handler) × (x.blocked ≡ None) × (x.degradation_handler ≡ given.degradation_handler))
   created-stands t made reached publisher id =
-      let new = created_as environment (state_of (kept_of f)) (static_publisher loans strategy handler len) t made in
+      let new = created_as environment (state_of (kept_of f)) given t made in
       let at : (state_of (kept_of g)).publishers publisher.id ≡ Some new.0 =
       ap (state_of (kept_of g)).publishers id ∙ ap (λ (u : State T U). u.publishers f.next_port) reached.state ∙ new.1 in
       let one : (x : Record) → (state_of (kept_of g)).publishers publisher.id ≡ Some x → x ≡ new.0 = λ x here. same_Some x new.0 (sym here ∙ at) in (
         (reached.agrees.well_formed.publishers publisher.id new.0 at).is_known,
-        λ x here. (ap (λ (y : Record). y.backpressure_strategy) (one x here) ∙ new.2, ap (λ (y : Record). y.backpressure_handler) (one x here) ∙ new.3, ap (λ (y : Record). y.blocked) (one x here) ∙ new.4),
+        λ x here. (ap (λ (y : Record). y.backpressure_strategy) (one x here) ∙ new.2, ap (λ (y : Record). y.backpressure_handler) (one x here) ∙ new.3, ap (λ (y : Record). y.blocked) (one x here) ∙ new.4, ap (λ (y : Record). y.degradation_handler) (one x here) ∙ new.5),
       )
 
   -- it is ready
-  pub created-ready : {F : Type 0} {boxes : List (PortBox F)} (t : State T U) → CreatePublisher environment (state_of (kept_of f)) (static_publisher loans strategy handler len) t None → Reaches f g t
+  pub created-ready : {F : Type 0} {boxes : List (PortBox F)} (t : State T U) → CreatePublisher environment (state_of (kept_of f)) given t None → Reaches f g t
       → (publisher : Publisher) → publisher.service_id ≡ (f.config).service_id → publisher.id ≡ f.next_port → IsReadyPublisher (keeping boxes g) publisher
   created-ready {F} {boxes} t made reached publisher service id =
-      let keeps = create-keeps environment (state_of (kept_of f)) (static_publisher loans strategy handler len) t None made in
+      let keeps = create-keeps environment (state_of (kept_of f)) given t None made in
       let stands = created-stands t made reached publisher id in
       record {
         there = publisher-live (keeping boxes g) _ (
           refl,
           service ∙ ap (λ (c : ServiceConfig). c.service_id) (sym (ap (λ (u : State T U). u.config) reached.state ∙ keeps.config)),
           subst (HoldsPublisher (state_of (kept_of g))) (sym id)
-              (subst (λ (u : State T U). HoldsPublisher u f.next_port) (sym reached.state) (create-holds environment (state_of (kept_of f)) (static_publisher loans strategy handler len) t made)),
+              (subst (λ (u : State T U). HoldsPublisher u f.next_port) (sym reached.state) (create-holds environment (state_of (kept_of f)) given t made)),
         );
         unblocked = unblocked-free (keeping boxes g) _ (stands.0, λ x here. (stands.1 x here).2);
       }
 
   -- no handler has failed a send of it that is blocked, since none is
-  unwaiting : (t : State T U) → CreatePublisher environment (state_of (kept_of f)) (static_publisher loans strategy handler len) t None → Reaches f g t
+  unwaiting : (t : State T U) → CreatePublisher environment (state_of (kept_of f)) given t None → Reaches f g t
       → (publisher : Publisher) → publisher.id ≡ f.next_port → HasNotFailed (state_of (kept_of g)) publisher.id
   unwaiting t made reached publisher id = λ x b here waits.
       let stands = created-stands t made reached publisher id in
       absurd (let no : None ≡ Some b = sym ((stands.1 x here).2) ∙ waits in cc)
 
   -- no handler fails a send of it
-  pub created-never-fails : {F : Type 0} (boxes : List (PortBox F)) (t : State T U) → CreatePublisher environment (state_of (kept_of f)) (static_publisher loans strategy handler len) t None → Reaches f g t
-      → (publisher : Publisher) → publisher.id ≡ f.next_port → may_fail handler ≡ false → NeverFails (keeping boxes g) publisher.id
-  created-never-fails boxes t made reached publisher id none =
+  pub created-never-fails : {F : Type 0} (boxes : List (PortBox F)) (t : State T U) → CreatePublisher environment (state_of (kept_of f)) given t None → Reaches f g t
+      → (publisher : Publisher) → publisher.id ≡ f.next_port → may_fail given.backpressure_handler ≡ false → may_fail_update given.degradation_handler ≡ false → NeverFails (keeping boxes g) publisher.id
+  created-never-fails boxes t made reached publisher id none calm =
       let stands = created-stands t made reached publisher id in
-      unfailed-from (keeping boxes g) _ (stands.0, inr (λ x here. ap may_fail (stands.1 x here).1 ∙ none), unwaiting t made reached publisher id)
+      unfailed-from (keeping boxes g) _ (stands.0, inr (λ x here. ap may_fail (stands.1 x here).1 ∙ none), unwaiting t made reached publisher id, λ x here. ap may_fail_update (stands.1 x here).3 ∙ calm)
 
   -- and it never waits where it waits for no full receiver
-  pub created-never-waits : {F : Type 0} {boxes : List (PortBox F)} (t : State T U) → CreatePublisher environment (state_of (kept_of f)) (static_publisher loans strategy handler len) t None → Reaches f g t
-      → (publisher : Publisher) → publisher.id ≡ f.next_port → may_wait strategy handler ≡ false → may_fail handler ≡ false → NeverWaits (keeping boxes g) (publisher_key publisher)
-  created-never-waits {F} {boxes} t made reached publisher id past none =
+  pub created-never-waits : {F : Type 0} {boxes : List (PortBox F)} (t : State T U) → CreatePublisher environment (state_of (kept_of f)) given t None → Reaches f g t
+      → (publisher : Publisher) → publisher.id ≡ f.next_port → may_wait given.backpressure_strategy given.backpressure_handler ≡ false → may_fail given.backpressure_handler ≡ false → may_fail_update given.degradation_handler ≡ false → NeverWaits (keeping boxes g) (publisher_key publisher)
+  created-never-waits {F} {boxes} t made reached publisher id past none calm =
       let stands = created-stands t made reached publisher id in
       record {
         passes = passes-from (keeping boxes g) _ (stands.0, inr (λ x here. (λ i. may_wait ((stands.1 x here).0 i) ((stands.1 x here).1 i)) ∙ past));
         unblocked = unblocked-free (keeping boxes g) _ (stands.0, λ x here. (stands.1 x here).2);
-        never_fails = created-never-fails boxes t made reached publisher id none;
+        never_fails = created-never-fails boxes t made reached publisher id none calm;
       }
 
   -- nor where the service overflows
-  pub created-overflows : {F : Type 0} {boxes : List (PortBox F)} (t : State T U) → CreatePublisher environment (state_of (kept_of f)) (static_publisher loans strategy handler len) t None → Reaches f g t
-      → (publisher : Publisher) → publisher.id ≡ f.next_port → (f.config).enable_safe_overflow ≡ true → NeverWaits (keeping boxes g) (publisher_key publisher)
-  created-overflows {F} {boxes} t made reached publisher id over =
+  pub created-overflows : {F : Type 0} {boxes : List (PortBox F)} (t : State T U) → CreatePublisher environment (state_of (kept_of f)) given t None → Reaches f g t
+      → (publisher : Publisher) → publisher.id ≡ f.next_port → (f.config).enable_safe_overflow ≡ true → may_fail_update given.degradation_handler ≡ false → NeverWaits (keeping boxes g) (publisher_key publisher)
+  created-overflows {F} {boxes} t made reached publisher id over calm =
       let stands = created-stands t made reached publisher id in
-      let keeps = create-keeps environment (state_of (kept_of f)) (static_publisher loans strategy handler len) t None made in
+      let keeps = create-keeps environment (state_of (kept_of f)) given t None made in
       let still : (g.config).enable_safe_overflow ≡ true = ap (λ (c : ServiceConfig). c.enable_safe_overflow) (ap (λ (u : State T U). u.config) reached.state ∙ keeps.config) ∙ over in
       record {
         passes = passes-from (keeping boxes g) _ (stands.0, inl still);
         unblocked = unblocked-free (keeping boxes g) _ (stands.0, λ x here. (stands.1 x here).2);
-        never_fails = unfailed-from (keeping boxes g) _ (stands.0, inl still, unwaiting t made reached publisher id);
+        never_fails = unfailed-from (keeping boxes g) _ (stands.0, inl still, unwaiting t made reached publisher id, λ x here. ap may_fail_update (stands.1 x here).3 ∙ calm);
       }

@@ -8,6 +8,7 @@ use Rattle.iox2_store.specs.machine.Numbers.{put_at}
 use Rattle.iox2_store.specs.machine.Records.{Entry, Loan, Publisher, Environment}
 use Rattle.iox2_store.specs.machine.Sends.{SendResult, Send, ConcludeSend, Send_error, Blocked_send, Delivered_to, published, with_mailboxes}
 use Rattle.iox2_store.specs.machine.SingleCalls.{HoldsPublisher}
+use Rattle.iox2_store.specs.declared.errors.ConnectionFailure.{ConnectionFailure}
 use Rattle.iox2_store.specs.declared.errors.SendError.{SendError}
 use Rattle.iox2_store.specs.declared.errors.SendError.TheVariants.{ConnectionBrokenSinceSenderNoLongerExists, ConnectionError, UnableToDeliver}
 use Rattle.iox2_laws.proofs.Cases.{by_option}
@@ -19,6 +20,7 @@ use Rattle.iox2_laws.proofs.Waits.{waits_trans, update_publisher_waits, publishe
 use Rattle.iox2_domain.specs.Kept.{Kept}
 use Rattle.iox2_pubsub.specs.Live.{A_blocked_send, HasLender, IsBlockedSend, NeverFails, NeverWaits, blocked_key, blocked_send}
 use Rattle.iox2_pubsub.proofs.LiveParts.{passes-parts, unfailed-parts}
+use Rattle.iox2_pubsub.proofs.SteadyUpdates.{steady-send}
 use Rattle.iox2_pubsub.proofs.OverflowSends.{overflowing-send}
 use Rattle.iox2_pubsub.proofs.PassingSends.{never-suspended}
 use Rattle.iox2_pubsub.specs.Handlers.{may_wait}
@@ -33,12 +35,12 @@ use Rattle.iox2_domain.specs.declared.boxes.PortBox.{PortBox}
 use Rattle.iox2_domain.specs.Fields.{Fields, kept_of, keeping}
 use Rattle.iox2_domain.specs.Kept.{state_of}
 use Rattle.iox2_domain.specs.SentLoans.{SendsLoan}
-use Rattle.iox2_deliveries.specs.SendEnds.{IsKept, end_result}
+use Rattle.iox2_deliveries.specs.SendEnds.{IsKept, IsNotLost, end_result}
 use Rattle.iox2_deliveries.specs.declared.send_end.SendEnd.{SendEnd}
 use Rattle.iox2_domain.specs.Shows.{Shows}
 use Rattle.std.specs.declared.result.Result.{Result}
 use Rattle.std.specs.declared.result.Result.TheVariants.{Ok, Err}
-use Rattle.iox2_pubsub.specs.SendCalls.{FailsCopy, FailsSend, IsDelivered, IfBlocked, messages_after, result_of_send}
+use Rattle.iox2_pubsub.specs.SendCalls.{FailsCopy, FailsSend, IsDelivered, IsOfHandler, IfBlocked, messages_after, result_of_send}
 use Rattle.iox2_pubsub.specs.declared.send_outcome.SendOutcome.{SendOutcome}
 use Rattle.iox2_pubsub.specs.declared.send_outcome.SendOutcome.TheVariants.{Delivered}
 
@@ -130,6 +132,17 @@ only-ok (SendEnd.Delivered count) kept unfailed (Err error) is = let clash : Sen
 only-ok SendEnd.Undelivered kept unfailed (Err error) is = absurd (unfailed refl)
 only-ok SendEnd.Blocked kept unfailed (Err error) is = let clash : Send_error error ≡ Blocked_send = is in absurd cc
 only-ok SendEnd.Lost kept unfailed (Err error) is = absurd kept
+only-ok (SendEnd.Unconnected failure) kept unfailed (Err error) is = absurd kept
+
+-- so does one of a publisher that is there, whose update hadn't failed either
+pub steady-ok : (end : SendEnd) → IsNotLost end → (end_result end ≡ Send_error UnableToDeliver → ⊥) → ((failure : ConnectionFailure) → end_result end ≡ Send_error (ConnectionError failure) → ⊥)
+    → (outcome : Result SendOutcome SendError) → result_of_send outcome ≡ end_result end → IsOk outcome
+steady-ok end there unfailed steady (Ok came) is = refl
+steady-ok (SendEnd.Delivered count) there unfailed steady (Err error) is = let clash : Send_error error ≡ Delivered_to count = is in absurd cc
+steady-ok SendEnd.Undelivered there unfailed steady (Err error) is = absurd (unfailed refl)
+steady-ok SendEnd.Blocked there unfailed steady (Err error) is = let clash : Send_error error ≡ Blocked_send = is in absurd cc
+steady-ok SendEnd.Lost there unfailed steady (Err error) is = absurd there
+steady-ok (SendEnd.Unconnected failure) there unfailed steady (Err error) is = absurd (steady failure refl)
 
 -- a send of a loan whose publisher's handler fails none
 pub never-fails-here : {T U F : Type 0} {boxes : List (PortBox F)} (environment : Environment) (old : Kept T U F) (f g : Fields T U) → keeping boxes f ≡ old → (n p : ℕ) → NeverFails old p → (result : SendResult) (sends : SendsLoan environment f g n result)
@@ -139,34 +152,43 @@ never-fails-here {T} {U} {F} environment old f g same n p never result sends its
   | inr mild ↦ sends.unfailed (λ x at. mild x (ap (λ (k : Kept T U F). (state_of k).publishers p) (sym same) ∙ ap (state_of (kept_of f)).publishers (sym its) ∙ at))
 ]
 
+-- nor does it fail one before it is sent
+pub never-unconnected-here : {T U F : Type 0} {boxes : List (PortBox F)} (environment : Environment) (old : Kept T U F) (f g : Fields T U) → keeping boxes f ≡ old → (n p : ℕ) → NeverFails old p → (result : SendResult) (sends : SendsLoan environment f g n result)
+    → (sends.loan).publisher ≡ p → (failure : ConnectionFailure) → result ≡ Send_error (ConnectionError failure) → ⊥
+never-unconnected-here {T} {U} {F} environment old f g same n p never result sends its failure =
+    steady-send environment (state_of (kept_of f)) (state_of (kept_of g)) n sends.loan result
+    (λ x at. (unfailed-parts old p never).3 x (ap (λ (k : Kept T U F). (state_of k).publishers p) (sym same) ∙ ap (state_of (kept_of f)).publishers (sym its) ∙ at))
+    sends.sends failure
+
 -- where its publisher is there, only a handler fails a send
-pub handler-error : (end : SendEnd) → IsKept end → (outcome : Result SendOutcome SendError) → result_of_send outcome ≡ end_result end → IfErr outcome (λ error. error ≡ UnableToDeliver)
-handler-error end kept (Ok came) is = tt
-handler-error (SendEnd.Delivered count) kept (Err error) is = let clash : Send_error error ≡ Delivered_to count = is in absurd cc
-handler-error SendEnd.Undelivered kept (Err error) is = let same : Send_error error ≡ Send_error UnableToDeliver = is in cc
-handler-error SendEnd.Blocked kept (Err error) is = let clash : Send_error error ≡ Blocked_send = is in absurd cc
-handler-error SendEnd.Lost kept (Err error) is = absurd kept
+pub handler-error : (end : SendEnd) → IsNotLost end → (outcome : Result SendOutcome SendError) → result_of_send outcome ≡ end_result end → IfErr outcome IsOfHandler
+handler-error end there (Ok came) is = tt
+handler-error (SendEnd.Delivered count) there (Err error) is = let clash : Send_error error ≡ Delivered_to count = is in absurd cc
+handler-error SendEnd.Undelivered there (Err error) is = inl (let same : Send_error error ≡ Send_error UnableToDeliver = is in cc)
+handler-error SendEnd.Blocked there (Err error) is = let clash : Send_error error ≡ Blocked_send = is in absurd cc
+handler-error SendEnd.Lost there (Err error) is = absurd there
+handler-error (SendEnd.Unconnected failure) there (Err error) is = inr (failure, let same : Send_error error ≡ Send_error (ConnectionError failure) = is in cc)
 
 -- and else that it is gone
-pub either-error : {T U : Type 0} (environment : Environment) (f g : Fields T U) (n p : ℕ) (end : SendEnd) → (HoldsPublisher (state_of (kept_of f)) p → IsKept end)
+pub either-error : {T U : Type 0} (environment : Environment) (f g : Fields T U) (n p : ℕ) (end : SendEnd) → (HoldsPublisher (state_of (kept_of f)) p → IsNotLost end)
     → (sends : SendsLoan environment f g n (end_result end)) → sends.loan.publisher ≡ p
-    → (outcome : Result SendOutcome SendError) → result_of_send outcome ≡ end_result end → IfErr outcome (λ error. (error ≡ ConnectionBrokenSinceSenderNoLongerExists) ⊎ (error ≡ UnableToDeliver))
-either-error {T} {U} environment f g n p end kept sends its (Ok delivered) is = tt
-either-error {T} {U} environment f g n p end kept sends its (Err error) is =
-    by_option ((error ≡ ConnectionBrokenSinceSenderNoLongerExists) ⊎ (error ≡ UnableToDeliver)) ((state_of (kept_of f)).publishers sends.loan.publisher) _ _ sends.sends
+    → (outcome : Result SendOutcome SendError) → result_of_send outcome ≡ end_result end → IfErr outcome (λ error. (error ≡ ConnectionBrokenSinceSenderNoLongerExists) ⊎ IsOfHandler error)
+either-error {T} {U} environment f g n p end there sends its (Ok delivered) is = tt
+either-error {T} {U} environment f g n p end there sends its (Err error) is =
+    by_option ((error ≡ ConnectionBrokenSinceSenderNoLongerExists) ⊎ IsOfHandler error) ((state_of (kept_of f)).publishers sends.loan.publisher) _ _ sends.sends
     (λ _ gone. inl (let same : Send_error error ≡ Send_error ConnectionBrokenSinceSenderNoLongerExists = is ∙ gone.1 in cc))
-    (λ x there _. inr (handler-error end (kept (x, ap (state_of (kept_of f)).publishers (sym its) ∙ there)) (Err error) is))
+    (λ x at _. inr (handler-error end (there (x, ap (state_of (kept_of f)).publishers (sym its) ∙ at)) (Err error) is))
 
--- a send whose publisher is there, and whose handler fails none, succeeds, and so each error is that it is gone
-pub only-error : {T U : Type 0} (environment : Environment) (f g : Fields T U) (n p : ℕ) (end : SendEnd) → (HoldsPublisher (state_of (kept_of f)) p → IsKept end)
+-- a send whose publisher is there, and whose handlers fail none, succeeds, and so each error is that it is gone
+pub only-error : {T U : Type 0} (environment : Environment) (f g : Fields T U) (n p : ℕ) (end : SendEnd) → (HoldsPublisher (state_of (kept_of f)) p → IsNotLost end)
     → (sends : SendsLoan environment f g n (end_result end)) → sends.loan.publisher ≡ p
-    → (end_result end ≡ Send_error UnableToDeliver → ⊥)
+    → (end_result end ≡ Send_error UnableToDeliver → ⊥) → ((failure : ConnectionFailure) → end_result end ≡ Send_error (ConnectionError failure) → ⊥)
     → (outcome : Result SendOutcome SendError) → result_of_send outcome ≡ end_result end → IfErr outcome (λ error. error ≡ ConnectionBrokenSinceSenderNoLongerExists)
-only-error {T} {U} environment f g n p end kept sends its never (Ok delivered) is = tt
-only-error {T} {U} environment f g n p end kept sends its never (Err error) is =
+only-error {T} {U} environment f g n p end there sends its never steady (Ok delivered) is = tt
+only-error {T} {U} environment f g n p end there sends its never steady (Err error) is =
     by_option (error ≡ ConnectionBrokenSinceSenderNoLongerExists) ((state_of (kept_of f)).publishers sends.loan.publisher) _ _ sends.sends
     (λ _ gone. let same : Send_error error ≡ Send_error ConnectionBrokenSinceSenderNoLongerExists = is ∙ gone.1 in cc)
-    (λ x there _. absurd (let no : false ≡ true = only-ok end (kept (x, ap (state_of (kept_of f)).publishers (sym its) ∙ there)) never (Err error) is in cc))
+    (λ x at _. absurd (let no : false ≡ true = steady-ok end (there (x, ap (state_of (kept_of f)).publishers (sym its) ∙ at)) never steady (Err error) is in cc))
 
 -- ---- a send that is blocked
 
@@ -242,14 +264,16 @@ never-waits-send {T} {U} environment old key m s shown never n l out its s' h = 
 -- ---- why a send fails
 
 -- an error isn't both
-lost-or-failed : {A : Type 0} (error : SendError) → error ≡ ConnectionBrokenSinceSenderNoLongerExists → error ≡ UnableToDeliver → A
-lost-or-failed error lost failed =
+lost-or-failed : {A : Type 0} (error : SendError) → error ≡ ConnectionBrokenSinceSenderNoLongerExists → IsOfHandler error → A
+lost-or-failed error lost (inl failed) =
     let clash : ConnectionBrokenSinceSenderNoLongerExists ≡ UnableToDeliver = sym lost ∙ failed in absurd cc
+lost-or-failed error lost (inr failed) =
+    let clash : ConnectionBrokenSinceSenderNoLongerExists ≡ ConnectionError failed.0 = sym lost ∙ failed.1 in absurd cc
 
 -- a send fails since its publisher is gone, or a handler of it fails the send
 pub fails-send : {T U F : Type 0} (domain : Kept T U F) (key : Key) (outcome : Result SendOutcome SendError)
-    → IfErr outcome (λ error. (error ≡ ConnectionBrokenSinceSenderNoLongerExists) ⊎ (error ≡ UnableToDeliver))
-    → (HasLender domain key → IfErr outcome (λ error. error ≡ UnableToDeliver))
+    → IfErr outcome (λ error. (error ≡ ConnectionBrokenSinceSenderNoLongerExists) ⊎ IsOfHandler error)
+    → (HasLender domain key → IfErr outcome IsOfHandler)
     → (NeverFails domain key.port → IfErr outcome (λ error. error ≡ ConnectionBrokenSinceSenderNoLongerExists)) → IfErr outcome (FailsSend domain key)
 unfolding FailsSend
 fails-send domain key (Ok came) either there gone = tt
@@ -260,7 +284,7 @@ fails-send domain key (Err error) either there gone = elim either [
 
 -- while the publisher is there, a handler fails it
 pub fails-there : {T U F : Type 0} (domain : Kept T U F) (key : Key) → HasLender domain key → (outcome : Result SendOutcome SendError) → IfErr outcome (FailsSend domain key)
-    → IfErr outcome (λ error. error ≡ UnableToDeliver)
+    → IfErr outcome IsOfHandler
 unfolding FailsSend
 fails-there domain key lent (Ok came) fails = tt
 fails-there domain key lent (Err error) fails = elim fails [ inl lost ↦ absurd (lost.1 lent) | inr failed ↦ failed.0 ]

@@ -15,7 +15,7 @@ use Rattle.iox2_store.specs.Stored.{In_mailbox}
 use Rattle.iox2_laws.proofs.NumberLemmas.{contains_right}
 use Rattle.iox2_domain.specs.Boxes.{box_of}
 use Rattle.iox2_domain.specs.Fields.{Fields, keeping}
-use Rattle.iox2_domain.specs.Handlers.{may_fail}
+use Rattle.iox2_domain.specs.Handlers.{may_fail, may_fail_update}
 use Rattle.iox2_domain.specs.declared.boxes.PortBox.{PortBox}
 use Rattle.iox2_domain.specs.Kept.{Kept, state_of, entries_of}
 use Rattle.iox2_domain.specs.Shows.{Shows}
@@ -237,6 +237,9 @@ module _ {T U F : Type 0} (spent : Item) (old new : Kept T U F) (remain : PortsR
           let before = waits.publishers publisher x' was.0 at in
           was.2 before.0 b before.1 (sym (before.2.blocked (λ spared. spared other)) ∙ has)
     ],
+    λ x' at.
+        let before = waits.publishers publisher x' was.0 at in
+        ap may_fail_update before.2.degradation ∙ was.3 before.0 before.1,
   )
 
   blocked : (key : Key) → IsBlockedKey old key → IsOtherPublisher spent key.port → IsOtherBlocked spent key.port → IsBlockedKey new key

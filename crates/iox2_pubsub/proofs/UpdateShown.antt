@@ -23,16 +23,16 @@ module _ {T U F : Type 0} {boxes : List (PortBox F)} (environment : Environment)
   here = subst (λ (k : Kept T U F). Shows k m s) (sym view) shown
 
   -- a publisher's update, with the same messages
-  pub publisher-update-shows : (x : PublisherFields) × (get_or f.publishers place None ≡ Some x) × (x.id ≡ id)
-      → ((x : PublisherFields) → get_or f.publishers place None ≡ Some x → UpdatesPublisher environment f place x g None)
-      → (s' : State T U) × Shows (kept_of g) m s' × UpdatePublisher environment s id s' None
-  publisher-update-shows found updates =
+  pub publisher-update-shows : (failure : Option ConnectionFailure) → (x : PublisherFields) × (get_or f.publishers place None ≡ Some x) × (x.id ≡ id)
+      → ((x : PublisherFields) → get_or f.publishers place None ≡ Some x → UpdatesPublisher environment f place x g failure)
+      → (s' : State T U) × Shows (kept_of g) m s' × UpdatePublisher environment s id s' failure
+  publisher-update-shows failure found updates =
       let u = updates found.0 found.1 in
-      let step : UpdatePublisher environment s id u.after None =
-      subst (λ (t : State T U). UpdatePublisher environment t id u.after None) (sym here.state) (subst (λ (p : ℕ). UpdatePublisher environment (state_of (kept_of f)) p u.after None) found.2 u.updates) in (
+      let step : UpdatePublisher environment s id u.after failure =
+      subst (λ (t : State T U). UpdatePublisher environment t id u.after failure) (sym here.state) (subst (λ (p : ℕ). UpdatePublisher environment (state_of (kept_of f)) p u.after failure) found.2 u.updates) in (
         u.after,
-        reaches-shows f g m s u.after here u.reaches (update_publisher_advances environment s id u.after None step).next_message
-            (λ n l at. here.unsent n l (ap (λ all. all n) (sym (update_publisher_loans environment s id u.after None step)) ∙ at)),
+        reaches-shows f g m s u.after here u.reaches (update_publisher_advances environment s id u.after failure step).next_message
+            (λ n l at. here.unsent n l (ap (λ all. all n) (sym (update_publisher_loans environment s id u.after failure step)) ∙ at)),
         step,
       )
 

@@ -30,7 +30,7 @@ use Rattle.iox2_domain.specs.Lending.{LoanCall}
 use Rattle.iox2_domain.specs.Questions.{IsAnswer}
 use Rattle.iox2_domain.specs.Shows.{Shows}
 use Rattle.iox2_laws.proofs.MailboxLemmas.{has_numbers-contains}
-use Rattle.iox2_laws.proofs.NumberLemmas.{contains_left, contains_right}
+use Rattle.iox2_laws.proofs.NumberLemmas.{contains_later, contains_left, contains_right}
 use Rattle.iox2_laws.proofs.SamplesStay.{received_one}
 use Rattle.iox2_laws.proofs.WaitingCounts.{SameWaits, same_itself, sum_zero, sum_part, cond_among}
 use Rattle.iox2_laws.proofs.WaitingLoans.{grant_loan_waits, loan_set_waits, loan_discarded_waits}
@@ -38,19 +38,25 @@ use Rattle.iox2_laws.proofs.WaitingReceives.{UpdateWaits, update_subscriber_wait
 use Rattle.iox2_laws.proofs.WaitingPorts.{NewWaits, create_subscriber_waits}
 use Rattle.iox2_laws.proofs.WaitingPublishers.{create_publisher_waits}
 use Rattle.iox2_laws.proofs.WaitingSends.{update_publisher_waits, send_waits, send_among, retry_adds, give_up_adds}
-use Rattle.iox2_pubsub.specs.Live.{IsLiveSubscriber, AddAtMost, AreAllSlices, OthersWait, payloads, waiting, sample_key, subscriber_key}
+use Rattle.iox2_pubsub.specs.Live.{IsLiveSubscriber, AddAtMost, AreAllSlices, OthersWait, TakesOldest, payloads, payloads_from, waiting, sample_key, subscriber_key}
 use Rattle.iox2_pubsub.specs.Slices.{HasValues, SampleHasValues}
 use Rattle.iox2_pubsub.specs.Payloads.{all_below, payload_of, payloads_for}
 use Rattle.iox2_pubsub.specs.declared.sample.Sample.{Sample}
 use Rattle.iox2_pubsub.specs.declared.subscriber.Subscriber.{Subscriber}
 use Rattle.iox2_pubsub.proofs.LiveParts.{subscriber-parts}
 use Rattle.iox2_pubsub.proofs.SliceParts.{sample-values, values-parts}
-use Rattle.iox2_pubsub.proofs.PayloadLists.{all_same, parts_same, payloads_same, length-payloads, each_payload, payload_at}
+use Rattle.iox2_pubsub.proofs.PayloadLists.{all_same, parts_same, payloads_same, length-payloads, each_payload, payload_at, map_same}
+use Rattle.iox2_pubsub.proofs.OldestFirst.{receive-first}
 
 -- the payloads are what the domain keeps
 payloads-are : {T U F : Type 0} (kept : Kept T U F) (subscriber : Subscriber) → payloads kept subscriber ≡ payloads_for (state_of kept) (entries_of kept) subscriber.id
 unfolding payloads
 payloads-are kept subscriber = refl
+
+pub payloads-from-are : {T U F : Type 0} (kept : Kept T U F) (p : ℕ) (subscriber : Subscriber)
+    → payloads_from kept p subscriber ≡ map (payload_of (entries_of kept)) (waiting_from (state_of kept) p subscriber.id)
+unfolding payloads_from
+payloads-from-are kept p subscriber = refl
 
 -- as many wait as the machine counts
 pub waiting-is : {T U F : Type 0} (kept : Kept T U F) (m : Messages T U) (s : State T U) → Shows kept m s → (subscriber : Subscriber) → waiting kept subscriber ≡ waiting_for s subscriber.id
@@ -69,6 +75,13 @@ entry-of {T} {U} kept m s shown p q n at =
     let has = shown.complete p n (In_mailbox q here) in
     (has.0, has.1, shown.entries n has.0 has.1)
 
+-- the payload of what waits is that of its message
+pub payload-is : {T U F : Type 0} (kept : Kept T U F) (m : Messages T U) (s : State T U) → Shows kept m s → (p q n : ℕ) → contains (waiting_from s p q) n ≡ true
+    → (entry : Entry T U) → m n ≡ Some entry → payload_of (entries_of kept) n ≡ entry.values
+payload-is {T} {U} kept m s shown p q n at entry is =
+    let has = entry-of kept m s shown p q n (waits-in-mailbox s p q n at) in
+    ap (λ (o : Option (Entry T U)). option_map_or (λ (e : Entry T U). e.values) o []) (has.1 ∙ sym has.2 ∙ is)
+
 -- the words of a clause, part by part
 all-parts : {T : Type 0} (payloads : List (List T)) (values : List T) → AreAllSlices payloads values → AllByRecursion (λ payload. payload ≡ values) payloads
 unfolding AreAllSlices
@@ -79,7 +92,7 @@ unfolding AreAllSlices
 parts-all payloads values all = all
 
 -- cells that are all written hold their values
-written-cells : {T : Type 0} (values : List T) → filter_map (λ (cell : Option T). cell) (map Some values) ≡ values
+pub written-cells : {T : Type 0} (values : List T) → filter_map (λ (cell : Option T). cell) (map Some values) ≡ values
 written-cells [] = refl
 written-cells (value ∷ values) = ap (λ vs. value ∷ vs) (written-cells values)
 
@@ -98,6 +111,11 @@ module _ {T U F : Type 0} (old new : Kept T U F) (m m' : Messages T U) (s s' : S
       let before = entry-of old m s shown p q n at in
       let after = entry-of new m' s' shown' i j n at' in
       after.1 ∙ sym after.2 ∙ sent n before.0 before.2 ∙ sym before.1
+
+  -- and reads the same
+  pub same-payload : AreKept → (p q k : ℕ) → contains (waiting_from s p q) k ≡ true → contains (waiting_from s' p q) k ≡ true → payload_of (entries_of new) k ≡ payload_of (entries_of old) k
+  same-payload sent p q k at at' =
+      ap (λ (o : Option (Entry T U)). option_map_or (λ (e : Entry T U). e.values) o []) (same-entry sent p q p q k (waits-in-mailbox s p q k at) (waits-in-mailbox s' p q k at'))
 
   -- what is related in the machine is what the domains keep
   between : (P : State T U → State T U → Type 0) → P s s' → P (state_of old) (state_of new)
@@ -330,6 +348,53 @@ module _ {T U F : Type 0} (old new : Kept T U F) (m m' : Messages T U) (s s' : S
         contains_right (s'.mailboxes p subscriber.id).waiting (s'.mailboxes p subscriber.id).borrowed n ((received_one environment s subscriber.id p n s' h).now) in
         let entry : entries_of new n ≡ Some before.0 = same-entry sent p subscriber.id p subscriber.id n boxed borrowed ∙ before.1 in
         sample-values new (sample_key sample) values (before.0, entry, ap (λ (o : Option (Entry T U)). option_map_or (λ (e : Entry T U). e.values) o []) (sym before.1) ∙ waiting_values)
+
+    -- and it is the oldest of its publisher
+    pub received-oldest : AreKept → IsLiveSubscriber old subscriber → (sample : Sample) → Receive environment s subscriber.id s' (Got_sample sample.origin sample.sample.number)
+        → TakesOldest subscriber sample old new
+    received-oldest sent live sample h = ((before.0).values, same, sample-values new (sample_key sample) (before.0).values (before.0, entry, refl)) where
+      p : ℕ
+      p = sample.origin
+
+      q : ℕ
+      q = subscriber.id
+
+      n : ℕ
+      n = sample.sample.number
+
+      has : (y : MachineSubscriber) × (s.subscribers subscriber.id ≡ Some y) × (y.is_open ≡ true)
+      has = live-open subscriber live
+
+      first : waiting_from s p q ≡ n ∷ waiting_from s' p q
+      first = receive-first environment s q p n s' has.0 has.1 has.2 h
+
+      boxed : contains (numbers_in (s.mailboxes p q)) n ≡ true
+      boxed = waits-in-mailbox s p q n (receive_waited environment s q p n s' has.0 has.1 has.2 h)
+
+      before : (entry : Entry T U) × (entries_of old n ≡ Some entry) × (m n ≡ Some entry)
+      before = entry-of old m s shown p q n boxed
+
+      borrowed : contains (numbers_in (s'.mailboxes p q)) n ≡ true
+      borrowed = contains_right (s'.mailboxes p q).waiting (s'.mailboxes p q).borrowed n ((received_one environment s q p n s' h).now)
+
+      entry : entries_of new n ≡ Some before.0
+      entry = same-entry sent p q p q n boxed borrowed ∙ before.1
+
+      later : (k : ℕ) → contains (waiting_from s' p q) k ≡ true → payload_of (entries_of old) k ≡ payload_of (entries_of new) k
+      later k at =
+          let there : contains (waiting_from s p q) k ≡ true = ap (λ ns. contains ns k) first ∙ contains_later n k (waiting_from s' p q) at in
+          ap (λ (o : Option (Entry T U)). option_map_or (λ (e : Entry T U). e.values) o []) (sym (same-entry sent p q p q k (waits-in-mailbox s p q k there) (waits-in-mailbox s' p q k at)))
+
+      same : payloads_from old p subscriber ≡ (before.0).values ∷ payloads_from new p subscriber
+      same =
+          payloads-from-are old p subscriber
+          ∙ ap (λ (t : State T U). map (payload_of (entries_of old)) (waiting_from t p q)) (sym shown.state)
+          ∙ ap (map (payload_of (entries_of old))) first
+          ∙ ap (λ vs. vs ∷ map (payload_of (entries_of old)) (waiting_from s' p q)) (ap (λ (o : Option (Entry T U)). option_map_or (λ (e : Entry T U). e.values) o []) before.1)
+          ∙ ap (λ vss. (before.0).values ∷ vss)
+          (map_same (payload_of (entries_of old)) (payload_of (entries_of new)) (waiting_from s' p q) later
+          ∙ ap (λ (t : State T U). map (payload_of (entries_of new)) (waiting_from t p q)) shown'.state
+          ∙ sym (payloads-from-are new p subscriber))
 
 module _ {T U F : Type 0} (old new : Kept T U F) (m : Messages T U) (s : State T U) (shown : Shows old m s) (n : ℕ) where
   -- a loan is set

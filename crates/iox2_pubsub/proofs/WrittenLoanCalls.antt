@@ -12,8 +12,7 @@ use Rattle.iox2_store.specs.machine.SingleCalls.{GrantWrittenLoan, GrantDefaultS
 use Rattle.iox2_store.specs.machine.State.{State, Messages, with_loan}
 use Rattle.iox2_store.specs.declared.errors.LoanError.{LoanError}
 use Rattle.iox2_store.specs.declared.errors.SendError.{SendError}
-use Rattle.iox2_store.specs.declared.errors.SendError.TheVariants.{UnableToDeliver}
-use Rattle.iox2_pubsub.specs.SendCalls.{Sends, messages_after}
+use Rattle.iox2_pubsub.specs.SendCalls.{IsOfHandler, Sends, messages_after}
 use Rattle.iox2_pubsub.specs.WrittenLoans.{SendsCopy, SendsGranted}
 use Rattle.iox2_pubsub.specs.declared.send_outcome.SendOutcome.{SendOutcome}
 
@@ -50,7 +49,7 @@ module _ {T U : Type 0} (s mid : State T U) (p n : ℕ) (next : n ≡ s.next_mes
   }
 
   pub copy-sent : (environment : Environment) (is_default : U → Type 0) → is_default user_header → (m : Messages T U) (number : ℕ) → number ≡ n → (result : Result SendOutcome SendError)
-      → IfErr result (λ error. error ≡ UnableToDeliver) → (s' : State T U)
+      → IfErr result IsOfHandler → (s' : State T U)
       → Sends environment with_value number (written l value) result s' → SendsCopy environment is_default m s p value result (messages_after m number (written l value) result) s'
   copy-sent environment is_default default m number same (Ok outcome) failed s' sends = copy-granted environment is_default default m number same (Ok outcome) s' sends
   copy-sent environment is_default default m number same (Err e) failed s' sends = inl (failed, copy-granted environment is_default default m number same (Err e) s' sends)

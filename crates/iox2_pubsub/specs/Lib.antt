@@ -1,4 +1,6 @@
+pub mod ConnectedPorts
 pub mod Live
+pub mod Handles
 pub mod ReceivedSamples
 pub mod SendCalls
 pub mod QuestionCalls

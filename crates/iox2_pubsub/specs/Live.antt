@@ -1,20 +1,24 @@
 -- What handles name in a domain, and what of it a call leaves.
-use Rattle.std.specs.Prelude.{ℕ, Bool, [], ◌∷◌, ◌≡◌, ◌≢◌, ◌⊎◌, true, false, IsTrue, List, length, ◌≤◌, ◌<◌, ◌+◌}
+use Rattle.std.specs.Prelude.{ℕ, Bool, [], ◌∷◌, ◌≡◌, ◌≢◌, ◌⊎◌, true, false, IsTrue, List, length, map, drop, suc, ◌++◌, ◌≤◌, ◌<◌, ◌+◌}
 use Rattle.std.specs.declared.option.Option.{Option}
+use Rattle.std.specs.Bool.{MatchBool}
 use Rattle.std.specs.List.{AllByRecursion}
 use Rattle.std.specs.declared.option.Option.TheVariants.{None, Some}
+use Rattle.iox2_store.specs.machine.Limits.{refusal_limit}
 use Rattle.iox2_store.specs.machine.Mailbox.{is_borrowed}
 use Rattle.iox2_store.specs.machine.Records.{BlockedSend as MachineBlocked, Entry, Loan, Publisher as MachinePublisher, Subscriber as MachineSubscriber}
 use Rattle.iox2_store.specs.machine.SingleCalls.{HoldsPublisher, HoldsSubscriber, HoldsLoan, HoldsSample, HoldsBlocked}
 use Rattle.iox2_store.specs.declared.header.Header.{Header}
 use Rattle.iox2_store.specs.declared.key.Key.{Key}
 use Rattle.iox2_store.specs.declared.service_config.TypeVariant.TheVariants.{FixedSize}
+use Rattle.iox2_store.specs.machine.Waiting.{waiting_from}
 use Rattle.iox2_domain.specs.Boxes.{box_of}
-use Rattle.iox2_domain.specs.Handlers.{may_fail}
+use Rattle.iox2_domain.specs.Handlers.{may_fail, may_fail_update}
 use Rattle.iox2_domain.specs.Kept.{Kept, state_of, entries_of}
 use Rattle.iox2_domain.specs.LoanCalls.{HasLoanHeader, HasLoanUserHeader}
+use Rattle.iox2_pubsub.specs.ConnectedPorts.{Connects}
 use Rattle.iox2_pubsub.specs.Handlers.{may_wait}
-use Rattle.iox2_pubsub.specs.Payloads.{payloads_for}
+use Rattle.iox2_pubsub.specs.Payloads.{payload_of, payloads_for}
 use Rattle.iox2_pubsub.specs.Slices.{IsSliced, HasUnwrittenCells, HasValues, SampleHasValues}
 use Rattle.iox2_pubsub.specs.declared.blocked_send.BlockedSend.{BlockedSend}
 use Rattle.iox2_pubsub.specs.declared.publisher.Publisher.{Publisher}
@@ -64,13 +68,14 @@ module _ {T U F : Type 0} (domain : Kept T U F) where
   abbrev pub Overflows : Type 0
   Overflows = (domain.config).enable_safe_overflow ≡ true
 
-  -- No handler of the publisher with this id fails a send, nor has it failed the one that is blocked: none is asked in a service
-  -- that overflows, and a publisher that was closed has none.
+  -- No handler of the publisher with this id fails a send, at a full buffer or where it can't make a connection, nor has it failed
+  -- the one that is blocked: none is asked of full buffers in a service that overflows, and a publisher that was closed has none.
   unfoldable pub NeverFails : (publisher : ℕ) → Type 0
   NeverFails publisher =
       (publisher < (state_of domain).next_port)
       × (Overflows ⊎ ((x : MachinePublisher) → (state_of domain).publishers publisher ≡ Some x → may_fail x.backpressure_handler ≡ false))
       × ((x : MachinePublisher) (b : MachineBlocked) → (state_of domain).publishers publisher ≡ Some x → x.blocked ≡ Some b → b.has_failed ≡ false)
+      × ((x : MachinePublisher) → (state_of domain).publishers publisher ≡ Some x → may_fail_update x.degradation_handler ≡ false)
 
   module _ (key : Key) where
     -- The key names a publisher of the domain that wasn't closed.
@@ -206,6 +211,10 @@ module _ {T U F : Type 0} (domain : Kept T U F) where
   unfoldable pub payloads : Subscriber → List (List T)
   payloads subscriber = payloads_for (state_of domain) (entries_of domain) subscriber.id
 
+  -- The payloads of the messages of one publisher, which has this id, that wait for the subscriber, the oldest first.
+  unfoldable pub payloads_from : (publisher : ℕ) → Subscriber → List (List T)
+  payloads_from publisher subscriber = map (payload_of (entries_of domain)) (waiting_from (state_of domain) publisher subscriber.id)
+
   -- How many messages wait for the subscriber.
   abbrev pub waiting : Subscriber → ℕ
   waiting subscriber = length (payloads subscriber)
@@ -214,9 +223,34 @@ module _ {T U F : Type 0} (domain : Kept T U F) where
   unfoldable pub IsUpToDate : Subscriber → Type 0
   IsUpToDate subscriber = (y : MachineSubscriber) × ((state_of domain).subscribers subscriber.id ≡ Some y) × (y.is_open ≡ true) × (y.is_due ≡ false)
 
--- Each subscriber that was up to date is.
-abbrev pub UpToDateStay : {T U F : Type 0} → (old new : Kept T U F) → Type 0
-UpToDateStay old new = (subscriber : Subscriber) → IsUpToDate old subscriber → IsUpToDate new subscriber
+  -- The publisher with this id has its connection with the subscriber, which is open, and has it too or makes its end in its next
+  -- update. So what the publisher sends waits for the subscriber.
+  unfoldable pub IsConnected : (publisher : ℕ) → Subscriber → Type 0
+  IsConnected publisher subscriber = Connects (state_of domain) publisher subscriber.id
+
+-- Each subscriber that was up to date is, and each publisher that was connected with a subscriber is.
+pub record UpToDateStay {T U F : Type 0} (old new : Kept T U F) : Type 0 where
+  pub subscribers : (subscriber : Subscriber) → IsUpToDate old subscriber → IsUpToDate new subscriber
+  pub connections : (publisher : ℕ) (subscriber : Subscriber) → IsConnected old publisher subscriber → IsConnected new publisher subscriber
+
+-- Each publisher that was connected with a subscriber is.
+abbrev pub ConnectionsStay : {T U F : Type 0} → (old new : Kept T U F) → Type 0
+ConnectionsStay old new = (publisher : ℕ) (subscriber : Subscriber) → IsConnected old publisher subscriber → IsConnected new publisher subscriber
+
+-- No port was refused memory for a connection meanwhile, as the domain's count says while it isn't at its end.
+abbrev pub NoneRefused : {T U F : Type 0} → (old new : Kept T U F) → Type 0
+NoneRefused old new = ((new.warnings).refused_connections ≡ (old.warnings).refused_connections) × ((old.warnings).refused_connections < refusal_limit)
+
+-- The publisher's message with these values waits for the subscriber, behind all others of that publisher. Where the buffer was
+-- full, the oldest of them went in its place, with overflow; without overflow this message did, and they wait still.
+unfoldable pub IsServed : {T U F : Type 0} → (old new : Kept T U F) → (publisher : ℕ) → Subscriber → List T → Type 0
+IsServed old new publisher subscriber values =
+    ((payloads_from new publisher subscriber ≡ payloads_from old publisher subscriber ++ values ∷ []) × (waiting new subscriber ≡ suc (waiting old subscriber)))
+    ⊎ ((0 < length (payloads_from old publisher subscriber))
+    × MatchBool (old.config).enable_safe_overflow
+    (payloads_from new publisher subscriber ≡ drop 1 (payloads_from old publisher subscriber) ++ values ∷ [])
+    (payloads_from new publisher subscriber ≡ payloads_from old publisher subscriber)
+    × (waiting new subscriber ≡ waiting old subscriber))
 
 -- Each other subscriber that was up to date is.
 abbrev pub OthersStayUpToDate : {T U F : Type 0} → Subscriber → (old new : Kept T U F) → Type 0
@@ -225,6 +259,11 @@ OthersStayUpToDate subscriber old new = (other : Subscriber) → other.id ≢ su
 -- For every other subscriber the same messages wait as before.
 abbrev pub OthersWait : {T U F : Type 0} → Subscriber → (old new : Kept T U F) → Type 0
 OthersWait subscriber old new = (other : Subscriber) → other.id ≢ subscriber.id → payloads new other ≡ payloads old other
+
+-- The sample is the oldest that waited from its publisher, and the others of that publisher wait still.
+abbrev pub TakesOldest : {T U F : Type 0} → Subscriber → Sample → (old new : Kept T U F) → Type 0
+TakesOldest {T} subscriber sample old new =
+    (values : List T) × (payloads_from old sample.origin subscriber ≡ values ∷ payloads_from new sample.origin subscriber) × SampleHasValues new (sample_key sample) values
 
 -- For no subscriber more than so many messages are added to what waits.
 abbrev pub AddAtMost : {T U F : Type 0} → (more : ℕ) → (old new : Kept T U F) → Type 0

@@ -8,9 +8,10 @@ use Rattle.iox2_store.specs.machine.Numbers.{put_at}
 use Rattle.iox2_store.specs.machine.Records.{Environment, Loan}
 use Rattle.iox2_store.specs.machine.Sends.{SendResult, Delivered_to, Blocked_send, Send_error, Send}
 use Rattle.iox2_store.specs.machine.State.{State, Messages}
+use Rattle.iox2_store.specs.declared.errors.ConnectionFailure.{ConnectionFailure}
 use Rattle.iox2_store.specs.declared.errors.SendError.{SendError}
 use Rattle.iox2_store.specs.declared.errors.LoanError.{LoanError}
-use Rattle.iox2_store.specs.declared.errors.SendError.TheVariants.{ConnectionBrokenSinceSenderNoLongerExists, UnableToDeliver, LoanError as Not_lent}
+use Rattle.iox2_store.specs.declared.errors.SendError.TheVariants.{ConnectionBrokenSinceSenderNoLongerExists, ConnectionError, UnableToDeliver, LoanError as Not_lent}
 use Rattle.iox2_store.specs.declared.key.Key.{Key}
 use Rattle.iox2_domain.specs.Kept.{Kept}
 use Rattle.iox2_pubsub.specs.declared.send_outcome.SendOutcome.{SendOutcome}
@@ -64,12 +65,17 @@ messages_after m n l (Ok outcome) = put_at m n (Some (entry_of l))
 messages_after m n l (Err UnableToDeliver) = put_at m n (Some (entry_of l))
 messages_after m n l (Err error) = m
 
+-- A handler of the publisher fails a send so: at some subscriber, whose buffer is full, or before the message is sent to any, where
+-- the publisher can't make a connection.
+abbrev pub IsOfHandler : SendError → Type 0
+IsOfHandler error = (error ≡ UnableToDeliver) ⊎ ((failure : ConnectionFailure) × (error ≡ ConnectionError failure))
+
 module _ {T U F : Type 0} (domain : Kept T U F) where
-  -- Why a send of the loan with this key fails: its publisher is gone, or a handler of it fails the send at some subscriber.
+  -- Why a send of the loan with this key fails: its publisher is gone, or a handler of it fails the send.
   unfoldable pub FailsSend : Key → SendError → Type 0
   FailsSend key error =
-      ((error ≡ ConnectionBrokenSinceSenderNoLongerExists) × (HasLender domain key → ⊥)) ⊎ ((error ≡ UnableToDeliver) × (NeverFails domain key.port → ⊥))
+      ((error ≡ ConnectionBrokenSinceSenderNoLongerExists) × (HasLender domain key → ⊥)) ⊎ (IsOfHandler error × (NeverFails domain key.port → ⊥))
 
-  -- Why the publisher's copy isn't sent: it isn't lent, for this reason, or a handler fails its send at some subscriber.
+  -- Why the publisher's copy isn't sent: it isn't lent, for this reason, or a handler fails its send.
   unfoldable pub FailsCopy : Publisher → SendError → Type 0
-  FailsCopy publisher error = ((reason : LoanError) × (error ≡ Not_lent reason)) ⊎ ((error ≡ UnableToDeliver) × (NeverFails domain publisher.id → ⊥))
+  FailsCopy publisher error = ((reason : LoanError) × (error ≡ Not_lent reason)) ⊎ (IsOfHandler error × (NeverFails domain publisher.id → ⊥))

@@ -9,9 +9,9 @@ use Rattle.iox2_store.specs.machine.SingleCalls.{GrantWrittenLoan, GrantDefaultS
 use Rattle.iox2_store.specs.machine.State.{State, Messages}
 use Rattle.iox2_store.specs.declared.errors.LoanError.{LoanError}
 use Rattle.iox2_store.specs.declared.errors.SendError.{SendError}
-use Rattle.iox2_store.specs.declared.errors.SendError.TheVariants.{LoanError as NotLoaned, UnableToDeliver}
+use Rattle.iox2_store.specs.declared.errors.SendError.TheVariants.{LoanError as NotLoaned}
 use Rattle.iox2_pubsub.specs.declared.send_outcome.SendOutcome.{SendOutcome}
-use Rattle.iox2_pubsub.specs.SendCalls.{Sends, messages_after}
+use Rattle.iox2_pubsub.specs.SendCalls.{IsOfHandler, Sends, messages_after}
 
 module _ {T U : Type 0} where
   -- The publisher p is asked for a loan with such a value: it is granted, with a default user header, or refused for this
@@ -50,9 +50,9 @@ module _ {T U : Type 0} where
     pub refused : (value : T) (user_header : U) → GrantWrittenLoan ample_memory value user_header false 1 s p s' (Some reason)
 
   -- The publisher p is asked to send this value: a loan with it is granted and sent, or refused. Where a handler failed the
-  -- send, it was sent.
+  -- send, it was granted.
   abbrev pub SendsCopy : Environment → (is_default : U → Type 0) → Messages T U → State T U → (p : ℕ) → (value : T) → Result SendOutcome SendError → Messages T U → State T U → Type 0
   SendsCopy environment is_default m s p value result m' s' =
       MatchResult result
       (λ outcome. SendsGranted environment is_default m s p value (Ok outcome) m' s')
-      (λ error. ((error ≡ UnableToDeliver) × SendsGranted environment is_default m s p value (Err error) m' s') ⊎ RefusesLoan m s p error m' s')
+      (λ error. (IsOfHandler error × SendsGranted environment is_default m s p value (Err error) m' s') ⊎ RefusesLoan m s p error m' s')

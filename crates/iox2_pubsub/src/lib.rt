@@ -3,6 +3,7 @@
 
 mod blocked_send;
 mod custom_markers;
+mod degradation_handler;
 mod domain;
 mod port_factory;
 mod publisher;
@@ -17,6 +18,7 @@ mod update_connections;
 pub use blocked_send::BlockedSend;
 pub use circular_buffer::HeapCircularBuffer;
 pub use custom_markers::{CustomHeaderMarker, CustomPayloadMarker};
+pub use degradation_handler::DegradationHandler;
 pub use domain::Domain;
 pub use iox2_store::{
     AllocationStrategy, BackpressureAction, BackpressureFn, BackpressureHandler, BackpressureInfo,

@@ -28,11 +28,12 @@ pub struct Publisher {
 }
 
 impl Publisher {
+    ghost use Rattle.iox2_pubsub.specs.Handles.{publisher_id, strategy_of};
     /// Names the publisher among all ports of its domain.
     ///
     /// iceoryx2's `Publisher::id` (`src/port/publisher.rs`).
     pub fn id(&self) -> UniquePublisherId
-        ensures { result ≡ self.now.id }
+        ensures { result ≡ publisher_id self.now }
     {
         self.id
     }
@@ -42,7 +43,7 @@ impl Publisher {
     ///
     /// iceoryx2's `Publisher::backpressure_strategy` (`src/port/publisher.rs`).
     pub fn backpressure_strategy(&self) -> BackpressureStrategy
-        ensures { result ≡ self.now.strategy }
+        ensures { result ≡ strategy_of self.now }
     {
         self.strategy
     }
@@ -81,7 +82,7 @@ impl Publisher {
         &self,
         domain: &Domain<T, U, F, G>,
     ) -> bool
-        requires { IsPublisherKey domain.now (publisher_key self.now) }
+        requires live { IsPublisherKey domain.now (publisher_key self.now) }
         ensures { (result ≡ false) ↔ IsUnblocked domain.now (publisher_key self.now) }
     {
         is_waiting(&domain.state, self.id, self.place)

@@ -27,6 +27,7 @@ impl Sample {
     ghost use Rattle.iox2_store.specs.machine.State.{State, Messages};
     ghost use Rattle.iox2_pubsub.specs.Live.{IsFromOrigin, IsLiveSample, IsSingleValued, SampleHasHeader, SampleHasUserHeader, SampleReads, sample_key};
     ghost use Rattle.iox2_domain.specs.Shows.{Shows};
+    ghost use Rattle.iox2_pubsub.specs.Handles.{origin_of, sample_number};
 
     /// Names the sample among all that its domain has: by its subscriber and its number.
     ///
@@ -45,7 +46,7 @@ impl Sample {
     ///
     /// iceoryx2's `Sample::origin` (`src/sample.rs`).
     pub fn origin(&self) -> UniquePublisherId
-        ensures { result ≡ self.now.origin }
+        ensures { result ≡ origin_of self.now }
     {
         self.origin
     }
@@ -60,7 +61,7 @@ impl Sample {
         requires live { IsLiveSample domain.now self.now }
         requires single_valued { IsSingleValued domain.now }
         ensures entry { (m : Messages T U) (s : State T U) → Shows domain.now m s
-            → (entry : Entry T U) × (m self.now.sample.number ≡ Some entry) × (entry.values ≡ result.now ∷ []) }
+            → (entry : Entry T U) × (m (sample_number self.now) ≡ Some entry) × (entry.values ≡ result.now ∷ []) }
         ensures reads { SampleReads domain.now self.now result.now }
         ensures same { (value : T) → SampleReads domain.now self.now value → result.now ≡ value }
     {
@@ -74,10 +75,10 @@ impl Sample {
         &self,
         domain: &'a Domain<T, U, F, G>,
     ) -> &'a Header
-        requires { IsLiveSample domain.now self.now }
+        requires live { IsLiveSample domain.now self.now }
         ensures header { (m : Messages T U) (s : State T U) → Shows domain.now m s
-            → (entry : Entry T U) × (m self.now.sample.number ≡ Some entry) × (entry.header ≡ result.now) }
-        ensures origin { IsFromOrigin domain.now self.now → (result.now).publisher_id ≡ self.now.origin }
+            → (entry : Entry T U) × (m (sample_number self.now) ≡ Some entry) × (entry.header ≡ result.now) }
+        ensures origin { IsFromOrigin domain.now self.now → (result.now).publisher_id ≡ origin_of self.now }
         ensures reads { SampleHasHeader domain.now (sample_key self.now) result.now }
         ensures same { (header : Header) → SampleHasHeader domain.now (sample_key self.now) header → result.now ≡ header }
     {
@@ -91,9 +92,9 @@ impl Sample {
         &self,
         domain: &'a Domain<T, U, F, G>,
     ) -> &'a U
-        requires { IsLiveSample domain.now self.now }
+        requires live { IsLiveSample domain.now self.now }
         ensures header { (m : Messages T U) (s : State T U) → Shows domain.now m s
-            → (entry : Entry T U) × (m self.now.sample.number ≡ Some entry) × (entry.user_header ≡ result.now) }
+            → (entry : Entry T U) × (m (sample_number self.now) ≡ Some entry) × (entry.user_header ≡ result.now) }
         ensures reads { SampleHasUserHeader domain.now (sample_key self.now) result.now }
         ensures same { (header : U) → SampleHasUserHeader domain.now (sample_key self.now) header → result.now ≡ header }
     {

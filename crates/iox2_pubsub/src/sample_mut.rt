@@ -26,6 +26,7 @@ impl SampleMut {
     ghost use Rattle.iox2_pubsub.specs.Live.{IsLoanKey, IsSingleValued, IsUnblocked, IsWritten, LoanHasHeader, LoanHasUserHeader, LoanReads, written_key};
     ghost use Rattle.iox2_domain.specs.LoanCalls.{HasCell, HasLoanHeader, HasLoanUserHeader};
     ghost use Rattle.iox2_domain.specs.Shows.{Shows};
+    ghost use Rattle.iox2_pubsub.specs.Handles.{written_lender, written_number};
 
     /// The payload, in a domain of single values.
     ///
@@ -36,7 +37,7 @@ impl SampleMut {
     ) -> &'a T
         requires live { IsWritten domain.now self.now }
         requires single_valued { IsSingleValued domain.now }
-        ensures cell { (m : Messages T U) (s : State T U) → Shows domain.now m s → HasCell s self.now.loan.number (Some result.now) }
+        ensures cell { (m : Messages T U) (s : State T U) → Shows domain.now m s → HasCell s (written_number self.now) (Some result.now) }
         ensures reads { LoanReads domain.now self.now result.now }
         ensures same { (value : T) → LoanReads domain.now self.now value → result.now ≡ value }
     {
@@ -50,9 +51,9 @@ impl SampleMut {
         &self,
         domain: &'a Domain<T, U, F, G>,
     ) -> &'a Header
-        requires { IsLoanKey domain.now (written_key self.now) }
-        ensures header { (m : Messages T U) (s : State T U) → Shows domain.now m s → HasLoanHeader s self.now.loan.number result.now }
-        ensures origin { (result.now).publisher_id ≡ self.now.loan.publisher }
+        requires live { IsLoanKey domain.now (written_key self.now) }
+        ensures header { (m : Messages T U) (s : State T U) → Shows domain.now m s → HasLoanHeader s (written_number self.now) result.now }
+        ensures origin { (result.now).publisher_id ≡ written_lender self.now }
         ensures reads { LoanHasHeader domain.now (written_key self.now) result.now }
         ensures same { (header : Header) → LoanHasHeader domain.now (written_key self.now) header → result.now ≡ header }
     {
@@ -66,8 +67,8 @@ impl SampleMut {
         &self,
         domain: &'a Domain<T, U, F, G>,
     ) -> &'a U
-        requires { IsLoanKey domain.now (written_key self.now) }
-        ensures header { (m : Messages T U) (s : State T U) → Shows domain.now m s → HasLoanUserHeader s self.now.loan.number result.now }
+        requires live { IsLoanKey domain.now (written_key self.now) }
+        ensures header { (m : Messages T U) (s : State T U) → Shows domain.now m s → HasLoanUserHeader s (written_number self.now) result.now }
         ensures reads { LoanHasUserHeader domain.now (written_key self.now) result.now }
         ensures same { (header : U) → LoanHasUserHeader domain.now (written_key self.now) header → result.now ≡ header }
     {
@@ -80,7 +81,7 @@ impl SampleMut {
         &self,
         domain: &Domain<T, U, F, G>,
     ) -> bool
-        requires { IsLoanKey domain.now (written_key self.now) }
+        requires live { IsLoanKey domain.now (written_key self.now) }
         ensures { (result ≡ false) ↔ IsUnblocked domain.now (written_key self.now) }
     {
         is_waiting(&domain.state, self.loan.publisher, self.loan.place)

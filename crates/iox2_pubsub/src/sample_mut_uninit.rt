@@ -27,6 +27,7 @@ impl SampleMutUninit {
     ghost use Rattle.iox2_pubsub.specs.Live.{IsLoanKey, IsSingleValued, IsUnwritten, LoanHasHeader, LoanHasUserHeader, UnwrittenReads, unwritten_key};
     ghost use Rattle.iox2_domain.specs.LoanCalls.{HasCell, HasLoanHeader, HasLoanUserHeader};
     ghost use Rattle.iox2_domain.specs.Shows.{Shows};
+    ghost use Rattle.iox2_pubsub.specs.Handles.{unwritten_lender, unwritten_number};
 
     /// The payload, in a domain of single values, and `None` where it isn't written.
     ///
@@ -37,7 +38,7 @@ impl SampleMutUninit {
     ) -> &'a Option<T>
         requires live { IsUnwritten domain.now self.now }
         requires single_valued { IsSingleValued domain.now }
-        ensures cell { (m : Messages T U) (s : State T U) → Shows domain.now m s → HasCell s self.now.loan.number result.now }
+        ensures cell { (m : Messages T U) (s : State T U) → Shows domain.now m s → HasCell s (unwritten_number self.now) result.now }
         ensures reads { UnwrittenReads domain.now self.now result.now }
         ensures same { (cell : Option T) → UnwrittenReads domain.now self.now cell → result.now ≡ cell }
     {
@@ -51,9 +52,9 @@ impl SampleMutUninit {
         &self,
         domain: &'a Domain<T, U, F, G>,
     ) -> &'a Header
-        requires { IsLoanKey domain.now (unwritten_key self.now) }
-        ensures header { (m : Messages T U) (s : State T U) → Shows domain.now m s → HasLoanHeader s self.now.loan.number result.now }
-        ensures origin { (result.now).publisher_id ≡ self.now.loan.publisher }
+        requires live { IsLoanKey domain.now (unwritten_key self.now) }
+        ensures header { (m : Messages T U) (s : State T U) → Shows domain.now m s → HasLoanHeader s (unwritten_number self.now) result.now }
+        ensures origin { (result.now).publisher_id ≡ unwritten_lender self.now }
         ensures reads { LoanHasHeader domain.now (unwritten_key self.now) result.now }
         ensures same { (header : Header) → LoanHasHeader domain.now (unwritten_key self.now) header → result.now ≡ header }
     {
@@ -67,8 +68,8 @@ impl SampleMutUninit {
         &self,
         domain: &'a Domain<T, U, F, G>,
     ) -> &'a U
-        requires { IsLoanKey domain.now (unwritten_key self.now) }
-        ensures header { (m : Messages T U) (s : State T U) → Shows domain.now m s → HasLoanUserHeader s self.now.loan.number result.now }
+        requires live { IsLoanKey domain.now (unwritten_key self.now) }
+        ensures header { (m : Messages T U) (s : State T U) → Shows domain.now m s → HasLoanUserHeader s (unwritten_number self.now) result.now }
         ensures reads { LoanHasUserHeader domain.now (unwritten_key self.now) result.now }
         ensures same { (header : U) → LoanHasUserHeader domain.now (unwritten_key self.now) header → result.now ≡ header }
     {

@@ -18,7 +18,7 @@ impl SendOutcome {
     /// How many subscribers took the message, of a send that isn't blocked. This library's own.
     #[inline(always)]
     pub fn delivered(self) -> usize
-        requires { IsDelivered self }
+        requires delivered { IsDelivered self }
         ensures { self ≡ SendOutcome.Delivered result }
     {
         match self {

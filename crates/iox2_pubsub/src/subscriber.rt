@@ -23,11 +23,12 @@ pub struct Subscriber {
 }
 
 impl Subscriber {
+    ghost use Rattle.iox2_pubsub.specs.Handles.{buffer_size_of, subscriber_id};
     /// Names the subscriber among all ports of its domain.
     ///
     /// iceoryx2's `Subscriber::id` (`src/port/subscriber.rs`).
     pub fn id(&self) -> UniqueSubscriberId
-        ensures { result ≡ self.now.id }
+        ensures { result ≡ subscriber_id self.now }
     {
         self.id
     }
@@ -36,7 +37,7 @@ impl Subscriber {
     ///
     /// iceoryx2's `Subscriber::buffer_size` (`src/port/subscriber.rs`).
     pub fn buffer_size(&self) -> usize
-        ensures { result ≡ self.now.buffer_size }
+        ensures { result ≡ buffer_size_of self.now }
     {
         self.buffer_size
     }

@@ -1,5 +1,6 @@
 //! Updates of a port's connections, by call.
-ghost use Rattle.std.specs.Prelude.{◌≡◌, ℕ};
+ghost use Rattle.std.specs.Prelude.{◌≡◌, ℕ, OnOk};
+ghost use Rattle.iox2_pubsub.specs.UpdateCalls.{failure_of};
 
 use crate::domain::Domain;
 use iox2_store::{BackpressureFn, ConnectionFailure, DegradationFn};
@@ -24,6 +25,9 @@ pub trait UpdateConnections<T: Drop, U: Default + Drop, F: BackpressureFn, G: De
     // The machine's update of the port, with this failure if any.
     ghost updates: { State T U → Self → State T U → Option ConnectionFailure → Type 0 };
 
+    // What an update that didn't fail leaves true of the port.
+    ghost is_updated: { Kept T U F → Self → Type 0 };
+
     // How many messages more may wait for a subscriber afterwards.
     ghost adds: { Kept T U F → ℕ };
 
@@ -32,17 +36,30 @@ pub trait UpdateConnections<T: Drop, U: Default + Drop, F: BackpressureFn, G: De
     ///
     /// Fails where there is no room to keep the connection of a publisher that departed: then it
     /// stays, the rest of the update is done, and the port is due again. Where memory for a
-    /// connection is refused, that is a warning of the domain.
+    /// connection is refused, the port's handler says what comes of that: nothing, a warning of the
+    /// domain, or that the update fails with `FailedToEstablishConnection(OutOfMemory)`, after the
+    /// rest of it is done. The first failure is returned.
     fn update_connections(&self, domain: &mut Domain<T, U, F, G>) -> Result<(), ConnectionFailure>
-        requires { is_live domain.old self.now }
+        requires live { is_live domain.old self.now }
         ensures live { is_live domain.new self.now }
         ensures updates { (m : Messages T U) (s : State T U) → Shows domain.old m s
             → (s' : State T U) × Shows domain.new m s' × updates s self.now s' (failure_of result) }
         ensures adds { AddAtMost (adds domain.old) domain.old domain.new }
+        ensures updated { OnOk result (is_updated domain.new self.now) }
         ensures up_to_date { UpToDateStay domain.old domain.new }
         ensures loans_left { LoansLeftStay domain.old domain.new }
         ensures stays { Stays domain.old domain.new };
 
     // A port that is live stays so where everything does.
     ghost live_stays: { (old new : Kept T U F) (port : Self) → Stays old new → is_live old port → is_live new port };
+}
+
+/// What an update with this failure, if any, returns.
+pub(crate) fn outcome_of(failure: Option<ConnectionFailure>) -> Result<(), ConnectionFailure>
+    ensures { failure_of result ≡ failure }
+{
+    match failure {
+        Some(failure) => Err(failure),
+        None => Ok(()),
+    }
 }

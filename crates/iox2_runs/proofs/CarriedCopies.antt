@@ -12,9 +12,10 @@ use Rattle.iox2_store.specs.machine.Numbers.{put_at}
 use Rattle.iox2_store.specs.machine.Loans.{entry_of}
 use Rattle.iox2_store.specs.machine.Sends.{Send, SendResult, Delivered_to, Blocked_send, Send_error}
 use Rattle.iox2_store.specs.machine.SingleCalls.{GrantWrittenLoan, HoldsBlocked}
+use Rattle.iox2_store.specs.declared.errors.ConnectionFailure.{ConnectionFailure}
 use Rattle.iox2_store.specs.declared.errors.LoanError.{LoanError}
 use Rattle.iox2_store.specs.declared.errors.SendError.{SendError}
-use Rattle.iox2_store.specs.declared.errors.SendError.TheVariants.{UnableToDeliver}
+use Rattle.iox2_store.specs.declared.errors.SendError.TheVariants.{ConnectionError, UnableToDeliver}
 use Rattle.iox2_domain.specs.Kept.{Kept as Domain}
 use Rattle.iox2_domain.specs.Shows.{Shows}
 use Rattle.iox2_steps.proofs.updates.AnyBoxes.{AllowsUpdates}
@@ -23,13 +24,13 @@ use Rattle.iox2_pubsub.specs.Live.{IsBlockedSend, blocked_key, lender_key, publi
 use Rattle.iox2_pubsub.proofs.LiveParts.{blocked-parts}
 use Rattle.iox2_laws.proofs.SendsRemain.{send_waits_with}
 use Rattle.iox2_laws.proofs.Waits.{Waits, send_waits}
-use Rattle.iox2_pubsub.specs.SendCalls.{IfBlocked, Sends, messages_after, sent_result}
+use Rattle.iox2_pubsub.specs.SendCalls.{IfBlocked, IsOfHandler, Sends, messages_after, sent_result}
 use Rattle.iox2_pubsub.specs.WrittenLoans.{SendsCopy, SendsGranted, RefusesLoan}
 use Rattle.iox2_pubsub.specs.declared.publisher.Publisher.{Publisher as PublisherHandle}
 use Rattle.iox2_pubsub.specs.declared.sample_mut.SampleMut.{SampleMut}
 use Rattle.iox2_pubsub.specs.declared.send_outcome.SendOutcome.{SendOutcome}
 use Rattle.iox2_pubsub.specs.declared.send_outcome.SendOutcome.TheVariants.{Delivered as OutcomeDelivered, Blocked as OutcomeBlocked}
-use Rattle.iox2_commands.specs.Outcomes.{Handle, No_handle, Loan_handle, Blocked_handle, Sample_handle, Event, Message_sent}
+use Rattle.iox2_commands.specs.Outcomes.{Handle, No_handle, Loan_handle, Blocked_handle, Sample_handle, Event, No_event, Message_sent}
 use Rattle.iox2_commands.specs.Runs.{Defaults}
 use Rattle.iox2_commands.specs.declared.command.Command.TheVariants.{Loan as LoanDefault, SendCopy}
 use Rattle.iox2_commands.specs.declared.reply.Reply.TheVariants.{Skipped, Loaned, LoanRefused, Delivered, Blocked, SendRefused}
@@ -108,6 +109,14 @@ module _ {T U F : Type 0} (environment : Environment) (updates : AllowsUpdates e
   copied-failing s' sends shown =
       copy_comes fixed_handlers defaults (Shows new) m s handles events (map entry_for table) w default_value default_header is_value is_header of h.service_id h.id value stand unblocked alone
       header is_default mid grants l out s' (Send_error UnableToDeliver) (fixed s' (Send_error UnableToDeliver) sends) (SendRefused UnableToDeliver) No_handle (Message_sent l.publisher s.next_message (entry_of l)) No_entry refl refl
+      (λ k e. let clash : No_handle ≡ Loan_handle k = e in absurd cc) (λ p q k e. let clash : No_handle ≡ Sample_handle p q k = e in absurd cc) (λ p k e. let clash : No_handle ≡ Blocked_handle p k = e in absurd cc) shown tt
+
+  -- or it did before the copy was sent to anybody
+  copied-unconnected : (failure : ConnectionFailure) (s' : State T U) → Send environment mid s.next_message l s' (Send_error (ConnectionError failure)) → Shows new m s'
+      → Comes fixed_handlers defaults (Shows new) m s handles events (SendCopy of value) (SendRefused (ConnectionError failure)) (map entry_for table ++ No_entry ∷ [])
+  copied-unconnected failure s' sends shown =
+      copy_comes fixed_handlers defaults (Shows new) m s handles events (map entry_for table) w default_value default_header is_value is_header of h.service_id h.id value stand unblocked alone
+      header is_default mid grants l out s' (Send_error (ConnectionError failure)) (fixed s' (Send_error (ConnectionError failure)) sends) (SendRefused (ConnectionError failure)) No_handle No_event No_entry refl refl
       (λ k e. let clash : No_handle ≡ Loan_handle k = e in absurd cc) (λ p q k e. let clash : No_handle ≡ Sample_handle p q k = e in absurd cc) (λ p k e. let clash : No_handle ≡ Blocked_handle p k = e in absurd cc) shown tt
 
 module _ {T U F : Type 0} (defaults : Defaults T U) (old new : Domain T U F) (table : List Made) (of : ℕ) where
@@ -194,19 +203,30 @@ module _ {T U F : Type 0} (environment : Environment) (updates : AllowsUpdates e
   pub copy_denied : (h : PublisherHandle) (value : T) (error : SendError) → slice_index_or table of Nothing ≡ MadePublisher h → ((m : Messages T U) (s : State T U) → Shows old m s → IsUnblocked s h.id)
       → is_single_valued old.config ≡ true
       → ((m : Messages T U) (s : State T U) → Shows old m s → (m' : Messages T U) × (s' : State T U) × Shows new m' s'
-      × (((error ≡ UnableToDeliver) × SendsGranted environment defaults.IsDefaultHeader m s h.id value (Err error) m' s') ⊎ RefusesLoan m s h.id error m' s'))
+      × ((IsOfHandler error × SendsGranted environment defaults.IsDefaultHeader m s h.id value (Err error) m' s') ⊎ RefusesLoan m s h.id error m' s'))
       → Carries fixed_handlers defaults old new table (SendCopy of value) (SendRefused error) table Nothing
   copy_denied h value error at free single sends = λ m s handles events shown w default_value default_header is_value is_header.
       let came = sends m s shown in
+      let stand = entry-stands table of (MadePublisher h) at (λ e. let clash : MadePublisher h ≡ Nothing = e in cc) in
+      let alone = ap (λ (t : State T U). is_single_valued t.config) shown.state ∙ single in
       elim came.3 [
         | inl failed ↦
             let it = failed.1 in
-            subst (λ (e : SendError). Comes fixed_handlers defaults (Shows new) m s handles events (SendCopy of value) (SendRefused e) (map entry_for table ++ No_entry ∷ [])) (sym failed.0)
-            (copied-failing environment updates defaults new table of h value m s handles events w default_value default_header is_value is_header
-            (entry-stands table of (MadePublisher h) at (λ e. let clash : MadePublisher h ≡ Nothing = e in cc)) (free m s shown) (ap (λ (t : State T U). is_single_valued t.config) shown.state ∙ single)
-            it.user_header it.default it.granted (written_any fixed_handlers value it.user_header s h.id it.granted None it.grants) it.loan it.out came.1
-            (subst (λ (e : SendError). Sends environment it.granted s.next_message it.loan (Err e) came.1) failed.0 it.sends)
-            (subst (λ (k : Messages T U). Shows new k came.1) (it.messages ∙ ap (λ (e : SendError). messages_after m s.next_message it.loan (Err e)) failed.0) came.2))
+            let granted = written_any fixed_handlers value it.user_header s h.id it.granted None it.grants in
+            elim failed.0 [
+              | inl undelivered ↦
+                  subst (λ (e : SendError). Comes fixed_handlers defaults (Shows new) m s handles events (SendCopy of value) (SendRefused e) (map entry_for table ++ No_entry ∷ [])) (sym undelivered)
+                  (copied-failing environment updates defaults new table of h value m s handles events w default_value default_header is_value is_header stand (free m s shown) alone
+                  it.user_header it.default it.granted granted it.loan it.out came.1
+                  (subst (λ (e : SendError). Sends environment it.granted s.next_message it.loan (Err e) came.1) undelivered it.sends)
+                  (subst (λ (k : Messages T U). Shows new k came.1) (it.messages ∙ ap (λ (e : SendError). messages_after m s.next_message it.loan (Err e)) undelivered) came.2))
+              | inr unconnected ↦
+                  subst (λ (e : SendError). Comes fixed_handlers defaults (Shows new) m s handles events (SendCopy of value) (SendRefused e) (map entry_for table ++ No_entry ∷ [])) (sym unconnected.1)
+                  (copied-unconnected environment updates defaults new table of h value m s handles events w default_value default_header is_value is_header stand (free m s shown) alone
+                  it.user_header it.default it.granted granted it.loan it.out unconnected.0 came.1
+                  (subst (λ (e : SendError). Sends environment it.granted s.next_message it.loan (Err e) came.1) unconnected.1 it.sends)
+                  (subst (λ (k : Messages T U). Shows new k came.1) (it.messages ∙ ap (λ (e : SendError). messages_after m s.next_message it.loan (Err e)) unconnected.1) came.2))
+            ]
         | inr it ↦
             subst (λ (e : SendError). Comes fixed_handlers defaults (Shows new) m s handles events (SendCopy of value) (SendRefused e) (map entry_for table ++ No_entry ∷ [])) (sym it.is)
             (copy_refused_comes fixed_handlers defaults (Shows new) m s handles events (map entry_for table) w default_value default_header is_value is_header of h.service_id h.id value

@@ -11,14 +11,14 @@ use Rattle.iox2_store.specs.machine.Loans.{GrantLoan, written, entry_of}
 use Rattle.iox2_store.specs.machine.Sends.{Send, SendResult, Delivered_to, Blocked_send, Send_error}
 use Rattle.iox2_store.specs.declared.errors.LoanError.{LoanError}
 use Rattle.iox2_store.specs.declared.errors.SendError.{SendError}
-use Rattle.iox2_store.specs.declared.errors.SendError.TheVariants.{ConnectionBrokenSinceSenderNoLongerExists, UnableToDeliver}
+use Rattle.iox2_store.specs.declared.errors.SendError.TheVariants.{ConnectionBrokenSinceSenderNoLongerExists, ConnectionError, UnableToDeliver}
 use Rattle.iox2_laws.proofs.Waits.{send_waits}
 use Rattle.iox2_domain.specs.Kept.{Kept as Domain}
 use Rattle.iox2_store.specs.declared.key.Key.{Key}
 use Rattle.iox2_domain.specs.Shows.{Shows}
 use Rattle.iox2_steps.proofs.updates.AnyBoxes.{AllowsUpdates}
 use Rattle.iox2_pubsub.specs.Live.{IsBlockedSend, blocked_key, written_key}
-use Rattle.iox2_pubsub.specs.SendCalls.{FailsSend, IfBlocked, Sends, messages_after, result_of_send}
+use Rattle.iox2_pubsub.specs.SendCalls.{FailsSend, IfBlocked, IsOfHandler, Sends, messages_after, result_of_send}
 use Rattle.iox2_pubsub.specs.declared.publisher.Publisher.{Publisher as PublisherHandle}
 use Rattle.iox2_pubsub.specs.declared.send_outcome.SendOutcome.{SendOutcome}
 use Rattle.iox2_pubsub.specs.declared.send_outcome.SendOutcome.TheVariants.{Delivered as WasDelivered, Blocked as IsBlocked}
@@ -151,7 +151,7 @@ module _ {T U F : Type 0} (defaults : Defaults T U) (new : Domain T U F) (table 
       unboxed_still (λ i. i ≡ l.publisher) s s' (send_waits (λ i. i ≡ l.publisher) fixed_handlers s h.loan.number l refl s' result sends) h.loan.publisher ((named.2).2).1 (named.2).3
 
   sent-by : (came : Result SendOutcome SendError) → IfOk came (λ it. IfBlocked it (λ blocked. IsBlockedSend new blocked × (blocked_key blocked ≡ written_key h)))
-      → IfErr came (λ error. (error ≡ ConnectionBrokenSinceSenderNoLongerExists) ⊎ (error ≡ UnableToDeliver)) → (s' : State T U) → Shows new (messages_after m h.loan.number l came) s' → Sends fixed_handlers s h.loan.number l came s'
+      → IfErr came (λ error. (error ≡ ConnectionBrokenSinceSenderNoLongerExists) ⊎ IsOfHandler error) → (s' : State T U) → Shows new (messages_after m h.loan.number l came) s' → Sends fixed_handlers s h.loan.number l came s'
       → Comes fixed_handlers defaults (Shows new) m s handles events (SendLoan of) (reply_to_send came) (slice_set (map entry_for table) of No_entry ++ entry_for (made_by_send came) ∷ [])
   sent-by (Ok (WasDelivered count)) waits broken s' shown sends =
       send_comes fixed_handlers defaults (Shows new) m s handles events (map entry_for table) w default_value default_header is_value is_header of h.service_id h.loan.publisher h.loan.number stand unblocked l out
@@ -163,12 +163,19 @@ module _ {T U F : Type 0} (defaults : Defaults T U) (new : Domain T U F) (table 
       (ap (λ (p : ℕ). record { reply = Blocked; handle = Blocked_handle p h.loan.number; event = Message_sent l.publisher h.loan.number (entry_of l); state = s' }) (sym lender)) refl
       (λ k e. let clash : Blocked_handle h.loan.publisher h.loan.number ≡ Loan_handle k = e in absurd cc) (λ p q k e. let clash : Blocked_handle h.loan.publisher h.loan.number ≡ Sample_handle p q k = e in absurd cc)
       (λ p k e. let same : Blocked_handle h.loan.publisher h.loan.number ≡ Blocked_handle p k = e in (cc, cc)) shown (blocked_entry new _ s' shown blocked waits.0 (written_key h) waits.1 (lender-unboxed Blocked_send s' sends))
-  sent-by (Err error) waits (inr failed) s' shown sends =
+  sent-by (Err error) waits (inr (inl failed)) s' shown sends =
       let so : Sends fixed_handlers s h.loan.number l (Err UnableToDeliver) s' = subst (λ (e : SendError). Sends fixed_handlers s h.loan.number l (Err e) s') failed sends in
       let there : Shows new (messages_after m h.loan.number l (Err UnableToDeliver)) s' = subst (λ (e : SendError). Shows new (messages_after m h.loan.number l (Err e)) s') failed shown in
       subst (λ (e : SendError). Comes fixed_handlers defaults (Shows new) m s handles events (SendLoan of) (SendRefused e) (slice_set (map entry_for table) of No_entry ++ No_entry ∷ [])) (sym failed)
       (send_comes fixed_handlers defaults (Shows new) m s handles events (map entry_for table) w default_value default_header is_value is_header of h.service_id h.loan.publisher h.loan.number stand unblocked l out
       s' (Send_error UnableToDeliver) so (SendRefused UnableToDeliver) No_handle (Message_sent l.publisher h.loan.number (entry_of l)) No_entry refl refl
+      (λ k e. let clash : No_handle ≡ Loan_handle k = e in absurd cc) (λ p q k e. let clash : No_handle ≡ Sample_handle p q k = e in absurd cc) (λ p k e. let clash : No_handle ≡ Blocked_handle p k = e in absurd cc) there tt)
+  sent-by (Err error) waits (inr (inr unconnected)) s' shown sends =
+      let so : Sends fixed_handlers s h.loan.number l (Err (ConnectionError unconnected.0)) s' = subst (λ (e : SendError). Sends fixed_handlers s h.loan.number l (Err e) s') unconnected.1 sends in
+      let there : Shows new m s' = subst (λ (e : SendError). Shows new (messages_after m h.loan.number l (Err e)) s') unconnected.1 shown in
+      subst (λ (e : SendError). Comes fixed_handlers defaults (Shows new) m s handles events (SendLoan of) (SendRefused e) (slice_set (map entry_for table) of No_entry ++ No_entry ∷ [])) (sym unconnected.1)
+      (send_comes fixed_handlers defaults (Shows new) m s handles events (map entry_for table) w default_value default_header is_value is_header of h.service_id h.loan.publisher h.loan.number stand unblocked l out
+      s' (Send_error (ConnectionError unconnected.0)) so (SendRefused (ConnectionError unconnected.0)) No_handle No_event No_entry refl refl
       (λ k e. let clash : No_handle ≡ Loan_handle k = e in absurd cc) (λ p q k e. let clash : No_handle ≡ Sample_handle p q k = e in absurd cc) (λ p k e. let clash : No_handle ≡ Blocked_handle p k = e in absurd cc) there tt)
   sent-by (Err error) waits (inl broken) s' shown sends =
       let so : Sends fixed_handlers s h.loan.number l (Err ConnectionBrokenSinceSenderNoLongerExists) s' = subst (λ (e : SendError). Sends fixed_handlers s h.loan.number l (Err e) s') broken sends in
@@ -185,7 +192,7 @@ module _ {T U F : Type 0} (environment : Environment) (updates : AllowsUpdates e
       → ((m : Messages T U) (s : State T U) (l : Loan T U) → Shows old m s → s.loans h.loan.number ≡ Some l
       → (s' : State T U) × Shows new (messages_after m h.loan.number l outcome) s' × Sends environment s h.loan.number l outcome s')
       → IfOk outcome (λ came. IfBlocked came (λ blocked. IsBlockedSend new blocked × (blocked_key blocked ≡ written_key h)))
-      → IfErr outcome (λ error. (error ≡ ConnectionBrokenSinceSenderNoLongerExists) ⊎ (error ≡ UnableToDeliver))
+      → IfErr outcome (λ error. (error ≡ ConnectionBrokenSinceSenderNoLongerExists) ⊎ IsOfHandler error)
       → table' ≡ slice_set table of Nothing
       → Carries fixed_handlers defaults old new table (SendLoan of) (reply_to_send outcome) table' (made_by_send outcome)
   send_carried h outcome at free sends blocked gone is = λ m s handles events shown w default_value default_header is_value is_header.
@@ -202,7 +209,7 @@ module _ {T U F : Type 0} (environment : Environment) (updates : AllowsUpdates e
 
 -- why a send fails, without what is so then
 pub either-failure : {T U F : Type 0} (domain : Domain T U F) (key : Key) (outcome : Result SendOutcome SendError) → IfErr outcome (FailsSend domain key)
-    → IfErr outcome (λ error. (error ≡ ConnectionBrokenSinceSenderNoLongerExists) ⊎ (error ≡ UnableToDeliver))
+    → IfErr outcome (λ error. (error ≡ ConnectionBrokenSinceSenderNoLongerExists) ⊎ IsOfHandler error)
 unfolding FailsSend
 either-failure domain key (Ok came) fails = tt
 either-failure domain key (Err error) fails = elim fails [ inl lost ↦ inl lost.0 | inr failed ↦ inr failed.0 ]

@@ -7,7 +7,7 @@ use Rattle.iox2_store.specs.machine.Ports.{CreatePublisher, CreateSubscriber}
 use Rattle.iox2_store.specs.declared.allocation.AllocationStrategy.TheVariants.{Static}
 use Rattle.iox2_store.specs.declared.backpressure.BackpressureAction.{BackpressureAction}
 use Rattle.iox2_store.specs.declared.backpressure.BackpressureStrategy.{BackpressureStrategy}
-use Rattle.iox2_store.specs.declared.degradation.DegradationAction.TheVariants.{Warn}
+use Rattle.iox2_store.specs.declared.degradation.DegradationAction.{DegradationAction}
 use Rattle.iox2_store.specs.declared.errors.PublisherCreateError.{PublisherCreateError}
 use Rattle.iox2_store.specs.declared.errors.SubscriberCreateError.{SubscriberCreateError}
 use Rattle.iox2_store.specs.declared.service_config.TypeVariant.{TypeVariant}
@@ -31,73 +31,73 @@ use Rattle.iox2_runs.specs.declared.runs.made.Made.TheVariants.{Nothing, Publish
 use Rattle.iox2_runs.proofs.TableMakes.{publisher_comes, publisher_refused_comes, subscriber_comes, subscriber_refused_comes}
 
 -- what the command says of a subscriber
-abbrev pub given_for : (limit : ℕ) → Option ℕ → SubscriberSettings
-given_for limit buffer = record { buffer_size = elim buffer [ None ↦ limit | Some asked ↦ asked ]; degradation_handler = Fixed Warn }
+abbrev pub given_for : (limit : ℕ) → Option ℕ → DegradationAction → SubscriberSettings
+given_for limit buffer degradation = record { buffer_size = elim buffer [ None ↦ limit | Some asked ↦ asked ]; degradation_handler = Fixed degradation }
 
 -- what the command says of a publisher
-abbrev pub settings_of : {T U : Type 0} → (loans : ℕ) → BackpressureStrategy → (len : ℕ) → Option BackpressureAction → State T U → PublisherSettings
-settings_of loans strategy len backpressure s = publisher_settings (s.config).variant loans strategy Static len None Warn backpressure
+abbrev pub settings_of : {T U : Type 0} → (loans : ℕ) → BackpressureStrategy → (len : ℕ) → DegradationAction → Option BackpressureAction → State T U → PublisherSettings
+settings_of loans strategy len degradation backpressure s = publisher_settings (s.config).variant loans strategy Static len None degradation backpressure
 
 module _ {T U F : Type 0} (old : Domain T U F) where
   -- what a factory was told is what the command says, where messages are single values
-  pub fixed-settings : (loans : ℕ) (strategy : BackpressureStrategy) (len : ℕ) (backpressure : Option BackpressureAction) (told : PublisherSettings)
-      → told ≡ static_publisher loans strategy (fixed_handler backpressure) 1 → (old.config).variant ≡ FixedSize
-      → (m : Messages T U) (s : State T U) → Shows old m s → told ≡ settings_of loans strategy len backpressure s
-  fixed-settings loans strategy len backpressure told is variant = λ m s shown.
-      is ∙ ap (λ (v : TypeVariant). publisher_settings v loans strategy Static len None Warn backpressure) (sym (ap (λ (t : State T U). (t.config).variant) shown.state ∙ variant))
+  pub fixed-settings : (loans : ℕ) (strategy : BackpressureStrategy) (len : ℕ) (degradation : DegradationAction) (backpressure : Option BackpressureAction) (told : PublisherSettings)
+      → told ≡ static_publisher (record { max_loaned_samples = loans; strategy = strategy; degradation = degradation; initial_max_slice_len = 1 }) (fixed_handler backpressure) → (old.config).variant ≡ FixedSize
+      → (m : Messages T U) (s : State T U) → Shows old m s → told ≡ settings_of loans strategy len degradation backpressure s
+  fixed-settings loans strategy len degradation backpressure told is variant = λ m s shown.
+      is ∙ ap (λ (v : TypeVariant). publisher_settings v loans strategy Static len None degradation backpressure) (sym (ap (λ (t : State T U). (t.config).variant) shown.state ∙ variant))
 
   -- and so where they are slices
-  pub slice-settings : (loans : ℕ) (strategy : BackpressureStrategy) (len : ℕ) (backpressure : Option BackpressureAction) (told : PublisherSettings)
-      → told ≡ static_publisher loans strategy (fixed_handler backpressure) len → (old.config).variant ≡ Dynamic
-      → (m : Messages T U) (s : State T U) → Shows old m s → told ≡ settings_of loans strategy len backpressure s
-  slice-settings loans strategy len backpressure told is variant = λ m s shown.
-      is ∙ ap (λ (v : TypeVariant). publisher_settings v loans strategy Static len None Warn backpressure) (sym (ap (λ (t : State T U). (t.config).variant) shown.state ∙ variant))
+  pub slice-settings : (loans : ℕ) (strategy : BackpressureStrategy) (len : ℕ) (degradation : DegradationAction) (backpressure : Option BackpressureAction) (told : PublisherSettings)
+      → told ≡ static_publisher (record { max_loaned_samples = loans; strategy = strategy; degradation = degradation; initial_max_slice_len = len }) (fixed_handler backpressure) → (old.config).variant ≡ Dynamic
+      → (m : Messages T U) (s : State T U) → Shows old m s → told ≡ settings_of loans strategy len degradation backpressure s
+  slice-settings loans strategy len degradation backpressure told is variant = λ m s shown.
+      is ∙ ap (λ (v : TypeVariant). publisher_settings v loans strategy Static len None degradation backpressure) (sym (ap (λ (t : State T U). (t.config).variant) shown.state ∙ variant))
 
 module _ {T U F : Type 0} (environment : Environment) (defaults : Defaults T U) (old new : Domain T U F) (table : List Made) where
-  pub publisher_carried : (loans : ℕ) (strategy : BackpressureStrategy) (len : ℕ) (backpressure : Option BackpressureAction) (h : PublisherHandle) (id : ℕ)
-      → ((m : Messages T U) (s : State T U) → Shows old m s → (s' : State T U) × Shows new m s' × ((h.id ≡ s.next_port) × CreatePublisher environment s (settings_of loans strategy len backpressure s) s' None))
+  pub publisher_carried : (loans : ℕ) (strategy : BackpressureStrategy) (len : ℕ) (degradation : DegradationAction) (backpressure : Option BackpressureAction) (h : PublisherHandle) (id : ℕ)
+      → ((m : Messages T U) (s : State T U) → Shows old m s → (s' : State T U) × Shows new m s' × ((h.id ≡ s.next_port) × CreatePublisher environment s (settings_of loans strategy len degradation backpressure s) s' None))
       → h.service_id ≡ (new.config).service_id → id ≡ h.id
-      → Carries environment defaults old new table (PublisherCommand loans strategy Static len None Warn backpressure) (PublisherMade id) table (MadePublisher h)
-  publisher_carried loans strategy len backpressure h id creates service same = λ m s handles events shown w default_value default_header is_value is_header.
+      → Carries environment defaults old new table (PublisherCommand loans strategy Static len None degradation backpressure) (PublisherMade id) table (MadePublisher h)
+  publisher_carried loans strategy len degradation backpressure h id creates service same = λ m s handles events shown w default_value default_header is_value is_header.
       let made = creates m s shown in
       let create = (made.2).1 in
-      let Arrives : (a b : ℕ) → Type 0 = λ a b. Comes environment defaults (Shows new) m s handles events (PublisherCommand loans strategy Static len None Warn backpressure) (PublisherMade a)
+      let Arrives : (a b : ℕ) → Type 0 = λ a b. Comes environment defaults (Shows new) m s handles events (PublisherCommand loans strategy Static len None degradation backpressure) (PublisherMade a)
       (map entry_for table ++ Publisher_entry h.service_id b ∷ []) in
       subst (λ (a : ℕ). Arrives a h.id) (sym (made.2).0 ∙ sym same) (subst (Arrives s.next_port) (sym (made.2).0)
-      (publisher_comes environment defaults (Shows new) m s handles events (map entry_for table) w default_value default_header is_value is_header loans strategy Static len None Warn backpressure
-      made.0 create (create_publisher_advances environment s (settings_of loans strategy len backpressure s) made.0 None create).next_message made.1 h.service_id
+      (publisher_comes environment defaults (Shows new) m s handles events (map entry_for table) w default_value default_header is_value is_header loans strategy Static len None degradation backpressure
+      made.0 create (create_publisher_advances environment s (settings_of loans strategy len degradation backpressure s) made.0 None create).next_message made.1 h.service_id
       (service ∙ sym (ap (λ (t : State T U). (t.config).service_id) (made.1).state))))
 
-  pub publisher_denied : (loans : ℕ) (strategy : BackpressureStrategy) (len : ℕ) (backpressure : Option BackpressureAction) (e : PublisherCreateError)
-      → ((m : Messages T U) (s : State T U) → Shows old m s → (s' : State T U) × Shows new m s' × CreatePublisher environment s (settings_of loans strategy len backpressure s) s' (Some e))
-      → Carries environment defaults old new table (PublisherCommand loans strategy Static len None Warn backpressure) (PublisherRefused e) table Nothing
-  publisher_denied loans strategy len backpressure e refuses = λ m s handles events shown w default_value default_header is_value is_header.
+  pub publisher_denied : (loans : ℕ) (strategy : BackpressureStrategy) (len : ℕ) (degradation : DegradationAction) (backpressure : Option BackpressureAction) (e : PublisherCreateError)
+      → ((m : Messages T U) (s : State T U) → Shows old m s → (s' : State T U) × Shows new m s' × CreatePublisher environment s (settings_of loans strategy len degradation backpressure s) s' (Some e))
+      → Carries environment defaults old new table (PublisherCommand loans strategy Static len None degradation backpressure) (PublisherRefused e) table Nothing
+  publisher_denied loans strategy len degradation backpressure e refuses = λ m s handles events shown w default_value default_header is_value is_header.
       let refused = refuses m s shown in
       let create = refused.2 in
-      publisher_refused_comes environment defaults (Shows new) m s handles events (map entry_for table) w default_value default_header is_value is_header loans strategy Static len None Warn backpressure
-      refused.0 e create (create_publisher_advances environment s (settings_of loans strategy len backpressure s) refused.0 (Some e) create).next_message refused.1
+      publisher_refused_comes environment defaults (Shows new) m s handles events (map entry_for table) w default_value default_header is_value is_header loans strategy Static len None degradation backpressure
+      refused.0 e create (create_publisher_advances environment s (settings_of loans strategy len degradation backpressure s) refused.0 (Some e) create).next_message refused.1
 
-  pub subscriber_carried : (buffer : Option ℕ) (given : SubscriberSettings) → given ≡ given_for (buffer_limit old.config) buffer
+  pub subscriber_carried : (buffer : Option ℕ) (degradation : DegradationAction) (given : SubscriberSettings) → given ≡ given_for (buffer_limit old.config) buffer degradation
       → (h : SubscriberHandle) (id : ℕ)
       → ((m : Messages T U) (s : State T U) → Shows old m s → (s' : State T U) × Shows new m s' × (CreateSubscriber environment s given s' None × (h.id ≡ s.next_port)))
       → h.service_id ≡ (new.config).service_id → id ≡ h.id
-      → Carries environment defaults old new table (SubscriberCommand buffer Warn) (SubscriberMade id) table (MadeSubscriber h)
-  subscriber_carried buffer given is h id creates service same = λ m s handles events shown w default_value default_header is_value is_header.
+      → Carries environment defaults old new table (SubscriberCommand buffer degradation) (SubscriberMade id) table (MadeSubscriber h)
+  subscriber_carried buffer degradation given is h id creates service same = λ m s handles events shown w default_value default_header is_value is_header.
       let made = creates m s shown in
-      let so : given ≡ given_for (buffer_limit s.config) buffer = is ∙ sym (ap (λ (t : State T U). given_for (buffer_limit t.config) buffer) shown.state) in
+      let so : given ≡ given_for (buffer_limit s.config) buffer degradation = is ∙ sym (ap (λ (t : State T U). given_for (buffer_limit t.config) buffer degradation) shown.state) in
       let create = subst (λ (given : SubscriberSettings). CreateSubscriber environment s given made.0 None) so (made.2).0 in
-      let Arrives : (a b : ℕ) → Type 0 = λ a b. Comes environment defaults (Shows new) m s handles events (SubscriberCommand buffer Warn) (SubscriberMade a) (map entry_for table ++ Subscriber_entry h.service_id b ∷ []) in
+      let Arrives : (a b : ℕ) → Type 0 = λ a b. Comes environment defaults (Shows new) m s handles events (SubscriberCommand buffer degradation) (SubscriberMade a) (map entry_for table ++ Subscriber_entry h.service_id b ∷ []) in
       subst (λ (a : ℕ). Arrives a h.id) (sym (made.2).1 ∙ sym same) (subst (Arrives s.next_port) (sym (made.2).1)
-      (subscriber_comes environment defaults (Shows new) m s handles events (map entry_for table) w default_value default_header is_value is_header buffer Warn
-      made.0 create (create_subscriber_advances environment s (given_for (buffer_limit s.config) buffer) made.0 None create).next_message made.1 h.service_id
+      (subscriber_comes environment defaults (Shows new) m s handles events (map entry_for table) w default_value default_header is_value is_header buffer degradation
+      made.0 create (create_subscriber_advances environment s (given_for (buffer_limit s.config) buffer degradation) made.0 None create).next_message made.1 h.service_id
       (service ∙ sym (ap (λ (t : State T U). (t.config).service_id) (made.1).state))))
 
-  pub subscriber_denied : (buffer : Option ℕ) (given : SubscriberSettings) → given ≡ given_for (buffer_limit old.config) buffer
+  pub subscriber_denied : (buffer : Option ℕ) (degradation : DegradationAction) (given : SubscriberSettings) → given ≡ given_for (buffer_limit old.config) buffer degradation
       → (e : SubscriberCreateError) → ((m : Messages T U) (s : State T U) → Shows old m s → (s' : State T U) × Shows new m s' × CreateSubscriber environment s given s' (Some e))
-      → Carries environment defaults old new table (SubscriberCommand buffer Warn) (SubscriberRefused e) table Nothing
-  subscriber_denied buffer given is e refuses = λ m s handles events shown w default_value default_header is_value is_header.
+      → Carries environment defaults old new table (SubscriberCommand buffer degradation) (SubscriberRefused e) table Nothing
+  subscriber_denied buffer degradation given is e refuses = λ m s handles events shown w default_value default_header is_value is_header.
       let refused = refuses m s shown in
-      let so : given ≡ given_for (buffer_limit s.config) buffer = is ∙ sym (ap (λ (t : State T U). given_for (buffer_limit t.config) buffer) shown.state) in
+      let so : given ≡ given_for (buffer_limit s.config) buffer degradation = is ∙ sym (ap (λ (t : State T U). given_for (buffer_limit t.config) buffer degradation) shown.state) in
       let create = subst (λ (given : SubscriberSettings). CreateSubscriber environment s given refused.0 (Some e)) so refused.2 in
-      subscriber_refused_comes environment defaults (Shows new) m s handles events (map entry_for table) w default_value default_header is_value is_header buffer Warn
-      refused.0 e create (create_subscriber_advances environment s (given_for (buffer_limit s.config) buffer) refused.0 (Some e) create).next_message refused.1
+      subscriber_refused_comes environment defaults (Shows new) m s handles events (map entry_for table) w default_value default_header is_value is_header buffer degradation
+      refused.0 e create (create_subscriber_advances environment s (given_for (buffer_limit s.config) buffer degradation) refused.0 (Some e) create).next_message refused.1

@@ -41,7 +41,7 @@ module _ {T : Type 0} (U : Type 0) (c : ServiceConfig) (value : T) where
       let waiting : List (Command T U) = sends c.variant value (position + 2 + 4 * c.subscriber_max_borrowed_samples) (buffer_limit c) in
       let history : List (Command T U) = sends c.variant value (position + 2 + 4 * c.subscriber_max_borrowed_samples + 3 * buffer_limit c) c.history_size in
       let begun : List (Command T U) = CreateSubscriber None Warn ∷ Update 0 ∷ borrowed in
-      let first : Supported begun = All-from_recursion IsSupportedCommand begun (refl, (tt, rounds_by position (position + 2) c.subscriber_max_borrowed_samples)) in
+      let first : Supported begun = All-from_recursion IsSupportedCommand begun (tt, (tt, rounds_by position (position + 2) c.subscriber_max_borrowed_samples)) in
       All-append IsSupportedCommand (begun ++ waiting) history
       (All-append IsSupportedCommand begun waiting first (sends_supported (position + 2 + 4 * c.subscriber_max_borrowed_samples) (buffer_limit c)))
       (sends_supported (position + 2 + 4 * c.subscriber_max_borrowed_samples + 3 * buffer_limit c) c.history_size)
@@ -57,5 +57,5 @@ pub filling_is_supported : {T U : Type 0} → FillingIsSupported T U
 filling_is_supported {T} {U} c loans value =
     let filled : List (Command T U) = subscribers_filled c value 1 c.max_subscribers in
     All-append IsSupportedCommand (publisher_command loans None ∷ filled) (replicate loans (loan_command c.variant))
-    (All-cons IsSupportedCommand (publisher_command loans None) filled (refl, refl, refl) (subscribers_supported U c value 1 c.max_subscribers))
+    (All-cons IsSupportedCommand (publisher_command loans None) filled (refl, refl) (subscribers_supported U c value 1 c.max_subscribers))
     (All-replicate IsSupportedCommand loans (loan_command c.variant) (loan_supported U c value))

@@ -3,18 +3,15 @@ use Rattle.std.specs.Prelude.{ℕ, ◌≡◌}
 use Rattle.std.specs.List.{All}
 use Rattle.std.specs.declared.option.Option.TheVariants.{None}
 use Rattle.iox2_store.specs.declared.allocation.AllocationStrategy.TheVariants.{Static}
-use Rattle.iox2_store.specs.declared.degradation.DegradationAction.TheVariants.{Warn}
 use Rattle.iox2_store.specs.declared.service_config.ServiceConfig.{ServiceConfig}
 use Rattle.iox2_worst_case.specs.FillingCommands.{filling_commands}
 use Rattle.iox2_commands.specs.declared.command.Command.{Command}
-use Rattle.iox2_commands.specs.declared.command.Command.TheVariants.{CreatePublisher, CreateSubscriber}
+use Rattle.iox2_commands.specs.declared.command.Command.TheVariants.{CreatePublisher}
 
--- The command sets nothing of a port that a factory can't be told yet: a publisher has one segment and as many slots as it needs,
--- and refused connections are warnings.
+-- The command sets nothing of a port that a factory can't be told yet: a publisher has one segment and as many slots as it needs.
 abbrev pub IsSupportedCommand : {T U : Type 0} → Command T U → Type 0
 IsSupportedCommand (CreatePublisher loans strategy allocation len override_slots degradation backpressure) =
-    (allocation ≡ Static) × (override_slots ≡ None) × (degradation ≡ Warn)
-IsSupportedCommand (CreateSubscriber buffer degradation) = degradation ≡ Warn
+    (allocation ≡ Static) × (override_slots ≡ None)
 IsSupportedCommand _ = Unit {0}
 
 -- Each command of the list that fills every slot is one of these, where the slots aren't overridden.

@@ -79,6 +79,7 @@ fn carry_out<
             loans,
             strategy,
             initial_max_slice_len,
+            degradation,
             backpressure,
             ..
         } => ports::create_publisher(
@@ -87,11 +88,13 @@ fn carry_out<
             loans,
             strategy,
             initial_max_slice_len,
+            degradation,
             backpressure,
         ),
-        Command::CreateSubscriber { buffer, .. } => {
-            ports::create_subscriber(domain, table, buffer)
-        }
+        Command::CreateSubscriber {
+            buffer,
+            degradation,
+        } => ports::create_subscriber(domain, table, buffer, degradation),
         Command::LoanUninit { of } => loans::loan_uninit(domain, table, of),
         Command::Loan { of } => copies::loan(domain, table, of),
         Command::LoanSlice { of, len } => slices::loan_slice(domain, table, of, len),
@@ -151,9 +154,8 @@ fn carry_out<
 /// first. Where it is refused the commands are handed back, and none was carried out.
 ///
 /// A publisher follows its strategy at a full buffer, or the backpressure handler that its command
-/// names. So far each port that a command makes answers a refused connection with a warning, and a
-/// publisher has one segment and as many slots as it needs. The domain may have messages of either
-/// variant: those of `FixedSize` are single values, those of `Dynamic` slices.
+/// names. So far a publisher has one segment and as many slots as it needs. The domain may have
+/// messages of either variant: those of `FixedSize` are single values, those of `Dynamic` slices.
 pub fn run<T: Copy + Default + Drop, U: Copy + Default + Drop, F: BackpressureFn, G: DegradationFn>(
     alloc: Global,
     domain: &mut Domain<T, U, F, G>,

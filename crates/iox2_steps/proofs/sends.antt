@@ -11,3 +11,4 @@ pub mod Published
 pub mod GoneOn
 pub mod BlockedSteps
 pub mod SendSteps
+pub mod FailedUpdates

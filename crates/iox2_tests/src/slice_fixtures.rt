@@ -1,7 +1,9 @@
 //! What tests of slices start from, and the calls that they make, as in `fixtures`.
 
 ghost use Rattle.std.specs.Prelude.{◌≡◌, List, Option, None, length};
+ghost use Rattle.iox2_store.specs.declared.degradation.DegradationAction.TheVariants.{Warn};
 ghost use Rattle.iox2_store.specs.declared.service_config.TypeVariant.TheVariants.{Dynamic};
+ghost use Rattle.iox2_store.specs.machine.Records.{Fixed};
 ghost use Rattle.iox2_pubsub.specs.Live.{IsLivePublisher, IsLiveSample, IsLiveSubscriber, IsReadyPublisher, IsUnwritten, IsWritten, Stays};
 ghost use Rattle.iox2_pubsub.specs.Slices.{HasUnwrittenCells, IsSliced};
 
@@ -16,6 +18,7 @@ pub(crate) fn slice_factory<T: Drop, U: Default + Drop>(
 ) -> slice::PortFactoryPublisher
     ensures strategy { result.settings.backpressure_strategy ≡ BackpressureStrategy.DiscardData }
     ensures handler { result.settings.backpressure_handler ≡ None }
+    ensures degradation { result.settings.degradation_handler ≡ Fixed Warn }
 {
     domain
         .slice_publisher_builder()

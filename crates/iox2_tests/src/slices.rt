@@ -11,8 +11,8 @@ use crate::slice_fixtures::{
 };
 use iox2_fixtures::settings;
 use iox2_pubsub::slice::{Publisher, SampleMut, SampleMutUninit, Subscriber};
-use iox2_pubsub::{Domain, UpdateConnections};
-use iox2_store::{LoanError, PublisherCreateError, ServiceConfig, TypeVariant};
+use iox2_pubsub::{DegradationHandler, Domain, UpdateConnections};
+use iox2_store::{DegradationAction, LoanError, PublisherCreateError, ServiceConfig, TypeVariant};
 use std::process::Abort;
 
 /// A payload that is neither `Copy` nor `Clone`.
@@ -373,4 +373,26 @@ fn slices_that_no_segment_holds_are_refused(rt: HostRuntime) {
     let created = created.map(|publisher| publisher.disown());
     drop(domain);
     assert!(rt; created == Err(PublisherCreateError::UnableToCreateDataSegment));
+}
+
+#[test]
+fn slices_arrive_whatever_a_refused_connection_would_do(rt: HostRuntime) {
+    let mut domain: Domain<u64, u64> = Domain::new(rt.alloc(), slices()).expect(&rt, "a domain");
+    let handler = DegradationHandler::new_with(DegradationAction::DegradeAndFail);
+    let factory = domain
+        .slice_subscriber_builder()
+        .set_degradation_handler(handler);
+    let subscriber = factory.create(&mut domain).expect(&rt, "a subscriber");
+    let factory = domain
+        .slice_publisher_builder()
+        .set_degradation_handler(handler);
+    let publisher = factory.create(&mut domain).expect(&rt, "a publisher");
+    let message = lend_defaults(&rt, &mut domain, &publisher, 1);
+    let takers = send_slice(&rt, &mut domain, message);
+    let read = read_next(&rt, &mut domain, &subscriber, &[0]);
+    publisher.disown();
+    subscriber.disown();
+    drop(domain);
+    assert!(rt; takers == 1);
+    assert!(rt; read == (true, 1));
 }

@@ -1,12 +1,8 @@
 //! Ports get their connections, one place after the other.
-ghost use Rattle.std.specs.Prelude.{◌≡◌, ℕ, ◌<◌, cond, true, false, Some, None, length, slice_index_or, [], IsSomeAnd, IfOk, OnOk, OnErr, MatchOption};
+ghost use Rattle.std.specs.Prelude.{◌≡◌, ℕ, ◌<◌, cond, true, false, Some, None, length, slice_index_or, [], IsSomeAnd, IfOk, OnOk, OnErr, MatchResult};
 ghost use Rattle.slab.specs.Slab.{get};
 ghost use Rattle.iox2_slots.specs.Link.{Link};
-ghost use Rattle.iox2_store.specs.machine.Connections.{warnings_after};
 ghost use Rattle.iox2_store.specs.machine.Environments.{fixed_handlers};
-ghost use Rattle.iox2_store.specs.machine.Limits.{warning_limit};
-ghost use Rattle.iox2_store.specs.declared.degradation.DegradationAction.TheVariants.{Warn};
-ghost use Rattle.iox2_domain.specs.WarningRing.{warning_ring};
 ghost use Rattle.iox2_domain.specs.Ports.{PublisherFields, SubscriberFields};
 ghost use Rattle.iox2_domain.specs.Updates.{MakesConnection, StandApart, home_of, is_open_subscriber, key_from, sender_key, IsUnblockedAt};
 ghost use Rattle.iox2_domain.specs.Invariant.{IsDomain, ReceiverHas, connection_count, one_if_receivers};
@@ -14,14 +10,15 @@ ghost use Rattle.iox2_domain.specs.Connects.{MakesRoom, MakesSenderEnd, Connects
 ghost use Rattle.iox2_domain.specs.Drops.{HasEnd, LosesSenderEnd, LosesWaiting};
 ghost use Rattle.iox2_domain.specs.Histories.{HasNewEnd, HandsOut};
 
+use crate::failures::degrade;
 use crate::marks::mark_end;
 use iox2_domain::{
-    DomainState, PublisherState, SubscriberState, Warnings, clear_key_at, is_open_at, key_at,
+    DomainState, PublisherState, SubscriberState, answer_at, clear_key_at, is_open_at, key_at,
     reserve_connection_at, reserve_key_at, set_key_at, stands_at,
 };
 use iox2_ends::sender::{deliver_history, drop_all, reclaim_all, remove_connection};
 use iox2_slots::{Connection, Home};
-use iox2_store::{UniquePublisherId, UniqueSubscriberId, Warning};
+use iox2_store::ConnectionFailure;
 use slab::Slab;
 use std::alloc::{AllocError, Global};
 
@@ -40,18 +37,6 @@ pub(crate) fn home_of(
         subscriber_place,
         book: publisher.book,
     }
-}
-
-/// The connection which was to stand there is refused memory: it is counted, and that is a warning.
-pub(crate) fn warn_of_refusal(warnings: &mut Warnings, home: Home)
-    requires { warnings.old.capacity ≡ warning_limit }
-    ensures { warnings.new ≡ warning_ring (warnings_after home.publisher home.subscriber Warn warnings.old.items) warning_limit }
-{
-    warnings.count_refusal();
-    warnings.warn(Warning::ConnectionNotMade {
-        sender: UniquePublisherId::new(home.publisher),
-        receiver: UniqueSubscriberId::new(home.subscriber),
-    });
 }
 
 // Makes a connection in which no slot stands, and returns its key.
@@ -162,21 +147,21 @@ fn key_from(connections: &Slab<Connection>, publisher: u128, key: Option<usize>)
 
 // The publisher at a place that isn't due gets its end at the place of an open subscriber, where it
 // has none. Returns the key of its connection, in which no slot stands: the one that the subscriber
-// has with this very publisher, or a new one. Where memory for a new one is refused, that is a
-// warning.
+// has with this very publisher, or a new one. Where memory for a new one is refused, the publisher's
+// handler is asked, and the failure is returned that it makes of this, if any.
 fn make_sender_end<T: Drop, U: Default + Drop>(
     state: &mut DomainState<T, U>,
     publisher_place: usize,
     subscriber_place: usize,
-) -> Option<usize>
+) -> Result<usize, Option<ConnectionFailure>>
     requires agrees { IsDomain state.old }
     requires publisher { (x : PublisherFields) × (slice_index_or state.old.publishers publisher_place None ≡ Some x) }
     requires subscriber { subscriber_place < length state.old.subscribers }
     requires opened { is_open_subscriber state.old.subscribers subscriber_place ≡ true }
     requires none { sender_key state.old.publishers publisher_place subscriber_place ≡ None }
     ensures { (x : PublisherFields) → slice_index_or state.old.publishers publisher_place None ≡ Some x → x.is_due ≡ false → x.blocked ≡ None
-        → MatchOption result (ConnectsSender fixed_handlers state.old publisher_place subscriber_place x state.new None)
-        (λ key. MakesSenderEnd fixed_handlers state.old publisher_place subscriber_place x key state.new) }
+        → MatchResult result (λ key. MakesSenderEnd fixed_handlers state.old publisher_place subscriber_place x key state.new)
+        (λ failure. ConnectsSender fixed_handlers state.old publisher_place subscriber_place x state.new failure) }
 {
     let (home, buffer) = ports_at(state, publisher_place, subscriber_place);
     let other = key_at(&state.subscribers, subscriber_place, publisher_place);
@@ -187,11 +172,11 @@ fn make_sender_end<T: Drop, U: Default + Drop>(
             subscriber_place,
             key,
         );
-        return Some(key);
+        return Ok(key);
     }
+    let answer = answer_at(&state.publishers, publisher_place);
     let Ok(key) = make_between(state, publisher_place, subscriber_place, home, buffer) else {
-        warn_of_refusal(&mut state.warnings, home);
-        return None;
+        return Err(degrade(&mut state.warnings, answer, home));
     };
     set_key_at(
         &mut state.publishers,
@@ -199,7 +184,7 @@ fn make_sender_end<T: Drop, U: Default + Drop>(
         subscriber_place,
         key,
     );
-    Some(key)
+    Ok(key)
 }
 
 // Puts the last messages of the history of the publisher at a place into its connection at a key, in
@@ -228,12 +213,12 @@ fn hand_out_history<T: Drop, U: Default + Drop>(
 
 // The publisher at a place that isn't due, with no end at a subscriber's place, gets one if an open
 // subscriber stands there. The last messages of its history wait in it, as many as fit. Where memory
-// for a connection is refused, that is a warning.
+// for a connection is refused, its handler is asked.
 fn connect_sender<T: Drop, U: Default + Drop>(
     state: &mut DomainState<T, U>,
     publisher_place: usize,
     subscriber_place: usize,
-)
+) -> Option<ConnectionFailure>
     requires agrees { IsDomain state.old }
     requires publisher { (x : PublisherFields) × (slice_index_or state.old.publishers publisher_place None ≡ Some x) }
     requires subscriber { subscriber_place < length state.old.subscribers }
@@ -241,14 +226,18 @@ fn connect_sender<T: Drop, U: Default + Drop>(
     requires unblocked { IsUnblockedAt state.old.publishers publisher_place }
     requires none { sender_key state.old.publishers publisher_place subscriber_place ≡ None }
     ensures { (x : PublisherFields) → slice_index_or state.old.publishers publisher_place None ≡ Some x
-        → ConnectsSender fixed_handlers state.old publisher_place subscriber_place x state.new None }
+        → ConnectsSender fixed_handlers state.old publisher_place subscriber_place x state.new result }
 {
     if !is_open_at(&state.subscribers, subscriber_place) {
-        return;
+        return None;
     }
-    if let Some(key) = make_sender_end(state, publisher_place, subscriber_place) {
-        hand_out_history(state, publisher_place, key);
-        mark_end(state, publisher_place, subscriber_place);
+    match make_sender_end(state, publisher_place, subscriber_place) {
+        Ok(key) => {
+            hand_out_history(state, publisher_place, key);
+            mark_end(state, publisher_place, subscriber_place);
+            None
+        }
+        Err(failure) => failure,
     }
 }
 
@@ -297,29 +286,31 @@ fn disconnect_sender<T: Drop, U: Default + Drop>(
 /// What the update of the publisher at a place, which isn't due, does at a subscriber's place. An end
 /// to the subscriber that stands there stays; where it is closed, what waits for it is lost. Any
 /// other end goes, and one to an open subscriber is made, in which the last messages of the history
-/// wait. Where memory for one is refused, that is a warning.
+/// wait. Where memory for one is refused, its handler is asked.
 pub(crate) fn update_sender_place<T: Drop, U: Default + Drop>(
     state: &mut DomainState<T, U>,
     publisher_place: usize,
     subscriber_place: usize,
-)
+) -> Option<ConnectionFailure>
     requires agrees { IsDomain state.old }
     requires publisher { (x : PublisherFields) × (slice_index_or state.old.publishers publisher_place None ≡ Some x) }
     requires subscriber { subscriber_place < length state.old.subscribers }
     requires settled { (x : PublisherFields) → slice_index_or state.old.publishers publisher_place None ≡ Some x → x.is_due ≡ false }
     requires unblocked { IsUnblockedAt state.old.publishers publisher_place }
     ensures { (x : PublisherFields) → slice_index_or state.old.publishers publisher_place None ≡ Some x
-        → ConnectsSender fixed_handlers state.old publisher_place subscriber_place x state.new None }
+        → ConnectsSender fixed_handlers state.old publisher_place subscriber_place x state.new result }
 {
     let Some(key) = key_at(&state.publishers, publisher_place, subscriber_place) else {
-        connect_sender(state, publisher_place, subscriber_place);
-        return;
+        return connect_sender(state, publisher_place, subscriber_place);
     };
     let subscriber = state.connections[key].home().subscriber;
     if !stands_at(&state.subscribers, subscriber_place, subscriber) {
         disconnect_sender(state, publisher_place, subscriber_place, key);
-        connect_sender(state, publisher_place, subscriber_place);
+        connect_sender(state, publisher_place, subscriber_place)
     } else if !is_open_at(&state.subscribers, subscriber_place) {
         drop_waiting_at(state, publisher_place, key);
+        None
+    } else {
+        None
     }
 }

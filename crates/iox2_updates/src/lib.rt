@@ -5,6 +5,7 @@
 
 mod connects;
 mod departures;
+mod failures;
 mod marks;
 mod receiver_updates;
 mod retirements;

@@ -3,16 +3,17 @@ ghost use Rattle.std.specs.Prelude.{◌≡◌, ◌<◌, ◌==◌, true, None, So
 ghost use Rattle.std.specs.Option.{option_map};
 ghost use Rattle.slab.specs.Slab.{get, ContainsKey};
 ghost use Rattle.iox2_slots.specs.Link.{Link};
-ghost use Rattle.iox2_store.specs.machine.Connections.{expired_buffer_full, first_failure};
+ghost use Rattle.iox2_store.specs.machine.Connections.{expired_buffer_full};
 ghost use Rattle.iox2_store.specs.machine.Environments.{fixed_handlers};
 ghost use Rattle.iox2_domain.specs.Ports.{PublisherFields, SubscriberFields};
 ghost use Rattle.iox2_domain.specs.Invariant.{IsDomain};
 ghost use Rattle.iox2_domain.specs.Updates.{home_of, is_subscriber_due};
 ghost use Rattle.iox2_domain.specs.ReceiverSteps.{NotJoined, JoinsAt, ConnectsEnd, ConnectsAt, DisconnectsAt, UpdatesReceiver};
 
-use crate::connects::{home_of, make_between, warn_of_refusal};
+use crate::connects::{home_of, make_between};
+use crate::failures::{degrade, first_of};
 use crate::retirements::retire;
-use iox2_domain::{DomainState, PublisherState, is_due_at, key_at, set_key_at, settle};
+use iox2_domain::{DomainState, PublisherState, answer_at, is_due_at, key_at, set_key_at, settle};
 use iox2_slots::Home;
 use iox2_store::{ConnectionFailure, ZeroCopyCreationError};
 
@@ -60,19 +61,6 @@ fn expired_full() -> ConnectionFailure
     )
 }
 
-// The failure that came first.
-fn first_of(
-    first: Option<ConnectionFailure>,
-    later: Option<ConnectionFailure>,
-) -> Option<ConnectionFailure>
-    ensures { result ≡ first_failure first later }
-{
-    match first {
-        Some(failure) => Some(failure),
-        None => later,
-    }
-}
-
 // At a place where no publisher stands, the one that the subscriber has its end to is retired.
 fn disconnect_at<T: Drop, U: Default + Drop>(
     state: &mut DomainState<T, U>,
@@ -118,18 +106,19 @@ fn joined_key<T: Drop, U: Default + Drop>(
 }
 
 // The subscriber at a place gets its end to the publisher at another, at whose place it has none.
-// Where memory for a connection is refused, that is a warning.
+// Where memory for a connection is refused, its handler is asked, and the failure is returned that it
+// makes of this, if any.
 fn connect_end<T: Drop, U: Default + Drop>(
     state: &mut DomainState<T, U>,
     subscriber_place: usize,
     publisher_place: usize,
-)
+) -> Option<ConnectionFailure>
     requires agrees { IsDomain state.old }
     requires publisher { (x : PublisherFields) × (slice_index_or state.old.publishers publisher_place None ≡ Some x) }
     requires subscriber { (y : SubscriberFields) × (slice_index_or state.old.subscribers subscriber_place None ≡ Some y) × (slice_index_or y.keys publisher_place None ≡ None) }
     ensures { (x : PublisherFields) (y : SubscriberFields) → slice_index_or state.old.publishers publisher_place None ≡ Some x
         → slice_index_or state.old.subscribers subscriber_place None ≡ Some y
-        → ConnectsEnd fixed_handlers state.old subscriber_place publisher_place y x.id state.new None }
+        → ConnectsEnd fixed_handlers state.old subscriber_place publisher_place y x.id state.new result }
 {
     let (home, buffer) = between(state, publisher_place, subscriber_place);
     if let Some(key) = joined_key(state, publisher_place, subscriber_place, home.subscriber) {
@@ -139,11 +128,11 @@ fn connect_end<T: Drop, U: Default + Drop>(
             publisher_place,
             key,
         );
-        return;
+        return None;
     }
+    let answer = answer_at(&state.subscribers, subscriber_place);
     let Ok(key) = make_between(state, publisher_place, subscriber_place, home, buffer) else {
-        warn_of_refusal(&mut state.warnings, home);
-        return;
+        return degrade(&mut state.warnings, answer, home);
     };
     set_key_at(
         &mut state.subscribers,
@@ -151,6 +140,7 @@ fn connect_end<T: Drop, U: Default + Drop>(
         publisher_place,
         key,
     );
+    None
 }
 
 // Whether the connection at a key is the publisher's.
@@ -184,8 +174,7 @@ fn replace_end<T: Drop, U: Default + Drop>(
         return None;
     }
     if retire(state, subscriber_place, publisher_place, key) {
-        connect_end(state, subscriber_place, publisher_place);
-        None
+        connect_end(state, subscriber_place, publisher_place)
     } else {
         Some(expired_full())
     }
@@ -209,17 +198,14 @@ fn connect_at<T: Drop, U: Default + Drop>(
     };
     match key_at(&state.subscribers, subscriber_place, publisher_place) {
         Some(key) => replace_end(state, subscriber_place, publisher_place, key, publisher),
-        None => {
-            connect_end(state, subscriber_place, publisher_place);
-            None
-        }
+        None => connect_end(state, subscriber_place, publisher_place),
     }
 }
 
 /// Updates the subscriber at a place, where it is due: it gets its connection with each publisher, by
 /// rising place, and the publishers that departed are retired from their places. Where memory for a
-/// connection is refused, that is a warning. Where a retirement is refused, the update fails, and the
-/// subscriber is due again.
+/// connection is refused, its handler is asked, which may fail the update. Where a retirement is
+/// refused, the update fails, and the subscriber is due again.
 ///
 /// iceoryx2's `Subscriber::force_update_connections` (`src/port/subscriber.rs`).
 pub fn update_subscriber<T: Drop, U: Default + Drop>(

@@ -7,38 +7,51 @@ ghost use Rattle.iox2_domain.specs.Updates.{is_publisher_due, IsUnblockedAt};
 ghost use Rattle.iox2_domain.specs.Connects.{UpdatesPublisher};
 
 use crate::connects::update_sender_place;
+use crate::failures::first_of;
 use iox2_domain::{DomainState, is_due_at, settle};
+use iox2_store::ConnectionFailure;
 
 /// Updates the publisher at a place, where it is due: it goes over the subscribers' places. An end to
 /// the subscriber that stands there stays; where it is closed, what waits for it is lost. Any other
-/// end goes, and one to an open subscriber is made. Where memory for one is refused, that is a
-/// warning.
+/// end goes, and one to an open subscriber is made. Where memory for one is refused, its handler is
+/// asked, which may fail the update. The first failure is returned.
 ///
 /// iceoryx2's `PublisherSharedState::force_update_connections` (`src/port/publisher.rs`).
-pub fn update_publisher<T: Drop, U: Default + Drop>(state: &mut DomainState<T, U>, place: usize)
+pub fn update_publisher<T: Drop, U: Default + Drop>(
+    state: &mut DomainState<T, U>,
+    place: usize,
+) -> Option<ConnectionFailure>
     requires agrees { IsDomain state.old }
     requires stands { (x : PublisherFields) × (slice_index_or state.old.publishers place None ≡ Some x) }
     requires unblocked { IsUnblockedAt state.old.publishers place }
     ensures { (x : PublisherFields) → slice_index_or state.old.publishers place None ≡ Some x
-        → UpdatesPublisher fixed_handlers state.old place x state.new None }
+        → UpdatesPublisher fixed_handlers state.old place x state.new result }
 {
     if is_due_at(&state.publishers, place) {
-        connect_publisher(state, place);
+        connect_publisher(state, place)
+    } else {
+        None
     }
 }
 
 // The publisher at a place, which is due, goes over the subscribers' places.
 #[inline(never)]
-fn connect_publisher<T: Drop, U: Default + Drop>(state: &mut DomainState<T, U>, place: usize)
+fn connect_publisher<T: Drop, U: Default + Drop>(
+    state: &mut DomainState<T, U>,
+    place: usize,
+) -> Option<ConnectionFailure>
     requires agrees { IsDomain state.old }
     requires stands { (x : PublisherFields) × (slice_index_or state.old.publishers place None ≡ Some x) }
     requires unblocked { IsUnblockedAt state.old.publishers place }
     requires due { is_publisher_due state.old.publishers place ≡ true }
     ensures { (x : PublisherFields) → slice_index_or state.old.publishers place None ≡ Some x
-        → UpdatesPublisher fixed_handlers state.old place x state.new None }
+        → UpdatesPublisher fixed_handlers state.old place x state.new result }
 {
     settle(&mut state.publishers, place);
+    let mut first = None;
     for other in 0..state.subscribers.len() {
-        update_sender_place(state, place, other);
+        let failure = update_sender_place(state, place, other);
+        first = first_of(first, failure);
     }
+    first
 }

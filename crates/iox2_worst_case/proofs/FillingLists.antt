@@ -1,5 +1,6 @@
 -- The list that fills every slot, command after command: what is there with what is still to come.
-use Rattle.std.proofs.Common.{◌≡◌, ℕ, suc, ◌+◌, ◌-◌, ◌*◌, ◌<◌, List, [], ◌∷◌, ◌++◌, replicate, sym, ap, ◌∙◌, arith}
+use Rattle.std.proofs.Common.{◌≡◌, ℕ, suc, ◌+◌, ◌-◌, ◌*◌, ◌<◌, ◌≤◌, List, [], ◌∷◌, ◌++◌, replicate, sym, ap, ◌∙◌, arith}
+use Rattle.std.proofs.Math.Nat.{mul-le-mul_right, suc-mul}
 use Rattle.std.proofs.lemmas.List.{append_assoc}
 use Rattle.iox2_store.specs.declared.service_config.ServiceConfig.{ServiceConfig}
 use Rattle.iox2_store.specs.declared.service_config.TypeVariant.{TypeVariant}
@@ -14,6 +15,13 @@ one_less i count h = omega arith
 -- once more as many
 pub one_more_time : (start now after i each : ℕ) → now ≡ start + i * each → after ≡ now + each → after ≡ start + (i + 1) * each
 one_more_time start now after i each before more = grind arith
+
+-- before the last one there is room for one more
+pub room_for_one_more : (start now i count each room : ℕ) → now ≡ start + i * each → i < count → start + count * each ≤ room → now + each ≤ room
+room_for_one_more start now i count each room done below fits =
+    let more : suc i * each ≤ count * each = mul-le-mul_right each (omega (arith, below)) in
+    let next : suc i * each ≡ i * each + each = suc-mul i each in
+    omega (arith, more, next)
 
 module _ {T U : Type 0} where
   -- of the sends that are to come, one is done

@@ -68,12 +68,19 @@ fn is_fillable(config: &ServiceConfig, loans: usize) -> bool
 fn list_length(config: &ServiceConfig, loans: usize) -> Option<usize>
     ensures { IfSome result (λ n. n ≡ 1 + config.now.max_subscribers * filling_length config.now + loans) }
 {
+    let each = filling_length(config)?;
+    let all = config.max_subscribers.checked_mul(each)?;
+    all.checked_add(loans)?.checked_add(1)
+}
+
+// How many commands make and fill one subscriber; `None` where that doesn't fit.
+fn filling_length(config: &ServiceConfig) -> Option<usize>
+    ensures { IfSome result (λ n. n ≡ filling_length config.now) }
+{
     let rounds = config.subscriber_max_borrowed_samples.checked_mul(4)?;
     let buffer = config.subscriber_max_buffer_size.max(1);
     let sends = buffer.checked_add(config.history_size)?.checked_mul(3)?;
-    let each = rounds.checked_add(sends)?.checked_add(2)?;
-    let all = config.max_subscribers.checked_mul(each)?;
-    all.checked_add(loans)?.checked_add(1)
+    rounds.checked_add(sends)?.checked_add(2)
 }
 
 // Makes a publisher that discards what a full receiver doesn't take.

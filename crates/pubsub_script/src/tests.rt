@@ -10,6 +10,7 @@ mod neighbours;
 mod plan;
 mod ports;
 mod streams;
+mod warnings;
 
 use script_runner::{Ending, ScriptError, script};
 use std::alloc::Global;
@@ -92,9 +93,12 @@ ok
 skipped
 ";
 
+/// The domain line has less room for departed publishers than messages may be borrowed.
+const WORKED_WARNING: &[u8] = b"warning ExpiredBufferRaised\n";
+
 #[test]
 fn a_message_is_sent_received_and_released(rt: HostRuntime) {
-    Outcome::of(rt.alloc(), WORKED).assert(&rt, 0, WORKED_REPLIES, b"");
+    Outcome::of(rt.alloc(), WORKED).assert(&rt, 0, WORKED_REPLIES, WORKED_WARNING);
 }
 
 // Room is taken when connections are made, and not for what may come.
@@ -109,7 +113,7 @@ fn a_limit_may_be_any_number(rt: HostRuntime) {
 
 /// Fills the three slots of a publisher with one loan: one is borrowed, one waits and one is lent.
 const FULL: &[u8] = b"\
-domain 1 1 1 1 0 0 keep
+domain 1 1 1 1 0 1 keep
 sub 1
 pub 1 discard
 loan 2
@@ -154,7 +158,7 @@ fn each_slot_is_used_and_each_limit_is_met(rt: HostRuntime) {
 
 /// Asks for more loans than the publisher may have out, for too large a buffer, and for one of none.
 const REFUSED: &[u8] = b"\
-domain 1 1 1 1 0 0 keep
+domain 1 1 1 1 0 1 keep
 pub 2 discard
 loan 1
 loan 1
@@ -343,7 +347,12 @@ fn a_number_that_names_nothing_is_skipped(rt: HostRuntime) {
 #[test]
 fn a_script_may_come_in_pieces(rt: HostRuntime) {
     let mut input = Dribble::new(WORKED, None);
-    Outcome::of_input(rt.alloc(), WORKED, &mut input).assert(&rt, 0, WORKED_REPLIES, b"");
+    Outcome::of_input(rt.alloc(), WORKED, &mut input).assert(
+        &rt,
+        0,
+        WORKED_REPLIES,
+        WORKED_WARNING,
+    );
 }
 
 #[test]
@@ -393,7 +402,10 @@ fn the_output_is_flushed(rt: HostRuntime) {
     let mut input = WORKED;
     let ending = script(rt.alloc(), &mut input, &mut NoFlush, &mut errors);
     assert!(rt; ending == Ending::Reported(ScriptError::OutputFailed));
-    assert_eq!(rt; errors.as_slice(), b"output failed\n".as_slice());
+    assert_eq!(rt;
+        errors.as_slice(),
+        b"warning ExpiredBufferRaised\noutput failed\n".as_slice()
+    );
 }
 
 #[test]

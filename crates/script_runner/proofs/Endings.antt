@@ -1,13 +1,15 @@
 -- Lemmas on the endings of a script.
-use Rattle.std.proofs.Common.{◌≡◌, ap}
+use Rattle.std.proofs.Common.{◌≡◌, ◌⊎◌, inl, inr, ap, sym}
+use Rattle.script_runner.specs.Endings.{ending_status}
 use Rattle.script_text.specs.declared.failure.ScriptError.{ScriptError}
 use Rattle.script_text.specs.declared.failure.ScriptError.TheVariants.{OutOfMemory}
 use Rattle.script_runner.specs.declared.ending.Ending.{Ending}
-use Rattle.script_runner.specs.declared.ending.Ending.TheVariants.{Printed, Reported, Unreported}
+use Rattle.script_runner.specs.declared.ending.Ending.TheVariants.{Printed, Unwarned, Reported, Unreported}
 
 -- The failure of an ending, if it is one.
 abbrev failure_of : Ending → ScriptError
 failure_of Printed = OutOfMemory
+failure_of Unwarned = OutOfMemory
 failure_of (Reported error) = error
 failure_of (Unreported error) = error
 
@@ -16,3 +18,8 @@ Reported-injective a b same = ap failure_of same
 
 pub Unreported-injective : (a b : ScriptError) → Unreported a ≡ Unreported b → a ≡ b
 Unreported-injective a b same = ap failure_of same
+
+-- A script whose replies are written ends in status 0.
+pub printed_status : (ending : Ending) → (ending ≡ Printed) ⊎ (ending ≡ Unwarned) → 0 ≡ ending_status ending
+printed_status ending (inl is) = ap ending_status (sym is)
+printed_status ending (inr is) = ap ending_status (sym is)

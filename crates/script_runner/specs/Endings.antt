@@ -3,11 +3,12 @@ use Rattle.std.specs.Prelude.{ℕ, List, [], ◌∷◌, ◌++◌, ◌≡◌, ◌
 use Rattle.script_text.specs.Failures.{error_text, status_of}
 use Rattle.script_text.specs.declared.failure.ScriptError.{ScriptError}
 use Rattle.script_runner.specs.declared.ending.Ending.{Ending}
-use Rattle.script_runner.specs.declared.ending.Ending.TheVariants.{Printed, Reported, Unreported}
+use Rattle.script_runner.specs.declared.ending.Ending.TheVariants.{Printed, Unwarned, Reported, Unreported}
 
 -- The exit status: 0 where all replies are written, and else that of the failure.
 abbrev pub ending_status : Ending → ℕ
 ending_status Printed = 0
+ending_status Unwarned = 0
 ending_status (Reported error) = status_of error
 ending_status (Unreported error) = status_of error
 

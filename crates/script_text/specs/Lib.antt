@@ -3,4 +3,5 @@ pub mod Failures
 pub mod Numbers
 pub mod Replies
 pub mod ScriptText
+pub mod Warnings
 pub mod Words

@@ -1,11 +1,13 @@
-//! What the lines of a script ask for, and what is printed for its replies or its failure.
+//! What the lines of a script ask for, and what is printed for its replies, its warnings or its failure.
 #![tactic(auto)]
 
 mod failure;
 mod lines;
 mod parse;
 mod print;
+mod warnings;
 
 pub use failure::ScriptError;
 pub use parse::Script;
 pub use print::reply_lines;
+pub use warnings::{WARNING_ROOM, warning_lines};

@@ -2,6 +2,7 @@
 ghost use Rattle.std.specs.Prelude.{◌≡◌, ◌≤◌, IfSome};
 ghost use Rattle.iox2_pubsub.specs.Live.{IsLivePublisher, IsLiveSubscriber, IsNewIn, IsUnwrittenLoan, IsWrittenLoan, Stays, StaysBut, unwritten_key, unwritten_loan, written_key, written_loan};
 ghost use Rattle.iox2_pubsub.specs.Slices.{IsSliced};
+ghost use Rattle.iox2_pubsub.specs.Handles.{as_publisher, as_subscriber, as_unwritten, as_written};
 
 use iox2_pubsub::slice::{Publisher, SampleMut, SampleMutUninit, Subscriber};
 use iox2_pubsub::{BackpressureStrategy, Domain, ServiceConfig, TypeVariant};
@@ -33,7 +34,7 @@ fn pass_to(
     requires dynamic { (domain.old.config).variant ≡ TypeVariant.Dynamic }
     requires one_unit { (domain.old.config).units_per_element ≡ 1 }
     requires sliced { IsSliced domain.old }
-    requires subscriber { IsLiveSubscriber domain.old subscriber.now.subscriber }
+    requires subscriber { IsLiveSubscriber domain.old (as_subscriber subscriber.now) }
     ensures { IfSome result (λ arrived. arrived ≤ messages) }
 {
     let publisher = domain
@@ -58,8 +59,8 @@ fn pass_all(
     requires dynamic { (domain.old.config).variant ≡ TypeVariant.Dynamic }
     requires one_unit { (domain.old.config).units_per_element ≡ 1 }
     requires sliced { IsSliced domain.old }
-    requires publisher { IsLivePublisher domain.old publisher.now.publisher }
-    requires subscriber { IsLiveSubscriber domain.old subscriber.now.subscriber }
+    requires publisher { IsLivePublisher domain.old (as_publisher publisher.now) }
+    requires subscriber { IsLiveSubscriber domain.old (as_subscriber subscriber.now) }
     ensures { result ≤ messages }
 {
     let mut arrived = 0;
@@ -82,7 +83,7 @@ fn pass(
     requires dynamic { (domain.old.config).variant ≡ TypeVariant.Dynamic }
     requires one_unit { (domain.old.config).units_per_element ≡ 1 }
     requires sliced { IsSliced domain.old }
-    requires publisher { IsLivePublisher domain.old publisher.now.publisher }
+    requires publisher { IsLivePublisher domain.old (as_publisher publisher.now) }
     ensures { Stays domain.old domain.new }
 {
     let loan = lend(domain, publisher, elements)?;
@@ -101,9 +102,9 @@ fn lend(
     requires dynamic { (domain.old.config).variant ≡ TypeVariant.Dynamic }
     requires one_unit { (domain.old.config).units_per_element ≡ 1 }
     requires sliced { IsSliced domain.old }
-    requires publisher { IsLivePublisher domain.old publisher.now.publisher }
-    ensures live { IfSome result (λ loan. IsUnwrittenLoan domain.new loan.sample) }
-    ensures new { IfSome result (λ loan. IsNewIn domain.old (unwritten_loan loan.sample)) }
+    requires publisher { IsLivePublisher domain.old (as_publisher publisher.now) }
+    ensures live { IfSome result (λ loan. IsUnwrittenLoan domain.new (as_unwritten loan)) }
+    ensures new { IfSome result (λ loan. IsNewIn domain.old (unwritten_loan (as_unwritten loan))) }
     ensures stays { Stays domain.old domain.new }
 {
     publisher.loan_slice_uninit(domain, elements).ok()
@@ -112,18 +113,18 @@ fn lend(
 #[inline(never)]
 fn write(domain: &mut Domain<u64, ()>, loan: SampleMutUninit, value: u64) -> SampleMut
     requires sliced { IsSliced domain.old }
-    requires loan { IsUnwrittenLoan domain.old loan.sample }
-    ensures live { IsWrittenLoan domain.new result.sample }
-    ensures key { written_key result.sample ≡ unwritten_key loan.sample }
-    ensures stays { StaysBut (unwritten_loan loan.sample) domain.old domain.new }
+    requires loan { IsUnwrittenLoan domain.old (as_unwritten loan) }
+    ensures live { IsWrittenLoan domain.new (as_written result) }
+    ensures key { written_key (as_written result) ≡ unwritten_key (as_unwritten loan) }
+    ensures stays { StaysBut (unwritten_loan (as_unwritten loan)) domain.old domain.new }
 {
     loan.write_from_fn(domain, |_| value)
 }
 
 #[inline(never)]
 fn send(domain: &mut Domain<u64, ()>, message: SampleMut) -> Option<()>
-    requires { IsWrittenLoan domain.old message.sample }
-    ensures { StaysBut (written_loan message.sample) domain.old domain.new }
+    requires { IsWrittenLoan domain.old (as_written message) }
+    ensures { StaysBut (written_loan (as_written message)) domain.old domain.new }
 {
     message.send(domain).ok()?.delivered();
     Some(())
@@ -133,7 +134,7 @@ fn send(domain: &mut Domain<u64, ()>, message: SampleMut) -> Option<()>
 #[inline(never)]
 fn receive(domain: &mut Domain<u64, ()>, subscriber: &Subscriber) -> Option<usize>
     requires sliced { IsSliced domain.old }
-    requires subscriber { IsLiveSubscriber domain.old subscriber.now.subscriber }
+    requires subscriber { IsLiveSubscriber domain.old (as_subscriber subscriber.now) }
     ensures { Stays domain.old domain.new }
 {
     let sample = subscriber.receive(domain).ok()??;

@@ -3,6 +3,7 @@
 ghost use Rattle.std.specs.Prelude.{◌≡◌, ℕ, List, MatchResult};
 ghost use Rattle.iox2_pubsub.specs.Live.{AreApart, IsLiveSample, IsUnwrittenLoan, IsWrittenLoan, LoanHasUserHeader, StaysBut, UpToDateStay, payloads, unwritten_key, unwritten_loan, written_key, written_loan};
 ghost use Rattle.iox2_pubsub.specs.Slices.{HasValues, IsSliced};
+ghost use Rattle.iox2_pubsub.specs.Handles.{as_sample, as_unwritten, as_written, written_number};
 
 use iox2_pubsub::Domain;
 use iox2_pubsub::slice::{Sample, SampleMut, SampleMutUninit};
@@ -14,15 +15,15 @@ pub fn write_batch(
     temperatures: &[u32],
 ) -> Result<SampleMut, SampleMutUninit>
     requires sliced { IsSliced domain.old }
-    requires loan { IsUnwrittenLoan domain.old loan.sample }
+    requires loan { IsUnwrittenLoan domain.old (as_unwritten loan) }
     ensures written { MatchResult result
-        (λ batch. IsWrittenLoan domain.new batch.sample × HasValues domain.new batch.sample.loan.number temperatures.now)
-        (λ loan. IsUnwrittenLoan domain.new loan.sample) }
-    ensures sensor { (sensor : ℕ) → LoanHasUserHeader domain.old (unwritten_key loan.sample) sensor
-        → MatchResult result (λ batch. LoanHasUserHeader domain.new (written_key batch.sample) sensor) (λ loan. LoanHasUserHeader domain.new (unwritten_key loan.sample) sensor) }
+        (λ batch. IsWrittenLoan domain.new (as_written batch) × HasValues domain.new (written_number (as_written batch)) temperatures.now)
+        (λ loan. IsUnwrittenLoan domain.new (as_unwritten loan)) }
+    ensures sensor { (sensor : ℕ) → LoanHasUserHeader domain.old (unwritten_key (as_unwritten loan)) sensor
+        → MatchResult result (λ batch. LoanHasUserHeader domain.new (written_key (as_written batch)) sensor) (λ loan. LoanHasUserHeader domain.new (unwritten_key (as_unwritten loan)) sensor) }
     ensures waits { payloads domain.new ≡ payloads domain.old }
     ensures up_to_date { UpToDateStay domain.old domain.new }
-    ensures stays { StaysBut (unwritten_loan loan.sample) domain.old domain.new }
+    ensures stays { StaysBut (unwritten_loan (as_unwritten loan)) domain.old domain.new }
 {
     if loan.payload(domain).len() != temperatures.len() {
         return Err(loan);
@@ -33,12 +34,12 @@ pub fn write_batch(
 /// Writes a batch of one temperature, as often as the loan has cells.
 pub fn repeat(domain: &mut Domain<u32, u32>, loan: SampleMutUninit, celsius: u32) -> SampleMut
     requires sliced { IsSliced domain.old }
-    requires loan { IsUnwrittenLoan domain.old loan.sample }
-    ensures live { IsWrittenLoan domain.new result.sample }
-    ensures sensor { (sensor : ℕ) → LoanHasUserHeader domain.old (unwritten_key loan.sample) sensor → LoanHasUserHeader domain.new (written_key result.sample) sensor }
+    requires loan { IsUnwrittenLoan domain.old (as_unwritten loan) }
+    ensures live { IsWrittenLoan domain.new (as_written result) }
+    ensures sensor { (sensor : ℕ) → LoanHasUserHeader domain.old (unwritten_key (as_unwritten loan)) sensor → LoanHasUserHeader domain.new (written_key (as_written result)) sensor }
     ensures waits { payloads domain.new ≡ payloads domain.old }
     ensures up_to_date { UpToDateStay domain.old domain.new }
-    ensures stays { StaysBut (unwritten_loan loan.sample) domain.old domain.new }
+    ensures stays { StaysBut (unwritten_loan (as_unwritten loan)) domain.old domain.new }
 {
     let elements = loan.header(domain).number_of_elements;
     let batch = loan.write_from_fn(domain, |_index| celsius);
@@ -51,13 +52,13 @@ pub fn repeat(domain: &mut Domain<u32, u32>, loan: SampleMutUninit, celsius: u32
 /// before, and what waits still does.
 pub fn correct_first(domain: &mut Domain<u32, u32>, batch: &mut SampleMut, celsius: u32)
     requires sliced { IsSliced domain.old }
-    requires batch { IsWrittenLoan domain.old batch.old.sample }
+    requires batch { IsWrittenLoan domain.old (as_written batch.old) }
     ensures same { batch.new ≡ batch.old }
-    ensures live { IsWrittenLoan domain.new batch.new.sample }
-    ensures sensor { (sensor : ℕ) → LoanHasUserHeader domain.old (written_key batch.old.sample) sensor → LoanHasUserHeader domain.new (written_key batch.new.sample) sensor }
+    ensures live { IsWrittenLoan domain.new (as_written batch.new) }
+    ensures sensor { (sensor : ℕ) → LoanHasUserHeader domain.old (written_key (as_written batch.old)) sensor → LoanHasUserHeader domain.new (written_key (as_written batch.new)) sensor }
     ensures waits { payloads domain.new ≡ payloads domain.old }
     ensures up_to_date { UpToDateStay domain.old domain.new }
-    ensures stays { StaysBut (written_loan batch.old.sample) domain.old domain.new }
+    ensures stays { StaysBut (written_loan (as_written batch.old)) domain.old domain.new }
 {
     if let [first, ..] = SampleMut::payload_mut(domain, batch) {
         *first = celsius;
@@ -67,14 +68,14 @@ pub fn correct_first(domain: &mut Domain<u32, u32>, batch: &mut SampleMut, celsi
 /// Says of which sensor a batch is. Its temperatures are the same as before, and what waits still
 /// does.
 pub fn label_batch(domain: &mut Domain<u32, u32>, batch: &mut SampleMut, sensor: u32)
-    requires { IsWrittenLoan domain.old batch.old.sample }
+    requires { IsWrittenLoan domain.old (as_written batch.old) }
     ensures same { batch.new ≡ batch.old }
-    ensures live { IsWrittenLoan domain.new batch.new.sample }
-    ensures reads { (temperatures : List ℕ) → HasValues domain.old batch.old.sample.loan.number temperatures → HasValues domain.new batch.new.sample.loan.number temperatures }
-    ensures sensor { LoanHasUserHeader domain.new (written_key batch.new.sample) sensor }
+    ensures live { IsWrittenLoan domain.new (as_written batch.new) }
+    ensures reads { (temperatures : List ℕ) → HasValues domain.old (written_number (as_written batch.old)) temperatures → HasValues domain.new (written_number (as_written batch.new)) temperatures }
+    ensures sensor { LoanHasUserHeader domain.new (written_key (as_written batch.new)) sensor }
     ensures waits { payloads domain.new ≡ payloads domain.old }
     ensures up_to_date { UpToDateStay domain.old domain.new }
-    ensures stays { StaysBut (written_loan batch.old.sample) domain.old domain.new }
+    ensures stays { StaysBut (written_loan (as_written batch.old)) domain.old domain.new }
 {
     *SampleMut::user_header_mut(domain, batch) = sensor;
 }
@@ -88,11 +89,11 @@ pub fn read_around_a_write(
     celsius: u32,
 ) -> SampleMut
     requires sliced { IsSliced domain.old }
-    requires received { IsLiveSample domain.old received.now.sample }
-    requires written { IsWrittenLoan domain.old written.now.sample }
-    requires loan { IsUnwrittenLoan domain.old loan.sample }
-    requires apart { AreApart (unwritten_loan loan.sample) (written_loan written.now.sample) }
-    ensures { IsWrittenLoan domain.new result.sample }
+    requires received { IsLiveSample domain.old (as_sample received.now) }
+    requires written { IsWrittenLoan domain.old (as_written written.now) }
+    requires loan { IsUnwrittenLoan domain.old (as_unwritten loan) }
+    requires apart { AreApart (unwritten_loan (as_unwritten loan)) (written_loan (as_written written.now)) }
+    ensures { IsWrittenLoan domain.new (as_written result) }
 {
     let before = [
         received.payload(domain).len(),

@@ -4,6 +4,7 @@ ghost use Rattle.iox2_pubsub.specs.LoansLeft.{HasLoansLeft, HasNumbersLeft};
 ghost use Rattle.std.specs.Prelude.{◌≡◌, ℕ, IfOk, IfSome, OnOk};
 ghost use Rattle.iox2_pubsub.specs.declared.subscriber.Subscriber.{Subscriber as SubscriberHandle};
 
+use crate::correction::send_at_once;
 use crate::failure::Failure;
 use crate::reading::Reading;
 use iox2_pubsub::{Domain, Publisher, SampleMutUninit, Subscriber, UpdateConnections};
@@ -44,11 +45,32 @@ fn report_all(
     requires subscriber { IsLiveSubscriber domain.old subscriber.now }
     ensures { Stays domain.old domain.new }
 {
-    let [celsius, later @ ..] = temperatures else {
-        return Ok(());
-    };
-    report(rt, domain, publisher, subscriber, *celsius)?;
-    report_all(rt, domain, publisher, subscriber, later)
+    for &celsius in temperatures {
+        report(rt, domain, publisher, subscriber, celsius)?;
+    }
+    Ok(())
+}
+
+/// Sends what two thermometers read, and shows both readings. No reading waits afterwards.
+pub fn compare(
+    rt: &HostRuntime,
+    domain: &mut Domain<Reading, ()>,
+    indoors: &Publisher,
+    outdoors: &Publisher,
+    subscriber: &Subscriber,
+) -> Result<(), Failure>
+    requires single_valued { IsSingleValued domain.old }
+    requires indoors { IsLivePublisher domain.old indoors.now }
+    requires outdoors { IsLivePublisher domain.old outdoors.now }
+    requires subscriber { IsLiveSubscriber domain.old subscriber.now }
+    ensures stays { Stays domain.old domain.new }
+    ensures drained { OnOk result (waiting domain.new subscriber.now ≡ 0) }
+{
+    send_at_once(domain, indoors, 21)?;
+    send_at_once(domain, outdoors, 8)?;
+    show(rt, domain, subscriber)?;
+    show(rt, domain, subscriber)?;
+    drain(domain, subscriber)
 }
 
 // Sends one reading, and shows the next that waits: the same one, where none waited and no history

@@ -4,6 +4,7 @@ ghost use Rattle.iox2_pubsub.specs.Live.{AreAllSlices, IsLivePublisher, IsLiveSu
 ghost use Rattle.iox2_pubsub.specs.LoansLeft.{HasLoansLeft, HasNumbersLeft};
 ghost use Rattle.iox2_pubsub.specs.Slices.{IsSliced};
 ghost use Rattle.iox2_pubsub.specs.declared.subscriber.Subscriber.{Subscriber as SubscriberHandle};
+ghost use Rattle.iox2_pubsub.specs.Handles.{as_publisher, as_subscriber, max_slice_len_of};
 
 use crate::failure::Failure;
 use iox2_pubsub::slice::{Publisher, SampleMut, Subscriber};
@@ -29,7 +30,7 @@ fn publish(domain: &mut Domain<u64, ()>, subscriber: &Subscriber) -> Result<Opti
     requires dynamic { (domain.old.config).variant ≡ TypeVariant.Dynamic }
     requires one_unit { (domain.old.config).units_per_element ≡ 1 }
     requires sliced { IsSliced domain.old }
-    requires subscriber { IsLiveSubscriber domain.old subscriber.now.subscriber }
+    requires subscriber { IsLiveSubscriber domain.old (as_subscriber subscriber.now) }
     requires numbers { HasNumbersLeft domain.old 1 }
     ensures { Stays domain.old domain.new }
 {
@@ -54,10 +55,10 @@ fn send_both(
     requires dynamic { (domain.old.config).variant ≡ TypeVariant.Dynamic }
     requires one_unit { (domain.old.config).units_per_element ≡ 1 }
     requires sliced { IsSliced domain.old }
-    requires publisher { IsLivePublisher domain.old publisher.now.publisher }
-    requires subscriber { IsLiveSubscriber domain.old subscriber.now.subscriber }
-    requires longest { publisher.now.publisher.initial_max_slice_len ≡ 3 }
-    requires loans { HasLoansLeft domain.old publisher.now.publisher 1 }
+    requires publisher { IsLivePublisher domain.old (as_publisher publisher.now) }
+    requires subscriber { IsLiveSubscriber domain.old (as_subscriber subscriber.now) }
+    requires longest { max_slice_len_of (as_publisher publisher.now) ≡ 3 }
+    requires loans { HasLoansLeft domain.old (as_publisher publisher.now) 1 }
     requires numbers { HasNumbersLeft domain.old 1 }
     ensures { Stays domain.old domain.new }
 {
@@ -72,9 +73,9 @@ fn send_made(domain: &mut Domain<u64, ()>, publisher: &Publisher) -> Result<(), 
     requires dynamic { (domain.old.config).variant ≡ TypeVariant.Dynamic }
     requires one_unit { (domain.old.config).units_per_element ≡ 1 }
     requires sliced { IsSliced domain.old }
-    requires publisher { IsLivePublisher domain.old publisher.now.publisher }
-    requires longest { publisher.now.publisher.initial_max_slice_len ≡ 3 }
-    requires loans { HasLoansLeft domain.old publisher.now.publisher 1 }
+    requires publisher { IsLivePublisher domain.old (as_publisher publisher.now) }
+    requires longest { max_slice_len_of (as_publisher publisher.now) ≡ 3 }
+    requires loans { HasLoansLeft domain.old (as_publisher publisher.now) 1 }
     requires numbers { HasNumbersLeft domain.old 1 }
     ensures { Stays domain.old domain.new }
 {
@@ -102,9 +103,9 @@ fn pass_copied(
     requires dynamic { (domain.old.config).variant ≡ TypeVariant.Dynamic }
     requires one_unit { (domain.old.config).units_per_element ≡ 1 }
     requires sliced { IsSliced domain.old }
-    requires publisher { IsLivePublisher domain.old publisher.now.publisher }
-    requires subscriber { IsLiveSubscriber domain.old subscriber.now.subscriber }
-    ensures same { (domain.old.config).history_size ≡ 0 → waiting domain.old subscriber.now.subscriber ≡ 0 → IfOk result (λ length. IfSome length (λ it. it ≡ 3)) }
+    requires publisher { IsLivePublisher domain.old (as_publisher publisher.now) }
+    requires subscriber { IsLiveSubscriber domain.old (as_subscriber subscriber.now) }
+    ensures same { (domain.old.config).history_size ≡ 0 → waiting domain.old (as_subscriber subscriber.now) ≡ 0 → IfOk result (λ length. IfSome length (λ it. it ≡ 3)) }
     ensures stays { Stays domain.old domain.new }
 {
     send_copied(domain, publisher)?;
@@ -116,7 +117,7 @@ fn send_copied(domain: &mut Domain<u64, ()>, publisher: &Publisher) -> Result<()
     requires dynamic { (domain.old.config).variant ≡ TypeVariant.Dynamic }
     requires one_unit { (domain.old.config).units_per_element ≡ 1 }
     requires sliced { IsSliced domain.old }
-    requires publisher { IsLivePublisher domain.old publisher.now.publisher }
+    requires publisher { IsLivePublisher domain.old (as_publisher publisher.now) }
     ensures brings { (subscriber : SubscriberHandle) → (domain.old.config).history_size ≡ 0 → waiting domain.old subscriber ≡ 0
         → IfOk result (λ _. AreAllSlices (payloads domain.new subscriber) (18 ∷ 19 ∷ 20 ∷ [])) }
     ensures stays { Stays domain.old domain.new }
@@ -133,8 +134,8 @@ fn receive_length(
     subscriber: &Subscriber,
 ) -> Result<Option<usize>, Failure>
     requires sliced { IsSliced domain.old }
-    requires subscriber { IsLiveSubscriber domain.old subscriber.now.subscriber }
-    ensures waited { (values : List ℕ) → AreAllSlices (payloads domain.old subscriber.now.subscriber) values → IfOk result (λ shown. IfSome shown (λ it. it ≡ length values)) }
+    requires subscriber { IsLiveSubscriber domain.old (as_subscriber subscriber.now) }
+    ensures waited { (values : List ℕ) → AreAllSlices (payloads domain.old (as_subscriber subscriber.now)) values → IfOk result (λ shown. IfSome shown (λ it. it ≡ length values)) }
     ensures stays { Stays domain.old domain.new }
 {
     let Some(sample) = subscriber.receive(domain)? else {

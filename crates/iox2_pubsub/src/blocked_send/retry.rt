@@ -23,6 +23,7 @@ impl BlockedSend {
     ghost use Rattle.iox2_domain.specs.Boxes.{answers_of};
     ghost use Rattle.iox2_domain.specs.Kept.{Kept};
     ghost use Rattle.iox2_domain.specs.Shows.{Shows};
+    ghost use Rattle.iox2_pubsub.specs.Handles.{blocked_sender, written_lender};
 
     /// Tries the send again at the subscriber that it waits for, and goes on to those that remain.
     /// Those that took the message aren't served again, and connections aren't updated. Where the
@@ -39,19 +40,19 @@ impl BlockedSend {
         domain: &mut Domain<T, U, F, G>,
         elapsed: Duration,
     ) -> Result<SendOutcome, SendError>
-        requires { IsBlockedSend domain.old self }
-        ensures retries { (m : Messages T U) (s : State T U) (x : Record) (b : Waiting) → Shows domain.old m s → s.publishers self.loan.publisher ≡ Some x → x.blocked ≡ Some b
-            → (s' : State T U) × Shows domain.new m s' × Retry (answers_of F.allows (domain.old).boxes) s self.loan.publisher b elapsed s' (result_of_send result) }
+        requires live { IsBlockedSend domain.old self }
+        ensures retries { (m : Messages T U) (s : State T U) (x : Record) (b : Waiting) → Shows domain.old m s → s.publishers (blocked_sender self) ≡ Some x → x.blocked ≡ Some b
+            → (s' : State T U) × Shows domain.new m s' × Retry (answers_of F.allows (domain.old).boxes) s (blocked_sender self) b elapsed s' (result_of_send result) }
         ensures blocked { IfOk result (λ outcome. IfBlocked outcome (λ blocked. IsBlockedSend domain.new blocked × (blocked_key blocked ≡ blocked_key self))) }
         ensures no_more { IfOk result (λ outcome. IfBlocked outcome (λ blocked. receivers_ahead domain.new blocked ≤ receivers_ahead domain.old self)) }
-        ensures ok { NeverFails domain.old self.loan.publisher → IsOk result }
+        ensures ok { NeverFails domain.old (blocked_sender self) → IsOk result }
         ensures failed { IfErr result (λ error. error ≡ SendError.UnableToDeliver) }
         ensures freed { IfOk result IsDelivered → IsUnblocked domain.new (lender_key (blocked_key self)) }
-        ensures loans_freed { IfOk result IsDelivered → (loan : SampleMut) → loan.loan.publisher ≡ self.loan.publisher → IsUnblocked domain.new (written_key loan) }
+        ensures loans_freed { IfOk result IsDelivered → (loan : SampleMut) → written_lender loan ≡ blocked_sender self → IsUnblocked domain.new (written_key loan) }
         ensures adds { AddAtMost 1 domain.old domain.new }
         ensures up_to_date { UpToDateStay domain.old domain.new }
         ensures loans_left { LoansLeftStay domain.old domain.new }
-        ensures given_back { IfOk result IsDelivered → HasOneMoreLeft self.loan.publisher domain.old domain.new }
+        ensures given_back { IfOk result IsDelivered → HasOneMoreLeft (blocked_sender self) domain.old domain.new }
         ensures stays { StaysBut (blocked_send self) domain.old domain.new }
         ensures stays_since { IfOk result IsDelivered → StaysSince self domain.old domain.new }
         ensures since_again { IfOk result (λ outcome. IfBlocked outcome (λ blocked. (after : Kept T U F) → StaysSince blocked domain.new after → StaysSince self domain.old after)) }
@@ -72,19 +73,19 @@ impl BlockedSend {
         self,
         domain: &mut Domain<T, U, F, G>,
     ) -> Result<SendOutcome, SendError>
-        requires { IsBlockedSend domain.old self }
-        ensures gives_up { (m : Messages T U) (s : State T U) (x : Record) (b : Waiting) → Shows domain.old m s → s.publishers self.loan.publisher ≡ Some x → x.blocked ≡ Some b
-            → (s' : State T U) × Shows domain.new m s' × GiveUp (answers_of F.allows (domain.old).boxes) s self.loan.publisher b s' (result_of_send result) }
+        requires live { IsBlockedSend domain.old self }
+        ensures gives_up { (m : Messages T U) (s : State T U) (x : Record) (b : Waiting) → Shows domain.old m s → s.publishers (blocked_sender self) ≡ Some x → x.blocked ≡ Some b
+            → (s' : State T U) × Shows domain.new m s' × GiveUp (answers_of F.allows (domain.old).boxes) s (blocked_sender self) b s' (result_of_send result) }
         ensures blocked { IfOk result (λ outcome. IfBlocked outcome (λ blocked. IsBlockedSend domain.new blocked × (blocked_key blocked ≡ blocked_key self))) }
         ensures fewer { IfOk result (λ outcome. IfBlocked outcome (λ blocked. receivers_ahead domain.new blocked < receivers_ahead domain.old self)) }
-        ensures ok { NeverFails domain.old self.loan.publisher → IsOk result }
+        ensures ok { NeverFails domain.old (blocked_sender self) → IsOk result }
         ensures failed { IfErr result (λ error. error ≡ SendError.UnableToDeliver) }
         ensures freed { IfOk result IsDelivered → IsUnblocked domain.new (lender_key (blocked_key self)) }
-        ensures loans_freed { IfOk result IsDelivered → (loan : SampleMut) → loan.loan.publisher ≡ self.loan.publisher → IsUnblocked domain.new (written_key loan) }
+        ensures loans_freed { IfOk result IsDelivered → (loan : SampleMut) → written_lender loan ≡ blocked_sender self → IsUnblocked domain.new (written_key loan) }
         ensures adds { AddAtMost 1 domain.old domain.new }
         ensures up_to_date { UpToDateStay domain.old domain.new }
         ensures loans_left { LoansLeftStay domain.old domain.new }
-        ensures given_back { IfOk result IsDelivered → HasOneMoreLeft self.loan.publisher domain.old domain.new }
+        ensures given_back { IfOk result IsDelivered → HasOneMoreLeft (blocked_sender self) domain.old domain.new }
         ensures stays { StaysBut (blocked_send self) domain.old domain.new }
         ensures stays_since { IfOk result IsDelivered → StaysSince self domain.old domain.new }
         ensures since_again { IfOk result (λ outcome. IfBlocked outcome (λ blocked. (after : Kept T U F) → StaysSince blocked domain.new after → StaysSince self domain.old after)) }

@@ -1,24 +1,30 @@
 //! The factory of publishers.
 ghost use Rattle.std.specs.Prelude.{◌≡◌, ◌≤◌, ℕ, true, false, None, Some, IfOk, OnErr, MatchResult};
+ghost use Rattle.iox2_store.specs.declared.degradation.DegradationAction.TheVariants.{Warn};
 ghost use Rattle.iox2_store.specs.machine.Environments.{fixed_handlers};
+ghost use Rattle.iox2_store.specs.machine.Records.{Fixed};
 ghost use Rattle.iox2_store.specs.machine.Ports.{CreatePublisher};
 ghost use Rattle.iox2_store.specs.machine.State.{State, Messages};
-ghost use Rattle.iox2_pubsub.specs.Live.{IsNewIn, IsReadyPublisher, NeverFails, NeverWaits, Stays, handler_box, publisher_key, publisher_port, payloads, waiting};
+ghost use Rattle.iox2_pubsub.specs.Live.{ConnectionsStay, IsConnected, IsLiveSubscriber, IsNewIn, IsReadyPublisher, NeverFails, NeverWaits, NoneRefused, Stays, handler_box, publisher_key, publisher_port, payloads, waiting};
 ghost use Rattle.iox2_pubsub.specs.LoansLeft.{HasLoansLeft, LoansLeftStay};
 ghost use Rattle.iox2_domain.specs.NewPublisher.{plain_publisher, static_publisher};
-ghost use Rattle.iox2_domain.specs.Handlers.{may_fail};
+ghost use Rattle.iox2_domain.specs.Handlers.{fails_update, may_fail, may_fail_update};
 ghost use Rattle.iox2_ends.specs.Handlers.{marks_of};
 ghost use Rattle.iox2_ports.specs.Handlers.{custom_box};
-ghost use Rattle.iox2_pubsub.specs.Factories.{with_handler};
+ghost use Rattle.iox2_pubsub.specs.Factories.{answer_of, with_handler};
 ghost use Rattle.iox2_pubsub.specs.Handlers.{may_wait};
 ghost use Rattle.iox2_pubsub.specs.declared.subscriber.Subscriber.{Subscriber};
 ghost use Rattle.iox2_domain.specs.Shows.{Shows};
+ghost use Rattle.iox2_pubsub.specs.Handles.{max_slice_len_of, publisher_id, strategy_of};
 
+use crate::degradation_handler::DegradationHandler;
 use crate::domain::Domain;
 use crate::publisher::Publisher;
+use iox2_domain::PublisherOptions;
 use iox2_ports::create_publisher;
 use iox2_store::{
-    BackpressureFn, BackpressureHandler, BackpressureStrategy, DegradationFn, PublisherCreateError,
+    BackpressureFn, BackpressureHandler, BackpressureStrategy, DegradationAction, DegradationFn,
+    PublisherCreateError,
 };
 use std::marker::Model;
 
@@ -29,8 +35,7 @@ use std::marker::Model;
 /// iceoryx2's `PortFactoryPublisher` (`src/service/port_factory/publisher.rs`).
 #[derive(Drop)]
 pub struct PortFactoryPublisher<F = Box<dyn BackpressureFn>> {
-    max_loaned_samples: usize,
-    backpressure_strategy: BackpressureStrategy,
+    options: PublisherOptions,
     backpressure_handler: Option<BackpressureHandler<F>>,
 }
 
@@ -43,7 +48,7 @@ impl<F> Model for PortFactoryPublisher<F> {
     ghost Value = { PublisherFactory F };
 
     ghost view = { λ factory. record {
-      settings = static_publisher factory.max_loaned_samples factory.backpressure_strategy (marks_of factory.backpressure_handler) 1;
+      settings = static_publisher factory.options (marks_of factory.backpressure_handler);
       box = custom_box factory.backpressure_handler;
     } };
 }
@@ -57,14 +62,19 @@ impl<T: Drop, U: Default + Drop, F: BackpressureFn, G: DegradationFn> Domain<T, 
         ensures { result ≡ record { settings = plain_publisher (self.now.config).publisher_max_loaned_samples (self.now.config).backpressure_strategy 1; box = None } }
     {
         PortFactoryPublisher {
-            max_loaned_samples: self.state.config().publisher_max_loaned_samples,
-            backpressure_strategy: self.state.config().backpressure_strategy,
+            options: PublisherOptions {
+                max_loaned_samples: self.state.config().publisher_max_loaned_samples,
+                strategy: self.state.config().backpressure_strategy,
+                degradation: DegradationAction::Warn,
+                initial_max_slice_len: 1,
+            },
             backpressure_handler: None,
         }
     }
 }
 
 impl<F: BackpressureFn> PortFactoryPublisher<F> {
+    ghost use Rattle.iox2_pubsub.specs.Handles.{publisher_id, strategy_of};
     /// Sets how many loans of the publisher may be out at a time, 0 or more.
     ///
     /// iceoryx2's `PortFactoryPublisher::max_loaned_samples`
@@ -73,8 +83,10 @@ impl<F: BackpressureFn> PortFactoryPublisher<F> {
         ensures { result ≡ record self { settings = record (self.settings) { max_loaned_samples = value } } }
     {
         PortFactoryPublisher {
-            max_loaned_samples: value,
-            backpressure_strategy: self.backpressure_strategy,
+            options: PublisherOptions {
+                max_loaned_samples: value,
+                ..self.options
+            },
             backpressure_handler: self.backpressure_handler,
         }
     }
@@ -88,8 +100,10 @@ impl<F: BackpressureFn> PortFactoryPublisher<F> {
         ensures { result ≡ record self { settings = record (self.settings) { backpressure_strategy = value } } }
     {
         PortFactoryPublisher {
-            max_loaned_samples: self.max_loaned_samples,
-            backpressure_strategy: value,
+            options: PublisherOptions {
+                strategy: value,
+                ..self.options
+            },
             backpressure_handler: self.backpressure_handler,
         }
     }
@@ -105,29 +119,49 @@ impl<F: BackpressureFn> PortFactoryPublisher<F> {
         ensures { result ≡ with_handler self handler }
     {
         PortFactoryPublisher {
-            max_loaned_samples: self.max_loaned_samples,
-            backpressure_strategy: self.backpressure_strategy,
+            options: self.options,
             backpressure_handler: Some(handler),
         }
     }
 
-    /// A factory with the same settings, which makes publishers without a handler.
+    /// Sets what answers where memory for a connection with a subscriber is refused: the publisher
+    /// goes on without it, or the domain warns of it too, as by default, or the call fails.
+    ///
+    /// iceoryx2's `PortFactoryPublisher::set_degradation_handler`
+    /// (`src/service/port_factory/publisher.rs`).
+    pub fn set_degradation_handler(self, handler: DegradationHandler) -> Self
+        ensures { result ≡ record self { settings = record (self.settings) { degradation_handler = answer_of handler } } }
+    {
+        PortFactoryPublisher {
+            options: PublisherOptions {
+                degradation: handler.answer(),
+                ..self.options
+            },
+            backpressure_handler: self.backpressure_handler,
+        }
+    }
+
+    /// A factory with the same settings, which makes publishers without handlers: where memory for a
+    /// connection is refused, the domain warns of it.
     ///
     /// iceoryx2's `PortFactoryPublisher::__internal_partial_clone`
     /// (`src/service/port_factory/publisher.rs`).
     pub fn internal_partial_clone(&self) -> Self
-        ensures { result ≡ record { settings = record (self.now.settings) { backpressure_handler = None }; box = None } }
+        ensures { result ≡ record { settings = record (self.now.settings) { degradation_handler = Fixed Warn; backpressure_handler = None }; box = None } }
     {
         PortFactoryPublisher {
-            max_loaned_samples: self.max_loaned_samples,
-            backpressure_strategy: self.backpressure_strategy,
+            options: PublisherOptions {
+                degradation: DegradationAction::Warn,
+                ..self.options
+            },
             backpressure_handler: None,
         }
     }
 
     /// Makes the publisher, with the next id at the lowest free place, and connects it with the
-    /// subscribers that there are; where memory for a connection is refused, that is a warning.
-    /// Every subscriber is then due for an update.
+    /// subscribers that there are. Every subscriber is then due for an update. Where memory for a
+    /// connection is refused, the publisher's handler says whether the domain warns of it; where the
+    /// handler fails the call, the publisher is made, and the domain warns of that.
     ///
     /// Fails, in this order, with `UnableToCreatePortTag` where the domain has no ids left, with
     /// `ExceedsMaxSupportedPublishers` where as many publishers are open as may be, with
@@ -144,74 +178,63 @@ impl<F: BackpressureFn> PortFactoryPublisher<F> {
     ) -> Result<Publisher, PublisherCreateError>
         ensures creates { (m : Messages T U) (s : State T U) → Shows domain.old m s → (s' : State T U) × Shows domain.new m s'
             × MatchResult result
-            (λ publisher. (publisher.id ≡ s.next_port) × CreatePublisher fixed_handlers s self.settings s' None)
+            (λ publisher. (publisher_id publisher ≡ s.next_port) × CreatePublisher fixed_handlers s self.settings s' None)
             (λ e. CreatePublisher fixed_handlers s self.settings s' (Some e)) }
         ensures ready { IfOk result (λ publisher. IsReadyPublisher domain.new publisher) }
-        ensures discards { self.settings.backpressure_strategy ≡ BackpressureStrategy.DiscardData → self.settings.backpressure_handler ≡ None → IfOk result (λ publisher. NeverWaits domain.new (publisher_key publisher)) }
-        ensures passes { may_wait self.settings.backpressure_strategy self.settings.backpressure_handler ≡ false → may_fail self.settings.backpressure_handler ≡ false → IfOk result (λ publisher. NeverWaits domain.new (publisher_key publisher)) }
-        ensures overflows { (domain.old.config).enable_safe_overflow ≡ true → IfOk result (λ publisher. NeverWaits domain.new (publisher_key publisher)) }
-        ensures never_fails { may_fail self.settings.backpressure_handler ≡ false → IfOk result (λ publisher. NeverFails domain.new publisher.id) }
-        ensures boxed { IfOk result (λ publisher. handler_box domain.new publisher.id ≡ self.box) }
-        ensures strategy { IfOk result (λ publisher. publisher.strategy ≡ self.settings.backpressure_strategy) }
+        ensures discards { self.settings.backpressure_strategy ≡ BackpressureStrategy.DiscardData → self.settings.backpressure_handler ≡ None → may_fail_update self.settings.degradation_handler ≡ false → IfOk result (λ publisher. NeverWaits domain.new (publisher_key publisher)) }
+        ensures passes { may_wait self.settings.backpressure_strategy self.settings.backpressure_handler ≡ false → may_fail self.settings.backpressure_handler ≡ false → may_fail_update self.settings.degradation_handler ≡ false → IfOk result (λ publisher. NeverWaits domain.new (publisher_key publisher)) }
+        ensures overflows { (domain.old.config).enable_safe_overflow ≡ true → may_fail_update self.settings.degradation_handler ≡ false → IfOk result (λ publisher. NeverWaits domain.new (publisher_key publisher)) }
+        ensures never_fails { may_fail self.settings.backpressure_handler ≡ false → may_fail_update self.settings.degradation_handler ≡ false → IfOk result (λ publisher. NeverFails domain.new (publisher_id publisher)) }
+        ensures boxed { IfOk result (λ publisher. handler_box domain.new (publisher_id publisher) ≡ self.box) }
+        ensures strategy { IfOk result (λ publisher. strategy_of publisher ≡ self.settings.backpressure_strategy) }
         ensures new { IfOk result (λ publisher. IsNewIn domain.old (publisher_port publisher)) }
         ensures refused { OnErr result (payloads domain.new ≡ payloads domain.old) }
         ensures no_fewer { (subscriber : Subscriber) → waiting domain.old subscriber ≤ waiting domain.new subscriber }
+        ensures connections { ConnectionsStay domain.old domain.new }
+        ensures connects { IfOk result (λ publisher. NoneRefused domain.old domain.new → (subscriber : Subscriber) → IsLiveSubscriber domain.old subscriber → IsConnected domain.new (publisher_id publisher) subscriber) }
         ensures loans_left { LoansLeftStay domain.old domain.new }
         ensures left { IfOk result (λ publisher. HasLoansLeft domain.new publisher self.settings.max_loaned_samples) }
         ensures stays { Stays domain.old domain.new }
     {
-        create_plain(
-            domain,
-            self.max_loaned_samples,
-            self.backpressure_strategy,
-            self.backpressure_handler,
-            1,
-        )
+        let options = self.options;
+        create_plain(domain, &options, self.backpressure_handler)
     }
 }
 
-// Makes a publisher that may have so many loans out, each of so many elements at most, follows the
-// strategy, and answers full buffers so.
+// Makes a publisher with these options, which answers full buffers so.
 pub(crate) fn create_plain<T: Drop, U: Default + Drop, F: BackpressureFn, G: DegradationFn>(
     domain: &mut Domain<T, U, F, G>,
-    max_loaned_samples: usize,
-    strategy: BackpressureStrategy,
+    given: &PublisherOptions,
     handler: Option<BackpressureHandler<F>>,
-    initial_max_slice_len: usize,
 ) -> Result<Publisher, PublisherCreateError>
     ensures creates { (m : Messages T U) (s : State T U) → Shows domain.old m s → (s' : State T U) × Shows domain.new m s'
         × MatchResult result
-        (λ publisher. (publisher.id ≡ s.next_port) × CreatePublisher fixed_handlers s (static_publisher max_loaned_samples strategy (marks_of handler) initial_max_slice_len) s' None)
-        (λ e. CreatePublisher fixed_handlers s (static_publisher max_loaned_samples strategy (marks_of handler) initial_max_slice_len) s' (Some e)) }
+        (λ publisher. (publisher_id publisher ≡ s.next_port) × CreatePublisher fixed_handlers s (static_publisher given.now (marks_of handler)) s' None)
+        (λ e. CreatePublisher fixed_handlers s (static_publisher given.now (marks_of handler)) s' (Some e)) }
     ensures ready { IfOk result (λ publisher. IsReadyPublisher domain.new publisher) }
-    ensures discards { strategy ≡ BackpressureStrategy.DiscardData → marks_of handler ≡ None → IfOk result (λ publisher. NeverWaits domain.new (publisher_key publisher)) }
-    ensures passes { may_wait strategy (marks_of handler) ≡ false → may_fail (marks_of handler) ≡ false → IfOk result (λ publisher. NeverWaits domain.new (publisher_key publisher)) }
-    ensures overflows { (domain.old.config).enable_safe_overflow ≡ true → IfOk result (λ publisher. NeverWaits domain.new (publisher_key publisher)) }
-    ensures never_fails { may_fail (marks_of handler) ≡ false → IfOk result (λ publisher. NeverFails domain.new publisher.id) }
-    ensures boxed { IfOk result (λ publisher. handler_box domain.new publisher.id ≡ custom_box handler) }
-    ensures strategy { IfOk result (λ publisher. publisher.strategy ≡ strategy) }
-    ensures longest { IfOk result (λ publisher. publisher.initial_max_slice_len ≡ initial_max_slice_len) }
+    ensures discards { given.now.strategy ≡ BackpressureStrategy.DiscardData → marks_of handler ≡ None → fails_update given.now.degradation ≡ false → IfOk result (λ publisher. NeverWaits domain.new (publisher_key publisher)) }
+    ensures passes { may_wait given.now.strategy (marks_of handler) ≡ false → may_fail (marks_of handler) ≡ false → fails_update given.now.degradation ≡ false → IfOk result (λ publisher. NeverWaits domain.new (publisher_key publisher)) }
+    ensures overflows { (domain.old.config).enable_safe_overflow ≡ true → fails_update given.now.degradation ≡ false → IfOk result (λ publisher. NeverWaits domain.new (publisher_key publisher)) }
+    ensures never_fails { may_fail (marks_of handler) ≡ false → fails_update given.now.degradation ≡ false → IfOk result (λ publisher. NeverFails domain.new (publisher_id publisher)) }
+    ensures boxed { IfOk result (λ publisher. handler_box domain.new (publisher_id publisher) ≡ custom_box handler) }
+    ensures strategy { IfOk result (λ publisher. strategy_of publisher ≡ given.now.strategy) }
+    ensures longest { IfOk result (λ publisher. max_slice_len_of publisher ≡ given.now.initial_max_slice_len) }
     ensures new { IfOk result (λ publisher. IsNewIn domain.old (publisher_port publisher)) }
     ensures refused { OnErr result (payloads domain.new ≡ payloads domain.old) }
     ensures no_fewer { (subscriber : Subscriber) → waiting domain.old subscriber ≤ waiting domain.new subscriber }
+    ensures connections { ConnectionsStay domain.old domain.new }
+    ensures connects { IfOk result (λ publisher. NoneRefused domain.old domain.new → (subscriber : Subscriber) → IsLiveSubscriber domain.old subscriber → IsConnected domain.new (publisher_id publisher) subscriber) }
     ensures loans_left { LoansLeftStay domain.old domain.new }
-    ensures left { IfOk result (λ publisher. HasLoansLeft domain.new publisher max_loaned_samples) }
+    ensures left { IfOk result (λ publisher. HasLoansLeft domain.new publisher given.now.max_loaned_samples) }
     ensures stays { Stays domain.old domain.new }
 {
     let service_id = domain.state.config().service_id;
-    let port = create_publisher(
-        &mut domain.state,
-        &mut domain.boxes,
-        max_loaned_samples,
-        strategy,
-        handler,
-        initial_max_slice_len,
-    )?;
+    let port = create_publisher(&mut domain.state, &mut domain.boxes, given, handler)?;
     Ok(Publisher {
         service_id,
         id: port.id,
         place: port.place,
-        strategy,
-        initial_max_slice_len,
+        strategy: given.strategy,
+        initial_max_slice_len: given.initial_max_slice_len,
     })
 }

@@ -1,16 +1,21 @@
 //! The factory of subscribers.
 ghost use Rattle.std.specs.Prelude.{◌≡◌, None, Some, IfOk, MatchResult};
+ghost use Rattle.iox2_store.specs.declared.degradation.DegradationAction.TheVariants.{Warn};
 ghost use Rattle.iox2_store.specs.machine.Environments.{fixed_handlers};
+ghost use Rattle.iox2_store.specs.machine.Records.{Fixed};
 ghost use Rattle.iox2_store.specs.machine.Ports.{default_subscriber_settings, buffer_for, CreateSubscriber};
 ghost use Rattle.iox2_store.specs.machine.State.{State, Messages};
 ghost use Rattle.iox2_pubsub.specs.Live.{IsLiveSubscriber, IsNewIn, Stays, subscriber_port, UpToDateStay, payloads, waiting};
 ghost use Rattle.iox2_pubsub.specs.LoansLeft.{LoansLeftStay};
+ghost use Rattle.iox2_pubsub.specs.Factories.{answer_of};
 ghost use Rattle.iox2_domain.specs.Shows.{Shows};
 
+use crate::degradation_handler::DegradationHandler;
 use crate::domain::Domain;
 use crate::subscriber::Subscriber;
+use iox2_domain::SubscriberOptions;
 use iox2_ports::create_subscriber;
-use iox2_store::{BackpressureFn, DegradationFn, SubscriberCreateError};
+use iox2_store::{BackpressureFn, DegradationAction, DegradationFn, SubscriberCreateError};
 use std::marker::Model;
 
 /// Makes a subscriber. It begins with the largest buffer that the domain allows.
@@ -18,7 +23,7 @@ use std::marker::Model;
 /// iceoryx2's `PortFactorySubscriber` (`src/service/port_factory/subscriber.rs`).
 #[derive(Drop)]
 pub struct PortFactorySubscriber {
-    buffer_size: usize,
+    options: SubscriberOptions,
 }
 
 impl Model for PortFactorySubscriber {
@@ -27,35 +32,62 @@ impl Model for PortFactorySubscriber {
 
     ghost Value = { SubscriberSettings };
 
-    ghost view = { λ factory. asked_for factory.buffer_size };
+    ghost view = { λ factory. asked_for factory.options };
 }
 
 impl PortFactorySubscriber {
+    ghost use Rattle.iox2_pubsub.specs.Handles.{buffer_size_of, subscriber_id};
     /// Sets how many messages of one publisher may wait for the subscriber. Here 0 counts as 1.
     ///
     /// iceoryx2's `PortFactorySubscriber::buffer_size` (`src/service/port_factory/subscriber.rs`).
     pub fn buffer_size(self, value: usize) -> Self
         ensures { result ≡ record self { buffer_size = value } }
     {
-        PortFactorySubscriber { buffer_size: value }
+        PortFactorySubscriber {
+            options: SubscriberOptions {
+                buffer_size: value,
+                ..self.options
+            },
+        }
     }
 
-    /// A factory with the same settings.
+    /// Sets what answers where memory for a connection with a publisher is refused: the subscriber
+    /// goes on without it, or the domain warns of it too, as by default, or the call fails.
+    ///
+    /// iceoryx2's `PortFactorySubscriber::set_degradation_handler`
+    /// (`src/service/port_factory/subscriber.rs`).
+    pub fn set_degradation_handler(self, handler: DegradationHandler) -> Self
+        ensures { result ≡ record self { degradation_handler = answer_of handler } }
+    {
+        PortFactorySubscriber {
+            options: SubscriberOptions {
+                degradation: handler.answer(),
+                ..self.options
+            },
+        }
+    }
+
+    /// A factory with the same settings, which makes subscribers without a handler: where memory for
+    /// a connection is refused, the domain warns of it.
     ///
     /// iceoryx2's `PortFactorySubscriber::__internal_partial_clone`
     /// (`src/service/port_factory/subscriber.rs`).
     pub fn internal_partial_clone(&self) -> Self
-        ensures { result ≡ self.now }
+        ensures { result ≡ record (self.now) { degradation_handler = Fixed Warn } }
     {
         PortFactorySubscriber {
-            buffer_size: self.buffer_size,
+            options: SubscriberOptions {
+                degradation: DegradationAction::Warn,
+                ..self.options
+            },
         }
     }
 
     /// Makes the subscriber in the domain, with the next id at the lowest free place, and connects
     /// it with the publishers that are there. Every publisher is then due for an update. Where
-    /// memory for a connection is refused, the domain warns of it and goes on. It also warns where
-    /// it keeps more departed publishers for the subscriber than its settings say.
+    /// memory for a connection is refused, the subscriber's handler says whether the domain warns of
+    /// it; where the handler fails the call, the subscriber is made, and the domain warns of that. It
+    /// also warns where it keeps more departed publishers for the subscriber than its settings say.
     ///
     /// Fails with `UnableToCreatePortTag` where the domain has no port ids left, then with
     /// `BufferSizeExceedsMaxSupportedBufferSizeOfService` where the buffer is larger than the domain
@@ -70,7 +102,7 @@ impl PortFactorySubscriber {
         domain: &mut Domain<T, U, F, G>,
     ) -> Result<Subscriber, SubscriberCreateError>
         ensures creates { (m : Messages T U) (s : State T U) → Shows domain.old m s → (s' : State T U) × Shows domain.new m s' × MatchResult result
-            (λ subscriber. CreateSubscriber fixed_handlers s self s' None × (subscriber.id ≡ s.next_port) × (subscriber.buffer_size ≡ buffer_for self))
+            (λ subscriber. CreateSubscriber fixed_handlers s self s' None × (subscriber_id subscriber ≡ s.next_port) × (buffer_size_of subscriber ≡ buffer_for self))
             (λ error. CreateSubscriber fixed_handlers s self s' (Some error)) }
         ensures live { IfOk result (λ subscriber. IsLiveSubscriber domain.new subscriber) }
         ensures new { IfOk result (λ subscriber. IsNewIn domain.old (subscriber_port subscriber)) }
@@ -81,12 +113,12 @@ impl PortFactorySubscriber {
         ensures stays { Stays domain.old domain.new }
     {
         let service_id = domain.state.config().service_id;
-        let port = create_subscriber(&mut domain.state, self.buffer_size)?;
+        let port = create_subscriber(&mut domain.state, &self.options)?;
         Ok(Subscriber {
             service_id,
             id: port.id,
             place: port.place,
-            buffer_size: self.buffer_size.max(1),
+            buffer_size: self.options.buffer_size.max(1),
         })
     }
 }
@@ -99,7 +131,10 @@ impl<T: Drop, U: Default + Drop, F: BackpressureFn, G: DegradationFn> Domain<T, 
         ensures { result ≡ default_subscriber_settings self.now.config }
     {
         PortFactorySubscriber {
-            buffer_size: self.state.config().subscriber_max_buffer_size.max(1),
+            options: SubscriberOptions {
+                buffer_size: self.state.config().subscriber_max_buffer_size.max(1),
+                degradation: DegradationAction::Warn,
+            },
         }
     }
 }

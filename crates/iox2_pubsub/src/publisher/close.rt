@@ -1,5 +1,5 @@
 //! A publisher is closed.
-ghost use Rattle.std.specs.Prelude.{◌≡◌, ◌≤◌};
+ghost use Rattle.std.specs.Prelude.{◌≡◌, ◌≢◌, ◌≤◌, ℕ};
 
 use crate::domain::Domain;
 use crate::publisher::Publisher;
@@ -11,9 +11,10 @@ impl Publisher {
     ghost use Rattle.iox2_store.specs.machine.Ports.{publisher_closed};
     ghost use Rattle.iox2_store.specs.machine.Records.{Publisher as Record};
     ghost use Rattle.iox2_store.specs.machine.State.{State, Messages};
-    ghost use Rattle.iox2_pubsub.specs.Live.{IsPublisherKey, IsReadyPublisher, IsUpToDate, StaysBut, handler_box, publisher_key, publisher_port, waiting};
+    ghost use Rattle.iox2_pubsub.specs.Live.{IsConnected, IsPublisherKey, IsReadyPublisher, IsUpToDate, StaysBut, handler_box, publisher_key, publisher_port, payloads_from, waiting};
     ghost use Rattle.iox2_pubsub.specs.LoansLeft.{NumbersLeftStay, OthersLoansLeftStay};
     ghost use Rattle.iox2_pubsub.specs.declared.subscriber.Subscriber.{Subscriber};
+    ghost use Rattle.iox2_pubsub.specs.Handles.{publisher_id};
     ghost use Rattle.iox2_domain.specs.Shows.{Shows};
 
     /// Closes the publisher: it is gone, and its place is free for another. What it has sent can be
@@ -26,12 +27,15 @@ impl Publisher {
         self,
         domain: &mut Domain<T, U, F, G>,
     )
-        requires { IsReadyPublisher domain.old self }
+        requires ready { IsReadyPublisher domain.old self }
         ensures closed { (m : Messages T U) (s : State T U) (x : Record) → Shows domain.old m s → s.publishers (publisher_key self).port ≡ Some x
             → Shows domain.new m (publisher_closed s (publisher_key self).port x) }
         ensures spent { IsPublisherKey domain.new (publisher_key self) → ⊥ }
         ensures unboxed { handler_box domain.new (publisher_key self).port ≡ None }
         ensures no_fewer { (subscriber : Subscriber) → IsUpToDate domain.old subscriber → waiting domain.old subscriber ≤ waiting domain.new subscriber }
+        ensures keeps { (publisher : ℕ) (subscriber : Subscriber) → IsUpToDate domain.old subscriber → IsConnected domain.old publisher subscriber
+            → payloads_from domain.new publisher subscriber ≡ payloads_from domain.old publisher subscriber }
+        ensures connections { (publisher : ℕ) (subscriber : Subscriber) → publisher ≢ publisher_id self → IsConnected domain.old publisher subscriber → IsConnected domain.new publisher subscriber }
         ensures loans_left { OthersLoansLeftStay self domain.old domain.new }
         ensures numbers_left { NumbersLeftStay domain.old domain.new }
         ensures stays { StaysBut (publisher_port self) domain.old domain.new }

@@ -15,6 +15,7 @@ impl Publisher {
     ghost use Rattle.iox2_pubsub.specs.Slices.{HasUnwrittenCells};
     ghost use Rattle.iox2_domain.specs.Lending.{LoanCall, header_for};
     ghost use Rattle.iox2_domain.specs.Shows.{Shows};
+    ghost use Rattle.iox2_pubsub.specs.Handles.{max_slice_len_of, publisher_id, unwritten_lender, unwritten_number};
 
     /// Lends a message of one element, whose payload isn't written and whose user header has
     /// its default value. The loan is out until its message was sent. It takes no memory.
@@ -38,14 +39,14 @@ impl Publisher {
     ) -> Result<SampleMutUninit, LoanError>
         requires ready { IsReadyPublisher domain.old self.now }
         requires single_valued { IsSingleValued domain.old }
-        ensures lends { (m : Messages T U) (s : State T U) → Shows domain.old m s → (s' : State T U) × Shows domain.new m s' × LoanCall U.is_default false 1 s self.now.id result s' }
+        ensures lends { (m : Messages T U) (s : State T U) → Shows domain.old m s → (s' : State T U) × Shows domain.new m s' × LoanCall U.is_default false 1 s (publisher_id self.now) result s' }
         ensures granted { (loans numbers : ℕ) → HasLoansLeft domain.old self.now (loans + 1) → HasNumbersLeft domain.old (numbers + 1) → IsOk result }
         ensures out { IfOk result (λ loan. IsUnwritten domain.new loan) }
         ensures live { NeverWaits domain.old (publisher_key self.now) → IfOk result (λ loan. IsUnwrittenLoan domain.new loan) }
         ensures unblocked { IfOk result (λ loan. IsUnblocked domain.new (unwritten_key loan)) }
         ensures new { IfOk result (λ loan. IsNewIn domain.old (unwritten_loan loan)) }
-        ensures number { IfOk result (λ loan. loan.loan.number ≡ domain.old.next_message) }
-        ensures publisher { IfOk result (λ loan. loan.loan.publisher ≡ self.now.id) }
+        ensures number { IfOk result (λ loan. unwritten_number loan ≡ domain.old.next_message) }
+        ensures publisher { IfOk result (λ loan. unwritten_lender loan ≡ publisher_id self.now) }
         ensures lent { IfOk result (λ loan. HasLender domain.new (unwritten_key loan)) }
         ensures lender { IfOk result (λ loan. lender_key (unwritten_key loan) ≡ publisher_key self.now) }
         ensures waits { payloads domain.new ≡ payloads domain.old }
@@ -69,18 +70,18 @@ impl Publisher {
         requires ready { IsReadyPublisher domain.old self.now }
         requires unchecked { checks_length ≡ false → (domain.old.config).variant ≡ FixedSize }
         requires single { (domain.old.config).variant ≡ FixedSize → len ≡ 1 }
-        ensures lends { (m : Messages T U) (s : State T U) → Shows domain.old m s → (s' : State T U) × Shows domain.new m s' × LoanCall U.is_default checks_length len s self.now.id result s' }
+        ensures lends { (m : Messages T U) (s : State T U) → Shows domain.old m s → (s' : State T U) × Shows domain.new m s' × LoanCall U.is_default checks_length len s (publisher_id self.now) result s' }
         ensures granted { (loans numbers : ℕ) → HasLoansLeft domain.old self.now (loans + 1) → HasNumbersLeft domain.old (numbers + 1)
-            → (checks_length ≡ true → len ≤ self.now.initial_max_slice_len) → IsOk result }
+            → (checks_length ≡ true → len ≤ max_slice_len_of self.now) → IsOk result }
         ensures out { IfOk result (λ loan. IsUnwritten domain.new loan) }
         ensures live { NeverWaits domain.old (publisher_key self.now) → IfOk result (λ loan. IsUnwrittenLoan domain.new loan) }
         ensures unblocked { IfOk result (λ loan. IsUnblocked domain.new (unwritten_key loan)) }
-        ensures cells { IfOk result (λ loan. HasUnwrittenCells domain.new loan.loan.number (replicate (len * (domain.old.config).units_per_element) None)) }
-        ensures lengths { IfOk result (λ loan. (cells : List (Option T)) → HasUnwrittenCells domain.new loan.loan.number cells → length cells ≡ len * (domain.old.config).units_per_element) }
-        ensures header { IfOk result (λ loan. LoanHasHeader domain.new (unwritten_key loan) (header_for domain.old.config self.now.id len)) }
+        ensures cells { IfOk result (λ loan. HasUnwrittenCells domain.new (unwritten_number loan) (replicate (len * (domain.old.config).units_per_element) None)) }
+        ensures lengths { IfOk result (λ loan. (cells : List (Option T)) → HasUnwrittenCells domain.new (unwritten_number loan) cells → length cells ≡ len * (domain.old.config).units_per_element) }
+        ensures header { IfOk result (λ loan. LoanHasHeader domain.new (unwritten_key loan) (header_for domain.old.config (publisher_id self.now) len)) }
         ensures new { IfOk result (λ loan. IsNewIn domain.old (unwritten_loan loan)) }
-        ensures number { IfOk result (λ loan. loan.loan.number ≡ domain.old.next_message) }
-        ensures publisher { IfOk result (λ loan. loan.loan.publisher ≡ self.now.id) }
+        ensures number { IfOk result (λ loan. unwritten_number loan ≡ domain.old.next_message) }
+        ensures publisher { IfOk result (λ loan. unwritten_lender loan ≡ publisher_id self.now) }
         ensures lent { IfOk result (λ loan. HasLender domain.new (unwritten_key loan)) }
         ensures lender { IfOk result (λ loan. lender_key (unwritten_key loan) ≡ publisher_key self.now) }
         ensures waits { payloads domain.new ≡ payloads domain.old }

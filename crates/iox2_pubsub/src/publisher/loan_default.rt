@@ -12,6 +12,7 @@ impl Publisher {
     ghost use Rattle.iox2_pubsub.specs.Live.{HasLender, IsNewIn, IsReadyPublisher, IsSingleValued, IsUnblocked, IsWritten, IsWrittenLoan, LoanReads, NeverWaits, Stays, UpToDateStay, lender_key, payloads, publisher_key, written_key, written_loan};
     ghost use Rattle.iox2_pubsub.specs.LoansLeft.{HasLoansLeft, HasNumbersLeft, LoansLeftStay, TakesOneLeft};
     ghost use Rattle.iox2_pubsub.specs.WrittenLoans.{WrittenLoanCall};
+    ghost use Rattle.iox2_pubsub.specs.Handles.{publisher_id, written_lender, written_number};
 
     /// Lends a message of one element whose payload and user header have their default values, so
     /// that it may be sent as it is. Refused as `loan_uninit` is; no default value is made then.
@@ -23,14 +24,14 @@ impl Publisher {
     ) -> Result<SampleMut, LoanError>
         requires ready { IsReadyPublisher domain.old self.now }
         requires single_valued { IsSingleValued domain.old }
-        ensures lends { (m : Messages T U) (s : State T U) → Shows domain.old m s → (s' : State T U) × Shows domain.new m s' × WrittenLoanCall T.is_default U.is_default s self.now.id result s' }
+        ensures lends { (m : Messages T U) (s : State T U) → Shows domain.old m s → (s' : State T U) × Shows domain.new m s' × WrittenLoanCall T.is_default U.is_default s (publisher_id self.now) result s' }
         ensures out { IfOk result (λ loan. IsWritten domain.new loan) }
         ensures live { NeverWaits domain.old (publisher_key self.now) → IfOk result (λ loan. IsWrittenLoan domain.new loan) }
         ensures unblocked { IfOk result (λ loan. IsUnblocked domain.new (written_key loan)) }
         ensures reads { IfOk result (λ loan. (value : T) × T.is_default value × LoanReads domain.new loan value) }
         ensures new { IfOk result (λ loan. IsNewIn domain.old (written_loan loan)) }
-        ensures number { IfOk result (λ loan. loan.loan.number ≡ domain.old.next_message) }
-        ensures publisher { IfOk result (λ loan. loan.loan.publisher ≡ self.now.id) }
+        ensures number { IfOk result (λ loan. written_number loan ≡ domain.old.next_message) }
+        ensures publisher { IfOk result (λ loan. written_lender loan ≡ publisher_id self.now) }
         ensures lent { IfOk result (λ loan. HasLender domain.new (written_key loan)) }
         ensures lender { IfOk result (λ loan. lender_key (written_key loan) ≡ publisher_key self.now) }
         ensures waits { payloads domain.new ≡ payloads domain.old }

@@ -15,10 +15,11 @@ impl Publisher {
     ghost use Rattle.iox2_pubsub.specs.LoansLeft.{HasLoansLeft, HasNumbersLeft, TakesOneLeft};
     ghost use Rattle.iox2_pubsub.specs.SendCalls.{FailsCopy, IfBlocked, IsDelivered, spent_by_copy};
     ghost use Rattle.iox2_pubsub.specs.WrittenLoans.{SendsCopy};
+    ghost use Rattle.iox2_pubsub.specs.Handles.{publisher_id};
 
     /// Lends a message, moves the value into it, and sends it, as `send` does. Refused as
     /// `loan_uninit` is, with `SendError::LoanError`: the value is dropped then, and nothing changes.
-    /// Fails with `UnableToDeliver` as `send` does.
+    /// Fails with `ConnectionError` and `UnableToDeliver` as `send` does.
     ///
     /// iceoryx2's `Publisher::send_copy` (`src/port/publisher.rs`).
     pub fn send_copy<T: Drop, U: Default + Drop, F: BackpressureFn, G: DegradationFn>(
@@ -29,15 +30,15 @@ impl Publisher {
         requires ready { IsReadyPublisher domain.old self.now }
         requires single_valued { IsSingleValued domain.old }
         ensures sends { (m : Messages T U) (s : State T U) → Shows domain.old m s
-            → (m' : Messages T U) × (s' : State T U) × Shows domain.new m' s' × SendsCopy (answers_of F.allows (domain.old).boxes) U.is_default m s self.now.id value result m' s' }
+            → (m' : Messages T U) × (s' : State T U) × Shows domain.new m' s' × SendsCopy (answers_of F.allows (domain.old).boxes) U.is_default m s (publisher_id self.now) value result m' s' }
         ensures delivered { NeverWaits domain.old (publisher_key self.now) → IfOk result IsDelivered }
         ensures blocked { IfOk result (λ outcome. IfBlocked outcome (λ blocked. IsBlockedSend domain.new blocked × (lender_key (blocked_key blocked) ≡ publisher_key self.now))) }
-        ensures whose { IfOk result (λ outcome. IfBlocked outcome (λ blocked. blocked_send blocked ≡ A_blocked_send self.now.id)) }
+        ensures whose { IfOk result (λ outcome. IfBlocked outcome (λ blocked. blocked_send blocked ≡ A_blocked_send (publisher_id self.now))) }
         ensures errors { IfErr result (FailsCopy domain.old self.now) }
         ensures adds { AddAtMost ((domain.old.config).history_size + 1) domain.old domain.new }
         ensures up_to_date { UpToDateStay domain.old domain.new }
         ensures granted { (loans numbers : ℕ) → HasLoansLeft domain.old self.now (loans + 1) → HasNumbersLeft domain.old (numbers + 1)
-            → NeverFails domain.old self.now.id → IsOk result }
+            → NeverFails domain.old (publisher_id self.now) → IsOk result }
         ensures loans_left { TakesOneLeft self.now domain.old domain.new }
         ensures given_back { IfOk result IsDelivered → (loans : ℕ) → HasLoansLeft domain.old self.now (loans + 1) → HasLoansLeft domain.new self.now (loans + 1) }
         ensures stays { StaysBut (spent_by_copy self.now result) domain.old domain.new }

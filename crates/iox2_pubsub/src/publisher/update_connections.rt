@@ -2,7 +2,7 @@
 
 use crate::domain::Domain;
 use crate::publisher::Publisher;
-use crate::update_connections::UpdateConnections;
+use crate::update_connections::{UpdateConnections, outcome_of};
 use iox2_store::{BackpressureFn, ConnectionFailure, DegradationFn};
 use iox2_updates::update_publisher;
 
@@ -14,6 +14,7 @@ impl<T: Drop, U: Default + Drop, F: BackpressureFn, G: DegradationFn> UpdateConn
     ghost use Rattle.iox2_store.specs.machine.Environments.{fixed_handlers};
     ghost use Rattle.iox2_store.specs.machine.PublisherUpdate.{UpdatePublisher};
     ghost use Rattle.iox2_pubsub.specs.Live.{IsReadyPublisher, publisher_key};
+    ghost use Rattle.iox2_pubsub.specs.Handles.{publisher_id};
 
     ghost is_live = { IsReadyPublisher };
 
@@ -22,7 +23,9 @@ impl<T: Drop, U: Default + Drop, F: BackpressureFn, G: DegradationFn> UpdateConn
       unblocked = stays.unblocked (publisher_key publisher) live.unblocked tt;
     } };
 
-    ghost updates = { λ s publisher s' failure. UpdatePublisher fixed_handlers s publisher.id s' failure };
+    ghost updates = { λ s publisher s' failure. UpdatePublisher fixed_handlers s (publisher_id publisher) s' failure };
+
+    ghost is_updated = { λ domain publisher. Unit {0} };
 
     ghost adds = { λ domain. (domain.config).history_size };
 
@@ -30,7 +33,6 @@ impl<T: Drop, U: Default + Drop, F: BackpressureFn, G: DegradationFn> UpdateConn
         let Some(place) = domain.state.find_publisher(self.id, self.place) else {
             unreachable!()
         };
-        update_publisher(&mut domain.state, place);
-        Ok(())
+        outcome_of(update_publisher(&mut domain.state, place))
     }
 }

@@ -14,6 +14,7 @@ impl Sample {
     ghost use Rattle.iox2_pubsub.specs.Live.{IsLiveSample, StaysBut, UpToDateStay, received_sample, payloads};
     ghost use Rattle.iox2_pubsub.specs.LoansLeft.{LoansLeftStay};
     ghost use Rattle.iox2_domain.specs.Shows.{Shows};
+    ghost use Rattle.iox2_pubsub.specs.Handles.{receiver_of, sample_number};
 
     /// Gives the message back to its publisher, which may use its slot again once nobody else has
     /// it. Takes no memory.
@@ -23,10 +24,10 @@ impl Sample {
         self,
         domain: &mut Domain<T, U, F, G>,
     )
-        requires { IsLiveSample domain.old self }
+        requires live { IsLiveSample domain.old self }
         ensures released { (m : Messages T U) (s : State T U) → Shows domain.old m s
-            → (publisher : ℕ) → IsTrue (is_borrowed self.sample.number (s.mailboxes publisher self.sample.subscriber))
-            → (s' : State T U) × Shows domain.new m s' × (s' ≡ released s publisher self.sample.subscriber self.sample.number) }
+            → (publisher : ℕ) → IsTrue (is_borrowed (sample_number self) (s.mailboxes publisher (receiver_of self)))
+            → (s' : State T U) × Shows domain.new m s' × (s' ≡ released s publisher (receiver_of self) (sample_number self)) }
         ensures spent { IsLiveSample domain.new self → ⊥ }
         ensures waits { payloads domain.new ≡ payloads domain.old }
         ensures up_to_date { UpToDateStay domain.old domain.new }

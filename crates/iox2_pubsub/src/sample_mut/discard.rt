@@ -14,6 +14,7 @@ impl SampleMut {
     ghost use Rattle.iox2_pubsub.specs.Live.{IsLoanKey, StaysBut, UpToDateStay, written_key, written_loan, payloads};
     ghost use Rattle.iox2_pubsub.specs.LoansLeft.{HasOneMoreLeft, LoansLeftStay};
     ghost use Rattle.iox2_domain.specs.Shows.{Shows};
+    ghost use Rattle.iox2_pubsub.specs.Handles.{written_lender, written_number};
 
     /// Gives the loan back unsent. It counts among the publisher's loans no more, its slot is free
     /// again, and no subscriber sees anything of it. Takes no memory.
@@ -23,14 +24,14 @@ impl SampleMut {
         self,
         domain: &mut Domain<T, U, F, G>,
     )
-        requires { IsLoanKey domain.old (written_key self) }
-        ensures discarded { (m : Messages T U) (s : State T U) (l : Loan T U) → Shows domain.old m s → s.loans self.loan.number ≡ Some l
-            → Shows domain.new m (loan_discarded s self.loan.number l) }
+        requires live { IsLoanKey domain.old (written_key self) }
+        ensures discarded { (m : Messages T U) (s : State T U) (l : Loan T U) → Shows domain.old m s → s.loans (written_number self) ≡ Some l
+            → Shows domain.new m (loan_discarded s (written_number self) l) }
         ensures spent { IsLoanKey domain.new (written_key self) → ⊥ }
         ensures waits { payloads domain.new ≡ payloads domain.old }
         ensures up_to_date { UpToDateStay domain.old domain.new }
         ensures loans_left { LoansLeftStay domain.old domain.new }
-        ensures given_back { HasOneMoreLeft self.loan.publisher domain.old domain.new }
+        ensures given_back { HasOneMoreLeft (written_lender self) domain.old domain.new }
         ensures stays { StaysBut (written_loan self) domain.old domain.new }
     {
         let SampleMut {

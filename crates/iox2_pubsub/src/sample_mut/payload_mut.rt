@@ -18,6 +18,7 @@ impl SampleMut {
     ghost use Rattle.iox2_pubsub.specs.Live.{IsSingleValued, IsWritten, IsWrittenLoan, LoanHasHeader, LoanHasUserHeader, LoanReads, NeverWaits, StaysBut, UpToDateStay, payloads, written_key, written_loan};
     ghost use Rattle.iox2_pubsub.specs.LoanLends.{LendsPayload};
     ghost use Rattle.iox2_pubsub.specs.LoansLeft.{LoansLeftStay};
+    ghost use Rattle.iox2_pubsub.specs.Handles.{written_number};
 
     /// The payload, in a domain of single values, to be changed where it lies. What is left behind
     /// the reference is the loan's payload from then on, and nothing else of the domain changes.
@@ -30,23 +31,23 @@ impl SampleMut {
     ) -> &'a mut T
         requires live { IsWritten domain.old sample.old }
         requires single_valued { IsSingleValued domain.old }
-        ensures* writes_back { sem 𝓛 (LendsPayload T.row U.row F.row G.row domain.entry sample.old.loan.number result) }
+        ensures* writes_back { sem 𝓛 (LendsPayload T.row U.row F.row G.row domain.entry (written_number sample.old) result) }
         ensures same { sample.new ≡ sample.old }
         ensures payload { LoanReads domain.old sample.old result.now }
         ensures changes { (m : Messages T U) (s : State T U) (value : T) → Shows domain.old m s
-            → (l : Loan T U) × (s.loans sample.old.loan.number ≡ Some l)
-            × Shows (with_payload domain.old sample.old.loan.number value) m (with_loan s sample.old.loan.number (Some (first_cell_changed (Some value) l))) }
-        ensures out { (value : T) → IsWritten (with_payload domain.old sample.old.loan.number value) sample.old }
-        ensures live { NeverWaits domain.old (written_key sample.old) → (value : T) → IsWrittenLoan (with_payload domain.old sample.old.loan.number value) sample.old }
-        ensures reads { (value : T) → LoanReads (with_payload domain.old sample.old.loan.number value) sample.old value }
+            → (l : Loan T U) × (s.loans (written_number sample.old) ≡ Some l)
+            × Shows (with_payload domain.old (written_number sample.old) value) m (with_loan s (written_number sample.old) (Some (first_cell_changed (Some value) l))) }
+        ensures out { (value : T) → IsWritten (with_payload domain.old (written_number sample.old) value) sample.old }
+        ensures live { NeverWaits domain.old (written_key sample.old) → (value : T) → IsWrittenLoan (with_payload domain.old (written_number sample.old) value) sample.old }
+        ensures reads { (value : T) → LoanReads (with_payload domain.old (written_number sample.old) value) sample.old value }
         ensures header { (value : T) (header : Header) → LoanHasHeader domain.old (written_key sample.old) header
-            → LoanHasHeader (with_payload domain.old sample.old.loan.number value) (written_key sample.new) header }
+            → LoanHasHeader (with_payload domain.old (written_number sample.old) value) (written_key sample.new) header }
         ensures user_header { (value : T) (header : U) → LoanHasUserHeader domain.old (written_key sample.old) header
-            → LoanHasUserHeader (with_payload domain.old sample.old.loan.number value) (written_key sample.new) header }
-        ensures waits { (value : T) → payloads (with_payload domain.old sample.old.loan.number value) ≡ payloads domain.old }
-        ensures up_to_date { (value : T) → UpToDateStay domain.old (with_payload domain.old sample.old.loan.number value) }
-        ensures loans_left { (value : T) → LoansLeftStay domain.old (with_payload domain.old sample.old.loan.number value) }
-        ensures stays { (value : T) → StaysBut (written_loan sample.old) domain.old (with_payload domain.old sample.old.loan.number value) }
+            → LoanHasUserHeader (with_payload domain.old (written_number sample.old) value) (written_key sample.new) header }
+        ensures waits { (value : T) → payloads (with_payload domain.old (written_number sample.old) value) ≡ payloads domain.old }
+        ensures up_to_date { (value : T) → UpToDateStay domain.old (with_payload domain.old (written_number sample.old) value) }
+        ensures loans_left { (value : T) → LoansLeftStay domain.old (with_payload domain.old (written_number sample.old) value) }
+        ensures stays { (value : T) → StaysBut (written_loan sample.old) domain.old (with_payload domain.old (written_number sample.old) value) }
     {
         let at = domain.state.find_live_loan(&sample.loan);
         value_at_mut(&mut domain.state, at)

@@ -16,13 +16,14 @@ impl SampleMut {
     ghost use Rattle.std.specs.Prelude.{List, Some};
     ghost use Rattle.iox2_store.specs.machine.Records.{Loan};
     ghost use Rattle.iox2_store.specs.machine.State.{State, Messages};
-    ghost use Rattle.iox2_pubsub.specs.Live.{HasLender, IsBlockedSend, IsLoanKey, IsUnblocked, IsWritten, NeverFails, NeverWaits, StaysBut, blocked_key, written_key, AddAtMost, AreAllSlices, UpToDateStay, payloads, waiting};
+    ghost use Rattle.iox2_pubsub.specs.Live.{HasLender, IsBlockedSend, IsConnected, IsLoanKey, IsServed, IsUnblocked, IsWritten, NeverFails, NeverWaits, StaysBut, blocked_key, written_key, AddAtMost, AreAllSlices, UpToDateStay, payloads, waiting};
     ghost use Rattle.iox2_pubsub.specs.LoansLeft.{HasOneMoreLeft, LoansLeftStay};
     ghost use Rattle.iox2_pubsub.specs.Slices.{HasValues};
     ghost use Rattle.iox2_pubsub.specs.SendCalls.{FailsSend, IsDelivered, Sends, messages_after, spent_by_send};
     ghost use Rattle.iox2_pubsub.specs.declared.subscriber.Subscriber.{Subscriber};
     ghost use Rattle.iox2_domain.specs.Boxes.{answers_of};
     ghost use Rattle.iox2_domain.specs.Shows.{Shows};
+    ghost use Rattle.iox2_pubsub.specs.Handles.{written_lender, written_number};
 
     /// Sends the message to every subscriber that is open. Where the buffer of one is full and the
     /// service doesn't overflow, the publisher's handler says what comes of that, or without one its
@@ -30,13 +31,16 @@ impl SampleMut {
     /// subscriber. Returns how many subscribers took it, or the blocked send.
     ///
     /// Fails with `ConnectionBrokenSinceSenderNoLongerExists` where the publisher is gone: the message
-    /// is lost. Fails with `UnableToDeliver` where the publisher's handler failed the send at some
+    /// is lost. Fails with `ConnectionError` where memory for a connection with a new subscriber is
+    /// refused and the publisher's handler fails the call: the loan is given back, and no message was
+    /// sent. Fails with `UnableToDeliver` where the publisher's handler failed the send at some
     /// subscriber: the message was sent, and the others may have got it. No other error is returned.
     ///
     /// The loan counts among the publisher's loans until the send has ended. Its slot is free again
     /// when, besides, every subscriber that took the message has released it and no history keeps it.
     /// Memory is asked for only where the publisher gets a connection with a new subscriber: where it
-    /// is refused, that subscriber doesn't get the message, and the domain keeps a warning.
+    /// is refused and the send goes on, that subscriber doesn't get the message, and the domain keeps a
+    /// warning, as long as the publisher's handler says no other.
     ///
     /// iceoryx2's `SampleMut::send` (`src/sample_mut.rs`).
     pub fn send<T: Drop, U: Default + Drop, F: BackpressureFn, G: DegradationFn>(
@@ -45,19 +49,21 @@ impl SampleMut {
     ) -> Result<SendOutcome, SendError>
         requires live { IsWritten domain.old self }
         requires unblocked { IsUnblocked domain.old (written_key self) }
-        ensures ok { HasLender domain.old (written_key self) → NeverFails domain.old self.loan.publisher → IsOk result }
+        ensures ok { HasLender domain.old (written_key self) → NeverFails domain.old (written_lender self) → IsOk result }
         ensures errors { IfErr result (FailsSend domain.old (written_key self)) }
-        ensures sent { (m : Messages T U) (s : State T U) (l : Loan T U) → Shows domain.old m s → s.loans self.loan.number ≡ Some l
-            → (s' : State T U) × Shows domain.new (messages_after m self.loan.number l result) s' × Sends (answers_of F.allows (domain.old).boxes) s self.loan.number l result s' }
+        ensures sent { (m : Messages T U) (s : State T U) (l : Loan T U) → Shows domain.old m s → s.loans (written_number self) ≡ Some l
+            → (s' : State T U) × Shows domain.new (messages_after m (written_number self) l result) s' × Sends (answers_of F.allows (domain.old).boxes) s (written_number self) l result s' }
         ensures delivered { NeverWaits domain.old (written_key self) → IfOk result IsDelivered }
         ensures blocked { IfOk result (λ outcome. IfBlocked outcome (λ blocked. IsBlockedSend domain.new blocked × (blocked_key blocked ≡ written_key self))) }
         ensures spent { IsLoanKey domain.new (written_key self) → ⊥ }
         ensures adds { AddAtMost ((domain.old.config).history_size + 1) domain.old domain.new }
         ensures brings { (subscriber : Subscriber) (values : List T) → (domain.old.config).history_size ≡ 0 → waiting domain.old subscriber ≡ 0
-            → HasValues domain.old self.loan.number values → AreAllSlices (payloads domain.new subscriber) values }
+            → HasValues domain.old (written_number self) values → AreAllSlices (payloads domain.new subscriber) values }
+        ensures serves { (subscriber : Subscriber) (values : List T) → IsConnected domain.old (written_lender self) subscriber → HasValues domain.old (written_number self) values
+            → IfOk result (λ outcome. IsDelivered outcome → IsServed domain.old domain.new (written_lender self) subscriber values) }
         ensures up_to_date { UpToDateStay domain.old domain.new }
         ensures loans_left { LoansLeftStay domain.old domain.new }
-        ensures given_back { IfOk result IsDelivered → HasOneMoreLeft self.loan.publisher domain.old domain.new }
+        ensures given_back { IfOk result IsDelivered → HasOneMoreLeft (written_lender self) domain.old domain.new }
         ensures stays { StaysBut (spent_by_send self result) domain.old domain.new }
     {
         let SampleMut { service_id, loan } = self;
@@ -93,6 +99,10 @@ pub(crate) fn outcome_of(blocked: BlockedSend, end: SendEnd) -> Result<SendOutco
         SendEnd::Lost => {
             blocked.disown();
             Err(SendError::ConnectionBrokenSinceSenderNoLongerExists)
+        }
+        SendEnd::Unconnected(failure) => {
+            blocked.disown();
+            Err(SendError::ConnectionError(failure))
         }
     }
 }

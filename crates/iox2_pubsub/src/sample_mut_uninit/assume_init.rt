@@ -18,6 +18,7 @@ impl SampleMutUninit {
     ghost use Rattle.iox2_pubsub.specs.Live.{HasLender, IsUnblocked, IsUnwritten, IsWritten, IsWrittenLoan, LoanHasHeader, LoanHasUserHeader, LoanReads, NeverWaits, StaysBut, UnwrittenReads, UpToDateStay, payloads, unwritten_key, unwritten_loan, written_key};
     ghost use Rattle.iox2_pubsub.specs.LoansLeft.{LoansLeftStay};
     ghost use Rattle.iox2_pubsub.specs.Slices.{HasUnwrittenCells, HasValues};
+    ghost use Rattle.iox2_pubsub.specs.Handles.{unwritten_number, written_number};
 
     /// Makes the loan one that may be sent, where each of its cells is written. Else the loan is
     /// handed back as it was, and nothing changes. No value is copied.
@@ -28,10 +29,10 @@ impl SampleMutUninit {
         self,
         domain: &mut Domain<T, U, F, G>,
     ) -> Result<SampleMut, SampleMutUninit>
-        requires { IsUnwritten domain.old self }
-        ensures step { (m : Messages T U) (s : State T U) → Shows domain.old m s → (l : Loan T U) × (s.loans self.loan.number ≡ Some l)
+        requires live { IsUnwritten domain.old self }
+        ensures step { (m : Messages T U) (s : State T U) → Shows domain.old m s → (l : Loan T U) × (s.loans (unwritten_number self) ≡ Some l)
             × MatchResult result
-            (λ _. (is_initialized l ≡ true) × Shows domain.new m (initialized s self.loan.number l))
+            (λ _. (is_initialized l ≡ true) × Shows domain.new m (initialized s (unwritten_number self) l))
             (λ _. (is_initialized l ≡ false) × Shows domain.new m s) }
         ensures out { IfOk result (IsWritten domain.new) }
         ensures live { NeverWaits domain.old (unwritten_key self) → IfOk result (IsWrittenLoan domain.new) }
@@ -40,8 +41,8 @@ impl SampleMutUninit {
         ensures lent { IfOk result (λ sample. HasLender domain.old (unwritten_key self) → HasLender domain.new (written_key sample)) }
         ensures reads { (value : T) → UnwrittenReads domain.old self (Some value) → IsOkAnd result (λ sample. LoanReads domain.new sample value) }
         ensures refused { UnwrittenReads domain.old self None → IsErr result }
-        ensures all_read { (values : List T) → HasUnwrittenCells domain.old self.loan.number (map Some values) → IsOkAnd result (λ sample. HasValues domain.new sample.loan.number values) }
-        ensures some_unwritten { (cells : List (Option T)) → HasUnwrittenCells domain.old self.loan.number cells → list_all is_some cells ≡ false → IsErr result }
+        ensures all_read { (values : List T) → HasUnwrittenCells domain.old (unwritten_number self) (map Some values) → IsOkAnd result (λ sample. HasValues domain.new (written_number sample) values) }
+        ensures some_unwritten { (cells : List (Option T)) → HasUnwrittenCells domain.old (unwritten_number self) cells → list_all is_some cells ≡ false → IsErr result }
         ensures header { (header : Header) → LoanHasHeader domain.old (unwritten_key self) header → IfOk result (λ sample. LoanHasHeader domain.new (written_key sample) header) }
         ensures user_header { (header : U) → LoanHasUserHeader domain.old (unwritten_key self) header → IfOk result (λ sample. LoanHasUserHeader domain.new (written_key sample) header) }
         ensures handed_back { MatchResult result (λ _. self ≡ self) (λ loan. (loan ≡ self) × (domain.new ≡ domain.old)) }

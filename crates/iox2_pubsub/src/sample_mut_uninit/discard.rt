@@ -14,6 +14,7 @@ impl SampleMutUninit {
     ghost use Rattle.iox2_pubsub.specs.Live.{IsLoanKey, StaysBut, UpToDateStay, unwritten_key, unwritten_loan, payloads};
     ghost use Rattle.iox2_pubsub.specs.LoansLeft.{HasOneMoreLeft, LoansLeftStay};
     ghost use Rattle.iox2_domain.specs.Shows.{Shows};
+    ghost use Rattle.iox2_pubsub.specs.Handles.{unwritten_lender, unwritten_number};
 
     /// Gives the loan back without a payload. It counts among the publisher's loans no more, its
     /// slot is free again, and no subscriber sees anything of it. Takes no memory.
@@ -23,14 +24,14 @@ impl SampleMutUninit {
         self,
         domain: &mut Domain<T, U, F, G>,
     )
-        requires { IsLoanKey domain.old (unwritten_key self) }
-        ensures discarded { (m : Messages T U) (s : State T U) (l : Loan T U) → Shows domain.old m s → s.loans self.loan.number ≡ Some l
-            → Shows domain.new m (loan_discarded s self.loan.number l) }
+        requires live { IsLoanKey domain.old (unwritten_key self) }
+        ensures discarded { (m : Messages T U) (s : State T U) (l : Loan T U) → Shows domain.old m s → s.loans (unwritten_number self) ≡ Some l
+            → Shows domain.new m (loan_discarded s (unwritten_number self) l) }
         ensures spent { IsLoanKey domain.new (unwritten_key self) → ⊥ }
         ensures waits { payloads domain.new ≡ payloads domain.old }
         ensures up_to_date { UpToDateStay domain.old domain.new }
         ensures loans_left { LoansLeftStay domain.old domain.new }
-        ensures given_back { HasOneMoreLeft self.loan.publisher domain.old domain.new }
+        ensures given_back { HasOneMoreLeft (unwritten_lender self) domain.old domain.new }
         ensures stays { StaysBut (unwritten_loan self) domain.old domain.new }
     {
         let SampleMutUninit {

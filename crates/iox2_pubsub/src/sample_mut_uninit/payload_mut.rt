@@ -18,6 +18,7 @@ impl SampleMutUninit {
     ghost use Rattle.iox2_pubsub.specs.Live.{IsSingleValued, IsUnwritten, IsUnwrittenLoan, LoanHasHeader, LoanHasUserHeader, NeverWaits, UnwrittenReads, StaysBut, UpToDateStay, payloads, unwritten_key, unwritten_loan};
     ghost use Rattle.iox2_pubsub.specs.LoanLends.{LendsCell};
     ghost use Rattle.iox2_pubsub.specs.LoansLeft.{LoansLeftStay};
+    ghost use Rattle.iox2_pubsub.specs.Handles.{unwritten_number};
 
     /// The payload's cell, in a domain of single values, to be written, changed or emptied where it
     /// lies. What is left behind the reference is the loan's cell from then on, and nothing else of
@@ -31,23 +32,23 @@ impl SampleMutUninit {
     ) -> &'a mut Option<T>
         requires live { IsUnwritten domain.old sample.old }
         requires single_valued { IsSingleValued domain.old }
-        ensures* writes_back { sem 𝓛 (LendsCell T.row U.row F.row G.row domain.entry sample.old.loan.number result) }
+        ensures* writes_back { sem 𝓛 (LendsCell T.row U.row F.row G.row domain.entry (unwritten_number sample.old) result) }
         ensures same { sample.new ≡ sample.old }
         ensures payload { UnwrittenReads domain.old sample.old result.now }
         ensures changes { (m : Messages T U) (s : State T U) (cell : Option T) → Shows domain.old m s
-            → (l : Loan T U) × (s.loans sample.old.loan.number ≡ Some l)
-            × Shows (with_cell domain.old sample.old.loan.number cell) m (with_loan s sample.old.loan.number (Some (first_cell_changed cell l))) }
-        ensures out { (cell : Option T) → IsUnwritten (with_cell domain.old sample.old.loan.number cell) sample.old }
-        ensures live { NeverWaits domain.old (unwritten_key sample.old) → (cell : Option T) → IsUnwrittenLoan (with_cell domain.old sample.old.loan.number cell) sample.old }
-        ensures reads { (cell : Option T) → UnwrittenReads (with_cell domain.old sample.old.loan.number cell) sample.old cell }
+            → (l : Loan T U) × (s.loans (unwritten_number sample.old) ≡ Some l)
+            × Shows (with_cell domain.old (unwritten_number sample.old) cell) m (with_loan s (unwritten_number sample.old) (Some (first_cell_changed cell l))) }
+        ensures out { (cell : Option T) → IsUnwritten (with_cell domain.old (unwritten_number sample.old) cell) sample.old }
+        ensures live { NeverWaits domain.old (unwritten_key sample.old) → (cell : Option T) → IsUnwrittenLoan (with_cell domain.old (unwritten_number sample.old) cell) sample.old }
+        ensures reads { (cell : Option T) → UnwrittenReads (with_cell domain.old (unwritten_number sample.old) cell) sample.old cell }
         ensures header { (cell : Option T) (header : Header) → LoanHasHeader domain.old (unwritten_key sample.old) header
-            → LoanHasHeader (with_cell domain.old sample.old.loan.number cell) (unwritten_key sample.new) header }
+            → LoanHasHeader (with_cell domain.old (unwritten_number sample.old) cell) (unwritten_key sample.new) header }
         ensures user_header { (cell : Option T) (header : U) → LoanHasUserHeader domain.old (unwritten_key sample.old) header
-            → LoanHasUserHeader (with_cell domain.old sample.old.loan.number cell) (unwritten_key sample.new) header }
-        ensures waits { (cell : Option T) → payloads (with_cell domain.old sample.old.loan.number cell) ≡ payloads domain.old }
-        ensures up_to_date { (cell : Option T) → UpToDateStay domain.old (with_cell domain.old sample.old.loan.number cell) }
-        ensures loans_left { (cell : Option T) → LoansLeftStay domain.old (with_cell domain.old sample.old.loan.number cell) }
-        ensures stays { (cell : Option T) → StaysBut (unwritten_loan sample.old) domain.old (with_cell domain.old sample.old.loan.number cell) }
+            → LoanHasUserHeader (with_cell domain.old (unwritten_number sample.old) cell) (unwritten_key sample.new) header }
+        ensures waits { (cell : Option T) → payloads (with_cell domain.old (unwritten_number sample.old) cell) ≡ payloads domain.old }
+        ensures up_to_date { (cell : Option T) → UpToDateStay domain.old (with_cell domain.old (unwritten_number sample.old) cell) }
+        ensures loans_left { (cell : Option T) → LoansLeftStay domain.old (with_cell domain.old (unwritten_number sample.old) cell) }
+        ensures stays { (cell : Option T) → StaysBut (unwritten_loan sample.old) domain.old (with_cell domain.old (unwritten_number sample.old) cell) }
     {
         let at = domain.state.find_live_loan(&sample.loan);
         cell_at_mut(&mut domain.state, at)

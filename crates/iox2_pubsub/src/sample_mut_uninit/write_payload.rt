@@ -16,6 +16,7 @@ impl SampleMutUninit {
     ghost use Rattle.iox2_pubsub.specs.Live.{HasLender, IsSingleValued, IsUnblocked, IsUnwritten, IsWritten, IsWrittenLoan, LoanHasHeader, LoanHasUserHeader, LoanReads, NeverWaits, StaysBut, unwritten_key, unwritten_loan, written_key, UpToDateStay, payloads};
     ghost use Rattle.iox2_pubsub.specs.LoansLeft.{LoansLeftStay};
     ghost use Rattle.iox2_domain.specs.Shows.{Shows};
+    ghost use Rattle.iox2_pubsub.specs.Handles.{unwritten_number};
 
     /// Writes the payload, in a domain of single values, and makes the loan one that may be sent.
     ///
@@ -27,7 +28,7 @@ impl SampleMutUninit {
     ) -> SampleMut
         requires live { IsUnwritten domain.old self }
         requires single_valued { IsSingleValued domain.old }
-        ensures written { (m : Messages T U) (s : State T U) → Shows domain.old m s → (l : Loan T U) × (s.loans self.loan.number ≡ Some l) × Shows domain.new m (with_loan s self.loan.number (Some (written l value))) }
+        ensures written { (m : Messages T U) (s : State T U) → Shows domain.old m s → (l : Loan T U) × (s.loans (unwritten_number self) ≡ Some l) × Shows domain.new m (with_loan s (unwritten_number self) (Some (written l value))) }
         ensures out { IsWritten domain.new result }
         ensures live { NeverWaits domain.old (unwritten_key self) → IsWrittenLoan domain.new result }
         ensures unblocked { IsUnblocked domain.old (unwritten_key self) → IsUnblocked domain.new (written_key result) }

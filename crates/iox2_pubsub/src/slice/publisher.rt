@@ -21,17 +21,18 @@ pub struct Publisher {
 impl Publisher {
     ghost use Rattle.std.specs.Prelude.{false, ◌↔◌};
     ghost use Rattle.iox2_pubsub.specs.Live.{IsPublisherKey, IsUnblocked, publisher_key};
+    ghost use Rattle.iox2_pubsub.specs.Handles.{as_publisher, max_slice_len_of, publisher_id, strategy_of};
 
     /// The same publisher, as one of slices. This library's own.
     pub fn new(publisher: crate::Publisher) -> Publisher
-        ensures { result.publisher ≡ publisher }
+        ensures { as_publisher result ≡ publisher }
     {
         Publisher { publisher }
     }
 
     /// The same publisher, as one of single values. This library's own.
     pub fn into_inner(self) -> crate::Publisher
-        ensures { result ≡ self.publisher }
+        ensures { result ≡ as_publisher self }
     {
         let Publisher { publisher } = self;
         publisher
@@ -41,7 +42,7 @@ impl Publisher {
     ///
     /// iceoryx2's `Publisher::id` (`src/port/publisher.rs`).
     pub fn id(&self) -> UniquePublisherId
-        ensures { result ≡ self.now.publisher.id }
+        ensures { result ≡ publisher_id (as_publisher self.now) }
     {
         self.publisher.id()
     }
@@ -51,7 +52,7 @@ impl Publisher {
     ///
     /// iceoryx2's `Publisher::backpressure_strategy` (`src/port/publisher.rs`).
     pub fn backpressure_strategy(&self) -> BackpressureStrategy
-        ensures { result ≡ self.now.publisher.strategy }
+        ensures { result ≡ strategy_of (as_publisher self.now) }
     {
         self.publisher.backpressure_strategy()
     }
@@ -60,7 +61,7 @@ impl Publisher {
     ///
     /// iceoryx2's `Publisher::initial_max_slice_len` (`src/port/publisher.rs`).
     pub fn initial_max_slice_len(&self) -> usize
-        ensures { result ≡ self.now.publisher.initial_max_slice_len }
+        ensures { result ≡ max_slice_len_of (as_publisher self.now) }
     {
         self.publisher.initial_max_slice_len
     }
@@ -71,15 +72,15 @@ impl Publisher {
         &self,
         domain: &Domain<T, U, F, G>,
     ) -> bool
-        requires { IsPublisherKey domain.now (publisher_key self.now.publisher) }
-        ensures { (result ≡ false) ↔ IsUnblocked domain.now (publisher_key self.now.publisher) }
+        requires live { IsPublisherKey domain.now (publisher_key (as_publisher self.now)) }
+        ensures { (result ≡ false) ↔ IsUnblocked domain.now (publisher_key (as_publisher self.now)) }
     {
         self.publisher.is_blocked(domain)
     }
 
     /// Names the publisher without being its handle. This library's own.
     pub fn key(&self) -> Key
-        ensures { result ≡ publisher_key self.now.publisher }
+        ensures { result ≡ publisher_key (as_publisher self.now) }
     {
         self.publisher.key()
     }

@@ -22,6 +22,7 @@ impl Sample {
     ghost use Rattle.iox2_pubsub.specs.Live.{IsFromOrigin, IsLiveSample, SampleHasHeader, SampleHasUserHeader, StaysBut, UpToDateStay, payloads, received_sample, sample_key};
     ghost use Rattle.iox2_pubsub.specs.LoansLeft.{LoansLeftStay};
     ghost use Rattle.iox2_pubsub.specs.Slices.{IsSliced, SampleHasValues};
+    ghost use Rattle.iox2_pubsub.specs.Handles.{as_sample, origin_of, receiver_of, sample_number};
 
     /// The message's values as they lie in their slot.
     ///
@@ -30,10 +31,10 @@ impl Sample {
         &self,
         domain: &'a Domain<T, U, F, G>,
     ) -> &'a [T]
-        requires live { IsLiveSample domain.now self.now.sample }
+        requires live { IsLiveSample domain.now (as_sample self.now) }
         requires sliced { IsSliced domain.now }
-        ensures reads { SampleHasValues domain.now (sample_key self.now.sample) result.now }
-        ensures same { (values : List T) → SampleHasValues domain.now (sample_key self.now.sample) values → result.now ≡ values }
+        ensures reads { SampleHasValues domain.now (sample_key (as_sample self.now)) result.now }
+        ensures same { (values : List T) → SampleHasValues domain.now (sample_key (as_sample self.now)) values → result.now ≡ values }
     {
         sample_payloads(&domain.state, &self.sample.sample)
     }
@@ -43,15 +44,15 @@ impl Sample {
         self,
         domain: &mut Domain<T, U, F, G>,
     )
-        requires { IsLiveSample domain.old self.sample }
+        requires live { IsLiveSample domain.old (as_sample self) }
         ensures released { (m : Messages T U) (s : State T U) → Shows domain.old m s
-            → (publisher : ℕ) → IsTrue (is_borrowed self.sample.sample.number (s.mailboxes publisher self.sample.sample.subscriber))
-            → (s' : State T U) × Shows domain.new m s' × (s' ≡ released s publisher self.sample.sample.subscriber self.sample.sample.number) }
-        ensures spent { IsLiveSample domain.new self.sample → ⊥ }
+            → (publisher : ℕ) → IsTrue (is_borrowed (sample_number (as_sample self)) (s.mailboxes publisher (receiver_of (as_sample self))))
+            → (s' : State T U) × Shows domain.new m s' × (s' ≡ released s publisher (receiver_of (as_sample self)) (sample_number (as_sample self))) }
+        ensures spent { IsLiveSample domain.new (as_sample self) → ⊥ }
         ensures waits { payloads domain.new ≡ payloads domain.old }
         ensures up_to_date { UpToDateStay domain.old domain.new }
         ensures loans_left { LoansLeftStay domain.old domain.new }
-        ensures stays { StaysBut (received_sample self.sample) domain.old domain.new }
+        ensures stays { StaysBut (received_sample (as_sample self)) domain.old domain.new }
     {
         let Sample { sample } = self;
         sample.release(domain);
@@ -61,7 +62,7 @@ impl Sample {
     ///
     /// iceoryx2's `Sample::origin` (`src/sample.rs`).
     pub fn origin(&self) -> UniquePublisherId
-        ensures { result ≡ self.now.sample.origin }
+        ensures { result ≡ origin_of (as_sample self.now) }
     {
         self.sample.origin()
     }
@@ -73,10 +74,10 @@ impl Sample {
         &self,
         domain: &'a Domain<T, U, F, G>,
     ) -> &'a Header
-        requires { IsLiveSample domain.now self.now.sample }
-        ensures origin { IsFromOrigin domain.now self.now.sample → (result.now).publisher_id ≡ self.now.sample.origin }
-        ensures reads { SampleHasHeader domain.now (sample_key self.now.sample) result.now }
-        ensures same { (header : Header) → SampleHasHeader domain.now (sample_key self.now.sample) header → result.now ≡ header }
+        requires live { IsLiveSample domain.now (as_sample self.now) }
+        ensures origin { IsFromOrigin domain.now (as_sample self.now) → (result.now).publisher_id ≡ origin_of (as_sample self.now) }
+        ensures reads { SampleHasHeader domain.now (sample_key (as_sample self.now)) result.now }
+        ensures same { (header : Header) → SampleHasHeader domain.now (sample_key (as_sample self.now)) header → result.now ≡ header }
     {
         self.sample.header(domain)
     }
@@ -88,23 +89,23 @@ impl Sample {
         &self,
         domain: &'a Domain<T, U, F, G>,
     ) -> &'a U
-        requires { IsLiveSample domain.now self.now.sample }
-        ensures reads { SampleHasUserHeader domain.now (sample_key self.now.sample) result.now }
-        ensures same { (header : U) → SampleHasUserHeader domain.now (sample_key self.now.sample) header → result.now ≡ header }
+        requires live { IsLiveSample domain.now (as_sample self.now) }
+        ensures reads { SampleHasUserHeader domain.now (sample_key (as_sample self.now)) result.now }
+        ensures same { (header : U) → SampleHasUserHeader domain.now (sample_key (as_sample self.now)) header → result.now ≡ header }
     {
         self.sample.user_header(domain)
     }
 
     /// The same sample, as one of a slice. This library's own.
     pub fn new(sample: crate::Sample) -> Sample
-        ensures { result.sample ≡ sample }
+        ensures { as_sample result ≡ sample }
     {
         Sample { sample }
     }
 
     /// The same sample, as one of a single value. This library's own.
     pub fn into_inner(self) -> crate::Sample
-        ensures { result ≡ self.sample }
+        ensures { result ≡ as_sample self }
     {
         let Sample { sample } = self;
         sample
@@ -112,7 +113,7 @@ impl Sample {
 
     /// Names the sample without being its handle. This library's own.
     pub fn key(&self) -> Key
-        ensures { result ≡ sample_key self.now.sample }
+        ensures { result ≡ sample_key (as_sample self.now) }
     {
         self.sample.key()
     }

@@ -24,11 +24,12 @@ impl SampleMut {
     ghost use Rattle.iox2_store.specs.machine.State.{State, Messages};
     ghost use Rattle.iox2_domain.specs.Boxes.{answers_of};
     ghost use Rattle.iox2_domain.specs.Shows.{Shows};
-    ghost use Rattle.iox2_pubsub.specs.Live.{AddAtMost, AreAllSlices, HasLender, IsBlockedSend, IsLoanKey, IsUnblocked, IsWritten, LoanHasHeader, LoanHasUserHeader, NeverFails, NeverWaits, StaysBut, blocked_key, UpToDateStay, payloads, waiting, written_key, written_loan};
+    ghost use Rattle.iox2_pubsub.specs.Live.{AddAtMost, AreAllSlices, HasLender, IsBlockedSend, IsConnected, IsLoanKey, IsServed, IsUnblocked, IsWritten, LoanHasHeader, LoanHasUserHeader, NeverFails, NeverWaits, StaysBut, blocked_key, UpToDateStay, payloads, waiting, written_key, written_loan};
     ghost use Rattle.iox2_pubsub.specs.declared.subscriber.Subscriber.{Subscriber};
     ghost use Rattle.iox2_pubsub.specs.LoansLeft.{HasOneMoreLeft, LoansLeftStay};
     ghost use Rattle.iox2_pubsub.specs.SendCalls.{FailsSend, IfBlocked, IsDelivered, Sends, messages_after, spent_by_send};
     ghost use Rattle.iox2_pubsub.specs.Slices.{HasValues, IsSliced};
+    ghost use Rattle.iox2_pubsub.specs.Handles.{as_written, written_lender, written_number};
 
     /// The payload as it lies in its slot.
     ///
@@ -37,10 +38,10 @@ impl SampleMut {
         &self,
         domain: &'a Domain<T, U, F, G>,
     ) -> &'a [T]
-        requires live { IsWritten domain.now self.now.sample }
+        requires live { IsWritten domain.now (as_written self.now) }
         requires sliced { IsSliced domain.now }
-        ensures reads { HasValues domain.now self.now.sample.loan.number result.now }
-        ensures same { (values : List T) → HasValues domain.now self.now.sample.loan.number values → result.now ≡ values }
+        ensures reads { HasValues domain.now (written_number (as_written self.now)) result.now }
+        ensures same { (values : List T) → HasValues domain.now (written_number (as_written self.now)) values → result.now ≡ values }
     {
         loan_values(&domain.state, &self.sample.loan)
     }
@@ -50,22 +51,24 @@ impl SampleMut {
         self,
         domain: &mut Domain<T, U, F, G>,
     ) -> Result<SendOutcome, SendError>
-        requires live { IsWritten domain.old self.sample }
-        requires unblocked { IsUnblocked domain.old (written_key self.sample) }
-        ensures ok { HasLender domain.old (written_key self.sample) → NeverFails domain.old self.sample.loan.publisher → IsOk result }
-        ensures errors { IfErr result (FailsSend domain.old (written_key self.sample)) }
-        ensures sent { (m : Messages T U) (s : State T U) (l : Loan T U) → Shows domain.old m s → s.loans self.sample.loan.number ≡ Some l
-            → (s' : State T U) × Shows domain.new (messages_after m self.sample.loan.number l result) s' × Sends (answers_of F.allows (domain.old).boxes) s self.sample.loan.number l result s' }
-        ensures delivered { NeverWaits domain.old (written_key self.sample) → IfOk result IsDelivered }
-        ensures blocked { IfOk result (λ outcome. IfBlocked outcome (λ blocked. IsBlockedSend domain.new blocked × (blocked_key blocked ≡ written_key self.sample))) }
-        ensures spent { IsLoanKey domain.new (written_key self.sample) → ⊥ }
+        requires live { IsWritten domain.old (as_written self) }
+        requires unblocked { IsUnblocked domain.old (written_key (as_written self)) }
+        ensures ok { HasLender domain.old (written_key (as_written self)) → NeverFails domain.old (written_lender (as_written self)) → IsOk result }
+        ensures errors { IfErr result (FailsSend domain.old (written_key (as_written self))) }
+        ensures sent { (m : Messages T U) (s : State T U) (l : Loan T U) → Shows domain.old m s → s.loans (written_number (as_written self)) ≡ Some l
+            → (s' : State T U) × Shows domain.new (messages_after m (written_number (as_written self)) l result) s' × Sends (answers_of F.allows (domain.old).boxes) s (written_number (as_written self)) l result s' }
+        ensures delivered { NeverWaits domain.old (written_key (as_written self)) → IfOk result IsDelivered }
+        ensures blocked { IfOk result (λ outcome. IfBlocked outcome (λ blocked. IsBlockedSend domain.new blocked × (blocked_key blocked ≡ written_key (as_written self)))) }
+        ensures spent { IsLoanKey domain.new (written_key (as_written self)) → ⊥ }
         ensures adds { AddAtMost ((domain.old.config).history_size + 1) domain.old domain.new }
         ensures brings { (subscriber : Subscriber) (values : List T) → (domain.old.config).history_size ≡ 0 → waiting domain.old subscriber ≡ 0
-            → HasValues domain.old self.sample.loan.number values → AreAllSlices (payloads domain.new subscriber) values }
+            → HasValues domain.old (written_number (as_written self)) values → AreAllSlices (payloads domain.new subscriber) values }
+        ensures serves { (subscriber : Subscriber) (values : List T) → IsConnected domain.old (written_lender (as_written self)) subscriber → HasValues domain.old (written_number (as_written self)) values
+            → IfOk result (λ outcome. IsDelivered outcome → IsServed domain.old domain.new (written_lender (as_written self)) subscriber values) }
         ensures up_to_date { UpToDateStay domain.old domain.new }
         ensures loans_left { LoansLeftStay domain.old domain.new }
-        ensures given_back { IfOk result IsDelivered → HasOneMoreLeft self.sample.loan.publisher domain.old domain.new }
-        ensures stays { StaysBut (spent_by_send self.sample result) domain.old domain.new }
+        ensures given_back { IfOk result IsDelivered → HasOneMoreLeft (written_lender (as_written self)) domain.old domain.new }
+        ensures stays { StaysBut (spent_by_send (as_written self) result) domain.old domain.new }
     {
         let SampleMut { sample } = self;
         sample.send(domain)
@@ -76,15 +79,15 @@ impl SampleMut {
         self,
         domain: &mut Domain<T, U, F, G>,
     )
-        requires { IsLoanKey domain.old (written_key self.sample) }
-        ensures discarded { (m : Messages T U) (s : State T U) (l : Loan T U) → Shows domain.old m s → s.loans self.sample.loan.number ≡ Some l
-            → Shows domain.new m (loan_discarded s self.sample.loan.number l) }
+        requires live { IsLoanKey domain.old (written_key (as_written self)) }
+        ensures discarded { (m : Messages T U) (s : State T U) (l : Loan T U) → Shows domain.old m s → s.loans (written_number (as_written self)) ≡ Some l
+            → Shows domain.new m (loan_discarded s (written_number (as_written self)) l) }
         ensures waits { payloads domain.new ≡ payloads domain.old }
         ensures up_to_date { UpToDateStay domain.old domain.new }
-        ensures spent { IsLoanKey domain.new (written_key self.sample) → ⊥ }
+        ensures spent { IsLoanKey domain.new (written_key (as_written self)) → ⊥ }
         ensures loans_left { LoansLeftStay domain.old domain.new }
-        ensures given_back { HasOneMoreLeft self.sample.loan.publisher domain.old domain.new }
-        ensures stays { StaysBut (written_loan self.sample) domain.old domain.new }
+        ensures given_back { HasOneMoreLeft (written_lender (as_written self)) domain.old domain.new }
+        ensures stays { StaysBut (written_loan (as_written self)) domain.old domain.new }
     {
         let SampleMut { sample } = self;
         sample.discard(domain);
@@ -97,10 +100,10 @@ impl SampleMut {
         &self,
         domain: &'a Domain<T, U, F, G>,
     ) -> &'a Header
-        requires { IsLoanKey domain.now (written_key self.now.sample) }
-        ensures origin { (result.now).publisher_id ≡ self.now.sample.loan.publisher }
-        ensures reads { LoanHasHeader domain.now (written_key self.now.sample) result.now }
-        ensures same { (header : Header) → LoanHasHeader domain.now (written_key self.now.sample) header → result.now ≡ header }
+        requires live { IsLoanKey domain.now (written_key (as_written self.now)) }
+        ensures origin { (result.now).publisher_id ≡ written_lender (as_written self.now) }
+        ensures reads { LoanHasHeader domain.now (written_key (as_written self.now)) result.now }
+        ensures same { (header : Header) → LoanHasHeader domain.now (written_key (as_written self.now)) header → result.now ≡ header }
     {
         self.sample.header(domain)
     }
@@ -112,23 +115,23 @@ impl SampleMut {
         &self,
         domain: &'a Domain<T, U, F, G>,
     ) -> &'a U
-        requires { IsLoanKey domain.now (written_key self.now.sample) }
-        ensures reads { LoanHasUserHeader domain.now (written_key self.now.sample) result.now }
-        ensures same { (header : U) → LoanHasUserHeader domain.now (written_key self.now.sample) header → result.now ≡ header }
+        requires live { IsLoanKey domain.now (written_key (as_written self.now)) }
+        ensures reads { LoanHasUserHeader domain.now (written_key (as_written self.now)) result.now }
+        ensures same { (header : U) → LoanHasUserHeader domain.now (written_key (as_written self.now)) header → result.now ≡ header }
     {
         self.sample.user_header(domain)
     }
 
     /// The same loan, as one of a slice. This library's own.
     pub fn new(sample: crate::SampleMut) -> SampleMut
-        ensures { result.sample ≡ sample }
+        ensures { as_written result ≡ sample }
     {
         SampleMut { sample }
     }
 
     /// The same loan, as one of a single value. This library's own.
     pub fn into_inner(self) -> crate::SampleMut
-        ensures { result ≡ self.sample }
+        ensures { result ≡ as_written self }
     {
         let SampleMut { sample } = self;
         sample
@@ -140,15 +143,15 @@ impl SampleMut {
         &self,
         domain: &Domain<T, U, F, G>,
     ) -> bool
-        requires { IsLoanKey domain.now (written_key self.now.sample) }
-        ensures { (result ≡ false) ↔ IsUnblocked domain.now (written_key self.now.sample) }
+        requires live { IsLoanKey domain.now (written_key (as_written self.now)) }
+        ensures { (result ≡ false) ↔ IsUnblocked domain.now (written_key (as_written self.now)) }
     {
         self.sample.is_blocked(domain)
     }
 
     /// Names the loan without being its handle. This library's own.
     pub fn key(&self) -> Key
-        ensures { result ≡ written_key self.now.sample }
+        ensures { result ≡ written_key (as_written self.now) }
     {
         self.sample.key()
     }

@@ -30,6 +30,7 @@ impl SampleMutUninit {
     ghost use Rattle.iox2_pubsub.specs.Live.{HasLender, IsLoanKey, IsUnblocked, IsUnwritten, IsWritten, IsWrittenLoan, LoanHasHeader, LoanHasUserHeader, NeverWaits, StaysBut, UpToDateStay, payloads, unwritten_key, unwritten_loan, written_key};
     ghost use Rattle.iox2_pubsub.specs.LoansLeft.{HasOneMoreLeft, LoansLeftStay};
     ghost use Rattle.iox2_pubsub.specs.Slices.{HasUnwrittenCells, HasValues, IsSliced};
+    ghost use Rattle.iox2_pubsub.specs.Handles.{as_unwritten, as_written, unwritten_lender, unwritten_number, written_number};
 
     /// The cells as they lie in their slot: `None` where one isn't written.
     ///
@@ -38,10 +39,10 @@ impl SampleMutUninit {
         &self,
         domain: &'a Domain<T, U, F, G>,
     ) -> &'a [Option<T>]
-        requires live { IsUnwritten domain.now self.now.sample }
+        requires live { IsUnwritten domain.now (as_unwritten self.now) }
         requires sliced { IsSliced domain.now }
-        ensures reads { HasUnwrittenCells domain.now self.now.sample.loan.number result.now }
-        ensures same { (cells : List (Option T)) → HasUnwrittenCells domain.now self.now.sample.loan.number cells → result.now ≡ cells }
+        ensures reads { HasUnwrittenCells domain.now (unwritten_number (as_unwritten self.now)) result.now }
+        ensures same { (cells : List (Option T)) → HasUnwrittenCells domain.now (unwritten_number (as_unwritten self.now)) cells → result.now ≡ cells }
     {
         loan_cells(&domain.state, &self.sample.loan)
     }
@@ -58,25 +59,25 @@ impl SampleMutUninit {
         G: DegradationFn,
         W: FnMut(usize) -> T + Drop,
     >(self, domain: &mut Domain<T, U, F, G>, initializer: W) -> SampleMut
-        requires live { IsUnwritten domain.old self.sample }
+        requires live { IsUnwritten domain.old (as_unwritten self) }
         requires sliced { IsSliced domain.old }
         requires callable { W.IsAlwaysCallable initializer }
-        ensures written { (answers : List T) × AnswersInOrder W.step initializer answers × HasValues domain.new result.sample.loan.number answers
-            × ((m : Messages T U) (s : State T U) → Shows domain.old m s → (l : Loan T U) × (s.loans self.sample.loan.number ≡ Some l)
-            × (s' : State T U) × WriteAllFrom s self.sample.loan.number l answers s' × Shows domain.new m s') }
-        ensures lengths { (cells : List (Option T)) (values : List T) → HasUnwrittenCells domain.old self.sample.loan.number cells
-            → HasValues domain.new result.sample.loan.number values → length values ≡ length cells }
-        ensures out { IsWritten domain.new result.sample }
-        ensures live { NeverWaits domain.old (unwritten_key self.sample) → IsWrittenLoan domain.new result.sample }
-        ensures unblocked { IsUnblocked domain.old (unwritten_key self.sample) → IsUnblocked domain.new (written_key result.sample) }
-        ensures key { written_key result.sample ≡ unwritten_key self.sample }
-        ensures lent { HasLender domain.old (unwritten_key self.sample) → HasLender domain.new (written_key result.sample) }
-        ensures header { (header : Header) → LoanHasHeader domain.old (unwritten_key self.sample) header → LoanHasHeader domain.new (written_key result.sample) header }
-        ensures user_header { (header : U) → LoanHasUserHeader domain.old (unwritten_key self.sample) header → LoanHasUserHeader domain.new (written_key result.sample) header }
+        ensures written { (answers : List T) × AnswersInOrder W.step initializer answers × HasValues domain.new (written_number (as_written result)) answers
+            × ((m : Messages T U) (s : State T U) → Shows domain.old m s → (l : Loan T U) × (s.loans (unwritten_number (as_unwritten self)) ≡ Some l)
+            × (s' : State T U) × WriteAllFrom s (unwritten_number (as_unwritten self)) l answers s' × Shows domain.new m s') }
+        ensures lengths { (cells : List (Option T)) (values : List T) → HasUnwrittenCells domain.old (unwritten_number (as_unwritten self)) cells
+            → HasValues domain.new (written_number (as_written result)) values → length values ≡ length cells }
+        ensures out { IsWritten domain.new (as_written result) }
+        ensures live { NeverWaits domain.old (unwritten_key (as_unwritten self)) → IsWrittenLoan domain.new (as_written result) }
+        ensures unblocked { IsUnblocked domain.old (unwritten_key (as_unwritten self)) → IsUnblocked domain.new (written_key (as_written result)) }
+        ensures key { written_key (as_written result) ≡ unwritten_key (as_unwritten self) }
+        ensures lent { HasLender domain.old (unwritten_key (as_unwritten self)) → HasLender domain.new (written_key (as_written result)) }
+        ensures header { (header : Header) → LoanHasHeader domain.old (unwritten_key (as_unwritten self)) header → LoanHasHeader domain.new (written_key (as_written result)) header }
+        ensures user_header { (header : U) → LoanHasUserHeader domain.old (unwritten_key (as_unwritten self)) header → LoanHasUserHeader domain.new (written_key (as_written result)) header }
         ensures waits { payloads domain.new ≡ payloads domain.old }
         ensures up_to_date { UpToDateStay domain.old domain.new }
         ensures loans_left { LoansLeftStay domain.old domain.new }
-        ensures stays { StaysBut (unwritten_loan self.sample) domain.old domain.new }
+        ensures stays { StaysBut (unwritten_loan (as_unwritten self)) domain.old domain.new }
     {
         let SampleMutUninit { sample } = self;
         let crate::SampleMutUninit { service_id, loan } = sample;
@@ -95,23 +96,23 @@ impl SampleMutUninit {
         domain: &mut Domain<T, U, F, G>,
         values: &[T],
     ) -> SampleMut
-        requires live { IsUnwritten domain.old self.sample }
+        requires live { IsUnwritten domain.old (as_unwritten self) }
         requires sliced { IsSliced domain.old }
-        requires lengths { (cells : List (Option T)) → HasUnwrittenCells domain.old self.sample.loan.number cells → length values.now ≡ length cells }
-        ensures step { (m : Messages T U) (s : State T U) → Shows domain.old m s → (l : Loan T U) × (s.loans self.sample.loan.number ≡ Some l)
-            × (s' : State T U) × WriteAllFrom s self.sample.loan.number l values.now s' × Shows domain.new m s' }
-        ensures written { HasValues domain.new result.sample.loan.number values.now }
-        ensures out { IsWritten domain.new result.sample }
-        ensures live { NeverWaits domain.old (unwritten_key self.sample) → IsWrittenLoan domain.new result.sample }
-        ensures unblocked { IsUnblocked domain.old (unwritten_key self.sample) → IsUnblocked domain.new (written_key result.sample) }
-        ensures key { written_key result.sample ≡ unwritten_key self.sample }
-        ensures lent { HasLender domain.old (unwritten_key self.sample) → HasLender domain.new (written_key result.sample) }
-        ensures header { (header : Header) → LoanHasHeader domain.old (unwritten_key self.sample) header → LoanHasHeader domain.new (written_key result.sample) header }
-        ensures user_header { (header : U) → LoanHasUserHeader domain.old (unwritten_key self.sample) header → LoanHasUserHeader domain.new (written_key result.sample) header }
+        requires lengths { (cells : List (Option T)) → HasUnwrittenCells domain.old (unwritten_number (as_unwritten self)) cells → length values.now ≡ length cells }
+        ensures step { (m : Messages T U) (s : State T U) → Shows domain.old m s → (l : Loan T U) × (s.loans (unwritten_number (as_unwritten self)) ≡ Some l)
+            × (s' : State T U) × WriteAllFrom s (unwritten_number (as_unwritten self)) l values.now s' × Shows domain.new m s' }
+        ensures written { HasValues domain.new (written_number (as_written result)) values.now }
+        ensures out { IsWritten domain.new (as_written result) }
+        ensures live { NeverWaits domain.old (unwritten_key (as_unwritten self)) → IsWrittenLoan domain.new (as_written result) }
+        ensures unblocked { IsUnblocked domain.old (unwritten_key (as_unwritten self)) → IsUnblocked domain.new (written_key (as_written result)) }
+        ensures key { written_key (as_written result) ≡ unwritten_key (as_unwritten self) }
+        ensures lent { HasLender domain.old (unwritten_key (as_unwritten self)) → HasLender domain.new (written_key (as_written result)) }
+        ensures header { (header : Header) → LoanHasHeader domain.old (unwritten_key (as_unwritten self)) header → LoanHasHeader domain.new (written_key (as_written result)) header }
+        ensures user_header { (header : U) → LoanHasUserHeader domain.old (unwritten_key (as_unwritten self)) header → LoanHasUserHeader domain.new (written_key (as_written result)) header }
         ensures waits { payloads domain.new ≡ payloads domain.old }
         ensures up_to_date { UpToDateStay domain.old domain.new }
         ensures loans_left { LoansLeftStay domain.old domain.new }
-        ensures stays { StaysBut (unwritten_loan self.sample) domain.old domain.new }
+        ensures stays { StaysBut (unwritten_loan (as_unwritten self)) domain.old domain.new }
     {
         let SampleMutUninit { sample } = self;
         let crate::SampleMutUninit { service_id, loan } = sample;
@@ -130,25 +131,25 @@ impl SampleMutUninit {
         self,
         domain: &mut Domain<T, U, F, G>,
     ) -> Result<SampleMut, SampleMutUninit>
-        requires { IsUnwritten domain.old self.sample }
-        ensures step { (m : Messages T U) (s : State T U) → Shows domain.old m s → (l : Loan T U) × (s.loans self.sample.loan.number ≡ Some l)
+        requires live { IsUnwritten domain.old (as_unwritten self) }
+        ensures step { (m : Messages T U) (s : State T U) → Shows domain.old m s → (l : Loan T U) × (s.loans (unwritten_number (as_unwritten self)) ≡ Some l)
             × MatchResult result
-            (λ _. (is_initialized l ≡ true) × Shows domain.new m (initialized s self.sample.loan.number l))
+            (λ _. (is_initialized l ≡ true) × Shows domain.new m (initialized s (unwritten_number (as_unwritten self)) l))
             (λ _. (is_initialized l ≡ false) × Shows domain.new m s) }
-        ensures out { IfOk result (λ it. IsWritten domain.new it.sample) }
-        ensures live { NeverWaits domain.old (unwritten_key self.sample) → IfOk result (λ it. IsWrittenLoan domain.new it.sample) }
-        ensures unblocked { IsUnblocked domain.old (unwritten_key self.sample) → IfOk result (λ it. IsUnblocked domain.new (written_key it.sample)) }
-        ensures key { IfOk result (λ it. written_key it.sample ≡ unwritten_key self.sample) }
-        ensures lent { IfOk result (λ it. HasLender domain.old (unwritten_key self.sample) → HasLender domain.new (written_key it.sample)) }
-        ensures reads { (values : List T) → HasUnwrittenCells domain.old self.sample.loan.number (map Some values) → IsOkAnd result (λ it. HasValues domain.new it.sample.loan.number values) }
-        ensures refused { (cells : List (Option T)) → HasUnwrittenCells domain.old self.sample.loan.number cells → list_all is_some cells ≡ false → IsErr result }
-        ensures header { (header : Header) → LoanHasHeader domain.old (unwritten_key self.sample) header → IfOk result (λ it. LoanHasHeader domain.new (written_key it.sample) header) }
-        ensures user_header { (header : U) → LoanHasUserHeader domain.old (unwritten_key self.sample) header → IfOk result (λ it. LoanHasUserHeader domain.new (written_key it.sample) header) }
-        ensures handed_back { MatchResult result (λ _. self ≡ self) (λ it. (it.sample ≡ self.sample) × (domain.new ≡ domain.old)) }
+        ensures out { IfOk result (λ it. IsWritten domain.new (as_written it)) }
+        ensures live { NeverWaits domain.old (unwritten_key (as_unwritten self)) → IfOk result (λ it. IsWrittenLoan domain.new (as_written it)) }
+        ensures unblocked { IsUnblocked domain.old (unwritten_key (as_unwritten self)) → IfOk result (λ it. IsUnblocked domain.new (written_key (as_written it))) }
+        ensures key { IfOk result (λ it. written_key (as_written it) ≡ unwritten_key (as_unwritten self)) }
+        ensures lent { IfOk result (λ it. HasLender domain.old (unwritten_key (as_unwritten self)) → HasLender domain.new (written_key (as_written it))) }
+        ensures reads { (values : List T) → HasUnwrittenCells domain.old (unwritten_number (as_unwritten self)) (map Some values) → IsOkAnd result (λ it. HasValues domain.new (written_number (as_written it)) values) }
+        ensures refused { (cells : List (Option T)) → HasUnwrittenCells domain.old (unwritten_number (as_unwritten self)) cells → list_all is_some cells ≡ false → IsErr result }
+        ensures header { (header : Header) → LoanHasHeader domain.old (unwritten_key (as_unwritten self)) header → IfOk result (λ it. LoanHasHeader domain.new (written_key (as_written it)) header) }
+        ensures user_header { (header : U) → LoanHasUserHeader domain.old (unwritten_key (as_unwritten self)) header → IfOk result (λ it. LoanHasUserHeader domain.new (written_key (as_written it)) header) }
+        ensures handed_back { MatchResult result (λ _. self ≡ self) (λ it. (as_unwritten it ≡ as_unwritten self) × (domain.new ≡ domain.old)) }
         ensures waits { payloads domain.new ≡ payloads domain.old }
         ensures up_to_date { UpToDateStay domain.old domain.new }
         ensures loans_left { LoansLeftStay domain.old domain.new }
-        ensures stays { StaysBut (unwritten_loan self.sample) domain.old domain.new }
+        ensures stays { StaysBut (unwritten_loan (as_unwritten self)) domain.old domain.new }
     {
         let SampleMutUninit { sample } = self;
         match sample.assume_init(domain) {
@@ -162,15 +163,15 @@ impl SampleMutUninit {
         self,
         domain: &mut Domain<T, U, F, G>,
     )
-        requires { IsLoanKey domain.old (unwritten_key self.sample) }
-        ensures discarded { (m : Messages T U) (s : State T U) (l : Loan T U) → Shows domain.old m s → s.loans self.sample.loan.number ≡ Some l
-            → Shows domain.new m (loan_discarded s self.sample.loan.number l) }
+        requires live { IsLoanKey domain.old (unwritten_key (as_unwritten self)) }
+        ensures discarded { (m : Messages T U) (s : State T U) (l : Loan T U) → Shows domain.old m s → s.loans (unwritten_number (as_unwritten self)) ≡ Some l
+            → Shows domain.new m (loan_discarded s (unwritten_number (as_unwritten self)) l) }
         ensures waits { payloads domain.new ≡ payloads domain.old }
         ensures up_to_date { UpToDateStay domain.old domain.new }
-        ensures spent { IsLoanKey domain.new (unwritten_key self.sample) → ⊥ }
+        ensures spent { IsLoanKey domain.new (unwritten_key (as_unwritten self)) → ⊥ }
         ensures loans_left { LoansLeftStay domain.old domain.new }
-        ensures given_back { HasOneMoreLeft self.sample.loan.publisher domain.old domain.new }
-        ensures stays { StaysBut (unwritten_loan self.sample) domain.old domain.new }
+        ensures given_back { HasOneMoreLeft (unwritten_lender (as_unwritten self)) domain.old domain.new }
+        ensures stays { StaysBut (unwritten_loan (as_unwritten self)) domain.old domain.new }
     {
         let SampleMutUninit { sample } = self;
         sample.discard(domain);
@@ -183,10 +184,10 @@ impl SampleMutUninit {
         &self,
         domain: &'a Domain<T, U, F, G>,
     ) -> &'a Header
-        requires { IsLoanKey domain.now (unwritten_key self.now.sample) }
-        ensures origin { (result.now).publisher_id ≡ self.now.sample.loan.publisher }
-        ensures reads { LoanHasHeader domain.now (unwritten_key self.now.sample) result.now }
-        ensures same { (header : Header) → LoanHasHeader domain.now (unwritten_key self.now.sample) header → result.now ≡ header }
+        requires live { IsLoanKey domain.now (unwritten_key (as_unwritten self.now)) }
+        ensures origin { (result.now).publisher_id ≡ unwritten_lender (as_unwritten self.now) }
+        ensures reads { LoanHasHeader domain.now (unwritten_key (as_unwritten self.now)) result.now }
+        ensures same { (header : Header) → LoanHasHeader domain.now (unwritten_key (as_unwritten self.now)) header → result.now ≡ header }
     {
         self.sample.header(domain)
     }
@@ -198,23 +199,23 @@ impl SampleMutUninit {
         &self,
         domain: &'a Domain<T, U, F, G>,
     ) -> &'a U
-        requires { IsLoanKey domain.now (unwritten_key self.now.sample) }
-        ensures reads { LoanHasUserHeader domain.now (unwritten_key self.now.sample) result.now }
-        ensures same { (header : U) → LoanHasUserHeader domain.now (unwritten_key self.now.sample) header → result.now ≡ header }
+        requires live { IsLoanKey domain.now (unwritten_key (as_unwritten self.now)) }
+        ensures reads { LoanHasUserHeader domain.now (unwritten_key (as_unwritten self.now)) result.now }
+        ensures same { (header : U) → LoanHasUserHeader domain.now (unwritten_key (as_unwritten self.now)) header → result.now ≡ header }
     {
         self.sample.user_header(domain)
     }
 
     /// The same loan, as one of a slice. This library's own.
     pub fn new(sample: crate::SampleMutUninit) -> SampleMutUninit
-        ensures { result.sample ≡ sample }
+        ensures { as_unwritten result ≡ sample }
     {
         SampleMutUninit { sample }
     }
 
     /// The same loan, as one of a single value. This library's own.
     pub fn into_inner(self) -> crate::SampleMutUninit
-        ensures { result ≡ self.sample }
+        ensures { result ≡ as_unwritten self }
     {
         let SampleMutUninit { sample } = self;
         sample
@@ -222,7 +223,7 @@ impl SampleMutUninit {
 
     /// Names the loan without being its handle. This library's own.
     pub fn key(&self) -> Key
-        ensures { result ≡ unwritten_key self.now.sample }
+        ensures { result ≡ unwritten_key (as_unwritten self.now) }
     {
         self.sample.key()
     }

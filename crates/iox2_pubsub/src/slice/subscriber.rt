@@ -19,17 +19,18 @@ pub struct Subscriber {
 
 impl Subscriber {
     ghost use Rattle.iox2_pubsub.specs.Live.{subscriber_key};
+    ghost use Rattle.iox2_pubsub.specs.Handles.{as_subscriber, buffer_size_of, subscriber_id};
 
     /// The same subscriber, as one of slices. This library's own.
     pub fn new(subscriber: crate::Subscriber) -> Subscriber
-        ensures { result.subscriber ≡ subscriber }
+        ensures { as_subscriber result ≡ subscriber }
     {
         Subscriber { subscriber }
     }
 
     /// The same subscriber, as one of single values. This library's own.
     pub fn into_inner(self) -> crate::Subscriber
-        ensures { result ≡ self.subscriber }
+        ensures { result ≡ as_subscriber self }
     {
         let Subscriber { subscriber } = self;
         subscriber
@@ -39,7 +40,7 @@ impl Subscriber {
     ///
     /// iceoryx2's `Subscriber::id` (`src/port/subscriber.rs`).
     pub fn id(&self) -> UniqueSubscriberId
-        ensures { result ≡ self.now.subscriber.id }
+        ensures { result ≡ subscriber_id (as_subscriber self.now) }
     {
         self.subscriber.id()
     }
@@ -48,14 +49,14 @@ impl Subscriber {
     ///
     /// iceoryx2's `Subscriber::buffer_size` (`src/port/subscriber.rs`).
     pub fn buffer_size(&self) -> usize
-        ensures { result ≡ self.now.subscriber.buffer_size }
+        ensures { result ≡ buffer_size_of (as_subscriber self.now) }
     {
         self.subscriber.buffer_size()
     }
 
     /// Names the subscriber without being its handle. This library's own.
     pub fn key(&self) -> Key
-        ensures { result ≡ subscriber_key self.now.subscriber }
+        ensures { result ≡ subscriber_key (as_subscriber self.now) }
     {
         self.subscriber.key()
     }

@@ -1,5 +1,5 @@
 //! A subscriber is closed.
-ghost use Rattle.std.specs.Prelude.{◌≡◌};
+ghost use Rattle.std.specs.Prelude.{◌≡◌, ◌≢◌, ℕ};
 
 use crate::domain::Domain;
 use crate::subscriber::Subscriber;
@@ -11,8 +11,10 @@ impl Subscriber {
     ghost use Rattle.iox2_store.specs.machine.Ports.{subscriber_closed};
     ghost use Rattle.iox2_store.specs.machine.Records.{Subscriber as Record};
     ghost use Rattle.iox2_store.specs.machine.State.{State, Messages};
-    ghost use Rattle.iox2_pubsub.specs.Live.{IsLiveSubscriber, OthersStayUpToDate, OthersWait, StaysBut, subscriber_key, subscriber_port, waiting};
+    ghost use Rattle.iox2_pubsub.specs.Live.{IsConnected, IsLiveSubscriber, OthersStayUpToDate, OthersWait, StaysBut, subscriber_key, subscriber_port, waiting};
     ghost use Rattle.iox2_pubsub.specs.LoansLeft.{LoansLeftStay};
+    ghost use Rattle.iox2_pubsub.specs.declared.subscriber.Subscriber.{Subscriber as Handle};
+    ghost use Rattle.iox2_pubsub.specs.Handles.{subscriber_id};
     ghost use Rattle.iox2_domain.specs.Shows.{Shows};
 
     /// Closes the subscriber: it takes no messages any more, and what waits for it is lost. Its
@@ -24,13 +26,14 @@ impl Subscriber {
         self,
         domain: &mut Domain<T, U, F, G>,
     )
-        requires { IsLiveSubscriber domain.old self }
+        requires live { IsLiveSubscriber domain.old self }
         ensures closed { (m : Messages T U) (s : State T U) (y : Record) → Shows domain.old m s → s.subscribers (subscriber_key self).port ≡ Some y
             → Shows domain.new m (subscriber_closed s (subscriber_key self).port y) }
         ensures spent { IsLiveSubscriber domain.new self → ⊥ }
         ensures none { waiting domain.new self ≡ 0 }
         ensures others { OthersWait self domain.old domain.new }
         ensures up_to_date { OthersStayUpToDate self domain.old domain.new }
+        ensures connections { (publisher : ℕ) (other : Handle) → subscriber_id other ≢ subscriber_id self → IsConnected domain.old publisher other → IsConnected domain.new publisher other }
         ensures loans_left { LoansLeftStay domain.old domain.new }
         ensures stays { StaysBut (subscriber_port self) domain.old domain.new }
     {

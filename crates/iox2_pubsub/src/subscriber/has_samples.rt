@@ -12,21 +12,21 @@ impl Subscriber {
     ghost use Rattle.iox2_pubsub.specs.LoansLeft.{LoansLeftStay};
     ghost use Rattle.iox2_pubsub.specs.QuestionCalls.{Answers};
     ghost use Rattle.iox2_domain.specs.Shows.{Shows};
+    ghost use Rattle.iox2_pubsub.specs.Handles.{subscriber_id};
 
     /// Updates the subscriber's connections and says whether any message waits for it, also one
     /// that it can't receive before it has released another.
     ///
-    /// Fails where the update does, as `UpdateConnections::update_connections` says. Where memory for
-    /// a connection is refused, that is a warning of the domain.
+    /// Fails where the update does, as `UpdateConnections::update_connections` says.
     ///
     /// iceoryx2's `Subscriber::has_samples` (`src/port/subscriber.rs`).
     pub fn has_samples<T: Drop, U: Default + Drop, F: BackpressureFn, G: DegradationFn>(
         &self,
         domain: &mut Domain<T, U, F, G>,
     ) -> Result<bool, ConnectionFailure>
-        requires { IsLiveSubscriber domain.old self.now }
+        requires live { IsLiveSubscriber domain.old self.now }
         ensures answers { (m : Messages T U) (s : State T U) → Shows domain.old m s
-            → (s' : State T U) × Shows domain.new m s' × Answers s self.now.id result s' }
+            → (s' : State T U) × Shows domain.new m s' × Answers s (subscriber_id self.now) result s' }
         ensures waits { IfOk result (λ waits. IsTrue waits ↔ (0 < waiting domain.new self.now)) }
         ensures no_more { waiting domain.new self.now ≤ waiting domain.old self.now }
         ensures others { OthersWait self.now domain.old domain.new }

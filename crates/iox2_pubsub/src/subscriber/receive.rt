@@ -12,11 +12,12 @@ impl Subscriber {
     ghost use Rattle.iox2_store.specs.machine.Environments.{fixed_handlers};
     ghost use Rattle.iox2_store.specs.machine.Receives.{Receive};
     ghost use Rattle.iox2_store.specs.machine.State.{State, Messages};
-    ghost use Rattle.iox2_pubsub.specs.Live.{AreAllSlices, IsFromOrigin, IsLiveSample, IsLiveSubscriber, IsUpToDate, IsNewIn, OthersWait, Stays, UpToDateStay, payloads, received_sample, sample_key, waiting};
+    ghost use Rattle.iox2_pubsub.specs.Live.{AreAllSlices, IsFromOrigin, IsLiveSample, IsLiveSubscriber, IsUpToDate, IsNewIn, OthersWait, Stays, TakesOldest, UpToDateStay, payloads, received_sample, sample_key, waiting};
     ghost use Rattle.iox2_pubsub.specs.LoansLeft.{LoansLeftStay};
     ghost use Rattle.iox2_pubsub.specs.ReceivedSamples.{received_result};
     ghost use Rattle.iox2_pubsub.specs.Slices.{SampleHasValues};
     ghost use Rattle.iox2_domain.specs.Shows.{Shows};
+    ghost use Rattle.iox2_pubsub.specs.Handles.{receiver_of, subscriber_id};
 
     /// Updates the subscriber's connections and receives a message: from a publisher of which it
     /// may borrow one more, the one that has waited longest. `None` where no message waits.
@@ -24,8 +25,7 @@ impl Subscriber {
     /// Fails with `ReceiveError::ExceedsMaxBorrows` where messages wait, but of each publisher that
     /// they come from as many are borrowed as may be. The update stands then, and no message moves.
     /// Fails with `ReceiveError::ConnectionFailure` where the update does, as
-    /// `UpdateConnections::update_connections` says. Where memory for a connection is refused, that
-    /// is a warning of the domain.
+    /// `UpdateConnections::update_connections` says.
     ///
     /// iceoryx2's `Subscriber::receive` (`src/port/subscriber.rs`).
     #[inline(always)]
@@ -33,17 +33,18 @@ impl Subscriber {
         &self,
         domain: &mut Domain<T, U, F, G>,
     ) -> Result<Option<Sample>, ReceiveError>
-        requires { IsLiveSubscriber domain.old self.now }
+        requires live { IsLiveSubscriber domain.old self.now }
         ensures receives { (m : Messages T U) (s : State T U) → Shows domain.old m s
-            → (s' : State T U) × Shows domain.new m s' × Receive fixed_handlers s self.now.id s' (received_result result) }
+            → (s' : State T U) × Shows domain.new m s' × Receive fixed_handlers s (subscriber_id self.now) s' (received_result result) }
         ensures live { IfOk result (λ sample. IfSome sample (IsLiveSample domain.new)) }
         ensures new { IfOk result (λ sample. IfSome sample (λ it. IsNewIn domain.old (received_sample it))) }
         ensures origin { IfOk result (λ sample. IfSome sample (IsFromOrigin domain.new)) }
-        ensures subscriber { IfOk result (λ sample. IfSome sample (λ it. it.sample.subscriber ≡ self.now.id)) }
+        ensures subscriber { IfOk result (λ sample. IfSome sample (λ it. receiver_of it ≡ subscriber_id self.now)) }
         ensures fewer { IfOk result (λ sample. OnSome sample (waiting domain.new self.now < waiting domain.old self.now)) }
         ensures one_fewer { IsUpToDate domain.old self.now → IfOk result (λ sample. OnSome sample (suc (waiting domain.new self.now) ≡ waiting domain.old self.now)) }
         ensures none { IfOk result (λ sample. IfNone sample (waiting domain.new self.now ≡ 0)) }
         ensures reads { IfOk result (λ sample. IfSome sample (λ it. (values : List T) → AreAllSlices (payloads domain.old self.now) values → SampleHasValues domain.new (sample_key it) values)) }
+        ensures oldest { IfOk result (λ sample. IfSome sample (λ it. TakesOldest self.now it domain.old domain.new)) }
         ensures no_more { waiting domain.new self.now ≤ waiting domain.old self.now }
         ensures others { OthersWait self.now domain.old domain.new }
         ensures updated { OnOk result (IsUpToDate domain.new self.now) }

@@ -1,10 +1,8 @@
 //! A subscriber updates its connections.
-ghost use Rattle.std.specs.Prelude.{◌≡◌};
-ghost use Rattle.iox2_pubsub.specs.UpdateCalls.{failure_of};
 
 use crate::domain::Domain;
 use crate::subscriber::Subscriber;
-use crate::update_connections::UpdateConnections;
+use crate::update_connections::{UpdateConnections, outcome_of};
 use iox2_store::{BackpressureFn, ConnectionFailure, DegradationFn};
 use iox2_updates::update_subscriber;
 
@@ -15,13 +13,16 @@ impl<T: Drop, U: Default + Drop, F: BackpressureFn, G: DegradationFn> UpdateConn
     for Subscriber {
     ghost use Rattle.iox2_store.specs.machine.Environments.{fixed_handlers};
     ghost use Rattle.iox2_store.specs.machine.SubscriberUpdate.{UpdateSubscriber};
-    ghost use Rattle.iox2_pubsub.specs.Live.{IsLiveSubscriber, subscriber_key};
+    ghost use Rattle.iox2_pubsub.specs.Live.{IsLiveSubscriber, IsUpToDate, subscriber_key};
+    ghost use Rattle.iox2_pubsub.specs.Handles.{subscriber_id};
 
     ghost is_live = { IsLiveSubscriber };
 
     ghost live_stays = { λ old new subscriber stays live. stays.subscribers (subscriber_key subscriber) live tt };
 
-    ghost updates = { λ s subscriber s' failure. UpdateSubscriber fixed_handlers s subscriber.id s' failure };
+    ghost updates = { λ s subscriber s' failure. UpdateSubscriber fixed_handlers s (subscriber_id subscriber) s' failure };
+
+    ghost is_updated = { IsUpToDate };
 
     ghost adds = { λ domain. 0 };
 
@@ -30,15 +31,5 @@ impl<T: Drop, U: Default + Drop, F: BackpressureFn, G: DegradationFn> UpdateConn
             unreachable!()
         };
         outcome_of(update_subscriber(&mut domain.state, place))
-    }
-}
-
-// What an update with this failure, if any, returns.
-fn outcome_of(failure: Option<ConnectionFailure>) -> Result<(), ConnectionFailure>
-    ensures { failure_of result ≡ failure }
-{
-    match failure {
-        Some(failure) => Err(failure),
-        None => Ok(()),
     }
 }

@@ -2,7 +2,6 @@
 ghost use Rattle.std.specs.declared.option.Option.TheVariants.{None};
 ghost use Rattle.iox2_store.specs.machine.Environments.{fixed_handlers};
 ghost use Rattle.iox2_store.specs.declared.allocation.AllocationStrategy.TheVariants.{Static};
-ghost use Rattle.iox2_store.specs.declared.degradation.DegradationAction.TheVariants.{Warn};
 ghost use Rattle.iox2_runs.specs.Leaves.{Leaves};
 ghost use Rattle.iox2_runs.specs.Carries.{IsLiveTable, Carries, defaults_of};
 ghost use Rattle.iox2_commands.specs.declared.command.Command.TheVariants.{CreatePublisher, CreateSubscriber};
@@ -10,11 +9,14 @@ ghost use Rattle.iox2_commands.specs.declared.command.Command.TheVariants.{Creat
 use super::made::Made;
 use super::publishers::make_publisher;
 use iox2_commands::Reply;
-use iox2_pubsub::Domain;
-use iox2_store::{BackpressureAction, BackpressureFn, BackpressureStrategy, DegradationFn};
+use iox2_pubsub::{DegradationHandler, Domain};
+use iox2_store::{
+    BackpressureAction, BackpressureFn, BackpressureStrategy, DegradationAction, DegradationFn,
+};
 
-/// Makes a publisher with so many loans, with that strategy, for slices up to that length, and with a
-/// handler that answers so where there is one, and returns it too.
+/// Makes a publisher with so many loans, with that strategy, for slices up to that length, with that
+/// answer to a refused connection, and with a handler that answers so where there is one, and returns
+/// it too.
 pub(crate) fn create_publisher<
     T: Default + Drop,
     U: Default + Drop,
@@ -26,14 +28,15 @@ pub(crate) fn create_publisher<
     loans: usize,
     strategy: BackpressureStrategy,
     len: usize,
+    degradation: DegradationAction,
     backpressure: Option<BackpressureAction>,
 ) -> (Reply<T, U>, Made)
     requires { IsLiveTable domain.old table.now }
     ensures carries { Carries fixed_handlers (defaults_of T.is_default U.is_default) domain.old domain.new table.now
-        (CreatePublisher loans strategy Static len None Warn backpressure) result.0 table.now result.1 }
+        (CreatePublisher loans strategy Static len None degradation backpressure) result.0 table.now result.1 }
     ensures leaves { Leaves domain.old domain.new table.now table.now result.1 }
 {
-    match make_publisher(domain, loans, strategy, len, backpressure) {
+    match make_publisher(domain, loans, strategy, len, degradation, backpressure) {
         Ok(publisher) => (
             Reply::PublisherMade(publisher.id()),
             Made::Publisher(publisher),
@@ -42,19 +45,27 @@ pub(crate) fn create_publisher<
     }
 }
 
-/// Makes a subscriber with that buffer, or with the largest, and returns it too.
+/// Makes a subscriber with that buffer, or with the largest, and that answer to a refused connection,
+/// and returns it too.
 pub(crate) fn create_subscriber<
     T: Default + Drop,
     U: Default + Drop,
     F: BackpressureFn,
     G: DegradationFn,
->(domain: &mut Domain<T, U, F, G>, table: &[Made], buffer: Option<usize>) -> (Reply<T, U>, Made)
+>(
+    domain: &mut Domain<T, U, F, G>,
+    table: &[Made],
+    buffer: Option<usize>,
+    degradation: DegradationAction,
+) -> (Reply<T, U>, Made)
     requires { IsLiveTable domain.old table.now }
     ensures carries { Carries fixed_handlers (defaults_of T.is_default U.is_default) domain.old domain.new table.now
-        (CreateSubscriber buffer Warn) result.0 table.now result.1 }
+        (CreateSubscriber buffer degradation) result.0 table.now result.1 }
     ensures leaves { Leaves domain.old domain.new table.now table.now result.1 }
 {
-    let factory = domain.subscriber_builder();
+    let factory = domain
+        .subscriber_builder()
+        .set_degradation_handler(DegradationHandler::Fixed(degradation));
     let factory = match buffer {
         Some(size) => factory.buffer_size(size),
         None => factory,

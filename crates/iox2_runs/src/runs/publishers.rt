@@ -5,33 +5,34 @@ ghost use Rattle.iox2_store.specs.machine.Environments.{fixed_handlers};
 ghost use Rattle.iox2_store.specs.machine.Ports.{CreatePublisher};
 ghost use Rattle.iox2_store.specs.machine.State.{State, Messages};
 ghost use Rattle.iox2_store.specs.declared.allocation.AllocationStrategy.TheVariants.{Static};
-ghost use Rattle.iox2_store.specs.declared.degradation.DegradationAction.TheVariants.{Warn};
 ghost use Rattle.iox2_domain.specs.Handlers.{fixed_handler};
 ghost use Rattle.iox2_domain.specs.NewPublisher.{static_publisher};
 ghost use Rattle.iox2_domain.specs.Shows.{Shows};
 ghost use Rattle.iox2_pubsub.specs.Live.{IsNewIn, IsReadyPublisher, Stays, publisher_port};
 ghost use Rattle.iox2_commands.specs.Step.{publisher_settings};
 
-use iox2_pubsub::{Domain, PortFactoryPublisher, Publisher, slice};
+use iox2_pubsub::{DegradationHandler, Domain, PortFactoryPublisher, Publisher, slice};
 use iox2_store::{
-    BackpressureAction, BackpressureFn, BackpressureHandler, BackpressureStrategy, DegradationFn,
-    PublisherCreateError, TypeVariant,
+    BackpressureAction, BackpressureFn, BackpressureHandler, BackpressureStrategy,
+    DegradationAction, DegradationFn, PublisherCreateError, TypeVariant,
 };
 
-// A factory of publishers of single values, with so many loans, which follow the strategy, or the
-// handler with that answer where there is one.
+// A factory of publishers of single values, with so many loans and that answer to a refused
+// connection, which follow the strategy, or the handler with that answer where there is one.
 fn value_factory<T: Drop, U: Default + Drop, F: BackpressureFn, G: DegradationFn>(
     domain: &Domain<T, U, F, G>,
     loans: usize,
     strategy: BackpressureStrategy,
+    degradation: DegradationAction,
     backpressure: Option<BackpressureAction>,
 ) -> PortFactoryPublisher<F>
-    ensures { result.settings ≡ static_publisher loans strategy (fixed_handler backpressure) 1 }
+    ensures { result.settings ≡ static_publisher (record { max_loaned_samples = loans; strategy = strategy; degradation = degradation; initial_max_slice_len = 1 }) (fixed_handler backpressure) }
 {
     let factory = domain
         .publisher_builder()
         .max_loaned_samples(loans)
-        .backpressure_strategy(strategy);
+        .backpressure_strategy(strategy)
+        .set_degradation_handler(DegradationHandler::Fixed(degradation));
     match backpressure {
         Some(action) => factory.set_backpressure_handler(BackpressureHandler::Fixed(action)),
         None => factory,
@@ -44,45 +45,49 @@ fn slice_factory<T: Drop, U: Default + Drop, F: BackpressureFn, G: DegradationFn
     loans: usize,
     strategy: BackpressureStrategy,
     len: usize,
+    degradation: DegradationAction,
     backpressure: Option<BackpressureAction>,
 ) -> slice::PortFactoryPublisher<F>
-    ensures { result.settings ≡ static_publisher loans strategy (fixed_handler backpressure) len }
+    ensures { result.settings ≡ static_publisher (record { max_loaned_samples = loans; strategy = strategy; degradation = degradation; initial_max_slice_len = len }) (fixed_handler backpressure) }
 {
     let factory = domain
         .slice_publisher_builder()
         .max_loaned_samples(loans)
         .backpressure_strategy(strategy)
-        .initial_max_slice_len(len);
+        .initial_max_slice_len(len)
+        .set_degradation_handler(DegradationHandler::Fixed(degradation));
     match backpressure {
         Some(action) => factory.set_backpressure_handler(BackpressureHandler::Fixed(action)),
         None => factory,
     }
 }
 
-/// Makes a publisher with so many loans, which follows the strategy, or the handler with that answer
-/// where there is one. Where messages are slices, each of its loans may have so many elements.
+/// Makes a publisher with so many loans and that answer to a refused connection, which follows the
+/// strategy, or the handler with that answer where there is one. Where messages are slices, each of
+/// its loans may have so many elements.
 pub(crate) fn make_publisher<T: Drop, U: Default + Drop, F: BackpressureFn, G: DegradationFn>(
     domain: &mut Domain<T, U, F, G>,
     loans: usize,
     strategy: BackpressureStrategy,
     len: usize,
+    degradation: DegradationAction,
     backpressure: Option<BackpressureAction>,
 ) -> Result<Publisher, PublisherCreateError>
     ensures creates { (m : Messages T U) (s : State T U) → Shows domain.old m s → (s' : State T U) × Shows domain.new m s'
         × MatchResult result
         (λ publisher. (publisher.id ≡ s.next_port)
-        × CreatePublisher fixed_handlers s (publisher_settings (s.config).variant loans strategy Static len None Warn backpressure) s' None)
-        (λ e. CreatePublisher fixed_handlers s (publisher_settings (s.config).variant loans strategy Static len None Warn backpressure) s' (Some e)) }
+        × CreatePublisher fixed_handlers s (publisher_settings (s.config).variant loans strategy Static len None degradation backpressure) s' None)
+        (λ e. CreatePublisher fixed_handlers s (publisher_settings (s.config).variant loans strategy Static len None degradation backpressure) s' (Some e)) }
     ensures ready { IfOk result (λ publisher. IsReadyPublisher domain.new publisher) }
     ensures new { IfOk result (λ publisher. IsNewIn domain.old (publisher_port publisher)) }
     ensures stays { Stays domain.old domain.new }
 {
     match domain.variant() {
         TypeVariant::FixedSize => {
-            value_factory(domain, loans, strategy, backpressure).create(domain)
+            value_factory(domain, loans, strategy, degradation, backpressure).create(domain)
         }
         TypeVariant::Dynamic => {
-            let factory = slice_factory(domain, loans, strategy, len, backpressure);
+            let factory = slice_factory(domain, loans, strategy, len, degradation, backpressure);
             let publisher = factory.create(domain)?;
             Ok(publisher.into_inner())
         }

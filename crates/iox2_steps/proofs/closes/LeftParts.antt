@@ -23,7 +23,7 @@ use Rattle.iox2_domain.specs.Ports.{PublisherFields, SubscriberFields}
 use Rattle.iox2_domain.specs.Kept.{KeptMessage, state_of}
 use Rattle.iox2_domain.specs.Fields.{Fields, kept_of, message_in, contents_at, is_book_of}
 use Rattle.iox2_domain.specs.Shows.{KeepsEntries}
-use Rattle.iox2_domain.specs.Invariant.{IsLinked, HasExpiredRoom, NamesBooks, HasBooks, IsCounted, IsNumbered, HasNumber, HasBook, HasShapes, SenderHas, ReceiverHas, IsPlain, IsPlainSubscriber, is_publisher, is_subscriber, own_holders, holders_of, is_loan_in, details_of, connection_count, IsBookOf, IsDomain, IsDomainBut, IsGone, IsOwned, IsLeft, IsBetweenOpen}
+use Rattle.iox2_domain.specs.Invariant.{IsLinked, HasExpiredRoom, NamesBooks, HasBooks, IsCounted, IsNumbered, HasNumber, HasBook, HasShapes, SenderHas, ReceiverHas, IsPlain, is_publisher, is_subscriber, own_holders, holders_of, is_loan_in, details_of, connection_count, IsBookOf, IsDomain, IsDomainBut, IsGone, IsOwned, IsLeft, IsBetweenOpen}
 use Rattle.iox2_domain.proofs.lemmas.containers.LookUps.{map-at, viewed, look_up-removed}
 use Rattle.iox2_domain.proofs.lemmas.fields.NamedBooks.{names-books}
 use Rattle.iox2_domain.proofs.lemmas.fields.Standing.{some_is, one-publisher}
@@ -456,8 +456,6 @@ module _ {T U : Type 0} (f : Fields T U) (sound : IsDomain f) (i : ℕ) (x : Pub
       shapes = shapes;
       forms = sound.parts.forms;
       plain = plain;
-      plain_subscribers = λ k y at_y. let was = subscriber-was k y at_y in
-          subst IsPlainSubscriber (sym was.2) (record { degradation = (sound.parts.plain_subscribers k was.0 was.1).degradation });
     };
     lone = lone-counters f.books x.book b holders at sound.lone fewer;
     kept_books = kept;

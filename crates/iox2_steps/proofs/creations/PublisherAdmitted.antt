@@ -4,14 +4,11 @@ use Rattle.std.specs.declared.option.Option.{Option}
 use Rattle.std.specs.declared.option.Option.TheVariants.{None, Some}
 use Rattle.std.specs.Option.{option_map}
 use Rattle.slab.specs.Slab.{Slab}
-use Rattle.iox2_store.specs.declared.backpressure.BackpressureAction.{BackpressureAction}
-use Rattle.iox2_store.specs.declared.backpressure.BackpressureStrategy.{BackpressureStrategy}
-use Rattle.iox2_store.specs.machine.Limits.{worst_case}
 use Rattle.iox2_store.specs.machine.Numbers.{put_at}
-use Rattle.iox2_store.specs.machine.Records.{Handler}
+use Rattle.iox2_store.specs.machine.Records.{PublisherSettings}
 use Rattle.iox2_store.specs.machine.Places.{occupant, set_place}
 use Rattle.iox2_store.specs.machine.State.{State}
-use Rattle.iox2_store.specs.machine.Ports.{new_publisher, with_new_publisher}
+use Rattle.iox2_store.specs.machine.Ports.{new_publisher, slots_for, with_new_publisher}
 use Rattle.iox2_slots.specs.SlotBook.{Book}
 use Rattle.iox2_contents.specs.SlotContents.{ContentState}
 use Rattle.iox2_laws.proofs.PortLaws.{new_publisher_keeps}
@@ -19,7 +16,7 @@ use Rattle.iox2_domain.specs.Ports.{PublisherFields, slot_length}
 use Rattle.iox2_domain.specs.Kept.{Named, state_of, ids}
 use Rattle.iox2_domain.specs.Fields.{Fields, kept_of, publisher_of}
 use Rattle.iox2_domain.specs.Invariant.{HasForms, IsDomain, HasPublisherRoom}
-use Rattle.iox2_domain.specs.NewPublisher.{BookEnters, static_publisher}
+use Rattle.iox2_domain.specs.NewPublisher.{BookEnters, IsForOneSegment}
 use Rattle.iox2_domain.specs.Reaches.{Reaches}
 use Rattle.iox2_steps.proofs.creations.SubscribersDue.{with_subscribers_due, subscribers_due-are, subscribers_due-agree}
 use Rattle.iox2_steps.proofs.creations.PublisherEntered.{PublisherEnters, with_entered_publisher, newcomer, entered-is}
@@ -34,40 +31,40 @@ module _ {T U : Type 0} (f : Fields T U) where
   occupant-free (x ∷ xs) zero free = ap (λ o. option_map (λ (z : Named _). z.id) (option_map (publisher_of f.books f.connections) o)) free
   occupant-free (x ∷ xs) (suc place) free = occupant-free xs place free
 
-module _ {T U : Type 0} (f : Fields T U) (sound : IsDomain f) (place loans : ℕ) (strategy : BackpressureStrategy) (handler : Option (Handler BackpressureAction)) (len loan_room key_room key : ℕ) (books : Slab Book) (contents : List (Option (List (ContentState T U))))
+module _ {T U : Type 0} (f : Fields T U) (sound : IsDomain f) (place : ℕ) (given : PublisherSettings) (plain : IsForOneSegment given) (loan_room key_room key : ℕ) (books : Slab Book) (contents : List (Option (List (ContentState T U))))
     (free : get_or f.publishers place None ≡ None)
-    (book : BookEnters f.next_port (worst_case f.config loans) (slot_length len * (f.config).units_per_element) key f.books f.contents books contents) (forms : HasForms f.config contents) where
+    (book : BookEnters f.next_port (slots_for f.config given) (slot_length given.initial_max_slice_len * (f.config).units_per_element) key f.books f.contents books contents) (forms : HasForms f.config contents) where
   -- the new publisher among the fields whose subscribers are due
-  abbrev pub enters : PublisherEnters (with_subscribers_due f) place loans strategy handler len loan_room key_room key books contents
-  enters = record { sound = subscribers_due-agree f sound; free = free; book = book; forms = forms }
+  abbrev pub enters : PublisherEnters (with_subscribers_due f) place given loan_room key_room key books contents
+  enters = record { sound = subscribers_due-agree f sound; free = free; plain = plain; book = book; forms = forms }
 
   -- the fields with every subscriber due, and with the new publisher
   abbrev pub with_admitted : Fields T U
-  with_admitted = with_entered_publisher (with_subscribers_due f) place loans strategy handler len loan_room key_room key books contents enters
+  with_admitted = with_entered_publisher (with_subscribers_due f) place given loan_room key_room key books contents enters
 
   -- the machine's step
-  pub admitted-is : state_of (kept_of with_admitted) ≡ with_new_publisher (state_of (kept_of f)) (static_publisher loans strategy handler len) place
+  pub admitted-is : state_of (kept_of with_admitted) ≡ with_new_publisher (state_of (kept_of f)) given place
   admitted-is =
-      entered-is (with_subscribers_due f) place loans strategy handler len loan_room key_room key books contents enters
+      entered-is (with_subscribers_due f) place given loan_room key_room key books contents enters
       ∙ ap (λ (s : State T U). record s {
         next_port = f.next_port + 1;
-        publishers = put_at s.publishers f.next_port (Some (new_publisher s (static_publisher loans strategy handler len) place));
+        publishers = put_at s.publishers f.next_port (Some (new_publisher s given place));
         publisher_places = set_place s.publisher_places place (Some f.next_port);
       }) (subscribers_due-are f)
 
   -- the invariant is kept
-  pub admitted-agrees : HasPublisherRoom f.config (newcomer (with_subscribers_due f) place loans strategy handler len loan_room key_room key books contents enters)
+  pub admitted-agrees : HasPublisherRoom f.config (newcomer (with_subscribers_due f) place given loan_room key_room key books contents enters)
       → place < (f.config).max_publishers → place ≤ length f.publishers → IsDomain with_admitted
   admitted-agrees rooms low next =
-      entered-agrees (with_subscribers_due f) place loans strategy handler len loan_room key_room key books contents enters rooms next
-      (rw admitted-is (new_publisher_keeps (state_of (kept_of f)) sound.well_formed (static_publisher loans strategy handler len) place low (occupant-free f f.publishers place free)))
+      entered-agrees (with_subscribers_due f) place given loan_room key_room key books contents enters rooms next
+      (rw admitted-is (new_publisher_keeps (state_of (kept_of f)) sound.well_formed given place low (occupant-free f f.publishers place free)))
 
   -- all that the step comes to
-  pub admitted-reaches : HasPublisherRoom f.config (newcomer (with_subscribers_due f) place loans strategy handler len loan_room key_room key books contents enters)
+  pub admitted-reaches : HasPublisherRoom f.config (newcomer (with_subscribers_due f) place given loan_room key_room key books contents enters)
       → place < (f.config).max_publishers → place ≤ length f.publishers
-      → Reaches f with_admitted (with_new_publisher (state_of (kept_of f)) (static_publisher loans strategy handler len) place)
+      → Reaches f with_admitted (with_new_publisher (state_of (kept_of f)) given place)
   admitted-reaches rooms low next = record {
     agrees = admitted-agrees rooms low next;
     state = admitted-is;
-    entries = λ n entry at. sym (entries_same (with_subscribers_due f) place loans strategy handler len loan_room key_room key books contents enters n) ∙ at;
+    entries = λ n entry at. sym (entries_same (with_subscribers_due f) place given loan_room key_room key books contents enters n) ∙ at;
   }

@@ -7,15 +7,13 @@ use Rattle.std.specs.declared.option.Option.{Option}
 use Rattle.std.specs.declared.option.Option.TheVariants.{None, Some}
 use Rattle.std.specs.declared.result.Result.TheVariants.{Ok, Err}
 use Rattle.std.specs.Option.{option_map}
-use Rattle.iox2_store.specs.declared.backpressure.BackpressureAction.{BackpressureAction}
-use Rattle.iox2_store.specs.declared.backpressure.BackpressureStrategy.{BackpressureStrategy}
 use Rattle.iox2_store.specs.machine.Connections.{ForEachPlace}
 use Rattle.iox2_store.specs.machine.Limits.{last_number}
 use Rattle.iox2_store.specs.machine.Numbers.{put_at}
 use Rattle.iox2_store.specs.machine.Places.{free_place, lowest_free}
 use Rattle.iox2_store.specs.machine.Ports.{first_segment_fits, with_new_publisher, with_failure_warning, CreatePublisher, MakePublisher, FirstPublisherUpdate}
 use Rattle.iox2_store.specs.machine.PublisherUpdate.{SenderSide, UpdatePublisher, UpdateSenderPlace, sender_side, with_sender_side}
-use Rattle.iox2_store.specs.machine.Records.{Publisher, PublisherSettings, Handler, Environment}
+use Rattle.iox2_store.specs.machine.Records.{Publisher, PublisherSettings, Environment}
 use Rattle.iox2_store.specs.machine.SingleCalls.{HoldsPublisher}
 use Rattle.iox2_store.specs.machine.State.{State, receiving_buffer, has_receiver_end}
 use Rattle.iox2_store.specs.declared.errors.ConnectionFailure.{ConnectionFailure}
@@ -25,7 +23,9 @@ use Rattle.iox2_store.specs.declared.warning.Warning.{Warning}
 use Rattle.iox2_store.specs.declared.warning.Warning.TheVariants.{PublisherPartlyConnected}
 use Rattle.iox2_domain.specs.Kept.{Named, state_of}
 use Rattle.iox2_domain.specs.Fields.{Fields, kept_of, publisher_of}
-use Rattle.iox2_domain.specs.NewPublisher.{static_publisher, place_for_publisher}
+use Rattle.iox2_domain.specs.FirstUpdates.{PublisherFirstUpdates}
+use Rattle.iox2_domain.specs.NewPublisher.{place_for_publisher}
+use Rattle.iox2_domain.specs.Ports.{PublisherFields}
 use Rattle.iox2_domain.specs.Placed.{lowest_empty}
 use Rattle.iox2_domain.specs.Reaches.{Reaches}
 use Rattle.iox2_domain.proofs.lemmas.containers.FreePlaces.{lowest_free-ids, lowest_empty-map}
@@ -35,7 +35,7 @@ use Rattle.iox2_steps.proofs.creations.SubscriberCreations.{KeepsLoans}
 
 -- ---- refused or made
 
-module _ {T U : Type 0} (f : Fields T U) (loans : ℕ) (strategy : BackpressureStrategy) (handler : Option (Handler BackpressureAction)) (len : ℕ) (environment : Environment) where
+module _ {T U : Type 0} (f : Fields T U) (given : PublisherSettings) (environment : Environment) where
   abbrev shown : State T U
   shown = state_of (kept_of f)
 
@@ -44,7 +44,7 @@ module _ {T U : Type 0} (f : Fields T U) (loans : ℕ) (strategy : BackpressureS
   Created a b c p s' refusal =
       MatchBool a ((s' ≡ shown) × (refusal ≡ Some UnableToCreatePortTag))
       (MatchOption (cond b (Some p) None) ((s' ≡ shown) × (refusal ≡ Some ExceedsMaxSupportedPublishers)) (λ place.
-      MatchBool c (MakePublisher environment shown (static_publisher loans strategy handler len) place s' refusal)
+      MatchBool c (MakePublisher environment shown given place s' refusal)
       ((s' ≡ shown) × (refusal ≡ Some UnableToCreateDataSegment))))
 
   -- the machine's lowest free place
@@ -54,14 +54,14 @@ module _ {T U : Type 0} (f : Fields T U) (loans : ℕ) (strategy : BackpressureS
       ∙ lowest_empty-map (publisher_of f.books f.connections) f.publishers
 
   created : (s' : State T U) (refusal : Option PublisherCreateError)
-      → Created (f.next_port == last_number) (nat_lt (lowest_empty f.publishers) (f.config).max_publishers) (first_segment_fits f.config (static_publisher loans strategy handler len)) (lowest_empty f.publishers) s' refusal
-      → CreatePublisher environment shown (static_publisher loans strategy handler len) s' refusal
+      → Created (f.next_port == last_number) (nat_lt (lowest_empty f.publishers) (f.config).max_publishers) (first_segment_fits f.config given) (lowest_empty f.publishers) s' refusal
+      → CreatePublisher environment shown given s' refusal
   created s' refusal h = subst
-      (λ (p : ℕ). Created (f.next_port == last_number) (nat_lt p (f.config).max_publishers) (first_segment_fits f.config (static_publisher loans strategy handler len)) p s' refusal)
+      (λ (p : ℕ). Created (f.next_port == last_number) (nat_lt p (f.config).max_publishers) (first_segment_fits f.config given) p s' refusal)
       (sym lowest-is) h
 
   -- one that has no place is refused, and the state stays
-  pub created-refused : (e : PublisherCreateError) → place_for_publisher f ≡ Err e → CreatePublisher environment shown (static_publisher loans strategy handler len) shown (Some e)
+  pub created-refused : (e : PublisherCreateError) → place_for_publisher f ≡ Err e → CreatePublisher environment shown given shown (Some e)
   created-refused e h = created shown (Some e) (by _ _ _ h) where
     by : (a b c : Bool) → cond a (Err UnableToCreatePortTag) (cond b (Ok (lowest_empty f.publishers)) (Err ExceedsMaxSupportedPublishers)) ≡ Err e
         → Created a b c (lowest_empty f.publishers) shown (Some e)
@@ -70,8 +70,8 @@ module _ {T U : Type 0} (f : Fields T U) (loans : ℕ) (strategy : BackpressureS
     by false true c h = absurd cc
 
   -- so is one whose first segment doesn't fit
-  pub created-unfit : (place : ℕ) → place_for_publisher f ≡ Ok place → (IsTrue (first_segment_fits f.config (static_publisher loans strategy handler len)) → ⊥)
-      → CreatePublisher environment shown (static_publisher loans strategy handler len) shown (Some UnableToCreateDataSegment)
+  pub created-unfit : (place : ℕ) → place_for_publisher f ≡ Ok place → (IsTrue (first_segment_fits f.config given) → ⊥)
+      → CreatePublisher environment shown given shown (Some UnableToCreateDataSegment)
   created-unfit place h unfit =
       let has = has_place f place h in
       created shown (Some UnableToCreateDataSegment) (by _ _ _ has.numbered has.low (false_from_ne_true _ unfit))
@@ -80,13 +80,13 @@ module _ {T U : Type 0} (f : Fields T U) (loans : ℕ) (strategy : BackpressureS
       by a b c ea eb ec = rw (ea, eb, ec) (refl, refl)
 
   -- one that has a place, and whose first segment fits, is made there, or memory is refused
-  pub created-made : (place : ℕ) (s' : State T U) (refusal : Option PublisherCreateError) → place_for_publisher f ≡ Ok place → IsTrue (first_segment_fits f.config (static_publisher loans strategy handler len))
-      → MakePublisher environment shown (static_publisher loans strategy handler len) place s' refusal → CreatePublisher environment shown (static_publisher loans strategy handler len) s' refusal
+  pub created-made : (place : ℕ) (s' : State T U) (refusal : Option PublisherCreateError) → place_for_publisher f ≡ Ok place → IsTrue (first_segment_fits f.config given)
+      → MakePublisher environment shown given place s' refusal → CreatePublisher environment shown given s' refusal
   created-made place s' refusal h fits made =
       let has = has_place f place h in
       created s' refusal (by _ _ _ has.numbered has.low fits (rw has.lowest made))
     where
-      by : (a b c : Bool) → a ≡ false → b ≡ true → c ≡ true → MakePublisher environment shown (static_publisher loans strategy handler len) (lowest_empty f.publishers) s' refusal
+      by : (a b c : Bool) → a ≡ false → b ≡ true → c ≡ true → MakePublisher environment shown given (lowest_empty f.publishers) s' refusal
           → Created a b c (lowest_empty f.publishers) s' refusal
       by a b c ea eb ec made = rw (ea, eb, ec) made
 
@@ -181,13 +181,13 @@ module _ {T U : Type 0} (environment : Environment) where
 
 -- ---- the first update of one that was made
 
-module _ {T U : Type 0} (f : Fields T U) (loans : ℕ) (strategy : BackpressureStrategy) (handler : Option (Handler BackpressureAction)) (len : ℕ) (environment : Environment) where
-  -- it is made at the place, with an update that doesn't fail
-  pub created-updated : (g h : Fields T U) (place : ℕ) (s' : State T U) → place_for_publisher f ≡ Ok place → IsTrue (first_segment_fits f.config (static_publisher loans strategy handler len))
-      → Reaches f g (with_new_publisher (state_of (kept_of f)) (static_publisher loans strategy handler len) place)
-      → UpdatePublisher environment (state_of (kept_of g)) f.next_port s' None → Reaches g h s'
-      → (t : State T U) × CreatePublisher environment (state_of (kept_of f)) (static_publisher loans strategy handler len) t None × Reaches f h t
-  created-updated g h place s' has fits entered updated reached =
-      let first : FirstPublisherUpdate environment (with_new_publisher (state_of (kept_of f)) (static_publisher loans strategy handler len) place) f.next_port s' =
-      (s', None, subst (λ (s : State T U). UpdatePublisher environment s f.next_port s' None) entered.state updated, refl) in
-      (s', created-made f loans strategy handler len environment place s' None has fits first, reaches-then f g h _ s' entered reached)
+module _ {T U : Type 0} (f : Fields T U) (given : PublisherSettings) (environment : Environment) where
+  -- it is made at the place, and a failure of its first update is a warning
+  pub created-updated : (g h : Fields T U) (place : ℕ) → place_for_publisher f ≡ Ok place → IsTrue (first_segment_fits f.config given)
+      → Reaches f g (with_new_publisher (state_of (kept_of f)) given place) → (x : PublisherFields) → x.id ≡ f.next_port → PublisherFirstUpdates environment g place x h
+      → (t : State T U) × CreatePublisher environment (state_of (kept_of f)) given t None × Reaches f h t
+  created-updated g h place has fits entered x its updated =
+      let first : FirstPublisherUpdate environment (with_new_publisher (state_of (kept_of f)) given place) f.next_port updated.after =
+      subst (λ (p : ℕ). FirstPublisherUpdate environment (with_new_publisher (state_of (kept_of f)) given place) p updated.after) its
+      (subst (λ (s : State T U). FirstPublisherUpdate environment s x.id updated.after) entered.state updated.updates) in
+      (updated.after, created-made f given environment place updated.after None has fits first, reaches-then f g h _ updated.after entered updated.reaches)

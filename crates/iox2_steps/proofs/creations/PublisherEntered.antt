@@ -6,13 +6,10 @@ use Rattle.std.specs.declared.option.Option.TheVariants.{None, Some}
 use Rattle.std.specs.Option.{option_map, option_and_then}
 use Rattle.slab.specs.Slab.{Slab}
 use Rattle.circular_buffer.specs.Buffer.{buffer}
-use Rattle.iox2_store.specs.declared.backpressure.BackpressureAction.{BackpressureAction}
-use Rattle.iox2_store.specs.declared.backpressure.BackpressureStrategy.{BackpressureStrategy}
-use Rattle.iox2_store.specs.machine.Limits.{worst_case}
 use Rattle.iox2_store.specs.machine.Numbers.{put_at}
 use Rattle.iox2_store.specs.machine.Places.{set_place}
-use Rattle.iox2_store.specs.machine.Records.{Publisher, Handler}
-use Rattle.iox2_store.specs.machine.Ports.{new_publisher}
+use Rattle.iox2_store.specs.machine.Records.{Publisher, PublisherSettings}
+use Rattle.iox2_store.specs.machine.Ports.{new_publisher, slots_for}
 use Rattle.iox2_slots.specs.SlotBook.{Book}
 use Rattle.iox2_contents.specs.SlotContents.{ContentState}
 use Rattle.iox2_store.specs.machine.Mailbox.{Mailbox}
@@ -23,25 +20,26 @@ use Rattle.iox2_domain.specs.Kept.{Named, Between, state_of, port_named, ids, is
 use Rattle.iox2_domain.specs.Fields.{Fields, kept_of, publisher_of}
 use Rattle.iox2_domain.specs.Invariant.{IsDomain, HasForms, is_publisher}
 use Rattle.iox2_domain.specs.Placed.{placed}
-use Rattle.iox2_domain.specs.NewPublisher.{BookEnters, entering_publisher, static_publisher}
+use Rattle.iox2_domain.specs.NewPublisher.{BookEnters, IsForOneSegment, entering_publisher}
 use Rattle.iox2_domain.proofs.lemmas.containers.LookUps.{look_up-map, look_up-written, IsOnly-inserted}
 use Rattle.iox2_domain.proofs.lemmas.containers.Placed.{placed-here, placed-others, map-placed, placed-ids}
 use Rattle.iox2_domain.proofs.lemmas.slots.NewBook.{messages-same, publishers-shown, connections-shown}
 use mathlib.Core.Path.{fun_ext}
 
--- A new publisher enters these fields at the place, with so many slots for messages of so many elements, and the book at the key.
-pub record PublisherEnters {T U : Type 0} (f : Fields T U) (place loans : ℕ) (strategy : BackpressureStrategy) (handler : Option (Handler BackpressureAction)) (len loan_room key_room key : ℕ)
+-- A new publisher with these settings enters these fields at the place, with the book at the key.
+pub record PublisherEnters {T U : Type 0} (f : Fields T U) (place : ℕ) (given : PublisherSettings) (loan_room key_room key : ℕ)
     (books : Slab Book) (contents : List (Option (List (ContentState T U)))) : Type 0 where
   pub sound : IsDomain f
   pub free : get_or f.publishers place None ≡ None
-  pub book : BookEnters f.next_port (worst_case f.config loans) (slot_length len * (f.config).units_per_element) key f.books f.contents books contents
+  pub plain : IsForOneSegment given
+  pub book : BookEnters f.next_port (slots_for f.config given) (slot_length given.initial_max_slice_len * (f.config).units_per_element) key f.books f.contents books contents
   pub forms : HasForms f.config contents
 
-module _ {T U : Type 0} (f : Fields T U) (place loans : ℕ) (strategy : BackpressureStrategy) (handler : Option (Handler BackpressureAction)) (len loan_room key_room key : ℕ) (books : Slab Book) (contents : List (Option (List (ContentState T U))))
-    (enters : PublisherEnters f place loans strategy handler len loan_room key_room key books contents) where
+module _ {T U : Type 0} (f : Fields T U) (place : ℕ) (given : PublisherSettings) (loan_room key_room key : ℕ) (books : Slab Book) (contents : List (Option (List (ContentState T U))))
+    (enters : PublisherEnters f place given loan_room key_room key books contents) where
   -- the publisher that enters
   abbrev pub newcomer : PublisherFields
-  newcomer = entering_publisher f.next_port place key loans (worst_case f.config loans) strategy handler len loan_room (buffer [] (f.config).history_size) key_room
+  newcomer = entering_publisher f.next_port place key given (slots_for f.config given) loan_room (buffer [] (f.config).history_size) key_room
 
   -- the fields with it and its book
   abbrev pub with_entered_publisher : Fields T U
@@ -90,7 +88,7 @@ module _ {T U : Type 0} (f : Fields T U) (place loans : ℕ) (strategy : Backpre
 
   -- the machine's new publisher
   abbrev made : Publisher
-  made = new_publisher (state_of (kept_of f)) (static_publisher loans strategy handler len) place
+  made = new_publisher (state_of (kept_of f)) given place
 
   -- what publishers look like with the new book
   abbrev shown : PublisherFields → Named Publisher
@@ -111,7 +109,7 @@ module _ {T U : Type 0} (f : Fields T U) (place loans : ℕ) (strategy : Backpre
       ∙ by (eqb f.next_port p) (eqb p f.next_port) (symmetric f.next_port p) (look_up (is_publisher p) f.publishers)
       ∙ ap (λ o. cond (eqb p f.next_port) (Some made) (port o)) (sym (look_up-map (is_named p) shown f.publishers))
       ∙ ap (λ xs. cond (eqb p f.next_port) (Some made) (port_named p xs))
-      (publishers-shown f enters.sound (worst_case f.config loans) (slot_length len * (f.config).units_per_element) key books contents enters.book)
+      (publishers-shown f enters.sound (slots_for f.config given) (slot_length given.initial_max_slice_len * (f.config).units_per_element) key books contents enters.book)
     where
       by : (a b : Bool) → a ≡ b → (o : Option PublisherFields)
           → port (option_map shown (cond a (Some newcomer) o)) ≡ cond b (Some made) (port (option_map shown o))
@@ -130,11 +128,11 @@ module _ {T U : Type 0} (f : Fields T U) (place loans : ℕ) (strategy : Backpre
 
     loans_same : (state_of (kept_of with_entered_publisher)).loans ≡ (state_of (kept_of f)).loans
     loans_same = fun_ext (λ n. ap (option_and_then loan_in)
-        (messages-same f enters.sound (worst_case f.config loans) (slot_length len * (f.config).units_per_element) key books contents enters.book n))
+        (messages-same f enters.sound (slots_for f.config given) (slot_length given.initial_max_slice_len * (f.config).units_per_element) key books contents enters.book n))
 
     boxes : (state_of (kept_of with_entered_publisher)).mailboxes ≡ (state_of (kept_of f)).mailboxes
     boxes = ap {B = ℕ → ℕ → Mailbox} (λ (cs : List (Option Between)) (p q : ℕ). box_if_any (look_up (stands_between p q) cs))
-        (connections-shown f enters.sound (worst_case f.config loans) (slot_length len * (f.config).units_per_element) key books contents enters.book)
+        (connections-shown f enters.sound (slots_for f.config given) (slot_length given.initial_max_slice_len * (f.config).units_per_element) key books contents enters.book)
 
     places : (state_of (kept_of with_entered_publisher)).publisher_places ≡ set_place (state_of (kept_of f)).publisher_places place (Some f.next_port)
     places =
@@ -142,4 +140,4 @@ module _ {T U : Type 0} (f : Fields T U) (place loans : ℕ) (strategy : Backpre
         ∙ map-placed (shown newcomer) (λ (z : Named Publisher). z.id) (map (option_map shown) f.publishers) place
         ∙ placed-ids f.next_port (ids (map (option_map shown) f.publishers)) place
         ∙ ap (λ xs. set_place (ids xs) place (Some f.next_port))
-        (publishers-shown f enters.sound (worst_case f.config loans) (slot_length len * (f.config).units_per_element) key books contents enters.book)
+        (publishers-shown f enters.sound (slots_for f.config given) (slot_length given.initial_max_slice_len * (f.config).units_per_element) key books contents enters.book)

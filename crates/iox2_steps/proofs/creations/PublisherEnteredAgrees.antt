@@ -7,15 +7,12 @@ use Rattle.std.specs.declared.option.Option.{Option}
 use Rattle.std.specs.declared.option.Option.TheVariants.{None, Some}
 use Rattle.std.specs.Option.{option_map_or, option_and_then}
 use Rattle.slab.specs.Slab.{Slab, get}
-use Rattle.iox2_store.specs.declared.backpressure.BackpressureAction.{BackpressureAction}
-use Rattle.iox2_store.specs.declared.backpressure.BackpressureStrategy.{BackpressureStrategy}
-use Rattle.iox2_store.specs.machine.Limits.{worst_case}
 use Rattle.iox2_slots.specs.Link.{Link}
 use Rattle.iox2_store.specs.machine.Numbers.{contains, put_at}
 use Rattle.iox2_store.specs.machine.Places.{set_place}
-use Rattle.iox2_store.specs.machine.Records.{Publisher, Handler}
+use Rattle.iox2_store.specs.machine.Records.{Publisher, PublisherSettings}
 use Rattle.iox2_store.specs.machine.State.{State}
-use Rattle.iox2_store.specs.machine.Ports.{new_publisher}
+use Rattle.iox2_store.specs.machine.Ports.{new_publisher, slots_for}
 use Rattle.iox2_slots.specs.SlotBook.{Book, holders_at}
 use Rattle.iox2_contents.specs.SlotContents.{ContentState}
 use Rattle.iox2_store.specs.machine.WellFormed.{IsWellFormed}
@@ -27,7 +24,6 @@ use Rattle.iox2_domain.specs.Kept.{state_of, entries_of, entry_in, KeptMessage}
 use Rattle.iox2_domain.specs.Fields.{Fields, kept_of, is_book_of, message_in, contents_at}
 use Rattle.iox2_domain.specs.Invariant.{IsDomain, IsBook, IsLinked, HasBook, HasBooks, KeepsBooks, HasShape, IsCounted, SenderHas, ReceiverHas, HasPublisherRoom, is_publisher, is_loan_in, holders_of, own_holders}
 use Rattle.iox2_domain.specs.Placed.{placed}
-use Rattle.iox2_domain.specs.NewPublisher.{static_publisher}
 use Rattle.iox2_store.specs.Stored.{IsHeldMessage, In_history, In_mailbox, In_blocked_send}
 use Rattle.iox2_domain.proofs.lemmas.fields.KeptBooks.{StoodOrEnters, kept-publishers}
 use Rattle.iox2_domain.proofs.lemmas.fields.NamedBooks.{names-books}
@@ -43,28 +39,28 @@ length-replicate : (n : ℕ) → length (replicate {A = ℕ} n 0) ≡ n
 length-replicate zero = refl
 length-replicate (suc n) = ap suc (length-replicate n)
 
-module _ {T U : Type 0} (f : Fields T U) (place loans : ℕ) (strategy : BackpressureStrategy) (handler : Option (Handler BackpressureAction)) (len loan_room key_room key : ℕ) (books : Slab Book) (contents : List (Option (List (ContentState T U))))
-    (enters : PublisherEnters f place loans strategy handler len loan_room key_room key books contents) where
+module _ {T U : Type 0} (f : Fields T U) (place : ℕ) (given : PublisherSettings) (loan_room key_room key : ℕ) (books : Slab Book) (contents : List (Option (List (ContentState T U))))
+    (enters : PublisherEnters f place given loan_room key_room key books contents) where
   abbrev new : PublisherFields
-  new = newcomer f place loans strategy handler len loan_room key_room key books contents enters
+  new = newcomer f place given loan_room key_room key books contents enters
 
   abbrev after : Fields T U
-  after = with_entered_publisher f place loans strategy handler len loan_room key_room key books contents enters
+  after = with_entered_publisher f place given loan_room key_room key books contents enters
 
   abbrev slots : ℕ
-  slots = worst_case f.config loans
+  slots = slots_for f.config given
 
   abbrev units : ℕ
   units = (f.config).units_per_element
 
   abbrev needed : ℕ
-  needed = slot_length len * units
+  needed = slot_length given.initial_max_slice_len * units
 
   was : (i : ℕ) (x : PublisherFields) → get_or (placed f.publishers place new) i None ≡ Some x → ((i ≡ place) × (x ≡ new)) ⊎ (get_or f.publishers i None ≡ Some x)
-  was i x at = stood f place loans strategy handler len loan_room key_room key books contents enters i x at
+  was i x at = stood f place given loan_room key_room key books contents enters i x at
 
   stands_still : (i : ℕ) (x : PublisherFields) → get_or f.publishers i None ≡ Some x → get_or (placed f.publishers place new) i None ≡ Some x
-  stands_still i x at = still f place loans strategy handler len loan_room key_room key books contents enters i x at
+  stands_still i x at = still f place given loan_room key_room key books contents enters i x at
 
   -- a new publisher has no connection
   unlinked : (p : ℕ) → IsSenderLinked p f.connections []
@@ -166,7 +162,7 @@ module _ {T U : Type 0} (f : Fields T U) (place loans : ℕ) (strategy : Backpre
     owns : (p slot : ℕ) → own_holders after p slot
         ≡ own slot (cond (eqb f.next_port p) (Some new) (look_up (is_publisher p) f.publishers)) (cond (eqb f.next_port p) (Some enters.book.book) (look_up (is_book_of p) f.books.slots))
     owns p slot =
-        ap (λ o. own slot o (look_up (is_book_of p) books.slots)) (publisher-found f place loans strategy handler len loan_room key_room key books contents enters p)
+        ap (λ o. own slot o (look_up (is_book_of p) books.slots)) (publisher-found f place given loan_room key_room key books contents enters p)
         ∙ ap (own slot (cond (eqb f.next_port p) (Some new) (look_up (is_publisher p) f.publishers))) (book-found f enters.sound slots needed key books contents enters.book p)
 
     by : (p slot : ℕ) (b : Bool) → eqb f.next_port p ≡ b
@@ -224,8 +220,8 @@ module _ {T U : Type 0} (f : Fields T U) (place loans : ℕ) (strategy : Backpre
     ]
 
   -- what the new publisher's id has of messages nobody held before, for it has none
-  held_by : (p : ℕ) (y : Publisher) (b : Bool) → cond b (Some (new_publisher (state_of (kept_of f)) (static_publisher loans strategy handler len) place)) ((state_of (kept_of f)).publishers p) ≡ Some y
-      → (y ≡ new_publisher (state_of (kept_of f)) (static_publisher loans strategy handler len) place) ⊎ ((state_of (kept_of f)).publishers p ≡ Some y)
+  held_by : (p : ℕ) (y : Publisher) (b : Bool) → cond b (Some (new_publisher (state_of (kept_of f)) given place)) ((state_of (kept_of f)).publishers p) ≡ Some y
+      → (y ≡ new_publisher (state_of (kept_of f)) given place) ⊎ ((state_of (kept_of f)).publishers p ≡ Some y)
   held_by p y true e = inl cc
   held_by p y false e = inr e
 
@@ -233,13 +229,13 @@ module _ {T U : Type 0} (f : Fields T U) (place loans : ℕ) (strategy : Backpre
   abbrev s' : State T U
   s' = record (state_of (kept_of f)) {
     next_port = f.next_port + 1;
-    publishers = put_at (state_of (kept_of f)).publishers f.next_port (Some (new_publisher (state_of (kept_of f)) (static_publisher loans strategy handler len) place));
+    publishers = put_at (state_of (kept_of f)).publishers f.next_port (Some (new_publisher (state_of (kept_of f)) given place));
     publisher_places = set_place (state_of (kept_of f)).publisher_places place (Some f.next_port);
   }
 
   -- who holds a message held it before
   pub held_still : (p n : ℕ) → IsHeldMessage (state_of (kept_of after)) p n → IsHeldMessage (state_of (kept_of f)) p n
-  held_still p n held = by (subst (λ (s : State T U). IsHeldMessage s p n) (entered-is f place loans strategy handler len loan_room key_room key books contents enters) held) where
+  held_still p n held = by (subst (λ (s : State T U). IsHeldMessage s p n) (entered-is f place given loan_room key_room key books contents enters) held) where
     by : IsHeldMessage s' p n → IsHeldMessage (state_of (kept_of f)) p n
     by (In_history y at is) = elim (held_by p y (eqb p f.next_port) at) [
       | inl e ↦ absurd (let no : false ≡ true = sym (ap (λ (z : Publisher). contains z.history n) e) ∙ is in cc)
@@ -259,7 +255,7 @@ module _ {T U : Type 0} (f : Fields T U) (place loans : ℕ) (strategy : Backpre
   pub entered-agrees : HasPublisherRoom f.config new → place ≤ length f.publishers → IsWellFormed (state_of (kept_of after)) → IsDomain after
   entered-agrees rooms low well = record {
     parts = record {
-      publisher_ids = ids_apart f place loans strategy handler len loan_room key_room key books contents enters;
+      publisher_ids = ids_apart f place given loan_room key_room key books contents enters;
       subscriber_ids = enters.sound.parts.subscriber_ids;
       apart = enters.sound.parts.apart;
       linked = linked;
@@ -273,8 +269,7 @@ module _ {T U : Type 0} (f : Fields T U) (place loans : ℕ) (strategy : Backpre
       warning_room = enters.sound.parts.warning_room;
       shapes = record { at = shaped };
       forms = enters.forms;
-      plain = λ i x at. elim (was i x at) [ inl e ↦ rw e.1 (record { degradation = refl; lent = λ b e. absurd cc; allocation = refl }) | inr old ↦ enters.sound.parts.plain i x old ];
-      plain_subscribers = enters.sound.parts.plain_subscribers;
+      plain = λ i x at. elim (was i x at) [ inl e ↦ rw e.1 (record { lent = λ b e. absurd cc; allocation = enters.plain.allocation }) | inr old ↦ enters.sound.parts.plain i x old ];
     };
     kept_books = kept_books;
     lone = lone-still f enters.sound slots needed key books contents enters.book;

@@ -8,11 +8,9 @@ use Rattle.std.specs.declared.result.Result.TheVariants.{Ok, Err}
 use Rattle.std.specs.Option.{option_map}
 use Rattle.slab.specs.Slab.{Slab, get, Updates}
 use Rattle.circular_buffer.specs.Buffer.{buffer}
-use Rattle.iox2_store.specs.declared.backpressure.BackpressureAction.{BackpressureAction}
-use Rattle.iox2_store.specs.declared.backpressure.BackpressureStrategy.{BackpressureStrategy}
-use Rattle.iox2_store.specs.machine.Limits.{worst_case, last_number}
-use Rattle.iox2_store.specs.machine.Ports.{with_new_publisher}
-use Rattle.iox2_store.specs.machine.Records.{Handler}
+use Rattle.iox2_store.specs.machine.Limits.{last_number}
+use Rattle.iox2_store.specs.machine.Ports.{slots_for, with_new_publisher}
+use Rattle.iox2_store.specs.machine.Records.{PublisherSettings}
 use Rattle.iox2_store.specs.SingleValues.{is_single_valued}
 use Rattle.iox2_slots.specs.SlotBook.{Book, IsAligned}
 use Rattle.iox2_contents.specs.SlotContents.{ContentState}
@@ -21,7 +19,7 @@ use Rattle.iox2_domain.specs.Ports.{PublisherFields, slot_length}
 use Rattle.iox2_domain.specs.Kept.{state_of}
 use Rattle.iox2_domain.specs.Fields.{Fields, kept_of}
 use Rattle.iox2_domain.specs.Invariant.{IsDomain, IsLinked, HasBooks, HasNumber, IsNumbered, HasForms, HasPublisherRoom}
-use Rattle.iox2_domain.specs.NewPublisher.{BookEnters, entering_publisher, static_publisher, subscriber_due, place_for_publisher}
+use Rattle.iox2_domain.specs.NewPublisher.{BookEnters, IsForOneSegment, entering_publisher, subscriber_due, place_for_publisher}
 use Rattle.iox2_domain.specs.Placed.{placed, lowest_empty}
 use Rattle.iox2_domain.specs.Reaches.{Reaches}
 use Rattle.iox2_domain.proofs.lemmas.fields.NamedBooks.{names-books}
@@ -70,7 +68,6 @@ module _ {T U : Type 0} (f : Fields T U) where
       shapes = record { at = sound.parts.shapes.at };
       forms = sound.parts.forms;
       plain = sound.parts.plain;
-      plain_subscribers = sound.parts.plain_subscribers;
     };
     kept_books = record { at = sound.kept_books.at };
     lone = record { at = sound.lone.at };
@@ -121,14 +118,14 @@ module _ {T U : Type 0} (f : Fields T U) where
   -- ---- it enters
 
   -- A publisher entered these fields, with its book and its contents.
-  pub record HasEntered (loans slots : ℕ) (strategy : BackpressureStrategy) (handler : Option (Handler BackpressureAction)) (len place : ℕ) (x : PublisherFields) (book : Book) (slot_contents : List (ContentState T U)) (books : Slab Book) (before new : Fields T U) : Type 0 where
-    pub publisher : x ≡ entering_publisher before.next_port place (before.books).vacant_key loans slots strategy handler len x.loan_room (buffer [] (before.config).history_size) x.key_room
+  pub record HasEntered (given : PublisherSettings) (slots place : ℕ) (x : PublisherFields) (book : Book) (slot_contents : List (ContentState T U)) (books : Slab Book) (before new : Fields T U) : Type 0 where
+    pub publisher : x ≡ entering_publisher before.next_port place (before.books).vacant_key given slots x.loan_room (buffer [] (before.config).history_size) x.key_room
     pub room : HasPublisherRoom before.config x
     pub is_its : book.publisher ≡ before.next_port
     pub unused : book.holders ≡ replicate slots 0
     pub aligned : IsAligned book
     pub contents_length : length slot_contents ≡ slots
-    pub contents_room : All (λ content. slot_length len * (before.config).units_per_element ≤ content.room) slot_contents
+    pub contents_room : All (λ content. slot_length given.initial_max_slice_len * (before.config).units_per_element ≤ content.room) slot_contents
     pub contents_form : is_single_valued before.config ≡ false → All (λ content. content.is_in_place ≡ false) slot_contents
     pub vacant : get before.books (before.books).vacant_key ≡ None
     pub updates : Updates before.books books (before.books).vacant_key (Some book)
@@ -140,16 +137,16 @@ module _ {T U : Type 0} (f : Fields T U) where
       contents = placed before.contents (before.books).vacant_key slot_contents;
     }
 
-  entered-reaches : IsDomain f → (new : Fields T U) (loans slots : ℕ) (strategy : BackpressureStrategy) (handler : Option (Handler BackpressureAction)) (len place : ℕ) (x : PublisherFields) (book : Book) (slot_contents : List (ContentState T U)) (books : Slab Book)
-      → place_for_publisher f ≡ Ok place → slots ≡ worst_case f.config loans → HasEntered loans slots strategy handler len place x book slot_contents books f new
-      → Reaches f new (with_new_publisher (state_of (kept_of f)) (static_publisher loans strategy handler len) place)
-  entered-reaches sound new loans slots strategy handler len place x book slot_contents books h count e =
+  entered-reaches : IsDomain f → (new : Fields T U) (given : PublisherSettings) (plain : IsForOneSegment given) (slots place : ℕ) (x : PublisherFields) (book : Book) (slot_contents : List (ContentState T U)) (books : Slab Book)
+      → place_for_publisher f ≡ Ok place → slots ≡ slots_for f.config given → HasEntered given slots place x book slot_contents books f new
+      → Reaches f new (with_new_publisher (state_of (kept_of f)) given place)
+  entered-reaches sound new given plain slots place x book slot_contents books h count e =
       let has = has_place place h in
       let free : get_or f.publishers place None ≡ None = subst (λ (p : ℕ). get_or f.publishers p None ≡ None) has.lowest (lowest_empty-free f.publishers) in
       let next : place ≤ length f.publishers = subst (λ (p : ℕ). p ≤ length f.publishers) has.lowest (lowest_empty-low f.publishers) in
       let key : ℕ = (f.books).vacant_key in
       let contents : List (Option (List (ContentState T U))) = placed f.contents key slot_contents in
-      let enters : BookEnters f.next_port (worst_case f.config loans) (slot_length len * (f.config).units_per_element) key f.books f.contents books contents = record {
+      let enters : BookEnters f.next_port (slots_for f.config given) (slot_length given.initial_max_slice_len * (f.config).units_per_element) key f.books f.contents books contents = record {
         book = book;
         vacant = e.vacant;
         updates = e.updates;
@@ -162,8 +159,8 @@ module _ {T U : Type 0} (f : Fields T U) where
         contents_length = e.contents_length ∙ count;
         has_room = e.contents_room;
       } in
-      let is : x ≡ entering_publisher f.next_port place key loans (worst_case f.config loans) strategy handler len x.loan_room (buffer [] (f.config).history_size) x.key_room =
-      e.publisher ∙ ap (λ n. entering_publisher f.next_port place key loans n strategy handler len x.loan_room (buffer [] (f.config).history_size) x.key_room) count in
+      let is : x ≡ entering_publisher f.next_port place key given (slots_for f.config given) x.loan_room (buffer [] (f.config).history_size) x.key_room =
+      e.publisher ∙ ap (λ n. entering_publisher f.next_port place key given n x.loan_room (buffer [] (f.config).history_size) x.key_room) count in
       let forms : HasForms f.config contents = record {
         at = λ several k zs there. elim (cases_eq k key) [
           | inl here ↦
@@ -173,7 +170,7 @@ module _ {T U : Type 0} (f : Fields T U) where
           | inr away ↦ sound.parts.forms.at several k zs (sym (placed-others slot_contents f.contents key k away) ∙ there)
         ];
       } in
-      let after : Fields T U = with_admitted f sound place loans strategy handler len x.loan_room x.key_room key books contents free enters forms in
+      let after : Fields T U = with_admitted f sound place given plain x.loan_room x.key_room key books contents free enters forms in
       let same : new ≡ after = e.changed ∙ ap (λ (z : PublisherFields). record f {
         next_port = f.next_port + 1;
         publishers = placed f.publishers place z;
@@ -181,17 +178,17 @@ module _ {T U : Type 0} (f : Fields T U) where
         books = books;
         contents = contents;
       }) is in
-      subst (λ (g : Fields T U). Reaches f g (with_new_publisher (state_of (kept_of f)) (static_publisher loans strategy handler len) place)) (sym same)
-      (admitted-reaches f sound place loans strategy handler len x.loan_room x.key_room key books contents free enters forms (subst (HasPublisherRoom f.config) is e.room)
+      subst (λ (g : Fields T U). Reaches f g (with_new_publisher (state_of (kept_of f)) given place)) (sym same)
+      (admitted-reaches f sound place given plain x.loan_room x.key_room key books contents free enters forms (subst (HasPublisherRoom f.config) is e.room)
       (subst (λ (p : ℕ). suc p ≤ (f.config).max_publishers) has.lowest (ltb-true _ _ has.low)) next)
 
   -- the same, where the fields are known by another name
-  pub entered-reaches-as : (before new : Fields T U) → before ≡ f → IsDomain f → (loans slots : ℕ) (strategy : BackpressureStrategy) (handler : Option (Handler BackpressureAction)) (len place : ℕ) (x : PublisherFields) (book : Book) (slot_contents : List (ContentState T U)) (books : Slab Book)
-      → place_for_publisher f ≡ Ok place → slots ≡ worst_case f.config loans → HasEntered loans slots strategy handler len place x book slot_contents books before new
-      → Reaches f new (with_new_publisher (state_of (kept_of f)) (static_publisher loans strategy handler len) place)
-  entered-reaches-as before new e sound loans slots strategy handler len place x book slot_contents books h count entered =
-      entered-reaches sound new loans slots strategy handler len place x book slot_contents books h count
-      (subst (λ (g : Fields T U). HasEntered loans slots strategy handler len place x book slot_contents books g new) e entered)
+  pub entered-reaches-as : (before new : Fields T U) → before ≡ f → IsDomain f → (given : PublisherSettings) (plain : IsForOneSegment given) (slots place : ℕ) (x : PublisherFields) (book : Book) (slot_contents : List (ContentState T U)) (books : Slab Book)
+      → place_for_publisher f ≡ Ok place → slots ≡ slots_for f.config given → HasEntered given slots place x book slot_contents books before new
+      → Reaches f new (with_new_publisher (state_of (kept_of f)) given place)
+  entered-reaches-as before new e sound given plain slots place x book slot_contents books h count entered =
+      entered-reaches sound new given plain slots place x book slot_contents books h count
+      (subst (λ (g : Fields T U). HasEntered given slots place x book slot_contents books g new) e entered)
 
   -- ---- a number for it
 

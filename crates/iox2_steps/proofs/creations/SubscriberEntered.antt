@@ -6,7 +6,7 @@ use Rattle.std.specs.declared.option.Option.TheVariants.{None, Some}
 use Rattle.std.specs.Option.{option_map}
 use Rattle.iox2_store.specs.machine.Numbers.{put_at}
 use Rattle.iox2_store.specs.machine.Places.{set_place}
-use Rattle.iox2_store.specs.machine.Records.{Subscriber}
+use Rattle.iox2_store.specs.machine.Records.{Subscriber, SubscriberSettings}
 use Rattle.iox2_store.specs.machine.Ports.{new_subscriber, buffer_for}
 use Rattle.iox2_ends.specs.LookUp.{look_up, IsOnly}
 use Rattle.iox2_laws.proofs.PortLaws.{no_subscriber_yet}
@@ -17,14 +17,13 @@ use Rattle.iox2_domain.specs.Fields.{Fields, kept_of, subscriber_of}
 use Rattle.iox2_domain.specs.Invariant.{IsDomain, is_subscriber}
 use Rattle.iox2_domain.proofs.lemmas.containers.LookUps.{look_up-map, look_up-written, IsOnly-inserted}
 use Rattle.iox2_domain.specs.Placed.{placed}
-use Rattle.iox2_domain.specs.SubscriberEntry.{asked_for}
 use Rattle.iox2_domain.proofs.lemmas.containers.Placed.{placed-here, placed-others, map-placed, placed-ids}
 use mathlib.Core.Path.{fun_ext}
 
-module _ {T U : Type 0} (f : Fields T U) (sound : IsDomain f) (warnings : WarningRing) (place asked key_room expired_room : ℕ) (free : get_or f.subscribers place None ≡ None) where
+module _ {T U : Type 0} (f : Fields T U) (sound : IsDomain f) (warnings : WarningRing) (place : ℕ) (given : SubscriberSettings) (key_room expired_room : ℕ) (free : get_or f.subscribers place None ≡ None) where
   -- the subscriber that enters
   abbrev pub newcomer : SubscriberFields
-  newcomer = entering f.next_port place (buffer_for (asked_for asked)) key_room expired_room
+  newcomer = entering f.next_port place (buffer_for given) given.degradation_handler key_room expired_room
 
   -- the fields with it
   abbrev pub with_entered_subscriber : Fields T U
@@ -67,13 +66,13 @@ module _ {T U : Type 0} (f : Fields T U) (sound : IsDomain f) (warnings : Warnin
 
   -- the subscribers by id
   named-entered : (q : ℕ) → port_named q (map (option_map (subscriber_of f.books f.connections)) (placed f.subscribers place newcomer))
-      ≡ put_at (state_of (kept_of f)).subscribers f.next_port (Some (new_subscriber (asked_for asked) place)) q
+      ≡ put_at (state_of (kept_of f)).subscribers f.next_port (Some (new_subscriber given place)) q
   named-entered q =
       ap port (look_up-map (is_named q) shown (placed f.subscribers place newcomer))
       ∙ ap (λ o. port (option_map shown o)) (look_up-written (is_subscriber q) f.subscribers (placed f.subscribers place newcomer) place newcomer (ids_apart q)
       (λ x at. absurd (let no : None ≡ Some x = sym free ∙ at in cc)) (placed-here newcomer f.subscribers place) (λ k away. placed-others newcomer f.subscribers place k away))
       ∙ by (eqb f.next_port q) (eqb q f.next_port) (symmetric f.next_port q) (look_up (is_subscriber q) f.subscribers)
-      ∙ ap (λ o. cond (eqb q f.next_port) (Some (new_subscriber (asked_for asked) place)) (port o)) (sym (look_up-map (is_named q) shown f.subscribers))
+      ∙ ap (λ o. cond (eqb q f.next_port) (Some (new_subscriber given place)) (port o)) (sym (look_up-map (is_named q) shown f.subscribers))
     where
       shown : SubscriberFields → Named Subscriber
       shown y = subscriber_of f.books f.connections y
@@ -85,7 +84,7 @@ module _ {T U : Type 0} (f : Fields T U) (sound : IsDomain f) (warnings : Warnin
       symmetric a b = grind arith
 
       by : (a b : Bool) → a ≡ b → (o : Option SubscriberFields)
-          → port (option_map shown (cond a (Some newcomer) o)) ≡ cond b (Some (new_subscriber (asked_for asked) place)) (port (option_map shown o))
+          → port (option_map shown (cond a (Some newcomer) o)) ≡ cond b (Some (new_subscriber given place)) (port (option_map shown o))
       by true b e o = rw (sym e) refl
       by false b e o = rw (sym e) refl
 
@@ -93,11 +92,11 @@ module _ {T U : Type 0} (f : Fields T U) (sound : IsDomain f) (warnings : Warnin
   pub entered-is : state_of (kept_of with_entered_subscriber) ≡ record (state_of (kept_of f)) {
     next_port = f.next_port + 1;
     warnings = warnings.items;
-    subscribers = put_at (state_of (kept_of f)).subscribers f.next_port (Some (new_subscriber (asked_for asked) place));
+    subscribers = put_at (state_of (kept_of f)).subscribers f.next_port (Some (new_subscriber given place));
     subscriber_places = set_place (state_of (kept_of f)).subscriber_places place (Some f.next_port);
   }
   entered-is = λ i. record (state_of (kept_of f)) { next_port = f.next_port + 1; warnings = warnings.items; subscribers = all i; subscriber_places = places i } where
-    all : (state_of (kept_of with_entered_subscriber)).subscribers ≡ put_at (state_of (kept_of f)).subscribers f.next_port (Some (new_subscriber (asked_for asked) place))
+    all : (state_of (kept_of with_entered_subscriber)).subscribers ≡ put_at (state_of (kept_of f)).subscribers f.next_port (Some (new_subscriber given place))
     all = fun_ext named-entered
 
     places : (state_of (kept_of with_entered_subscriber)).subscriber_places ≡ set_place (state_of (kept_of f)).subscriber_places place (Some f.next_port)

@@ -4,6 +4,7 @@ use Rattle.std.specs.declared.option.Option.{Option}
 use Rattle.std.specs.declared.option.Option.TheVariants.{None, Some}
 use Rattle.std.specs.Option.{option_map}
 use Rattle.slab.specs.Slab.{get}
+use Rattle.iox2_store.specs.machine.Records.{SubscriberSettings}
 use Rattle.iox2_store.specs.machine.Limits.{warning_limit}
 use Rattle.iox2_slots.specs.Link.{Link}
 use Rattle.iox2_store.specs.machine.WellFormed.{IsWellFormed}
@@ -27,15 +28,15 @@ nothing_at : {A : Type 0} (i : ℕ) (x : A) → get_or {A = Option A} [] i None 
 nothing_at {A} zero x e = cc
 nothing_at {A} (suc i) x e = cc
 
-module _ {T U : Type 0} (f : Fields T U) (sound : IsDomain f) (warnings : WarningRing) (place asked key_room expired_room : ℕ) (free : get_or f.subscribers place None ≡ None) where
+module _ {T U : Type 0} (f : Fields T U) (sound : IsDomain f) (warnings : WarningRing) (place : ℕ) (given : SubscriberSettings) (key_room expired_room : ℕ) (free : get_or f.subscribers place None ≡ None) where
   abbrev new : SubscriberFields
-  new = newcomer f sound warnings place asked key_room expired_room free
+  new = newcomer f sound warnings place given key_room expired_room free
 
   abbrev after : Fields T U
-  after = with_entered_subscriber f sound warnings place asked key_room expired_room free
+  after = with_entered_subscriber f sound warnings place given key_room expired_room free
 
   was : (i : ℕ) (y : SubscriberFields) → get_or (placed f.subscribers place new) i None ≡ Some y → (y ≡ new) ⊎ (get_or f.subscribers i None ≡ Some y)
-  was i y at = stood f sound warnings place asked key_room expired_room free i y at
+  was i y at = stood f sound warnings place given key_room expired_room free i y at
 
   -- a new subscriber has no connection
   unlinked : (q most : ℕ) → IsReceiverLinked q most f.connections []
@@ -62,7 +63,7 @@ module _ {T U : Type 0} (f : Fields T U) (sound : IsDomain f) (warnings : Warnin
     marked = λ key c at is. let both = sound.parts.linked.marked key c at is in record {
       sender = both.sender;
       receiver = open-still f.subscribers (placed f.subscribers place new) c
-          (λ z at_z. (z, still f sound warnings place asked key_room expired_room free c.home.subscriber_place z at_z, refl, refl)) both.receiver;
+          (λ z at_z. (z, still f sound warnings place given key_room expired_room free c.home.subscriber_place z at_z, refl, refl)) both.receiver;
     };
     knows = record { at = λ key i c d at_c at_d same. knows key i c d at_c (viewed details_of (placed f.subscribers place new) i d at_d) same };
   } where
@@ -70,7 +71,7 @@ module _ {T U : Type 0} (f : Fields T U) (sound : IsDomain f) (warnings : Warnin
     by key c (inl has) = inl has
     by key c (inr has) = inr (record {
       subscriber = has.subscriber;
-      stands = still f sound warnings place asked key_room expired_room free c.home.subscriber_place has.subscriber has.stands;
+      stands = still f sound warnings place given key_room expired_room free c.home.subscriber_place has.subscriber has.stands;
       is_its = has.is_its;
       has = has.has;
     })
@@ -125,7 +126,7 @@ module _ {T U : Type 0} (f : Fields T U) (sound : IsDomain f) (warnings : Warnin
   entered-agrees room low well = record {
     parts = record {
       publisher_ids = sound.parts.publisher_ids;
-      subscriber_ids = ids_apart f sound warnings place asked key_room expired_room free;
+      subscriber_ids = ids_apart f sound warnings place given key_room expired_room free;
       apart = sound.parts.apart;
       linked = linked;
       expired_room = expired_room-entered;
@@ -138,7 +139,6 @@ module _ {T U : Type 0} (f : Fields T U) (sound : IsDomain f) (warnings : Warnin
       shapes = record { at = sound.parts.shapes.at };
       forms = sound.parts.forms;
       plain = sound.parts.plain;
-      plain_subscribers = λ i y at. elim (was i y at) [ inl e ↦ rw e (record { degradation = refl }) | inr old ↦ sound.parts.plain_subscribers i y old ];
     };
     kept_books = kept-publishers f.next_port (f.next_port + 1) f.publishers f.publishers (omega arith)
         (λ i x at. (x, at, refl, refl)) (λ i y at. inl (y, at, refl)) f.books sound.kept_books;

@@ -140,7 +140,6 @@ module _ {T U : Type 0} (f : Fields T U) (sound : IsDomain f) (p n key slot : â„
     shapes = left-shapes f parts key at.book at.stands slot n at.loan lies alone;
     forms = sound.parts.forms;
     plain = sound.parts.plain;
-    plain_subscribers = sound.parts.plain_subscribers;
   }
 
   -- ---- the state

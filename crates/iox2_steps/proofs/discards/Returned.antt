@@ -186,7 +186,6 @@ module _ {T U : Type 0} (f : Fields T U) (sound : IsDomain f) (i : ℕ) (x : Pub
     shapes = record { at = (left-shapes f parts x.book b at slot n l lies alone).at };
     forms = parts.forms;
     plain = changed-plain f i x (with_loan_out slot x) here refl parts.plain keeps lends;
-    plain_subscribers = parts.plain_subscribers;
   }
     where
       -- the slot of a blocked delivery is another

@@ -208,10 +208,6 @@ module _ {T U : Type 0} (f : Fields T U) (sound : IsDomain f) (j : ℕ) (y : Sub
       shapes = record { at = sound.parts.shapes.at };
       forms = sound.parts.forms;
       plain = sound.parts.plain;
-      plain_subscribers = λ k z at_z. elim (stood k z at_z) [
-        | inl here ↦ rw here.1 (record { degradation = (sound.parts.plain_subscribers j y at).degradation })
-        | inr old ↦ sound.parts.plain_subscribers k z old
-      ];
     };
     lone = sound.lone;
     kept_books = record { at = sound.kept_books.at };

@@ -57,7 +57,6 @@ parts-warned f warnings parts room = record {
   shapes = record { at = parts.shapes.at };
   forms = parts.forms;
   plain = parts.plain;
-  plain_subscribers = parts.plain_subscribers;
 }
 
 module _ {T U : Type 0} (f : Fields T U) (sound : IsDomain f) (j : ℕ) (y : SubscriberFields) (at : get_or f.subscribers j None ≡ Some y) where

@@ -249,7 +249,6 @@ module _ {T U : Type 0} (f : Fields T U) (parts : HasParts f) (i : ℕ) (x : Pub
     shapes = shapes;
     forms = parts.forms;
     plain = changed-plain f i x shorter here refl parts.plain settings (λ has b e. has b e);
-    plain_subscribers = parts.plain_subscribers;
   }
     where
       aligned : IsAligned left_book

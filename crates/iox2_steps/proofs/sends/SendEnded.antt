@@ -301,7 +301,6 @@ module _ {T U : Type 0} (f : Fields T U) (parts : HasParts f) (i : ℕ) (x : Pub
     shapes = ended-shapes;
     forms = parts.forms;
     plain = changed-plain f i x (with_remembered slot x) here refl parts.plain keeps (λ has d e. absurd (let no : None ≡ Some d = sym free ∙ e in cc));
-    plain_subscribers = parts.plain_subscribers;
   }
     where
       aligned : IsAligned (with_sent slot b)

@@ -236,10 +236,9 @@ module _ {T U : Type 0} (f : Fields T U) (sound : IsDomain f) (i : ℕ) (x : Pub
       shapes = record { at = sound.parts.shapes.at };
       forms = sound.parts.forms;
       plain = λ k z at_z. elim (stood k z at_z) [
-        | inl here ↦ rw here.1 (let has = sound.parts.plain i x at in record { degradation = has.degradation; lent = has.lent; allocation = has.allocation })
+        | inl here ↦ rw here.1 (let has = sound.parts.plain i x at in record { lent = has.lent; allocation = has.allocation })
         | inr old ↦ sound.parts.plain k z old
       ];
-      plain_subscribers = sound.parts.plain_subscribers;
     };
     kept_books = changed-kept_books f i x changed at refl f.books refl sound.kept_books;
     lone = sound.lone;

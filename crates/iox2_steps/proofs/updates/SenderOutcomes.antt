@@ -13,7 +13,6 @@ use Rattle.iox2_store.specs.machine.Limits.{warning_limit}
 use Rattle.iox2_store.specs.machine.Records.{Environment, Handler, Fixed}
 use Rattle.iox2_slots.specs.declared.connection.Home.{Home}
 use Rattle.iox2_store.specs.declared.degradation.DegradationAction.{DegradationAction}
-use Rattle.iox2_store.specs.declared.degradation.DegradationAction.TheVariants.{Warn}
 use Rattle.iox2_store.specs.declared.degradation.DegradationInfo.{DegradationInfo}
 use Rattle.iox2_domain.specs.WarningRing.{WarningRing, warning_ring}
 use Rattle.iox2_domain.specs.Ports.{PublisherFields, SubscriberFields}
@@ -38,9 +37,10 @@ some_from connections p (Some k) key e = by (get connections k) refl where
     which true its e = (c, e, ap (get connections) (sym (same_Some k key e)) ∙ at, eqb-true c.home.publisher p its)
     which false its e = absurd cc
 
--- a port whose handler is to warn is answered so
-pub answers-warn : (environment : Environment) (port : ℕ) (handler : Handler DegradationAction) (info : DegradationInfo) → handler ≡ Fixed Warn → DegradationAnswers environment port handler info Warn
-answers-warn environment port handler info is = subst (λ h. DegradationAnswers environment port h info Warn) (sym is) refl
+-- a port whose handler has a fixed answer is answered so
+pub answers-fixed : (environment : Environment) (port : ℕ) (handler : Handler DegradationAction) (info : DegradationInfo) (action : DegradationAction) → handler ≡ Fixed action
+    → DegradationAnswers environment port handler info action
+answers-fixed environment port handler info action is = subst (λ h. DegradationAnswers environment port h info action) (sym is) refl
 
 -- who stands where an open subscriber does is open
 pub open-at : (subscribers : List (Option SubscriberFields)) (j : ℕ) (y : SubscriberFields) → get_or subscribers j None ≡ Some y → is_open_subscriber subscribers j ≡ true → y.is_open ≡ true

@@ -21,7 +21,7 @@ fn begin(alloc: Global, limits: Limits) -> Result<Plan, Fail> {
         borrowed,
         loans,
     } = limits;
-    let domain = format!(in alloc; "domain 1 1 {buffer} {borrowed} 0 1 keep")?;
+    let domain = format!(in alloc; "domain 1 1 {buffer} {borrowed} 0 {borrowed} keep")?;
     let mut plan = Plan::new(alloc, &domain)?;
     plan.call("sub", buffer, "ok")?;
     write!(plan.text, "pub {loans} discard")?;

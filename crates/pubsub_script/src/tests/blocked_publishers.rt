@@ -129,10 +129,10 @@ const FREED: &[(&str, &str)] = &[
 #[test]
 fn a_script_with_blocked_publishers_gets_these_replies(rt: HostRuntime) -> Result<(), Fail> {
     for (domain, lines) in [
-        ("domain 1 1 1 1 0 0 keep", WAITING),
-        ("domain 2 2 1 1 0 0 keep", TWO_WAIT),
-        ("domain 2 1 1 1 0 0 keep", ONE_WAITS),
-        ("domain 1 1 1 1 0 0 keep", FREED),
+        ("domain 1 1 1 1 0 1 keep", WAITING),
+        ("domain 2 2 1 1 0 1 keep", TWO_WAIT),
+        ("domain 2 1 1 1 0 1 keep", ONE_WAITS),
+        ("domain 1 1 1 1 0 1 keep", FREED),
     ] {
         Plan::of(rt.alloc(), domain, lines)?.assert(&rt, rt.alloc());
     }

@@ -250,18 +250,18 @@ const NOBODY: &[(&str, &str)] = &[
 #[test]
 fn a_script_with_blocked_sends_gets_these_replies(rt: HostRuntime) -> Result<(), Fail> {
     for (domain, lines) in [
-        ("domain 1 1 1 1 0 0 keep", TRIED_AGAIN),
-        ("domain 1 1 1 1 0 0 keep", RELEASED_SLOTS),
-        ("domain 1 2 1 1 0 0 keep", GIVEN_UP),
-        ("domain 1 2 1 1 0 0 keep", GIVEN_UP_TWICE),
-        ("domain 1 3 1 1 0 0 keep", SERVED_ONCE),
-        ("domain 1 1 1 1 1 0 keep", CLOSED_RECEIVER),
-        ("domain 1 3 1 1 0 0 keep", CLOSED_BETWEEN_OTHERS),
-        ("domain 1 1 1 1 0 0 keep", CLOSED_BORROWER),
-        ("domain 1 2 1 1 2 0 keep", HISTORY),
-        ("domain 1 2 3 1 0 0 keep", SMALLER_BUFFER),
-        ("domain 1 1 1 1 0 0 overflow", OVERFLOW),
-        ("domain 1 1 1 1 0 0 keep", NOBODY),
+        ("domain 1 1 1 1 0 1 keep", TRIED_AGAIN),
+        ("domain 1 1 1 1 0 1 keep", RELEASED_SLOTS),
+        ("domain 1 2 1 1 0 1 keep", GIVEN_UP),
+        ("domain 1 2 1 1 0 1 keep", GIVEN_UP_TWICE),
+        ("domain 1 3 1 1 0 1 keep", SERVED_ONCE),
+        ("domain 1 1 1 1 1 1 keep", CLOSED_RECEIVER),
+        ("domain 1 3 1 1 0 1 keep", CLOSED_BETWEEN_OTHERS),
+        ("domain 1 1 1 1 0 1 keep", CLOSED_BORROWER),
+        ("domain 1 2 1 1 2 1 keep", HISTORY),
+        ("domain 1 2 3 1 0 1 keep", SMALLER_BUFFER),
+        ("domain 1 1 1 1 0 1 overflow", OVERFLOW),
+        ("domain 1 1 1 1 0 1 keep", NOBODY),
     ] {
         Plan::of(rt.alloc(), domain, lines)?.assert(&rt, rt.alloc());
     }
@@ -271,7 +271,7 @@ fn a_script_with_blocked_sends_gets_these_replies(rt: HostRuntime) -> Result<(),
 // A send waits as long as there is no room, however often it is tried.
 #[test]
 fn a_send_may_be_tried_again_often(rt: HostRuntime) -> Result<(), Fail> {
-    let mut plan = Plan::new(rt.alloc(), "domain 1 1 1 1 0 0 keep")?;
+    let mut plan = Plan::new(rt.alloc(), "domain 1 1 1 1 0 1 keep")?;
     let subscriber = plan.call("sub", 1, "ok")?;
     write!(plan.text, "pub 1 retry")?;
     let publisher = plan.end("ok")?;
@@ -290,7 +290,7 @@ fn a_send_may_be_tried_again_often(rt: HostRuntime) -> Result<(), Fail> {
 // and are borrowed at most.
 #[test]
 fn rounds_of_blocked_sends_leave_nothing_behind(rt: HostRuntime) -> Result<(), Fail> {
-    let mut plan = Plan::new(rt.alloc(), "domain 1 1 1 1 0 0 keep")?;
+    let mut plan = Plan::new(rt.alloc(), "domain 1 1 1 1 0 1 keep")?;
     let subscriber = plan.call("sub", 1, "ok")?;
     write!(plan.text, "pub 1 retry")?;
     let publisher = plan.end("ok")?;
@@ -315,7 +315,7 @@ fn rounds_of_blocked_sends_leave_nothing_behind(rt: HostRuntime) -> Result<(), F
 // All subscribers but two are full. The send waits for one after the other.
 #[test]
 fn a_send_waits_for_many_subscribers_in_turn(rt: HostRuntime) -> Result<(), Fail> {
-    let mut plan = Plan::new(rt.alloc(), "domain 1 70 1 1 0 0 keep")?;
+    let mut plan = Plan::new(rt.alloc(), "domain 1 70 1 1 0 1 keep")?;
     for _ in 0..70 {
         plan.call("sub", 1, "ok")?;
     }

@@ -33,10 +33,10 @@ fn assert_two_arrive(
 
 #[test]
 fn with_overflow_the_oldest_message_goes(rt: HostRuntime) -> Result<(), Fail> {
-    assert_two_arrive(&rt, rt.alloc(), "domain 1 1 2 1 0 0 overflow", 1, [2, 3])
+    assert_two_arrive(&rt, rt.alloc(), "domain 1 1 2 1 0 1 overflow", 1, [2, 3])
 }
 
 #[test]
 fn without_overflow_a_full_buffer_keeps_what_it_has(rt: HostRuntime) -> Result<(), Fail> {
-    assert_two_arrive(&rt, rt.alloc(), "domain 1 1 2 1 0 0 keep", 0, [1, 2])
+    assert_two_arrive(&rt, rt.alloc(), "domain 1 1 2 1 0 1 keep", 0, [1, 2])
 }

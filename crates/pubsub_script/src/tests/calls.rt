@@ -6,7 +6,7 @@ use std::test::Fail;
 
 /// A loan that is discarded counts no more. It may be written or not, and is used up then.
 const DISCARDED: &[u8] = b"\
-domain 1 1 1 1 0 0 keep
+domain 1 1 1 1 0 1 keep
 pub 2 discard
 loan 1
 loan 1
@@ -58,7 +58,7 @@ fn a_discarded_loan_counts_no_more(rt: HostRuntime) {
 // The publisher has three slots. What waits and what is borrowed isn't touched by a discard.
 #[test]
 fn a_discarded_loan_frees_its_slot(rt: HostRuntime) -> Result<(), Fail> {
-    let mut plan = Plan::new(rt.alloc(), "domain 1 1 1 1 0 0 keep")?;
+    let mut plan = Plan::new(rt.alloc(), "domain 1 1 1 1 0 1 keep")?;
     plan.call("sub", 1, "ok")?;
     write!(plan.text, "pub 1 discard")?;
     plan.end("ok")?;
@@ -79,7 +79,7 @@ fn a_discarded_loan_frees_its_slot(rt: HostRuntime) -> Result<(), Fail> {
 
 /// What waits is told of also where no more may be received. Publishers and samples aren't asked.
 const ASKED: &[u8] = b"\
-domain 1 1 2 1 0 0 keep
+domain 1 1 2 1 0 1 keep
 sub 2
 pub 1 discard
 copy 2 1
@@ -118,7 +118,7 @@ fn a_subscriber_says_whether_messages_wait(rt: HostRuntime) {
 
 /// A value is sent at once by a publisher that may lend, and by nothing else.
 const COPIED: &[u8] = b"\
-domain 1 1 2 1 0 0 keep
+domain 1 1 2 1 0 1 keep
 sub 2
 pub 1 discard
 loan 2
@@ -161,7 +161,7 @@ fn a_value_is_sent_at_once(rt: HostRuntime) {
 
 /// Ports are updated as often as is asked, and nothing else is.
 const UPDATED: &[u8] = b"\
-domain 2 1 1 1 0 0 keep
+domain 2 1 1 1 0 1 keep
 pub 1 discard
 update 1
 sub 1

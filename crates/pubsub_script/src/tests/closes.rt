@@ -216,17 +216,27 @@ const LOAN_OF_CLOSED: &[(&str, &str)] = &[
 #[test]
 fn a_script_with_closed_ports_gets_these_replies(rt: HostRuntime) -> Result<(), Fail> {
     for (domain, lines) in [
-        ("domain 1 1 2 2 0 1 keep", CLOSED_PUBLISHER),
-        ("domain 1 1 2 1 0 0 keep", CLOSED_SUBSCRIBER),
-        ("domain 1 1 1 1 0 0 keep", DEPARTED_COMES_FIRST),
-        ("domain 1 1 1 1 0 0 keep", UNKNOWN_IS_LOST),
+        ("domain 1 1 2 2 0 2 keep", CLOSED_PUBLISHER),
+        ("domain 1 1 2 1 0 1 keep", CLOSED_SUBSCRIBER),
+        ("domain 1 1 1 1 0 1 keep", DEPARTED_COMES_FIRST),
+        ("domain 1 1 1 1 0 1 keep", UNKNOWN_IS_LOST),
         ("domain 1 1 1 1 0 1 keep", TWO_DEPARTED),
         ("domain 1 1 1 1 0 1 keep", UPDATED_AFTER_RELEASE),
-        ("domain 1 1 2 1 0 1 keep", FIRST_DEPARTED_LOSES),
-        ("domain 1 1 1 1 0 1 keep", SECOND_DEPARTED_LOSES),
-        ("domain 1 1 1 1 0 0 keep", LOAN_OF_CLOSED),
+        ("domain 1 1 1 1 0 1 keep", LOAN_OF_CLOSED),
     ] {
         Plan::of(rt.alloc(), domain, lines)?.assert(&rt, rt.alloc());
+    }
+    Ok(())
+}
+
+#[test]
+fn lost_messages_are_warned_of(rt: HostRuntime) -> Result<(), Fail> {
+    for (domain, lines) in [
+        ("domain 1 1 2 1 0 1 keep", FIRST_DEPARTED_LOSES),
+        ("domain 1 1 1 1 0 1 keep", SECOND_DEPARTED_LOSES),
+    ] {
+        let plan = Plan::of(rt.alloc(), domain, lines)?;
+        plan.assert_warned(&rt, rt.alloc(), b"warning ExpiredDataDiscarded\n");
     }
     Ok(())
 }
@@ -234,7 +244,7 @@ fn a_script_with_closed_ports_gets_these_replies(rt: HostRuntime) -> Result<(), 
 // What is sent while the subscriber is closed goes nowhere, and takes no place of what it borrowed.
 #[test]
 fn a_closed_subscriber_keeps_what_it_borrowed(rt: HostRuntime) -> Result<(), Fail> {
-    let mut plan = Plan::new(rt.alloc(), "domain 1 1 1 1 0 0 keep")?;
+    let mut plan = Plan::new(rt.alloc(), "domain 1 1 1 1 0 1 keep")?;
     let subscriber = plan.call("sub", 1, "ok")?;
     write!(plan.text, "pub 1 discard")?;
     let publisher = plan.end("ok")?;

@@ -15,7 +15,7 @@ enum First {
 /// The second subscriber has room for one message. It receives the first of two, whatever the other
 /// subscriber does.
 fn assert_second_receives(rt: &impl Abort, alloc: Global, first: First) -> Result<(), Fail> {
-    let mut plan = Plan::new(alloc, "domain 1 2 1 1 0 0 keep")?;
+    let mut plan = Plan::new(alloc, "domain 1 2 1 1 0 1 keep")?;
     let subscriber = plan.call("sub", 1, "ok")?;
     let other = plan.call("sub", 1, "ok")?;
     write!(plan.text, "pub 1 discard")?;

@@ -87,6 +87,11 @@ impl Plan {
 
     /// Asserts that the script prints these lines, and nothing else.
     pub(super) fn assert(&self, rt: &impl Abort, alloc: Global) {
-        Outcome::of(alloc, self.text.as_slice()).assert(rt, 0, self.replies.as_slice(), b"");
+        self.assert_warned(rt, alloc, b"");
+    }
+
+    /// Asserts that the script prints these lines, and these lines of warnings.
+    pub(super) fn assert_warned(&self, rt: &impl Abort, alloc: Global, warnings: &[u8]) {
+        Outcome::of(alloc, self.text.as_slice()).assert(rt, 0, self.replies.as_slice(), warnings);
     }
 }

@@ -39,7 +39,7 @@ fn begin(alloc: Global, ports: Ports) -> Result<Plan, Fail> {
         Mode::Overflow => "overflow",
         Mode::Keep => "keep",
     };
-    let domain = format!(in alloc; "domain {publishers} {subscribers} {BUFFER} 2 0 0 {word}")?;
+    let domain = format!(in alloc; "domain {publishers} {subscribers} {BUFFER} 2 0 2 {word}")?;
     let mut plan = Plan::new(alloc, &domain)?;
     for _ in 0..publishers {
         write!(plan.text, "pub 1 discard")?;

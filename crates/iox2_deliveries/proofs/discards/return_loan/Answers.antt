@@ -1,13 +1,51 @@
-use Rattle.std.proofs.Common.{◌≡◌, slice_set, Some, ap, sym, ◌∙◌}
+use Rattle.std.proofs.Common.{◌≡◌, ◌≤◌, slice_set, Some, ap, sym, subst, refl, ◌∙◌}
 use Rattle.std.specs.Prelude.{slice_index_or}
 use Rattle.std.specs.declared.option.Option.TheVariants.{None}
-use Rattle.slab.specs.Slab.{get, with_value}
+use Rattle.slab.specs.Slab.{ContainsKey, get, with_value}
+use Rattle.iox2_slots.specs.SlotBook.{Book, IsInUse}
+use Rattle.iox2_ends.specs.Counters.{times}
 use Rattle.iox2_domain.specs.Deliveries.{with_loan_out}
 use Rattle.iox2_domain.specs.Discards.{with_holder_gone, with_loan_returned}
 use Rattle.iox2_domain.specs.Fields.{Fields}
 use Rattle.iox2_domain.specs.Ports.{PublisherFields}
 use Rattle.iox2_domain.proofs.lemmas.slots.PublisherBooks.{read-there}
 use Rattle.iox2_deliveries.proofs.discards.return_loan.Goals as goal
+
+pub unreachable-requires : goal.unreachable-requires
+unreachable-requires g c =
+    let x = c.requires.stands.0 in
+    let there : slice_index_or c.state.inside.publishers.items c.args.place None ≡ Some x = ap (λ (f : Fields g.row.T.Denot g.row.U.Denot). slice_index_or f.publishers c.args.place None) c.state.view_is ∙ c.requires.stands.2 in
+    let both : Some x ≡ None = sym there ∙ read-there _ c.args.place _ _ there c.index_mut.ensures.value ∙ c.in_default.is in
+    absurd cc
+
+pub remove_loan-requires : goal.remove_loan-requires
+remove_loan-requires g c =
+    let x = c.requires.stands.0 in
+    let there : slice_index_or c.state.inside.publishers.items c.args.place None ≡ Some x = ap (λ (f : Fields g.row.T.Denot g.row.U.Denot). slice_index_or f.publishers c.args.place None) c.state.view_is ∙ c.requires.stands.2 in
+    let read : Some x ≡ Some c.in-Some.publisher = sym there ∙ read-there _ c.args.place _ _ there c.index_mut.ensures.value ∙ c.in-Some.is in
+    let publisher : c.in-Some.publisher ≡ x = cc in
+    subst (λ (p : PublisherFields). times c.args.slot p.loans ≤ 1) (sym publisher) (c.requires.once x c.requires.stands.2)
+
+pub index_mut-book-requires : goal.index_mut-book-requires
+index_mut-book-requires g c =
+    let x = c.requires.stands.0 in
+    let there : slice_index_or c.state.inside.publishers.items c.args.place None ≡ Some x = ap (λ (f : Fields g.row.T.Denot g.row.U.Denot). slice_index_or f.publishers c.args.place None) c.state.view_is ∙ c.requires.stands.2 in
+    let read : Some x ≡ Some c.in-Some.publisher = sym there ∙ read-there _ c.args.place _ _ there c.index_mut.ensures.value ∙ c.in-Some.is in
+    let publisher : c.in-Some.publisher ≡ x = cc in
+    let key : c.publisher.inside.book ≡ x.book = ap (λ (p : PublisherFields). p.book) (c.publisher.view_is ∙ c.remove_loan.ensures ∙ ap (with_loan_out c.args.slot) publisher) in
+    subst (ContainsKey c.state.inside.books) (sym key) (rw (ap (λ (f : Fields g.row.T.Denot g.row.U.Denot). get f.books x.book) c.state.view_is ∙ c.requires.stands.3) refl)
+
+pub release-requires : goal.release-requires
+release-requires g c =
+    let x = c.requires.stands.0 in
+    let there : slice_index_or c.state.inside.publishers.items c.args.place None ≡ Some x = ap (λ (f : Fields g.row.T.Denot g.row.U.Denot). slice_index_or f.publishers c.args.place None) c.state.view_is ∙ c.requires.stands.2 in
+    let read : Some x ≡ Some c.in-Some.publisher = sym there ∙ read-there _ c.args.place _ _ there c.index_mut.ensures.value ∙ c.in-Some.is in
+    let publisher : c.in-Some.publisher ≡ x = cc in
+    let key : c.publisher.inside.book ≡ x.book = ap (λ (p : PublisherFields). p.book) (c.publisher.view_is ∙ c.remove_loan.ensures ∙ ap (with_loan_out c.args.slot) publisher) in
+    let found : Some c.index_mut-book.result.now ≡ Some c.requires.stands.1 =
+    sym c.index_mut-book.ensures.value ∙ ap (get c.state.inside.books) key ∙ ap (λ (f : Fields g.row.T.Denot g.row.U.Denot). get f.books x.book) c.state.view_is ∙ c.requires.stands.3 in
+    let book : c.index_mut-book.result.now ≡ c.requires.stands.1 = cc in
+    subst (λ (b : Book). IsInUse b c.args.slot) (sym book) c.requires.stands.4
 
 pub returns : goal.returns
 returns g c = λ x b at has.

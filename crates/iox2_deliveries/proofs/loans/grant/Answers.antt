@@ -1,11 +1,36 @@
-use Rattle.std.proofs.Common.{rules, ◌≡◌, vec_len, length, slice_index_or, None, Some, refl, sym, subst, ap, ◌∙◌}
+use Rattle.std.proofs.Common.{rules, ◌≡◌, ◌<◌, All, vec_len, length, slice_index_or, None, Some, refl, sym, subst, ap, ◌∙◌}
 use Rattle.std.specs.Option.{option_map}
+use Rattle.slab.specs.Slab.{get}
+use Rattle.iox2_slots.specs.SlotBook.{Book}
+use Rattle.iox2_domain.specs.Ports.{PublisherFields}
 use Rattle.iox2_domain.specs.Fields.{Fields}
 use Rattle.iox2_domain.specs.Invariant.{IsDomain}
 use Rattle.iox2_domain.specs.Lending.{CanGrant, lending}
-use Rattle.iox2_domain.proofs.lemmas.slots.PublisherBooks.{read-there}
+use Rattle.iox2_domain.proofs.lemmas.slots.PublisherBooks.{read-there, book-there}
 use Rattle.iox2_domain.proofs.lemmas.loans.LendingSteps.{contents-within, length-fits, lent-fits, lent-short, loan-fits, lends-from, lends-seen, named-seen}
 use Rattle.iox2_deliveries.proofs.loans.grant.Goals as goal
+
+pub unreachable-requires : goal.unreachable-requires
+unreachable-requires g c =
+    let there = ap (λ (f : Fields g.row.T.Denot g.row.U.Denot). slice_index_or f.publishers c.args.place None) c.state.view_is ∙ c.requires.can.stands in
+    let both : Some c.requires.can.publisher ≡ None = sym there ∙ read-there _ c.args.place _ _ there c.index_mut.ensures.value ∙ c.in_default.is in
+    absurd cc
+
+pub index_mut-requires-2 : goal.index_mut-requires-2
+index_mut-requires-2 g c = book-there _ (subst (IsDomain {T = g.row.T.Denot} {U = g.row.U.Denot}) (sym c.state.view_is) c.requires.agrees).parts c.args.place _ (read-there _ c.args.place _ _ (ap (λ (f : Fields g.row.T.Denot g.row.U.Denot). slice_index_or f.publishers c.args.place None) c.state.view_is ∙ c.requires.can.stands) c.index_mut.ensures.value ∙ c.in-Some.is ∙ ap Some (sym c.publisher.view_is))
+
+pub unreachable-requires-in_default-take : goal.unreachable-requires-in_default-take
+unreachable-requires-in_default-take g c =
+    let can = c.requires.can in
+    let there = ap (λ (f : Fields g.row.T.Denot g.row.U.Denot). slice_index_or f.publishers c.args.place None) c.state.view_is ∙ can.stands in
+    let both : Some can.publisher ≡ Some c.in-Some.publisher = sym there ∙ read-there _ c.args.place _ _ there c.index_mut.ensures.value ∙ c.in-Some.is in
+    let is : can.publisher ≡ c.in-Some.publisher = cc in
+    let key = ap (λ (x : PublisherFields). x.book) (is ∙ sym c.publisher.view_is) in
+    let found : Some can.book ≡ Some c.index_mut-2.result.now =
+    sym can.its ∙ ap (λ (f : Fields g.row.T.Denot g.row.U.Denot). get f.books can.publisher.book) (sym c.state.view_is) ∙ ap (get c.state.inside.books) key ∙ c.index_mut-2.ensures.value in
+    let whole : can.book ≡ c.index_mut-2.result.now = cc in
+    let all : All (λ n. 0 < n) c.index_mut-2.result.now.holders = c.in_default-take.ensures.none.0 refl in
+    can.some_free (subst (λ (b : Book). All (λ n. 0 < n) b.holders) (sym whole) all)
 
 pub index_mut-requires-3 : goal.index_mut-requires-3
 index_mut-requires-3 g c =

@@ -155,7 +155,6 @@ module _ {T U : Type 0} (f : Fields T U) (sound : IsDomain f) (key : ℕ) (c : L
     shapes = record { at = sound.parts.shapes.at };
     forms = sound.parts.forms;
     plain = sound.parts.plain;
-    plain_subscribers = sound.parts.plain_subscribers;
   }
 
   -- nothing but the mark changed

@@ -14,7 +14,7 @@ use Rattle.iox2_ends.specs.declared.sender.ReceiverDetails.{ReceiverDetails}
 use Rattle.iox2_ends.proofs.LookUps.{look_up-there, look_up-none, look_up-found, look_up-nothing}
 use Rattle.iox2_domain.specs.Ports.{PublisherFields, SubscriberFields}
 use Rattle.iox2_domain.specs.Fields.{Fields, is_book_of}
-use Rattle.iox2_domain.specs.Invariant.{HasParts, IsLinked, IsOwned, IsGone, HasBook, HasBooks, IsCounted, HasPublisherRoom, IsPlain, IsPlainSubscriber, HasExpiredRoom, SenderHas, ReceiverHas, is_publisher, is_subscriber, own_holders, is_loan_in, details_of, connection_count, IsBetweenOpen}
+use Rattle.iox2_domain.specs.Invariant.{HasParts, IsLinked, IsOwned, IsGone, HasBook, HasBooks, IsCounted, HasPublisherRoom, IsPlain, HasExpiredRoom, SenderHas, ReceiverHas, is_publisher, is_subscriber, own_holders, is_loan_in, details_of, connection_count, IsBetweenOpen}
 use Rattle.iox2_domain.proofs.lemmas.containers.LookUps.{map-at, viewed}
 use Rattle.iox2_domain.proofs.lemmas.fields.LostConnections.{IsEmptyLink, LosesEmpty, lost-apart, lost-sums, lost-counts}
 use Rattle.iox2_domain.proofs.lemmas.fields.OwnKeys.{listed-at, listed-has}
@@ -271,7 +271,5 @@ module _ {T U : Type 0} (f : Fields T U) (parts : HasParts f) (publishers : List
     forms = parts.forms;
     plain = λ i x at. let was = g.senders i x at in let has = parts.plain i was.0 was.1 in
         subst IsPlain (sym was.2.fields)
-        (record { degradation = has.degradation; lent = has.lent; allocation = has.allocation });
-    plain_subscribers = λ i y at. let was = g.receivers i y at in let has = parts.plain_subscribers i was.0 was.1 in
-        subst IsPlainSubscriber (sym was.2.fields) (record { degradation = has.degradation });
+        (record { lent = has.lent; allocation = has.allocation });
   }

@@ -243,7 +243,6 @@ module _ {T U : Type 0} (f : Fields T U) (sound : IsDomain f) (p n key slot : â„
           shapes = change-shapes;
           forms = slot-forms f sound key slot at.book at.stands cs at_c mark g change.form sound.parts.forms;
           plain = sound.parts.plain;
-          plain_subscribers = sound.parts.plain_subscribers;
         };
         kept_books = kept-used f.next_port f.publishers f.books key at.book (marked f sound key slot at.book at.stands cs at_c mark g) at.stands refl refl sound.kept_books;
         lone = lone-marked f.books key slot n at.book mark at.stands sound.lone at.loan_slot;

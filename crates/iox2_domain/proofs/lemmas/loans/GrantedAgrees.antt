@@ -278,7 +278,6 @@ module _ {T U : Type 0} (f : Fields T U) (sound : IsDomain f) (i : ℕ) (x : Pub
         shapes = granted-shapes;
         forms = forms-changed f.config f.contents x.book slot can.contents can.has (unwritten_content user_header (len * (f.config).units_per_element)) (λ c. refl) sound.parts.forms;
         plain = changed-plain mid i x new_lender at refl sound.parts.plain keeps (λ has b e. omega (arith, has b e, times_push b.slot x.loans slot));
-        plain_subscribers = sound.parts.plain_subscribers;
       };
       kept_books = changed-kept_books mid i x new_lender at refl (taken_books f sound x slot can user_header len) refl
           (kept-own f.next_port f.publishers f.books x.book can.book new_book can.stands refl (subst (IsOwned f.publishers x.book) (sym can.its) (book-owned f sound.parts i x at)) sound.kept_books);

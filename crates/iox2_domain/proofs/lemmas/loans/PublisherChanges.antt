@@ -263,7 +263,6 @@ module _ {T U : Type 0} (f : Fields T U) (i : ℕ) (x y : PublisherFields) (at :
     | inl is ↦
         let has = plain i x at in
         rw is.1 (record {
-          degradation = keeps.degradation_handler ∙ has.degradation;
           lent = lends has.lent;
           allocation = keeps.allocation ∙ has.allocation;
         })

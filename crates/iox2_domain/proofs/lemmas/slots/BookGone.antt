@@ -258,7 +258,6 @@ module _ {T U : Type 0} (f : Fields T U) (parts : HasParts f) (key : ℕ) (b : B
     shapes = shapes;
     forms = forms;
     plain = parts.plain;
-    plain_subscribers = parts.plain_subscribers;
   }
 
   -- each loan has one holder still

@@ -219,7 +219,6 @@ module _ {T U : Type 0} (f : Fields T U) (parts : HasParts f) (i : ℕ) (x : Pub
     shapes = shapes;
     forms = parts.forms;
     plain = changed-plain f i x y here settings.id parts.plain settings lends;
-    plain_subscribers = parts.plain_subscribers;
   }
     where
       aligned : IsAligned new_book

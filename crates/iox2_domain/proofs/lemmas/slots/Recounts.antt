@@ -245,5 +245,4 @@ module _ {T U : Type 0} (f : Fields T U) (parts : HasParts f) (p key : ℕ) (b :
     shapes = shapes;
     forms = parts.forms;
     plain = parts.plain;
-    plain_subscribers = parts.plain_subscribers;
   }

@@ -5,6 +5,7 @@ use Rattle.iox2_steps.proofs.sends.AskedBoxes.{ready-boxes, unasked, unhandled}
 use Rattle.iox2_steps.proofs.sends.DeliverySteps.{sends-alike}
 use Rattle.iox2_steps.proofs.sends.SendSteps.{sender-stands, can-send, sends-loan}
 use Rattle.iox2_domain.proofs.lemmas.fields.ConnectionEnds.{free-of}
+use Rattle.iox2_deliveries.proofs.SentEnds.{not-lost}
 use Rattle.iox2_messages.proofs.sends.send_loan.Goals as goal
 
 pub send_unasked-requires-clause-can : goal.send_unasked-requires-clause-can
@@ -27,3 +28,6 @@ returns-then-not-has_handler_at-clause-sends g c =
     sends-alike fixed_handlers (answers_of g.F.BackpressureFn.allows c.args.boxes.now.boxes) c.args.state.now c.args.loan.place x c.send_unasked.ensures.sends.0 c.send_unasked.new.state
     (unasked fixed_handlers (answers_of g.F.BackpressureFn.allows c.args.boxes.now.boxes) x.id x.backpressure_handler (sym (c.has_handler_at.ensures x at) ∙ c.if-not-has_handler_at.true))
     c.args.loan.slot (c.send_unasked.ensures.sends.2 x at)))
+
+pub returns-then-not-has_handler_at-clause-kept : goal.returns-then-not-has_handler_at-clause-kept
+returns-then-not-has_handler_at-clause-kept g c = λ holds. not-lost c.send_unasked.result c.send_unasked.ensures.kept

@@ -5,7 +5,7 @@ use Rattle.std.specs.declared.option.Option.TheVariants.{None}
 use Rattle.circular_buffer.specs.Buffer.{buffer}
 use Rattle.iox2_store.specs.machine.Limits.{last_number, segment_fits}
 use Rattle.iox2_domain.specs.Handlers.{handler_if_any}
-use Rattle.iox2_domain.specs.NewPublisher.{entering_publisher, subscriber_due}
+use Rattle.iox2_domain.specs.NewPublisher.{entering_publisher, static_publisher, subscriber_due}
 use Rattle.iox2_domain.specs.Ports.{PublisherFields}
 use Rattle.iox2_domain.specs.Fields.{Fields}
 use Rattle.iox2_domain.specs.Placed.{placed}
@@ -56,12 +56,12 @@ overflow_add-state g c =
 
 pub returns-clause-step : goal.returns-clause-step
 returns-clause-step g c =
-    let loans = c.args.max_loaned_samples in
-    entered-reaches-as {T = g.row.T.Denot} {U = g.row.U.Denot} c.args.state.now _ _ c.state.view_is c.requires.agrees loans c.args.slots c.args.strategy (handler_if_any c.args.handler) c.args.initial_max_slice_len c.args.place c.in-Ok-entering.publisher c.in-Ok.segment.book c.in-Ok.segment.contents
+    let given = static_publisher c.args.given.now (handler_if_any c.args.handler) in
+    entered-reaches-as {T = g.row.T.Denot} {U = g.row.U.Denot} c.args.state.now _ _ c.state.view_is c.requires.agrees given (record { allocation = refl }) c.args.slots c.args.place c.in-Ok-entering.publisher c.in-Ok.segment.book c.in-Ok.segment.contents
     c.add_segment.new.books c.requires.has_place c.requires.slots (record {
       publisher = c.in-Ok-entering.ensures.enters
-          ∙ ap (λ id. entering_publisher id c.args.place c.vacant_key-key.result loans c.args.slots c.args.strategy (handler_if_any c.args.handler) c.args.initial_max_slice_len c.in-Ok-entering.publisher.loan_room (buffer [] c.state.inside.config.history_size) c.in-Ok-entering.publisher.key_room) c.new-id.ensures
-          ∙ ap (λ key. entering_publisher c.state.inside.next_port c.args.place key loans c.args.slots c.args.strategy (handler_if_any c.args.handler) c.args.initial_max_slice_len c.in-Ok-entering.publisher.loan_room (buffer [] c.state.inside.config.history_size) c.in-Ok-entering.publisher.key_room) c.vacant_key-key.ensures.value;
+          ∙ ap (λ id. entering_publisher id c.args.place c.vacant_key-key.result given c.args.slots c.in-Ok-entering.publisher.loan_room (buffer [] c.state.inside.config.history_size) c.in-Ok-entering.publisher.key_room) c.new-id.ensures
+          ∙ ap (λ key. entering_publisher c.state.inside.next_port c.args.place key given c.args.slots c.in-Ok-entering.publisher.loan_room (buffer [] c.state.inside.config.history_size) c.in-Ok-entering.publisher.key_room) c.vacant_key-key.ensures.value;
       room = c.in-Ok-entering.ensures.room;
       is_its = c.in-Ok.ensures.is_its ∙ c.new-id.ensures;
       unused = c.in-Ok.ensures.unused;
@@ -106,7 +106,7 @@ pub returns-clause-id : goal.returns-clause-id
 returns-clause-id g c = c.new-id.ensures ∙ ap (λ (f : Fields g.row.T.Denot g.row.U.Denot). f.next_port) c.state.view_is
 
 pub room_for-room-requires : goal.room_for-room-requires
-room_for-room-requires g c = ap (λ (f : Fields g.row.T.Denot g.row.U.Denot). segment_fits f.config c.args.slots c.args.initial_max_slice_len) c.state.view_is ∙ c.requires.size
+room_for-room-requires g c = ap (λ (f : Fields g.row.T.Denot g.row.U.Denot). segment_fits f.config c.args.slots c.args.given.now.initial_max_slice_len) c.state.view_is ∙ c.requires.size
 
 pub new-entering-requires : goal.new-entering-requires
-new-entering-requires g c = ap (λ (f : Fields g.row.T.Denot g.row.U.Denot). segment_fits f.config c.args.slots c.args.initial_max_slice_len) c.state.view_is ∙ c.requires.size
+new-entering-requires g c = ap (λ (f : Fields g.row.T.Denot g.row.U.Denot). segment_fits f.config c.args.slots c.args.given.now.initial_max_slice_len) c.state.view_is ∙ c.requires.size

@@ -1,24 +1,21 @@
-use Rattle.std.proofs.Common.{◌≡◌, ap, sym, subst, ℕ, false, get_or, refl, ◌∙◌, inr, List}
+use Rattle.std.proofs.Common.{◌≡◌, ap, sym, subst, ℕ, refl, ◌∙◌, inr, List}
 use Rattle.std.specs.declared.option.Option.{Option}
 use Rattle.std.proofs.lemmas.Result.{err_from_is_err_and}
-use Rattle.std.proofs.lemmas.List.{get_or-set_same}
 use Rattle.std.specs.Prelude.{IsTrue}
 use Rattle.std.specs.declared.option.Option.TheVariants.{None, Some}
 use Rattle.iox2_store.specs.machine.Environments.{fixed_handlers}
-use Rattle.iox2_store.specs.machine.Limits.{worst_case, segment_fits}
-use Rattle.iox2_store.specs.machine.Ports.{first_segment_fits, with_new_publisher}
+use Rattle.iox2_store.specs.machine.Limits.{segment_fits}
+use Rattle.iox2_store.specs.machine.Ports.{first_segment_fits, slots_for, with_new_publisher}
 use Rattle.iox2_store.specs.machine.Records.{Handler}
 use Rattle.iox2_store.specs.declared.backpressure.BackpressureAction.{BackpressureAction}
 use Rattle.iox2_store.specs.declared.errors.PublisherCreateError.TheVariants.{FailedToDeployThreadsafetyPolicy}
-use Rattle.iox2_store.specs.machine.PublisherUpdate.{UpdatePublisher}
-use Rattle.iox2_ends.proofs.MailboxChanges.{within_if_some, both-true}
+use Rattle.iox2_ends.proofs.MailboxChanges.{both-true}
 use Rattle.iox2_domain.specs.Boxes.{box_of}
 use Rattle.iox2_domain.specs.Kept.{state_of}
 use Rattle.iox2_domain.specs.Reaches.{Reaches}
 use Rattle.iox2_domain.specs.declared.boxes.PortBox.{PortBox}
 use Rattle.iox2_domain.specs.Fields.{Fields, kept_of}
 use Rattle.iox2_ends.specs.Handlers.{marks_of}
-use Rattle.iox2_domain.specs.Ports.{PublisherFields}
 use Rattle.iox2_domain.specs.NewPublisher.{static_publisher}
 use Rattle.iox2_steps.proofs.creations.PublisherCreations.{created-refused, created-unfit, created-made, created-updated}
 use Rattle.iox2_domain.proofs.lemmas.fields.ReachesShows.{reaches-same}
@@ -28,14 +25,14 @@ pub returns-in_err-place-clause-step : goal.returns-in_err-place-clause-step
 returns-in_err-place-clause-step g c =
     let refused = err_from_is_err_and c.from_residual.result c.from_residual.ensures.1 in
     rw (refused.1, refused.2) (
-      created-refused {T = g.row.T.Denot} {U = g.row.U.Denot} c.args.state.now c.args.max_loaned_samples c.args.strategy (marks_of c.args.handler) c.args.initial_max_slice_len fixed_handlers c.in_err-place.field-0.0 (sym c.place_for_publisher.ensures ∙ c.in_err-place.was),
+      created-refused {T = g.row.T.Denot} {U = g.row.U.Denot} c.args.state.now (static_publisher c.args.given.now (marks_of c.args.handler)) fixed_handlers c.in_err-place.field-0.0 (sym c.place_for_publisher.ensures ∙ c.in_err-place.was),
       reaches-same c.args.state.now c.requires,
     )
 
 pub returns-in_default-clause-step : goal.returns-in_default-clause-step
 returns-in_default-clause-step g c = (
-  created-unfit {T = g.row.T.Denot} {U = g.row.U.Denot} c.args.state.now c.args.max_loaned_samples c.args.strategy (marks_of c.args.handler) c.args.initial_max_slice_len fixed_handlers c.in_ok-place.place (sym c.place_for_publisher.ensures ∙ c.in_ok-place.was)
-      (subst (λ (f : Fields g.row.T.Denot g.row.U.Denot). IsTrue (first_segment_fits f.config (static_publisher c.args.max_loaned_samples c.args.strategy (marks_of c.args.handler) c.args.initial_max_slice_len)) → ⊥) c.state.view_is c.in_default.ensures),
+  created-unfit {T = g.row.T.Denot} {U = g.row.U.Denot} c.args.state.now (static_publisher c.args.given.now (marks_of c.args.handler)) fixed_handlers c.in_ok-place.place (sym c.place_for_publisher.ensures ∙ c.in_ok-place.was)
+      (subst (λ (f : Fields g.row.T.Denot g.row.U.Denot). IsTrue (first_segment_fits f.config (static_publisher c.args.given.now (marks_of c.args.handler))) → ⊥) c.state.view_is c.in_default.ensures),
   reaches-same c.args.state.now c.requires,
 )
 
@@ -43,40 +40,36 @@ pub returns-in_err-id-clause-step : goal.returns-in_err-id-clause-step
 returns-in_err-id-clause-step g c =
     let refused = err_from_is_err_and c.from_residual-in_err-id.result c.from_residual-in_err-id.ensures.1 in
     rw (refused.1, refused.2) (
-      created-made {T = g.row.T.Denot} {U = g.row.U.Denot} c.args.state.now c.args.max_loaned_samples c.args.strategy (marks_of c.args.handler) c.args.initial_max_slice_len fixed_handlers c.in_ok-place.place (state_of (kept_of c.args.state.now)) (Some c.in_err-id.field-0.0)
+      created-made {T = g.row.T.Denot} {U = g.row.U.Denot} c.args.state.now (static_publisher c.args.given.now (marks_of c.args.handler)) fixed_handlers c.in_ok-place.place (state_of (kept_of c.args.state.now)) (Some c.in_err-id.field-0.0)
           (sym c.place_for_publisher.ensures ∙ c.in_ok-place.was)
-          (subst (λ (f : Fields g.row.T.Denot g.row.U.Denot). IsTrue (first_segment_fits f.config (static_publisher c.args.max_loaned_samples c.args.strategy (marks_of c.args.handler) c.args.initial_max_slice_len))) c.state.view_is c.in-Some.ensures.0)
+          (subst (λ (f : Fields g.row.T.Denot g.row.U.Denot). IsTrue (first_segment_fits f.config (static_publisher c.args.given.now (marks_of c.args.handler)))) c.state.view_is c.in-Some.ensures.0)
           (tt, refl, c.in_err-id.ensures.step.1),
       c.in_err-id.ensures.step.0,
     )
 
-pub update_publisher-requires-clause-stands : goal.update_publisher-requires-clause-stands
-update_publisher-requires-clause-stands g c =
-    (c.in_ok-id.ensures.stands.0, c.in_ok-id.ensures.stands.1)
+pub update_first-requires-clause-agrees : goal.update_first-requires-clause-agrees
+update_first-requires-clause-agrees g c = c.in_ok-id.ensures.step.agrees
 
-pub update_publisher-requires-clause-unblocked : goal.update_publisher-requires-clause-unblocked
-update_publisher-requires-clause-unblocked g c = λ z at_z.
+pub update_first-requires-clause-stands : goal.update_first-requires-clause-stands
+update_first-requires-clause-stands g c =
     let entered = c.in_ok-id.ensures in
-    let both : Some z ≡ Some entered.stands.0 = sym at_z ∙ entered.stands.1 in
-    let is : z ≡ entered.stands.0 = cc in
-    ap (λ (w : PublisherFields). w.blocked) is ∙ entered.stands.3
+    (entered.stands.0, entered.stands.1, entered.stands.2 ∙ sym entered.id, entered.stands.3)
 
 pub returns-clause-step : goal.returns-clause-step
 returns-clause-step g c =
     let entered = c.in_ok-id.ensures in
-    let updated = c.update_publisher.ensures entered.stands.0 entered.stands.1 in
-    created-updated {T = g.row.T.Denot} {U = g.row.U.Denot} c.args.state.now c.args.max_loaned_samples c.args.strategy (marks_of c.args.handler) c.args.initial_max_slice_len fixed_handlers
-    c.admit_publisher.new.state c.update_publisher.new.state c.in_ok-place.place updated.after (sym c.place_for_publisher.ensures ∙ c.in_ok-place.was)
-    (subst (λ (f : Fields g.row.T.Denot g.row.U.Denot). IsTrue (first_segment_fits f.config (static_publisher c.args.max_loaned_samples c.args.strategy (marks_of c.args.handler) c.args.initial_max_slice_len))) c.state.view_is c.in-Some.ensures.0)
+    created-updated {T = g.row.T.Denot} {U = g.row.U.Denot} c.args.state.now (static_publisher c.args.given.now (marks_of c.args.handler)) fixed_handlers
+    c.admit_publisher.new.state c.update_first.new.state c.in_ok-place.place (sym c.place_for_publisher.ensures ∙ c.in_ok-place.was)
+    (subst (λ (f : Fields g.row.T.Denot g.row.U.Denot). IsTrue (first_segment_fits f.config (static_publisher c.args.given.now (marks_of c.args.handler)))) c.state.view_is c.in-Some.ensures.0)
     (subst (λ (h : Option (Handler BackpressureAction)). Reaches c.args.state.now c.admit_publisher.new.state
-    (with_new_publisher (state_of (kept_of c.args.state.now)) (static_publisher c.args.max_loaned_samples c.args.strategy h c.args.initial_max_slice_len) c.in_ok-place.place)) c.mark_of.ensures entered.step)
-    (subst (λ (id : ℕ). UpdatePublisher fixed_handlers (state_of (kept_of c.admit_publisher.new.state)) id updated.after None) entered.stands.2 updated.updates) updated.reaches
+    (with_new_publisher (state_of (kept_of c.args.state.now)) (static_publisher c.args.given.now h) c.in_ok-place.place)) c.mark_of.ensures entered.step)
+    entered.stands.0 entered.stands.2 (c.update_first.ensures entered.stands.0 entered.stands.1)
 
 pub returns-in_default-reserve_for-clause-step : goal.returns-in_default-reserve_for-clause-step
 returns-in_default-reserve_for-clause-step g c = (
-  created-made {T = g.row.T.Denot} {U = g.row.U.Denot} c.args.state.now c.args.max_loaned_samples c.args.strategy (marks_of c.args.handler) c.args.initial_max_slice_len fixed_handlers c.in_ok-place.place (state_of (kept_of c.args.state.now)) (Some FailedToDeployThreadsafetyPolicy)
+  created-made {T = g.row.T.Denot} {U = g.row.U.Denot} c.args.state.now (static_publisher c.args.given.now (marks_of c.args.handler)) fixed_handlers c.in_ok-place.place (state_of (kept_of c.args.state.now)) (Some FailedToDeployThreadsafetyPolicy)
       (sym c.place_for_publisher.ensures ∙ c.in_ok-place.was)
-      (subst (λ (f : Fields g.row.T.Denot g.row.U.Denot). IsTrue (first_segment_fits f.config (static_publisher c.args.max_loaned_samples c.args.strategy (marks_of c.args.handler) c.args.initial_max_slice_len))) c.state.view_is c.in-Some.ensures.0)
+      (subst (λ (f : Fields g.row.T.Denot g.row.U.Denot). IsTrue (first_segment_fits f.config (static_publisher c.args.given.now (marks_of c.args.handler)))) c.state.view_is c.in-Some.ensures.0)
       (tt, refl, inr refl),
   reaches-same c.args.state.now c.requires,
 )
@@ -90,25 +83,18 @@ admit_publisher-requires-clause-has_place g c = sym c.place_for_publisher.ensure
 
 pub admit_publisher-requires-clause-slots : goal.admit_publisher-requires-clause-slots
 admit_publisher-requires-clause-slots g c =
-    c.in-Some.ensures.1 ∙ ap (λ (f : Fields g.row.T.Denot g.row.U.Denot). worst_case f.config c.args.max_loaned_samples) c.state.view_is
-
-pub update_publisher-requires-clause-agrees : goal.update_publisher-requires-clause-agrees
-update_publisher-requires-clause-agrees g c = c.in_ok-id.ensures.step.agrees
+    c.in-Some.ensures.1 ∙ ap (λ (f : Fields g.row.T.Denot g.row.U.Denot). slots_for f.config (static_publisher c.args.given.now None)) c.state.view_is
 
 pub returns-clause-stands : goal.returns-clause-stands
 returns-clause-stands g c =
     let entered = c.in_ok-id.ensures in
-    let updated = c.update_publisher.ensures entered.stands.0 entered.stands.1 in (
-      record (entered.stands.0) { keys = updated.keys; key_room = updated.key_room; is_due = false },
-      ap (λ (f : Fields g.row.T.Denot g.row.U.Denot). get_or f.publishers c.in_ok-place.place None) updated.fields
-          ∙ get_or-set_same c.admit_publisher.new.state.publishers c.in_ok-place.place (Some (record (entered.stands.0) { keys = updated.keys; key_room = updated.key_room; is_due = false })) None (within_if_some c.admit_publisher.new.state.publishers c.in_ok-place.place entered.stands.0 entered.stands.1),
-      entered.stands.2 ∙ sym entered.id,
-    )
+    let updated = c.update_first.ensures entered.stands.0 entered.stands.1 in
+    (updated.publisher, updated.stands, updated.is_its ∙ entered.stands.2 ∙ sym entered.id)
 
 pub admit_publisher-requires-clause-size : goal.admit_publisher-requires-clause-size
 admit_publisher-requires-clause-size g c =
-    let fits : IsTrue (first_segment_fits c.args.state.now.config (static_publisher c.args.max_loaned_samples c.args.strategy (marks_of c.args.handler) c.args.initial_max_slice_len)) =
-    subst (λ (f : Fields g.row.T.Denot g.row.U.Denot). IsTrue (first_segment_fits f.config (static_publisher c.args.max_loaned_samples c.args.strategy (marks_of c.args.handler) c.args.initial_max_slice_len))) c.state.view_is c.in-Some.ensures.0 in
-    let slots : c.in-Some.slots ≡ worst_case c.args.state.now.config c.args.max_loaned_samples =
-    c.in-Some.ensures.1 ∙ ap (λ (f : Fields g.row.T.Denot g.row.U.Denot). worst_case f.config c.args.max_loaned_samples) c.state.view_is in
-    ap (λ (n : ℕ). segment_fits c.args.state.now.config n c.args.initial_max_slice_len) slots ∙ (both-true _ _ fits).1
+    let fits : IsTrue (first_segment_fits c.args.state.now.config (static_publisher c.args.given.now (marks_of c.args.handler))) =
+    subst (λ (f : Fields g.row.T.Denot g.row.U.Denot). IsTrue (first_segment_fits f.config (static_publisher c.args.given.now (marks_of c.args.handler)))) c.state.view_is c.in-Some.ensures.0 in
+    let slots : c.in-Some.slots ≡ slots_for c.args.state.now.config (static_publisher c.args.given.now None) =
+    c.in-Some.ensures.1 ∙ ap (λ (f : Fields g.row.T.Denot g.row.U.Denot). slots_for f.config (static_publisher c.args.given.now None)) c.state.view_is in
+    ap (λ (n : ℕ). segment_fits c.args.state.now.config n c.args.given.now.initial_max_slice_len) slots ∙ (both-true _ _ fits).1

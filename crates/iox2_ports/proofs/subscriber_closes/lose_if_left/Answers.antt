@@ -1,7 +1,44 @@
-use Rattle.std.proofs.Common.{inl, refl, ◌∙◌}
-use Rattle.iox2_closes.specs.Closes.{IsLeftAt}
+use Rattle.std.proofs.Common.{◌≡◌, List, true, inl, inr, refl, sym, subst, ◌∙◌, slice_index_or}
+use Rattle.std.specs.Prelude.{IsSomeAnd}
+use Rattle.std.specs.declared.option.Option.{Option}
+use Rattle.std.specs.declared.option.Option.TheVariants.{None, Some}
+use Rattle.slab.specs.Slab.{ContainsKey, get}
+use Rattle.iox2_slots.specs.Link.{Link}
+use Rattle.iox2_domain.specs.Ports.{PublisherFields}
+use Rattle.iox2_domain.specs.Fields.{Fields}
+use Rattle.iox2_closes.specs.Closes.{IsLeftAt, IsStanding, HasNoPublisher}
 use Rattle.iox2_closes.proofs.CloseReads.{home-read, left-there, left-after, left-loses, left-home, left-within, left-only, left-settles, left-settled, others-after}
 use Rattle.iox2_ports.proofs.subscriber_closes.lose_if_left.Goals as goal
+
+-- a connection whose publisher stands nowhere isn't of the one at its place
+departs-from : (publishers : List (Option PublisherFields)) (c : Link) → HasNoPublisher publishers c → IsStanding publishers c.home → ⊥
+departs-from publishers c nowhere standing = by (slice_index_or publishers c.home.publisher_place None) refl standing
+  where
+    by : (o : Option PublisherFields) → slice_index_or publishers c.home.publisher_place None ≡ o → IsSomeAnd o (λ (x : PublisherFields). x.id ≡ c.home.publisher) → ⊥
+    by None at standing = standing
+    by (Some x) at mine = nowhere c.home.publisher_place x at mine
+
+pub index-requires : goal.index-requires
+index-requires g c =
+    let left : IsLeftAt c.args.state.now c.args.place c.in-Some.key =
+    left-there c.args.state.now c.requires.parts c.args.place c.in-Some.key (c.requires.known c.in-Some.key c.in-Some.is) c.args.state.now refl (c.is_left.ensures.0 c.if-is_left.true) in
+    subst (λ (f : Fields g.row.T.Denot g.row.U.Denot). ContainsKey f.connections c.in-Some.key) (sym c.state.view_is) (rw left.link_stands refl)
+
+pub lose_waiting-requires-clause-departed : goal.lose_waiting-requires-clause-departed
+lose_waiting-requires-clause-departed g c =
+    let left : IsLeftAt c.args.state.now c.args.place c.in-Some.key =
+    left-there c.args.state.now c.requires.parts c.args.place c.in-Some.key (c.requires.known c.in-Some.key c.in-Some.is) c.args.state.now refl (c.is_left.ensures.0 c.if-is_left.true) in
+    rw left.link_stands left.departed
+
+pub returns-else-is_left : goal.returns-else-is_left
+returns-else-is_left g c =
+    rw c.in-Some.is (inr (
+      (λ link there nowhere.
+          let gone : IsSomeAnd (get c.args.state.now.connections c.in-Some.key) (λ (l : Link). IsStanding c.args.state.now.publishers l.home → ⊥) = rw there (departs-from c.args.state.now.publishers link nowhere) in
+          let left : c.is_left.result ≡ true = c.is_left.ensures.1 gone in
+          cc),
+      refl,
+    ))
 
 pub forget_if_empty-requires-clause-home : goal.forget_if_empty-requires-clause-home
 forget_if_empty-requires-clause-home g c =

@@ -1,6 +1,7 @@
 use Rattle.std.proofs.Common.{refl, sym, ◌∙◌, Some}
 use Rattle.std.proofs.lemmas.Result.{err_from_is_err_and}
 use Rattle.iox2_store.specs.machine.Environments.{fixed_handlers}
+use Rattle.iox2_domain.specs.SubscriberEntry.{asked_for}
 use Rattle.iox2_domain.specs.Kept.{state_of}
 use Rattle.iox2_domain.specs.Fields.{kept_of}
 use Rattle.iox2_steps.proofs.creations.SubscriberEntries.{created-reaches, created-refused, created-made}
@@ -10,7 +11,7 @@ pub returns-in_err-place-clause-step : goal.returns-in_err-place-clause-step
 returns-in_err-place-clause-step g c =
     let refused = err_from_is_err_and c.from_residual.result c.from_residual.ensures.1 in
     rw (refused.1, refused.2) (
-      created-refused {T = g.row.T.Denot} {U = g.row.U.Denot} c.args.state.now c.args.asked fixed_handlers c.in_err-place.field-0.0 (sym c.place_for_subscriber.ensures ∙ c.in_err-place.was),
+      created-refused {T = g.row.T.Denot} {U = g.row.U.Denot} c.args.state.now (asked_for c.args.given.now) fixed_handlers c.in_err-place.field-0.0 (sym c.place_for_subscriber.ensures ∙ c.in_err-place.was),
       refl,
     )
 
@@ -19,14 +20,14 @@ returns-in_err-id-clause-step g c =
     let refused = err_from_is_err_and c.from_residual-in_err-id.result c.from_residual-in_err-id.ensures.1 in
     let why = c.in_err-id.ensures.step in
     rw (refused.1, refused.2) (
-      created-made {T = g.row.T.Denot} {U = g.row.U.Denot} c.args.state.now c.args.asked fixed_handlers c.in_ok-place.place (state_of (kept_of c.args.state.now))
+      created-made {T = g.row.T.Denot} {U = g.row.U.Denot} c.args.state.now (asked_for c.args.given.now) fixed_handlers c.in_ok-place.place (state_of (kept_of c.args.state.now))
           (Some c.in_err-id.field-0.0) (sym c.place_for_subscriber.ensures ∙ c.in_ok-place.was) (tt, refl, why.1),
       why.0,
     )
 
 pub returns-clause-step : goal.returns-clause-step
 returns-clause-step g c =
-    created-reaches {T = g.row.T.Denot} {U = g.row.U.Denot} c.args.state.now c.args.asked fixed_handlers c.admit_subscriber.new.state c.update_first.new.state c.in_ok-place.place
+    created-reaches {T = g.row.T.Denot} {U = g.row.U.Denot} c.args.state.now (asked_for c.args.given.now) fixed_handlers c.admit_subscriber.new.state c.update_first.new.state c.in_ok-place.place
     (sym c.place_for_subscriber.ensures ∙ c.in_ok-place.was) c.in_ok-id.ensures.step c.update_first.ensures
 
 pub returns-clause-stands : goal.returns-clause-stands

@@ -1,12 +1,16 @@
 //! The factory of subscribers of slices.
 ghost use Rattle.std.specs.Prelude.{◌≡◌, None, Some, IfOk, MatchResult};
+ghost use Rattle.iox2_store.specs.declared.degradation.DegradationAction.TheVariants.{Warn};
 ghost use Rattle.iox2_store.specs.machine.Environments.{fixed_handlers};
+ghost use Rattle.iox2_store.specs.machine.Records.{Fixed};
 ghost use Rattle.iox2_store.specs.machine.Ports.{default_subscriber_settings, buffer_for, CreateSubscriber};
 ghost use Rattle.iox2_store.specs.machine.State.{State, Messages};
 ghost use Rattle.iox2_pubsub.specs.Live.{IsLiveSubscriber, IsNewIn, Stays, subscriber_port, UpToDateStay, payloads, waiting};
 ghost use Rattle.iox2_pubsub.specs.LoansLeft.{LoansLeftStay};
+ghost use Rattle.iox2_pubsub.specs.Factories.{answer_of};
 ghost use Rattle.iox2_domain.specs.Shows.{Shows};
 
+use crate::degradation_handler::DegradationHandler;
 use crate::domain::Domain;
 use crate::slice::Subscriber;
 use iox2_store::{BackpressureFn, DegradationFn, SubscriberCreateError};
@@ -29,6 +33,7 @@ impl Model for PortFactorySubscriber {
 }
 
 impl PortFactorySubscriber {
+    ghost use Rattle.iox2_pubsub.specs.Handles.{as_subscriber, buffer_size_of, subscriber_id};
     /// Sets how many messages of one publisher may wait for the subscriber. Here 0 counts as 1.
     ///
     /// iceoryx2's `PortFactorySubscriber::buffer_size` (`src/service/port_factory/subscriber.rs`).
@@ -40,12 +45,26 @@ impl PortFactorySubscriber {
         }
     }
 
-    /// A factory with the same settings.
+    /// Sets what answers where memory for a connection with a publisher is refused: the subscriber
+    /// goes on without it, or the domain warns of it too, as by default, or the call fails.
+    ///
+    /// iceoryx2's `PortFactorySubscriber::set_degradation_handler`
+    /// (`src/service/port_factory/subscriber.rs`).
+    pub fn set_degradation_handler(self, handler: DegradationHandler) -> Self
+        ensures { result ≡ record self { degradation_handler = answer_of handler } }
+    {
+        PortFactorySubscriber {
+            factory: self.factory.set_degradation_handler(handler),
+        }
+    }
+
+    /// A factory with the same settings, which makes subscribers without a handler: where memory for
+    /// a connection is refused, the domain warns of it.
     ///
     /// iceoryx2's `PortFactorySubscriber::__internal_partial_clone`
     /// (`src/service/port_factory/subscriber.rs`).
     pub fn internal_partial_clone(&self) -> Self
-        ensures { result ≡ self.now }
+        ensures { result ≡ record (self.now) { degradation_handler = Fixed Warn } }
     {
         PortFactorySubscriber {
             factory: self.factory.internal_partial_clone(),
@@ -62,11 +81,11 @@ impl PortFactorySubscriber {
         domain: &mut Domain<T, U, F, G>,
     ) -> Result<Subscriber, SubscriberCreateError>
         ensures creates { (m : Messages T U) (s : State T U) → Shows domain.old m s → (s' : State T U) × Shows domain.new m s' × MatchResult result
-            (λ subscriber. CreateSubscriber fixed_handlers s self s' None × (subscriber.subscriber.id ≡ s.next_port) × (subscriber.subscriber.buffer_size ≡ buffer_for self))
+            (λ subscriber. CreateSubscriber fixed_handlers s self s' None × (subscriber_id (as_subscriber subscriber) ≡ s.next_port) × (buffer_size_of (as_subscriber subscriber) ≡ buffer_for self))
             (λ error. CreateSubscriber fixed_handlers s self s' (Some error)) }
-        ensures live { IfOk result (λ subscriber. IsLiveSubscriber domain.new subscriber.subscriber) }
-        ensures new { IfOk result (λ subscriber. IsNewIn domain.old (subscriber_port subscriber.subscriber)) }
-        ensures none { IfOk result (λ subscriber. waiting domain.new subscriber.subscriber ≡ 0) }
+        ensures live { IfOk result (λ subscriber. IsLiveSubscriber domain.new (as_subscriber subscriber)) }
+        ensures new { IfOk result (λ subscriber. IsNewIn domain.old (subscriber_port (as_subscriber subscriber))) }
+        ensures none { IfOk result (λ subscriber. waiting domain.new (as_subscriber subscriber) ≡ 0) }
         ensures waits { payloads domain.new ≡ payloads domain.old }
         ensures up_to_date { UpToDateStay domain.old domain.new }
         ensures loans_left { LoansLeftStay domain.old domain.new }

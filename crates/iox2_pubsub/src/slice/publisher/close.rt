@@ -1,5 +1,5 @@
 //! A publisher of slices is closed.
-ghost use Rattle.std.specs.Prelude.{◌≡◌, ◌≤◌};
+ghost use Rattle.std.specs.Prelude.{◌≡◌, ◌≢◌, ◌≤◌, ℕ};
 
 use crate::domain::Domain;
 use crate::slice::Publisher;
@@ -10,10 +10,11 @@ impl Publisher {
     ghost use Rattle.iox2_store.specs.machine.Ports.{publisher_closed};
     ghost use Rattle.iox2_store.specs.machine.Records.{Publisher as Record};
     ghost use Rattle.iox2_store.specs.machine.State.{State, Messages};
-    ghost use Rattle.iox2_pubsub.specs.Live.{IsPublisherKey, IsReadyPublisher, IsUpToDate, StaysBut, publisher_key, publisher_port, waiting};
+    ghost use Rattle.iox2_pubsub.specs.Live.{IsConnected, IsPublisherKey, IsReadyPublisher, IsUpToDate, StaysBut, publisher_key, publisher_port, payloads_from, waiting};
     ghost use Rattle.iox2_pubsub.specs.LoansLeft.{NumbersLeftStay, OthersLoansLeftStay};
     ghost use Rattle.iox2_pubsub.specs.declared.subscriber.Subscriber.{Subscriber};
     ghost use Rattle.iox2_domain.specs.Shows.{Shows};
+    ghost use Rattle.iox2_pubsub.specs.Handles.{as_publisher, publisher_id};
 
     /// Closes the publisher, as one of single values is closed.
     ///
@@ -22,14 +23,17 @@ impl Publisher {
         self,
         domain: &mut Domain<T, U, F, G>,
     )
-        requires { IsReadyPublisher domain.old self.publisher }
-        ensures closed { (m : Messages T U) (s : State T U) (x : Record) → Shows domain.old m s → s.publishers (publisher_key self.publisher).port ≡ Some x
-            → Shows domain.new m (publisher_closed s (publisher_key self.publisher).port x) }
-        ensures spent { IsPublisherKey domain.new (publisher_key self.publisher) → ⊥ }
+        requires ready { IsReadyPublisher domain.old (as_publisher self) }
+        ensures closed { (m : Messages T U) (s : State T U) (x : Record) → Shows domain.old m s → s.publishers (publisher_key (as_publisher self)).port ≡ Some x
+            → Shows domain.new m (publisher_closed s (publisher_key (as_publisher self)).port x) }
+        ensures spent { IsPublisherKey domain.new (publisher_key (as_publisher self)) → ⊥ }
         ensures no_fewer { (subscriber : Subscriber) → IsUpToDate domain.old subscriber → waiting domain.old subscriber ≤ waiting domain.new subscriber }
-        ensures loans_left { OthersLoansLeftStay self.publisher domain.old domain.new }
+        ensures keeps { (publisher : ℕ) (subscriber : Subscriber) → IsUpToDate domain.old subscriber → IsConnected domain.old publisher subscriber
+            → payloads_from domain.new publisher subscriber ≡ payloads_from domain.old publisher subscriber }
+        ensures connections { (publisher : ℕ) (subscriber : Subscriber) → publisher ≢ publisher_id (as_publisher self) → IsConnected domain.old publisher subscriber → IsConnected domain.new publisher subscriber }
+        ensures loans_left { OthersLoansLeftStay (as_publisher self) domain.old domain.new }
         ensures numbers_left { NumbersLeftStay domain.old domain.new }
-        ensures stays { StaysBut (publisher_port self.publisher) domain.old domain.new }
+        ensures stays { StaysBut (publisher_port (as_publisher self)) domain.old domain.new }
     {
         let Publisher { publisher } = self;
         publisher.close(domain);

@@ -14,6 +14,7 @@ impl Publisher {
     ghost use Rattle.iox2_pubsub.specs.Live.{HasLender, IsNewIn, IsReadyPublisher, IsUnblocked, IsUnwritten, IsUnwrittenLoan, LoanHasHeader, NeverWaits, Stays, UpToDateStay, lender_key, payloads, publisher_key, unwritten_key, unwritten_loan};
     ghost use Rattle.iox2_pubsub.specs.LoansLeft.{HasLoansLeft, HasNumbersLeft, LoansLeftStay, TakesOneLeft};
     ghost use Rattle.iox2_pubsub.specs.Slices.{HasUnwrittenCells};
+    ghost use Rattle.iox2_pubsub.specs.Handles.{as_publisher, as_unwritten, max_slice_len_of, publisher_id, unwritten_lender, unwritten_number};
 
     /// Lends a message of so many elements, each of as many bytes as the domain's settings say
     /// (`units_per_element`), none of which is written. In a domain of the variant `FixedSize` the
@@ -25,27 +26,27 @@ impl Publisher {
         domain: &mut Domain<CustomPayloadMarker, CustomHeaderMarker, F, G>,
         slice_len: usize,
     ) -> Result<SampleMutUninit, LoanError>
-        requires ready { IsReadyPublisher domain.old self.now.publisher }
+        requires ready { IsReadyPublisher domain.old (as_publisher self.now) }
         requires single { (domain.old.config).variant ≡ FixedSize → slice_len ≡ 1 }
         ensures lends { (m : Messages CustomPayloadMarker CustomHeaderMarker) (s : State CustomPayloadMarker CustomHeaderMarker) → Shows domain.old m s
             → (s' : State CustomPayloadMarker CustomHeaderMarker) × Shows domain.new m s'
-            × LoanCall (λ _. ⊤) true slice_len s self.now.publisher.id result s' }
-        ensures granted { (loans numbers : ℕ) → HasLoansLeft domain.old self.now.publisher (loans + 1) → HasNumbersLeft domain.old (numbers + 1)
-            → slice_len ≤ self.now.publisher.initial_max_slice_len → IsOk result }
-        ensures out { IfOk result (λ loan. IsUnwritten domain.new loan.sample) }
-        ensures live { NeverWaits domain.old (publisher_key self.now.publisher) → IfOk result (λ loan. IsUnwrittenLoan domain.new loan.sample) }
-        ensures unblocked { IfOk result (λ loan. IsUnblocked domain.new (unwritten_key loan.sample)) }
-        ensures cells { IfOk result (λ loan. HasUnwrittenCells domain.new loan.sample.loan.number (replicate (slice_len * (domain.old.config).units_per_element) None)) }
-        ensures lengths { IfOk result (λ loan. (cells : List (Option CustomPayloadMarker)) → HasUnwrittenCells domain.new loan.sample.loan.number cells → length cells ≡ slice_len * (domain.old.config).units_per_element) }
-        ensures header { IfOk result (λ loan. LoanHasHeader domain.new (unwritten_key loan.sample) (header_for domain.old.config self.now.publisher.id slice_len)) }
-        ensures new { IfOk result (λ loan. IsNewIn domain.old (unwritten_loan loan.sample)) }
-        ensures number { IfOk result (λ loan. loan.sample.loan.number ≡ domain.old.next_message) }
-        ensures publisher { IfOk result (λ loan. loan.sample.loan.publisher ≡ self.now.publisher.id) }
-        ensures lent { IfOk result (λ loan. HasLender domain.new (unwritten_key loan.sample)) }
-        ensures lender { IfOk result (λ loan. lender_key (unwritten_key loan.sample) ≡ publisher_key self.now.publisher) }
+            × LoanCall (λ _. ⊤) true slice_len s (publisher_id (as_publisher self.now)) result s' }
+        ensures granted { (loans numbers : ℕ) → HasLoansLeft domain.old (as_publisher self.now) (loans + 1) → HasNumbersLeft domain.old (numbers + 1)
+            → slice_len ≤ max_slice_len_of (as_publisher self.now) → IsOk result }
+        ensures out { IfOk result (λ loan. IsUnwritten domain.new (as_unwritten loan)) }
+        ensures live { NeverWaits domain.old (publisher_key (as_publisher self.now)) → IfOk result (λ loan. IsUnwrittenLoan domain.new (as_unwritten loan)) }
+        ensures unblocked { IfOk result (λ loan. IsUnblocked domain.new (unwritten_key (as_unwritten loan))) }
+        ensures cells { IfOk result (λ loan. HasUnwrittenCells domain.new (unwritten_number (as_unwritten loan)) (replicate (slice_len * (domain.old.config).units_per_element) None)) }
+        ensures lengths { IfOk result (λ loan. (cells : List (Option CustomPayloadMarker)) → HasUnwrittenCells domain.new (unwritten_number (as_unwritten loan)) cells → length cells ≡ slice_len * (domain.old.config).units_per_element) }
+        ensures header { IfOk result (λ loan. LoanHasHeader domain.new (unwritten_key (as_unwritten loan)) (header_for domain.old.config (publisher_id (as_publisher self.now)) slice_len)) }
+        ensures new { IfOk result (λ loan. IsNewIn domain.old (unwritten_loan (as_unwritten loan))) }
+        ensures number { IfOk result (λ loan. unwritten_number (as_unwritten loan) ≡ domain.old.next_message) }
+        ensures publisher { IfOk result (λ loan. unwritten_lender (as_unwritten loan) ≡ publisher_id (as_publisher self.now)) }
+        ensures lent { IfOk result (λ loan. HasLender domain.new (unwritten_key (as_unwritten loan))) }
+        ensures lender { IfOk result (λ loan. lender_key (unwritten_key (as_unwritten loan)) ≡ publisher_key (as_publisher self.now)) }
         ensures waits { payloads domain.new ≡ payloads domain.old }
         ensures up_to_date { UpToDateStay domain.old domain.new }
-        ensures loans_left { TakesOneLeft self.now.publisher domain.old domain.new }
+        ensures loans_left { TakesOneLeft (as_publisher self.now) domain.old domain.new }
         ensures refused { OnErr result (LoansLeftStay domain.old domain.new) }
         ensures stays { Stays domain.old domain.new }
     {

@@ -14,6 +14,7 @@ impl Publisher {
     ghost use Rattle.iox2_pubsub.specs.LoansLeft.{HasLoansLeft, HasNumbersLeft, LoansLeftStay, TakesOneLeft};
     ghost use Rattle.iox2_pubsub.specs.Slices.{HasValues};
     ghost use Rattle.iox2_pubsub.specs.WrittenLoans.{DefaultSliceCall};
+    ghost use Rattle.iox2_pubsub.specs.Handles.{as_publisher, as_written, max_slice_len_of, publisher_id, written_lender, written_number};
 
     /// Lends a message of so many elements, 0 or more, each of which is a default value of its own,
     /// and whose user header has its default value, so that it may be sent as it is. Refused as
@@ -25,25 +26,25 @@ impl Publisher {
         domain: &mut Domain<T, U, F, G>,
         slice_len: usize,
     ) -> Result<SampleMut, LoanError>
-        requires ready { IsReadyPublisher domain.old self.now.publisher }
+        requires ready { IsReadyPublisher domain.old (as_publisher self.now) }
         requires dynamic { (domain.old.config).variant ≡ Dynamic }
         requires one_unit { (domain.old.config).units_per_element ≡ 1 }
         ensures lends { (m : Messages T U) (s : State T U) → Shows domain.old m s
-            → (s' : State T U) × Shows domain.new m s' × DefaultSliceCall T.is_default U.is_default slice_len s self.now.publisher.id result s' }
-        ensures granted { (loans numbers : ℕ) → HasLoansLeft domain.old self.now.publisher (loans + 1) → HasNumbersLeft domain.old (numbers + 1)
-            → slice_len ≤ self.now.publisher.initial_max_slice_len → IsOk result }
-        ensures out { IfOk result (λ loan. IsWritten domain.new loan.sample) }
-        ensures live { NeverWaits domain.old (publisher_key self.now.publisher) → IfOk result (λ loan. IsWrittenLoan domain.new loan.sample) }
-        ensures unblocked { IfOk result (λ loan. IsUnblocked domain.new (written_key loan.sample)) }
-        ensures reads { IfOk result (λ loan. (values : List T) × All T.is_default values × (length values ≡ slice_len) × HasValues domain.new loan.sample.loan.number values) }
-        ensures new { IfOk result (λ loan. IsNewIn domain.old (written_loan loan.sample)) }
-        ensures number { IfOk result (λ loan. loan.sample.loan.number ≡ domain.old.next_message) }
-        ensures publisher { IfOk result (λ loan. loan.sample.loan.publisher ≡ self.now.publisher.id) }
-        ensures lender { IfOk result (λ loan. lender_key (written_key loan.sample) ≡ publisher_key self.now.publisher) }
-        ensures lent { IfOk result (λ loan. HasLender domain.new (written_key loan.sample)) }
+            → (s' : State T U) × Shows domain.new m s' × DefaultSliceCall T.is_default U.is_default slice_len s (publisher_id (as_publisher self.now)) result s' }
+        ensures granted { (loans numbers : ℕ) → HasLoansLeft domain.old (as_publisher self.now) (loans + 1) → HasNumbersLeft domain.old (numbers + 1)
+            → slice_len ≤ max_slice_len_of (as_publisher self.now) → IsOk result }
+        ensures out { IfOk result (λ loan. IsWritten domain.new (as_written loan)) }
+        ensures live { NeverWaits domain.old (publisher_key (as_publisher self.now)) → IfOk result (λ loan. IsWrittenLoan domain.new (as_written loan)) }
+        ensures unblocked { IfOk result (λ loan. IsUnblocked domain.new (written_key (as_written loan))) }
+        ensures reads { IfOk result (λ loan. (values : List T) × All T.is_default values × (length values ≡ slice_len) × HasValues domain.new (written_number (as_written loan)) values) }
+        ensures new { IfOk result (λ loan. IsNewIn domain.old (written_loan (as_written loan))) }
+        ensures number { IfOk result (λ loan. written_number (as_written loan) ≡ domain.old.next_message) }
+        ensures publisher { IfOk result (λ loan. written_lender (as_written loan) ≡ publisher_id (as_publisher self.now)) }
+        ensures lender { IfOk result (λ loan. lender_key (written_key (as_written loan)) ≡ publisher_key (as_publisher self.now)) }
+        ensures lent { IfOk result (λ loan. HasLender domain.new (written_key (as_written loan))) }
         ensures waits { payloads domain.new ≡ payloads domain.old }
         ensures up_to_date { UpToDateStay domain.old domain.new }
-        ensures loans_left { TakesOneLeft self.now.publisher domain.old domain.new }
+        ensures loans_left { TakesOneLeft (as_publisher self.now) domain.old domain.new }
         ensures refused { OnErr result (LoansLeftStay domain.old domain.new) }
         ensures stays { Stays domain.old domain.new }
     {

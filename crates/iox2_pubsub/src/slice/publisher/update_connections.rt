@@ -13,15 +13,18 @@ impl<T: Drop, U: Default + Drop, F: BackpressureFn, G: DegradationFn> UpdateConn
     ghost use Rattle.iox2_store.specs.machine.Environments.{fixed_handlers};
     ghost use Rattle.iox2_store.specs.machine.PublisherUpdate.{UpdatePublisher};
     ghost use Rattle.iox2_pubsub.specs.Live.{IsReadyPublisher, publisher_key};
+    ghost use Rattle.iox2_pubsub.specs.Handles.{as_publisher, publisher_id};
 
-    ghost is_live = { λ domain publisher. IsReadyPublisher domain publisher.publisher };
+    ghost is_live = { λ domain publisher. IsReadyPublisher domain (as_publisher publisher) };
 
     ghost live_stays = { λ old new publisher stays live. record {
       there = stays.publishers (publisher_key publisher.publisher) live.there tt;
       unblocked = stays.unblocked (publisher_key publisher.publisher) live.unblocked tt;
     } };
 
-    ghost updates = { λ s publisher s' failure. UpdatePublisher fixed_handlers s publisher.publisher.id s' failure };
+    ghost updates = { λ s publisher s' failure. UpdatePublisher fixed_handlers s (publisher_id (as_publisher publisher)) s' failure };
+
+    ghost is_updated = { λ domain publisher. Unit {0} };
 
     ghost adds = { λ domain. (domain.config).history_size };
 

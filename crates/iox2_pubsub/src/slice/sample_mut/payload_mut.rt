@@ -19,6 +19,7 @@ impl SampleMut {
     ghost use Rattle.iox2_pubsub.specs.LoanLends.{LendsPayloads};
     ghost use Rattle.iox2_pubsub.specs.LoansLeft.{LoansLeftStay};
     ghost use Rattle.iox2_pubsub.specs.Slices.{HasValues, IsSliced};
+    ghost use Rattle.iox2_pubsub.specs.Handles.{as_written, written_number};
 
     /// The payload, to be changed where it lies. What is left behind the reference is the loan's
     /// payload from then on, as long as it was, and nothing else of the domain changes.
@@ -28,25 +29,25 @@ impl SampleMut {
         domain: &'a mut Domain<T, U, F, G>,
         sample: &mut SampleMut,
     ) -> &'a mut [T]
-        requires live { IsWritten domain.old sample.old.sample }
+        requires live { IsWritten domain.old (as_written sample.old) }
         requires sliced { IsSliced domain.old }
-        ensures* writes_back { sem 𝓛 (LendsPayloads T.row U.row F.row G.row domain.entry sample.old.sample.loan.number result) }
+        ensures* writes_back { sem 𝓛 (LendsPayloads T.row U.row F.row G.row domain.entry (written_number (as_written sample.old)) result) }
         ensures same { sample.new ≡ sample.old }
-        ensures payload { HasValues domain.old sample.old.sample.loan.number result.now }
+        ensures payload { HasValues domain.old (written_number (as_written sample.old)) result.now }
         ensures changes { (m : Messages T U) (s : State T U) (left : List T) → Shows domain.old m s
-            → (l : Loan T U) × (s.loans sample.old.sample.loan.number ≡ Some l)
-            × Shows (with_payloads domain.old sample.old.sample.loan.number left) m (with_loan s sample.old.sample.loan.number (Some (cells_changed (map Some left) l))) }
-        ensures out { (left : List T) → IsWritten (with_payloads domain.old sample.old.sample.loan.number left) sample.old.sample }
-        ensures live { NeverWaits domain.old (written_key sample.old.sample) → (left : List T) → IsWrittenLoan (with_payloads domain.old sample.old.sample.loan.number left) sample.old.sample }
-        ensures reads { (left : List T) → length left ≡ length result.now → HasValues (with_payloads domain.old sample.old.sample.loan.number left) sample.old.sample.loan.number left }
-        ensures header { (left : List T) (header : Header) → LoanHasHeader domain.old (written_key sample.old.sample) header
-            → LoanHasHeader (with_payloads domain.old sample.old.sample.loan.number left) (written_key sample.new.sample) header }
-        ensures user_header { (left : List T) (header : U) → LoanHasUserHeader domain.old (written_key sample.old.sample) header
-            → LoanHasUserHeader (with_payloads domain.old sample.old.sample.loan.number left) (written_key sample.new.sample) header }
-        ensures waits { (left : List T) → payloads (with_payloads domain.old sample.old.sample.loan.number left) ≡ payloads domain.old }
-        ensures up_to_date { (left : List T) → UpToDateStay domain.old (with_payloads domain.old sample.old.sample.loan.number left) }
-        ensures loans_left { (left : List T) → LoansLeftStay domain.old (with_payloads domain.old sample.old.sample.loan.number left) }
-        ensures stays { (left : List T) → StaysBut (written_loan sample.old.sample) domain.old (with_payloads domain.old sample.old.sample.loan.number left) }
+            → (l : Loan T U) × (s.loans (written_number (as_written sample.old)) ≡ Some l)
+            × Shows (with_payloads domain.old (written_number (as_written sample.old)) left) m (with_loan s (written_number (as_written sample.old)) (Some (cells_changed (map Some left) l))) }
+        ensures out { (left : List T) → IsWritten (with_payloads domain.old (written_number (as_written sample.old)) left) (as_written sample.old) }
+        ensures live { NeverWaits domain.old (written_key (as_written sample.old)) → (left : List T) → IsWrittenLoan (with_payloads domain.old (written_number (as_written sample.old)) left) (as_written sample.old) }
+        ensures reads { (left : List T) → length left ≡ length result.now → HasValues (with_payloads domain.old (written_number (as_written sample.old)) left) (written_number (as_written sample.old)) left }
+        ensures header { (left : List T) (header : Header) → LoanHasHeader domain.old (written_key (as_written sample.old)) header
+            → LoanHasHeader (with_payloads domain.old (written_number (as_written sample.old)) left) (written_key (as_written sample.new)) header }
+        ensures user_header { (left : List T) (header : U) → LoanHasUserHeader domain.old (written_key (as_written sample.old)) header
+            → LoanHasUserHeader (with_payloads domain.old (written_number (as_written sample.old)) left) (written_key (as_written sample.new)) header }
+        ensures waits { (left : List T) → payloads (with_payloads domain.old (written_number (as_written sample.old)) left) ≡ payloads domain.old }
+        ensures up_to_date { (left : List T) → UpToDateStay domain.old (with_payloads domain.old (written_number (as_written sample.old)) left) }
+        ensures loans_left { (left : List T) → LoansLeftStay domain.old (with_payloads domain.old (written_number (as_written sample.old)) left) }
+        ensures stays { (left : List T) → StaysBut (written_loan (as_written sample.old)) domain.old (with_payloads domain.old (written_number (as_written sample.old)) left) }
     {
         let at = domain.state.find_live_loan(&sample.sample.loan);
         values_at_mut(&mut domain.state, at)

@@ -18,6 +18,7 @@ impl SampleMut {
     ghost use Rattle.iox2_pubsub.specs.LoanLends.{LendsUserHeader};
     ghost use Rattle.iox2_pubsub.specs.LoansLeft.{LoansLeftStay};
     ghost use Rattle.iox2_pubsub.specs.Slices.{HasValues};
+    ghost use Rattle.iox2_pubsub.specs.Handles.{as_written, written_number};
 
     /// The user header, to be changed where it lies. What is left behind the reference is the loan's
     /// user header from then on, and nothing else of the domain changes.
@@ -27,24 +28,24 @@ impl SampleMut {
         domain: &'a mut Domain<T, U, F, G>,
         sample: &mut SampleMut,
     ) -> &'a mut U
-        requires { IsWritten domain.old sample.old.sample }
-        ensures* writes_back { sem 𝓛 (LendsUserHeader T.row U.row F.row G.row domain.entry sample.old.sample.loan.number result) }
+        requires live { IsWritten domain.old (as_written sample.old) }
+        ensures* writes_back { sem 𝓛 (LendsUserHeader T.row U.row F.row G.row domain.entry (written_number (as_written sample.old)) result) }
         ensures same { sample.new ≡ sample.old }
-        ensures user_header { LoanHasUserHeader domain.old (written_key sample.old.sample) result.now }
+        ensures user_header { LoanHasUserHeader domain.old (written_key (as_written sample.old)) result.now }
         ensures changes { (m : Messages T U) (s : State T U) (user_header : U) → Shows domain.old m s
-            → (l : Loan T U) × (s.loans sample.old.sample.loan.number ≡ Some l)
-            × Shows (with_user_header domain.old sample.old.sample.loan.number user_header) m (with_loan s sample.old.sample.loan.number (Some (user_header_changed user_header l))) }
-        ensures out { (user_header : U) → IsWritten (with_user_header domain.old sample.old.sample.loan.number user_header) sample.old.sample }
-        ensures live { NeverWaits domain.old (written_key sample.old.sample) → (user_header : U) → IsWrittenLoan (with_user_header domain.old sample.old.sample.loan.number user_header) sample.old.sample }
-        ensures is { (user_header : U) → LoanHasUserHeader (with_user_header domain.old sample.old.sample.loan.number user_header) (written_key sample.old.sample) user_header }
-        ensures reads { (user_header : U) (values : List T) → HasValues domain.old sample.old.sample.loan.number values
-            → HasValues (with_user_header domain.old sample.old.sample.loan.number user_header) sample.old.sample.loan.number values }
-        ensures header { (user_header : U) (header : Header) → LoanHasHeader domain.old (written_key sample.old.sample) header
-            → LoanHasHeader (with_user_header domain.old sample.old.sample.loan.number user_header) (written_key sample.new.sample) header }
-        ensures waits { (user_header : U) → payloads (with_user_header domain.old sample.old.sample.loan.number user_header) ≡ payloads domain.old }
-        ensures up_to_date { (user_header : U) → UpToDateStay domain.old (with_user_header domain.old sample.old.sample.loan.number user_header) }
-        ensures loans_left { (user_header : U) → LoansLeftStay domain.old (with_user_header domain.old sample.old.sample.loan.number user_header) }
-        ensures stays { (user_header : U) → StaysBut (written_loan sample.old.sample) domain.old (with_user_header domain.old sample.old.sample.loan.number user_header) }
+            → (l : Loan T U) × (s.loans (written_number (as_written sample.old)) ≡ Some l)
+            × Shows (with_user_header domain.old (written_number (as_written sample.old)) user_header) m (with_loan s (written_number (as_written sample.old)) (Some (user_header_changed user_header l))) }
+        ensures out { (user_header : U) → IsWritten (with_user_header domain.old (written_number (as_written sample.old)) user_header) (as_written sample.old) }
+        ensures live { NeverWaits domain.old (written_key (as_written sample.old)) → (user_header : U) → IsWrittenLoan (with_user_header domain.old (written_number (as_written sample.old)) user_header) (as_written sample.old) }
+        ensures is { (user_header : U) → LoanHasUserHeader (with_user_header domain.old (written_number (as_written sample.old)) user_header) (written_key (as_written sample.old)) user_header }
+        ensures reads { (user_header : U) (values : List T) → HasValues domain.old (written_number (as_written sample.old)) values
+            → HasValues (with_user_header domain.old (written_number (as_written sample.old)) user_header) (written_number (as_written sample.old)) values }
+        ensures header { (user_header : U) (header : Header) → LoanHasHeader domain.old (written_key (as_written sample.old)) header
+            → LoanHasHeader (with_user_header domain.old (written_number (as_written sample.old)) user_header) (written_key (as_written sample.new)) header }
+        ensures waits { (user_header : U) → payloads (with_user_header domain.old (written_number (as_written sample.old)) user_header) ≡ payloads domain.old }
+        ensures up_to_date { (user_header : U) → UpToDateStay domain.old (with_user_header domain.old (written_number (as_written sample.old)) user_header) }
+        ensures loans_left { (user_header : U) → LoansLeftStay domain.old (with_user_header domain.old (written_number (as_written sample.old)) user_header) }
+        ensures stays { (user_header : U) → StaysBut (written_loan (as_written sample.old)) domain.old (with_user_header domain.old (written_number (as_written sample.old)) user_header) }
     {
         crate::SampleMut::user_header_mut(domain, &mut sample.sample)
     }

@@ -19,6 +19,7 @@ impl SampleMutUninit {
     ghost use Rattle.iox2_pubsub.specs.LoanLends.{LendsCells};
     ghost use Rattle.iox2_pubsub.specs.LoansLeft.{LoansLeftStay};
     ghost use Rattle.iox2_pubsub.specs.Slices.{HasUnwrittenCells, IsSliced};
+    ghost use Rattle.iox2_pubsub.specs.Handles.{as_unwritten, unwritten_number};
 
     /// The cells, to be written, changed or emptied where they lie. What is left behind the reference
     /// is in the loan's cells from then on, and nothing else of the domain changes.
@@ -28,25 +29,25 @@ impl SampleMutUninit {
         domain: &'a mut Domain<T, U, F, G>,
         sample: &mut SampleMutUninit,
     ) -> &'a mut [Option<T>]
-        requires live { IsUnwritten domain.old sample.old.sample }
+        requires live { IsUnwritten domain.old (as_unwritten sample.old) }
         requires sliced { IsSliced domain.old }
-        ensures* writes_back { sem 𝓛 (LendsCells T.row U.row F.row G.row domain.entry sample.old.sample.loan.number result) }
+        ensures* writes_back { sem 𝓛 (LendsCells T.row U.row F.row G.row domain.entry (unwritten_number (as_unwritten sample.old)) result) }
         ensures same { sample.new ≡ sample.old }
-        ensures payload { HasUnwrittenCells domain.old sample.old.sample.loan.number result.now }
+        ensures payload { HasUnwrittenCells domain.old (unwritten_number (as_unwritten sample.old)) result.now }
         ensures changes { (m : Messages T U) (s : State T U) (left : List (Option T)) → Shows domain.old m s
-            → (l : Loan T U) × (s.loans sample.old.sample.loan.number ≡ Some l)
-            × Shows (with_cells domain.old sample.old.sample.loan.number left) m (with_loan s sample.old.sample.loan.number (Some (cells_changed left l))) }
-        ensures out { (left : List (Option T)) → IsUnwritten (with_cells domain.old sample.old.sample.loan.number left) sample.old.sample }
-        ensures live { NeverWaits domain.old (unwritten_key sample.old.sample) → (left : List (Option T)) → IsUnwrittenLoan (with_cells domain.old sample.old.sample.loan.number left) sample.old.sample }
-        ensures reads { (left : List (Option T)) → length left ≡ length result.now → HasUnwrittenCells (with_cells domain.old sample.old.sample.loan.number left) sample.old.sample.loan.number left }
-        ensures header { (left : List (Option T)) (header : Header) → LoanHasHeader domain.old (unwritten_key sample.old.sample) header
-            → LoanHasHeader (with_cells domain.old sample.old.sample.loan.number left) (unwritten_key sample.new.sample) header }
-        ensures user_header { (left : List (Option T)) (header : U) → LoanHasUserHeader domain.old (unwritten_key sample.old.sample) header
-            → LoanHasUserHeader (with_cells domain.old sample.old.sample.loan.number left) (unwritten_key sample.new.sample) header }
-        ensures waits { (left : List (Option T)) → payloads (with_cells domain.old sample.old.sample.loan.number left) ≡ payloads domain.old }
-        ensures up_to_date { (left : List (Option T)) → UpToDateStay domain.old (with_cells domain.old sample.old.sample.loan.number left) }
-        ensures loans_left { (left : List (Option T)) → LoansLeftStay domain.old (with_cells domain.old sample.old.sample.loan.number left) }
-        ensures stays { (left : List (Option T)) → StaysBut (unwritten_loan sample.old.sample) domain.old (with_cells domain.old sample.old.sample.loan.number left) }
+            → (l : Loan T U) × (s.loans (unwritten_number (as_unwritten sample.old)) ≡ Some l)
+            × Shows (with_cells domain.old (unwritten_number (as_unwritten sample.old)) left) m (with_loan s (unwritten_number (as_unwritten sample.old)) (Some (cells_changed left l))) }
+        ensures out { (left : List (Option T)) → IsUnwritten (with_cells domain.old (unwritten_number (as_unwritten sample.old)) left) (as_unwritten sample.old) }
+        ensures live { NeverWaits domain.old (unwritten_key (as_unwritten sample.old)) → (left : List (Option T)) → IsUnwrittenLoan (with_cells domain.old (unwritten_number (as_unwritten sample.old)) left) (as_unwritten sample.old) }
+        ensures reads { (left : List (Option T)) → length left ≡ length result.now → HasUnwrittenCells (with_cells domain.old (unwritten_number (as_unwritten sample.old)) left) (unwritten_number (as_unwritten sample.old)) left }
+        ensures header { (left : List (Option T)) (header : Header) → LoanHasHeader domain.old (unwritten_key (as_unwritten sample.old)) header
+            → LoanHasHeader (with_cells domain.old (unwritten_number (as_unwritten sample.old)) left) (unwritten_key (as_unwritten sample.new)) header }
+        ensures user_header { (left : List (Option T)) (header : U) → LoanHasUserHeader domain.old (unwritten_key (as_unwritten sample.old)) header
+            → LoanHasUserHeader (with_cells domain.old (unwritten_number (as_unwritten sample.old)) left) (unwritten_key (as_unwritten sample.new)) header }
+        ensures waits { (left : List (Option T)) → payloads (with_cells domain.old (unwritten_number (as_unwritten sample.old)) left) ≡ payloads domain.old }
+        ensures up_to_date { (left : List (Option T)) → UpToDateStay domain.old (with_cells domain.old (unwritten_number (as_unwritten sample.old)) left) }
+        ensures loans_left { (left : List (Option T)) → LoansLeftStay domain.old (with_cells domain.old (unwritten_number (as_unwritten sample.old)) left) }
+        ensures stays { (left : List (Option T)) → StaysBut (unwritten_loan (as_unwritten sample.old)) domain.old (with_cells domain.old (unwritten_number (as_unwritten sample.old)) left) }
     {
         let at = domain.state.find_live_loan(&sample.sample.loan);
         cells_at_mut(&mut domain.state, at)

@@ -18,6 +18,7 @@ impl SampleMutUninit {
     ghost use Rattle.iox2_pubsub.specs.LoanLends.{LendsUserHeader};
     ghost use Rattle.iox2_pubsub.specs.LoansLeft.{LoansLeftStay};
     ghost use Rattle.iox2_pubsub.specs.Slices.{HasUnwrittenCells};
+    ghost use Rattle.iox2_pubsub.specs.Handles.{as_unwritten, unwritten_number};
 
     /// The user header, to be changed where it lies. What is left behind the reference is the loan's
     /// user header from then on, and nothing else of the domain changes.
@@ -27,24 +28,24 @@ impl SampleMutUninit {
         domain: &'a mut Domain<T, U, F, G>,
         sample: &mut SampleMutUninit,
     ) -> &'a mut U
-        requires { IsUnwritten domain.old sample.old.sample }
-        ensures* writes_back { sem 𝓛 (LendsUserHeader T.row U.row F.row G.row domain.entry sample.old.sample.loan.number result) }
+        requires live { IsUnwritten domain.old (as_unwritten sample.old) }
+        ensures* writes_back { sem 𝓛 (LendsUserHeader T.row U.row F.row G.row domain.entry (unwritten_number (as_unwritten sample.old)) result) }
         ensures same { sample.new ≡ sample.old }
-        ensures user_header { LoanHasUserHeader domain.old (unwritten_key sample.old.sample) result.now }
+        ensures user_header { LoanHasUserHeader domain.old (unwritten_key (as_unwritten sample.old)) result.now }
         ensures changes { (m : Messages T U) (s : State T U) (user_header : U) → Shows domain.old m s
-            → (l : Loan T U) × (s.loans sample.old.sample.loan.number ≡ Some l)
-            × Shows (with_user_header domain.old sample.old.sample.loan.number user_header) m (with_loan s sample.old.sample.loan.number (Some (user_header_changed user_header l))) }
-        ensures out { (user_header : U) → IsUnwritten (with_user_header domain.old sample.old.sample.loan.number user_header) sample.old.sample }
-        ensures live { NeverWaits domain.old (unwritten_key sample.old.sample) → (user_header : U) → IsUnwrittenLoan (with_user_header domain.old sample.old.sample.loan.number user_header) sample.old.sample }
-        ensures is { (user_header : U) → LoanHasUserHeader (with_user_header domain.old sample.old.sample.loan.number user_header) (unwritten_key sample.old.sample) user_header }
-        ensures reads { (user_header : U) (cells : List (Option T)) → HasUnwrittenCells domain.old sample.old.sample.loan.number cells
-            → HasUnwrittenCells (with_user_header domain.old sample.old.sample.loan.number user_header) sample.old.sample.loan.number cells }
-        ensures header { (user_header : U) (header : Header) → LoanHasHeader domain.old (unwritten_key sample.old.sample) header
-            → LoanHasHeader (with_user_header domain.old sample.old.sample.loan.number user_header) (unwritten_key sample.new.sample) header }
-        ensures waits { (user_header : U) → payloads (with_user_header domain.old sample.old.sample.loan.number user_header) ≡ payloads domain.old }
-        ensures up_to_date { (user_header : U) → UpToDateStay domain.old (with_user_header domain.old sample.old.sample.loan.number user_header) }
-        ensures loans_left { (user_header : U) → LoansLeftStay domain.old (with_user_header domain.old sample.old.sample.loan.number user_header) }
-        ensures stays { (user_header : U) → StaysBut (unwritten_loan sample.old.sample) domain.old (with_user_header domain.old sample.old.sample.loan.number user_header) }
+            → (l : Loan T U) × (s.loans (unwritten_number (as_unwritten sample.old)) ≡ Some l)
+            × Shows (with_user_header domain.old (unwritten_number (as_unwritten sample.old)) user_header) m (with_loan s (unwritten_number (as_unwritten sample.old)) (Some (user_header_changed user_header l))) }
+        ensures out { (user_header : U) → IsUnwritten (with_user_header domain.old (unwritten_number (as_unwritten sample.old)) user_header) (as_unwritten sample.old) }
+        ensures live { NeverWaits domain.old (unwritten_key (as_unwritten sample.old)) → (user_header : U) → IsUnwrittenLoan (with_user_header domain.old (unwritten_number (as_unwritten sample.old)) user_header) (as_unwritten sample.old) }
+        ensures is { (user_header : U) → LoanHasUserHeader (with_user_header domain.old (unwritten_number (as_unwritten sample.old)) user_header) (unwritten_key (as_unwritten sample.old)) user_header }
+        ensures reads { (user_header : U) (cells : List (Option T)) → HasUnwrittenCells domain.old (unwritten_number (as_unwritten sample.old)) cells
+            → HasUnwrittenCells (with_user_header domain.old (unwritten_number (as_unwritten sample.old)) user_header) (unwritten_number (as_unwritten sample.old)) cells }
+        ensures header { (user_header : U) (header : Header) → LoanHasHeader domain.old (unwritten_key (as_unwritten sample.old)) header
+            → LoanHasHeader (with_user_header domain.old (unwritten_number (as_unwritten sample.old)) user_header) (unwritten_key (as_unwritten sample.new)) header }
+        ensures waits { (user_header : U) → payloads (with_user_header domain.old (unwritten_number (as_unwritten sample.old)) user_header) ≡ payloads domain.old }
+        ensures up_to_date { (user_header : U) → UpToDateStay domain.old (with_user_header domain.old (unwritten_number (as_unwritten sample.old)) user_header) }
+        ensures loans_left { (user_header : U) → LoansLeftStay domain.old (with_user_header domain.old (unwritten_number (as_unwritten sample.old)) user_header) }
+        ensures stays { (user_header : U) → StaysBut (unwritten_loan (as_unwritten sample.old)) domain.old (with_user_header domain.old (unwritten_number (as_unwritten sample.old)) user_header) }
     {
         crate::SampleMutUninit::user_header_mut(domain, &mut sample.sample)
     }

@@ -11,6 +11,7 @@ impl Subscriber {
     ghost use Rattle.iox2_pubsub.specs.LoansLeft.{LoansLeftStay};
     ghost use Rattle.iox2_pubsub.specs.QuestionCalls.{Answers};
     ghost use Rattle.iox2_domain.specs.Shows.{Shows};
+    ghost use Rattle.iox2_pubsub.specs.Handles.{as_subscriber, subscriber_id};
 
     /// Updates the subscriber's connections and says whether any message waits for it, also one
     /// that it can't receive before it has released another. Fails where the update does, as
@@ -21,13 +22,13 @@ impl Subscriber {
         &self,
         domain: &mut Domain<T, U, F, G>,
     ) -> Result<bool, ConnectionFailure>
-        requires { IsLiveSubscriber domain.old self.now.subscriber }
+        requires live { IsLiveSubscriber domain.old (as_subscriber self.now) }
         ensures answers { (m : Messages T U) (s : State T U) → Shows domain.old m s
-            → (s' : State T U) × Shows domain.new m s' × Answers s self.now.subscriber.id result s' }
-        ensures waits { IfOk result (λ waits. IsTrue waits ↔ (0 < waiting domain.new self.now.subscriber)) }
-        ensures no_more { waiting domain.new self.now.subscriber ≤ waiting domain.old self.now.subscriber }
-        ensures others { OthersWait self.now.subscriber domain.old domain.new }
-        ensures updated { OnOk result (IsUpToDate domain.new self.now.subscriber) }
+            → (s' : State T U) × Shows domain.new m s' × Answers s (subscriber_id (as_subscriber self.now)) result s' }
+        ensures waits { IfOk result (λ waits. IsTrue waits ↔ (0 < waiting domain.new (as_subscriber self.now))) }
+        ensures no_more { waiting domain.new (as_subscriber self.now) ≤ waiting domain.old (as_subscriber self.now) }
+        ensures others { OthersWait (as_subscriber self.now) domain.old domain.new }
+        ensures updated { OnOk result (IsUpToDate domain.new (as_subscriber self.now)) }
         ensures up_to_date { UpToDateStay domain.old domain.new }
         ensures loans_left { LoansLeftStay domain.old domain.new }
         ensures stays { Stays domain.old domain.new }

@@ -9,11 +9,12 @@ impl Subscriber {
     ghost use Rattle.iox2_store.specs.machine.Environments.{fixed_handlers};
     ghost use Rattle.iox2_store.specs.machine.Receives.{Receive};
     ghost use Rattle.iox2_store.specs.machine.State.{State, Messages};
-    ghost use Rattle.iox2_pubsub.specs.Live.{AreAllSlices, IsFromOrigin, IsLiveSample, IsLiveSubscriber, IsUpToDate, IsNewIn, OthersWait, Stays, UpToDateStay, payloads, received_sample, sample_key, waiting};
+    ghost use Rattle.iox2_pubsub.specs.Live.{AreAllSlices, IsFromOrigin, IsLiveSample, IsLiveSubscriber, IsUpToDate, IsNewIn, OthersWait, Stays, TakesOldest, UpToDateStay, payloads, received_sample, sample_key, waiting};
     ghost use Rattle.iox2_pubsub.specs.LoansLeft.{LoansLeftStay};
     ghost use Rattle.iox2_pubsub.specs.ReceivedSamples.{received_slice};
     ghost use Rattle.iox2_pubsub.specs.Slices.{SampleHasValues};
     ghost use Rattle.iox2_domain.specs.Shows.{Shows};
+    ghost use Rattle.iox2_pubsub.specs.Handles.{as_sample, as_subscriber, receiver_of, subscriber_id};
 
     /// Updates the subscriber's connections and receives a message: from a publisher of which it
     /// may borrow one more, the one that has waited longest. `None` where no message waits. Its
@@ -29,20 +30,21 @@ impl Subscriber {
         &self,
         domain: &mut Domain<T, U, F, G>,
     ) -> Result<Option<Sample>, ReceiveError>
-        requires { IsLiveSubscriber domain.old self.now.subscriber }
+        requires live { IsLiveSubscriber domain.old (as_subscriber self.now) }
         ensures receives { (m : Messages T U) (s : State T U) → Shows domain.old m s
-            → (s' : State T U) × Shows domain.new m s' × Receive fixed_handlers s self.now.subscriber.id s' (received_slice result) }
-        ensures live { IfOk result (λ sample. IfSome sample (λ it. IsLiveSample domain.new it.sample)) }
-        ensures new { IfOk result (λ sample. IfSome sample (λ it. IsNewIn domain.old (received_sample it.sample))) }
-        ensures origin { IfOk result (λ sample. IfSome sample (λ it. IsFromOrigin domain.new it.sample)) }
-        ensures subscriber { IfOk result (λ sample. IfSome sample (λ it. it.sample.sample.subscriber ≡ self.now.subscriber.id)) }
-        ensures fewer { IfOk result (λ sample. OnSome sample (waiting domain.new self.now.subscriber < waiting domain.old self.now.subscriber)) }
-        ensures one_fewer { IsUpToDate domain.old self.now.subscriber → IfOk result (λ sample. OnSome sample (suc (waiting domain.new self.now.subscriber) ≡ waiting domain.old self.now.subscriber)) }
-        ensures none { IfOk result (λ sample. IfNone sample (waiting domain.new self.now.subscriber ≡ 0)) }
-        ensures reads { IfOk result (λ sample. IfSome sample (λ it. (values : List T) → AreAllSlices (payloads domain.old self.now.subscriber) values → SampleHasValues domain.new (sample_key it.sample) values)) }
-        ensures no_more { waiting domain.new self.now.subscriber ≤ waiting domain.old self.now.subscriber }
-        ensures others { OthersWait self.now.subscriber domain.old domain.new }
-        ensures updated { OnOk result (IsUpToDate domain.new self.now.subscriber) }
+            → (s' : State T U) × Shows domain.new m s' × Receive fixed_handlers s (subscriber_id (as_subscriber self.now)) s' (received_slice result) }
+        ensures live { IfOk result (λ sample. IfSome sample (λ it. IsLiveSample domain.new (as_sample it))) }
+        ensures new { IfOk result (λ sample. IfSome sample (λ it. IsNewIn domain.old (received_sample (as_sample it)))) }
+        ensures origin { IfOk result (λ sample. IfSome sample (λ it. IsFromOrigin domain.new (as_sample it))) }
+        ensures subscriber { IfOk result (λ sample. IfSome sample (λ it. receiver_of (as_sample it) ≡ subscriber_id (as_subscriber self.now))) }
+        ensures fewer { IfOk result (λ sample. OnSome sample (waiting domain.new (as_subscriber self.now) < waiting domain.old (as_subscriber self.now))) }
+        ensures one_fewer { IsUpToDate domain.old (as_subscriber self.now) → IfOk result (λ sample. OnSome sample (suc (waiting domain.new (as_subscriber self.now)) ≡ waiting domain.old (as_subscriber self.now))) }
+        ensures none { IfOk result (λ sample. IfNone sample (waiting domain.new (as_subscriber self.now) ≡ 0)) }
+        ensures reads { IfOk result (λ sample. IfSome sample (λ it. (values : List T) → AreAllSlices (payloads domain.old (as_subscriber self.now)) values → SampleHasValues domain.new (sample_key (as_sample it)) values)) }
+        ensures oldest { IfOk result (λ sample. IfSome sample (λ it. TakesOldest (as_subscriber self.now) (as_sample it) domain.old domain.new)) }
+        ensures no_more { waiting domain.new (as_subscriber self.now) ≤ waiting domain.old (as_subscriber self.now) }
+        ensures others { OthersWait (as_subscriber self.now) domain.old domain.new }
+        ensures updated { OnOk result (IsUpToDate domain.new (as_subscriber self.now)) }
         ensures up_to_date { UpToDateStay domain.old domain.new }
         ensures loans_left { LoansLeftStay domain.old domain.new }
         ensures stays { Stays domain.old domain.new }

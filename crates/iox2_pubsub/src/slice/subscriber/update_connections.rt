@@ -12,13 +12,16 @@ impl<T: Drop, U: Default + Drop, F: BackpressureFn, G: DegradationFn> UpdateConn
     for Subscriber {
     ghost use Rattle.iox2_store.specs.machine.Environments.{fixed_handlers};
     ghost use Rattle.iox2_store.specs.machine.SubscriberUpdate.{UpdateSubscriber};
-    ghost use Rattle.iox2_pubsub.specs.Live.{IsLiveSubscriber, subscriber_key};
+    ghost use Rattle.iox2_pubsub.specs.Live.{IsLiveSubscriber, IsUpToDate, subscriber_key};
+    ghost use Rattle.iox2_pubsub.specs.Handles.{as_subscriber, subscriber_id};
 
-    ghost is_live = { λ domain subscriber. IsLiveSubscriber domain subscriber.subscriber };
+    ghost is_live = { λ domain subscriber. IsLiveSubscriber domain (as_subscriber subscriber) };
 
-    ghost live_stays = { λ old new subscriber stays live. stays.subscribers (subscriber_key subscriber.subscriber) live tt };
+    ghost live_stays = { λ old new subscriber stays live. stays.subscribers (subscriber_key (as_subscriber subscriber)) live tt };
 
-    ghost updates = { λ s subscriber s' failure. UpdateSubscriber fixed_handlers s subscriber.subscriber.id s' failure };
+    ghost updates = { λ s subscriber s' failure. UpdateSubscriber fixed_handlers s (subscriber_id (as_subscriber subscriber)) s' failure };
+
+    ghost is_updated = { λ domain subscriber. IsUpToDate domain (as_subscriber subscriber) };
 
     ghost adds = { λ domain. 0 };
 

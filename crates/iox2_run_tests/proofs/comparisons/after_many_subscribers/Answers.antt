@@ -12,7 +12,7 @@ pub returns : goal.returns
 returns g c =
     let made = rw c.expect-commands.ensures at c.from_array.ensures.items in
     let first : All IsSupportedCommand c.expect-commands.result.items =
-    subst (λ (list : List (Command ℕ ℕ)). All IsSupportedCommand list) (sym made) (All-replicate IsSupportedCommand 33 (CreateSubscriber None Warn) refl) in
+    subst (λ (list : List (Command ℕ ℕ)). All IsSupportedCommand list) (sym made) (All-replicate IsSupportedCommand 33 (CreateSubscriber None Warn) tt) in
     subst (λ (list : List (Command ℕ ℕ)). All IsSupportedCommand list) (sym c.extend_from_slice.ensures.items) (at first (is_ok c.extend_from_slice.result))
   where
     at : All IsSupportedCommand c.expect-commands.result.items → (b : Bool) → All IsSupportedCommand (if b then c.expect-commands.result.items ++ c.args.last.now else c.expect-commands.result.items)

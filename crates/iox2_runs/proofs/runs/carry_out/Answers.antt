@@ -109,12 +109,11 @@ returns-in-Nothing-clause-room g c = record { len = refl; capacity = refl }
 pub returns-in-CreatePublisher-clause-carries : goal.returns-in-CreatePublisher-clause-carries
 returns-in-CreatePublisher-clause-carries g c =
     let told = rw c.in-CreatePublisher.is at c.requires.supported in
-    rw (c.in-CreatePublisher.is, told.0, told.1, told.2, sym c.deref.ensures.value) c.create_publisher.ensures.carries
+    rw (c.in-CreatePublisher.is, told.0, told.1, sym c.deref.ensures.value) c.create_publisher.ensures.carries
 
 pub returns-in-CreateSubscriber-clause-carries : goal.returns-in-CreateSubscriber-clause-carries
 returns-in-CreateSubscriber-clause-carries g c =
-    let told = rw c.in-CreateSubscriber.is at c.requires.supported in
-    rw (c.in-CreateSubscriber.is, told, sym c.deref-in-CreateSubscriber.ensures.value) c.create_subscriber.ensures.carries
+    rw (c.in-CreateSubscriber.is, sym c.deref-in-CreateSubscriber.ensures.value) c.create_subscriber.ensures.carries
 
 pub returns-in-CreatePublisher-clause-leaves : goal.returns-in-CreatePublisher-clause-leaves
 returns-in-CreatePublisher-clause-leaves g c =

@@ -10,28 +10,28 @@ use Rattle.iox2_updates.proofs.connects.connect_sender.Goals as goal
 pub hand_out_history-requires-clause-agrees : goal.hand_out_history-requires-clause-agrees
 hand_out_history-requires-clause-agrees g c =
     let there = c.requires.publisher in
-    (c.in-Some.ensures there.0 there.1 (c.requires.settled there.0 there.1) (c.requires.unblocked there.0 there.1)).agrees
+    (c.in-Ok.ensures there.0 there.1 (c.requires.settled there.0 there.1) (c.requires.unblocked there.0 there.1)).agrees
 
 pub hand_out_history-requires-clause-new_end : goal.hand_out_history-requires-clause-new_end
 hand_out_history-requires-clause-new_end g c =
     let there = c.requires.publisher in
-    new-end fixed_handlers c.args.state.now c.requires.agrees c.args.publisher_place c.args.subscriber_place there.0 there.1 (c.requires.unblocked there.0 there.1) c.requires.subscriber c.in-Some.key c.make_sender_end.new.state
-    (c.in-Some.ensures there.0 there.1 (c.requires.settled there.0 there.1) (c.requires.unblocked there.0 there.1))
+    new-end fixed_handlers c.args.state.now c.requires.agrees c.args.publisher_place c.args.subscriber_place there.0 there.1 (c.requires.unblocked there.0 there.1) c.requires.subscriber c.in-Ok.key c.make_sender_end.new.state
+    (c.in-Ok.ensures there.0 there.1 (c.requires.settled there.0 there.1) (c.requires.unblocked there.0 there.1))
 
-pub returns-in-Some : goal.returns-in-Some
-returns-in-Some g c = λ x at.
+pub returns-in-Ok : goal.returns-in-Ok
+returns-in-Ok g c = λ x at.
     connects-marked fixed_handlers c.args.state.now c.hand_out_history.new.state c.mark_end.new.state c.args.publisher_place c.args.subscriber_place x None
-    (connects-with-history fixed_handlers c.args.state.now c.requires.agrees c.args.publisher_place c.args.subscriber_place x at (c.requires.unblocked x at) c.requires.subscriber c.in-Some.key c.make_sender_end.new.state
-    (c.in-Some.ensures x at (c.requires.settled x at) (c.requires.unblocked x at)) c.hand_out_history.new.state c.hand_out_history.ensures) c.mark_end.ensures
+    (connects-with-history fixed_handlers c.args.state.now c.requires.agrees c.args.publisher_place c.args.subscriber_place x at (c.requires.unblocked x at) c.requires.subscriber c.in-Ok.key c.make_sender_end.new.state
+    (c.in-Ok.ensures x at (c.requires.settled x at) (c.requires.unblocked x at)) c.hand_out_history.new.state c.hand_out_history.ensures) c.mark_end.ensures
 
 pub mark_end-requires : goal.mark_end-requires
 mark_end-requires g c =
     let there = c.requires.publisher in
-    (connects-with-history fixed_handlers c.args.state.now c.requires.agrees c.args.publisher_place c.args.subscriber_place there.0 there.1 (c.requires.unblocked there.0 there.1) c.requires.subscriber c.in-Some.key c.make_sender_end.new.state
-    (c.in-Some.ensures there.0 there.1 (c.requires.settled there.0 there.1) (c.requires.unblocked there.0 there.1)) c.hand_out_history.new.state c.hand_out_history.ensures).agrees
+    (connects-with-history fixed_handlers c.args.state.now c.requires.agrees c.args.publisher_place c.args.subscriber_place there.0 there.1 (c.requires.unblocked there.0 there.1) c.requires.subscriber c.in-Ok.key c.make_sender_end.new.state
+    (c.in-Ok.ensures there.0 there.1 (c.requires.settled there.0 there.1) (c.requires.unblocked there.0 there.1)) c.hand_out_history.new.state c.hand_out_history.ensures).agrees
 
-pub returns-in_default : goal.returns-in_default
-returns-in_default g c = λ x at. c.in_default.ensures x at (c.requires.settled x at) (c.requires.unblocked x at)
+pub returns-in-Err : goal.returns-in-Err
+returns-in-Err g c = λ x at. c.in-Err.ensures x at (c.requires.settled x at) (c.requires.unblocked x at)
 
 pub returns-then-not-is_open_at : goal.returns-then-not-is_open_at
 returns-then-not-is_open_at g c = λ x at.

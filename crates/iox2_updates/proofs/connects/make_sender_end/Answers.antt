@@ -1,15 +1,14 @@
-use Rattle.std.proofs.Common.{◌≡◌, ◌∙◌, ap, sym}
+use Rattle.std.proofs.Common.{◌≡◌, ◌∙◌, ap, sym, slice_index_or}
 use Rattle.std.proofs.lemmas.List.{with_items_is}
 use Rattle.std.specs.declared.option.Option.TheVariants.{None, Some}
 use Rattle.iox2_store.specs.machine.Environments.{fixed_handlers}
 use Rattle.iox2_store.specs.machine.Limits.{warning_limit}
 use Rattle.iox2_store.specs.machine.Connections.{warnings_after}
-use Rattle.iox2_store.specs.declared.degradation.DegradationAction.TheVariants.{Warn}
 use Rattle.iox2_domain.specs.WarningRing.{warning_ring}
 use Rattle.iox2_domain.specs.Fields.{Fields}
 use Rattle.iox2_domain.specs.Updates.{receiver_key, changed_at, key_from, with_sender_key}
 use Rattle.iox2_domain.proofs.lemmas.fields.Standing.{some-buffer}
-use Rattle.iox2_steps.proofs.updates.SenderOutcomes.{answers-warn, joins-room, joins-as, makes-as, misses-as}
+use Rattle.iox2_steps.proofs.updates.SenderOutcomes.{answers-fixed, joins-room, joins-as, makes-as, misses-as}
 use Rattle.iox2_updates.proofs.connects.make_sender_end.Goals as goal
 
 pub set_key_at-requires-clause-room : goal.set_key_at-requires-clause-room
@@ -64,12 +63,12 @@ returns-in_default-make_between g c = λ x at due free.
     let looked : key_from old.connections c.ports_at-buffer.result.0.publisher (receiver_key old.subscribers c.args.subscriber_place c.args.publisher_place) ≡ None =
     sym (c.key_from.ensures ∙ (λ k. key_from (connections k) c.ports_at-buffer.result.0.publisher (other k))) ∙ c.in_default.is in
     let mid = c.make_between.new.state in
-    misses-as fixed_handlers old c.requires.agrees c.args.publisher_place c.args.subscriber_place x at due free _ _ c.ports_at-buffer.ensures c.requires.none c.requires.opened
-    looked mid c.make_between.ensures.grows tt Warn
-    (answers-warn fixed_handlers x.id x.degradation_handler _ (c.requires.agrees.parts.plain c.args.publisher_place x at).degradation) c.warn_of_refusal.new.warnings
+    rw c.degrade.ensures.failure (misses-as fixed_handlers old c.requires.agrees c.args.publisher_place c.args.subscriber_place x at due free _ _ c.ports_at-buffer.ensures c.requires.none c.requires.opened
+    looked mid c.make_between.ensures.grows tt c.answer_at-answer.result
+    (answers-fixed fixed_handlers x.id x.degradation_handler _ c.answer_at-answer.result (c.answer_at-answer.ensures x (ap (λ xs. slice_index_or xs c.args.publisher_place None) (c.deref-2.ensures.value ∙ publishers) ∙ at))) c.degrade.new.warnings
     c.in_default-make_between.ensures.refused
-    (c.warn_of_refusal.ensures ∙ ap (λ (f : Fields g.row.T.Denot g.row.U.Denot). warning_ring (warnings_after c.ports_at-buffer.result.0.publisher c.ports_at-buffer.result.0.subscriber Warn f.warnings.items) warning_limit) (c.state-2.view_is ∙ c.make_between.ensures.grows.fields))
-    _ (λ k. record (c.state-2.view_is k) { warnings = c.warn_of_refusal.new.warnings })
+    (c.degrade.ensures.warnings ∙ ap (λ (f : Fields g.row.T.Denot g.row.U.Denot). warning_ring (warnings_after c.ports_at-buffer.result.0.publisher c.ports_at-buffer.result.0.subscriber c.answer_at-answer.result f.warnings.items) warning_limit) (c.state-2.view_is ∙ c.make_between.ensures.grows.fields))
+    _ (λ k. record (c.state-2.view_is k) { warnings = c.degrade.new.warnings }))
 
 pub returns : goal.returns
 returns g c = λ x at due free.

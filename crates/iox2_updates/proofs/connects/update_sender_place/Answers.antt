@@ -9,6 +9,75 @@ use Rattle.iox2_domain.specs.Updates.{sender_key, is_open_subscriber}
 use Rattle.iox2_steps.proofs.updates.PlaceCalls.{stands-elsewhere, stands-there, alone-there, unused-there, end-stands, keeps-there, drops-there, loses-there, lost-stands, lost-within, lost-settled, lost-free, lost-key}
 use Rattle.iox2_updates.proofs.connects.update_sender_place.Goals as goal
 
+pub connect_sender-requires-clause-agrees : goal.connect_sender-requires-clause-agrees
+connect_sender-requires-clause-agrees g c = c.requires.agrees
+
+pub connect_sender-requires-clause-publisher : goal.connect_sender-requires-clause-publisher
+connect_sender-requires-clause-publisher g c = c.requires.publisher
+
+pub connect_sender-requires-clause-subscriber : goal.connect_sender-requires-clause-subscriber
+connect_sender-requires-clause-subscriber g c = c.requires.subscriber
+
+pub connect_sender-requires-clause-settled : goal.connect_sender-requires-clause-settled
+connect_sender-requires-clause-settled g c = c.requires.settled
+
+pub connect_sender-requires-clause-unblocked : goal.connect_sender-requires-clause-unblocked
+connect_sender-requires-clause-unblocked g c = c.requires.unblocked
+
+pub connect_sender-requires-clause-none : goal.connect_sender-requires-clause-none
+connect_sender-requires-clause-none g c =
+    ap (λ xs. sender_key xs c.args.publisher_place c.args.subscriber_place) (sym (c.deref.ensures.value ∙ ap (λ (f : Fields g.row.T.Denot g.row.U.Denot). f.publishers) c.state.view_is)) ∙ sym c.key_at.ensures ∙ c.in_default.is
+
+pub returns-in_default : goal.returns-in_default
+returns-in_default g c = c.connect_sender.ensures
+
+pub disconnect_sender-requires-clause-agrees : goal.disconnect_sender-requires-clause-agrees
+disconnect_sender-requires-clause-agrees g c = c.requires.agrees
+
+pub disconnect_sender-requires-clause-subscriber : goal.disconnect_sender-requires-clause-subscriber
+disconnect_sender-requires-clause-subscriber g c = c.requires.subscriber
+
+pub disconnect_sender-requires-clause-end : goal.disconnect_sender-requires-clause-end
+disconnect_sender-requires-clause-end g c =
+    let old = c.args.state.now in
+    let viewed = c.state.view_is in
+    let there = c.requires.publisher in
+    let named : sender_key old.publishers c.args.publisher_place c.args.subscriber_place ≡ Some c.in-Some.key =
+    ap (λ xs. sender_key xs c.args.publisher_place c.args.subscriber_place) (sym (c.deref.ensures.value ∙ ap (λ (f : Fields g.row.T.Denot g.row.U.Denot). f.publishers) viewed)) ∙ sym c.key_at.ensures ∙ c.in-Some.is in
+    let at_c : get old.connections c.in-Some.key ≡ Some c.index.result.now = ap (λ (f : Fields g.row.T.Denot g.row.U.Denot). get f.connections c.in-Some.key) (sym viewed) ∙ c.index.ensures in
+    record {
+      publisher = there.0;
+      stands = there.1;
+      settled = c.requires.settled there.0 there.1;
+      unblocked = c.requires.unblocked there.0 there.1;
+      has = rw there.1 at named;
+      link = c.index.result.now;
+      connected = at_c;
+    }
+
+pub drop_waiting_at-requires-clause-end : goal.drop_waiting_at-requires-clause-end
+drop_waiting_at-requires-clause-end g c =
+    let old = c.args.state.now in
+    let viewed = c.state.view_is in
+    let there = c.requires.publisher in
+    let named : sender_key old.publishers c.args.publisher_place c.args.subscriber_place ≡ Some c.in-Some.key =
+    ap (λ xs. sender_key xs c.args.publisher_place c.args.subscriber_place) (sym (c.deref.ensures.value ∙ ap (λ (f : Fields g.row.T.Denot g.row.U.Denot). f.publishers) viewed)) ∙ sym c.key_at.ensures ∙ c.in-Some.is in
+    let at_c : get old.connections c.in-Some.key ≡ Some c.index.result.now = ap (λ (f : Fields g.row.T.Denot g.row.U.Denot). get f.connections c.in-Some.key) (sym viewed) ∙ c.index.ensures in (
+      c.args.subscriber_place,
+      record {
+        publisher = there.0;
+        stands = there.1;
+        settled = c.requires.settled there.0 there.1;
+        unblocked = c.requires.unblocked there.0 there.1;
+        has = rw there.1 at named;
+        link = c.index.result.now;
+        connected = at_c;
+      },
+    )
+
+pub drop_waiting_at-requires-clause-agrees : goal.drop_waiting_at-requires-clause-agrees
+drop_waiting_at-requires-clause-agrees g c = c.requires.agrees
+
 pub index-requires : goal.index-requires
 index-requires g c =
     let old = c.args.state.now in
@@ -88,7 +157,7 @@ returns-then-not-stands_at g c = λ x at.
     rw (sym (c.deref-2.ensures.value ∙ subscribers), sym c.home-subscriber.ensures.value) (stands-elsewhere _ c.args.subscriber_place _ c.stands_at.result c.stands_at.ensures c.if-not-stands_at.true) in
     let loses = c.disconnect_sender.ensures x at in
     loses-there old c.requires.agrees c.args.publisher_place c.args.subscriber_place x at (c.requires.settled x at) (c.requires.unblocked x at) c.in-Some.key named fixed_handlers c.index.result.now at_c
-    elsewhere c.disconnect_sender.new.state loses c.connect_sender-then-not-stands_at.new.state None
+    elsewhere c.disconnect_sender.new.state loses c.connect_sender-then-not-stands_at.new.state c.connect_sender-then-not-stands_at.result
     (c.connect_sender-then-not-stands_at.ensures _ (lost-stands old c.requires.agrees c.args.publisher_place c.args.subscriber_place x at (c.requires.settled x at) c.disconnect_sender.new.state loses))
 
 pub returns-then-not-is_open_at : goal.returns-then-not-is_open_at

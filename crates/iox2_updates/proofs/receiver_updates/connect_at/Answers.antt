@@ -26,4 +26,4 @@ returns-in-None g c = λ y at.
     let subscribers = c.deref-2.ensures.value ∙ ap (λ (f : Fields g.row.T.Denot g.row.U.Denot). f.subscribers) c.state.view_is in
     let none = key-of old.subscribers c.args.subscriber_place c.args.publisher_place y None at
     (ap (λ xs. receiver_key xs c.args.subscriber_place c.args.publisher_place) (sym subscribers) ∙ sym c.key_at.ensures ∙ c.in-None.is) in
-    makes-end fixed_handlers old c.requires.agrees c.args.subscriber_place c.args.publisher_place y at x.0 x.1 none c.connect_end.new.state None (c.connect_end.ensures x.0 y x.1 at)
+    makes-end fixed_handlers old c.requires.agrees c.args.subscriber_place c.args.publisher_place y at x.0 x.1 none c.connect_end.new.state c.connect_end.result (c.connect_end.ensures x.0 y x.1 at)

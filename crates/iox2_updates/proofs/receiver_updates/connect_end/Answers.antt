@@ -6,13 +6,12 @@ use Rattle.iox2_store.specs.machine.Environments.{fixed_handlers}
 use Rattle.iox2_store.specs.machine.Limits.{warning_limit}
 use Rattle.iox2_store.specs.machine.Connections.{warnings_after}
 use Rattle.iox2_slots.specs.declared.connection.Home.{Home}
-use Rattle.iox2_store.specs.declared.degradation.DegradationAction.TheVariants.{Warn}
 use Rattle.iox2_domain.specs.Ports.{SubscriberFields}
 use Rattle.iox2_domain.specs.WarningRing.{warning_ring}
 use Rattle.iox2_domain.specs.Fields.{Fields}
 use Rattle.iox2_domain.specs.ReceiverSteps.{NotJoined, JoinsAt}
 use Rattle.iox2_domain.specs.Updates.{changed_at, with_receiver_key}
-use Rattle.iox2_steps.proofs.updates.SenderOutcomes.{answers-warn}
+use Rattle.iox2_steps.proofs.updates.SenderOutcomes.{answers-fixed}
 use Rattle.iox2_steps.proofs.receivers.Outcomes.{joins-as, makes-as, misses-as}
 use Rattle.iox2_domain.proofs.lemmas.fields.Standing.{receiver-room, sender-joins, some-buffer}
 use Rattle.iox2_updates.proofs.receiver_updates.connect_end.Goals as goal
@@ -73,12 +72,12 @@ returns-in_default-make_between g c = λ x y at_x at_y.
     let apart : NotJoined old x c.args.subscriber_place c.between-buffer.result.0.subscriber =
     subst (λ o. MatchOption o (NotJoined old x c.args.subscriber_place c.between-buffer.result.0.subscriber) (λ key. JoinsAt old x c.args.subscriber_place c.between-buffer.result.0.subscriber key)) c.in_default.is (c.joined_key.ensures x at_x) in
     let mid = c.make_between.new.state in
-    misses-as fixed_handlers old c.requires.agrees c.args.publisher_place c.args.subscriber_place x y at_x at_y vacant (λ key l has st its. apart.at key l has st (its ∙ sym own))
-    c.between-buffer.result.0 c.between-buffer.result.1 home size mid c.make_between.ensures.grows tt Warn
-    (answers-warn fixed_handlers y.id y.degradation_handler _ (c.requires.agrees.parts.plain_subscribers c.args.subscriber_place y at_y).degradation) c.warn_of_refusal.new.warnings
+    rw c.degrade.ensures.failure (misses-as fixed_handlers old c.requires.agrees c.args.publisher_place c.args.subscriber_place x y at_x at_y vacant (λ key l has st its. apart.at key l has st (its ∙ sym own))
+    c.between-buffer.result.0 c.between-buffer.result.1 home size mid c.make_between.ensures.grows tt c.answer_at-answer.result
+    (answers-fixed fixed_handlers y.id y.degradation_handler _ c.answer_at-answer.result (c.answer_at-answer.ensures y (ap (λ ys. get_or ys c.args.subscriber_place None) (c.deref.ensures.value ∙ ap (λ (f : Fields g.row.T.Denot g.row.U.Denot). f.subscribers) c.state.view_is) ∙ at_y))) c.degrade.new.warnings
     c.in_default-make_between.ensures.refused
-    (c.warn_of_refusal.ensures ∙ ap (λ (f : Fields g.row.T.Denot g.row.U.Denot). warning_ring (warnings_after c.between-buffer.result.0.publisher c.between-buffer.result.0.subscriber Warn f.warnings.items) warning_limit) (c.state-2.view_is ∙ c.make_between.ensures.grows.fields))
-    _ (λ k. record (c.state-2.view_is k) { warnings = c.warn_of_refusal.new.warnings })
+    (c.degrade.ensures.warnings ∙ ap (λ (f : Fields g.row.T.Denot g.row.U.Denot). warning_ring (warnings_after c.between-buffer.result.0.publisher c.between-buffer.result.0.subscriber c.answer_at-answer.result f.warnings.items) warning_limit) (c.state-2.view_is ∙ c.make_between.ensures.grows.fields))
+    _ (λ k. record (c.state-2.view_is k) { warnings = c.degrade.new.warnings }))
 
 pub returns : goal.returns
 returns g c = λ x y at_x at_y.

@@ -85,9 +85,9 @@ returns-then-retire g c = λ y at.
     (λ same. eqb-false own.0.home.publisher c.args.publisher (sym (c.is_publishers.ensures own.0 own.1) ∙ c.if-is_publishers.false) (same ∙ x.2)) in
     let after = after-retirement fixed_handlers old c.requires.agrees c.args.subscriber_place c.args.publisher_place z.0 z.1 x.0 x.1 c.args.key own.0 end c.retire.new.state
     (subst (RetiresReceiver old c.args.subscriber_place c.args.publisher_place z.0 own.0.home.publisher c.retire.new.state) c.if-retire.true (c.retire.ensures z.0 own.0 end)) in
-    subst (λ (w : SubscriberFields). ConnectsAt fixed_handlers old c.args.subscriber_place c.args.publisher_place w c.connect_end.new.state None) is
-    (after.then c.connect_end.new.state None (λ w at_w.
-    subst (λ p. ConnectsEnd fixed_handlers c.retire.new.state c.args.subscriber_place c.args.publisher_place w p c.connect_end.new.state None) after.publisher.2
+    subst (λ (w : SubscriberFields). ConnectsAt fixed_handlers old c.args.subscriber_place c.args.publisher_place w c.connect_end.new.state c.connect_end.result) is
+    (after.then c.connect_end.new.state c.connect_end.result (λ w at_w.
+    subst (λ p. ConnectsEnd fixed_handlers c.retire.new.state c.args.subscriber_place c.args.publisher_place w p c.connect_end.new.state c.connect_end.result) after.publisher.2
     (c.connect_end.ensures after.publisher.0 w after.publisher.1 at_w)))
 
 pub returns-else-retire : goal.returns-else-retire

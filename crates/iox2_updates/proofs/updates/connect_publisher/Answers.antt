@@ -21,39 +21,39 @@ loop-other-init g c = λ x at.
     (sym ((λ k. record (viewed k) { publishers = settled k }) ∙ ap (λ o. record old { publishers = slice_set old.publishers c.args.place (option_map updated_publisher o) }) at))
     (walk-begins fixed_handlers old c.requires.agrees c.args.place x at (c.requires.unblocked x at))
 
-pub update_sender_place-requires-clause-agrees : goal.update_sender_place-requires-clause-agrees
-update_sender_place-requires-clause-agrees g c =
+pub update_sender_place-failure-requires-clause-agrees : goal.update_sender_place-failure-requires-clause-agrees
+update_sender_place-failure-requires-clause-agrees g c =
     let there = c.requires.stands in
     (c.loop-other.invariant there.0 there.1).agrees
 
-pub update_sender_place-requires-clause-publisher : goal.update_sender_place-requires-clause-publisher
-update_sender_place-requires-clause-publisher g c =
+pub update_sender_place-failure-requires-clause-publisher : goal.update_sender_place-failure-requires-clause-publisher
+update_sender_place-failure-requires-clause-publisher g c =
     let old = c.args.state.now in
     let there = c.requires.stands in
-    (_, walking-stands fixed_handlers old c.requires.agrees c.args.place there.0 there.1 c.loop-other.other c.loop-other.state None (c.loop-other.invariant there.0 there.1))
+    (_, walking-stands fixed_handlers old c.requires.agrees c.args.place there.0 there.1 c.loop-other.other c.loop-other.state c.loop-other.first (c.loop-other.invariant there.0 there.1))
 
-pub update_sender_place-requires-clause-subscriber : goal.update_sender_place-requires-clause-subscriber
-update_sender_place-requires-clause-subscriber g c =
+pub update_sender_place-failure-requires-clause-subscriber : goal.update_sender_place-failure-requires-clause-subscriber
+update_sender_place-failure-requires-clause-subscriber g c =
     let there = c.requires.stands in
     let size : vec_len c.state.inside.subscribers ≡ length c.state.inside.subscribers.items = search rules in
     let same : length c.state.inside.subscribers.items ≡ length c.args.state.now.subscribers = ap (λ (f : Fields g.row.T.Denot g.row.U.Denot). length f.subscribers) c.state.view_is in
-    let walking = walking-subscribers fixed_handlers c.args.state.now c.args.place there.0 _ _ None (c.loop-other.invariant there.0 there.1) in
+    let walking = walking-subscribers fixed_handlers c.args.state.now c.args.place there.0 _ _ _ (c.loop-other.invariant there.0 there.1) in
     omega arith
 
-pub update_sender_place-requires-clause-settled : goal.update_sender_place-requires-clause-settled
-update_sender_place-requires-clause-settled g c = λ z at_z.
+pub update_sender_place-failure-requires-clause-settled : goal.update_sender_place-failure-requires-clause-settled
+update_sender_place-failure-requires-clause-settled g c = λ z at_z.
     let old = c.args.state.now in
     let there = c.requires.stands in
-    let stands = walking-stands fixed_handlers old c.requires.agrees c.args.place there.0 there.1 c.loop-other.other c.loop-other.state None (c.loop-other.invariant there.0 there.1) in
+    let stands = walking-stands fixed_handlers old c.requires.agrees c.args.place there.0 there.1 c.loop-other.other c.loop-other.state c.loop-other.first (c.loop-other.invariant there.0 there.1) in
     ap (λ o. option_map_or (λ (w : PublisherFields). w.is_due) o false) (sym at_z ∙ stands)
 
-pub update_sender_place-requires-clause-unblocked : goal.update_sender_place-requires-clause-unblocked
-update_sender_place-requires-clause-unblocked g c = λ z at_z.
+pub update_sender_place-failure-requires-clause-unblocked : goal.update_sender_place-failure-requires-clause-unblocked
+update_sender_place-failure-requires-clause-unblocked g c = λ z at_z.
     let old = c.args.state.now in
     let there = c.requires.stands in
     let walks = c.loop-other.invariant there.0 there.1 in
     let both : Some z ≡ Some (record (there.0) { keys = walks.keys; key_room = walks.key_room; is_due = false }) =
-    sym at_z ∙ walking-stands fixed_handlers old c.requires.agrees c.args.place there.0 there.1 c.loop-other.other c.loop-other.state None walks in
+    sym at_z ∙ walking-stands fixed_handlers old c.requires.agrees c.args.place there.0 there.1 c.loop-other.other c.loop-other.state c.loop-other.first walks in
     let is : z ≡ record (there.0) { keys = walks.keys; key_room = walks.key_room; is_due = false } = cc in
     ap (λ (w : PublisherFields). w.blocked) is ∙ c.requires.unblocked there.0 there.1
 
@@ -63,8 +63,8 @@ loop-other-preserved g c = λ x at.
     let walks = c.loop-other.invariant x at in
     let size : vec_len c.state.inside.subscribers ≡ length c.state.inside.subscribers.items = search rules in
     let same : length c.state.inside.subscribers.items ≡ length old.subscribers = ap (λ (f : Fields g.row.T.Denot g.row.U.Denot). length f.subscribers) c.state.view_is in
-    walk-more fixed_handlers old c.requires.agrees c.args.place x at c.loop-other.other c.loop-other.state None walks (omega arith) c.update_sender_place.new.state None
-    (c.update_sender_place.ensures (record x { keys = walks.keys; key_room = walks.key_room; is_due = false }) (walking-stands fixed_handlers old c.requires.agrees c.args.place x at c.loop-other.other c.loop-other.state None walks))
+    rw c.first_of-first.ensures (walk-more fixed_handlers old c.requires.agrees c.args.place x at c.loop-other.other c.loop-other.state c.loop-other.first walks (omega arith) c.update_sender_place-failure.new.state c.update_sender_place-failure.result
+    (c.update_sender_place-failure.ensures (record x { keys = walks.keys; key_room = walks.key_room; is_due = false }) (walking-stands fixed_handlers old c.requires.agrees c.args.place x at c.loop-other.other c.loop-other.state c.loop-other.first walks)))
 
 pub returns : goal.returns
 returns g c = λ x at.
@@ -72,4 +72,4 @@ returns g c = λ x at.
     let due : x.is_due ≡ true = sym (due-at old.publishers c.args.place x at) ∙ c.requires.due in
     let size : vec_len c.state.inside.subscribers ≡ length c.state.inside.subscribers.items = search rules in
     let same : length c.state.inside.subscribers.items ≡ length old.subscribers = ap (λ (f : Fields g.row.T.Denot g.row.U.Denot). length f.subscribers) c.state.view_is in
-    walk-updates fixed_handlers old c.requires.agrees c.args.place x at c.loop-other.other c.loop-other.state None (c.loop-other.invariant x at) due (omega arith)
+    walk-updates fixed_handlers old c.requires.agrees c.args.place x at c.loop-other.other c.loop-other.state c.loop-other.first (c.loop-other.invariant x at) due (omega arith)

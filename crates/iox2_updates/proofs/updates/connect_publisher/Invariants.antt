@@ -6,4 +6,4 @@ use Rattle.iox2_steps.proofs.updates.SenderUpdates.{WalksSender}
 use Rattle.iox2_updates.proofs.updates.connect_publisher.Given as goal
 
 abbrev pub invariant-loop-other : goal.invariant-loop-other
-invariant-loop-other g l = (x : PublisherFields) → slice_index_or l.fn.state.publishers l.place None ≡ Some x → WalksSender {T = g.row.T.Denot} {U = g.row.U.Denot} fixed_handlers l.fn.state l.place x l.other l.state None
+invariant-loop-other g l = (x : PublisherFields) → slice_index_or l.fn.state.publishers l.place None ≡ Some x → WalksSender {T = g.row.T.Denot} {U = g.row.U.Denot} fixed_handlers l.fn.state l.place x l.other l.state l.first

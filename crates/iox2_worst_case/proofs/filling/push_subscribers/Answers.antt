@@ -1,6 +1,7 @@
 use Rattle.std.proofs.Common.{◌∙◌, arith, vec_len}
+use Rattle.std.specs.Prelude.{vec_capacity}
 use Rattle.iox2_worst_case.specs.FillingCommands.{filling_length}
-use Rattle.iox2_worst_case.proofs.FillingLists.{subscribers_more, one_more_time}
+use Rattle.iox2_worst_case.proofs.FillingLists.{subscribers_more, one_more_time, room_for_one_more}
 use Rattle.iox2_worst_case.proofs.filling.push_subscribers.Goals as goal
 
 pub loop-subscriber-preserved : goal.loop-subscriber-preserved
@@ -14,3 +15,9 @@ loop-subscriber-preserved g c = record {
       c.loop-subscriber.invariant.len c.push_subscriber.ensures.len;
   capacity = c.push_subscriber.ensures.capacity ∙ c.loop-subscriber.invariant.capacity;
 }
+
+pub push_subscriber-requires : goal.push_subscriber-requires
+push_subscriber-requires g c = rw c.loop-subscriber.invariant.capacity (
+    room_for_one_more (vec_len c.args.commands.now) (vec_len c.loop-subscriber.commands) c.loop-subscriber._subscriber c.args.config.now.max_subscribers (filling_length c.args.config.now) (vec_capacity c.args.commands.now)
+    c.loop-subscriber.invariant.len c.loop-subscriber-test.true c.requires
+    )

@@ -28,30 +28,30 @@ use Rattle.iox2_pubsub.proofs.blocked_send.BlockedSend.retry.Goals as goal
 
 pub find_live_publisher-place-requires : goal.find_live_publisher-place-requires
 find_live_publisher-place-requires g c = λ none.
-    let held = subst (λ (k : Kept g.row.T.Denot g.row.U.Denot g.row.F.Denot). HoldsBlocked (state_of k) c.args.self.loan.publisher c.args.self.loan.number) (sym c.domain.view_is) (blocked-parts c.args.domain.now (blocked_key c.args.self) c.requires).1 in
+    let held = subst (λ (k : Kept g.row.T.Denot g.row.U.Denot g.row.F.Denot). HoldsBlocked (state_of k) c.args.self.loan.publisher c.args.self.loan.number) (sym c.domain.view_is) (blocked-parts c.args.domain.now (blocked_key c.args.self) c.requires.live).1 in
     let no : None ≡ Some held.0 = sym (unknown c.domain.inside.state c.args.self.loan.publisher (stands-nowhere c.domain.inside.state.publishers c.args.self.loan.publisher none)) ∙ held.2 in
     absurd cc
 
 pub retry_send-end-requires-clause-waits : goal.retry_send-end-requires-clause-waits
 retry_send-end-requires-clause-waits g c =
     has-blocked c.domain.inside.state c.domain.invariant c.find_live_publisher-place.result c.args.self.loan.publisher c.args.self.loan.number c.find_live_publisher-place.ensures
-    (subst (λ (k : Kept g.row.T.Denot g.row.U.Denot g.row.F.Denot). HoldsBlocked (state_of k) c.args.self.loan.publisher c.args.self.loan.number) (sym c.domain.view_is) (blocked-parts c.args.domain.now (blocked_key c.args.self) c.requires).1)
+    (subst (λ (k : Kept g.row.T.Denot g.row.U.Denot g.row.F.Denot). HoldsBlocked (state_of k) c.args.self.loan.publisher c.args.self.loan.number) (sym c.domain.view_is) (blocked-parts c.args.domain.now (blocked_key c.args.self) c.requires.live).1)
 
 pub invariant_of-domain : goal.invariant_of-domain
 invariant_of-domain g c =
     let d = some-waits c.domain.inside.state c.domain.invariant c.find_live_publisher-place.result c.args.self.loan.publisher c.args.self.loan.number c.find_live_publisher-place.ensures
-    (subst (λ (k : Kept g.row.T.Denot g.row.U.Denot g.row.F.Denot). HoldsBlocked (state_of k) c.args.self.loan.publisher c.args.self.loan.number) (sym c.domain.view_is) (blocked-parts c.args.domain.now (blocked_key c.args.self) c.requires).1) in
+    (subst (λ (k : Kept g.row.T.Denot g.row.U.Denot g.row.F.Denot). HoldsBlocked (state_of k) c.args.self.loan.publisher c.args.self.loan.number) (sym c.domain.view_is) (blocked-parts c.args.domain.now (blocked_key c.args.self) c.requires.live).1) in
     (c.retry_send-end.ensures.goes c.find_live_publisher-place.ensures.0 (d).0 c.find_live_publisher-place.ensures.1 (d).1).agrees
 
 pub returns-clause-retries : goal.returns-clause-retries
 returns-clause-retries g c = λ m s x b shown at waits.
     let d = some-waits c.domain.inside.state c.domain.invariant c.find_live_publisher-place.result c.args.self.loan.publisher c.args.self.loan.number c.find_live_publisher-place.ensures
-    (subst (λ (k : Kept g.row.T.Denot g.row.U.Denot g.row.F.Denot). HoldsBlocked (state_of k) c.args.self.loan.publisher c.args.self.loan.number) (sym c.domain.view_is) (blocked-parts c.args.domain.now (blocked_key c.args.self) c.requires).1) in
+    (subst (λ (k : Kept g.row.T.Denot g.row.U.Denot g.row.F.Denot). HoldsBlocked (state_of k) c.args.self.loan.publisher c.args.self.loan.number) (sym c.domain.view_is) (blocked-parts c.args.domain.now (blocked_key c.args.self) c.requires.live).1) in
     let step = c.retry_send-end.ensures.goes c.find_live_publisher-place.ensures.0 (d).0 c.find_live_publisher-place.ensures.1 (d).1 in
     let after : State g.row.T.Denot g.row.U.Denot = state_of (kept_of c.retry_send-end.new.state) in
     let inside : Retry (answers_of g.F.BackpressureFn.allows c.domain.inside.boxes.boxes) s c.args.self.loan.publisher b c.args.elapsed after (end_result c.retry_send-end.result) =
     as-machine c.domain.inside.state c.domain.invariant c.find_live_publisher-place.result c.args.self.loan.publisher c.args.self.loan.number c.find_live_publisher-place.ensures
-    (subst (λ (k : Kept g.row.T.Denot g.row.U.Denot g.row.F.Denot). HoldsBlocked (state_of k) c.args.self.loan.publisher c.args.self.loan.number) (sym c.domain.view_is) (blocked-parts c.args.domain.now (blocked_key c.args.self) c.requires).1)
+    (subst (λ (k : Kept g.row.T.Denot g.row.U.Denot g.row.F.Denot). HoldsBlocked (state_of k) c.args.self.loan.publisher c.args.self.loan.number) (sym c.domain.view_is) (blocked-parts c.args.domain.now (blocked_key c.args.self) c.requires.live).1)
     c.args.domain.now c.domain.view_is m s shown x b at waits
     (λ t q w. Retry (answers_of g.F.BackpressureFn.allows c.domain.inside.boxes.boxes) t q w c.args.elapsed after (end_result c.retry_send-end.result)) step.retries in
     let machine : Retry (answers_of g.F.BackpressureFn.allows c.args.domain.now.boxes) s c.args.self.loan.publisher b c.args.elapsed after (end_result c.retry_send-end.result) =
@@ -66,11 +66,11 @@ returns-clause-retries g c = λ m s x b shown at waits.
 pub returns-clause-stays : goal.returns-clause-stays
 returns-clause-stays g c =
     let it = always-shown {T = g.row.T.Denot} {U = g.row.U.Denot} c.domain.inside.state c.args.domain.now c.domain.invariant c.domain.view_is in
-    let held = (blocked-parts c.args.domain.now (blocked_key c.args.self) c.requires).1 in
+    let held = (blocked-parts c.args.domain.now (blocked_key c.args.self) c.requires.live).1 in
     let at = ap (λ (t : State g.row.T.Denot g.row.U.Denot). t.publishers c.args.self.loan.publisher) (it.2).state ∙ held.2 in
     let next = returns-clause-retries g c it.0 it.1 held.0 held.1 it.2 at held.3 in
     let d = some-waits c.domain.inside.state c.domain.invariant c.find_live_publisher-place.result c.args.self.loan.publisher c.args.self.loan.number c.find_live_publisher-place.ensures
-    (subst (λ (k : Kept g.row.T.Denot g.row.U.Denot g.row.F.Denot). HoldsBlocked (state_of k) c.args.self.loan.publisher c.args.self.loan.number) (sym c.domain.view_is) (blocked-parts c.args.domain.now (blocked_key c.args.self) c.requires).1) in
+    (subst (λ (k : Kept g.row.T.Denot g.row.U.Denot g.row.F.Denot). HoldsBlocked (state_of k) c.args.self.loan.publisher c.args.self.loan.number) (sym c.domain.view_is) (blocked-parts c.args.domain.now (blocked_key c.args.self) c.requires.live).1) in
     let step = c.retry_send-end.ensures.goes c.find_live_publisher-place.ensures.0 (d).0 c.find_live_publisher-place.ensures.1 (d).1 in
     retry-stays {T = g.row.T.Denot} {U = g.row.U.Denot} c.domain.inside.state c.retry_send-end.new.state c.args.domain.now c.domain.view_is it.0 it.1 it.2 c.args.self.loan.publisher (result_of_send c.outcome_of.result) (answers_of g.F.BackpressureFn.allows c.args.domain.now.boxes) held.0 held.1 at held.3 c.args.elapsed
     step.agrees (subst (λ (t : State g.row.T.Denot g.row.U.Denot). Retry (answers_of g.F.BackpressureFn.allows c.args.domain.now.boxes) it.1 c.args.self.loan.publisher held.1 c.args.elapsed t (result_of_send c.outcome_of.result)) (next.1).state next.2) step.entries
@@ -78,7 +78,7 @@ returns-clause-stays g c =
 pub returns-clause-blocked : goal.returns-clause-blocked
 returns-clause-blocked g c =
     let it = always-shown {T = g.row.T.Denot} {U = g.row.U.Denot} c.domain.inside.state c.args.domain.now c.domain.invariant c.domain.view_is in
-    let parts = blocked-parts c.args.domain.now (blocked_key c.args.self) c.requires in
+    let parts = blocked-parts c.args.domain.now (blocked_key c.args.self) c.requires.live in
     let held = parts.1 in
     let at = ap (λ (t : State g.row.T.Denot g.row.U.Denot). t.publishers c.args.self.loan.publisher) (it.2).state ∙ held.2 in
     let next = returns-clause-retries g c it.0 it.1 held.0 held.1 it.2 at held.3 in
@@ -96,7 +96,7 @@ returns-clause-failed g c = only-undelivered c.retry_send-end.result c.retry_sen
 pub returns-clause-freed : goal.returns-clause-freed
 returns-clause-freed g c = λ ends.
     let it = always-shown {T = g.row.T.Denot} {U = g.row.U.Denot} c.domain.inside.state c.args.domain.now c.domain.invariant c.domain.view_is in
-    let held = (blocked-parts c.args.domain.now (blocked_key c.args.self) c.requires).1 in
+    let held = (blocked-parts c.args.domain.now (blocked_key c.args.self) c.requires.live).1 in
     let at = ap (λ (t : State g.row.T.Denot g.row.U.Denot). t.publishers c.args.self.loan.publisher) (it.2).state ∙ held.2 in
     let next = returns-clause-retries g c it.0 it.1 held.0 held.1 it.2 at held.3 in
     retry-frees-key {T = g.row.T.Denot} {U = g.row.U.Denot} (keeping _ c.retry_send-end.new.state) it.0 it.1 next.0 next.1 c.args.self.loan.publisher held.0 held.1 at (result_of_send c.outcome_of.result) (sent-free c.outcome_of.result ends) (answers_of g.F.BackpressureFn.allows c.args.domain.now.boxes) c.args.elapsed next.2 (lender_key (blocked_key c.args.self)) refl
@@ -104,7 +104,7 @@ returns-clause-freed g c = λ ends.
 pub returns-clause-loans_freed : goal.returns-clause-loans_freed
 returns-clause-loans_freed g c = λ ends loan its.
     let it = always-shown {T = g.row.T.Denot} {U = g.row.U.Denot} c.domain.inside.state c.args.domain.now c.domain.invariant c.domain.view_is in
-    let held = (blocked-parts c.args.domain.now (blocked_key c.args.self) c.requires).1 in
+    let held = (blocked-parts c.args.domain.now (blocked_key c.args.self) c.requires.live).1 in
     let at = ap (λ (t : State g.row.T.Denot g.row.U.Denot). t.publishers c.args.self.loan.publisher) (it.2).state ∙ held.2 in
     let next = returns-clause-retries g c it.0 it.1 held.0 held.1 it.2 at held.3 in
     retry-frees-key {T = g.row.T.Denot} {U = g.row.U.Denot} (keeping _ c.retry_send-end.new.state) it.0 it.1 next.0 next.1 c.args.self.loan.publisher held.0 held.1 at (result_of_send c.outcome_of.result) (sent-free c.outcome_of.result ends) (answers_of g.F.BackpressureFn.allows c.args.domain.now.boxes) c.args.elapsed next.2 (written_key loan) its
@@ -112,7 +112,7 @@ returns-clause-loans_freed g c = λ ends loan its.
 pub returns-clause-adds : goal.returns-clause-adds
 returns-clause-adds g c =
     let it = always-shown {T = g.row.T.Denot} {U = g.row.U.Denot} c.domain.inside.state c.args.domain.now c.domain.invariant c.domain.view_is in
-    let held = (blocked-parts c.args.domain.now (blocked_key c.args.self) c.requires).1 in
+    let held = (blocked-parts c.args.domain.now (blocked_key c.args.self) c.requires.live).1 in
     let at = ap (λ (t : State g.row.T.Denot g.row.U.Denot). t.publishers c.args.self.loan.publisher) (it.2).state ∙ held.2 in
     let next = returns-clause-retries g c it.0 it.1 held.0 held.1 it.2 at held.3 in
     retry-adds {T = g.row.T.Denot} {U = g.row.U.Denot} c.args.domain.now (keeping _ c.retry_send-end.new.state) it.0 it.0 it.1 next.0 it.2 next.1 (answers_of g.F.BackpressureFn.allows c.args.domain.now.boxes) c.args.self.loan.publisher held.0 held.1 c.args.elapsed (result_of_send c.outcome_of.result) at held.3 next.2
@@ -120,7 +120,7 @@ returns-clause-adds g c =
 pub returns-clause-up_to_date : goal.returns-clause-up_to_date
 returns-clause-up_to_date g c =
     let it = always-shown {T = g.row.T.Denot} {U = g.row.U.Denot} c.domain.inside.state c.args.domain.now c.domain.invariant c.domain.view_is in
-    let held = (blocked-parts c.args.domain.now (blocked_key c.args.self) c.requires).1 in
+    let held = (blocked-parts c.args.domain.now (blocked_key c.args.self) c.requires.live).1 in
     let at = ap (λ (t : State g.row.T.Denot g.row.U.Denot). t.publishers c.args.self.loan.publisher) (it.2).state ∙ held.2 in
     let next = returns-clause-retries g c it.0 it.1 held.0 held.1 it.2 at held.3 in
     retry-leaves {T = g.row.T.Denot} {U = g.row.U.Denot} c.args.domain.now (keeping _ c.retry_send-end.new.state) it.0 it.0 it.1 next.0 it.2 next.1 (answers_of g.F.BackpressureFn.allows c.args.domain.now.boxes) c.args.self.loan.publisher held.1 c.args.elapsed (result_of_send c.outcome_of.result) next.2
@@ -128,7 +128,7 @@ returns-clause-up_to_date g c =
 pub returns-clause-loans_left : goal.returns-clause-loans_left
 returns-clause-loans_left g c =
     let it = always-shown {T = g.row.T.Denot} {U = g.row.U.Denot} c.domain.inside.state c.args.domain.now c.domain.invariant c.domain.view_is in
-    let held = (blocked-parts c.args.domain.now (blocked_key c.args.self) c.requires).1 in
+    let held = (blocked-parts c.args.domain.now (blocked_key c.args.self) c.requires.live).1 in
     let at = ap (λ (t : State g.row.T.Denot g.row.U.Denot). t.publishers c.args.self.loan.publisher) (it.2).state ∙ held.2 in
     let next = returns-clause-retries g c it.0 it.1 held.0 held.1 it.2 at held.3 in
     retry-left {T = g.row.T.Denot} {U = g.row.U.Denot} c.args.domain.now (keeping _ c.retry_send-end.new.state) it.0 it.0 it.1 next.0 it.2 next.1 c.args.self.loan.publisher held.0 held.1 at held.3 (answers_of g.F.BackpressureFn.allows c.args.domain.now.boxes) c.args.elapsed (result_of_send c.outcome_of.result) next.2
@@ -136,7 +136,7 @@ returns-clause-loans_left g c =
 pub returns-clause-given_back : goal.returns-clause-given_back
 returns-clause-given_back g c = λ ends.
     let it = always-shown {T = g.row.T.Denot} {U = g.row.U.Denot} c.domain.inside.state c.args.domain.now c.domain.invariant c.domain.view_is in
-    let held = (blocked-parts c.args.domain.now (blocked_key c.args.self) c.requires).1 in
+    let held = (blocked-parts c.args.domain.now (blocked_key c.args.self) c.requires.live).1 in
     let at = ap (λ (t : State g.row.T.Denot g.row.U.Denot). t.publishers c.args.self.loan.publisher) (it.2).state ∙ held.2 in
     let next = returns-clause-retries g c it.0 it.1 held.0 held.1 it.2 at held.3 in
     retry-gives {T = g.row.T.Denot} {U = g.row.U.Denot} c.args.domain.now (keeping _ c.retry_send-end.new.state) it.0 it.0 it.1 next.0 it.2 next.1 c.args.self.loan.publisher held.0 held.1 at held.3 (answers_of g.F.BackpressureFn.allows c.args.domain.now.boxes) c.args.elapsed (result_of_send c.outcome_of.result) (sent-free c.outcome_of.result ends) next.2
@@ -145,7 +145,7 @@ pub returns-clause-stays_since : goal.returns-clause-stays_since
 unfolding StaysSince
 returns-clause-stays_since g c = λ ends start free before.
     let it = always-shown {T = g.row.T.Denot} {U = g.row.U.Denot} c.domain.inside.state c.args.domain.now c.domain.invariant c.domain.view_is in
-    let held = (blocked-parts c.args.domain.now (blocked_key c.args.self) c.requires).1 in
+    let held = (blocked-parts c.args.domain.now (blocked_key c.args.self) c.requires.live).1 in
     let at = ap (λ (t : State g.row.T.Denot g.row.U.Denot). t.publishers c.args.self.loan.publisher) (it.2).state ∙ held.2 in
     let next = returns-clause-retries g c it.0 it.1 held.0 held.1 it.2 at held.3 in
     stays-since-block c.args.self.loan.publisher start c.args.domain.now _ (λ key its. unblocked-alike start (lender_key (blocked_key c.args.self)) key its free) before (returns-clause-stays g c)
@@ -154,7 +154,7 @@ returns-clause-stays_since g c = λ ends start free before.
 pub returns-clause-no_more : goal.returns-clause-no_more
 returns-clause-no_more g c =
     let it = always-shown {T = g.row.T.Denot} {U = g.row.U.Denot} c.domain.inside.state c.args.domain.now c.domain.invariant c.domain.view_is in
-    let held = (blocked-parts c.args.domain.now (blocked_key c.args.self) c.requires).1 in
+    let held = (blocked-parts c.args.domain.now (blocked_key c.args.self) c.requires.live).1 in
     let at = ap (λ (t : State g.row.T.Denot g.row.U.Denot). t.publishers c.args.self.loan.publisher) (it.2).state ∙ held.2 in
     let next = returns-clause-retries g c it.0 it.1 held.0 held.1 it.2 at held.3 in
     where-blocked (λ (again : Handle). receivers_ahead (keeping _ c.retry_send-end.new.state) again ≤ receivers_ahead c.args.domain.now c.args.self) c.args.self c.outcome_of.result c.outcome_of.ensures.blocked (λ waits.
@@ -163,7 +163,7 @@ returns-clause-no_more g c =
 pub returns-clause-ok : goal.returns-clause-ok
 returns-clause-ok g c = λ never.
     let it = always-shown {T = g.row.T.Denot} {U = g.row.U.Denot} c.domain.inside.state c.args.domain.now c.domain.invariant c.domain.view_is in
-    let held = (blocked-parts c.args.domain.now (blocked_key c.args.self) c.requires).1 in
+    let held = (blocked-parts c.args.domain.now (blocked_key c.args.self) c.requires.live).1 in
     let at = ap (λ (t : State g.row.T.Denot g.row.U.Denot). t.publishers c.args.self.loan.publisher) (it.2).state ∙ held.2 in
     let next = returns-clause-retries g c it.0 it.1 held.0 held.1 it.2 at held.3 in
     let has = unfailed-parts c.args.domain.now c.args.self.loan.publisher never in

@@ -8,6 +8,7 @@ use Rattle.iox2_pubsub.specs.Live.{publisher_key}
 use Rattle.iox2_pubsub.proofs.CallsStay.{always-shown}
 use Rattle.iox2_pubsub.proofs.ClosesShown.{publisher-close-shows, publisher-close-stays, publisher-close-spends}
 use Rattle.iox2_pubsub.proofs.ClosesWait.{publisher-close-no-fewer}
+use Rattle.iox2_pubsub.proofs.ConnectionsShown.{publisher-close-keeps, publisher-close-connections}
 use Rattle.iox2_pubsub.proofs.LiveParts.{publisher-parts, unblocked-test}
 use Rattle.iox2_pubsub.proofs.UninitLoans.{publisher-missing}
 use Rattle.iox2_pubsub.proofs.LoansLeftShown.{publisher-close-others, publisher-close-numbers}
@@ -17,7 +18,7 @@ use Rattle.iox2_pubsub.proofs.publisher.Publisher.close.Goals as goal
 
 pub find_live_publisher-place-requires : goal.find_live_publisher-place-requires
 find_live_publisher-place-requires g c = λ none.
-    publisher-missing {T = g.row.T.Denot} {U = g.row.U.Denot} c.domain.inside.state c.args.domain.now c.domain.view_is c.args.self none c.requires.there
+    publisher-missing {T = g.row.T.Denot} {U = g.row.U.Denot} c.domain.inside.state c.args.domain.now c.domain.view_is c.args.self none c.requires.ready.there
 
 pub close_publisher-requires-clause-stands : goal.close_publisher-requires-clause-stands
 close_publisher-requires-clause-stands g c = (c.find_live_publisher-place.ensures.0, c.find_live_publisher-place.ensures.1)
@@ -33,7 +34,7 @@ returns-clause-closed g c = λ m s x shown at.
 pub returns-clause-spent : goal.returns-clause-spent
 returns-clause-spent g c =
     let it = always-shown {T = g.row.T.Denot} {U = g.row.U.Denot} c.domain.inside.state c.args.domain.now c.domain.invariant c.domain.view_is in
-    let has = (publisher-parts c.args.domain.now _ c.requires.there).2 in
+    let has = (publisher-parts c.args.domain.now _ c.requires.ready.there).2 in
     let there = ap (λ (t : State g.row.T.Denot g.row.U.Denot). t.publishers c.args.self.id) (it.2).state ∙ has.1 in
     publisher-close-spends {T = g.row.T.Denot} {U = g.row.U.Denot} c.args.domain.now (keeping _ c.close_publisher.new.state) it.0 it.1 it.2 c.args.self.id has.0
     (returns-clause-closed g c it.0 it.1 has.0 it.2 there) (publisher_key c.args.self) refl
@@ -41,7 +42,7 @@ returns-clause-spent g c =
 pub returns-clause-stays : goal.returns-clause-stays
 returns-clause-stays g c =
     let it = always-shown {T = g.row.T.Denot} {U = g.row.U.Denot} c.domain.inside.state c.args.domain.now c.domain.invariant c.domain.view_is in
-    let has = (publisher-parts c.args.domain.now _ c.requires.there).2 in
+    let has = (publisher-parts c.args.domain.now _ c.requires.ready.there).2 in
     let there = ap (λ (t : State g.row.T.Denot g.row.U.Denot). t.publishers c.args.self.id) (it.2).state ∙ has.1 in
     publisher-close-stays {T = g.row.T.Denot} {U = g.row.U.Denot} c.args.domain.now (keeping _ c.close_publisher.new.state) it.0 it.1 it.2 c.args.self.id has.0
     (returns-clause-closed g c it.0 it.1 has.0 it.2 there)
@@ -55,7 +56,7 @@ returns-clause-unboxed g c = box-is _ c.close_publisher.new.state c.args.self.id
 pub returns-clause-no_fewer : goal.returns-clause-no_fewer
 returns-clause-no_fewer g c =
     let it = always-shown {T = g.row.T.Denot} {U = g.row.U.Denot} c.domain.inside.state c.args.domain.now c.domain.invariant c.domain.view_is in
-    let has = (publisher-parts c.args.domain.now _ c.requires.there).2 in
+    let has = (publisher-parts c.args.domain.now _ c.requires.ready.there).2 in
     let there = ap (λ (t : State g.row.T.Denot g.row.U.Denot). t.publishers c.args.self.id) (it.2).state ∙ has.1 in
     publisher-close-no-fewer {T = g.row.T.Denot} {U = g.row.U.Denot} c.args.domain.now (keeping _ c.close_publisher.new.state) it.0 it.1 it.2 c.args.self.id has.0
     (returns-clause-closed g c it.0 it.1 has.0 it.2 there) there
@@ -63,7 +64,7 @@ returns-clause-no_fewer g c =
 pub returns-clause-loans_left : goal.returns-clause-loans_left
 returns-clause-loans_left g c =
     let it = always-shown {T = g.row.T.Denot} {U = g.row.U.Denot} c.domain.inside.state c.args.domain.now c.domain.invariant c.domain.view_is in
-    let has = (publisher-parts c.args.domain.now _ c.requires.there).2 in
+    let has = (publisher-parts c.args.domain.now _ c.requires.ready.there).2 in
     let there = ap (λ (t : State g.row.T.Denot g.row.U.Denot). t.publishers c.args.self.id) (it.2).state ∙ has.1 in
     publisher-close-others {T = g.row.T.Denot} {U = g.row.U.Denot} c.args.domain.now (keeping _ c.close_publisher.new.state) it.0 it.0 it.1 _ it.2
     (returns-clause-closed g c it.0 it.1 has.0 it.2 there) c.args.self has.0 refl
@@ -71,7 +72,7 @@ returns-clause-loans_left g c =
 pub returns-clause-numbers_left : goal.returns-clause-numbers_left
 returns-clause-numbers_left g c =
     let it = always-shown {T = g.row.T.Denot} {U = g.row.U.Denot} c.domain.inside.state c.args.domain.now c.domain.invariant c.domain.view_is in
-    let has = (publisher-parts c.args.domain.now _ c.requires.there).2 in
+    let has = (publisher-parts c.args.domain.now _ c.requires.ready.there).2 in
     let there = ap (λ (t : State g.row.T.Denot g.row.U.Denot). t.publishers c.args.self.id) (it.2).state ∙ has.1 in
     publisher-close-numbers {T = g.row.T.Denot} {U = g.row.U.Denot} c.args.domain.now (keeping _ c.close_publisher.new.state) it.0 it.0 it.1 _ it.2
     (returns-clause-closed g c it.0 it.1 has.0 it.2 there) c.args.self.id has.0 refl
@@ -83,4 +84,20 @@ close_publisher-requires-clause-unblocked g c = λ z at_z.
     let is : z ≡ found.0 = cc in
     ap (λ (w : PublisherFields). w.blocked) is
     ∙ free-of c.domain.inside.state c.domain.invariant.parts c.args.self.id c.find_live_publisher-place.result found.0 found.1 found.2
-    (subst (λ (k : Kept g.row.T.Denot g.row.U.Denot g.row.F.Denot). is_blocked (state_of k) c.args.self.id ≡ false) (sym c.domain.view_is) (unblocked-test c.args.domain.now (publisher_key c.args.self) c.requires.unblocked))
+    (subst (λ (k : Kept g.row.T.Denot g.row.U.Denot g.row.F.Denot). is_blocked (state_of k) c.args.self.id ≡ false) (sym c.domain.view_is) (unblocked-test c.args.domain.now (publisher_key c.args.self) c.requires.ready.unblocked))
+
+pub returns-clause-keeps : goal.returns-clause-keeps
+returns-clause-keeps g c =
+    let it = always-shown {T = g.row.T.Denot} {U = g.row.U.Denot} c.domain.inside.state c.args.domain.now c.domain.invariant c.domain.view_is in
+    let has = (publisher-parts c.args.domain.now _ c.requires.ready.there).2 in
+    let there = ap (λ (t : State g.row.T.Denot g.row.U.Denot). t.publishers c.args.self.id) (it.2).state ∙ has.1 in
+    publisher-close-keeps {T = g.row.T.Denot} {U = g.row.U.Denot} c.args.domain.now (keeping _ c.close_publisher.new.state) it.0 it.1 it.2 c.args.self.id has.0
+    (returns-clause-closed g c it.0 it.1 has.0 it.2 there) there
+
+pub returns-clause-connections : goal.returns-clause-connections
+returns-clause-connections g c =
+    let it = always-shown {T = g.row.T.Denot} {U = g.row.U.Denot} c.domain.inside.state c.args.domain.now c.domain.invariant c.domain.view_is in
+    let has = (publisher-parts c.args.domain.now _ c.requires.ready.there).2 in
+    let there = ap (λ (t : State g.row.T.Denot g.row.U.Denot). t.publishers c.args.self.id) (it.2).state ∙ has.1 in
+    publisher-close-connections {T = g.row.T.Denot} {U = g.row.U.Denot} c.args.domain.now (keeping _ c.close_publisher.new.state) it.0 it.1 it.2 c.args.self.id has.0
+    (returns-clause-closed g c it.0 it.1 has.0 it.2 there) there

@@ -10,7 +10,7 @@ use Rattle.iox2_pubsub.proofs.sample.Sample.header.Goals as goal
 
 pub sample_header-requires-clause-live : goal.sample_header-requires-clause-live
 sample_header-requires-clause-live g c =
-    subst (λ (k : Kept g.row.T.Denot g.row.U.Denot g.row.F.Denot). HoldsSample (state_of k) c.args.self.now.sample.subscriber c.args.self.now.sample.number) (sym c.domain.view_is) (sample-parts c.args.domain.now _ c.requires).1
+    subst (λ (k : Kept g.row.T.Denot g.row.U.Denot g.row.F.Denot). HoldsSample (state_of k) c.args.self.now.sample.subscriber c.args.self.now.sample.number) (sym c.domain.view_is) (sample-parts c.args.domain.now _ c.requires.live).1
 
 pub returns-clause-header : goal.returns-clause-header
 returns-clause-header g c = λ m s shown.

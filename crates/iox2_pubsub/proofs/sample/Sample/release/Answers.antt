@@ -14,7 +14,7 @@ use Rattle.iox2_pubsub.proofs.sample.Sample.release.Goals as goal
 
 pub give_back-requires-clause-live : goal.give_back-requires-clause-live
 give_back-requires-clause-live g c =
-    subst (λ (k : Kept g.row.T.Denot g.row.U.Denot g.row.F.Denot). HoldsSample (state_of k) c.args.self.sample.subscriber c.args.self.sample.number) (sym c.domain.view_is) (sample-parts c.args.domain.now _ c.requires).1
+    subst (λ (k : Kept g.row.T.Denot g.row.U.Denot g.row.F.Denot). HoldsSample (state_of k) c.args.self.sample.subscriber c.args.self.sample.number) (sym c.domain.view_is) (sample-parts c.args.domain.now _ c.requires.live).1
 
 pub returns-clause-released : goal.returns-clause-released
 returns-clause-released g c =
@@ -24,7 +24,7 @@ returns-clause-released g c =
 pub returns-clause-spent : goal.returns-clause-spent
 returns-clause-spent g c = λ live.
     let it = always-shown {T = g.row.T.Denot} {U = g.row.U.Denot} c.domain.inside.state c.args.domain.now c.domain.invariant c.domain.view_is in
-    let has = (sample-parts c.args.domain.now _ c.requires).1 in
+    let has = (sample-parts c.args.domain.now _ c.requires.live).1 in
     let borrowed = ap (λ (t : State g.row.T.Denot g.row.U.Denot). is_borrowed c.args.self.sample.number (t.mailboxes has.0 c.args.self.sample.subscriber)) (it.2).state ∙ has.1 in
     let step = returns-clause-released g c it.0 it.1 it.2 has.0 borrowed in
     release-spends {T = g.row.T.Denot} {U = g.row.U.Denot} c.args.domain.now _ it.0 it.1 it.2 has.0 c.args.self.sample.subscriber c.args.self.sample.number step.0 step.1 borrowed step.2 _ refl refl live
@@ -32,7 +32,7 @@ returns-clause-spent g c = λ live.
 pub returns-clause-stays : goal.returns-clause-stays
 returns-clause-stays g c =
     let it = always-shown {T = g.row.T.Denot} {U = g.row.U.Denot} c.domain.inside.state c.args.domain.now c.domain.invariant c.domain.view_is in
-    let has = (sample-parts c.args.domain.now _ c.requires).1 in
+    let has = (sample-parts c.args.domain.now _ c.requires.live).1 in
     let borrowed = ap (λ (t : State g.row.T.Denot g.row.U.Denot). is_borrowed c.args.self.sample.number (t.mailboxes has.0 c.args.self.sample.subscriber)) (it.2).state ∙ has.1 in
     let step = returns-clause-released g c it.0 it.1 it.2 has.0 borrowed in
     release-stays {T = g.row.T.Denot} {U = g.row.U.Denot} c.args.domain.now _ it.0 it.1 it.2 has.0 c.args.self.sample.subscriber c.args.self.sample.number step.0 step.1 step.2 (same-boxes c.domain.inside.state c.give_back.new.state c.args.domain.now c.domain.view_is)
@@ -40,7 +40,7 @@ returns-clause-stays g c =
 pub returns-clause-waits : goal.returns-clause-waits
 returns-clause-waits g c =
     let it = always-shown {T = g.row.T.Denot} {U = g.row.U.Denot} c.domain.inside.state c.args.domain.now c.domain.invariant c.domain.view_is in
-    let has = (sample-parts c.args.domain.now _ c.requires).1 in
+    let has = (sample-parts c.args.domain.now _ c.requires.live).1 in
     let borrowed = ap (λ (t : State g.row.T.Denot g.row.U.Denot). is_borrowed c.args.self.sample.number (t.mailboxes has.0 c.args.self.sample.subscriber)) (it.2).state ∙ has.1 in
     let step = returns-clause-released g c it.0 it.1 it.2 has.0 borrowed in
     release-waits {T = g.row.T.Denot} {U = g.row.U.Denot} c.args.domain.now _ it.0 it.0 it.1 step.0 it.2 step.1 (λ n entry at. at) has.0 c.args.self.sample.subscriber c.args.self.sample.number step.2
@@ -48,7 +48,7 @@ returns-clause-waits g c =
 pub returns-clause-up_to_date : goal.returns-clause-up_to_date
 returns-clause-up_to_date g c =
     let it = always-shown {T = g.row.T.Denot} {U = g.row.U.Denot} c.domain.inside.state c.args.domain.now c.domain.invariant c.domain.view_is in
-    let has = (sample-parts c.args.domain.now _ c.requires).1 in
+    let has = (sample-parts c.args.domain.now _ c.requires.live).1 in
     let borrowed = ap (λ (t : State g.row.T.Denot g.row.U.Denot). is_borrowed c.args.self.sample.number (t.mailboxes has.0 c.args.self.sample.subscriber)) (it.2).state ∙ has.1 in
     let step = returns-clause-released g c it.0 it.1 it.2 has.0 borrowed in
     release-leaves {T = g.row.T.Denot} {U = g.row.U.Denot} c.args.domain.now _ it.0 it.0 it.1 step.0 it.2 step.1 has.0 c.args.self.sample.subscriber c.args.self.sample.number step.2
@@ -56,7 +56,7 @@ returns-clause-up_to_date g c =
 pub returns-clause-loans_left : goal.returns-clause-loans_left
 returns-clause-loans_left g c =
     let it = always-shown {T = g.row.T.Denot} {U = g.row.U.Denot} c.domain.inside.state c.args.domain.now c.domain.invariant c.domain.view_is in
-    let has = (sample-parts c.args.domain.now _ c.requires).1 in
+    let has = (sample-parts c.args.domain.now _ c.requires.live).1 in
     let borrowed = ap (λ (t : State g.row.T.Denot g.row.U.Denot). is_borrowed c.args.self.sample.number (t.mailboxes has.0 c.args.self.sample.subscriber)) (it.2).state ∙ has.1 in
     let step = returns-clause-released g c it.0 it.1 it.2 has.0 borrowed in
     release-left {T = g.row.T.Denot} {U = g.row.U.Denot} c.args.domain.now _ it.0 it.0 it.1 step.0 it.2 step.1 has.0 c.args.self.sample.subscriber c.args.self.sample.number step.2

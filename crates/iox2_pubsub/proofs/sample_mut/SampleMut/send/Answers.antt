@@ -15,13 +15,14 @@ use Rattle.iox2_domain.specs.Kept.{Kept, state_of}
 use Rattle.iox2_domain.specs.LoanCalls.{HoldsWritten}
 use Rattle.iox2_deliveries.specs.SendEnds.{end_result}
 use Rattle.iox2_domain.specs.Shows.{Shows}
-use Rattle.iox2_pubsub.proofs.SendShown.{machine-sends, only-ok, only-error, handler-error, either-error, fails-send, never-waits-send, never-fails-here, is-delivered, is-blocked, sent-entry, sent-shown}
+use Rattle.iox2_pubsub.proofs.SendShown.{machine-sends, steady-ok, never-unconnected-here, only-error, handler-error, either-error, fails-send, never-waits-send, never-fails-here, is-delivered, is-blocked, sent-entry, sent-shown}
 use Rattle.iox2_pubsub.specs.Live.{lender_key, written_key}
 use Rattle.iox2_pubsub.specs.SendCalls.{result_of_send}
 use Rattle.iox2_pubsub.proofs.CallsStay.{always-shown, sent-stays, send-spends}
 use Rattle.iox2_pubsub.proofs.LiveParts.{publisher-parts, written-parts, unblocked-parts, unblocked-test, blocked-live}
 use Rattle.iox2_pubsub.proofs.WaitingShown.{send-adds, send-brings}
 use Rattle.iox2_pubsub.proofs.UpToDateShown.{send-leaves}
+use Rattle.iox2_pubsub.proofs.ConnectionsShown.{serves}
 use Rattle.iox2_pubsub.proofs.LoansLeftShown.{send-left, send-gives, sent-free}
 use Rattle.iox2_pubsub.proofs.StaysBut.{same-boxes}
 use Rattle.iox2_pubsub.proofs.sample_mut.SampleMut.send.Goals as goal
@@ -66,13 +67,15 @@ pub returns-clause-ok : goal.returns-clause-ok
 returns-clause-ok g c = λ lent never.
     let has = (written-parts c.args.domain.now c.args.self c.requires.live).1 in
     let before = subst (λ (k : Kept g.row.T.Denot g.row.U.Denot g.row.F.Denot). HoldsWritten (state_of k) c.args.self.loan.publisher c.args.self.loan.number) (sym c.domain.view_is) has in
-    only-ok c.send_loan.result
+    steady-ok c.send_loan.result
     (c.send_loan.ensures.kept
     (subst (λ (k : Kept g.row.T.Denot g.row.U.Denot g.row.F.Denot). HoldsPublisher (state_of k) c.args.self.loan.publisher) (sym c.domain.view_is)
     (publisher-parts c.args.domain.now (lender_key (written_key c.args.self)) lent).2))
     (never-fails-here {T = g.row.T.Denot} {U = g.row.U.Denot} (answers_of g.F.BackpressureFn.allows c.domain.inside.boxes.boxes) c.args.domain.now c.domain.inside.state c.send_loan.new.state c.domain.view_is c.args.self.loan.number c.args.self.loan.publisher never
     (end_result c.send_loan.result) c.send_loan.ensures.sends
     (ap (λ (l : Loan g.row.T.Denot g.row.U.Denot). l.publisher) (same_Some _ before.0 (sym c.send_loan.ensures.sends.out ∙ before.1)) ∙ before.2))
+    (never-unconnected-here {T = g.row.T.Denot} {U = g.row.U.Denot} (answers_of g.F.BackpressureFn.allows c.domain.inside.boxes.boxes) c.args.domain.now c.domain.inside.state c.send_loan.new.state c.domain.view_is c.args.self.loan.number c.args.self.loan.publisher never
+    (end_result c.send_loan.result) c.send_loan.ensures.sends (ap (λ (l : Loan g.row.T.Denot g.row.U.Denot). l.publisher) (same_Some _ before.0 (sym c.send_loan.ensures.sends.out ∙ before.1)) ∙ before.2))
     c.outcome_of.result c.outcome_of.ensures.same
 
 pub returns-clause-errors : goal.returns-clause-errors
@@ -93,6 +96,8 @@ returns-clause-errors g c =
     only-error {T = g.row.T.Denot} {U = g.row.U.Denot} (answers_of g.F.BackpressureFn.allows c.domain.inside.boxes.boxes) c.domain.inside.state c.send_loan.new.state c.args.self.loan.number c.args.self.loan.publisher c.send_loan.result
     c.send_loan.ensures.kept c.send_loan.ensures.sends its
     (never-fails-here {T = g.row.T.Denot} {U = g.row.U.Denot} (answers_of g.F.BackpressureFn.allows c.domain.inside.boxes.boxes) c.args.domain.now c.domain.inside.state c.send_loan.new.state c.domain.view_is c.args.self.loan.number c.args.self.loan.publisher never
+    (end_result c.send_loan.result) c.send_loan.ensures.sends its)
+    (never-unconnected-here {T = g.row.T.Denot} {U = g.row.U.Denot} (answers_of g.F.BackpressureFn.allows c.domain.inside.boxes.boxes) c.args.domain.now c.domain.inside.state c.send_loan.new.state c.domain.view_is c.args.self.loan.number c.args.self.loan.publisher never
     (end_result c.send_loan.result) c.send_loan.ensures.sends its)
     c.outcome_of.result c.outcome_of.ensures.same)
 
@@ -166,3 +171,12 @@ returns-clause-given_back g c = λ ends.
     let out = ap (λ (t : State g.row.T.Denot g.row.U.Denot). t.loans c.args.self.loan.number) (it.2).state ∙ has.1 in
     let step = returns-clause-sent g c it.0 it.1 has.0 it.2 out in
     send-gives {T = g.row.T.Denot} {U = g.row.U.Denot} c.args.domain.now _ it.0 _ it.1 step.0 it.2 step.1 (answers_of g.F.BackpressureFn.allows c.args.domain.now.boxes) c.args.self.loan.number has.0 out c.args.self.loan.publisher has.2 (result_of_send c.outcome_of.result) (sent-free c.outcome_of.result ends) step.2
+
+pub returns-clause-serves : goal.returns-clause-serves
+returns-clause-serves g c = λ subscriber values connected reads.
+    let it = always-shown {T = g.row.T.Denot} {U = g.row.U.Denot} c.domain.inside.state c.args.domain.now c.domain.invariant c.domain.view_is in
+    let has = (written-parts c.args.domain.now c.args.self c.requires.live).1 in
+    let out = ap (λ (t : State g.row.T.Denot g.row.U.Denot). t.loans c.args.self.loan.number) (it.2).state ∙ has.1 in
+    let step = returns-clause-sent g c it.0 it.1 has.0 it.2 out in
+    serves {T = g.row.T.Denot} {U = g.row.U.Denot} c.args.domain.now _ it.0 it.1 (answers_of g.F.BackpressureFn.allows c.args.domain.now.boxes) it.2 c.args.self.loan.number has.0 c.args.self.loan.publisher c.outcome_of.result step.0 step.1 step.2
+    ((it.2).unsent c.args.self.loan.number has.0 out) out has.2 (unblocked-test c.args.domain.now (written_key c.args.self) c.requires.unblocked) subscriber values connected reads

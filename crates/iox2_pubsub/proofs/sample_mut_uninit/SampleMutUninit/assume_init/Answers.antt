@@ -6,7 +6,7 @@ use Rattle.iox2_pubsub.proofs.AssumedLoans.{all-taken, some-left, taken-values, 
 use Rattle.iox2_pubsub.proofs.sample_mut_uninit.SampleMutUninit.assume_init.Goals as goal
 
 pub assume_loan-requires-clause-live : goal.assume_loan-requires-clause-live
-assume_loan-requires-clause-live g c = unwritten-out {T = g.row.T.Denot} {U = g.row.U.Denot} _ c.args.domain.now c.domain.view_is c.args.self c.requires
+assume_loan-requires-clause-live g c = unwritten-out {T = g.row.T.Denot} {U = g.row.U.Denot} _ c.args.domain.now c.domain.view_is c.args.self c.requires.live
 
 pub returns-then-not-assume_loan : goal.returns-then-not-assume_loan
 returns-then-not-assume_loan g c = record {
@@ -32,9 +32,9 @@ returns-then-not-assume_loan g c = record {
 pub returns : goal.returns
 returns g c = record {
   step = λ m s shown. let it = taken-shown {T = g.row.T.Denot} {U = g.row.U.Denot} c.domain.inside.state c.assume_loan.new.state c.domain.invariant c.args.domain.now c.domain.view_is c.args.self.loan.number c.assume_loan.result c.assume_loan.ensures c.if-not-assume_loan.false m s shown in (it.0, it.1, (it.2, it.3));
-  out = taken-live {T = g.row.T.Denot} {U = g.row.U.Denot} c.domain.inside.state c.assume_loan.new.state c.domain.invariant c.args.domain.now c.domain.view_is c.args.self.loan.number c.assume_loan.result c.assume_loan.ensures c.if-not-assume_loan.false c.args.self refl c.requires;
+  out = taken-live {T = g.row.T.Denot} {U = g.row.U.Denot} c.domain.inside.state c.assume_loan.new.state c.domain.invariant c.args.domain.now c.domain.view_is c.args.self.loan.number c.assume_loan.result c.assume_loan.ensures c.if-not-assume_loan.false c.args.self refl c.requires.live;
   live = λ never. record {
-    out = taken-live {T = g.row.T.Denot} {U = g.row.U.Denot} c.domain.inside.state c.assume_loan.new.state c.domain.invariant c.args.domain.now c.domain.view_is c.args.self.loan.number c.assume_loan.result c.assume_loan.ensures c.if-not-assume_loan.false c.args.self refl c.requires;
+    out = taken-live {T = g.row.T.Denot} {U = g.row.U.Denot} c.domain.inside.state c.assume_loan.new.state c.domain.invariant c.args.domain.now c.domain.view_is c.args.self.loan.number c.assume_loan.result c.assume_loan.ensures c.if-not-assume_loan.false c.args.self refl c.requires.live;
     never_waits = (taken-stays {T = g.row.T.Denot} {U = g.row.U.Denot} c.domain.inside.state c.assume_loan.new.state c.domain.invariant c.args.domain.now c.domain.view_is c.args.self.loan.number c.assume_loan.result c.assume_loan.ensures c.if-not-assume_loan.false).never_wait (unwritten_key c.args.self) never;
   };
   unblocked = λ free. (taken-stays {T = g.row.T.Denot} {U = g.row.U.Denot} c.domain.inside.state c.assume_loan.new.state c.domain.invariant c.args.domain.now c.domain.view_is c.args.self.loan.number c.assume_loan.result c.assume_loan.ensures c.if-not-assume_loan.false).unblocked (unwritten_key c.args.self) free tt;

@@ -13,7 +13,7 @@ use Rattle.iox2_pubsub.proofs.StaysBut.{same-boxes}
 use Rattle.iox2_pubsub.proofs.sample_mut_uninit.SampleMutUninit.discard.Goals as goal
 
 pub discard_loan-requires-clause-live : goal.discard_loan-requires-clause-live
-discard_loan-requires-clause-live g c = loan-out {T = g.row.T.Denot} {U = g.row.U.Denot} _ c.args.domain.now c.domain.view_is (unwritten_key c.args.self) c.requires
+discard_loan-requires-clause-live g c = loan-out {T = g.row.T.Denot} {U = g.row.U.Denot} _ c.args.domain.now c.domain.view_is (unwritten_key c.args.self) c.requires.live
 
 pub returns-clause-discarded : goal.returns-clause-discarded
 returns-clause-discarded g c =
@@ -23,7 +23,7 @@ returns-clause-discarded g c =
 pub returns-clause-spent : goal.returns-clause-spent
 returns-clause-spent g c =
     let it = always-shown {T = g.row.T.Denot} {U = g.row.U.Denot} c.domain.inside.state c.args.domain.now c.domain.invariant c.domain.view_is in
-    let has = (loan-parts c.args.domain.now _ c.requires).1 in
+    let has = (loan-parts c.args.domain.now _ c.requires.live).1 in
     let out = ap (λ (t : State g.row.T.Denot g.row.U.Denot). t.loans c.args.self.loan.number) (it.2).state ∙ has.1 in
     discard-spends {T = g.row.T.Denot} {U = g.row.U.Denot} c.args.domain.now (keeping _ c.discard_loan.new.state) it.0 it.1 it.2 c.args.self.loan.number has.0
     (returns-clause-discarded g c it.0 it.1 has.0 it.2 out) (unwritten_key c.args.self) refl
@@ -31,7 +31,7 @@ returns-clause-spent g c =
 pub returns-clause-stays : goal.returns-clause-stays
 returns-clause-stays g c =
     let it = always-shown {T = g.row.T.Denot} {U = g.row.U.Denot} c.domain.inside.state c.args.domain.now c.domain.invariant c.domain.view_is in
-    let has = (loan-parts c.args.domain.now _ c.requires).1 in
+    let has = (loan-parts c.args.domain.now _ c.requires.live).1 in
     let out = ap (λ (t : State g.row.T.Denot g.row.U.Denot). t.loans c.args.self.loan.number) (it.2).state ∙ has.1 in
     discard-stays {T = g.row.T.Denot} {U = g.row.U.Denot} c.args.domain.now (keeping _ c.discard_loan.new.state) it.0 it.1 it.2 c.args.self.loan.number has.0
     (returns-clause-discarded g c it.0 it.1 has.0 it.2 out) (same-boxes c.domain.inside.state c.discard_loan.new.state c.args.domain.now c.domain.view_is)
@@ -39,7 +39,7 @@ returns-clause-stays g c =
 pub returns-clause-waits : goal.returns-clause-waits
 returns-clause-waits g c =
     let it = always-shown {T = g.row.T.Denot} {U = g.row.U.Denot} c.domain.inside.state c.args.domain.now c.domain.invariant c.domain.view_is in
-    let has = (loan-parts c.args.domain.now _ c.requires).1 in
+    let has = (loan-parts c.args.domain.now _ c.requires.live).1 in
     let out = ap (λ (t : State g.row.T.Denot g.row.U.Denot). t.loans c.args.self.loan.number) (it.2).state ∙ has.1 in
     discard-waits {T = g.row.T.Denot} {U = g.row.U.Denot} c.args.domain.now (keeping _ c.discard_loan.new.state) it.0 it.1 it.2 c.args.self.loan.number has.0
     (returns-clause-discarded g c it.0 it.1 has.0 it.2 out)
@@ -47,7 +47,7 @@ returns-clause-waits g c =
 pub returns-clause-up_to_date : goal.returns-clause-up_to_date
 returns-clause-up_to_date g c =
     let it = always-shown {T = g.row.T.Denot} {U = g.row.U.Denot} c.domain.inside.state c.args.domain.now c.domain.invariant c.domain.view_is in
-    let has = (loan-parts c.args.domain.now _ c.requires).1 in
+    let has = (loan-parts c.args.domain.now _ c.requires.live).1 in
     let out = ap (λ (t : State g.row.T.Denot g.row.U.Denot). t.loans c.args.self.loan.number) (it.2).state ∙ has.1 in
     discard-leaves {T = g.row.T.Denot} {U = g.row.U.Denot} c.args.domain.now (keeping _ c.discard_loan.new.state) it.0 it.1 it.2 c.args.self.loan.number has.0
     (returns-clause-discarded g c it.0 it.1 has.0 it.2 out)
@@ -55,7 +55,7 @@ returns-clause-up_to_date g c =
 pub returns-clause-loans_left : goal.returns-clause-loans_left
 returns-clause-loans_left g c =
     let it = always-shown {T = g.row.T.Denot} {U = g.row.U.Denot} c.domain.inside.state c.args.domain.now c.domain.invariant c.domain.view_is in
-    let has = (loan-parts c.args.domain.now _ c.requires).1 in
+    let has = (loan-parts c.args.domain.now _ c.requires.live).1 in
     let out = ap (λ (t : State g.row.T.Denot g.row.U.Denot). t.loans c.args.self.loan.number) (it.2).state ∙ has.1 in
     discard-left {T = g.row.T.Denot} {U = g.row.U.Denot} c.args.domain.now (keeping _ c.discard_loan.new.state) it.0 it.0 it.1 _ it.2
     (returns-clause-discarded g c it.0 it.1 has.0 it.2 out) c.args.self.loan.number has.0 out refl
@@ -63,7 +63,7 @@ returns-clause-loans_left g c =
 pub returns-clause-given_back : goal.returns-clause-given_back
 returns-clause-given_back g c =
     let it = always-shown {T = g.row.T.Denot} {U = g.row.U.Denot} c.domain.inside.state c.args.domain.now c.domain.invariant c.domain.view_is in
-    let has = (loan-parts c.args.domain.now _ c.requires).1 in
+    let has = (loan-parts c.args.domain.now _ c.requires.live).1 in
     let out = ap (λ (t : State g.row.T.Denot g.row.U.Denot). t.loans c.args.self.loan.number) (it.2).state ∙ has.1 in
     discard-gives {T = g.row.T.Denot} {U = g.row.U.Denot} c.args.domain.now (keeping _ c.discard_loan.new.state) it.0 it.0 it.1 _ it.2
     (returns-clause-discarded g c it.0 it.1 has.0 it.2 out) c.args.self.loan.number has.0 out c.args.self.loan.publisher has.2 refl

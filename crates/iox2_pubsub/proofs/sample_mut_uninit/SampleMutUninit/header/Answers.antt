@@ -10,7 +10,7 @@ use Rattle.iox2_pubsub.proofs.sample_mut_uninit.SampleMutUninit.header.Goals as 
 pub loan_header-requires-clause-live : goal.loan_header-requires-clause-live
 loan_header-requires-clause-live g c =
     loan-out {T = g.row.T.Denot} {U = g.row.U.Denot} _ c.args.domain.now c.domain.view_is
-    (unwritten_key c.args.self.now) c.requires
+    (unwritten_key c.args.self.now) c.requires.live
 
 pub returns-clause-header : goal.returns-clause-header
 returns-clause-header g c =
@@ -22,7 +22,7 @@ returns-clause-origin g c =
     header-origin {T = g.row.T.Denot} {U = g.row.U.Denot} c.domain.inside.state c.domain.invariant
     c.args.self.now.loan.number c.args.self.now.loan.publisher c.loan_header.result.now
     (loan-out {T = g.row.T.Denot} {U = g.row.U.Denot} _ c.args.domain.now c.domain.view_is
-    (unwritten_key c.args.self.now) c.requires)
+    (unwritten_key c.args.self.now) c.requires.live)
     c.loan_header.ensures
 
 pub returns-clause-reads : goal.returns-clause-reads

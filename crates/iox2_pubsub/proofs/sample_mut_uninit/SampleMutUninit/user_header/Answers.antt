@@ -10,7 +10,7 @@ use Rattle.iox2_pubsub.proofs.sample_mut_uninit.SampleMutUninit.user_header.Goal
 pub loan_user_header-requires-clause-live : goal.loan_user_header-requires-clause-live
 loan_user_header-requires-clause-live g c =
     loan-out {T = g.row.T.Denot} {U = g.row.U.Denot} _ c.args.domain.now c.domain.view_is
-    (unwritten_key c.args.self.now) c.requires
+    (unwritten_key c.args.self.now) c.requires.live
 
 pub returns-clause-header : goal.returns-clause-header
 returns-clause-header g c =

@@ -6,6 +6,7 @@ use Rattle.iox2_pubsub.specs.Live.{subscriber_key}
 use Rattle.iox2_pubsub.proofs.CallsStay.{always-shown}
 use Rattle.iox2_pubsub.proofs.ClosesShown.{subscriber-close-shows, subscriber-close-stays, subscriber-close-spends}
 use Rattle.iox2_pubsub.proofs.ClosesWait.{subscriber-close-none, subscriber-close-others, subscriber-close-leaves}
+use Rattle.iox2_pubsub.proofs.ConnectionsShown.{subscriber-close-connections}
 use Rattle.iox2_pubsub.proofs.LiveParts.{subscriber-parts}
 use Rattle.iox2_pubsub.proofs.ReceptionShown.{subscriber-missing}
 use Rattle.iox2_pubsub.proofs.LoansLeftShown.{subscriber-close-left}
@@ -14,7 +15,7 @@ use Rattle.iox2_pubsub.proofs.subscriber.Subscriber.close.Goals as goal
 
 pub find_live_subscriber-place-requires : goal.find_live_subscriber-place-requires
 find_live_subscriber-place-requires g c = λ none.
-    subscriber-missing {T = g.row.T.Denot} {U = g.row.U.Denot} c.domain.inside.state c.args.domain.now c.domain.view_is c.args.self none c.requires
+    subscriber-missing {T = g.row.T.Denot} {U = g.row.U.Denot} c.domain.inside.state c.args.domain.now c.domain.view_is c.args.self none c.requires.live
 
 pub close_subscriber-requires-clause-stands : goal.close_subscriber-requires-clause-stands
 close_subscriber-requires-clause-stands g c = subst IsSome (sym c.find_live_subscriber-place.ensures.1) refl
@@ -30,7 +31,7 @@ returns-clause-closed g c = λ m s x shown at.
 pub returns-clause-spent : goal.returns-clause-spent
 returns-clause-spent g c =
     let it = always-shown {T = g.row.T.Denot} {U = g.row.U.Denot} c.domain.inside.state c.args.domain.now c.domain.invariant c.domain.view_is in
-    let has = (subscriber-parts c.args.domain.now _ c.requires).2 in
+    let has = (subscriber-parts c.args.domain.now _ c.requires.live).2 in
     let there = ap (λ (t : State g.row.T.Denot g.row.U.Denot). t.subscribers c.args.self.id) (it.2).state ∙ has.1 in
     subscriber-close-spends {T = g.row.T.Denot} {U = g.row.U.Denot} c.args.domain.now (keeping _ c.close_subscriber.new.state) it.0 it.1 it.2 c.args.self.id has.0
     (returns-clause-closed g c it.0 it.1 has.0 it.2 there) (subscriber_key c.args.self) refl
@@ -38,7 +39,7 @@ returns-clause-spent g c =
 pub returns-clause-stays : goal.returns-clause-stays
 returns-clause-stays g c =
     let it = always-shown {T = g.row.T.Denot} {U = g.row.U.Denot} c.domain.inside.state c.args.domain.now c.domain.invariant c.domain.view_is in
-    let has = (subscriber-parts c.args.domain.now _ c.requires).2 in
+    let has = (subscriber-parts c.args.domain.now _ c.requires.live).2 in
     let there = ap (λ (t : State g.row.T.Denot g.row.U.Denot). t.subscribers c.args.self.id) (it.2).state ∙ has.1 in
     subscriber-close-stays {T = g.row.T.Denot} {U = g.row.U.Denot} c.args.domain.now (keeping _ c.close_subscriber.new.state) it.0 it.1 it.2 c.args.self.id has.0
     (returns-clause-closed g c it.0 it.1 has.0 it.2 there) (same-boxes c.domain.inside.state c.close_subscriber.new.state c.args.domain.now c.domain.view_is)
@@ -46,7 +47,7 @@ returns-clause-stays g c =
 pub returns-clause-none : goal.returns-clause-none
 returns-clause-none g c =
     let it = always-shown {T = g.row.T.Denot} {U = g.row.U.Denot} c.domain.inside.state c.args.domain.now c.domain.invariant c.domain.view_is in
-    let has = (subscriber-parts c.args.domain.now _ c.requires).2 in
+    let has = (subscriber-parts c.args.domain.now _ c.requires.live).2 in
     let there = ap (λ (t : State g.row.T.Denot g.row.U.Denot). t.subscribers c.args.self.id) (it.2).state ∙ has.1 in
     subscriber-close-none {T = g.row.T.Denot} {U = g.row.U.Denot} c.args.domain.now (keeping _ c.close_subscriber.new.state) it.0 it.1 it.2 c.args.self.id has.0
     (returns-clause-closed g c it.0 it.1 has.0 it.2 there) c.args.self refl
@@ -54,7 +55,7 @@ returns-clause-none g c =
 pub returns-clause-others : goal.returns-clause-others
 returns-clause-others g c =
     let it = always-shown {T = g.row.T.Denot} {U = g.row.U.Denot} c.domain.inside.state c.args.domain.now c.domain.invariant c.domain.view_is in
-    let has = (subscriber-parts c.args.domain.now _ c.requires).2 in
+    let has = (subscriber-parts c.args.domain.now _ c.requires.live).2 in
     let there = ap (λ (t : State g.row.T.Denot g.row.U.Denot). t.subscribers c.args.self.id) (it.2).state ∙ has.1 in
     subscriber-close-others {T = g.row.T.Denot} {U = g.row.U.Denot} c.args.domain.now (keeping _ c.close_subscriber.new.state) it.0 it.1 it.2 c.args.self.id has.0
     (returns-clause-closed g c it.0 it.1 has.0 it.2 there) c.args.self refl
@@ -62,7 +63,7 @@ returns-clause-others g c =
 pub returns-clause-up_to_date : goal.returns-clause-up_to_date
 returns-clause-up_to_date g c =
     let it = always-shown {T = g.row.T.Denot} {U = g.row.U.Denot} c.domain.inside.state c.args.domain.now c.domain.invariant c.domain.view_is in
-    let has = (subscriber-parts c.args.domain.now _ c.requires).2 in
+    let has = (subscriber-parts c.args.domain.now _ c.requires.live).2 in
     let there = ap (λ (t : State g.row.T.Denot g.row.U.Denot). t.subscribers c.args.self.id) (it.2).state ∙ has.1 in
     subscriber-close-leaves {T = g.row.T.Denot} {U = g.row.U.Denot} c.args.domain.now (keeping _ c.close_subscriber.new.state) it.0 it.1 it.2 c.args.self.id has.0
     (returns-clause-closed g c it.0 it.1 has.0 it.2 there) c.args.self refl
@@ -70,7 +71,15 @@ returns-clause-up_to_date g c =
 pub returns-clause-loans_left : goal.returns-clause-loans_left
 returns-clause-loans_left g c =
     let it = always-shown {T = g.row.T.Denot} {U = g.row.U.Denot} c.domain.inside.state c.args.domain.now c.domain.invariant c.domain.view_is in
-    let has = (subscriber-parts c.args.domain.now _ c.requires).2 in
+    let has = (subscriber-parts c.args.domain.now _ c.requires.live).2 in
     let there = ap (λ (t : State g.row.T.Denot g.row.U.Denot). t.subscribers c.args.self.id) (it.2).state ∙ has.1 in
     subscriber-close-left {T = g.row.T.Denot} {U = g.row.U.Denot} c.args.domain.now (keeping _ c.close_subscriber.new.state) it.0 it.0 it.1 _ it.2
     (returns-clause-closed g c it.0 it.1 has.0 it.2 there) c.args.self.id has.0 refl
+
+pub returns-clause-connections : goal.returns-clause-connections
+returns-clause-connections g c =
+    let it = always-shown {T = g.row.T.Denot} {U = g.row.U.Denot} c.domain.inside.state c.args.domain.now c.domain.invariant c.domain.view_is in
+    let has = (subscriber-parts c.args.domain.now _ c.requires.live).2 in
+    let there = ap (λ (t : State g.row.T.Denot g.row.U.Denot). t.subscribers c.args.self.id) (it.2).state ∙ has.1 in
+    subscriber-close-connections {T = g.row.T.Denot} {U = g.row.U.Denot} c.args.domain.now (keeping _ c.close_subscriber.new.state) it.0 it.1 it.2 c.args.self.id has.0
+    (returns-clause-closed g c it.0 it.1 has.0 it.2 there)

@@ -17,7 +17,7 @@ use Rattle.iox2_pubsub.proofs.subscriber.Subscriber.has_samples.Goals as goal
 pub unreachable-requires : goal.unreachable-requires
 unreachable-requires g c =
     subscriber-missing {T = g.row.T.Denot} {U = g.row.U.Denot} c.domain.inside.state c.args.domain.now c.domain.view_is c.args.self.now
-    c.in_default.ensures c.requires
+    c.in_default.ensures c.requires.live
 
 pub returns-clause-answers : goal.returns-clause-answers
 returns-clause-answers g c =
@@ -39,7 +39,7 @@ pub returns-clause-waits : goal.returns-clause-waits
 returns-clause-waits g c =
     let it = always-shown {T = g.row.T.Denot} {U = g.row.U.Denot} c.domain.inside.state c.args.domain.now c.domain.invariant c.domain.view_is in
     let step = returns-clause-answers g c it.0 it.1 it.2 in
-    answers-say {T = g.row.T.Denot} {U = g.row.U.Denot} c.args.domain.now (keeping _ c.has_samples_at.new.state) it.0 it.0 it.1 step.0 it.2 step.1 fixed_handlers c.args.self.now c.requires c.has_samples_at.result step.2
+    answers-say {T = g.row.T.Denot} {U = g.row.U.Denot} c.args.domain.now (keeping _ c.has_samples_at.new.state) it.0 it.0 it.1 step.0 it.2 step.1 fixed_handlers c.args.self.now c.requires.live c.has_samples_at.result step.2
 
 pub returns-clause-no_more : goal.returns-clause-no_more
 returns-clause-no_more g c =
@@ -66,7 +66,7 @@ pub returns-clause-updated : goal.returns-clause-updated
 returns-clause-updated g c =
     let it = always-shown {T = g.row.T.Denot} {U = g.row.U.Denot} c.domain.inside.state c.args.domain.now c.domain.invariant c.domain.view_is in
     let step = returns-clause-answers g c it.0 it.1 it.2 in
-    answers-updated {T = g.row.T.Denot} {U = g.row.U.Denot} c.args.domain.now (keeping _ c.has_samples_at.new.state) it.0 it.0 it.1 step.0 it.2 step.1 fixed_handlers c.args.self.now c.requires c.has_samples_at.result step.2
+    answers-updated {T = g.row.T.Denot} {U = g.row.U.Denot} c.args.domain.now (keeping _ c.has_samples_at.new.state) it.0 it.0 it.1 step.0 it.2 step.1 fixed_handlers c.args.self.now c.requires.live c.has_samples_at.result step.2
 
 pub returns-clause-loans_left : goal.returns-clause-loans_left
 returns-clause-loans_left g c =

@@ -7,7 +7,7 @@ use Rattle.iox2_pubsub.specs.ReceivedSamples.{received_result}
 use Rattle.iox2_domain.specs.declared.sample_slots.Receipt.{Receipt}
 use Rattle.iox2_pubsub.proofs.ReceptionShown.{reception-at, reception-shows, reception-live, reception-origin, subscriber-missing, error-shows}
 use Rattle.iox2_pubsub.proofs.CallsStay.{always-shown, receive-stays, received-is-new}
-use Rattle.iox2_pubsub.proofs.WaitingShown.{received-fewer, received-none, received-no-more, received-others, received-reads}
+use Rattle.iox2_pubsub.proofs.WaitingShown.{received-fewer, received-none, received-no-more, received-others, received-reads, received-oldest}
 use Rattle.iox2_pubsub.proofs.UpToDateShown.{receive-leaves, received-updated, received-one-fewer}
 use Rattle.iox2_pubsub.proofs.LoansLeftShown.{receive-left}
 use Rattle.iox2_pubsub.proofs.StaysBut.{same-boxes}
@@ -38,7 +38,7 @@ returns-clause-live g c =
     reception-live {T = g.row.T.Denot} {U = g.row.U.Denot} fixed_handlers c.args.domain.now c.domain.inside.state c.receive_at.new.state c.domain.view_is c.args.self.now
     (record { service_id = c.args.self.now.service_id; origin = receipt.publisher; sample = receipt.sample }) receipt
     (reception-at {T = g.row.T.Denot} {U = g.row.U.Denot} fixed_handlers c.domain.inside.state c.receive_at.new.state c.find_live_subscriber-place.result c.args.self.now.id c.receive_at.result (Ok (Some receipt))
-    c.find_live_subscriber-place.ensures (c.in_ok-receipt.was ∙ ap (λ (o : Option Receipt). Ok o) c.in-Some.is) c.receive_at.ensures) refl refl refl c.requires
+    c.find_live_subscriber-place.ensures (c.in_ok-receipt.was ∙ ap (λ (o : Option Receipt). Ok o) c.in-Some.is) c.receive_at.ensures) refl refl refl c.requires.live
 
 pub returns-clause-origin : goal.returns-clause-origin
 returns-clause-origin g c =
@@ -84,13 +84,13 @@ returns-clause-stays g c =
 pub find_live_subscriber-place-requires : goal.find_live_subscriber-place-requires
 find_live_subscriber-place-requires g c = λ none.
     subscriber-missing {T = g.row.T.Denot} {U = g.row.U.Denot} c.domain.inside.state c.args.domain.now c.domain.view_is c.args.self.now
-    none c.requires
+    none c.requires.live
 
 pub returns-clause-fewer : goal.returns-clause-fewer
 returns-clause-fewer g c =
     let it = always-shown {T = g.row.T.Denot} {U = g.row.U.Denot} c.domain.inside.state c.args.domain.now c.domain.invariant c.domain.view_is in
     let step = returns-clause-receives g c it.0 it.1 it.2 in
-    received-fewer {T = g.row.T.Denot} {U = g.row.U.Denot} c.args.domain.now (keeping (c.domain.inside.boxes).boxes c.receive_at.new.state) it.0 it.0 it.1 step.0 it.2 step.1 fixed_handlers c.args.self.now c.requires c.in-Some.receipt.publisher c.in-Some.receipt.sample.number step.2
+    received-fewer {T = g.row.T.Denot} {U = g.row.U.Denot} c.args.domain.now (keeping (c.domain.inside.boxes).boxes c.receive_at.new.state) it.0 it.0 it.1 step.0 it.2 step.1 fixed_handlers c.args.self.now c.requires.live c.in-Some.receipt.publisher c.in-Some.receipt.sample.number step.2
 
 pub returns-in_default-clause-none : goal.returns-in_default-clause-none
 returns-in_default-clause-none g c =
@@ -120,26 +120,33 @@ pub returns-in_err-receipt-clause-no_more : goal.returns-in_err-receipt-clause-n
 returns-in_err-receipt-clause-no_more g c =
     let it = always-shown {T = g.row.T.Denot} {U = g.row.U.Denot} c.domain.inside.state c.args.domain.now c.domain.invariant c.domain.view_is in
     let step = returns-in_err-receipt-clause-receives g c it.0 it.1 it.2 in
-    received-no-more {T = g.row.T.Denot} {U = g.row.U.Denot} c.args.domain.now (keeping (c.domain.inside.boxes).boxes c.receive_at.new.state) it.0 it.0 it.1 step.0 it.2 step.1 fixed_handlers c.args.self.now c.requires (received_result c.from_residual.result) step.2
+    received-no-more {T = g.row.T.Denot} {U = g.row.U.Denot} c.args.domain.now (keeping (c.domain.inside.boxes).boxes c.receive_at.new.state) it.0 it.0 it.1 step.0 it.2 step.1 fixed_handlers c.args.self.now c.requires.live (received_result c.from_residual.result) step.2
 
 pub returns-in_default-clause-no_more : goal.returns-in_default-clause-no_more
 returns-in_default-clause-no_more g c =
     let it = always-shown {T = g.row.T.Denot} {U = g.row.U.Denot} c.domain.inside.state c.args.domain.now c.domain.invariant c.domain.view_is in
     let step = returns-in_default-clause-receives g c it.0 it.1 it.2 in
-    received-no-more {T = g.row.T.Denot} {U = g.row.U.Denot} c.args.domain.now (keeping (c.domain.inside.boxes).boxes c.receive_at.new.state) it.0 it.0 it.1 step.0 it.2 step.1 fixed_handlers c.args.self.now c.requires No_sample step.2
+    received-no-more {T = g.row.T.Denot} {U = g.row.U.Denot} c.args.domain.now (keeping (c.domain.inside.boxes).boxes c.receive_at.new.state) it.0 it.0 it.1 step.0 it.2 step.1 fixed_handlers c.args.self.now c.requires.live No_sample step.2
 
 pub returns-clause-no_more : goal.returns-clause-no_more
 returns-clause-no_more g c =
     let it = always-shown {T = g.row.T.Denot} {U = g.row.U.Denot} c.domain.inside.state c.args.domain.now c.domain.invariant c.domain.view_is in
     let step = returns-clause-receives g c it.0 it.1 it.2 in
-    received-no-more {T = g.row.T.Denot} {U = g.row.U.Denot} c.args.domain.now (keeping (c.domain.inside.boxes).boxes c.receive_at.new.state) it.0 it.0 it.1 step.0 it.2 step.1 fixed_handlers c.args.self.now c.requires (Got_sample c.in-Some.receipt.publisher c.in-Some.receipt.sample.number) step.2
+    received-no-more {T = g.row.T.Denot} {U = g.row.U.Denot} c.args.domain.now (keeping (c.domain.inside.boxes).boxes c.receive_at.new.state) it.0 it.0 it.1 step.0 it.2 step.1 fixed_handlers c.args.self.now c.requires.live (Got_sample c.in-Some.receipt.publisher c.in-Some.receipt.sample.number) step.2
 
 pub returns-clause-reads : goal.returns-clause-reads
 returns-clause-reads g c =
     let it = always-shown {T = g.row.T.Denot} {U = g.row.U.Denot} c.domain.inside.state c.args.domain.now c.domain.invariant c.domain.view_is in
     let step = returns-clause-receives g c it.0 it.1 it.2 in
-    received-reads {T = g.row.T.Denot} {U = g.row.U.Denot} c.args.domain.now (keeping (c.domain.inside.boxes).boxes c.receive_at.new.state) it.0 it.0 it.1 step.0 it.2 step.1 fixed_handlers c.args.self.now (λ n entry at. at) c.requires
+    received-reads {T = g.row.T.Denot} {U = g.row.U.Denot} c.args.domain.now (keeping (c.domain.inside.boxes).boxes c.receive_at.new.state) it.0 it.0 it.1 step.0 it.2 step.1 fixed_handlers c.args.self.now (λ n entry at. at) c.requires.live
     c.in-Some.receipt.publisher (record { service_id = c.args.self.now.service_id; origin = c.in-Some.receipt.publisher; sample = c.in-Some.receipt.sample }) step.2
+
+pub returns-clause-oldest : goal.returns-clause-oldest
+returns-clause-oldest g c =
+    let it = always-shown {T = g.row.T.Denot} {U = g.row.U.Denot} c.domain.inside.state c.args.domain.now c.domain.invariant c.domain.view_is in
+    let step = returns-clause-receives g c it.0 it.1 it.2 in
+    received-oldest {T = g.row.T.Denot} {U = g.row.U.Denot} c.args.domain.now (keeping (c.domain.inside.boxes).boxes c.receive_at.new.state) it.0 it.0 it.1 step.0 it.2 step.1 fixed_handlers c.args.self.now (λ n entry at. at) c.requires.live
+    (record { service_id = c.args.self.now.service_id; origin = c.in-Some.receipt.publisher; sample = c.in-Some.receipt.sample }) step.2
 
 pub returns-in_err-receipt-clause-up_to_date : goal.returns-in_err-receipt-clause-up_to_date
 returns-in_err-receipt-clause-up_to_date g c =
@@ -163,13 +170,13 @@ pub returns-in_default-clause-updated : goal.returns-in_default-clause-updated
 returns-in_default-clause-updated g c =
     let it = always-shown {T = g.row.T.Denot} {U = g.row.U.Denot} c.domain.inside.state c.args.domain.now c.domain.invariant c.domain.view_is in
     let step = returns-in_default-clause-receives g c it.0 it.1 it.2 in
-    received-updated {T = g.row.T.Denot} {U = g.row.U.Denot} c.args.domain.now (keeping (c.domain.inside.boxes).boxes c.receive_at.new.state) it.0 it.0 it.1 step.0 it.2 step.1 fixed_handlers c.args.self.now c.requires No_sample (λ e is. let clash : No_sample ≡ Receive_error e = is in absurd cc) step.2
+    received-updated {T = g.row.T.Denot} {U = g.row.U.Denot} c.args.domain.now (keeping (c.domain.inside.boxes).boxes c.receive_at.new.state) it.0 it.0 it.1 step.0 it.2 step.1 fixed_handlers c.args.self.now c.requires.live No_sample (λ e is. let clash : No_sample ≡ Receive_error e = is in absurd cc) step.2
 
 pub returns-clause-updated : goal.returns-clause-updated
 returns-clause-updated g c =
     let it = always-shown {T = g.row.T.Denot} {U = g.row.U.Denot} c.domain.inside.state c.args.domain.now c.domain.invariant c.domain.view_is in
     let step = returns-clause-receives g c it.0 it.1 it.2 in
-    received-updated {T = g.row.T.Denot} {U = g.row.U.Denot} c.args.domain.now (keeping (c.domain.inside.boxes).boxes c.receive_at.new.state) it.0 it.0 it.1 step.0 it.2 step.1 fixed_handlers c.args.self.now c.requires (Got_sample c.in-Some.receipt.publisher c.in-Some.receipt.sample.number) (λ e is. let clash : Got_sample c.in-Some.receipt.publisher c.in-Some.receipt.sample.number ≡ Receive_error e = is in absurd cc) step.2
+    received-updated {T = g.row.T.Denot} {U = g.row.U.Denot} c.args.domain.now (keeping (c.domain.inside.boxes).boxes c.receive_at.new.state) it.0 it.0 it.1 step.0 it.2 step.1 fixed_handlers c.args.self.now c.requires.live (Got_sample c.in-Some.receipt.publisher c.in-Some.receipt.sample.number) (λ e is. let clash : Got_sample c.in-Some.receipt.publisher c.in-Some.receipt.sample.number ≡ Receive_error e = is in absurd cc) step.2
 
 pub returns-clause-one_fewer : goal.returns-clause-one_fewer
 returns-clause-one_fewer g c =

@@ -14,8 +14,9 @@ use Rattle.iox2_runs.proofs.TableLooks.{is_blocked_entry}
 use Rattle.iox2_runs.proofs.runs.blocked_sends.retry.Goals as goal
 
 pub retry-requires : goal.retry-requires
-retry-requires g c =
-    live_blocked {T = g.row.T.Denot} {U = g.row.U.Denot} c.args.domain.now c.args.table.now.items c.requires c.args.of c.in-Blocked.blocked (sym c.take.ensures.made ∙ c.in-Blocked.is)
+retry-requires g c = record {
+  live = live_blocked {T = g.row.T.Denot} {U = g.row.U.Denot} c.args.domain.now c.args.table.now.items c.requires c.args.of c.in-Blocked.blocked (sym c.take.ensures.made ∙ c.in-Blocked.is);
+}
 
 pub returns-in-Blocked-clause-carries : goal.returns-in-Blocked-clause-carries
 returns-in-Blocked-clause-carries g c =

@@ -15,7 +15,9 @@ use Rattle.iox2_runs.proofs.LeavingSteps.{leaves-all, leaves-spending}
 use Rattle.iox2_runs.proofs.runs.changes.assume_init.Goals as goal
 
 pub assume_init-requires : goal.assume_init-requires
-assume_init-requires g c = live_unwritten {T = g.row.T.Denot} {U = g.row.U.Denot} c.args.domain.now c.args.table.now.items c.requires c.args.of c.in-Unwritten.sample (sym c.take.ensures.made ∙ c.in-Unwritten.is)
+assume_init-requires g c = record {
+  live = live_unwritten {T = g.row.T.Denot} {U = g.row.U.Denot} c.args.domain.now c.args.table.now.items c.requires c.args.of c.in-Unwritten.sample (sym c.take.ensures.made ∙ c.in-Unwritten.is);
+}
 
 pub returns-in-Ok-clause-carries : goal.returns-in-Ok-clause-carries
 returns-in-Ok-clause-carries g c =

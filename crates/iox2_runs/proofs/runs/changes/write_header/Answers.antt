@@ -13,7 +13,9 @@ use Rattle.iox2_runs.proofs.LeavingSteps.{leaves-all, leaves-spending}
 use Rattle.iox2_runs.proofs.runs.changes.write_header.Goals as goal
 
 pub user_header_mut-requires : goal.user_header_mut-requires
-user_header_mut-requires g c = live_unwritten {T = g.row.T.Denot} {U = g.row.U.Denot} c.args.domain.now c.args.table.now.items c.requires c.args.of c.in-Unwritten.sample (sym c.take.ensures.made ∙ c.in-Unwritten.is)
+user_header_mut-requires g c = record {
+  live = live_unwritten {T = g.row.T.Denot} {U = g.row.U.Denot} c.args.domain.now c.args.table.now.items c.requires c.args.of c.in-Unwritten.sample (sym c.take.ensures.made ∙ c.in-Unwritten.is);
+}
 
 pub returns-in-Unwritten-clause-carries : goal.returns-in-Unwritten-clause-carries
 returns-in-Unwritten-clause-carries g c =
@@ -30,7 +32,9 @@ returns-in-Unwritten-clause-leaves g c =
     (c.put.ensures.items ∙ ap (λ (t : List Made). slice_set t c.args.of (Unwritten c.user_header_mut.new.sample)) c.take.ensures.items ∙ set_again c.args.table.now.items c.args.of Nothing (Unwritten c.user_header_mut.new.sample))
 
 pub user_header_mut-requires-in-Written : goal.user_header_mut-requires-in-Written
-user_header_mut-requires-in-Written g c = live_written {T = g.row.T.Denot} {U = g.row.U.Denot} c.args.domain.now c.args.table.now.items c.requires c.args.of c.in-Written.sample (sym c.take.ensures.made ∙ c.in-Written.is)
+user_header_mut-requires-in-Written g c = record {
+  live = live_written {T = g.row.T.Denot} {U = g.row.U.Denot} c.args.domain.now c.args.table.now.items c.requires c.args.of c.in-Written.sample (sym c.take.ensures.made ∙ c.in-Written.is);
+}
 
 pub returns-in-Written-clause-carries : goal.returns-in-Written-clause-carries
 returns-in-Written-clause-carries g c =

@@ -13,8 +13,9 @@ use Rattle.iox2_runs.specs.declared.runs.made.Made.TheVariants.{Nothing, Publish
 use Rattle.iox2_runs.proofs.runs.closes.close.Goals as goal
 
 pub close-requires-in-Subscriber : goal.close-requires-in-Subscriber
-close-requires-in-Subscriber g c =
-    live_subscriber {T = g.row.T.Denot} {U = g.row.U.Denot} c.args.domain.now c.args.table.now.items c.requires c.args.of c.in-Subscriber.subscriber (sym c.take.ensures.made ∙ c.in-Subscriber.is)
+close-requires-in-Subscriber g c = record {
+  live = live_subscriber {T = g.row.T.Denot} {U = g.row.U.Denot} c.args.domain.now c.args.table.now.items c.requires c.args.of c.in-Subscriber.subscriber (sym c.take.ensures.made ∙ c.in-Subscriber.is);
+}
 
 pub returns-in-Subscriber-clause-carries : goal.returns-in-Subscriber-clause-carries
 returns-in-Subscriber-clause-carries g c =
@@ -39,12 +40,14 @@ returns-in_default-clause-leaves g c =
     (back c.args.table.now.items c.take.new.table.items c.put-in_default.new.table.items c.args.of c.take.result c.take.ensures.items (sym c.take.ensures.made) c.put-in_default.ensures.items)
 
 pub is_blocked-requires : goal.is_blocked-requires
-is_blocked-requires g c =
-    live_publisher {T = g.row.T.Denot} {U = g.row.U.Denot} c.args.domain.now c.args.table.now.items c.requires c.args.of c.in-Publisher.publisher (sym c.take.ensures.made ∙ c.in-Publisher.is)
+is_blocked-requires g c = record {
+  live = live_publisher {T = g.row.T.Denot} {U = g.row.U.Denot} c.args.domain.now c.args.table.now.items c.requires c.args.of c.in-Publisher.publisher (sym c.take.ensures.made ∙ c.in-Publisher.is);
+}
 
 pub close-requires : goal.close-requires
-close-requires g c =
-    ready_publisher {T = g.row.T.Denot} {U = g.row.U.Denot} c.args.domain.now c.args.table.now.items c.requires c.args.of c.in-Publisher.publisher (sym c.take.ensures.made ∙ c.in-Publisher.is) (c.is_blocked.ensures.0 c.if-is_blocked.false)
+close-requires g c = record {
+  ready = ready_publisher {T = g.row.T.Denot} {U = g.row.U.Denot} c.args.domain.now c.args.table.now.items c.requires c.args.of c.in-Publisher.publisher (sym c.take.ensures.made ∙ c.in-Publisher.is) (c.is_blocked.ensures.0 c.if-is_blocked.false);
+}
 
 pub returns-then-is_blocked-clause-carries : goal.returns-then-is_blocked-clause-carries
 returns-then-is_blocked-clause-carries g c =

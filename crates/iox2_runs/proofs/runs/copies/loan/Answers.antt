@@ -72,8 +72,9 @@ returns-in_default-clause-leaves g c =
     leaves-all {T = g.row.T.Denot} {U = g.row.U.Denot} c.args.domain.now c.args.domain.now c.args.table.now c.args.table.now refl refl
 
 pub is_blocked-requires : goal.is_blocked-requires
-is_blocked-requires g c =
-    live_publisher {T = g.row.T.Denot} {U = g.row.U.Denot} c.args.domain.now c.args.table.now c.requires c.args.of c.in-Publisher.publisher (looked c.args.table.now c.args.of c.get.result c.in-Some.made _ c.get.ensures.lookup c.in-Some.is c.in-Publisher.is)
+is_blocked-requires g c = record {
+  live = live_publisher {T = g.row.T.Denot} {U = g.row.U.Denot} c.args.domain.now c.args.table.now c.requires c.args.of c.in-Publisher.publisher (looked c.args.table.now c.args.of c.get.result c.in-Some.made _ c.get.ensures.lookup c.in-Some.is c.in-Publisher.is);
+}
 
 pub loan-requires-clause-ready : goal.loan-requires-clause-ready
 loan-requires-clause-ready g c =

@@ -12,12 +12,14 @@ use Rattle.iox2_runs.specs.declared.runs.made.Made.TheVariants.{Nothing, Unwritt
 use Rattle.iox2_runs.proofs.runs.discards.discard.Goals as goal
 
 pub discard-requires : goal.discard-requires
-discard-requires g c =
-    (live_unwritten {T = g.row.T.Denot} {U = g.row.U.Denot} c.args.domain.now c.args.table.now.items c.requires c.args.of c.in-Unwritten.sample (sym c.take.ensures.made ∙ c.in-Unwritten.is)).live
+discard-requires g c = record {
+  live = (live_unwritten {T = g.row.T.Denot} {U = g.row.U.Denot} c.args.domain.now c.args.table.now.items c.requires c.args.of c.in-Unwritten.sample (sym c.take.ensures.made ∙ c.in-Unwritten.is)).live;
+}
 
 pub discard-requires-in-Written : goal.discard-requires-in-Written
-discard-requires-in-Written g c =
-    (live_written {T = g.row.T.Denot} {U = g.row.U.Denot} c.args.domain.now c.args.table.now.items c.requires c.args.of c.in-Written.sample (sym c.take.ensures.made ∙ c.in-Written.is)).live
+discard-requires-in-Written g c = record {
+  live = (live_written {T = g.row.T.Denot} {U = g.row.U.Denot} c.args.domain.now c.args.table.now.items c.requires c.args.of c.in-Written.sample (sym c.take.ensures.made ∙ c.in-Written.is)).live;
+}
 
 pub returns-in-Unwritten-clause-carries : goal.returns-in-Unwritten-clause-carries
 returns-in-Unwritten-clause-carries g c =

@@ -8,13 +8,19 @@ use Rattle.iox2_runs.proofs.CarriedHeaders.{header_of_unwritten, header_of_writt
 use Rattle.iox2_runs.proofs.runs.headers.read_header.Goals as goal
 
 pub header-requires : goal.header-requires
-header-requires g c = (live_unwritten {T = g.row.T.Denot} {U = g.row.U.Denot} c.args.domain.now c.args.table.now c.requires c.args.of c.in-Unwritten.sample (looked c.args.table.now c.args.of c.get.result c.in-Some.made _ c.get.ensures.lookup c.in-Some.is c.in-Unwritten.is)).live
+header-requires g c = record {
+  live = (live_unwritten {T = g.row.T.Denot} {U = g.row.U.Denot} c.args.domain.now c.args.table.now c.requires c.args.of c.in-Unwritten.sample (looked c.args.table.now c.args.of c.get.result c.in-Some.made _ c.get.ensures.lookup c.in-Some.is c.in-Unwritten.is)).live;
+}
 
 pub header-requires-in-Written : goal.header-requires-in-Written
-header-requires-in-Written g c = (live_written {T = g.row.T.Denot} {U = g.row.U.Denot} c.args.domain.now c.args.table.now c.requires c.args.of c.in-Written.sample (looked c.args.table.now c.args.of c.get.result c.in-Some.made _ c.get.ensures.lookup c.in-Some.is c.in-Written.is)).live
+header-requires-in-Written g c = record {
+  live = (live_written {T = g.row.T.Denot} {U = g.row.U.Denot} c.args.domain.now c.args.table.now c.requires c.args.of c.in-Written.sample (looked c.args.table.now c.args.of c.get.result c.in-Some.made _ c.get.ensures.lookup c.in-Some.is c.in-Written.is)).live;
+}
 
 pub header-requires-in-Sample : goal.header-requires-in-Sample
-header-requires-in-Sample g c = live_sample {T = g.row.T.Denot} {U = g.row.U.Denot} c.args.domain.now c.args.table.now c.requires c.args.of c.in-Sample.sample (looked c.args.table.now c.args.of c.get.result c.in-Some.made _ c.get.ensures.lookup c.in-Some.is c.in-Sample.is)
+header-requires-in-Sample g c = record {
+  live = live_sample {T = g.row.T.Denot} {U = g.row.U.Denot} c.args.domain.now c.args.table.now c.requires c.args.of c.in-Sample.sample (looked c.args.table.now c.args.of c.get.result c.in-Some.made _ c.get.ensures.lookup c.in-Some.is c.in-Sample.is);
+}
 
 pub returns-in-Unwritten : goal.returns-in-Unwritten
 returns-in-Unwritten g c =

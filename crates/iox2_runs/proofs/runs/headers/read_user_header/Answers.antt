@@ -8,13 +8,19 @@ use Rattle.iox2_runs.proofs.CarriedHeaders.{user_header_of_unwritten, user_heade
 use Rattle.iox2_runs.proofs.runs.headers.read_user_header.Goals as goal
 
 pub user_header-requires : goal.user_header-requires
-user_header-requires g c = (live_unwritten {T = g.row.T.Denot} {U = g.row.U.Denot} c.args.domain.now c.args.table.now c.requires c.args.of c.in-Unwritten.sample (looked c.args.table.now c.args.of c.get.result c.in-Some.made _ c.get.ensures.lookup c.in-Some.is c.in-Unwritten.is)).live
+user_header-requires g c = record {
+  live = (live_unwritten {T = g.row.T.Denot} {U = g.row.U.Denot} c.args.domain.now c.args.table.now c.requires c.args.of c.in-Unwritten.sample (looked c.args.table.now c.args.of c.get.result c.in-Some.made _ c.get.ensures.lookup c.in-Some.is c.in-Unwritten.is)).live;
+}
 
 pub user_header-requires-in-Written : goal.user_header-requires-in-Written
-user_header-requires-in-Written g c = (live_written {T = g.row.T.Denot} {U = g.row.U.Denot} c.args.domain.now c.args.table.now c.requires c.args.of c.in-Written.sample (looked c.args.table.now c.args.of c.get.result c.in-Some.made _ c.get.ensures.lookup c.in-Some.is c.in-Written.is)).live
+user_header-requires-in-Written g c = record {
+  live = (live_written {T = g.row.T.Denot} {U = g.row.U.Denot} c.args.domain.now c.args.table.now c.requires c.args.of c.in-Written.sample (looked c.args.table.now c.args.of c.get.result c.in-Some.made _ c.get.ensures.lookup c.in-Some.is c.in-Written.is)).live;
+}
 
 pub user_header-requires-in-Sample : goal.user_header-requires-in-Sample
-user_header-requires-in-Sample g c = live_sample {T = g.row.T.Denot} {U = g.row.U.Denot} c.args.domain.now c.args.table.now c.requires c.args.of c.in-Sample.sample (looked c.args.table.now c.args.of c.get.result c.in-Some.made _ c.get.ensures.lookup c.in-Some.is c.in-Sample.is)
+user_header-requires-in-Sample g c = record {
+  live = live_sample {T = g.row.T.Denot} {U = g.row.U.Denot} c.args.domain.now c.args.table.now c.requires c.args.of c.in-Sample.sample (looked c.args.table.now c.args.of c.get.result c.in-Some.made _ c.get.ensures.lookup c.in-Some.is c.in-Sample.is);
+}
 
 pub returns-in-Unwritten : goal.returns-in-Unwritten
 returns-in-Unwritten g c =

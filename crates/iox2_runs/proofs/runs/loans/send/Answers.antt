@@ -16,8 +16,9 @@ use Rattle.iox2_runs.proofs.TableLooks.{is_written_entry}
 use Rattle.iox2_runs.proofs.runs.loans.send.Goals as goal
 
 pub is_blocked-requires : goal.is_blocked-requires
-is_blocked-requires g c =
-    (live_written {T = g.row.T.Denot} {U = g.row.U.Denot} c.args.domain.now c.args.table.now.items c.requires c.args.of c.in-Written.sample (sym c.take.ensures.made ∙ c.in-Written.is)).live
+is_blocked-requires g c = record {
+  live = (live_written {T = g.row.T.Denot} {U = g.row.U.Denot} c.args.domain.now c.args.table.now.items c.requires c.args.of c.in-Written.sample (sym c.take.ensures.made ∙ c.in-Written.is)).live;
+}
 
 pub send-requires-clause-live : goal.send-requires-clause-live
 send-requires-clause-live g c =

@@ -13,9 +13,10 @@ use Rattle.iox2_runs.specs.declared.runs.made.Made.TheVariants.{Nothing}
 use Rattle.iox2_runs.proofs.runs.questions.has_samples.Goals as goal
 
 pub has_samples-requires : goal.has_samples-requires
-has_samples-requires g c =
-    live_subscriber {T = g.row.T.Denot} {U = g.row.U.Denot} c.args.domain.now c.args.table.now c.requires c.args.of c.in-Subscriber.subscriber
-    (looked c.args.table.now c.args.of c.get.result c.in-Some.made _ c.get.ensures.lookup c.in-Some.is c.in-Subscriber.is)
+has_samples-requires g c = record {
+  live = live_subscriber {T = g.row.T.Denot} {U = g.row.U.Denot} c.args.domain.now c.args.table.now c.requires c.args.of c.in-Subscriber.subscriber
+      (looked c.args.table.now c.args.of c.get.result c.in-Some.made _ c.get.ensures.lookup c.in-Some.is c.in-Subscriber.is);
+}
 
 pub returns-in-Ok-clause-carries : goal.returns-in-Ok-clause-carries
 returns-in-Ok-clause-carries g c =

@@ -27,8 +27,9 @@ returns-then-config-ne1-clause-carries g c =
     (λ units. c.if-config-ne1.true (ap (λ (k : ServiceConfig). k.units_per_element) c.config.ensures.value ∙ units)) refl
 
 pub receive-requires : goal.receive-requires
-receive-requires g c =
-    live_subscriber {T = g.row.T.Denot} {U = g.row.U.Denot} c.args.domain.now c.args.table.now c.requires c.args.of c.in-Subscriber.subscriber (looked c.args.table.now c.args.of c.get.result c.in-Some.made _ c.get.ensures.lookup c.in-Some.is c.in-Subscriber.is)
+receive-requires g c = record {
+  live = live_subscriber {T = g.row.T.Denot} {U = g.row.U.Denot} c.args.domain.now c.args.table.now c.requires c.args.of c.in-Subscriber.subscriber (looked c.args.table.now c.args.of c.get.result c.in-Some.made _ c.get.ensures.lookup c.in-Some.is c.in-Subscriber.is);
+}
 
 pub returns-in-Ok-Some-clause-carries : goal.returns-in-Ok-Some-clause-carries
 returns-in-Ok-Some-clause-carries g c =

@@ -12,8 +12,9 @@ use Rattle.iox2_runs.specs.declared.runs.made.Made.TheVariants.{Nothing, Sample}
 use Rattle.iox2_runs.proofs.runs.samples.release.Goals as goal
 
 pub release-requires : goal.release-requires
-release-requires g c =
-    live_sample {T = g.row.T.Denot} {U = g.row.U.Denot} c.args.domain.now c.args.table.now.items c.requires c.args.of c.in-Sample.sample (sym c.take.ensures.made ∙ c.in-Sample.is)
+release-requires g c = record {
+  live = live_sample {T = g.row.T.Denot} {U = g.row.U.Denot} c.args.domain.now c.args.table.now.items c.requires c.args.of c.in-Sample.sample (sym c.take.ensures.made ∙ c.in-Sample.is);
+}
 
 pub returns-in-Sample-clause-carries : goal.returns-in-Sample-clause-carries
 returns-in-Sample-clause-carries g c =

@@ -93,8 +93,9 @@ returns-in_default-clause-leaves g c =
     (back c.args.table.now.items c.take.new.table.items c.put-in_default.new.table.items c.args.of c.take.result c.take.ensures.items (sym c.take.ensures.made) c.put-in_default.ensures.items)
 
 pub is_blocked-requires : goal.is_blocked-requires
-is_blocked-requires g c =
-    live_publisher {T = g.row.T.Denot} {U = g.row.U.Denot} c.args.domain.now c.args.table.now.items c.requires c.args.of c.in-Publisher.publisher (sym c.take.ensures.made ∙ c.in-Publisher.is)
+is_blocked-requires g c = record {
+  live = live_publisher {T = g.row.T.Denot} {U = g.row.U.Denot} c.args.domain.now c.args.table.now.items c.requires c.args.of c.in-Publisher.publisher (sym c.take.ensures.made ∙ c.in-Publisher.is);
+}
 
 pub loan_slice_uninit-loaned-requires-clause-ready : goal.loan_slice_uninit-loaned-requires-clause-ready
 loan_slice_uninit-loaned-requires-clause-ready g c =

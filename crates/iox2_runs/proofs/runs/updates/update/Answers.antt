@@ -14,9 +14,10 @@ use Rattle.iox2_runs.specs.declared.runs.made.Made.TheVariants.{Nothing}
 use Rattle.iox2_runs.proofs.runs.updates.update.Goals as goal
 
 pub update_connections-requires-in-Subscriber : goal.update_connections-requires-in-Subscriber
-update_connections-requires-in-Subscriber g c =
-    live_subscriber {T = g.row.T.Denot} {U = g.row.U.Denot} c.args.domain.now c.args.table.now c.requires c.args.of c.in-Subscriber.subscriber
-    (looked c.args.table.now c.args.of c.get.result c.in-Some.made _ c.get.ensures.lookup c.in-Some.is c.in-Subscriber.is)
+update_connections-requires-in-Subscriber g c = record {
+  live = live_subscriber {T = g.row.T.Denot} {U = g.row.U.Denot} c.args.domain.now c.args.table.now c.requires c.args.of c.in-Subscriber.subscriber
+      (looked c.args.table.now c.args.of c.get.result c.in-Some.made _ c.get.ensures.lookup c.in-Some.is c.in-Subscriber.is);
+}
 
 pub returns-in-Subscriber-clause-carries : goal.returns-in-Subscriber-clause-carries
 returns-in-Subscriber-clause-carries g c =
@@ -52,12 +53,14 @@ returns-in_default-clause-leaves g c =
     leaves-all {T = g.row.T.Denot} {U = g.row.U.Denot} c.args.domain.now c.args.domain.now c.args.table.now c.args.table.now refl refl
 
 pub is_blocked-requires : goal.is_blocked-requires
-is_blocked-requires g c =
-    live_publisher {T = g.row.T.Denot} {U = g.row.U.Denot} c.args.domain.now c.args.table.now c.requires c.args.of c.in-Publisher.publisher (looked c.args.table.now c.args.of c.get.result c.in-Some.made _ c.get.ensures.lookup c.in-Some.is c.in-Publisher.is)
+is_blocked-requires g c = record {
+  live = live_publisher {T = g.row.T.Denot} {U = g.row.U.Denot} c.args.domain.now c.args.table.now c.requires c.args.of c.in-Publisher.publisher (looked c.args.table.now c.args.of c.get.result c.in-Some.made _ c.get.ensures.lookup c.in-Some.is c.in-Publisher.is);
+}
 
 pub update_connections-requires : goal.update_connections-requires
-update_connections-requires g c =
-    ready_publisher {T = g.row.T.Denot} {U = g.row.U.Denot} c.args.domain.now c.args.table.now c.requires c.args.of c.in-Publisher.publisher (looked c.args.table.now c.args.of c.get.result c.in-Some.made _ c.get.ensures.lookup c.in-Some.is c.in-Publisher.is) (c.is_blocked.ensures.0 c.if-is_blocked.false)
+update_connections-requires g c = record {
+  live = ready_publisher {T = g.row.T.Denot} {U = g.row.U.Denot} c.args.domain.now c.args.table.now c.requires c.args.of c.in-Publisher.publisher (looked c.args.table.now c.args.of c.get.result c.in-Some.made _ c.get.ensures.lookup c.in-Some.is c.in-Publisher.is) (c.is_blocked.ensures.0 c.if-is_blocked.false);
+}
 
 pub returns-then-is_blocked-clause-carries : goal.returns-then-is_blocked-clause-carries
 returns-then-is_blocked-clause-carries g c =

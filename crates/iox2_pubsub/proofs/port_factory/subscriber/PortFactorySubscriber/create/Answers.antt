@@ -17,19 +17,19 @@ returns-in_err-port-clause-creates g c =
     let refused = err_from_is_err_and c.from_residual.result c.from_residual.ensures.1 in
     rw (refused.1, refused.2) (
     refused-shown {T = g.row.T.Denot} {U = g.row.U.Denot} fixed_handlers c.domain.inside.state c.create_subscriber.new.state c.args.domain.now c.domain.view_is
-    (asked_for c.self.inside.buffer_size) c.args.self c.self.view_is c.in_err-port.field-0.0 c.in_err-port.ensures.step
+    (asked_for c.self.inside.options) c.args.self c.self.view_is c.in_err-port.field-0.0 c.in_err-port.ensures.step
     )
 
 pub returns-clause-creates : goal.returns-clause-creates
 returns-clause-creates g c =
-    let size : c.max.result ≡ max 1 c.self.inside.buffer_size = grind (arith, c.max.ensures) in
+    let size : c.max.result ≡ max 1 c.self.inside.options.buffer_size = grind (arith, c.max.ensures) in
     made-shown {T = g.row.T.Denot} {U = g.row.U.Denot} fixed_handlers c.domain.inside.state c.create_subscriber.new.state c.args.domain.now c.domain.view_is
-    (asked_for c.self.inside.buffer_size) c.args.self c.self.view_is c.in_ok-port.ensures.step c.in_ok-port.port.id c.max.result
+    (asked_for c.self.inside.options) c.args.self c.self.view_is c.in_ok-port.ensures.step c.in_ok-port.port.id c.max.result
     (c.in_ok-port.ensures.id) size
 
 pub returns-clause-live : goal.returns-clause-live
 returns-clause-live g c =
-    made-live {T = g.row.T.Denot} {U = g.row.U.Denot} fixed_handlers c.domain.inside.state c.create_subscriber.new.state (asked_for c.self.inside.buffer_size) (c.domain.inside.boxes).boxes c.in_ok-port.ensures.step
+    made-live {T = g.row.T.Denot} {U = g.row.U.Denot} fixed_handlers c.domain.inside.state c.create_subscriber.new.state (asked_for c.self.inside.options) (c.domain.inside.boxes).boxes c.in_ok-port.ensures.step
     (record { service_id = c.config.result.now.service_id; id = c.in_ok-port.port.id; place = c.in_ok-port.port.place; buffer_size = c.max.result })
     (ap (λ (config : ServiceConfig). config.service_id) c.config.ensures)
     c.in_ok-port.ensures.id
@@ -38,7 +38,7 @@ pub returns-in_err-port-clause-stays : goal.returns-in_err-port-clause-stays
 returns-in_err-port-clause-stays g c =
     let it = always-shown {T = g.row.T.Denot} {U = g.row.U.Denot} c.domain.inside.state c.args.domain.now c.domain.invariant c.domain.view_is in
     let step = refused-shown {T = g.row.T.Denot} {U = g.row.U.Denot} fixed_handlers c.domain.inside.state c.create_subscriber.new.state c.args.domain.now c.domain.view_is
-    (asked_for c.self.inside.buffer_size) c.args.self c.self.view_is c.in_err-port.field-0.0 c.in_err-port.ensures.step it.0 it.1 it.2 in
+    (asked_for c.self.inside.options) c.args.self c.self.view_is c.in_err-port.field-0.0 c.in_err-port.ensures.step it.0 it.1 it.2 in
     subscriber-creation-stays {T = g.row.T.Denot} {U = g.row.U.Denot} c.args.domain.now _ it.0 it.1 it.2 fixed_handlers c.args.self (Some c.in_err-port.field-0.0) step.0 step.1 step.2 (same-boxes c.domain.inside.state c.create_subscriber.new.state c.args.domain.now c.domain.view_is)
 
 pub returns-clause-stays : goal.returns-clause-stays
@@ -64,7 +64,7 @@ pub returns-in_err-port-clause-waits : goal.returns-in_err-port-clause-waits
 returns-in_err-port-clause-waits g c =
     let it = always-shown {T = g.row.T.Denot} {U = g.row.U.Denot} c.domain.inside.state c.args.domain.now c.domain.invariant c.domain.view_is in
     let step = refused-shown {T = g.row.T.Denot} {U = g.row.U.Denot} fixed_handlers c.domain.inside.state c.create_subscriber.new.state c.args.domain.now c.domain.view_is
-    (asked_for c.self.inside.buffer_size) c.args.self c.self.view_is c.in_err-port.field-0.0 c.in_err-port.ensures.step it.0 it.1 it.2 in
+    (asked_for c.self.inside.options) c.args.self c.self.view_is c.in_err-port.field-0.0 c.in_err-port.ensures.step it.0 it.1 it.2 in
     creation-waits {T = g.row.T.Denot} {U = g.row.U.Denot} c.args.domain.now _ it.0 it.0 it.1 step.0 it.2 step.1 (λ n entry at. at) fixed_handlers c.args.self (Some c.in_err-port.field-0.0) step.2
 
 pub returns-clause-waits : goal.returns-clause-waits
@@ -77,7 +77,7 @@ pub returns-in_err-port-clause-up_to_date : goal.returns-in_err-port-clause-up_t
 returns-in_err-port-clause-up_to_date g c =
     let it = always-shown {T = g.row.T.Denot} {U = g.row.U.Denot} c.domain.inside.state c.args.domain.now c.domain.invariant c.domain.view_is in
     let step = refused-shown {T = g.row.T.Denot} {U = g.row.U.Denot} fixed_handlers c.domain.inside.state c.create_subscriber.new.state c.args.domain.now c.domain.view_is
-    (asked_for c.self.inside.buffer_size) c.args.self c.self.view_is c.in_err-port.field-0.0 c.in_err-port.ensures.step it.0 it.1 it.2 in
+    (asked_for c.self.inside.options) c.args.self c.self.view_is c.in_err-port.field-0.0 c.in_err-port.ensures.step it.0 it.1 it.2 in
     creation-leaves {T = g.row.T.Denot} {U = g.row.U.Denot} c.args.domain.now _ it.0 it.0 it.1 step.0 it.2 step.1 fixed_handlers c.args.self (Some c.in_err-port.field-0.0) step.2
 
 pub returns-clause-up_to_date : goal.returns-clause-up_to_date
@@ -90,7 +90,7 @@ pub returns-in_err-port-clause-loans_left : goal.returns-in_err-port-clause-loan
 returns-in_err-port-clause-loans_left g c =
     let it = always-shown {T = g.row.T.Denot} {U = g.row.U.Denot} c.domain.inside.state c.args.domain.now c.domain.invariant c.domain.view_is in
     let step = refused-shown {T = g.row.T.Denot} {U = g.row.U.Denot} fixed_handlers c.domain.inside.state c.create_subscriber.new.state c.args.domain.now c.domain.view_is
-    (asked_for c.self.inside.buffer_size) c.args.self c.self.view_is c.in_err-port.field-0.0 c.in_err-port.ensures.step it.0 it.1 it.2 in
+    (asked_for c.self.inside.options) c.args.self c.self.view_is c.in_err-port.field-0.0 c.in_err-port.ensures.step it.0 it.1 it.2 in
     subscriber-creation-left {T = g.row.T.Denot} {U = g.row.U.Denot} c.args.domain.now _ it.0 it.0 it.1 step.0 it.2 step.1 fixed_handlers c.args.self (Some c.in_err-port.field-0.0) step.2
 
 pub returns-clause-loans_left : goal.returns-clause-loans_left

@@ -10,7 +10,9 @@ use Rattle.iox2_store.specs.machine.Environments.{fixed_handlers}
 use Rattle.iox2_laws.proofs.LoanKeeping.{update_publisher_loans}
 use Rattle.iox2_laws.proofs.PortsStay.{update_publisher_stays}
 use Rattle.iox2_laws.proofs.Waits.{update_publisher_waits}
+use Rattle.iox2_domain.specs.Connects.{UpdatesPublisher}
 use Rattle.iox2_domain.specs.Fields.{keeping}
+use Rattle.iox2_pubsub.specs.UpdateCalls.{failure_of}
 use Rattle.iox2_pubsub.specs.Live.{No_item, publisher_key}
 use Rattle.iox2_pubsub.proofs.CallsStay.{always-shown}
 use Rattle.iox2_pubsub.proofs.StaysBut.{IsSpared}
@@ -25,7 +27,7 @@ use Rattle.iox2_pubsub.proofs.publisher.update_connections.PublisherUpdateConnec
 pub unreachable-requires : goal.unreachable-requires
 unreachable-requires g c =
     publisher-missing {T = g.row.T.Denot} {U = g.row.U.Denot} c.domain.inside.state c.args.domain.now c.domain.view_is c.args.self.now
-    c.in_default.ensures c.requires.there
+    c.in_default.ensures c.requires.live.there
 
 pub invariant_of-domain : goal.invariant_of-domain
 invariant_of-domain g c = (c.update_publisher.ensures c.in-Some.ensures.0 c.in-Some.ensures.1).reaches.agrees
@@ -33,42 +35,43 @@ invariant_of-domain g c = (c.update_publisher.ensures c.in-Some.ensures.0 c.in-S
 pub returns-clause-updates : goal.returns-clause-updates
 returns-clause-updates g c = λ m s shown.
     publisher-update-shows {T = g.row.T.Denot} {U = g.row.U.Denot} fixed_handlers c.args.domain.now c.domain.inside.state c.update_publisher.new.state c.domain.view_is
-    c.in-Some.place c.args.self.now.id m s shown c.in-Some.ensures c.update_publisher.ensures
+    c.in-Some.place c.args.self.now.id m s shown (failure_of c.outcome_of.result) c.in-Some.ensures
+    (λ x at. subst (UpdatesPublisher fixed_handlers c.domain.inside.state c.in-Some.place x c.update_publisher.new.state) (sym c.outcome_of.ensures) (c.update_publisher.ensures x at))
 
 pub returns-clause-stays : goal.returns-clause-stays
 returns-clause-stays g c =
     let it = always-shown {T = g.row.T.Denot} {U = g.row.U.Denot} c.domain.inside.state c.args.domain.now c.domain.invariant c.domain.view_is in
     let step = returns-clause-updates g c it.0 it.1 it.2 in
     updates-stay {T = g.row.T.Denot} {U = g.row.U.Denot} c.args.domain.now (keeping _ c.update_publisher.new.state) it.0 it.1 step.0 it.2 step.1
-    (update_publisher_stays fixed_handlers it.1 c.args.self.now.id step.0 None step.2) (update_publisher_loans fixed_handlers it.1 c.args.self.now.id step.0 None step.2)
-    (update_publisher_waits (IsSpared No_item) fixed_handlers it.1 c.args.self.now.id step.0 None step.2) (same-boxes c.domain.inside.state c.update_publisher.new.state c.args.domain.now c.domain.view_is)
+    (update_publisher_stays fixed_handlers it.1 c.args.self.now.id step.0 (failure_of c.outcome_of.result) step.2) (update_publisher_loans fixed_handlers it.1 c.args.self.now.id step.0 (failure_of c.outcome_of.result) step.2)
+    (update_publisher_waits (IsSpared No_item) fixed_handlers it.1 c.args.self.now.id step.0 (failure_of c.outcome_of.result) step.2) (same-boxes c.domain.inside.state c.update_publisher.new.state c.args.domain.now c.domain.view_is)
 
 pub update_publisher-requires-clause-stands : goal.update_publisher-requires-clause-stands
 update_publisher-requires-clause-stands g c = (c.in-Some.ensures.0, c.in-Some.ensures.1)
 
 pub returns-clause-live : goal.returns-clause-live
 returns-clause-live g c = record {
-  there = (returns-clause-stays g c).publishers (publisher_key c.args.self.now) c.requires.there tt;
-  unblocked = (returns-clause-stays g c).unblocked (publisher_key c.args.self.now) c.requires.unblocked tt;
+  there = (returns-clause-stays g c).publishers (publisher_key c.args.self.now) c.requires.live.there tt;
+  unblocked = (returns-clause-stays g c).unblocked (publisher_key c.args.self.now) c.requires.live.unblocked tt;
 }
 
 pub returns-clause-adds : goal.returns-clause-adds
 returns-clause-adds g c =
     let it = always-shown {T = g.row.T.Denot} {U = g.row.U.Denot} c.domain.inside.state c.args.domain.now c.domain.invariant c.domain.view_is in
     let step = returns-clause-updates g c it.0 it.1 it.2 in
-    publisher-update-adds {T = g.row.T.Denot} {U = g.row.U.Denot} c.args.domain.now (keeping _ c.update_publisher.new.state) it.0 it.0 it.1 step.0 it.2 step.1 fixed_handlers c.args.self.now.id None step.2
+    publisher-update-adds {T = g.row.T.Denot} {U = g.row.U.Denot} c.args.domain.now (keeping _ c.update_publisher.new.state) it.0 it.0 it.1 step.0 it.2 step.1 fixed_handlers c.args.self.now.id (failure_of c.outcome_of.result) step.2
 
 pub returns-clause-up_to_date : goal.returns-clause-up_to_date
 returns-clause-up_to_date g c =
     let it = always-shown {T = g.row.T.Denot} {U = g.row.U.Denot} c.domain.inside.state c.args.domain.now c.domain.invariant c.domain.view_is in
     let step = returns-clause-updates g c it.0 it.1 it.2 in
-    publisher-update-leaves {T = g.row.T.Denot} {U = g.row.U.Denot} c.args.domain.now (keeping _ c.update_publisher.new.state) it.0 it.0 it.1 step.0 it.2 step.1 fixed_handlers c.args.self.now.id None step.2
+    publisher-update-leaves {T = g.row.T.Denot} {U = g.row.U.Denot} c.args.domain.now (keeping _ c.update_publisher.new.state) it.0 it.0 it.1 step.0 it.2 step.1 fixed_handlers c.args.self.now.id (failure_of c.outcome_of.result) step.2
 
 pub returns-clause-loans_left : goal.returns-clause-loans_left
 returns-clause-loans_left g c =
     let it = always-shown {T = g.row.T.Denot} {U = g.row.U.Denot} c.domain.inside.state c.args.domain.now c.domain.invariant c.domain.view_is in
     let step = returns-clause-updates g c it.0 it.1 it.2 in
-    update-publisher-left {T = g.row.T.Denot} {U = g.row.U.Denot} c.args.domain.now (keeping _ c.update_publisher.new.state) it.0 it.0 it.1 step.0 it.2 step.1 fixed_handlers c.args.self.now.id None step.2
+    update-publisher-left {T = g.row.T.Denot} {U = g.row.U.Denot} c.args.domain.now (keeping _ c.update_publisher.new.state) it.0 it.0 it.1 step.0 it.2 step.1 fixed_handlers c.args.self.now.id (failure_of c.outcome_of.result) step.2
 
 pub update_publisher-requires-clause-unblocked : goal.update_publisher-requires-clause-unblocked
 update_publisher-requires-clause-unblocked g c = λ z at_z.
@@ -77,4 +80,4 @@ update_publisher-requires-clause-unblocked g c = λ z at_z.
     let is : z ≡ found.0 = cc in
     ap (λ (w : PublisherFields). w.blocked) is
     ∙ free-of c.domain.inside.state c.domain.invariant.parts c.args.self.now.id c.in-Some.place found.0 found.1 found.2
-    (subst (λ (k : Kept g.row.T.Denot g.row.U.Denot g.row.F.Denot). is_blocked (state_of k) c.args.self.now.id ≡ false) (sym c.domain.view_is) (unblocked-test c.args.domain.now (publisher_key c.args.self.now) c.requires.unblocked))
+    (subst (λ (k : Kept g.row.T.Denot g.row.U.Denot g.row.F.Denot). is_blocked (state_of k) c.args.self.now.id ≡ false) (sym c.domain.view_is) (unblocked-test c.args.domain.now (publisher_key c.args.self.now) c.requires.live.unblocked))

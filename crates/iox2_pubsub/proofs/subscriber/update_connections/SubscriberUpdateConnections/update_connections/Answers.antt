@@ -13,14 +13,14 @@ use Rattle.iox2_pubsub.proofs.StaysBut.{same-boxes, IsSpared}
 use Rattle.iox2_pubsub.proofs.UpdateShown.{subscriber-update-shows}
 use Rattle.iox2_pubsub.proofs.UpdatesStay.{updates-stay}
 use Rattle.iox2_pubsub.proofs.WaitingShown.{subscriber-update-adds}
-use Rattle.iox2_pubsub.proofs.UpToDateShown.{subscriber-update-leaves}
+use Rattle.iox2_pubsub.proofs.UpToDateShown.{subscriber-update-leaves, update-updated}
 use Rattle.iox2_pubsub.proofs.LoansLeftShown.{update-subscriber-left}
 use Rattle.iox2_pubsub.proofs.subscriber.update_connections.SubscriberUpdateConnections.update_connections.Goals as goal
 
 pub unreachable-requires : goal.unreachable-requires
 unreachable-requires g c =
     subscriber-missing {T = g.row.T.Denot} {U = g.row.U.Denot} c.domain.inside.state c.args.domain.now c.domain.view_is c.args.self.now
-    c.in_default.ensures c.requires
+    c.in_default.ensures c.requires.live
 
 pub invariant_of-domain : goal.invariant_of-domain
 invariant_of-domain g c = (c.update_subscriber.ensures c.in-Some.ensures.0 c.in-Some.ensures.1).changes.agrees
@@ -41,7 +41,7 @@ returns-clause-stays g c =
     (update_subscriber_waits (IsSpared No_item) fixed_handlers it.1 c.args.self.now.id step.0 (failure_of c.outcome_of.result) step.2) (same-boxes c.domain.inside.state c.update_subscriber.new.state c.args.domain.now c.domain.view_is)
 
 pub returns-clause-live : goal.returns-clause-live
-returns-clause-live g c = (returns-clause-stays g c).subscribers (subscriber_key c.args.self.now) c.requires tt
+returns-clause-live g c = (returns-clause-stays g c).subscribers (subscriber_key c.args.self.now) c.requires.live tt
 
 pub returns-clause-adds : goal.returns-clause-adds
 returns-clause-adds g c =
@@ -60,3 +60,9 @@ returns-clause-loans_left g c =
     let it = always-shown {T = g.row.T.Denot} {U = g.row.U.Denot} c.domain.inside.state c.args.domain.now c.domain.invariant c.domain.view_is in
     let step = returns-clause-updates g c it.0 it.1 it.2 in
     update-subscriber-left {T = g.row.T.Denot} {U = g.row.U.Denot} c.args.domain.now (keeping _ c.update_subscriber.new.state) it.0 it.0 it.1 step.0 it.2 step.1 fixed_handlers c.args.self.now.id (failure_of c.outcome_of.result) step.2
+
+pub returns-clause-updated : goal.returns-clause-updated
+returns-clause-updated g c =
+    let it = always-shown {T = g.row.T.Denot} {U = g.row.U.Denot} c.domain.inside.state c.args.domain.now c.domain.invariant c.domain.view_is in
+    let step = returns-clause-updates g c it.0 it.1 it.2 in
+    update-updated {T = g.row.T.Denot} {U = g.row.U.Denot} c.args.domain.now (keeping _ c.update_subscriber.new.state) it.0 it.0 it.1 step.0 it.2 step.1 fixed_handlers c.args.self.now c.requires.live c.outcome_of.result step.2

@@ -1,0 +1,25 @@
+//! What a port is made with.
+
+use iox2_store::{BackpressureStrategy, DegradationAction};
+
+/// What a publisher is made with, beside the handler that answers for it at a full buffer.
+#[derive(Clone, Copy)]
+pub struct PublisherOptions {
+    /// So many loans may be out at a time.
+    pub max_loaned_samples: usize,
+    /// What it does at a full buffer where no handler answers.
+    pub strategy: BackpressureStrategy,
+    /// What it does where it can't make a connection.
+    pub degradation: DegradationAction,
+    /// A loan has so many elements at most.
+    pub initial_max_slice_len: usize,
+}
+
+/// What a subscriber is made with.
+#[derive(Clone, Copy)]
+pub struct SubscriberOptions {
+    /// So many messages of one publisher may wait, and one where this is none.
+    pub buffer_size: usize,
+    /// What it does where it can't make a connection.
+    pub degradation: DegradationAction,
+}

@@ -1,0 +1,16 @@
+-- Which publisher is connected with which subscriber.
+use Rattle.std.specs.Prelude.{ℕ, true, ◌≡◌}
+use Rattle.std.specs.declared.option.Option.TheVariants.{Some}
+use Rattle.iox2_store.specs.machine.Records.{Publisher, Subscriber}
+use Rattle.iox2_store.specs.machine.State.{State}
+use Rattle.iox2_store.specs.machine.Waiting.{receives_from}
+use Rattle.iox2_store.specs.machine.WellFormed.{LeadsTo}
+
+-- The publisher p has its end of the mailbox with q, which is open, and has its own end or makes it in its next update.
+pub record Connects {T U : Type 0} (s : State T U) (p q : ℕ) : Type 0 where
+  pub publisher : Publisher
+  pub stands : s.publishers p ≡ Some publisher
+  pub sends : LeadsTo publisher.ends q
+  pub subscriber : Subscriber
+  pub there : s.subscribers q ≡ Some subscriber
+  pub receives : receives_from subscriber p ≡ true

@@ -1,0 +1,52 @@
+//! What a port does without a connection, and what its update fails with.
+ghost use Rattle.std.specs.Prelude.{◌≡◌};
+ghost use Rattle.iox2_store.specs.machine.Connections.{failure_of, first_failure, warnings_after};
+ghost use Rattle.iox2_store.specs.machine.Limits.{warning_limit};
+ghost use Rattle.iox2_domain.specs.WarningRing.{warning_ring};
+
+use iox2_domain::Warnings;
+use iox2_slots::Home;
+use iox2_store::{
+    ConnectionFailure, DegradationAction, UniquePublisherId, UniqueSubscriberId, Warning,
+    ZeroCopyCreationError,
+};
+
+/// What a port does without the connection which was to stand there, for which memory was refused:
+/// as its handler answers it goes on, or warns, or its update fails. The connection is counted.
+pub(crate) fn degrade(
+    warnings: &mut Warnings,
+    answer: DegradationAction,
+    home: Home,
+) -> Option<ConnectionFailure>
+    requires { warnings.old.capacity ≡ warning_limit }
+    ensures warnings { warnings.new ≡ warning_ring (warnings_after home.publisher home.subscriber answer warnings.old.items) warning_limit }
+    ensures failure { result ≡ failure_of answer }
+{
+    warnings.count_refusal();
+    match answer {
+        DegradationAction::Ignore => None,
+        DegradationAction::Warn => {
+            warnings.warn(Warning::ConnectionNotMade {
+                sender: UniquePublisherId::new(home.publisher),
+                receiver: UniqueSubscriberId::new(home.subscriber),
+            });
+            None
+        }
+        DegradationAction::DegradeAndFail => {
+            Some(ConnectionFailure::FailedToEstablishConnection(ZeroCopyCreationError::OutOfMemory))
+        }
+    }
+}
+
+/// The failure that came first.
+pub(crate) fn first_of(
+    first: Option<ConnectionFailure>,
+    later: Option<ConnectionFailure>,
+) -> Option<ConnectionFailure>
+    ensures { result ≡ first_failure first later }
+{
+    match first {
+        Some(failure) => Some(failure),
+        None => later,
+    }
+}
