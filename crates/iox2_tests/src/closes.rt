@@ -1,13 +1,15 @@
-use crate::fixtures::domain;
-use iox2_fixtures::{Reading, factory_for, publish, receiver_count};
+use crate::fixtures::{
+    celsius_of, close_publisher, close_subscriber, domain, publisher_of, received, release, sent,
+    subscriber_of, waits,
+};
+use iox2_fixtures::{Reading, receiver_count};
 use iox2_pubsub::{SendError, SubscriberCreateError};
 
 // The loans of a publisher that was closed can be read and given back, and are lost at a send.
 #[test]
 fn a_loan_outlives_its_publisher(rt: HostRuntime) {
     let mut domain = domain(&rt, rt.alloc());
-    let factory = factory_for(&domain);
-    let publisher = factory.create(&mut domain).expect(&rt, "a publisher");
+    let publisher = publisher_of(&rt, &mut domain);
     let loan = publisher.loan_uninit(&mut domain).expect(&rt, "a loan");
     let key = publisher.key();
     publisher.close(&mut domain);
@@ -26,23 +28,20 @@ fn a_loan_outlives_its_publisher(rt: HostRuntime) {
 #[test]
 fn a_sample_outlives_both_ports(rt: HostRuntime) {
     let mut domain = domain(&rt, rt.alloc());
-    let factory = domain.subscriber_builder();
-    let subscriber = factory.create(&mut domain).expect(&rt, "a subscriber");
-    let factory = factory_for(&domain);
-    let publisher = factory.create(&mut domain).expect(&rt, "a publisher");
-    let takers = publish(&mut domain, &publisher, 21);
-    let waits = subscriber.has_samples(&mut domain);
-    publisher.close(&mut domain);
-    let received = subscriber.receive(&mut domain).expect(&rt, "an answer");
-    let sample = received.expect(&rt, "a message");
+    let subscriber = subscriber_of(&rt, &mut domain);
+    let publisher = publisher_of(&rt, &mut domain);
+    let takers = sent(&rt, &mut domain, &publisher, 21);
+    let waits = waits(&rt, &mut domain, &subscriber);
+    close_publisher(&rt, &mut domain, publisher);
+    let sample = received(&rt, &mut domain, &subscriber).expect(&rt, "a message");
     let key = subscriber.key();
-    subscriber.close(&mut domain);
+    close_subscriber(&rt, &mut domain, subscriber);
     let live = domain.holds_subscriber(key);
-    let celsius = sample.payload(&domain).celsius;
-    sample.release(&mut domain);
+    let celsius = celsius_of(&rt, &domain, &sample);
+    release(&rt, &mut domain, sample);
     drop(domain);
-    assert!(rt; takers == Some(1));
-    assert!(rt; waits == Ok(true));
+    assert!(rt; takers == 1);
+    assert!(rt; waits);
     assert!(rt; !live);
     assert!(rt; celsius == 21);
 }
@@ -51,14 +50,11 @@ fn a_sample_outlives_both_ports(rt: HostRuntime) {
 #[test]
 fn a_place_is_free_with_the_last_sample(rt: HostRuntime) {
     let mut domain = domain(&rt, rt.alloc());
-    let factory = domain.subscriber_builder();
-    let subscriber = factory.create(&mut domain).expect(&rt, "a subscriber");
-    let factory = factory_for(&domain);
-    let publisher = factory.create(&mut domain).expect(&rt, "a publisher");
-    publish(&mut domain, &publisher, 21);
-    let received = subscriber.receive(&mut domain).expect(&rt, "an answer");
-    let sample = received.expect(&rt, "a message");
-    subscriber.close(&mut domain);
+    let subscriber = subscriber_of(&rt, &mut domain);
+    let publisher = publisher_of(&rt, &mut domain);
+    sent(&rt, &mut domain, &publisher, 21);
+    let sample = received(&rt, &mut domain, &subscriber).expect(&rt, "a message");
+    close_subscriber(&rt, &mut domain, subscriber);
     let refused = match domain.subscriber_builder().create(&mut domain) {
         Ok(subscriber) => {
             subscriber.disown();
@@ -66,12 +62,11 @@ fn a_place_is_free_with_the_last_sample(rt: HostRuntime) {
         }
         Err(error) => Some(error),
     };
-    sample.release(&mut domain);
-    let factory = domain.subscriber_builder();
-    let next = factory.create(&mut domain).expect(&rt, "a subscriber");
+    release(&rt, &mut domain, sample);
+    let next = subscriber_of(&rt, &mut domain);
     let id = next.id().value();
-    next.close(&mut domain);
-    publisher.close(&mut domain);
+    close_subscriber(&rt, &mut domain, next);
+    close_publisher(&rt, &mut domain, publisher);
     drop(domain);
     assert!(rt; refused == Some(SubscriberCreateError::ExceedsMaxSupportedSubscribers));
     assert!(rt; id == 3);

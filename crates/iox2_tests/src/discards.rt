@@ -1,6 +1,6 @@
 ghost use Rattle.iox2_pubsub.specs.Live.{IsLivePublisher, IsSingleValued, Stays};
 
-use crate::fixtures::{domain, lend};
+use crate::fixtures::{domain, lend, subscriber_of};
 use iox2_fixtures::{Reading, Station, factory_for, publish};
 use iox2_pubsub::{Domain, Publisher};
 
@@ -52,8 +52,7 @@ fn lend_and_discard(
 #[test]
 fn a_publisher_lends_again_what_was_given_back(rt: HostRuntime) {
     let mut domain = domain(&rt, rt.alloc());
-    let factory = domain.subscriber_builder();
-    let subscriber = factory.create(&mut domain).expect(&rt, "a subscriber");
+    let subscriber = subscriber_of(&rt, &mut domain);
     subscriber.disown();
     let factory = factory_for(&domain).max_loaned_samples(1);
     let publisher = factory.create(&mut domain).expect(&rt, "a publisher");

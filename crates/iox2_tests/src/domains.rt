@@ -1,7 +1,7 @@
 ghost use Rattle.iox2_pubsub.specs.Slices.{IsSliced};
 
-use crate::fixtures::domain;
-use iox2_fixtures::{Reading, Station, factory_for, settings};
+use crate::fixtures::{domain, publisher_of, subscriber_of};
+use iox2_fixtures::{Reading, Station, settings};
 use iox2_pubsub::{Domain, UpdateConnections};
 use iox2_store::{ServiceConfig, TypeVariant};
 use std::alloc::Global;
@@ -33,10 +33,8 @@ fn a_new_domain_has_its_settings(rt: HostRuntime) {
 fn a_domain_may_be_for_slices(rt: HostRuntime) {
     let mut domain = sliced_domain(&rt, rt.alloc());
     let variant = domain.variant();
-    let factory = factory_for(&domain);
-    let publisher = factory.create(&mut domain).expect(&rt, "a publisher");
-    let factory = domain.subscriber_builder();
-    let subscriber = factory.create(&mut domain).expect(&rt, "a subscriber");
+    let publisher = publisher_of(&rt, &mut domain);
+    let subscriber = subscriber_of(&rt, &mut domain);
     let updated = publisher.update_connections(&mut domain);
     let waits = subscriber.has_samples(&mut domain);
     let connections = domain.connection_count();

@@ -1,15 +1,12 @@
-ghost use Rattle.iox2_pubsub.specs.Live.{IsSingleValued};
-
-use iox2_fixtures::{Reading, Station, factory_for, next_reading, publish, settings};
+use crate::fixtures::{next_reading, publisher_of, sent};
+use iox2_fixtures::{Reading, Station, settings};
 use iox2_pubsub::Domain;
 use iox2_store::ServiceConfig;
 use std::alloc::Global;
 use std::process::Abort;
 
 // A domain in which a publisher remembers so many messages.
-fn remembering(rt: &impl Abort, alloc: Global, history_size: usize) -> Domain<Reading, Station>
-    ensures { IsSingleValued result }
-{
+fn remembering(rt: &impl Abort, alloc: Global, history_size: usize) -> Domain<Reading, Station> {
     let config = ServiceConfig {
         history_size,
         ..settings()
@@ -25,18 +22,17 @@ fn late_readings(
     buffer: usize,
 ) -> [Option<u64>; 3] {
     let mut domain = remembering(rt, alloc, history_size);
-    let factory = factory_for(&domain);
-    let publisher = factory.create(&mut domain).expect(rt, "a publisher");
-    publish(&mut domain, &publisher, 21);
-    publish(&mut domain, &publisher, 22);
-    publish(&mut domain, &publisher, 23);
+    let publisher = publisher_of(rt, &mut domain);
+    sent(rt, &mut domain, &publisher, 21);
+    sent(rt, &mut domain, &publisher, 22);
+    sent(rt, &mut domain, &publisher, 23);
     let factory = domain.subscriber_builder().buffer_size(buffer);
     let subscriber = factory.create(&mut domain).expect(rt, "a subscriber");
-    publish(&mut domain, &publisher, 24);
+    sent(rt, &mut domain, &publisher, 24);
     publisher.disown();
-    let first = next_reading(&mut domain, &subscriber).expect(rt, "an answer");
-    let second = next_reading(&mut domain, &subscriber).expect(rt, "an answer");
-    let third = next_reading(&mut domain, &subscriber).expect(rt, "an answer");
+    let first = next_reading(rt, &mut domain, &subscriber);
+    let second = next_reading(rt, &mut domain, &subscriber);
+    let third = next_reading(rt, &mut domain, &subscriber);
     subscriber.disown();
     drop(domain);
     [first, second, third]

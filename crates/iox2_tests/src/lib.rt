@@ -1,9 +1,14 @@
-//! Tests of the calls of `iox2_pubsub` on single values, which call its public items as a user does.
-//! It holds nothing else: a crate with tests is proved twice, so the libraries have none.
+//! Tests of the calls of `iox2_pubsub` on single values, on slices and on a caller's own bytes, which call
+//! its public items as a user does. It holds nothing else: a crate with tests is proved twice, so the
+//! libraries have none.
 #![tactic(auto)]
 
 #[cfg(test)]
 mod closes;
+#[cfg(test)]
+mod copies;
+#[cfg(test)]
+mod custom_payloads;
 #[cfg(test)]
 mod degradations;
 #[cfg(test)]
@@ -14,6 +19,8 @@ mod domains;
 mod fixtures;
 #[cfg(test)]
 mod histories;
+#[cfg(test)]
+mod in_place;
 #[cfg(test)]
 mod loans;
 #[cfg(test)]
@@ -26,6 +33,10 @@ mod questions;
 mod samples;
 #[cfg(test)]
 mod sends;
+#[cfg(test)]
+mod slice_fixtures;
+#[cfg(test)]
+mod slices;
 #[cfg(test)]
 mod stays;
 #[cfg(test)]

@@ -1,8 +1,8 @@
 ghost use Rattle.std.specs.Prelude.{◌≡◌, ℕ, [], ◌∷◌};
 ghost use Rattle.iox2_pubsub.specs.Live.{IsLiveSample, IsLiveSubscriber, IsSingleValued, IsUnwrittenLoan, StaysBut, Stays, unwritten_loan};
 
-use crate::fixtures::{domain, lend};
-use iox2_fixtures::{Reading, Station, factory_for, publish};
+use crate::fixtures::{domain, lend, publisher_of, subscriber_of};
+use iox2_fixtures::{Reading, Station, publish};
 use iox2_pubsub::{Domain, Sample, SampleMutUninit, Subscriber};
 
 // Writes into the loan, and returns what is read of it then: what was written.
@@ -81,10 +81,8 @@ fn what_is_written_is_read(rt: HostRuntime) {
 #[test]
 fn a_sample_reads_the_same_after_another_receive(rt: HostRuntime) {
     let mut domain = domain(&rt, rt.alloc());
-    let factory = domain.subscriber_builder();
-    let subscriber = factory.create(&mut domain).expect(&rt, "a subscriber");
-    let factory = factory_for(&domain);
-    let publisher = factory.create(&mut domain).expect(&rt, "a publisher");
+    let subscriber = subscriber_of(&rt, &mut domain);
+    let publisher = publisher_of(&rt, &mut domain);
     publish(&mut domain, &publisher, 21);
     publish(&mut domain, &publisher, 22);
     publisher.disown();

@@ -1,4 +1,4 @@
-use crate::fixtures::domain;
+use crate::fixtures::{domain, publisher_of};
 use iox2_fixtures::{Reading, Station, factory_for};
 use iox2_pubsub::Domain;
 use iox2_store::{Key, PublisherCreateError};
@@ -45,8 +45,7 @@ fn slots_that_cannot_be_had_are_refused_and_use_up_no_id(rt: HostRuntime) {
         refusal(&mut domain, usize::MAX),
         refusal(&mut domain, usize::MAX / 2),
     ];
-    let factory = factory_for(&domain);
-    let publisher = factory.create(&mut domain).expect(&rt, "a publisher");
+    let publisher = publisher_of(&rt, &mut domain);
     let id = publisher.id().value();
     publisher.disown();
     drop(domain);

@@ -1,38 +1,24 @@
-ghost use Rattle.std.specs.Prelude.{IfSome};
-ghost use Rattle.iox2_pubsub.specs.Live.{IsLiveSample, IsLiveSubscriber, IsSingleValued, Stays};
-
-use crate::fixtures::domain;
-use iox2_fixtures::{Reading, Station, factory_for, publish, settings};
+use crate::fixtures::{
+    assert_borrowed, celsius_of, domain, publisher_of, received, release, sent, subscriber_of,
+};
+use iox2_fixtures::{Reading, Station, settings};
 use iox2_pubsub::{Domain, Sample, Subscriber};
-use iox2_store::ServiceConfig;
+use iox2_store::{Header, ServiceConfig};
 use std::process::Abort;
 
 // A subscriber for which a message waits.
-fn subscribed(rt: &impl Abort, domain: &mut Domain<Reading, Station>) -> Subscriber
-    requires { IsSingleValued domain.old }
-    ensures subscriber { IsLiveSubscriber domain.new result }
-    ensures stays { Stays domain.old domain.new }
-{
-    let factory = domain.subscriber_builder();
-    let subscriber = factory.create(domain).expect(rt, "a subscriber");
-    let factory = factory_for(domain);
-    let publisher = factory.create(domain).expect(rt, "a publisher");
-    publish(domain, &publisher, 21);
+fn subscribed(rt: &impl Abort, domain: &mut Domain<Reading, Station>) -> Subscriber {
+    let subscriber = subscriber_of(rt, domain);
+    let publisher = publisher_of(rt, domain);
+    sent(rt, domain, &publisher, 21);
     publisher.disown();
     subscriber
 }
 
-// What the subscriber receives next.
-fn received(
-    rt: &impl Abort,
-    domain: &mut Domain<Reading, Station>,
-    subscriber: &Subscriber,
-) -> Option<Sample>
-    requires { IsLiveSubscriber domain.old subscriber.now }
-    ensures sample { IfSome result (IsLiveSample domain.new) }
-    ensures stays { Stays domain.old domain.new }
-{
-    subscriber.receive(domain).expect(rt, "an answer")
+// The sample's header.
+fn header_of(rt: &impl Abort, domain: &Domain<Reading, Station>, sample: &Sample) -> Header {
+    assert_borrowed(rt, domain, sample);
+    *sample.header(domain)
 }
 
 #[test]
@@ -41,8 +27,8 @@ fn a_sent_message_is_received_and_read(rt: HostRuntime) {
     let subscriber = subscribed(&rt, &mut domain);
     let sample = received(&rt, &mut domain, &subscriber).expect(&rt, "a sample");
     subscriber.disown();
-    let celsius = sample.payload(&domain).celsius;
-    let header = *sample.header(&domain);
+    let celsius = celsius_of(&rt, &domain, &sample);
+    let header = header_of(&rt, &domain, &sample);
     let origins = [sample.origin().value(), header.publisher_id.value()];
     sample.disown();
     drop(domain);
@@ -89,7 +75,7 @@ fn a_sample_is_released(rt: HostRuntime) {
     let sample = received(&rt, &mut domain, &subscriber).expect(&rt, "a sample");
     let key = sample.key();
     let before = domain.holds_sample(key);
-    sample.release(&mut domain);
+    release(&rt, &mut domain, sample);
     let after = domain.holds_sample(key);
     let is_last = match received(&rt, &mut domain, &subscriber) {
         Some(second) => {

@@ -1,5 +1,5 @@
-use crate::fixtures::{domain, lend};
-use iox2_fixtures::{Reading, factory_for, publish, receiver_count};
+use crate::fixtures::{domain, lend, publisher_of, sent};
+use iox2_fixtures::{Reading, receiver_count};
 
 #[test]
 fn a_message_without_subscribers_goes_to_nobody(rt: HostRuntime) {
@@ -20,12 +20,10 @@ fn a_full_subscriber_does_not_get_the_next_message(rt: HostRuntime) {
     let factory = domain.subscriber_builder().buffer_size(1);
     let subscriber = factory.create(&mut domain).expect(&rt, "a subscriber");
     subscriber.disown();
-    let factory = factory_for(&domain);
-    let publisher = factory.create(&mut domain).expect(&rt, "a publisher");
-    let first = publish(&mut domain, &publisher, 20);
-    let second = publish(&mut domain, &publisher, 21);
+    let publisher = publisher_of(&rt, &mut domain);
+    let first = sent(&rt, &mut domain, &publisher, 20);
+    let second = sent(&rt, &mut domain, &publisher, 21);
     publisher.disown();
     drop(domain);
-    assert!(rt; first == Some(1));
-    assert!(rt; second == Some(0));
+    assert!(rt; [first, second] == [1, 0]);
 }

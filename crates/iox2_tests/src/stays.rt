@@ -2,7 +2,7 @@
 ghost use Rattle.std.specs.Prelude.{◌≡◌, true};
 ghost use Rattle.iox2_pubsub.specs.Live.{HasLender, IsLivePublisher, IsLiveSample, IsLiveSubscriber, IsSingleValued, IsUnwrittenLoan, Stays, StaysBut, unwritten_key, unwritten_loan};
 
-use crate::fixtures::domain;
+use crate::fixtures::{domain, publisher_of, subscriber_of};
 use iox2_fixtures::{Reading, Station, factory_for, publish};
 use iox2_pubsub::{
     ConnectionFailure, Domain, Publisher, Sample, SampleMutUninit, ServiceConfig, Subscriber,
@@ -41,8 +41,7 @@ fn send_once(domain: &mut Domain<Reading, Station>, celsius: u64) -> Option<usiz
 #[test]
 fn a_publisher_comes_sends_and_goes(rt: HostRuntime) {
     let mut domain = domain(&rt, rt.alloc());
-    let factory = domain.subscriber_builder();
-    let subscriber = factory.create(&mut domain).expect(&rt, "a subscriber");
+    let subscriber = subscriber_of(&rt, &mut domain);
     let takers = [
         send_once(&mut domain, 20),
         send_once(&mut domain, 21),
@@ -144,10 +143,8 @@ fn receive_and_close(
 #[test]
 fn what_is_read_stays(rt: HostRuntime) {
     let mut domain = domain(&rt, rt.alloc());
-    let factory = domain.subscriber_builder();
-    let subscriber = factory.create(&mut domain).expect(&rt, "a subscriber");
-    let factory = factory_for(&domain);
-    let publisher = factory.create(&mut domain).expect(&rt, "a publisher");
+    let subscriber = subscriber_of(&rt, &mut domain);
+    let publisher = publisher_of(&rt, &mut domain);
     let loan = publisher.loan_uninit(&mut domain).expect(&rt, "a loan");
     let updated = read_loan_twice(&mut domain, &publisher, &loan);
     loan.discard(&mut domain);

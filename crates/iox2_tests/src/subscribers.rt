@@ -1,5 +1,5 @@
-use crate::fixtures::domain;
-use iox2_fixtures::{Reading, Station, factory_for};
+use crate::fixtures::{domain, publisher_of, subscriber_of};
+use iox2_fixtures::{Reading, Station};
 use iox2_pubsub::Domain;
 use iox2_store::{Key, SubscriberCreateError};
 
@@ -27,8 +27,7 @@ fn refusal(
 #[test]
 fn a_subscriber_has_the_first_id_and_the_largest_buffer(rt: HostRuntime) {
     let mut domain = domain(&rt, rt.alloc());
-    let factory = domain.subscriber_builder();
-    let subscriber = factory.create(&mut domain).expect(&rt, "a subscriber");
+    let subscriber = subscriber_of(&rt, &mut domain);
     let id = subscriber.id().value();
     let buffer_size = subscriber.buffer_size();
     let key = subscriber.key();
@@ -43,8 +42,7 @@ fn a_subscriber_has_the_first_id_and_the_largest_buffer(rt: HostRuntime) {
 fn a_domain_holds_its_subscriber_alone(rt: HostRuntime) {
     let mut domain = domain(&rt, rt.alloc());
     let before = domain.holds_subscriber(FIRST);
-    let factory = domain.subscriber_builder();
-    let subscriber = factory.create(&mut domain).expect(&rt, "a subscriber");
+    let subscriber = subscriber_of(&rt, &mut domain);
     subscriber.disown();
     let elsewhere = Key {
         service_id: 8,
@@ -80,8 +78,7 @@ fn a_buffer_of_none_is_one_of_one(rt: HostRuntime) {
 fn a_refused_subscriber_uses_up_no_id(rt: HostRuntime) {
     let mut domain = domain(&rt, rt.alloc());
     let first = refusal(&mut domain, 3);
-    let factory = domain.subscriber_builder();
-    let subscriber = factory.create(&mut domain).expect(&rt, "a subscriber");
+    let subscriber = subscriber_of(&rt, &mut domain);
     let id = subscriber.id().value();
     subscriber.disown();
     let second = refusal(&mut domain, 2);
@@ -96,12 +93,10 @@ fn a_refused_subscriber_uses_up_no_id(rt: HostRuntime) {
 #[test]
 fn ports_of_both_sides_share_their_ids(rt: HostRuntime) {
     let mut domain = domain(&rt, rt.alloc());
-    let factory = factory_for(&domain);
-    let publisher = factory.create(&mut domain).expect(&rt, "a publisher");
+    let publisher = publisher_of(&rt, &mut domain);
     let published = publisher.key();
     publisher.disown();
-    let factory = domain.subscriber_builder();
-    let subscriber = factory.create(&mut domain).expect(&rt, "a subscriber");
+    let subscriber = subscriber_of(&rt, &mut domain);
     let subscribed = subscriber.key();
     subscriber.disown();
     let publishers = [

@@ -1,7 +1,7 @@
 ghost use Rattle.iox2_pubsub.specs.Live.{Stays};
 
-use crate::fixtures::domain;
-use iox2_fixtures::{Reading, Station, factory_for, publish};
+use crate::fixtures::{domain, publisher_of, subscriber_of};
+use iox2_fixtures::{Reading, Station, publish};
 use iox2_pubsub::{BackpressureFn, ConnectionFailure, DegradationFn, Domain, UpdateConnections};
 
 // Updates a port of either kind.
@@ -31,10 +31,8 @@ fn update_twice<F: BackpressureFn, G: DegradationFn, P: UpdateConnections<Readin
 #[test]
 fn ports_of_both_kinds_are_updated(rt: HostRuntime) {
     let mut domain = domain(&rt, rt.alloc());
-    let factory = factory_for(&domain);
-    let publisher = factory.create(&mut domain).expect(&rt, "a publisher");
-    let factory = domain.subscriber_builder();
-    let subscriber = factory.create(&mut domain).expect(&rt, "a subscriber");
+    let publisher = publisher_of(&rt, &mut domain);
+    let subscriber = subscriber_of(&rt, &mut domain);
     let first = update(&mut domain, &publisher);
     let second = update(&mut domain, &subscriber);
     let again = update_twice(&mut domain, &publisher);

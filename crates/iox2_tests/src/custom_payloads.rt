@@ -2,8 +2,8 @@
 ghost use Rattle.std.specs.Prelude.{◌≡◌};
 ghost use Rattle.iox2_store.specs.declared.service_config.TypeVariant.TheVariants.{Dynamic};
 
-use crate::fixtures::slice_factory;
-use iox2_fixtures::{receiver_count, settings};
+use crate::slice_fixtures::{assert_live, send_slice, slice_publisher, slice_subscriber};
+use iox2_fixtures::settings;
 use iox2_pubsub::{CustomHeaderMarker, CustomPayloadMarker, Domain};
 use iox2_store::{LoanError, ServiceConfig, TypeVariant};
 
@@ -24,10 +24,8 @@ fn an_element_has_many_bytes(rt: HostRuntime) {
         rt.alloc(),
         bytes(),
     ).expect(&rt, "a domain");
-    let factory = domain.slice_subscriber_builder();
-    let subscriber = factory.create(&mut domain).expect(&rt, "a subscriber");
-    let factory = slice_factory(&domain).initial_max_slice_len(3);
-    let publisher = factory.create(&mut domain).expect(&rt, "a publisher");
+    let subscriber = slice_subscriber(&rt, &mut domain);
+    let publisher = slice_publisher(&rt, &mut domain, 3);
     let longer = publisher.loan_custom_payload(&mut domain, 4);
     let longer = longer.map(|loan| loan.disown());
     let loan = publisher.loan_custom_payload(&mut domain, 3);
@@ -36,7 +34,8 @@ fn an_element_has_many_bytes(rt: HostRuntime) {
     let cells = loan.payload(&domain).len();
     let elements = loan.header(&domain).number_of_elements();
     let message = loan.write_from_fn(&mut domain, |index| CustomPayloadMarker(low_byte(index)));
-    let takers = message.send(&mut domain).ok().and_then(receiver_count);
+    let takers = send_slice(&rt, &mut domain, message);
+    assert_live(&rt, &domain, &subscriber);
     let received = subscriber.receive_custom_payload(&mut domain);
     let sample = received.expect(&rt, "an answer").expect(&rt, "a sample");
     subscriber.disown();
@@ -51,7 +50,7 @@ fn an_element_has_many_bytes(rt: HostRuntime) {
     assert!(rt; longer == Err(LoanError::ExceedsMaxLoanSize));
     assert!(rt; cells == 120);
     assert!(rt; elements == 3);
-    assert!(rt; takers == Some(1));
+    assert!(rt; takers == 1);
     assert!(rt; ends == [Some(0), Some(119)]);
     assert!(rt; bytes == 120);
 }

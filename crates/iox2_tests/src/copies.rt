@@ -1,4 +1,5 @@
 //! Values that are lent or sent at once.
+use crate::fixtures::{assert_single_valued, publisher_of, receive, send, subscriber_of};
 use iox2_fixtures::{Reading, Station, factory_for, receiver_count, settings};
 use iox2_pubsub::{Domain, LoanError, SendError};
 use iox2_store::ServiceConfig;
@@ -12,15 +13,13 @@ fn a_value_is_sent_and_received(rt: HostRuntime) {
     let mut domain: Domain<Reading, Station> = Domain::new(rt.alloc(), config).expect(
         &rt, "a domain",
     );
-    let factory = domain.subscriber_builder();
-    let subscriber = factory.create(&mut domain).expect(&rt, "a subscriber");
-    let factory = factory_for(&domain);
-    let publisher = factory.create(&mut domain).expect(&rt, "a publisher");
+    let subscriber = subscriber_of(&rt, &mut domain);
+    let publisher = publisher_of(&rt, &mut domain);
     let ids = [subscriber.id().value(), publisher.id().value()];
+    assert_single_valued(&rt, &domain);
     let sent = publisher.send_copy(&mut domain, Reading { celsius: 4 });
     publisher.disown();
-    let received = subscriber.receive(&mut domain).expect(&rt, "an answer");
-    let sample = received.expect(&rt, "a sample");
+    let sample = receive(&rt, &mut domain, &subscriber);
     subscriber.disown();
     let celsius = sample.payload(&domain).celsius;
     let header = *sample.header(&domain);
@@ -42,6 +41,7 @@ fn a_default_value_is_lent_and_sent(rt: HostRuntime) {
     );
     let factory = factory_for(&domain).max_loaned_samples(1);
     let publisher = factory.create(&mut domain).expect(&rt, "a publisher");
+    assert_single_valued(&rt, &domain);
     let message = publisher.loan(&mut domain).expect(&rt, "a loan");
     let numbers = [
         message.payload(&domain).number,
@@ -56,11 +56,11 @@ fn a_default_value_is_lent_and_sent(rt: HostRuntime) {
     };
     let unsent = publisher.send_copy(&mut domain, Station { number: 3 });
     publisher.disown();
-    let sent = message.send(&mut domain);
+    let takers = send(&rt, &mut domain, message);
     drop(domain);
     assert!(rt; numbers == [0, 0]);
     assert!(rt; refused == Some(LoanError::ExceedsMaxLoans));
     let refusal = SendError::LoanError(LoanError::ExceedsMaxLoans);
     assert!(rt; unsent.map(receiver_count) == Err(refusal));
-    assert!(rt; sent.map(receiver_count) == Ok(Some(0)));
+    assert!(rt; takers == 0);
 }

@@ -3,10 +3,13 @@ ghost use Rattle.std.specs.Prelude.{◌≡◌, false};
 ghost use Rattle.iox2_store.specs.Defaults.{default_config};
 ghost use Rattle.iox2_store.specs.declared.service_config.TypeVariant.TheVariants.{Dynamic};
 ghost use Rattle.iox2_pubsub.specs.Slices.{IsSliced};
-ghost use Rattle.iox2_pubsub.specs.Live.{IsLivePublisher, IsLiveSubscriber, IsUnwrittenLoan, IsWrittenLoan, Stays, StaysBut, unwritten_loan};
+ghost use Rattle.iox2_pubsub.specs.Live.{IsUnwritten, IsWritten, Stays};
 
-use crate::fixtures::slice_factory;
-use iox2_fixtures::{receiver_count, settings};
+use crate::slice_fixtures::{
+    assert_live, assert_ready, assert_sliced, close_publisher, close_subscriber, lend_defaults,
+    lend_slice, receive_slice, send_slice, slice_factory, slice_publisher, slice_subscriber,
+};
+use iox2_fixtures::settings;
 use iox2_pubsub::slice::{Publisher, SampleMut, SampleMutUninit, Subscriber};
 use iox2_pubsub::{DegradationHandler, Domain, UpdateConnections};
 use iox2_store::{DegradationAction, LoanError, PublisherCreateError, ServiceConfig, TypeVariant};
@@ -40,13 +43,8 @@ fn read_next(
     domain: &mut Domain<u64, u64>,
     subscriber: &Subscriber,
     written: &[u64],
-) -> (bool, u64)
-    requires sliced { IsSliced domain.old }
-    requires live { IsLiveSubscriber domain.old subscriber.now.subscriber }
-    ensures { Stays domain.old domain.new }
-{
-    let received = subscriber.receive(domain).expect(rt, "an answer");
-    let sample = received.expect(rt, "a sample");
+) -> (bool, u64) {
+    let sample = receive_slice(rt, domain, subscriber);
     let is_read = sample.payload(domain) == written;
     let elements = sample.header(domain).number_of_elements();
     sample.release(domain);
@@ -58,21 +56,19 @@ fn a_slice_is_sent_as_it_was_written(rt: HostRuntime) {
     let mut domain: Domain<u64, u64> = Domain::new(rt.alloc(), slices()).expect(&rt, "a domain");
     let factory = domain.slice_subscriber_builder().buffer_size(2);
     let subscriber = factory.create(&mut domain).expect(&rt, "a subscriber");
-    let factory = slice_factory(&domain).initial_max_slice_len(16);
-    let publisher = factory.create(&mut domain).expect(&rt, "a publisher");
-    let loan = publisher.loan_slice_uninit(&mut domain, 12);
-    let loan = loan.expect(&rt, "a loan");
+    let publisher = slice_publisher(&rt, &mut domain, 16);
+    let loan = lend_slice(&rt, &mut domain, &publisher, 12);
     let mut message = loan.write_from_fn(&mut domain, |index| (index as u64).wrapping_mul(1234));
     set(SampleMut::payload_mut(&mut domain, &mut message), 0, 42);
-    let takers = message.send(&mut domain).ok().and_then(receiver_count);
+    let takers = send_slice(&rt, &mut domain, message);
     let written = [
         42, 1234, 2468, 3702, 4936, 6170, 7404, 8638, 9872, 11106, 12340, 13574,
     ];
     let (is_read, elements) = read_next(&rt, &mut domain, &subscriber, written.as_slice());
-    publisher.close(&mut domain);
-    subscriber.close(&mut domain);
+    close_publisher(&rt, &mut domain, publisher);
+    close_subscriber(&rt, &mut domain, subscriber);
     drop(domain);
-    assert!(rt; takers == Some(1));
+    assert!(rt; takers == 1);
     assert!(rt; is_read);
     assert!(rt; elements == 12);
 }
@@ -80,23 +76,19 @@ fn a_slice_is_sent_as_it_was_written(rt: HostRuntime) {
 #[test]
 fn a_slice_is_copied_into_its_loan(rt: HostRuntime) {
     let mut domain: Domain<u64, u64> = Domain::new(rt.alloc(), slices()).expect(&rt, "a domain");
-    let factory = domain.slice_subscriber_builder();
-    let subscriber = factory.create(&mut domain).expect(&rt, "a subscriber");
-    let factory = slice_factory(&domain).initial_max_slice_len(16);
-    let publisher = factory.create(&mut domain).expect(&rt, "a publisher");
-    let loan = publisher.loan_slice_uninit(&mut domain, 4);
-    let loan = loan.expect(&rt, "a loan");
+    let subscriber = slice_subscriber(&rt, &mut domain);
+    let publisher = slice_publisher(&rt, &mut domain, 16);
+    let loan = lend_slice(&rt, &mut domain, &publisher, 4);
     publisher.disown();
     let message = loan.write_from_slice(&mut domain, &[1, 2, 3, 4]);
-    let takers = message.send(&mut domain).ok().and_then(receiver_count);
-    let received = subscriber.receive(&mut domain).expect(&rt, "an answer");
-    let sample = received.expect(&rt, "a sample");
+    let takers = send_slice(&rt, &mut domain, message);
+    let sample = receive_slice(&rt, &mut domain, &subscriber);
     subscriber.disown();
     let is_read = sample.payload(&domain) == [1, 2, 3, 4].as_slice();
     let elements = sample.header(&domain).number_of_elements();
     sample.disown();
     drop(domain);
-    assert!(rt; takers == Some(1));
+    assert!(rt; takers == 1);
     assert!(rt; is_read);
     assert!(rt; elements == 4);
 }
@@ -104,10 +96,8 @@ fn a_slice_is_copied_into_its_loan(rt: HostRuntime) {
 #[test]
 fn a_slice_has_default_values(rt: HostRuntime) {
     let mut domain: Domain<u64, u64> = Domain::new(rt.alloc(), slices()).expect(&rt, "a domain");
-    let factory = slice_factory(&domain).initial_max_slice_len(16);
-    let publisher = factory.create(&mut domain).expect(&rt, "a publisher");
-    let message = publisher.loan_slice(&mut domain, 5);
-    let mut message = message.expect(&rt, "a loan");
+    let publisher = slice_publisher(&rt, &mut domain, 16);
+    let mut message = lend_defaults(&rt, &mut domain, &publisher, 5);
     publisher.disown();
     set(SampleMut::payload_mut(&mut domain, &mut message), 2, 42);
     let is_read = message.payload(&domain) == [0, 0, 42, 0, 0].as_slice();
@@ -118,15 +108,15 @@ fn a_slice_has_default_values(rt: HostRuntime) {
 
 // How many elements the loan of this length has, which is given back, or why there is none.
 fn lent_length(
+    rt: &impl Abort,
     domain: &mut Domain<Tag, Tag>,
     publisher: &Publisher,
     slice_len: usize,
 ) -> Result<u64, LoanError>
-    requires dynamic { (domain.old.config).variant ≡ Dynamic }
-    requires one_unit { (domain.old.config).units_per_element ≡ 1 }
-    requires publisher { IsLivePublisher domain.old publisher.now.publisher }
     ensures { Stays domain.old domain.new }
 {
+    assert_sliced(rt, domain);
+    assert_ready(rt, domain, publisher);
     let loan = publisher.loan_slice_uninit(domain, slice_len)?;
     let elements = loan.header(domain).number_of_elements();
     loan.discard(domain);
@@ -142,11 +132,11 @@ fn a_loan_may_be_as_long_as_its_publisher_lends(rt: HostRuntime) {
         .create(&mut domain)
         .expect(&rt, "a publisher");
     let lengths = [
-        lent_length(&mut domain, &publisher, 0),
-        lent_length(&mut domain, &publisher, 1),
-        lent_length(&mut domain, &publisher, 16),
-        lent_length(&mut domain, &publisher, 17),
-        lent_length(&mut domain, &publisher, usize::MAX),
+        lent_length(&rt, &mut domain, &publisher, 0),
+        lent_length(&rt, &mut domain, &publisher, 1),
+        lent_length(&rt, &mut domain, &publisher, 16),
+        lent_length(&rt, &mut domain, &publisher, 17),
+        lent_length(&rt, &mut domain, &publisher, usize::MAX),
     ];
     let longest = publisher.initial_max_slice_len();
     publisher.disown();
@@ -164,12 +154,11 @@ fn the_length_is_looked_at_first(rt: HostRuntime) {
         .initial_max_slice_len(16)
         .create(&mut domain)
         .expect(&rt, "a publisher");
-    let only = publisher.loan_slice_uninit(&mut domain, 16);
-    let only = only.expect(&rt, "a loan");
-    let longer = lent_length(&mut domain, &publisher, 17);
-    let permitted = lent_length(&mut domain, &publisher, 16);
+    let only = lend_slice(&rt, &mut domain, &publisher, 16);
+    let longer = lent_length(&rt, &mut domain, &publisher, 17);
+    let permitted = lent_length(&rt, &mut domain, &publisher, 16);
     only.discard(&mut domain);
-    let empty = lent_length(&mut domain, &publisher, 0);
+    let empty = lent_length(&rt, &mut domain, &publisher, 0);
     publisher.disown();
     drop(domain);
     assert!(rt; longer == Err(LoanError::ExceedsMaxLoanSize));
@@ -180,10 +169,8 @@ fn the_length_is_looked_at_first(rt: HostRuntime) {
 #[test]
 fn a_loan_is_taken_as_written_once_each_cell_is(rt: HostRuntime) {
     let mut domain: Domain<Tag, Tag> = Domain::new(rt.alloc(), slices()).expect(&rt, "a domain");
-    let factory = slice_factory(&domain).initial_max_slice_len(2);
-    let publisher = factory.create(&mut domain).expect(&rt, "a publisher");
-    let loan = publisher.loan_slice_uninit(&mut domain, 2);
-    let mut loan = loan.expect(&rt, "a loan");
+    let publisher = slice_publisher(&rt, &mut domain, 2);
+    let mut loan = lend_slice(&rt, &mut domain, &publisher, 2);
     publisher.disown();
     fill(SampleMutUninit::payload_mut(&mut domain, &mut loan), 0, 5);
     let mut loan = handed_back(&rt, &mut domain, loan);
@@ -201,9 +188,10 @@ fn handed_back(
     domain: &mut Domain<Tag, Tag>,
     loan: SampleMutUninit,
 ) -> SampleMutUninit
-    requires { IsUnwrittenLoan domain.old loan.sample }
-    ensures same { result.sample ≡ loan.sample }
-    ensures unchanged { domain.new ≡ domain.old }
+    requires loan { IsUnwritten domain.old loan.sample }
+    requires sliced { IsSliced domain.old }
+    ensures loan { IsUnwritten domain.new result.sample }
+    ensures sliced { IsSliced domain.new }
 {
     match loan.assume_init(domain) {
         Ok(message) => {
@@ -216,9 +204,10 @@ fn handed_back(
 
 // The loan that is taken as written.
 fn taken(rt: &impl Abort, domain: &mut Domain<Tag, Tag>, loan: SampleMutUninit) -> SampleMut
-    requires { IsUnwrittenLoan domain.old loan.sample }
-    ensures live { IsWrittenLoan domain.new result.sample }
-    ensures stays { StaysBut (unwritten_loan loan.sample) domain.old domain.new }
+    requires loan { IsUnwritten domain.old loan.sample }
+    requires sliced { IsSliced domain.old }
+    ensures message { IsWritten domain.new result.sample }
+    ensures sliced { IsSliced domain.new }
 {
     match loan.assume_init(domain) {
         Ok(message) => message,
@@ -241,35 +230,49 @@ fn total(tags: &[Tag]) -> u64 {
     tags.iter().fold(0, |sum: u64, tag| sum.wrapping_add(tag.0))
 }
 
+// Updates both ports. Whether each was.
+fn update_both(
+    rt: &impl Abort,
+    domain: &mut Domain<Tag, Tag>,
+    publisher: &Publisher,
+    subscriber: &Subscriber,
+) -> [bool; 2] {
+    assert_ready(rt, domain, publisher);
+    let first = publisher.update_connections(domain).is_ok();
+    assert_live(rt, domain, subscriber);
+    let second = subscriber.update_connections(domain).is_ok();
+    [first, second]
+}
+
+// Whether messages wait for the subscriber.
+fn waits(rt: &impl Abort, domain: &mut Domain<Tag, Tag>, subscriber: &Subscriber) -> bool {
+    assert_live(rt, domain, subscriber);
+    subscriber.has_samples(domain).expect(rt, "an answer")
+}
+
 #[test]
 fn ports_of_slices_have_the_calls_of_ports(rt: HostRuntime) {
     let mut domain: Domain<Tag, Tag> = Domain::new(rt.alloc(), slices()).expect(&rt, "a domain");
-    let factory = domain.slice_subscriber_builder();
-    let subscriber = factory.create(&mut domain).expect(&rt, "a subscriber");
-    let factory = slice_factory(&domain);
-    let publisher = factory.create(&mut domain).expect(&rt, "a publisher");
+    let subscriber = slice_subscriber(&rt, &mut domain);
+    let publisher = slice_publisher(&rt, &mut domain, 1);
     let ids = [publisher.id().value(), subscriber.id().value()];
     let keys = [publisher.key().port, subscriber.key().port];
-    let is_updated = [
-        publisher.update_connections(&mut domain).is_ok(),
-        subscriber.update_connections(&mut domain).is_ok(),
-    ];
-    let before = subscriber.has_samples(&mut domain);
-    let loan = publisher.loan_slice(&mut domain, 1).expect(&rt, "a loan");
-    let takers = loan.send(&mut domain).ok().and_then(receiver_count);
-    let after = subscriber.has_samples(&mut domain);
+    let is_updated = update_both(&rt, &mut domain, &publisher, &subscriber);
+    let before = waits(&rt, &mut domain, &subscriber);
+    let loan = lend_defaults(&rt, &mut domain, &publisher, 1);
+    let takers = send_slice(&rt, &mut domain, loan);
+    let after = waits(&rt, &mut domain, &subscriber);
     let buffer_size = subscriber.buffer_size();
     let publisher = Publisher::new(publisher.into_inner());
     let subscriber = Subscriber::new(subscriber.into_inner());
-    publisher.close(&mut domain);
-    subscriber.close(&mut domain);
+    close_publisher(&rt, &mut domain, publisher);
+    close_subscriber(&rt, &mut domain, subscriber);
     drop(domain);
     assert!(rt; ids == [2, 1]);
     assert!(rt; keys == [2, 1]);
     assert!(rt; is_updated == [true, true]);
-    assert!(rt; before == Ok(false));
-    assert!(rt; takers == Some(1));
-    assert!(rt; after == Ok(true));
+    assert!(rt; [before, after] == [false, true]);
+    assert!(rt; takers == 1);
     assert!(rt; buffer_size == 2);
 }
 
@@ -286,10 +289,8 @@ fn number_at(tags: &[Tag], index: usize) -> Option<u64> {
 #[test]
 fn a_loan_of_a_slice_keeps_what_is_written_into_it(rt: HostRuntime) {
     let mut domain: Domain<Tag, Tag> = Domain::new(rt.alloc(), slices()).expect(&rt, "a domain");
-    let factory = slice_factory(&domain).initial_max_slice_len(3);
-    let publisher = factory.create(&mut domain).expect(&rt, "a publisher");
-    let loan = publisher.loan_slice_uninit(&mut domain, 3);
-    let mut loan = loan.expect(&rt, "a loan");
+    let publisher = slice_publisher(&rt, &mut domain, 3);
+    let mut loan = lend_slice(&rt, &mut domain, &publisher, 3);
     publisher.disown();
     fill(SampleMutUninit::payload_mut(&mut domain, &mut loan), 1, 5);
     *SampleMutUninit::user_header_mut(&mut domain, &mut loan) = Tag(6);
@@ -313,30 +314,26 @@ fn a_loan_of_a_slice_keeps_what_is_written_into_it(rt: HostRuntime) {
 #[test]
 fn a_slice_of_values_without_copies_is_received_as_it_was_left(rt: HostRuntime) {
     let mut domain: Domain<Tag, Tag> = Domain::new(rt.alloc(), slices()).expect(&rt, "a domain");
-    let factory = domain.slice_subscriber_builder();
-    let subscriber = factory.create(&mut domain).expect(&rt, "a subscriber");
-    let factory = slice_factory(&domain).initial_max_slice_len(2);
-    let publisher = factory.create(&mut domain).expect(&rt, "a publisher");
-    let loan = publisher.loan_slice(&mut domain, 2);
-    let mut message = loan.expect(&rt, "a loan");
+    let subscriber = slice_subscriber(&rt, &mut domain);
+    let publisher = slice_publisher(&rt, &mut domain, 2);
+    let mut message = lend_defaults(&rt, &mut domain, &publisher, 2);
     publisher.disown();
     *SampleMut::user_header_mut(&mut domain, &mut message) = Tag(4);
     if let Some(tag) = SampleMut::payload_mut(&mut domain, &mut message).get_mut(1) {
         *tag = Tag(9);
     }
-    let takers = message.send(&mut domain).ok().and_then(receiver_count);
-    let received = subscriber.receive(&mut domain).expect(&rt, "an answer");
-    let sample = received.expect(&rt, "a sample");
+    let takers = send_slice(&rt, &mut domain, message);
+    let sample = receive_slice(&rt, &mut domain, &subscriber);
     let tags = sample.payload(&domain);
     let read = [number_at(tags, 0), number_at(tags, 1)];
     let header = sample.user_header(&domain).0;
     let elements = sample.header(&domain).number_of_elements();
     let origin = sample.origin().value();
     sample.release(&mut domain);
-    let is_over = subscriber.has_samples(&mut domain) == Ok(false);
+    let is_over = !waits(&rt, &mut domain, &subscriber);
     subscriber.disown();
     drop(domain);
-    assert!(rt; takers == Some(1));
+    assert!(rt; takers == 1);
     assert!(rt; read == [Some(0), Some(9)]);
     assert!(rt; [header, elements] == [4, 2]);
     assert!(rt; origin == 2);
@@ -347,28 +344,24 @@ fn a_slice_of_values_without_copies_is_received_as_it_was_left(rt: HostRuntime) 
 #[test]
 fn loans_and_samples_of_slices_have_keys(rt: HostRuntime) {
     let mut domain: Domain<Tag, Tag> = Domain::new(rt.alloc(), slices()).expect(&rt, "a domain");
-    let factory = domain.slice_subscriber_builder();
-    let subscriber = factory.create(&mut domain).expect(&rt, "a subscriber");
-    let factory = slice_factory(&domain);
-    let publisher = factory.create(&mut domain).expect(&rt, "a publisher");
-    let message = publisher.loan_slice(&mut domain, 1).expect(&rt, "a loan");
+    let subscriber = slice_subscriber(&rt, &mut domain);
+    let publisher = slice_publisher(&rt, &mut domain, 1);
+    let message = lend_defaults(&rt, &mut domain, &publisher, 1);
     let given_back = message.key();
     message.discard(&mut domain);
-    let loan = publisher.loan_slice_uninit(&mut domain, 1);
-    let loan = loan.expect(&rt, "a loan");
+    let loan = lend_slice(&rt, &mut domain, &publisher, 1);
     publisher.disown();
     let unwritten = loan.key();
     let message = loan.write_from_fn(&mut domain, |_| Tag(8));
-    let takers = message.send(&mut domain).ok().and_then(receiver_count);
-    let received = subscriber.receive(&mut domain).expect(&rt, "an answer");
-    let sample = received.expect(&rt, "a sample");
+    let takers = send_slice(&rt, &mut domain, message);
+    let sample = receive_slice(&rt, &mut domain, &subscriber);
     subscriber.disown();
     let borrowed = sample.key();
     sample.disown();
     drop(domain);
     assert!(rt; [given_back.port, given_back.message] == [2, 1]);
     assert!(rt; [unwritten.port, unwritten.message] == [2, 2]);
-    assert!(rt; takers == Some(1));
+    assert!(rt; takers == 1);
     assert!(rt; [borrowed.port, borrowed.message] == [1, 2]);
 }
 
@@ -394,13 +387,12 @@ fn slices_arrive_whatever_a_refused_connection_would_do(rt: HostRuntime) {
         .slice_publisher_builder()
         .set_degradation_handler(handler);
     let publisher = factory.create(&mut domain).expect(&rt, "a publisher");
-    let message = publisher.loan_slice(&mut domain, 1).expect(&rt, "a loan");
-    let sent = message.send(&mut domain).expect(&rt, "a send");
-    let count = receiver_count(sent);
+    let message = lend_defaults(&rt, &mut domain, &publisher, 1);
+    let takers = send_slice(&rt, &mut domain, message);
     let read = read_next(&rt, &mut domain, &subscriber, &[0]);
     publisher.disown();
     subscriber.disown();
     drop(domain);
-    assert!(rt; count == Some(1));
+    assert!(rt; takers == 1);
     assert!(rt; read == (true, 1));
 }
