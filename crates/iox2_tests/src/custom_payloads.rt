@@ -1,11 +1,13 @@
 //! Messages of a caller's own bytes.
 ghost use Rattle.std.specs.Prelude.{◌≡◌};
 ghost use Rattle.iox2_store.specs.declared.service_config.TypeVariant.TheVariants.{Dynamic};
+ghost use Rattle.iox2_pubsub.specs.Slices.{IsSliced};
 
 use crate::slice_fixtures::{assert_live, send_slice, slice_publisher, slice_subscriber};
 use iox2_fixtures::settings;
 use iox2_pubsub::{CustomHeaderMarker, CustomPayloadMarker, Domain};
 use iox2_store::{LoanError, ServiceConfig, TypeVariant};
+use std::process::Abort;
 
 // The settings of a domain of elements of 40 bytes each.
 fn bytes() -> ServiceConfig
@@ -38,6 +40,7 @@ fn an_element_has_many_bytes(rt: HostRuntime) {
     assert_live(&rt, &domain, &subscriber);
     let received = subscriber.receive_custom_payload(&mut domain);
     let sample = received.expect(&rt, "an answer").expect(&rt, "a sample");
+    assert_dynamic(&rt, &domain);
     subscriber.disown();
     let read = sample.payload(&domain);
     let ends = [
@@ -53,6 +56,14 @@ fn an_element_has_many_bytes(rt: HostRuntime) {
     assert!(rt; takers == 1);
     assert!(rt; ends == [Some(0), Some(119)]);
     assert!(rt; bytes == 120);
+}
+
+// Asserts that messages are slices.
+fn assert_dynamic(rt: &impl Abort, domain: &Domain<CustomPayloadMarker, CustomHeaderMarker>)
+    ensures { IsSliced domain.now }
+{
+    let config = domain.config();
+    assert!(rt; matches!(config.variant, TypeVariant::Dynamic));
 }
 
 // The lowest byte of the number.
