@@ -156,17 +156,17 @@ returns-in_err-port-clause-connections g c =
     let made = c.in_err-port.ensures.step in
     let why = c.in_err-port.field-0.0 in
     let shown : Shows (kept_of c.domain.inside.state) it.0 it.1 = subst (λ (kept : Kept g.row.T.Denot g.row.U.Denot g.row.F.Denot). Shows kept it.0 it.1) (sym c.domain.view_is) it.2 in
-    let next = created-shows {T = g.row.T.Denot} {U = g.row.U.Denot} c.domain.inside.state c.create_publisher.new.state c.args.max_loaned_samples c.args.strategy (marks_of c.args.handler) c.args.initial_max_slice_len fixed_handlers it.0 it.1 _ (Some why) shown made.0 made.1 in
-    made-connections {T = g.row.T.Denot} {U = g.row.U.Denot} c.args.domain.now _ it.0 it.0 it.1 _ it.2 next.0 fixed_handlers (static_publisher c.args.max_loaned_samples c.args.strategy (marks_of c.args.handler) c.args.initial_max_slice_len) (Some why) next.1
+    let next = created-shows {T = g.row.T.Denot} {U = g.row.U.Denot} c.domain.inside.state c.create_publisher.new.state (static_publisher c.args.given.now (marks_of c.args.handler)) fixed_handlers it.0 it.1 _ (Some why) shown made.0 made.1 in
+    made-connections {T = g.row.T.Denot} {U = g.row.U.Denot} c.args.domain.now _ it.0 it.0 it.1 _ it.2 next.0 fixed_handlers (static_publisher c.args.given.now (marks_of c.args.handler)) (Some why) next.1
 
 pub returns-clause-connections : goal.returns-clause-connections
 returns-clause-connections g c =
     let it = always-shown {T = g.row.T.Denot} {U = g.row.U.Denot} c.domain.inside.state c.args.domain.now c.domain.invariant c.domain.view_is in
     let step = returns-clause-creates g c it.0 it.1 it.2 in
-    made-connections {T = g.row.T.Denot} {U = g.row.U.Denot} c.args.domain.now _ it.0 it.0 it.1 step.0 it.2 step.1 fixed_handlers (static_publisher c.args.max_loaned_samples c.args.strategy (marks_of c.args.handler) c.args.initial_max_slice_len) None (step.2).1
+    made-connections {T = g.row.T.Denot} {U = g.row.U.Denot} c.args.domain.now _ it.0 it.0 it.1 step.0 it.2 step.1 fixed_handlers (static_publisher c.args.given.now (marks_of c.args.handler)) None (step.2).1
 
 pub returns-clause-connects : goal.returns-clause-connects
 returns-clause-connects g c =
     let it = always-shown {T = g.row.T.Denot} {U = g.row.U.Denot} c.domain.inside.state c.args.domain.now c.domain.invariant c.domain.view_is in
     let step = returns-clause-creates g c it.0 it.1 it.2 in
-    made-connects {T = g.row.T.Denot} {U = g.row.U.Denot} c.args.domain.now _ it.0 it.0 it.1 step.0 it.2 step.1 fixed_handlers (static_publisher c.args.max_loaned_samples c.args.strategy (marks_of c.args.handler) c.args.initial_max_slice_len) c.in_ok-port.port.id (step.2).0 (step.2).1
+    made-connects {T = g.row.T.Denot} {U = g.row.U.Denot} c.args.domain.now _ it.0 it.0 it.1 step.0 it.2 step.1 fixed_handlers (static_publisher c.args.given.now (marks_of c.args.handler)) c.in_ok-port.port.id (step.2).0 (step.2).1
