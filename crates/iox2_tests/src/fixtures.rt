@@ -48,7 +48,8 @@ pub(crate) fn lend(rt: &impl Abort, domain: &mut Domain<Reading, Station>) -> Sa
     ensures loan { IsUnwrittenLoan domain.new result }
     ensures stays { Stays domain.old domain.new }
 {
-    let publisher = publisher_of(rt, domain);
+    let factory = factory_for(domain);
+    let publisher = factory.create(domain).expect(rt, "a publisher");
     let loan = publisher.loan_uninit(domain).expect(rt, "a loan");
     publisher.disown();
     loan
