@@ -2,7 +2,7 @@
 use crate::error::ModelError;
 use crate::model::{Model, Outcome};
 use crate::ports::when_full;
-use crate::records::Made;
+use crate::records::{Made, Wanted};
 use iox2_commands::{Command, Reply};
 
 impl Model {
@@ -33,13 +33,24 @@ impl Model {
                 loans,
                 strategy,
                 initial_max_slice_len,
+                override_slots,
+                degradation,
                 backpressure,
                 ..
             } => {
-                let full = when_full(strategy, backpressure);
-                self.create_publisher(loans, initial_max_slice_len, full, given)
+                let wanted = Wanted {
+                    loans,
+                    max_slice_len: initial_max_slice_len,
+                    asked_slots: override_slots,
+                    when_full: when_full(strategy, backpressure),
+                    degradation,
+                };
+                self.create_publisher(wanted, given)
             }
-            Command::CreateSubscriber { buffer, .. } => self.create_subscriber(buffer),
+            Command::CreateSubscriber {
+                buffer,
+                degradation,
+            } => self.create_subscriber(buffer, degradation),
             Command::LoanUninit { of } => self.loan_value(of, None),
             Command::Loan { of } => self.loan_value(of, Some(0)),
             Command::LoanSlice { of, len } => self.loan_slice(of, len),
@@ -74,17 +85,16 @@ impl Model {
     }
 
     fn update(&mut self, of: usize) -> Result<Reply<u64, u64>, ModelError> {
-        if let Some(p) = self.unblocked_at(of) {
-            self.update_publisher(p)?;
-            return Ok(Reply::Done);
-        }
-        let Some(q) = self.subscriber_at(of) else {
+        let failure = if let Some(p) = self.unblocked_at(of) {
+            self.update_publisher(p)?
+        } else if let Some(q) = self.subscriber_at(of) {
+            self.update_subscriber(q)?
+        } else {
             return Ok(Reply::Skipped);
         };
-        if self.update_subscriber(q)? {
-            Ok(Reply::Done)
-        } else {
-            Ok(Reply::UpdateRefused(Self::expired_buffer_full()))
+        match failure {
+            None => Ok(Reply::Done),
+            Some(failure) => Ok(Reply::UpdateRefused(failure)),
         }
     }
 }

@@ -27,7 +27,8 @@ impl Model {
         }
     }
 
-    // The written loan is sent. Of a closed publisher it is lost. Else connections are updated first.
+    // The written loan is sent. Of a closed publisher it is lost. Else connections are updated first;
+    // where that fails the loan is given back.
     pub(crate) fn send(&mut self, message: usize) -> Result<Outcome, ModelError> {
         let Some(loan) = self.take_loan(message) else {
             return Err(ModelError::NoRule);
@@ -37,7 +38,11 @@ impl Model {
             let error = SendError::ConnectionBrokenSinceSenderNoLongerExists;
             return Ok((Reply::SendRefused(error), Made::Nothing));
         }
-        self.update_publisher(publisher)?;
+        if let Some(failure) = self.update_publisher(publisher)? {
+            self.return_loan(publisher, message);
+            let error = SendError::ConnectionError(failure);
+            return Ok((Reply::SendRefused(error), Made::Nothing));
+        }
         self.publish(message, loan)?;
         let delivery = Delivery {
             message,

@@ -24,8 +24,7 @@ impl Model {
         }
     }
 
-    // A loan with this in each of its cells, or the refusal. A publisher has a slot for each loan of
-    // its limit.
+    // A loan with this in each of its cells, or the refusal.
     fn grant_loan(
         &mut self,
         p: usize,
@@ -42,6 +41,13 @@ impl Model {
         if publisher.loans.len() >= publisher.max_loaned_samples {
             return Ok(Err(LoanError::ExceedsMaxLoans));
         }
+        let slots = publisher.slots;
+        if self.held_count(p)? >= slots {
+            return Ok(Err(LoanError::OutOfMemory));
+        }
+        let Some(publisher) = self.publisher_mut(p) else {
+            return Err(ModelError::NoRule);
+        };
         publisher.loans.push(message)?;
         let mut cells = Vec::new(self.alloc);
         for _ in 0..len {
@@ -55,6 +61,33 @@ impl Model {
         }))?;
         self.entries.push(None)?;
         Ok(Ok(message))
+    }
+
+    // How many messages and loans have a slot of the publisher's: its loans, its history, and what
+    // waits or is borrowed in the mailboxes that it has an end to.
+    fn held_count(&self, p: usize) -> Result<usize, ModelError> {
+        let Some(publisher) = self.publisher(p) else {
+            return Err(ModelError::NoRule);
+        };
+        let mut is_held = Vec::new(self.alloc);
+        for _ in 0..self.loans.len() {
+            is_held.push(false)?;
+        }
+        mark(&mut is_held, publisher.loans.as_slice());
+        mark(&mut is_held, publisher.history.as_slice());
+        for end in publisher.ends.as_slice() {
+            if let Some(mailbox) = end.and_then(|q| self.mailboxes.get(p, q)) {
+                mark(&mut is_held, mailbox.waiting());
+                mark(&mut is_held, mailbox.borrowed());
+            }
+        }
+        let mut count = 0usize;
+        for held in is_held.as_slice() {
+            if *held {
+                count = count.saturating_add(1);
+            }
+        }
+        Ok(count)
     }
 
     // A loan of a single value with this in its cell is asked for.
@@ -189,5 +222,14 @@ impl Model {
         }
         loan.is_written = true;
         Reply::Done
+    }
+}
+
+// Marks these numbers.
+fn mark(marks: &mut Vec<bool>, numbers: &[usize]) {
+    for number in numbers {
+        if let Some(place) = marks.get_mut(*number) {
+            *place = true;
+        }
     }
 }

@@ -16,6 +16,14 @@ impl Mailbox {
         }
     }
 
+    pub(crate) fn waiting(&self) -> &[usize] {
+        self.waiting.as_slice()
+    }
+
+    pub(crate) fn borrowed(&self) -> &[usize] {
+        self.borrowed.as_slice()
+    }
+
     pub(crate) fn has_data(&self) -> bool {
         !self.waiting.is_empty()
     }

@@ -3,11 +3,10 @@ use crate::mailboxes::Mailboxes;
 use crate::memory::Memory;
 use crate::records::{Delivery, Entry, Loan, Made, Publisher, Subscriber};
 use iox2_commands::Reply;
-use iox2_store::ServiceConfig;
+use iox2_store::{ConnectionFailure, DegradationAction, ServiceConfig, ZeroCopyCreationError};
 use std::alloc::Global;
 
-/// The state of a domain of numbers or slices of numbers, with numbers as user headers, in which
-/// publishers have as many slots as they may need.
+/// The state of a domain of numbers or slices of numbers, with numbers as user headers.
 #[derive(Drop)]
 pub struct Model {
     pub(crate) alloc: Global,
@@ -87,6 +86,17 @@ impl Model {
             self.refused_connections = self.refused_connections.saturating_add(1);
         }
         refuses
+    }
+
+    // The failure of a port's update where a connection was refused memory and this is its answer.
+    pub(crate) fn failure_by(answer: DegradationAction) -> Option<ConnectionFailure> {
+        match answer {
+            DegradationAction::Ignore | DegradationAction::Warn => None,
+            DegradationAction::DegradeAndFail => {
+                let cause = ZeroCopyCreationError::OutOfMemory;
+                Some(ConnectionFailure::FailedToEstablishConnection(cause))
+            }
+        }
     }
 
     /// Whether the command at this position made such a thing, which is still live.

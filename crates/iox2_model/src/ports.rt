@@ -2,11 +2,11 @@
 use crate::error::ModelError;
 use crate::model::{Model, Outcome};
 use crate::places::{free_place, set_place};
-use crate::records::{Made, Publisher, Put, Subscriber};
+use crate::records::{Made, Publisher, Put, Subscriber, Wanted};
 use iox2_commands::Reply;
 use iox2_store::{
-    BackpressureAction, BackpressureStrategy, PublisherCreateError, SubscriberCreateError,
-    TypeVariant, UniquePublisherId, UniqueSubscriberId,
+    BackpressureAction, BackpressureStrategy, DegradationAction, PublisherCreateError,
+    SubscriberCreateError, TypeVariant, UniquePublisherId, UniqueSubscriberId,
 };
 
 impl Model {
@@ -31,16 +31,19 @@ impl Model {
         self.config.max_subscribers.checked_mul(each)
     }
 
-    // A publisher has a slot for each message of the worst case, and room there for its longest loan.
-    // Whether that fits.
-    fn segment_fits(&self, loans: usize, len: usize) -> bool {
-        match self.worst_case(loans) {
-            None => false,
-            Some(slots) => slots
-                .checked_mul(len)
-                .and_then(|elements| elements.checked_mul(self.config.units_per_element))
-                .is_some(),
-        }
+    // A publisher has a slot for each message of the worst case, or as many as are asked for, if
+    // these are fewer, but one at least where it needs one; and room in each for its longest loan.
+    // Nothing where that doesn't fit.
+    fn slots_for(&self, wanted: &Wanted) -> Option<usize> {
+        let worst = self.worst_case(wanted.loans)?;
+        let slots = match wanted.asked_slots {
+            None => worst,
+            Some(0) => worst.min(1),
+            Some(asked) => worst.min(asked),
+        };
+        let elements = slots.checked_mul(self.max_slice_len(wanted.max_slice_len))?;
+        elements.checked_mul(self.config.units_per_element)?;
+        Some(slots)
     }
 
     // The greatest length of a loan, where it is set to that. A single value has the length 1.
@@ -54,24 +57,26 @@ impl Model {
     // A publisher is made at the lowest free place. Where memory is refused, `given` is the reply.
     pub(crate) fn create_publisher(
         &mut self,
-        loans: usize,
-        initial_max_slice_len: usize,
-        when_full: Put,
+        wanted: Wanted,
         given: Option<Reply<u64, u64>>,
     ) -> Result<Outcome, ModelError> {
         let limit = self.config.max_publishers;
         let Some(place) = free_place(limit, self.publisher_places.as_slice()) else {
             return Ok(publisher_refused(PublisherCreateError::ExceedsMaxSupportedPublishers));
         };
-        let len = self.max_slice_len(initial_max_slice_len);
-        if !self.segment_fits(loans, len) {
+        let Some(slots) = self.slots_for(&wanted) else {
             return Ok(publisher_refused(PublisherCreateError::UnableToCreateDataSegment));
-        }
+        };
         if self.memory.refuses() {
             return Ok(publisher_refused(refusal_of(given)));
         }
         let id = self.publishers.len();
-        let publisher = Publisher::new(self.alloc, place, loans, len, when_full);
+        let max_slice_len = self.max_slice_len(wanted.max_slice_len);
+        let wanted = Wanted {
+            max_slice_len,
+            ..wanted
+        };
+        let publisher = Publisher::new(self.alloc, place, slots, &wanted);
         self.publishers.push(Some(publisher))?;
         self.subscribers.push(None)?;
         set_place(&mut self.publisher_places, place, Some(id))?;
@@ -85,6 +90,7 @@ impl Model {
     pub(crate) fn create_subscriber(
         &mut self,
         buffer: Option<usize>,
+        degradation: DegradationAction,
     ) -> Result<Outcome, ModelError> {
         let most = self.buffer_limit();
         let buffer = buffer.unwrap_or(most).max(1);
@@ -101,7 +107,7 @@ impl Model {
             return Ok(subscriber_refused(SubscriberCreateError::FailedToDeployThreadsafetyPolicy));
         }
         let id = self.subscribers.len();
-        let subscriber = Subscriber::new(self.alloc, place, buffer);
+        let subscriber = Subscriber::new(self.alloc, place, buffer, degradation);
         self.subscribers.push(Some(subscriber))?;
         self.publishers.push(None)?;
         set_place(&mut self.subscriber_places, place, Some(id))?;

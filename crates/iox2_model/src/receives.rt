@@ -28,8 +28,8 @@ impl Model {
         let Some(q) = self.subscriber_at(of) else {
             return Ok((Reply::Skipped, Made::Nothing));
         };
-        if !self.update_subscriber(q)? {
-            let error = ReceiveError::ConnectionFailure(Self::expired_buffer_full());
+        if let Some(failure) = self.update_subscriber(q)? {
+            let error = ReceiveError::ConnectionFailure(failure);
             return Ok((Reply::ReceiveRefused(error), Made::Nothing));
         }
         match self.choose_publisher(q, given) {
@@ -105,10 +105,9 @@ impl Model {
         let Some(q) = self.subscriber_at(of) else {
             return Ok(Reply::Skipped);
         };
-        if self.update_subscriber(q)? {
-            Ok(Reply::Has(self.has_any_data(q)))
-        } else {
-            Ok(Reply::UpdateRefused(Self::expired_buffer_full()))
+        match self.update_subscriber(q)? {
+            None => Ok(Reply::Has(self.has_any_data(q))),
+            Some(failure) => Ok(Reply::UpdateRefused(failure)),
         }
     }
 

@@ -1,9 +1,11 @@
+use iox2_store::DegradationAction;
 use std::alloc::Global;
 
 // A publisher that wasn't closed.
 #[derive(Drop)]
 pub(crate) struct Publisher {
     pub(crate) place: usize,
+    pub(crate) slots: usize,
     pub(crate) max_loaned_samples: usize,
     // The greatest length of a loan.
     pub(crate) max_slice_len: usize,
@@ -15,30 +17,40 @@ pub(crate) struct Publisher {
     pub(crate) is_due: bool,
     // What becomes of a message at a full receiver.
     pub(crate) when_full: Put,
+    // What comes of a connection that is refused memory.
+    pub(crate) degradation: DegradationAction,
     // The send that waits for a receiver.
     pub(crate) blocked: Option<Delivery>,
 }
 
 impl Publisher {
-    pub(crate) fn new(
-        alloc: Global,
-        place: usize,
-        max_loaned_samples: usize,
-        max_slice_len: usize,
-        when_full: Put,
-    ) -> Publisher {
+    pub(crate) fn new(alloc: Global, place: usize, slots: usize, wanted: &Wanted) -> Publisher {
         Publisher {
             place,
-            max_loaned_samples,
-            max_slice_len,
+            slots,
+            max_loaned_samples: wanted.loans,
+            max_slice_len: wanted.max_slice_len,
             loans: Vec::new(alloc),
             history: Vec::new(alloc),
             ends: Vec::new(alloc),
             is_due: true,
-            when_full,
+            when_full: wanted.when_full,
+            degradation: wanted.degradation,
             blocked: None,
         }
     }
+}
+
+// What a command says of a publisher.
+#[derive(Clone, Copy)]
+pub(crate) struct Wanted {
+    pub(crate) loans: usize,
+    // The greatest length of a loan.
+    pub(crate) max_slice_len: usize,
+    // So many slots are asked for in place of the worst case.
+    pub(crate) asked_slots: Option<usize>,
+    pub(crate) when_full: Put,
+    pub(crate) degradation: DegradationAction,
 }
 
 // What becomes of a message at a receiver.
@@ -75,10 +87,17 @@ pub(crate) struct Subscriber {
     // Departed publishers that it still has messages of, in order of entry.
     pub(crate) expired: Vec<usize>,
     pub(crate) is_due: bool,
+    // What comes of a connection that is refused memory.
+    pub(crate) degradation: DegradationAction,
 }
 
 impl Subscriber {
-    pub(crate) fn new(alloc: Global, place: usize, buffer: usize) -> Subscriber {
+    pub(crate) fn new(
+        alloc: Global,
+        place: usize,
+        buffer: usize,
+        degradation: DegradationAction,
+    ) -> Subscriber {
         Subscriber {
             is_open: true,
             place,
@@ -86,6 +105,7 @@ impl Subscriber {
             ends: Vec::new(alloc),
             expired: Vec::new(alloc),
             is_due: true,
+            degradation,
         }
     }
 }

@@ -2,44 +2,53 @@
 use crate::error::ModelError;
 use crate::model::Model;
 use crate::places::{occupant, set_place};
+use iox2_store::ConnectionFailure;
 use std::alloc::Global;
 
 impl Model {
-    // The publisher, where it is due, goes over the subscribers' places. That fails for no
-    // publisher: where memory is refused, it is a warning.
-    pub(crate) fn update_publisher(&mut self, p: usize) -> Result<(), ModelError> {
+    // The publisher, where it is due, goes over the subscribers' places. Returns the first failure,
+    // which there is where a connection is refused memory and the publisher's answer fails the call.
+    pub(crate) fn update_publisher(
+        &mut self,
+        p: usize,
+    ) -> Result<Option<ConnectionFailure>, ModelError> {
         let Some(publisher) = self.publisher_mut(p) else {
             return Err(ModelError::NoRule);
         };
         if !publisher.is_due {
-            return Ok(());
+            return Ok(None);
         }
         publisher.is_due = false;
+        let mut first = None;
         for place in 0..self.subscriber_places.len() {
-            self.update_sender_place(p, place)?;
+            let failure = self.update_sender_place(p, place)?;
+            first = first.or(failure);
         }
-        Ok(())
+        Ok(first)
     }
 
     // An end to the subscriber that stands at the place stays, and what waits for it is lost where
     // it is closed. Any other end goes, and one to an open subscriber is made.
-    fn update_sender_place(&mut self, p: usize, place: usize) -> Result<(), ModelError> {
+    fn update_sender_place(
+        &mut self,
+        p: usize,
+        place: usize,
+    ) -> Result<Option<ConnectionFailure>, ModelError> {
         let Some(q) = occupant(self.subscriber_places.as_slice(), place) else {
-            return self.disconnect_sender(p, place);
+            self.disconnect_sender(p, place)?;
+            return Ok(None);
         };
         let is_connected = self.sender_end(p, place) == Some(q);
         match self.receiving_buffer(q) {
-            Some(_) if is_connected => Ok(()),
+            Some(_) if is_connected => {}
             Some(buffer) => {
                 self.disconnect_sender(p, place)?;
-                self.connect_sender(p, place, q, buffer)
+                return self.connect_sender(p, place, q, buffer);
             }
-            None if is_connected => {
-                self.mailboxes.drop_waiting(p, q);
-                Ok(())
-            }
-            None => self.disconnect_sender(p, place),
+            None if is_connected => self.mailboxes.drop_waiting(p, q),
+            None => self.disconnect_sender(p, place)?,
         }
+        Ok(None)
     }
 
     // The subscriber to whose mailbox the publisher's end at the place leads.
@@ -72,20 +81,25 @@ impl Model {
     }
 
     // An end to q is made at the place, and the last messages of the history that the buffer holds
-    // wait there. Where q has no end either, memory may be refused in place of that.
+    // wait there. Where q has no end either, memory may be refused in place of that: the publisher
+    // answers.
     fn connect_sender(
         &mut self,
         p: usize,
         place: usize,
         q: usize,
         buffer: usize,
-    ) -> Result<(), ModelError> {
+    ) -> Result<Option<ConnectionFailure>, ModelError> {
         if !self.has_receiver_end(p, q) && self.refuses_connection() {
-            return Ok(());
+            return Ok(
+                self.publisher(p)
+                    .and_then(|it| Self::failure_by(it.degradation)),
+            );
         }
         self.set_sender_end(p, place, Some(q))?;
         let messages = self.last_messages(p, buffer)?;
-        self.mailboxes.made(p, q)?.set_waiting(messages.as_slice())
+        self.mailboxes.made(p, q)?.set_waiting(messages.as_slice())?;
+        Ok(None)
     }
 
     // The last messages of a publisher's history, at most so many.

@@ -3,6 +3,7 @@
 use crate::error::ModelError;
 use crate::model::Model;
 use crate::places::{occupant, set_place};
+use iox2_store::ConnectionFailure;
 
 // What becomes of a departed publisher.
 #[derive(Clone, Copy)]
@@ -15,28 +16,30 @@ enum Retirement {
 }
 
 impl Model {
-    // The subscriber, where it is due, goes over the publishers' places. Whether that succeeded: it
-    // fails where a departed publisher couldn't be kept among the expired ones.
-    pub(crate) fn update_subscriber(&mut self, q: usize) -> Result<bool, ModelError> {
+    // The subscriber, where it is due, goes over the publishers' places. Returns the first failure,
+    // which there is where a departed publisher couldn't be kept among the expired ones, and where a
+    // connection is refused memory and the subscriber's answer fails the call.
+    pub(crate) fn update_subscriber(
+        &mut self,
+        q: usize,
+    ) -> Result<Option<ConnectionFailure>, ModelError> {
         let Some(subscriber) = self.subscriber_mut(q) else {
             return Err(ModelError::NoRule);
         };
         if !subscriber.is_due {
-            return Ok(true);
+            return Ok(None);
         }
         subscriber.is_due = false;
-        let mut succeeded = true;
+        let mut first = None;
         for place in 0..self.publisher_places.len() {
-            if !self.connect_at_place(q, place)? {
-                succeeded = false;
-            }
+            let failure = self.connect_at_place(q, place)?;
+            first = first.or(failure);
         }
         for place in 0..self.publisher_places.len() {
-            if !self.disconnect_at_place(q, place)? {
-                succeeded = false;
-            }
+            let failure = self.disconnect_at_place(q, place)?;
+            first = first.or(failure);
         }
-        Ok(succeeded)
+        Ok(first)
     }
 
     // The publisher from whose mailbox the subscriber's end at the place leads.
@@ -49,31 +52,43 @@ impl Model {
 
     // At a place where a publisher stands, an end to it stays or is made, after the one that stood
     // there was retired.
-    fn connect_at_place(&mut self, q: usize, place: usize) -> Result<bool, ModelError> {
+    fn connect_at_place(
+        &mut self,
+        q: usize,
+        place: usize,
+    ) -> Result<Option<ConnectionFailure>, ModelError> {
         let Some(p) = occupant(self.publisher_places.as_slice(), place) else {
-            return Ok(true);
+            return Ok(None);
         };
         if let Some(old) = self.receiver_end(q, place) {
             if old == p {
-                return Ok(true);
+                return Ok(None);
             }
-            if !self.retire(q, place, old)? {
-                return Ok(false);
+            if let Some(failure) = self.retire(q, place, old)? {
+                return Ok(Some(failure));
             }
         }
-        if self.has_sender_end(p, q) || !self.refuses_connection() {
-            self.set_receiver_end(q, place, Some(p))?;
+        if !self.has_sender_end(p, q) && self.refuses_connection() {
+            return Ok(
+                self.subscriber(q)
+                    .and_then(|it| Self::failure_by(it.degradation)),
+            );
         }
-        Ok(true)
+        self.set_receiver_end(q, place, Some(p))?;
+        Ok(None)
     }
 
     // At an empty place, the publisher that stood there is retired.
-    fn disconnect_at_place(&mut self, q: usize, place: usize) -> Result<bool, ModelError> {
+    fn disconnect_at_place(
+        &mut self,
+        q: usize,
+        place: usize,
+    ) -> Result<Option<ConnectionFailure>, ModelError> {
         if occupant(self.publisher_places.as_slice(), place).is_some() {
-            return Ok(true);
+            return Ok(None);
         }
         match self.receiver_end(q, place) {
-            None => Ok(true),
+            None => Ok(None),
             Some(old) => self.retire(q, place, old),
         }
     }
@@ -90,8 +105,13 @@ impl Model {
         set_place(&mut subscriber.ends, place, end)
     }
 
-    // The departed publisher leaves the place. Whether it could.
-    fn retire(&mut self, q: usize, place: usize, old: usize) -> Result<bool, ModelError> {
+    // The departed publisher leaves the place, or that fails.
+    fn retire(
+        &mut self,
+        q: usize,
+        place: usize,
+        old: usize,
+    ) -> Result<Option<ConnectionFailure>, ModelError> {
         let retirement = self.retirement(q, old);
         let limit_is_kept = match retirement {
             Retirement::Refused => false,
@@ -112,10 +132,12 @@ impl Model {
         };
         if limit_is_kept {
             self.set_receiver_end(q, place, None)?;
-        } else if let Some(subscriber) = self.subscriber_mut(q) {
+            return Ok(None);
+        }
+        if let Some(subscriber) = self.subscriber_mut(q) {
             subscriber.is_due = true;
         }
-        Ok(limit_is_kept)
+        Ok(Some(Self::expired_buffer_full()))
     }
 
     // With room it is kept. Without, one of which messages are borrowed takes the place of the first

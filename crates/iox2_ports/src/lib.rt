@@ -14,4 +14,5 @@ mod subscriber_entry;
 
 pub use closes::{close_publisher, close_subscriber};
 pub use publisher_entry::create_publisher;
+pub use segments::SegmentOptions;
 pub use subscriber_entry::create_subscriber;

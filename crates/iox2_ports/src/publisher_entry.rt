@@ -12,22 +12,24 @@ ghost use Rattle.iox2_domain.specs.Boxes.{box_of};
 ghost use Rattle.iox2_domain.specs.Handlers.{handler_if_any};
 ghost use Rattle.iox2_ends.specs.Handlers.{marks_of};
 ghost use Rattle.iox2_ports.specs.Handlers.{custom_box};
+ghost use Rattle.iox2_ports.specs.Settings.{settings_with, static_with};
+ghost use Rattle.std.specs.declared.option.Option.{Option};
 ghost use Rattle.iox2_store.specs.declared.warning.Warning.TheVariants.{PublisherPartlyConnected};
 ghost use Rattle.iox2_domain.specs.FirstUpdates.{PublisherFirstUpdates, failure_warned};
 ghost use Rattle.iox2_domain.specs.WarningRing.{warning_ring};
 ghost use Rattle.iox2_domain.specs.Invariant.{IsDomain};
-ghost use Rattle.iox2_domain.specs.NewPublisher.{place_for_publisher, static_publisher};
+ghost use Rattle.iox2_domain.specs.NewPublisher.{place_for_publisher};
 ghost use Rattle.iox2_domain.specs.Reaches.{Reaches};
 
 use crate::given_handlers::{keep_box, mark_of, reserve_for};
-use crate::segments::{Segment, add_segment, first_segment, room_for};
+use crate::segments::{Segment, SegmentOptions, add_segment, first_segment, room_for};
 use iox2_domain::{
     Boxes, DomainState, HandlerMark, PortAt, PublisherOptions, PublisherState, Warnings,
     free_place, make_all_due, put_at_place,
 };
 use iox2_store::{
-    BackpressureAction, BackpressureHandler, ConnectionFailure, PublisherCreateError,
-    UniquePublisherId, Warning,
+    AllocationStrategy, BackpressureAction, BackpressureHandler, ConnectionFailure,
+    PublisherCreateError, UniquePublisherId, Warning,
 };
 use iox2_updates::update_publisher;
 
@@ -87,12 +89,12 @@ pub(crate) fn admit_publisher<T: Drop, U: Default + Drop>(
 ) -> Result<UniquePublisherId, PublisherCreateError>
     requires agrees { IsDomain state.old }
     requires has_place { place_for_publisher state.old ≡ Ok place }
-    requires slots { slots ≡ slots_for (state.old).config (static_publisher given.now (handler_if_any handler)) }
     requires size { segment_fits (state.old).config slots given.now.initial_max_slice_len ≡ true }
     ensures stands { OnOk result ((x : PublisherFields) × (slice_index_or state.new.publishers place None ≡ Some x) × (x.id ≡ state.old.next_port) × (x.blocked ≡ None)) }
     ensures id { IfOk result (λ id. id ≡ state.old.next_port) }
     ensures step { MatchResult result
-        (λ _. Reaches state.old state.new (with_new_publisher (state_of (kept_of state.old)) (static_publisher given.now (handler_if_any handler)) place))
+        (λ _. (asked : Option ℕ) → slots ≡ slots_for (state.old).config (static_with given.now (handler_if_any handler) asked)
+        → Reaches state.old state.new (with_new_publisher (state_of (kept_of state.old)) (static_with given.now (handler_if_any handler) asked) place))
         (λ e. Reaches state.old state.new (state_of (kept_of state.old)) × ((e ≡ UnableToCreateDataSegment) ⊎ (e ≡ FailedToDeployThreadsafetyPolicy))) }
 {
     let id = UniquePublisherId::new(state.next_port);
@@ -130,9 +132,11 @@ pub(crate) fn admit_publisher<T: Drop, U: Default + Drop>(
 /// Makes a publisher with these options, and connects it with the subscribers that there are; it is
 /// warned where that fails. Where a receiver is full, the handler answers, or without one it follows
 /// the strategy. A box is kept among the boxes. Returns its id, which was the next, and its place.
+/// So far only static segments are made.
 ///
 /// `UnableToCreatePortTag` where no id is left, then `ExceedsMaxSupportedPublishers` where no
-/// place is free, then `UnableToCreateDataSegment` where the segment's size doesn't fit `usize`.
+/// place is free, then `UnableToCreateDataSegment` where the segment's size doesn't fit `usize`, and
+/// where its memory is to grow.
 /// After that `UnableToCreateDataSegment` or `FailedToDeployThreadsafetyPolicy` where memory for
 /// the segment or for the port and its box is refused. No id is used then, and nothing changes that
 /// can be seen.
@@ -141,19 +145,24 @@ pub fn create_publisher<T: Drop, U: Default + Drop, F: Drop>(
     boxes: &mut Boxes<F>,
     given: &PublisherOptions,
     handler: Option<BackpressureHandler<F>>,
+    segments: SegmentOptions,
 ) -> Result<PortAt<UniquePublisherId>, PublisherCreateError>
     requires { IsDomain state.old }
     ensures id { IfOk result (λ port. port.id ≡ state.old.next_port) }
     ensures stands { IfOk result (λ port. (x : PublisherFields) × (slice_index_or state.new.publishers port.place None ≡ Some x) × (x.id ≡ port.id)) }
+    ensures is_static { OnOk result (segments.allocation ≡ AllocationStrategy.Static) }
     ensures boxed { IfOk result (λ port. box_of port.id (boxes.new).boxes ≡ custom_box handler) }
     ensures others { (port : ℕ) → port ≢ state.old.next_port → box_of port (boxes.new).boxes ≡ box_of port (boxes.old).boxes }
     ensures step { MatchResult result
-        (λ _. (s' : State T U) × CreatePublisher fixed_handlers (state_of (kept_of state.old)) (static_publisher given.now (marks_of handler)) s' None × Reaches state.old state.new s')
-        (λ e. CreatePublisher fixed_handlers (state_of (kept_of state.old)) (static_publisher given.now (marks_of handler)) (state_of (kept_of state.old)) (Some e)
+        (λ _. (s' : State T U) × CreatePublisher fixed_handlers (state_of (kept_of state.old)) (settings_with given.now (marks_of handler) segments) s' None × Reaches state.old state.new s')
+        (λ e. CreatePublisher fixed_handlers (state_of (kept_of state.old)) (settings_with given.now (marks_of handler) segments) (state_of (kept_of state.old)) (Some e)
         × Reaches state.old state.new (state_of (kept_of state.old))) }
 {
     let place = place_for_publisher(state)?;
-    let Some(slots) = first_segment(&state.config, given) else {
+    let Some(slots) = first_segment(&state.config, given, segments.asked_slots) else {
+        return Err(PublisherCreateError::UnableToCreateDataSegment);
+    };
+    let AllocationStrategy::Static = segments.allocation else {
         return Err(PublisherCreateError::UnableToCreateDataSegment);
     };
     let Ok(()) = reserve_for(boxes, &handler) else {

@@ -3,23 +3,42 @@ ghost use Rattle.std.specs.Prelude.{◌≡◌, ◌*◌, ◌<◌, true, None, Som
 ghost use Rattle.slab.specs.Slab.{Updates, get};
 ghost use Rattle.iox2_store.specs.machine.Limits.{fits, segment_fits};
 ghost use Rattle.iox2_store.specs.machine.Ports.{first_segment_fits, slots_for};
-ghost use Rattle.iox2_domain.specs.NewPublisher.{IsNewSegment, static_publisher};
+ghost use Rattle.iox2_domain.specs.NewPublisher.{IsNewSegment};
 ghost use Rattle.iox2_domain.specs.Ports.{slot_length};
 ghost use Rattle.iox2_domain.specs.Placed.{placed};
+ghost use Rattle.iox2_ports.specs.Settings.{static_with};
 
 use iox2_contents::Contents;
 use iox2_domain::{PublisherOptions, put_at_place, reserve_place, units_of};
 use iox2_slots::SlotBook;
-use iox2_store::{ServiceConfig, UniquePublisherId, worst_case_slots};
+use iox2_store::{AllocationStrategy, ServiceConfig, UniquePublisherId, worst_case_slots};
 use slab::Slab;
 use std::alloc::{AllocError, Global};
 
-/// How many slots the first segment of a publisher with these options has. `None` where their number
-/// or their size doesn't fit `usize`.
-pub(crate) fn first_segment(config: &ServiceConfig, given: &PublisherOptions) -> Option<usize>
-    ensures { SomeIff result (IsTrue (first_segment_fits config.now (static_publisher given.now None))) (slots_for config.now (static_publisher given.now None)) }
+/// How the slots of a publisher are to be allocated.
+#[derive(Clone, Copy)]
+pub struct SegmentOptions {
+    /// How its memory grows.
+    pub allocation: AllocationStrategy,
+    /// So many slots are asked for in place of the worst case.
+    pub asked_slots: Option<usize>,
+}
+
+/// How many slots the first segment of a publisher with these options has, for which so many are
+/// asked: no more than the worst case, and at least one where that isn't none. `None` where the worst
+/// case or the size of the slots doesn't fit `usize`.
+pub(crate) fn first_segment(
+    config: &ServiceConfig,
+    given: &PublisherOptions,
+    asked: Option<usize>,
+) -> Option<usize>
+    ensures { SomeIff result (IsTrue (first_segment_fits config.now (static_with given.now None asked))) (slots_for config.now (static_with given.now None asked)) }
 {
-    let slots = worst_case_slots(config, given.max_loaned_samples)?;
+    let worst = worst_case_slots(config, given.max_loaned_samples)?;
+    let slots = match asked {
+        Some(asked) => worst.min(asked.max(1)),
+        None => worst,
+    };
     segment_size(slots, given.initial_max_slice_len, config.units_per_element)?;
     Some(slots)
 }

@@ -5,9 +5,9 @@ use Rattle.std.specs.declared.time.Duration.{Duration}
 use Rattle.std.proofs.lemmas.Bool.{cases_eq}
 use Rattle.iox2_store.specs.machine.Environments.{ample_memory}
 use Rattle.iox2_store.specs.machine.Limits.{last_number, worst_case}
-use Rattle.iox2_store.specs.machine.Loans.{loan_discarded}
+use Rattle.iox2_store.specs.machine.Loans.{is_static, loan_discarded}
 use Rattle.iox2_store.specs.machine.LoansLeft.{CanLend}
-use Rattle.iox2_store.specs.machine.Ports.{CreatePublisher, CreateSubscriber, publisher_closed, subscriber_closed}
+use Rattle.iox2_store.specs.machine.Ports.{CreatePublisher, CreateSubscriber, slots_for, publisher_closed, subscriber_closed}
 use Rattle.iox2_store.specs.machine.PublisherUpdate.{UpdatePublisher}
 use Rattle.iox2_store.specs.machine.Receives.{ReceiveResult, Receive}
 use Rattle.iox2_store.specs.machine.Records.{Environment, Handler, Loan, BlockedSend, Publisher as MachinePublisher, Subscriber as MachineSubscriber, PublisherSettings, SubscriberSettings}
@@ -26,8 +26,7 @@ use Rattle.iox2_laws.proofs.LoansLeft.{KeepsTerms, LoansKept, LoanTaken, LoanEnd
 use Rattle.iox2_store.specs.declared.backpressure.BackpressureAction.{BackpressureAction}
 use Rattle.iox2_domain.specs.Kept.{Kept, state_of}
 use Rattle.iox2_domain.specs.Lending.{LoanCall}
-use Rattle.iox2_domain.specs.NewPublisher.{static_publisher}
-use Rattle.iox2_domain.specs.declared.options.PublisherOptions.{PublisherOptions}
+use Rattle.iox2_store.specs.declared.allocation.AllocationStrategy.TheVariants.{Static}
 use Rattle.iox2_domain.specs.Shows.{Shows}
 use Rattle.iox2_pubsub.specs.LoansLeft.{LendsUpTo, HasLoansLeft, HasNumbersLeft, NumbersLeftStay, LoansLeftStay, OthersLoansLeftStay, HasOneMoreLeft, TakesOneLeft}
 use Rattle.iox2_pubsub.specs.SendCalls.{IsDelivered, result_of_send}
@@ -117,16 +116,15 @@ module _ {T U F : Type 0} (old new : Kept T U F) (m m' : Messages T U) (s s' : S
   pub subscriber-creation-left : (environment : Environment) (given : SubscriberSettings) (refusal : Option SubscriberCreateError) → CreateSubscriber environment s given s' refusal → LoansLeftStay old new
   subscriber-creation-left environment given refusal h = all-left (create_subscriber_kept environment s given s' refusal h)
 
-  -- a publisher as factories make it so far
-  pub created-left : (environment : Environment) (options : PublisherOptions) (handler : Option (Handler BackpressureAction)) (given : PublisherSettings) → static_publisher options handler ≡ given → (publisher : Publisher) → publisher.id ≡ s.next_port
-      → publisher.initial_max_slice_len ≡ options.initial_max_slice_len → CreatePublisher environment s given s' None → HasLoansLeft new publisher given.max_loaned_samples
-  created-left environment options handler given is publisher its long h =
-      let made : CreatePublisher environment s (static_publisher options handler) s' None = subst (λ (z : PublisherSettings). CreatePublisher environment s z s' None) (sym is) h in
-      let longest = created_longest environment s (static_publisher options handler) s' made in
-      subst (λ (z : PublisherSettings). HasLoansLeft new publisher z.max_loaned_samples) is
-      (lends-from new m' s' shown' publisher options.max_loaned_samples
-      (subst (λ (p : ℕ). CanLend s' p options.max_loaned_samples) (sym its) (created_lends environment s (static_publisher options handler) s' refl (omega arith) made))
-      (longest.0, ap s'.publishers its ∙ longest.1, longest.2 ∙ sym long))
+  -- a static publisher with the worst case of slots
+  pub created-left : (environment : Environment) (given : PublisherSettings) → given.allocation_strategy ≡ Static → worst_case s.config given.max_loaned_samples ≤ slots_for s.config given
+      → (publisher : Publisher) → publisher.id ≡ s.next_port → publisher.initial_max_slice_len ≡ given.initial_max_slice_len
+      → CreatePublisher environment s given s' None → HasLoansLeft new publisher given.max_loaned_samples
+  created-left environment given static slots publisher its long made =
+      let longest = created_longest environment s given s' made in
+      lends-from new m' s' shown' publisher given.max_loaned_samples
+      (subst (λ (p : ℕ). CanLend s' p given.max_loaned_samples) (sym its) (created_lends environment s given s' (ap is_static static) slots made))
+      (longest.0, ap s'.publishers its ∙ longest.1, longest.2 ∙ sym long)
 
   -- a call that changes nothing
   pub same-left : s' ≡ s → LoansLeftStay old new

@@ -17,6 +17,8 @@ mod laws;
 #[cfg(test)]
 mod loan_commands;
 #[cfg(test)]
+mod overrides;
+#[cfg(test)]
 mod runs;
 #[cfg(test)]
 mod slice_commands;

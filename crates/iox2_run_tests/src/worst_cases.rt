@@ -2,8 +2,8 @@ use iox2_fixtures::settings;
 use iox2_pubsub::Domain;
 use iox2_runs::{Command, Reply, filling_is_supported, run, worst_case_commands};
 use iox2_store::{
-    AllocationStrategy, BackpressureStrategy, DegradationAction, ServiceConfig, TypeVariant,
-    worst_case_slots,
+    AllocationStrategy, BackpressureStrategy, DegradationAction, LoanError, ServiceConfig,
+    TypeVariant, worst_case_slots,
 };
 use std::alloc::Global;
 use std::process::Abort;
@@ -124,13 +124,14 @@ fn there_is_no_list_that_fills_nothing(rt: HostRuntime) {
     assert!(rt; list.is_none());
 }
 
-// What a new domain replies to the list.
+// What a new domain replies to the list, with this override of the slots.
 fn replies_to_list(
     alloc: Global,
     config: &ServiceConfig,
     loans: usize,
+    slots: Option<usize>,
 ) -> Option<Vec<Reply<u64, u8>>> {
-    let commands = worst_case_commands(alloc, config, loans, 5, None)?;
+    let commands = worst_case_commands(alloc, config, loans, 5, slots)?;
     let Ok(mut domain) = Domain::<u64, u8>::new(alloc, *config) else {
         return None;
     };
@@ -154,6 +155,11 @@ fn is_granted(reply: &Reply<u64, u8>) -> bool {
     )
 }
 
+// Whether a loan found no slot.
+fn lacks_a_slot(reply: &Reply<u64, u8>) -> bool {
+    *reply == Reply::LoanRefused(LoanError::OutOfMemory)
+}
+
 // How many loans were granted, messages sent, and messages received.
 fn counts(replies: &[Reply<u64, u8>]) -> [usize; 3] {
     let loans = replies
@@ -173,12 +179,12 @@ fn counts(replies: &[Reply<u64, u8>]) -> [usize; 3] {
 
 // Asserts that there is a list where its service has a publisher, a subscriber and a loan, and there
 // alone, and that no command of it is skipped or refused. Each subscriber borrows messages, others
-// wait for it, and others are for the history.
+// wait for it, and others are for the history. With a slot fewer a loan finds none.
 fn assert_list_is_granted(rt: &impl Abort, alloc: Global, config: &ServiceConfig, loans: usize) {
     let subscribers = config.max_subscribers;
     let borrowed = config.subscriber_max_borrowed_samples;
     let history = config.history_size;
-    let replies = replies_to_list(alloc, config, loans);
+    let replies = replies_to_list(alloc, config, loans, None);
     if config.max_publishers == 0 || subscribers == 0 || loans == 0 {
         assert!(rt; replies.is_none(), "at {config:?} and {loans}");
         return;
@@ -205,6 +211,9 @@ fn assert_list_is_granted(rt: &impl Abort, alloc: Global, config: &ServiceConfig
     );
     assert_eq!(rt; counts(&replies), expected, "at {config:?} and {loans}");
     assert!(rt; replies.iter().all(is_granted), "at {config:?} and {loans}");
+    let fewer = replies_to_list(alloc, config, loans, Some(slots.saturating_sub(1)));
+    let fewer = fewer.expect(rt, "replies");
+    assert!(rt; fewer.iter().any(lacks_a_slot), "at {config:?} and {loans}");
 }
 
 // Asserts it for every history and number of loans up to three.
@@ -248,4 +257,37 @@ fn lists_of_slices_are_granted_with_their_slots(rt: HostRuntime) {
         ..settings()
     };
     assert_lists_are_granted(&rt, rt.alloc(), config);
+}
+
+// Asserts that a publisher with one loan needs so many slots there: the list is granted with them, and
+// with one fewer its last loan finds none, while no other loan is out.
+fn assert_slots_are_needed(rt: &impl Abort, alloc: Global, config: &ServiceConfig, slots: usize) {
+    assert_eq!(rt; worst_case_slots(config, 1), Some(slots), "at {config:?}");
+    let replies = replies_to_list(alloc, config, 1, Some(slots)).expect(rt, "replies");
+    assert!(rt; replies.iter().all(is_granted), "at {config:?}");
+    let fewer = replies_to_list(alloc, config, 1, Some(slots.saturating_sub(1)));
+    let fewer = fewer.expect(rt, "replies");
+    let last = fewer.as_slice().last().expect(rt, "replies");
+    assert!(rt; lacks_a_slot(last), "at {config:?}");
+    let [loans, sends, _] = counts(&fewer);
+    assert_eq!(rt; loans, sends, "at {config:?}");
+}
+
+#[test]
+fn the_last_loan_of_a_list_needs_the_last_slot(rt: HostRuntime) {
+    let two_subscribers = ServiceConfig {
+        max_subscribers: 2,
+        subscriber_max_buffer_size: 2,
+        subscriber_max_borrowed_samples: 1,
+        history_size: 1,
+        ..settings()
+    };
+    let nothing_borrowed = ServiceConfig {
+        subscriber_max_borrowed_samples: 0,
+        history_size: 1,
+        ..smallest()
+    };
+    assert_slots_are_needed(&rt, rt.alloc(), &two_subscribers, 8);
+    assert_slots_are_needed(&rt, rt.alloc(), &nothing_borrowed, 3);
+    assert_slots_are_needed(&rt, rt.alloc(), &smallest(), 3);
 }

@@ -20,7 +20,7 @@ module _ {T U : Type 0} where
   -- refused memory shows in each command that is carried out so far
   supported_tells : (command : Command T U) → IsSupportedCommand command → TellsOfRefusals command
   supported_tells Nothing h = tt
-  supported_tells (CreatePublisher loans strategy allocation len override_slots degradation backpressure) h = h.0
+  supported_tells (CreatePublisher loans strategy allocation len override_slots degradation backpressure) h = h
   supported_tells (CreateSubscriber buffer degradation) h = tt
   supported_tells (LoanUninit of) h = tt
   supported_tells (Loan of) h = tt

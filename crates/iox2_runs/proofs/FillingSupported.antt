@@ -54,8 +54,8 @@ module _ {T : Type 0} (U : Type 0) (c : ServiceConfig) (value : T) where
 
 -- `run` carries out the whole list.
 pub filling_is_supported : {T U : Type 0} → FillingIsSupported T U
-filling_is_supported {T} {U} c loans value =
+filling_is_supported {T} {U} c loans value slots =
     let filled : List (Command T U) = subscribers_filled c value 1 c.max_subscribers in
-    All-append IsSupportedCommand (publisher_command loans None ∷ filled) (replicate loans (loan_command c.variant))
-    (All-cons IsSupportedCommand (publisher_command loans None) filled (refl, refl) (subscribers_supported U c value 1 c.max_subscribers))
+    All-append IsSupportedCommand (publisher_command loans slots ∷ filled) (replicate loans (loan_command c.variant))
+    (All-cons IsSupportedCommand (publisher_command loans slots) filled refl (subscribers_supported U c value 1 c.max_subscribers))
     (All-replicate IsSupportedCommand loans (loan_command c.variant) (loan_supported U c value))

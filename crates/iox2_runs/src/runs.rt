@@ -79,6 +79,7 @@ fn carry_out<
             loans,
             strategy,
             initial_max_slice_len,
+            override_slots,
             degradation,
             backpressure,
             ..
@@ -88,6 +89,7 @@ fn carry_out<
             loans,
             strategy,
             initial_max_slice_len,
+            override_slots,
             degradation,
             backpressure,
         ),

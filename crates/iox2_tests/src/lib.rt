@@ -4,6 +4,8 @@
 #![tactic(auto)]
 
 #[cfg(test)]
+mod allocations;
+#[cfg(test)]
 mod closes;
 #[cfg(test)]
 mod copies;
@@ -23,6 +25,8 @@ mod histories;
 mod in_place;
 #[cfg(test)]
 mod loans;
+#[cfg(test)]
+mod overrides;
 #[cfg(test)]
 mod payloads;
 #[cfg(test)]

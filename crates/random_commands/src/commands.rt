@@ -80,9 +80,27 @@ fn make_publisher(chance: &mut Chance) -> Command<u64, u64> {
         strategy: strategy(chance),
         allocation: AllocationStrategy::Static,
         initial_max_slice_len: chance.below(9),
-        override_slots: None,
-        degradation: DegradationAction::Warn,
+        override_slots: override_slots(chance),
+        degradation: degradation(chance),
         backpressure: handler(chance),
+    }
+}
+
+// Mostly there is none. Else few slots are asked for, none, or more than there may be.
+fn override_slots(chance: &mut Chance) -> Option<usize> {
+    match chance.below(16) {
+        0 => Some(0),
+        1 => Some(usize::MAX),
+        2..=4 => Some(chance.below(12)),
+        _ => None,
+    }
+}
+
+fn degradation(chance: &mut Chance) -> DegradationAction {
+    match chance.below(4) {
+        0 => DegradationAction::Ignore,
+        1 => DegradationAction::DegradeAndFail,
+        _ => DegradationAction::Warn,
     }
 }
 
@@ -115,7 +133,7 @@ fn make_subscriber(chance: &mut Chance, config: &ServiceConfig) -> Command<u64, 
     };
     Command::CreateSubscriber {
         buffer,
-        degradation: DegradationAction::Warn,
+        degradation: degradation(chance),
     }
 }
 

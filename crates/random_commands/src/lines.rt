@@ -1,6 +1,6 @@
 //! Scripts as text.
 use iox2_commands::Command;
-use iox2_store::{BackpressureStrategy, ServiceConfig, TypeVariant};
+use iox2_store::{BackpressureStrategy, DegradationAction, ServiceConfig, TypeVariant};
 use std::alloc::{AllocError, Global};
 use std::fmt::Write;
 
@@ -61,10 +61,15 @@ fn push_line(
         Command::CreatePublisher {
             loans,
             strategy,
+            override_slots: None,
+            degradation: DegradationAction::Warn,
             backpressure: None,
             ..
         } if !has_slices(config) => write!(text, "pub {loans} {}", strategy_word(strategy)),
-        Command::CreateSubscriber { buffer, .. } => {
+        Command::CreateSubscriber {
+            buffer,
+            degradation: DegradationAction::Warn,
+        } => {
             let size = buffer.unwrap_or(buffer_limit);
             write!(text, "sub {size}")
         }

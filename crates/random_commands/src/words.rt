@@ -3,7 +3,7 @@ ghost use Rattle.std.specs.Prelude.{IsTrue};
 ghost use Rattle.iox2_runs.specs.Supported.{IsSupportedCommand};
 
 use iox2_commands::Command;
-use iox2_store::{AllocationStrategy, DegradationAction};
+use iox2_store::AllocationStrategy;
 
 /// Whether the command is one that `run` carries out so far. This is the list of all words that
 /// random scripts have.
@@ -13,15 +13,10 @@ pub fn is_word(command: &Command<u64, u64>) -> bool
     match command {
         Command::CreatePublisher {
             allocation: AllocationStrategy::Static,
-            override_slots: None,
-            degradation: DegradationAction::Warn,
             ..
         } => true,
-        Command::CreateSubscriber {
-            degradation: DegradationAction::Warn,
-            ..
-        } => true,
-        Command::Nothing
+        Command::CreateSubscriber { .. }
+        | Command::Nothing
         | Command::LoanUninit { .. }
         | Command::Loan { .. }
         | Command::LoanSlice { .. }

@@ -7,7 +7,7 @@ use iox2_pubsub::{
 use iox2_runs::{Command, Reply};
 
 // The kinds of replies that the words can give with ample memory.
-const KINDS: [&str; 31] = [
+const KINDS: [&str; 33] = [
     "Done",
     "Skipped",
     "PublisherMade",
@@ -19,6 +19,7 @@ const KINDS: [&str; 31] = [
     "Loaned",
     "LoanRefused(ExceedsMaxLoans)",
     "LoanRefused(ExceedsMaxLoanSize)",
+    "LoanRefused(OutOfMemory)",
     "Delivered to none",
     "Delivered to one",
     "Delivered to 2 to 64",
@@ -26,6 +27,7 @@ const KINDS: [&str; 31] = [
     "Blocked",
     "SendRefused(ConnectionBrokenSinceSenderNoLongerExists)",
     "SendRefused(LoanError(ExceedsMaxLoans))",
+    "SendRefused(LoanError(OutOfMemory))",
     "SendRefused(UnableToDeliver)",
     "UpdateRefused",
     "Sample",
@@ -42,19 +44,19 @@ const KINDS: [&str; 31] = [
 ];
 
 // The position of the count of all other replies, which no command should have.
-const OTHER: usize = 31;
+const OTHER: usize = 33;
 
 /// How often each kind of reply was met.
 #[derive(Drop)]
 pub(crate) struct Tally {
-    counts: [u64; 32],
+    counts: [u64; 34],
     words: WordTally,
 }
 
 impl Tally {
     pub(crate) fn new() -> Tally {
         Tally {
-            counts: [0; 32],
+            counts: [0; 34],
             words: WordTally::new(),
         }
     }
@@ -110,14 +112,16 @@ fn kind_of(reply: &Reply<u64, u64>) -> usize {
         Reply::Loaned => 8,
         Reply::LoanRefused(LoanError::ExceedsMaxLoans) => 9,
         Reply::LoanRefused(LoanError::ExceedsMaxLoanSize) => 10,
-        Reply::Delivered(0) => 11,
-        Reply::Delivered(1) => 12,
-        Reply::Delivered(2..=64) => 13,
-        Reply::Delivered(_) => 14,
-        Reply::Blocked => 15,
-        Reply::SendRefused(SendError::ConnectionBrokenSinceSenderNoLongerExists) => 16,
-        Reply::SendRefused(SendError::LoanError(LoanError::ExceedsMaxLoans)) => 17,
-        Reply::SendRefused(SendError::UnableToDeliver) => 18,
+        Reply::LoanRefused(LoanError::OutOfMemory) => 11,
+        Reply::Delivered(0) => 12,
+        Reply::Delivered(1) => 13,
+        Reply::Delivered(2..=64) => 14,
+        Reply::Delivered(_) => 15,
+        Reply::Blocked => 16,
+        Reply::SendRefused(SendError::ConnectionBrokenSinceSenderNoLongerExists) => 17,
+        Reply::SendRefused(SendError::LoanError(LoanError::ExceedsMaxLoans)) => 18,
+        Reply::SendRefused(SendError::LoanError(LoanError::OutOfMemory)) => 19,
+        Reply::SendRefused(SendError::UnableToDeliver) => 20,
         _ => kind_of_use(reply),
     }
 }
@@ -125,18 +129,18 @@ fn kind_of(reply: &Reply<u64, u64>) -> usize {
 // The same for what is received and read.
 fn kind_of_use(reply: &Reply<u64, u64>) -> usize {
     match *reply {
-        Reply::UpdateRefused(_) => 19,
-        Reply::Sample(_) => 20,
-        Reply::NoSample => 21,
-        Reply::ReceiveRefused(ReceiveError::ExceedsMaxBorrows) => 22,
-        Reply::ReceiveRefused(ReceiveError::ConnectionFailure(_)) => 23,
-        Reply::Has(false) => 24,
-        Reply::Has(true) => 25,
-        Reply::Cell(None) => 26,
-        Reply::Cell(Some(_)) => 27,
-        Reply::Unwritten => 28,
-        Reply::Header(_) => 29,
-        Reply::UserHeader(_) => 30,
+        Reply::UpdateRefused(_) => 21,
+        Reply::Sample(_) => 22,
+        Reply::NoSample => 23,
+        Reply::ReceiveRefused(ReceiveError::ExceedsMaxBorrows) => 24,
+        Reply::ReceiveRefused(ReceiveError::ConnectionFailure(_)) => 25,
+        Reply::Has(false) => 26,
+        Reply::Has(true) => 27,
+        Reply::Cell(None) => 28,
+        Reply::Cell(Some(_)) => 29,
+        Reply::Unwritten => 30,
+        Reply::Header(_) => 31,
+        Reply::UserHeader(_) => 32,
         _ => OTHER,
     }
 }

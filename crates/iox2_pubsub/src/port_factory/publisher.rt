@@ -1,55 +1,61 @@
 //! The factory of publishers.
-ghost use Rattle.std.specs.Prelude.{◌≡◌, ◌≤◌, ℕ, true, false, None, Some, IfOk, OnErr, MatchResult};
+ghost use Rattle.std.specs.Prelude.{◌≡◌, ◌≤◌, true, false, None, Some, IfOk, OnErr, OnOk, MatchResult};
 ghost use Rattle.iox2_store.specs.declared.degradation.DegradationAction.TheVariants.{Warn};
 ghost use Rattle.iox2_store.specs.machine.Environments.{fixed_handlers};
 ghost use Rattle.iox2_store.specs.machine.Records.{Fixed};
-ghost use Rattle.iox2_store.specs.machine.Ports.{CreatePublisher};
+ghost use Rattle.iox2_store.specs.machine.Limits.{worst_case};
+ghost use Rattle.iox2_store.specs.machine.Ports.{CreatePublisher, slots_for};
 ghost use Rattle.iox2_store.specs.machine.State.{State, Messages};
 ghost use Rattle.iox2_pubsub.specs.Live.{ConnectionsStay, IsConnected, IsLiveSubscriber, IsNewIn, IsReadyPublisher, NeverFails, NeverWaits, NoneRefused, Stays, handler_box, publisher_key, publisher_port, payloads, waiting};
 ghost use Rattle.iox2_pubsub.specs.LoansLeft.{HasLoansLeft, LoansLeftStay};
-ghost use Rattle.iox2_domain.specs.NewPublisher.{plain_publisher, static_publisher};
+ghost use Rattle.iox2_domain.specs.NewPublisher.{plain_publisher};
 ghost use Rattle.iox2_domain.specs.Handlers.{fails_update, may_fail, may_fail_update};
 ghost use Rattle.iox2_ends.specs.Handlers.{marks_of};
 ghost use Rattle.iox2_ports.specs.Handlers.{custom_box};
-ghost use Rattle.iox2_pubsub.specs.Factories.{answer_of, with_handler};
+ghost use Rattle.iox2_ports.specs.Settings.{settings_with};
+ghost use Rattle.iox2_pubsub.specs.Factories.{answer_of, with_callback, with_handler};
 ghost use Rattle.iox2_pubsub.specs.Handlers.{may_wait};
 ghost use Rattle.iox2_pubsub.specs.declared.subscriber.Subscriber.{Subscriber};
 ghost use Rattle.iox2_domain.specs.Shows.{Shows};
 ghost use Rattle.iox2_pubsub.specs.Handles.{max_slice_len_of, publisher_id, strategy_of};
 
+mod overridden;
+
 use crate::degradation_handler::DegradationHandler;
 use crate::domain::Domain;
+use crate::port_factory::preallocation::{NoOverride, PreallocatedSamplesOverride, SlotSettings};
 use crate::publisher::Publisher;
 use iox2_domain::PublisherOptions;
-use iox2_ports::create_publisher;
+use iox2_ports::{SegmentOptions, create_publisher};
 use iox2_store::{
-    BackpressureFn, BackpressureHandler, BackpressureStrategy, DegradationAction, DegradationFn,
-    PublisherCreateError,
+    AllocationStrategy, BackpressureFn, BackpressureHandler, BackpressureStrategy,
+    DegradationAction, DegradationFn, PublisherCreateError,
 };
 use std::marker::Model;
 
 /// Makes a publisher. It begins with the loans that the domain's settings allow a publisher, and with
-/// their strategy. So far a publisher has from the start all the slots that it may ever need, whatever
-/// the settings say of how its memory grows.
+/// their strategy. Its memory is to grow as they say.
 ///
 /// iceoryx2's `PortFactoryPublisher` (`src/service/port_factory/publisher.rs`).
 #[derive(Drop)]
-pub struct PortFactoryPublisher<F = Box<dyn BackpressureFn>> {
+pub struct PortFactoryPublisher<F = Box<dyn BackpressureFn>, O = NoOverride> {
+    slots: SlotSettings<O>,
     options: PublisherOptions,
     backpressure_handler: Option<BackpressureHandler<F>>,
 }
 
-impl<F> Model for PortFactoryPublisher<F> {
+impl<F, O> Model for PortFactoryPublisher<F, O> {
     ghost use Rattle.iox2_domain.specs.NewPublisher.{static_publisher};
     ghost use Rattle.iox2_ends.specs.Handlers.{marks_of};
     ghost use Rattle.iox2_ports.specs.Handlers.{custom_box};
     ghost use Rattle.iox2_pubsub.specs.Factories.{PublisherFactory};
 
-    ghost Value = { PublisherFactory F };
+    ghost Value = { PublisherFactory F O };
 
     ghost view = { λ factory. record {
-      settings = static_publisher factory.options (marks_of factory.backpressure_handler);
+      settings = record (static_publisher factory.options (marks_of factory.backpressure_handler)) { allocation_strategy = factory.slots.allocation };
       box = custom_box factory.backpressure_handler;
+      preallocated = factory.slots.preallocated;
     } };
 }
 
@@ -59,12 +65,17 @@ impl<T: Drop, U: Default + Drop, F: BackpressureFn, G: DegradationFn> Domain<T, 
     ///
     /// iceoryx2's `publisher_builder` of a service's factory of ports.
     pub fn publisher_builder(&self) -> PortFactoryPublisher<F>
-        ensures { result ≡ record { settings = plain_publisher (self.now.config).publisher_max_loaned_samples (self.now.config).backpressure_strategy 1; box = None } }
+        ensures { result ≡ record { settings = record (plain_publisher (self.now.config).publisher_max_loaned_samples (self.now.config).backpressure_strategy 1) { allocation_strategy = (self.now.config).publisher_allocation_strategy }; box = None; preallocated = record {} } }
     {
+        let config = self.state.config();
         PortFactoryPublisher {
+            slots: SlotSettings {
+                allocation: config.publisher_allocation_strategy,
+                preallocated: NoOverride,
+            },
             options: PublisherOptions {
-                max_loaned_samples: self.state.config().publisher_max_loaned_samples,
-                strategy: self.state.config().backpressure_strategy,
+                max_loaned_samples: config.publisher_max_loaned_samples,
+                strategy: config.backpressure_strategy,
                 degradation: DegradationAction::Warn,
                 initial_max_slice_len: 1,
             },
@@ -73,8 +84,7 @@ impl<T: Drop, U: Default + Drop, F: BackpressureFn, G: DegradationFn> Domain<T, 
     }
 }
 
-impl<F: BackpressureFn> PortFactoryPublisher<F> {
-    ghost use Rattle.iox2_pubsub.specs.Handles.{publisher_id, strategy_of};
+impl<F: BackpressureFn, O: Drop> PortFactoryPublisher<F, O> {
     /// Sets how many loans of the publisher may be out at a time, 0 or more.
     ///
     /// iceoryx2's `PortFactoryPublisher::max_loaned_samples`
@@ -83,6 +93,7 @@ impl<F: BackpressureFn> PortFactoryPublisher<F> {
         ensures { result ≡ record self { settings = record (self.settings) { max_loaned_samples = value } } }
     {
         PortFactoryPublisher {
+            slots: self.slots,
             options: PublisherOptions {
                 max_loaned_samples: value,
                 ..self.options
@@ -100,6 +111,7 @@ impl<F: BackpressureFn> PortFactoryPublisher<F> {
         ensures { result ≡ record self { settings = record (self.settings) { backpressure_strategy = value } } }
     {
         PortFactoryPublisher {
+            slots: self.slots,
             options: PublisherOptions {
                 strategy: value,
                 ..self.options
@@ -119,6 +131,7 @@ impl<F: BackpressureFn> PortFactoryPublisher<F> {
         ensures { result ≡ with_handler self handler }
     {
         PortFactoryPublisher {
+            slots: self.slots,
             options: self.options,
             backpressure_handler: Some(handler),
         }
@@ -133,6 +146,7 @@ impl<F: BackpressureFn> PortFactoryPublisher<F> {
         ensures { result ≡ record self { settings = record (self.settings) { degradation_handler = answer_of handler } } }
     {
         PortFactoryPublisher {
+            slots: self.slots,
             options: PublisherOptions {
                 degradation: handler.answer(),
                 ..self.options
@@ -141,15 +155,59 @@ impl<F: BackpressureFn> PortFactoryPublisher<F> {
         }
     }
 
-    /// A factory with the same settings, which makes publishers without handlers: where memory for a
-    /// connection is refused, the domain warns of it.
+    /// Sets how the memory of the publisher grows. So far none grows: `create` makes static
+    /// publishers alone, and refuses others with `UnableToCreateDataSegment`.
+    ///
+    /// iceoryx2's `PortFactoryPublisher::allocation_strategy`
+    /// (`src/service/port_factory/publisher.rs`), of slices alone.
+    pub fn allocation_strategy(self, value: AllocationStrategy) -> Self
+        ensures { result ≡ record self { settings = record (self.settings) { allocation_strategy = value } } }
+    {
+        PortFactoryPublisher {
+            slots: SlotSettings {
+                allocation: value,
+                preallocated: self.slots.preallocated,
+            },
+            options: self.options,
+            backpressure_handler: self.backpressure_handler,
+        }
+    }
+
+    /// Sets what says how many slots the publisher is to have: a closure that is given the worst
+    /// case, with which no loan is refused for want of a slot. The publisher gets as many slots as it
+    /// answers, but no more than the worst case, and at least one where that isn't none.
+    ///
+    /// iceoryx2's `PortFactoryPublisher::override_sample_preallocation`
+    /// (`src/service/port_factory/publisher.rs`).
+    pub fn override_sample_preallocation<P: Fn(usize) -> usize + Drop>(
+        self,
+        callback: P,
+    ) -> PortFactoryPublisher<F, PreallocatedSamplesOverride<P>>
+        ensures { result ≡ with_callback self callback }
+    {
+        PortFactoryPublisher {
+            slots: SlotSettings {
+                allocation: self.slots.allocation,
+                preallocated: PreallocatedSamplesOverride { callback },
+            },
+            options: self.options,
+            backpressure_handler: self.backpressure_handler,
+        }
+    }
+
+    /// A factory with the same settings, which makes publishers without handlers, and with the worst
+    /// case of slots: where memory for a connection is refused, the domain warns of it.
     ///
     /// iceoryx2's `PortFactoryPublisher::__internal_partial_clone`
     /// (`src/service/port_factory/publisher.rs`).
-    pub fn internal_partial_clone(&self) -> Self
-        ensures { result ≡ record { settings = record (self.now.settings) { degradation_handler = Fixed Warn; backpressure_handler = None }; box = None } }
+    pub fn internal_partial_clone(&self) -> PortFactoryPublisher<F>
+        ensures { result ≡ record { settings = record (self.now.settings) { degradation_handler = Fixed Warn; backpressure_handler = None }; box = None; preallocated = record {} } }
     {
         PortFactoryPublisher {
+            slots: SlotSettings {
+                allocation: self.slots.allocation,
+                preallocated: NoOverride,
+            },
             options: PublisherOptions {
                 degradation: DegradationAction::Warn,
                 ..self.options
@@ -157,6 +215,10 @@ impl<F: BackpressureFn> PortFactoryPublisher<F> {
             backpressure_handler: None,
         }
     }
+}
+
+impl<F: BackpressureFn> PortFactoryPublisher<F> {
+    ghost use Rattle.iox2_pubsub.specs.Handles.{publisher_id, strategy_of};
 
     /// Makes the publisher, with the next id at the lowest free place, and connects it with the
     /// subscribers that there are. Every subscriber is then due for an update. Where memory for a
@@ -165,7 +227,8 @@ impl<F: BackpressureFn> PortFactoryPublisher<F> {
     ///
     /// Fails, in this order, with `UnableToCreatePortTag` where the domain has no ids left, with
     /// `ExceedsMaxSupportedPublishers` where as many publishers are open as may be, with
-    /// `UnableToCreateDataSegment` where the number of slots or their size doesn't fit `usize`.
+    /// `UnableToCreateDataSegment` where the number of slots or their size doesn't fit `usize`, and
+    /// so far where the publisher isn't to be static.
     /// After these, where memory is refused: with `UnableToCreateDataSegment` if it was for the
     /// slots, with `FailedToDeployThreadsafetyPolicy` if it was for the publisher's state or its box.
     /// No id is then used, and the domain stays as it is.
@@ -180,6 +243,7 @@ impl<F: BackpressureFn> PortFactoryPublisher<F> {
             × MatchResult result
             (λ publisher. (publisher_id publisher ≡ s.next_port) × CreatePublisher fixed_handlers s self.settings s' None)
             (λ e. CreatePublisher fixed_handlers s self.settings s' (Some e)) }
+        ensures is_static { OnOk result (self.settings.allocation_strategy ≡ AllocationStrategy.Static) }
         ensures ready { IfOk result (λ publisher. IsReadyPublisher domain.new publisher) }
         ensures discards { self.settings.backpressure_strategy ≡ BackpressureStrategy.DiscardData → self.settings.backpressure_handler ≡ None → may_fail_update self.settings.degradation_handler ≡ false → IfOk result (λ publisher. NeverWaits domain.new (publisher_key publisher)) }
         ensures passes { may_wait self.settings.backpressure_strategy self.settings.backpressure_handler ≡ false → may_fail self.settings.backpressure_handler ≡ false → may_fail_update self.settings.degradation_handler ≡ false → IfOk result (λ publisher. NeverWaits domain.new (publisher_key publisher)) }
@@ -196,21 +260,27 @@ impl<F: BackpressureFn> PortFactoryPublisher<F> {
         ensures left { IfOk result (λ publisher. HasLoansLeft domain.new publisher self.settings.max_loaned_samples) }
         ensures stays { Stays domain.old domain.new }
     {
+        let segments = SegmentOptions {
+            allocation: self.slots.allocation,
+            asked_slots: None,
+        };
         let options = self.options;
-        create_plain(domain, &options, self.backpressure_handler)
+        create_plain(domain, &options, self.backpressure_handler, segments)
     }
 }
 
-// Makes a publisher with these options, which answers full buffers so.
+// Makes a publisher with these options and segments, which answers full buffers so.
 pub(crate) fn create_plain<T: Drop, U: Default + Drop, F: BackpressureFn, G: DegradationFn>(
     domain: &mut Domain<T, U, F, G>,
     given: &PublisherOptions,
     handler: Option<BackpressureHandler<F>>,
+    segments: SegmentOptions,
 ) -> Result<Publisher, PublisherCreateError>
     ensures creates { (m : Messages T U) (s : State T U) → Shows domain.old m s → (s' : State T U) × Shows domain.new m s'
         × MatchResult result
-        (λ publisher. (publisher_id publisher ≡ s.next_port) × CreatePublisher fixed_handlers s (static_publisher given.now (marks_of handler)) s' None)
-        (λ e. CreatePublisher fixed_handlers s (static_publisher given.now (marks_of handler)) s' (Some e)) }
+        (λ publisher. (publisher_id publisher ≡ s.next_port) × CreatePublisher fixed_handlers s (settings_with given.now (marks_of handler) segments) s' None)
+        (λ e. CreatePublisher fixed_handlers s (settings_with given.now (marks_of handler) segments) s' (Some e)) }
+    ensures is_static { OnOk result (segments.allocation ≡ AllocationStrategy.Static) }
     ensures ready { IfOk result (λ publisher. IsReadyPublisher domain.new publisher) }
     ensures discards { given.now.strategy ≡ BackpressureStrategy.DiscardData → marks_of handler ≡ None → fails_update given.now.degradation ≡ false → IfOk result (λ publisher. NeverWaits domain.new (publisher_key publisher)) }
     ensures passes { may_wait given.now.strategy (marks_of handler) ≡ false → may_fail (marks_of handler) ≡ false → fails_update given.now.degradation ≡ false → IfOk result (λ publisher. NeverWaits domain.new (publisher_key publisher)) }
@@ -225,11 +295,17 @@ pub(crate) fn create_plain<T: Drop, U: Default + Drop, F: BackpressureFn, G: Deg
     ensures connections { ConnectionsStay domain.old domain.new }
     ensures connects { IfOk result (λ publisher. NoneRefused domain.old domain.new → (subscriber : Subscriber) → IsLiveSubscriber domain.old subscriber → IsConnected domain.new (publisher_id publisher) subscriber) }
     ensures loans_left { LoansLeftStay domain.old domain.new }
-    ensures left { IfOk result (λ publisher. HasLoansLeft domain.new publisher given.now.max_loaned_samples) }
+    ensures left { worst_case (domain.old.config) given.now.max_loaned_samples ≤ slots_for (domain.old.config) (settings_with given.now (marks_of handler) segments) → IfOk result (λ publisher. HasLoansLeft domain.new publisher given.now.max_loaned_samples) }
     ensures stays { Stays domain.old domain.new }
 {
     let service_id = domain.state.config().service_id;
-    let port = create_publisher(&mut domain.state, &mut domain.boxes, given, handler)?;
+    let port = create_publisher(
+        &mut domain.state,
+        &mut domain.boxes,
+        given,
+        handler,
+        segments,
+    )?;
     Ok(Publisher {
         service_id,
         id: port.id,

@@ -14,9 +14,9 @@ use iox2_store::{
     BackpressureAction, BackpressureFn, BackpressureStrategy, DegradationAction, DegradationFn,
 };
 
-/// Makes a publisher with so many loans, with that strategy, for slices up to that length, with that
-/// answer to a refused connection, and with a handler that answers so where there is one, and returns
-/// it too.
+/// Makes a publisher with so many loans, with that strategy, for slices up to that length, with an
+/// override that asks for so many slots where there is one, with that answer to a refused connection,
+/// and with a handler that answers so where there is one, and returns it too.
 pub(crate) fn create_publisher<
     T: Default + Drop,
     U: Default + Drop,
@@ -28,15 +28,24 @@ pub(crate) fn create_publisher<
     loans: usize,
     strategy: BackpressureStrategy,
     len: usize,
+    asked_slots: Option<usize>,
     degradation: DegradationAction,
     backpressure: Option<BackpressureAction>,
 ) -> (Reply<T, U>, Made)
     requires { IsLiveTable domain.old table.now }
     ensures carries { Carries fixed_handlers (defaults_of T.is_default U.is_default) domain.old domain.new table.now
-        (CreatePublisher loans strategy Static len None degradation backpressure) result.0 table.now result.1 }
+        (CreatePublisher loans strategy Static len asked_slots degradation backpressure) result.0 table.now result.1 }
     ensures leaves { Leaves domain.old domain.new table.now table.now result.1 }
 {
-    match make_publisher(domain, loans, strategy, len, degradation, backpressure) {
+    match make_publisher(
+        domain,
+        loans,
+        strategy,
+        len,
+        asked_slots,
+        degradation,
+        backpressure,
+    ) {
         Ok(publisher) => (
             Reply::PublisherMade(publisher.id()),
             Made::Publisher(publisher),

@@ -8,13 +8,15 @@ ghost use Rattle.iox2_store.specs.declared.allocation.AllocationStrategy.TheVari
 ghost use Rattle.iox2_domain.specs.Handlers.{fixed_handler};
 ghost use Rattle.iox2_domain.specs.NewPublisher.{static_publisher};
 ghost use Rattle.iox2_domain.specs.Shows.{Shows};
+ghost use Rattle.iox2_pubsub.specs.Factories.{with_slots};
+ghost use Rattle.iox2_pubsub.specs.Handles.{as_publisher, publisher_id};
 ghost use Rattle.iox2_pubsub.specs.Live.{IsNewIn, IsReadyPublisher, Stays, publisher_port};
 ghost use Rattle.iox2_commands.specs.Step.{publisher_settings};
 
 use iox2_pubsub::{DegradationHandler, Domain, PortFactoryPublisher, Publisher, slice};
 use iox2_store::{
-    BackpressureAction, BackpressureFn, BackpressureHandler, BackpressureStrategy,
-    DegradationAction, DegradationFn, PublisherCreateError, TypeVariant,
+    AllocationStrategy, BackpressureAction, BackpressureFn, BackpressureHandler,
+    BackpressureStrategy, DegradationAction, DegradationFn, PublisherCreateError, TypeVariant,
 };
 
 // A factory of publishers of single values, with so many loans and that answer to a refused
@@ -32,6 +34,7 @@ fn value_factory<T: Drop, U: Default + Drop, F: BackpressureFn, G: DegradationFn
         .publisher_builder()
         .max_loaned_samples(loans)
         .backpressure_strategy(strategy)
+        .allocation_strategy(AllocationStrategy::Static)
         .set_degradation_handler(DegradationHandler::Fixed(degradation));
     match backpressure {
         Some(action) => factory.set_backpressure_handler(BackpressureHandler::Fixed(action)),
@@ -54,6 +57,7 @@ fn slice_factory<T: Drop, U: Default + Drop, F: BackpressureFn, G: DegradationFn
         .slice_publisher_builder()
         .max_loaned_samples(loans)
         .backpressure_strategy(strategy)
+        .allocation_strategy(AllocationStrategy::Static)
         .initial_max_slice_len(len)
         .set_degradation_handler(DegradationHandler::Fixed(degradation));
     match backpressure {
@@ -62,33 +66,84 @@ fn slice_factory<T: Drop, U: Default + Drop, F: BackpressureFn, G: DegradationFn
     }
 }
 
-/// Makes a publisher with so many loans and that answer to a refused connection, which follows the
-/// strategy, or the handler with that answer where there is one. Where messages are slices, each of
-/// its loans may have so many elements.
+// Makes a publisher by the factory, with an override that asks for so many slots where there is one.
+fn create_values<T: Drop, U: Default + Drop, F: BackpressureFn, G: DegradationFn>(
+    domain: &mut Domain<T, U, F, G>,
+    factory: PortFactoryPublisher<F>,
+    asked_slots: Option<usize>,
+) -> Result<Publisher, PublisherCreateError>
+    requires { factory.settings.asked_slots ≡ None }
+    ensures creates { (m : Messages T U) (s : State T U) → Shows domain.old m s → (s' : State T U) × Shows domain.new m s'
+        × MatchResult result
+        (λ publisher. (publisher_id publisher ≡ s.next_port) × CreatePublisher fixed_handlers s (with_slots factory.settings asked_slots) s' None)
+        (λ e. CreatePublisher fixed_handlers s (with_slots factory.settings asked_slots) s' (Some e)) }
+    ensures ready { IfOk result (λ publisher. IsReadyPublisher domain.new publisher) }
+    ensures new { IfOk result (λ publisher. IsNewIn domain.old (publisher_port publisher)) }
+    ensures stays { Stays domain.old domain.new }
+{
+    match asked_slots {
+        Some(slots) => {
+            let factory = factory.override_sample_preallocation(move |_| slots);
+            factory.create(domain)
+        }
+        None => factory.create(domain),
+    }
+}
+
+// The same for slices.
+fn create_slices<T: Drop, U: Default + Drop, F: BackpressureFn, G: DegradationFn>(
+    domain: &mut Domain<T, U, F, G>,
+    factory: slice::PortFactoryPublisher<F>,
+    asked_slots: Option<usize>,
+) -> Result<slice::Publisher, PublisherCreateError>
+    requires { factory.settings.asked_slots ≡ None }
+    ensures creates { (m : Messages T U) (s : State T U) → Shows domain.old m s → (s' : State T U) × Shows domain.new m s'
+        × MatchResult result
+        (λ publisher. (publisher_id (as_publisher publisher) ≡ s.next_port) × CreatePublisher fixed_handlers s (with_slots factory.settings asked_slots) s' None)
+        (λ e. CreatePublisher fixed_handlers s (with_slots factory.settings asked_slots) s' (Some e)) }
+    ensures ready { IfOk result (λ publisher. IsReadyPublisher domain.new (as_publisher publisher)) }
+    ensures new { IfOk result (λ publisher. IsNewIn domain.old (publisher_port (as_publisher publisher))) }
+    ensures stays { Stays domain.old domain.new }
+{
+    match asked_slots {
+        Some(slots) => {
+            let factory = factory.override_sample_preallocation(move |_| slots);
+            factory.create(domain)
+        }
+        None => factory.create(domain),
+    }
+}
+
+/// Makes a publisher with so many loans, with an override that asks for so many slots where there is
+/// one, and with that answer to a refused connection, which follows the strategy, or the handler with
+/// that answer where there is one. Where messages are slices, each of its loans may have so many
+/// elements.
 pub(crate) fn make_publisher<T: Drop, U: Default + Drop, F: BackpressureFn, G: DegradationFn>(
     domain: &mut Domain<T, U, F, G>,
     loans: usize,
     strategy: BackpressureStrategy,
     len: usize,
+    asked_slots: Option<usize>,
     degradation: DegradationAction,
     backpressure: Option<BackpressureAction>,
 ) -> Result<Publisher, PublisherCreateError>
     ensures creates { (m : Messages T U) (s : State T U) → Shows domain.old m s → (s' : State T U) × Shows domain.new m s'
         × MatchResult result
         (λ publisher. (publisher.id ≡ s.next_port)
-        × CreatePublisher fixed_handlers s (publisher_settings (s.config).variant loans strategy Static len None degradation backpressure) s' None)
-        (λ e. CreatePublisher fixed_handlers s (publisher_settings (s.config).variant loans strategy Static len None degradation backpressure) s' (Some e)) }
+        × CreatePublisher fixed_handlers s (publisher_settings (s.config).variant loans strategy Static len asked_slots degradation backpressure) s' None)
+        (λ e. CreatePublisher fixed_handlers s (publisher_settings (s.config).variant loans strategy Static len asked_slots degradation backpressure) s' (Some e)) }
     ensures ready { IfOk result (λ publisher. IsReadyPublisher domain.new publisher) }
     ensures new { IfOk result (λ publisher. IsNewIn domain.old (publisher_port publisher)) }
     ensures stays { Stays domain.old domain.new }
 {
     match domain.variant() {
         TypeVariant::FixedSize => {
-            value_factory(domain, loans, strategy, degradation, backpressure).create(domain)
+            let factory = value_factory(domain, loans, strategy, degradation, backpressure);
+            create_values(domain, factory, asked_slots)
         }
         TypeVariant::Dynamic => {
             let factory = slice_factory(domain, loans, strategy, len, degradation, backpressure);
-            let publisher = factory.create(domain)?;
+            let publisher = create_slices(domain, factory, asked_slots)?;
             Ok(publisher.into_inner())
         }
     }

@@ -109,7 +109,7 @@ returns-in-Nothing-clause-room g c = record { len = refl; capacity = refl }
 pub returns-in-CreatePublisher-clause-carries : goal.returns-in-CreatePublisher-clause-carries
 returns-in-CreatePublisher-clause-carries g c =
     let told = rw c.in-CreatePublisher.is at c.requires.supported in
-    rw (c.in-CreatePublisher.is, told.0, told.1, sym c.deref.ensures.value) c.create_publisher.ensures.carries
+    rw (c.in-CreatePublisher.is, told, sym c.deref.ensures.value) c.create_publisher.ensures.carries
 
 pub returns-in-CreateSubscriber-clause-carries : goal.returns-in-CreateSubscriber-clause-carries
 returns-in-CreateSubscriber-clause-carries g c =

@@ -10,18 +10,18 @@ use Rattle.iox2_runs.proofs.runs.publishers.make_publisher.Goals as goal
 
 pub returns-in-FixedSize-clause-creates : goal.returns-in-FixedSize-clause-creates
 returns-in-FixedSize-clause-creates g c = λ m s shown.
-    let made = c.create.ensures.creates m s shown in (
+    let made = c.create_values.ensures.creates m s shown in (
       made.0,
       made.1,
-      subst (λ (given : PublisherSettings). MatchResult c.create.result
+      subst (λ (given : PublisherSettings). MatchResult c.create_values.result
           (λ publisher. (publisher.id ≡ s.next_port) × CreatePublisher fixed_handlers s given made.0 None) (λ e. CreatePublisher fixed_handlers s given made.0 (Some e)))
-          (fixed-settings {T = g.row.T.Denot} {U = g.row.U.Denot} c.args.domain.now c.args.loans c.args.strategy c.args.len c.args.degradation c.args.backpressure _ c.value_factory.ensures
+          (fixed-settings {T = g.row.T.Denot} {U = g.row.U.Denot} c.args.domain.now c.args.loans c.args.strategy c.args.len c.args.asked_slots c.args.degradation c.args.backpressure _ c.value_factory-factory.ensures
           (sym c.variant.ensures ∙ c.in-FixedSize.is) m s shown) made.2,
     )
 
 pub returns-in_ok-publisher-in-Dynamic-clause-creates : goal.returns-in_ok-publisher-in-Dynamic-clause-creates
 returns-in_ok-publisher-in-Dynamic-clause-creates g c = λ m s shown.
-    let is = slice-settings {T = g.row.T.Denot} {U = g.row.U.Denot} c.args.domain.now c.args.loans c.args.strategy c.args.len c.args.degradation c.args.backpressure _ c.slice_factory-factory.ensures
+    let is = slice-settings {T = g.row.T.Denot} {U = g.row.U.Denot} c.args.domain.now c.args.loans c.args.strategy c.args.len c.args.asked_slots c.args.degradation c.args.backpressure _ c.slice_factory-factory.ensures
     (sym c.variant.ensures ∙ c.in-Dynamic.is) m s shown in
     let made = c.in_ok-publisher-in-Dynamic.ensures.creates m s shown in (
       made.0,
@@ -34,7 +34,7 @@ returns-in_ok-publisher-in-Dynamic-clause-creates g c = λ m s shown.
 
 pub returns-in_err-publisher-in-Dynamic-clause-creates : goal.returns-in_err-publisher-in-Dynamic-clause-creates
 returns-in_err-publisher-in-Dynamic-clause-creates g c = λ m s shown.
-    let is = slice-settings {T = g.row.T.Denot} {U = g.row.U.Denot} c.args.domain.now c.args.loans c.args.strategy c.args.len c.args.degradation c.args.backpressure _ c.slice_factory-factory.ensures
+    let is = slice-settings {T = g.row.T.Denot} {U = g.row.U.Denot} c.args.domain.now c.args.loans c.args.strategy c.args.len c.args.asked_slots c.args.degradation c.args.backpressure _ c.slice_factory-factory.ensures
     (sym c.variant.ensures ∙ c.in-Dynamic.is) m s shown in
     let refused = err_from_is_err_and c.from_residual.result c.from_residual.ensures.1 in
     let made = c.in_err-publisher-in-Dynamic.ensures.creates m s shown in

@@ -1,0 +1,49 @@
+//! How many slots a publisher gets, and how they grow.
+ghost use Rattle.std.specs.Prelude.{◌≡◌};
+
+use iox2_ports::SegmentOptions;
+use iox2_store::{AllocationStrategy, ServiceConfig, worst_case_slots};
+
+/// No override: a publisher has the worst case of slots.
+///
+/// This library's own, where iceoryx2 has an override that is there or not.
+#[derive(Debug, Clone, Copy, PartialEq, Eq)]
+pub struct NoOverride;
+
+/// What says how many slots a publisher is to have: a closure, which is given the worst case.
+///
+/// iceoryx2's `PreallocatedSamplesOverride` (`src/service/port_factory/publisher.rs`).
+#[derive(Drop)]
+pub struct PreallocatedSamplesOverride<P> {
+    pub(crate) callback: P,
+}
+
+/// What a factory was told of the slots of its publishers: how they grow, and what says how many
+/// there are to be.
+#[derive(Drop)]
+pub(crate) struct SlotSettings<O> {
+    pub(crate) allocation: AllocationStrategy,
+    pub(crate) preallocated: O,
+}
+
+impl<P: Fn(usize) -> usize + Drop> SlotSettings<PreallocatedSamplesOverride<P>> {
+    ghost use Rattle.iox2_store.specs.machine.Limits.{worst_case};
+    ghost use Rattle.iox2_pubsub.specs.Factories.{AsksFor};
+
+    /// How the slots of a publisher with so many loans are allocated. The override is asked how many
+    /// there are to be, but not where the worst case doesn't fit `usize`.
+    pub(crate) fn ask(&self, config: &ServiceConfig, loans: usize) -> SegmentOptions
+        requires { P.IsAlwaysCallable self.now.preallocated.callback }
+        ensures allocation { result.allocation ≡ self.now.allocation }
+        ensures asked { AsksFor (P.post self.now.preallocated.callback) (worst_case config.now loans) result.asked_slots }
+    {
+        let asked_slots = match worst_case_slots(config, loans) {
+            Some(worst) => Some((self.preallocated.callback)(worst)),
+            None => None,
+        };
+        SegmentOptions {
+            allocation: self.allocation,
+            asked_slots,
+        }
+    }
+}

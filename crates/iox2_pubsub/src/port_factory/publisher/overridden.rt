@@ -1,0 +1,73 @@
+//! A publisher is made with as many slots as an override says.
+ghost use Rattle.std.specs.Prelude.{◌≡◌, ◌≤◌, ℕ, true, false, None, Some, IfOk, OnErr, OnOk, MatchResult};
+ghost use Rattle.std.specs.declared.option.Option.{Option};
+ghost use Rattle.iox2_store.specs.machine.Environments.{fixed_handlers};
+ghost use Rattle.iox2_store.specs.machine.Limits.{worst_case};
+ghost use Rattle.iox2_store.specs.machine.Ports.{CreatePublisher};
+ghost use Rattle.iox2_store.specs.machine.State.{State, Messages};
+ghost use Rattle.iox2_domain.specs.Handlers.{may_fail, may_fail_update};
+ghost use Rattle.iox2_domain.specs.Shows.{Shows};
+ghost use Rattle.iox2_pubsub.specs.Factories.{AsksFor, AsksForAll, callback_of, with_slots};
+ghost use Rattle.iox2_pubsub.specs.Handlers.{may_wait};
+ghost use Rattle.iox2_pubsub.specs.Handles.{publisher_id, strategy_of};
+ghost use Rattle.iox2_pubsub.specs.Live.{ConnectionsStay, IsConnected, IsLiveSubscriber, IsNewIn, IsReadyPublisher, NeverFails, NeverWaits, NoneRefused, Stays, handler_box, publisher_key, publisher_port, payloads, waiting};
+ghost use Rattle.iox2_pubsub.specs.LoansLeft.{HasLoansLeft, LoansLeftStay};
+ghost use Rattle.iox2_pubsub.specs.declared.subscriber.Subscriber.{Subscriber};
+
+use crate::domain::Domain;
+use crate::port_factory::preallocation::PreallocatedSamplesOverride;
+use crate::port_factory::publisher::{PortFactoryPublisher, create_plain};
+use crate::publisher::Publisher;
+use iox2_store::{
+    AllocationStrategy, BackpressureFn, BackpressureStrategy, DegradationFn, PublisherCreateError,
+};
+
+impl<F: BackpressureFn, P: Fn(usize) -> usize + Drop> PortFactoryPublisher<
+    F,
+    PreallocatedSamplesOverride<P>,
+> {
+    /// Makes the publisher, as a factory without an override does, but with as many slots as the
+    /// override says, which is asked first: no more than the worst case, and at least one where that
+    /// isn't none. Where the worst case doesn't fit `usize` the override isn't asked.
+    ///
+    /// With fewer slots than the worst case a loan fails with `LoanError::OutOfMemory` while each slot
+    /// is in use, though fewer loans are out than may be.
+    ///
+    /// Fails as without an override; the override is asked then too.
+    ///
+    /// iceoryx2's `PortFactoryPublisher::create` (`src/service/port_factory/publisher.rs`) and
+    /// `Publisher::new` (`src/port/publisher.rs`).
+    pub fn create<T: Drop, U: Default + Drop, G: DegradationFn>(
+        self,
+        domain: &mut Domain<T, U, F, G>,
+    ) -> Result<Publisher, PublisherCreateError>
+        requires can_ask { P.IsAlwaysCallable (callback_of self) }
+        ensures creates { (asked : Option ℕ) × AsksFor (P.post (callback_of self)) (worst_case (domain.old.config) self.settings.max_loaned_samples) asked
+            × ((m : Messages T U) (s : State T U) → Shows domain.old m s → (s' : State T U) × Shows domain.new m s'
+            × MatchResult result
+            (λ publisher. (publisher_id publisher ≡ s.next_port) × CreatePublisher fixed_handlers s (with_slots self.settings asked) s' None)
+            (λ e. CreatePublisher fixed_handlers s (with_slots self.settings asked) s' (Some e))) }
+        ensures is_static { OnOk result (self.settings.allocation_strategy ≡ AllocationStrategy.Static) }
+        ensures ready { IfOk result (λ publisher. IsReadyPublisher domain.new publisher) }
+        ensures discards { self.settings.backpressure_strategy ≡ BackpressureStrategy.DiscardData → self.settings.backpressure_handler ≡ None → may_fail_update self.settings.degradation_handler ≡ false → IfOk result (λ publisher. NeverWaits domain.new (publisher_key publisher)) }
+        ensures passes { may_wait self.settings.backpressure_strategy self.settings.backpressure_handler ≡ false → may_fail self.settings.backpressure_handler ≡ false → may_fail_update self.settings.degradation_handler ≡ false → IfOk result (λ publisher. NeverWaits domain.new (publisher_key publisher)) }
+        ensures overflows { (domain.old.config).enable_safe_overflow ≡ true → may_fail_update self.settings.degradation_handler ≡ false → IfOk result (λ publisher. NeverWaits domain.new (publisher_key publisher)) }
+        ensures never_fails { may_fail self.settings.backpressure_handler ≡ false → may_fail_update self.settings.degradation_handler ≡ false → IfOk result (λ publisher. NeverFails domain.new (publisher_id publisher)) }
+        ensures boxed { IfOk result (λ publisher. handler_box domain.new (publisher_id publisher) ≡ self.box) }
+        ensures strategy { IfOk result (λ publisher. strategy_of publisher ≡ self.settings.backpressure_strategy) }
+        ensures new { IfOk result (λ publisher. IsNewIn domain.old (publisher_port publisher)) }
+        ensures refused { OnErr result (payloads domain.new ≡ payloads domain.old) }
+        ensures no_fewer { (subscriber : Subscriber) → waiting domain.old subscriber ≤ waiting domain.new subscriber }
+        ensures connections { ConnectionsStay domain.old domain.new }
+        ensures connects { IfOk result (λ publisher. NoneRefused domain.old domain.new → (subscriber : Subscriber) → IsLiveSubscriber domain.old subscriber → IsConnected domain.new (publisher_id publisher) subscriber) }
+        ensures loans_left { LoansLeftStay domain.old domain.new }
+        ensures left { AsksForAll (P.post (callback_of self)) (worst_case (domain.old.config) self.settings.max_loaned_samples) → IfOk result (λ publisher. HasLoansLeft domain.new publisher self.settings.max_loaned_samples) }
+        ensures stays { Stays domain.old domain.new }
+    {
+        let options = self.options;
+        let segments = self
+            .slots
+            .ask(domain.state.config(), options.max_loaned_samples);
+        create_plain(domain, &options, self.backpressure_handler, segments)
+    }
+}
