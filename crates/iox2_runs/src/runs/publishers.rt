@@ -1,5 +1,5 @@
 //! A publisher is made, of a service of either variant.
-ghost use Rattle.std.specs.Prelude.{◌≡◌, IfOk, MatchResult};
+ghost use Rattle.std.specs.Prelude.{◌≡◌, ℕ, IfOk, MatchResult};
 ghost use Rattle.std.specs.declared.option.Option.TheVariants.{None, Some};
 ghost use Rattle.iox2_store.specs.machine.Environments.{fixed_handlers};
 ghost use Rattle.iox2_store.specs.machine.Ports.{CreatePublisher};
@@ -66,6 +66,33 @@ fn slice_factory<T: Drop, U: Default + Drop, F: BackpressureFn, G: DegradationFn
     }
 }
 
+// Makes a publisher by the factory, with an override that always asks for so many slots.
+fn create_asked_values<
+    T: Drop,
+    U: Default + Drop,
+    F: BackpressureFn,
+    G: DegradationFn,
+    P: Fn(usize) -> usize + Drop,
+>(
+    domain: &mut Domain<T, U, F, G>,
+    factory: PortFactoryPublisher<F>,
+    slots: usize,
+    callback: P,
+) -> Result<Publisher, PublisherCreateError>
+    requires can_ask { P.IsAlwaysCallable callback }
+    requires asks { (worst n : ℕ) → P.post callback worst n → n ≡ slots }
+    ensures creates { (m : Messages T U) (s : State T U) → Shows domain.old m s → (s' : State T U) × Shows domain.new m s'
+        × MatchResult result
+        (λ publisher. (publisher_id publisher ≡ s.next_port) × CreatePublisher fixed_handlers s (with_slots factory.settings (Some slots)) s' None)
+        (λ e. CreatePublisher fixed_handlers s (with_slots factory.settings (Some slots)) s' (Some e)) }
+    ensures ready { IfOk result (λ publisher. IsReadyPublisher domain.new publisher) }
+    ensures new { IfOk result (λ publisher. IsNewIn domain.old (publisher_port publisher)) }
+    ensures stays { Stays domain.old domain.new }
+{
+    let factory = factory.override_sample_preallocation(callback);
+    factory.create(domain)
+}
+
 // Makes a publisher by the factory, with an override that asks for so many slots where there is one.
 fn create_values<T: Drop, U: Default + Drop, F: BackpressureFn, G: DegradationFn>(
     domain: &mut Domain<T, U, F, G>,
@@ -82,15 +109,40 @@ fn create_values<T: Drop, U: Default + Drop, F: BackpressureFn, G: DegradationFn
     ensures stays { Stays domain.old domain.new }
 {
     match asked_slots {
-        Some(slots) => {
-            let factory = factory.override_sample_preallocation(move |_| slots);
-            factory.create(domain)
-        }
+        Some(slots) => create_asked_values(domain, factory, slots, move |_| slots),
         None => factory.create(domain),
     }
 }
 
-// The same for slices.
+// Makes a publisher of slices by the factory, with an override that always asks for so many slots.
+fn create_asked_slices<
+    T: Drop,
+    U: Default + Drop,
+    F: BackpressureFn,
+    G: DegradationFn,
+    P: Fn(usize) -> usize + Drop,
+>(
+    domain: &mut Domain<T, U, F, G>,
+    factory: slice::PortFactoryPublisher<F>,
+    slots: usize,
+    callback: P,
+) -> Result<slice::Publisher, PublisherCreateError>
+    requires can_ask { P.IsAlwaysCallable callback }
+    requires asks { (worst n : ℕ) → P.post callback worst n → n ≡ slots }
+    ensures creates { (m : Messages T U) (s : State T U) → Shows domain.old m s → (s' : State T U) × Shows domain.new m s'
+        × MatchResult result
+        (λ publisher. (publisher_id (as_publisher publisher) ≡ s.next_port) × CreatePublisher fixed_handlers s (with_slots factory.settings (Some slots)) s' None)
+        (λ e. CreatePublisher fixed_handlers s (with_slots factory.settings (Some slots)) s' (Some e)) }
+    ensures ready { IfOk result (λ publisher. IsReadyPublisher domain.new (as_publisher publisher)) }
+    ensures new { IfOk result (λ publisher. IsNewIn domain.old (publisher_port (as_publisher publisher))) }
+    ensures stays { Stays domain.old domain.new }
+{
+    let factory = factory.override_sample_preallocation(callback);
+    factory.create(domain)
+}
+
+// Makes a publisher of slices by the factory, with an override that asks for so many slots where
+// there is one.
 fn create_slices<T: Drop, U: Default + Drop, F: BackpressureFn, G: DegradationFn>(
     domain: &mut Domain<T, U, F, G>,
     factory: slice::PortFactoryPublisher<F>,
@@ -106,10 +158,7 @@ fn create_slices<T: Drop, U: Default + Drop, F: BackpressureFn, G: DegradationFn
     ensures stays { Stays domain.old domain.new }
 {
     match asked_slots {
-        Some(slots) => {
-            let factory = factory.override_sample_preallocation(move |_| slots);
-            factory.create(domain)
-        }
+        Some(slots) => create_asked_slices(domain, factory, slots, move |_| slots),
         None => factory.create(domain),
     }
 }
