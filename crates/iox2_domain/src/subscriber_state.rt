@@ -18,6 +18,9 @@ use std::marker::Model;
 /// A subscriber that wasn't closed, or that was closed and has borrowed messages. It knows its
 /// connections by their keys.
 ///
+/// The small fields stand side by side: with a word of its own for one of them a subscriber takes 128
+/// bytes in place of 112, and each receive one instruction more.
+///
 /// iceoryx2's `SubscriberSharedState` (`src/port/subscriber.rs`) and `Receiver`
 /// (`src/port/details/receiver.rs`).
 #[derive(Drop)]
@@ -26,9 +29,9 @@ pub struct SubscriberState {
     pub place: usize,
     pub is_open: bool,
     pub is_due: bool,
-    pub buffer: usize,
     // What answers for it where it can't make a connection.
     pub degradation: DegradationAction,
+    pub buffer: usize,
     // At each publisher's place the key of the connection with it.
     pub keys: Vec<Option<usize>>,
     // The keys of the connections with departed publishers, in order of entry.
