@@ -51,12 +51,12 @@ use Rattle.iox2_pubsub.proofs.UnfailedSends.{IsMild, HasNotFailed, blocked-unfai
 
 -- a domain shows some state
 pub always-shown : {T U F G : Type 0} {boxes : DomainBoxes F G} (f : Fields T U) (kept : Kept T U F G) → IsDomain f → keeping boxes f ≡ kept → (m : Messages T U) × (s : State T U) × Shows kept m s
-always-shown {T} {U} {F} f kept sound view = (entries_of (kept_of f), state_of (kept_of f), subst (λ (k : Kept T U F G). Shows k (entries_of (kept_of f)) (state_of (kept_of f))) view (shows_itself f sound))
+always-shown {T} {U} {F} {G} f kept sound view = (entries_of (kept_of f), state_of (kept_of f), subst (λ (k : Kept T U F G). Shows k (entries_of (kept_of f)) (state_of (kept_of f))) view (shows_itself f sound))
 
 -- the next id is that of no publisher that is there
 pub apart-from-next : {T U F G : Type 0} {boxes : DomainBoxes F G} (f : Fields T U) (kept : Kept T U F G) → IsDomain f → keeping boxes f ≡ kept → (key : Key) → IsPublisherKey kept key
     → key.port ≢ f.next_port
-apart-from-next {T} {U} {F} f kept sound view key live same =
+apart-from-next {T} {U} {F} {G} f kept sound view key live same =
     let it = always-shown f kept sound view in
     let has = (publisher-parts kept key live).2 in
     let known : key.port < (it.1).next_port = ((it.2).well_formed.publishers key.port has.0 (ap (λ (t : State T U). t.publishers key.port) (it.2).state ∙ has.1)).is_known in

@@ -24,7 +24,7 @@ use Rattle.iox2_pubsub.proofs.StaysBut.{BoxesStayBut, IsSpared, ports-remain, st
 -- the domain shows the machine's step
 pub discard-shows : {T U F G : Type 0} {boxes : DomainBoxes F G} (f g : Fields T U) (kept : Kept T U F G) (view : keeping boxes f ≡ kept) (n : ℕ) (discards : DiscardsLoan f g n)
     → (m : Messages T U) (s : State T U) (l : Loan T U) → Shows kept m s → s.loans n ≡ Some l → Shows (kept_of g) m (loan_discarded s n l)
-discard-shows {T} {U} {F} f g kept view n discards m s l shown out =
+discard-shows {T} {U} {F} {G} f g kept view n discards m s l shown out =
     let here : Shows (kept_of f) m s = subst (λ (k : Kept T U F G). Shows k m s) (sym view) shown in
     let is : state_of (kept_of f) ≡ s = sym here.state in
     let both : Some discards.0 ≡ Some l = sym discards.1 ∙ ap (λ (t : State T U). t.loans n) is ∙ out in

@@ -53,7 +53,7 @@ module _ {T U : Type 0} (f g : Fields T U) (given : PublisherSettings) (environm
   -- it is ready
   pub created-ready : {F G : Type 0} {boxes : DomainBoxes F G} (t : State T U) → CreatePublisher environment (state_of (kept_of f)) given t None → Reaches f g t
       → (publisher : Publisher) → publisher.service_id ≡ (f.config).service_id → publisher.id ≡ f.next_port → IsReadyPublisher (keeping boxes g) publisher
-  created-ready {F} {boxes} t made reached publisher service id =
+  created-ready {F} {G} {boxes} t made reached publisher service id =
       let keeps = create-keeps environment (state_of (kept_of f)) given t None made in
       let stands = created-stands t made reached publisher id in
       record {
@@ -83,7 +83,7 @@ module _ {T U : Type 0} (f g : Fields T U) (given : PublisherSettings) (environm
   -- and it never waits where it waits for no full receiver
   pub created-never-waits : {F G : Type 0} {boxes : DomainBoxes F G} (t : State T U) → CreatePublisher environment (state_of (kept_of f)) given t None → Reaches f g t
       → (publisher : Publisher) → publisher.id ≡ f.next_port → may_wait given.backpressure_strategy given.backpressure_handler ≡ false → may_fail given.backpressure_handler ≡ false → may_fail_update given.degradation_handler ≡ false → NeverWaits (keeping boxes g) (publisher_key publisher)
-  created-never-waits {F} {boxes} t made reached publisher id past none calm =
+  created-never-waits {F} {G} {boxes} t made reached publisher id past none calm =
       let stands = created-stands t made reached publisher id in
       record {
         passes = passes-from (keeping boxes g) _ (stands.0, inr (λ x here. (λ i. may_wait ((stands.1 x here).0 i) ((stands.1 x here).1 i)) ∙ past));
@@ -94,7 +94,7 @@ module _ {T U : Type 0} (f g : Fields T U) (given : PublisherSettings) (environm
   -- nor where the service overflows
   pub created-overflows : {F G : Type 0} {boxes : DomainBoxes F G} (t : State T U) → CreatePublisher environment (state_of (kept_of f)) given t None → Reaches f g t
       → (publisher : Publisher) → publisher.id ≡ f.next_port → (f.config).enable_safe_overflow ≡ true → may_fail_update given.degradation_handler ≡ false → NeverWaits (keeping boxes g) (publisher_key publisher)
-  created-overflows {F} {boxes} t made reached publisher id over calm =
+  created-overflows {F} {G} {boxes} t made reached publisher id over calm =
       let stands = created-stands t made reached publisher id in
       let keeps = create-keeps environment (state_of (kept_of f)) given t None made in
       let still : (g.config).enable_safe_overflow ≡ true = ap (λ (c : ServiceConfig). c.enable_safe_overflow) (ap (λ (u : State T U). u.config) reached.state ∙ keeps.config) ∙ over in

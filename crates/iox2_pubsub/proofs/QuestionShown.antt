@@ -24,7 +24,7 @@ module _ {T U : Type 0} (environment : Environment) where
   -- the domain shows what the question comes to, with the same messages
   pub answer-shows : {F G : Type 0} {boxes : DomainBoxes F G} (kept : Kept T U F G) (f g : Fields T U) → keeping boxes f ≡ kept → (q : ℕ) (result : Result Bool ConnectionFailure) → AnswersAs environment f q result g
       → (m : Messages T U) (s : State T U) → Shows kept m s → (s' : State T U) × Shows (kept_of g) m s' × IsAnswer environment s q result s'
-  answer-shows {F} kept f g same q result answers m s shown =
+  answer-shows {F} {G} kept f g same q result answers m s shown =
       let here : Shows (kept_of f) m s = subst (λ (k : Kept T U F G). Shows k m s) (sym same) shown in
       let asked : IsAnswer environment s q result answers.0 = subst (λ (t : State T U). IsAnswer environment t q result answers.0) (sym here.state) answers.2 in
       let has = answered s q result answers.0 asked in (

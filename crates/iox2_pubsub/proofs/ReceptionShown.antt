@@ -33,7 +33,7 @@ module _ {T U : Type 0} where
   -- the domain shows what the receive comes to, with the same messages
   pub reception-shows : {F G : Type 0} {boxes : DomainBoxes F G} (environment : Environment) (kept : Kept T U F G) (f g : Fields T U) → keeping boxes f ≡ kept → (q : ℕ) (result : Result (Option Receipt) ReceiveError) → ReceivesAs environment f q result g
       → (m : Messages T U) (s : State T U) → Shows kept m s → (s' : State T U) × Shows (kept_of g) m s' × Receive environment s q s' (receive_result result)
-  reception-shows {F} environment kept f g same q result receives m s shown =
+  reception-shows {F} {G} environment kept f g same q result receives m s shown =
       let here : Shows (kept_of f) m s = subst (λ (k : Kept T U F G). Shows k m s) (sym same) shown in
       let received_result : Receive environment s q receives.0 (receive_result result) =
       subst (λ (t : State T U). Receive environment t q receives.0 (receive_result result)) (sym here.state) receives.2 in (
@@ -94,7 +94,7 @@ module _ {T U F G : Type 0} {boxes : DomainBoxes F G} (environment : Environment
 -- a subscriber that is live stands somewhere
 pub subscriber-missing : {T U F G : Type 0} {boxes : DomainBoxes F G} (f : Fields T U) (kept : Kept T U F G) → keeping boxes f ≡ kept → (subscriber : Subscriber)
     → look_up (is_subscriber subscriber.id) f.subscribers ≡ None → IsLiveSubscriber kept subscriber → ⊥
-subscriber-missing {T} {U} {F} {boxes} f kept view subscriber none live =
+subscriber-missing {T} {U} {F} {G} {boxes} f kept view subscriber none live =
     let live-here : IsLiveSubscriber (keeping boxes f) subscriber = subst (λ (k : Kept T U F G). IsLiveSubscriber k subscriber) (sym view) live in
     let has = (subscriber-parts (keeping boxes f) _ live-here).2 in
     let nothing : (state_of (kept_of f)).subscribers subscriber.id ≡ None =

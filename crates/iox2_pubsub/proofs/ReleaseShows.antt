@@ -24,7 +24,7 @@ module _ {T U : Type 0} where
       → ((p : ℕ) → is_borrowed n ((state_of (kept_of f)).mailboxes p q) ≡ true → Reaches f g (released (state_of (kept_of f)) p q n))
       → (m : Messages T U) (s : State T U) → Shows kept m s → (p : ℕ) → is_borrowed n (s.mailboxes p q) ≡ true
       → (s' : State T U) × Shows (kept_of g) m s' × (s' ≡ released s p q n)
-  release-shows {F} kept f g same q n reaches m s shown p borrowed =
+  release-shows {F} {G} kept f g same q n reaches m s shown p borrowed =
       let here : Shows (kept_of f) m s = subst (λ (k : Kept T U F G). Shows k m s) (sym same) shown in
       let state : s ≡ state_of (kept_of f) = here.state in
       let reached_from : Reaches f g (released s p q n) =

@@ -147,7 +147,7 @@ steady-ok (SendEnd.Unconnected failure) there unfailed steady (Err error) is = a
 -- a send of a loan whose publisher's handler fails none
 pub never-fails-here : {T U F G : Type 0} {boxes : DomainBoxes F G} (environment : Environment) (old : Kept T U F G) (f g : Fields T U) → keeping boxes f ≡ old → (n p : ℕ) → NeverFails old p → (result : SendResult) (sends : SendsLoan environment f g n result)
     → (sends.loan).publisher ≡ p → result ≡ Send_error UnableToDeliver → ⊥
-never-fails-here {T} {U} {F} environment old f g same n p never result sends its = elim (unfailed-parts old p never).1 [
+never-fails-here {T} {U} {F} {G} environment old f g same n p never result sends its = elim (unfailed-parts old p never).1 [
   | inl over ↦ (overflowing-send environment (state_of (kept_of f)) n sends.loan (state_of (kept_of g)) result (ap (λ (k : Kept T U F G). (k.config).enable_safe_overflow) same ∙ over) sends.sends).1
   | inr mild ↦ sends.unfailed (λ x at. mild x (ap (λ (k : Kept T U F G). (state_of k).publishers p) (sym same) ∙ ap (state_of (kept_of f)).publishers (sym its) ∙ at))
 ]
@@ -155,7 +155,7 @@ never-fails-here {T} {U} {F} environment old f g same n p never result sends its
 -- nor does it fail one before it is sent
 pub never-unconnected-here : {T U F G : Type 0} {boxes : DomainBoxes F G} (environment : Environment) (old : Kept T U F G) (f g : Fields T U) → keeping boxes f ≡ old → (n p : ℕ) → NeverFails old p → (result : SendResult) (sends : SendsLoan environment f g n result)
     → (sends.loan).publisher ≡ p → (failure : ConnectionFailure) → result ≡ Send_error (ConnectionError failure) → ⊥
-never-unconnected-here {T} {U} {F} environment old f g same n p never result sends its failure =
+never-unconnected-here {T} {U} {F} {G} environment old f g same n p never result sends its failure =
     steady-send environment (state_of (kept_of f)) (state_of (kept_of g)) n sends.loan result
     (λ x at. (unfailed-parts old p never).3 x (ap (λ (k : Kept T U F G). (state_of k).publishers p) (sym same) ∙ ap (state_of (kept_of f)).publishers (sym its) ∙ at))
     sends.sends failure

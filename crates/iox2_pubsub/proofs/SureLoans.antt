@@ -95,7 +95,7 @@ module _ {T U : Type 0} where
       → ((x : PublisherFields) × (get_or f.publishers i None ≡ Some x) × (x.id ≡ publisher.id)) → (answer : Result LoanAt LoanError)
       → IsSomeAnd (get_or f.publishers i None) (λ z. LoanReaches is_default checks len f z answer new) → (e : LoanError) → answer ≡ Err e
       → (kept : Kept T U F G) → keeping boxes f ≡ kept → IsSureOfLoan kept publisher → ⊥
-  sure-granted {F} is_default checks len f new sound i publisher short stands answer reaches e is kept view sure =
+  sure-granted {F} {G} is_default checks len f new sound i publisher short stands answer reaches e is kept view sure =
       let here : LoanReaches is_default checks len f stands.0 answer new = subst (λ (o : Option PublisherFields). IsSomeAnd o (λ z. LoanReaches is_default checks len f z answer new)) stands.1 reaches in
       let refused : LoanReaches {A = LoanAt} is_default checks len f stands.0 (Err e) new = subst (λ (r : Result LoanAt LoanError). LoanReaches is_default checks len f stands.0 r new) is here in
       unrefused f sound i stands.0 stands.1 checks len publisher short stands.2 (subst (λ (k : Kept T U F G). IsSureOfLoan k publisher) (sym view) sure) e refused.0

@@ -41,7 +41,7 @@ module _ {T U : Type 0} (f : Fields T U) where
   -- a publisher that is live stands somewhere
   pub publisher-missing : {F G : Type 0} {boxes : DomainBoxes F G} (kept : Kept T U F G) → keeping boxes f ≡ kept → (publisher : PublisherHandle) → look_up (is_publisher publisher.id) f.publishers ≡ None
       → IsPublisherKey kept (publisher_key publisher) → ⊥
-  publisher-missing {F} {boxes} kept view publisher none live =
+  publisher-missing {F} {G} {boxes} kept view publisher none live =
       let live-here : IsPublisherKey (keeping boxes f) (publisher_key publisher) = subst (λ (k : Kept T U F G). IsPublisherKey k (publisher_key publisher)) (sym view) live in
       let has = (publisher-parts (keeping boxes f) _ live-here).2 in
       let nothing : state.publishers publisher.id ≡ None =
@@ -102,7 +102,7 @@ module _ {T U : Type 0} (f : Fields T U) where
   -- and isn't written
   granted-live : {F G : Type 0} {boxes : DomainBoxes F G} (is_default : U → Type 0) (checks : Bool) (len : ℕ) (new : Fields T U) (x : PublisherFields) (loan : SampleMutUninit) → loan.service_id ≡ (f.config).service_id
       → IsNamed f x loan.loan → LoanReaches {A = LoanAt} is_default checks len f x (Ok loan.loan) new → IsUnwritten (keeping boxes new) loan
-  granted-live {F} {boxes} is_default checks len new x loan its names reaches =
+  granted-live {F} {G} {boxes} is_default checks len new x loan its names reaches =
       unwritten-live (keeping boxes new) loan (its ∙ ap (λ (t : State T U). (t.config).service_id) (sym reaches.3.state))
       (lent_loan x reaches.0 len, granted-out is_default checks len new x loan.loan names reaches, sym names.publisher, refl)
 
@@ -115,8 +115,8 @@ module _ {T U : Type 0} (is_default : U → Type 0) (checks : Bool) (len : ℕ) 
   -- a loan that was refused
   pub err-shown : {F G : Type 0} {boxes : DomainBoxes F G} (A : Type 0) (e : LoanError) → answer ≡ Err e → (r : Result A LoanError) → IsErrAnd r (λ e'. e' ≡ e) → (kept : Kept T U F G) → keeping boxes f ≡ kept
       → (m : Messages T U) (s : State T U) → Shows kept m s → (s' : State T U) × Shows (kept_of new) m s' × LoanCall {A = A} is_default checks len s p r s'
-  err-shown {F} A e is (Ok a) same kept view m s shown = absurd same
-  err-shown {F} A e is (Err e') same kept view m s shown =
+  err-shown {F} {G} A e is (Ok a) same kept view m s shown = absurd same
+  err-shown {F} {G} A e is (Err e') same kept view m s shown =
       subst (λ (q : ℕ). (s' : State T U) × Shows (kept_of new) m s' × LoanCall {A = A} is_default checks len s q (Err e') s') stands.2
       (refused-shows f is_default checks len new stands.0 m s (subst (λ (k : Kept T U F G). Shows k m s) (sym view) shown) A e'
       (subst (λ (r : Result LoanAt LoanError). LoanReaches is_default checks len f stands.0 r new) (is ∙ ap Err (sym same)) its))
@@ -124,7 +124,7 @@ module _ {T U : Type 0} (is_default : U → Type 0) (checks : Bool) (len : ℕ) 
   -- a loan that was granted
   pub ok-shown : {F G : Type 0} {boxes : DomainBoxes F G} (A : Type 0) (a : A) (loan : LoanAt) → answer ≡ Ok loan → (kept : Kept T U F G) → keeping boxes f ≡ kept
       → (m : Messages T U) (s : State T U) → Shows kept m s → (s' : State T U) × Shows (kept_of new) m s' × LoanCall {A = A} is_default checks len s p (Ok a) s'
-  ok-shown {F} A a loan is kept view m s shown =
+  ok-shown {F} {G} A a loan is kept view m s shown =
       subst (λ (q : ℕ). (s' : State T U) × Shows (kept_of new) m s' × LoanCall {A = A} is_default checks len s q (Ok a) s') stands.2
       (granted-shows f is_default checks len new stands.0 m s (subst (λ (k : Kept T U F G). Shows k m s) (sym view) shown) A loan a
       (subst (λ (r : Result LoanAt LoanError). LoanReaches is_default checks len f stands.0 r new) is its))
@@ -132,7 +132,7 @@ module _ {T U : Type 0} (is_default : U → Type 0) (checks : Bool) (len : ℕ) 
   -- it is out
   pub ok-live : {F G : Type 0} {boxes : DomainBoxes F G} (loan : SampleMutUninit) → answer ≡ Ok loan.loan → IsSomeAnd (get_or f.publishers i None) (λ z. IsNamed f z loan.loan) → (kept : Kept T U F G) → keeping boxes f ≡ kept
       → loan.service_id ≡ (kept.config).service_id → IsUnwritten (keeping boxes new) loan
-  ok-live {F} loan is named kept view service =
+  ok-live {F} {G} loan is named kept view service =
       granted-live f is_default checks len new stands.0 loan (service ∙ sym (ap (λ (k : Kept T U F G). (k.config).service_id) view))
       (subst (λ (o : Option PublisherFields). IsSomeAnd o (λ z. IsNamed f z loan.loan)) stands.1 named)
       (subst (λ (r : Result LoanAt LoanError). LoanReaches is_default checks len f stands.0 r new) is its)

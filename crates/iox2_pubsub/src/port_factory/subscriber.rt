@@ -123,12 +123,18 @@ impl<G: DegradationFn> PortFactorySubscriber<G> {
         ensures stays { Stays domain.old domain.new }
     {
         let service_id = domain.state.config().service_id;
-        let port = create_subscriber(&mut domain.state, &mut domain.subscriber_boxes, &self.options, self.degradation_box)?;
+        let options = self.options;
+        let port = create_subscriber(
+            &mut domain.state,
+            &mut domain.subscriber_boxes,
+            &options,
+            self.degradation_box,
+        )?;
         Ok(Subscriber {
             service_id,
             id: port.id,
             place: port.place,
-            buffer_size: self.options.buffer_size.max(1),
+            buffer_size: options.buffer_size.max(1),
         })
     }
 }

@@ -53,7 +53,8 @@ pub returns-clause-subscriber : goal.returns-clause-subscriber
 returns-clause-subscriber g c =
     let receives =
     reception-at {T = g.row.T.Denot} {U = g.row.U.Denot} (answers_of g.F.BackpressureFn.allows g.G.DegradationFn.allows c.args.domain.now.boxes.subscribers) c.domain.inside.state c.receive_at.new.state c.find_live_subscriber-place.result c.args.self.now.id c.receive_at.result (Ok (Some c.in-Some.receipt))
-    c.find_live_subscriber-place.ensures (c.in_ok-receipt.was ∙ ap (λ (o : Option Receipt). Ok o) c.in-Some.is) c.receive_at.ensures in
+    c.find_live_subscriber-place.ensures (c.in_ok-receipt.was ∙ ap (λ (o : Option Receipt). Ok o) c.in-Some.is)
+    (received g.F.BackpressureFn.allows g.G.DegradationFn.allows c.domain.inside.state c.receive_at.new.state c.args.domain.now c.domain.view_is c.find_live_subscriber-place.result c.receive_at.result c.receive_at.ensures) in
     (receives.3).its
 
 pub returns-clause-new : goal.returns-clause-new
