@@ -46,3 +46,4 @@ pub mod KeptCounts
 pub mod BlockedShown
 pub mod BoxesAlike
 pub mod ReceiversAhead
+pub mod KeptAnswers

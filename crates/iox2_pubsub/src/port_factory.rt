@@ -1,4 +1,5 @@
 //! Factories of ports.
 
+pub mod degradations;
 pub mod publisher;
 pub mod subscriber;

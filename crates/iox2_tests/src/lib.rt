@@ -10,6 +10,8 @@ mod copies;
 #[cfg(test)]
 mod custom_payloads;
 #[cfg(test)]
+mod degradation_boxes;
+#[cfg(test)]
 mod degradations;
 #[cfg(test)]
 mod discards;

@@ -7,6 +7,7 @@ ghost use Rattle.iox2_store.specs.machine.State.{State, Messages};
 ghost use Rattle.iox2_store.specs.declared.allocation.AllocationStrategy.TheVariants.{Static};
 ghost use Rattle.iox2_domain.specs.Handlers.{fixed_handler};
 ghost use Rattle.iox2_domain.specs.NewPublisher.{static_publisher};
+ghost use Rattle.iox2_domain.specs.declared.handlers.HandlerMark.TheVariants.{Fixed};
 ghost use Rattle.iox2_domain.specs.Shows.{Shows};
 ghost use Rattle.iox2_pubsub.specs.Live.{IsNewIn, IsReadyPublisher, Stays, publisher_port};
 ghost use Rattle.iox2_commands.specs.Step.{publisher_settings};
@@ -25,8 +26,8 @@ fn value_factory<T: Drop, U: Default + Drop, F: BackpressureFn, G: DegradationFn
     strategy: BackpressureStrategy,
     degradation: DegradationAction,
     backpressure: Option<BackpressureAction>,
-) -> PortFactoryPublisher<F>
-    ensures { result.settings ≡ static_publisher (record { max_loaned_samples = loans; strategy = strategy; degradation = degradation; initial_max_slice_len = 1 }) (fixed_handler backpressure) }
+) -> PortFactoryPublisher<F, G>
+    ensures { result.settings ≡ static_publisher (record { max_loaned_samples = loans; strategy = strategy; degradation = Fixed degradation; initial_max_slice_len = 1 }) (fixed_handler backpressure) }
 {
     let factory = domain
         .publisher_builder()
@@ -47,8 +48,8 @@ fn slice_factory<T: Drop, U: Default + Drop, F: BackpressureFn, G: DegradationFn
     len: usize,
     degradation: DegradationAction,
     backpressure: Option<BackpressureAction>,
-) -> slice::PortFactoryPublisher<F>
-    ensures { result.settings ≡ static_publisher (record { max_loaned_samples = loans; strategy = strategy; degradation = degradation; initial_max_slice_len = len }) (fixed_handler backpressure) }
+) -> slice::PortFactoryPublisher<F, G>
+    ensures { result.settings ≡ static_publisher (record { max_loaned_samples = loans; strategy = strategy; degradation = Fixed degradation; initial_max_slice_len = len }) (fixed_handler backpressure) }
 {
     let factory = domain
         .slice_publisher_builder()

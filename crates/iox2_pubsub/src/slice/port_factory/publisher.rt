@@ -1,27 +1,27 @@
 //! The factory of publishers of slices.
 ghost use Rattle.std.specs.Prelude.{◌≡◌, ◌≤◌, true, false, None, Some, IfOk, OnErr, MatchResult};
 ghost use Rattle.iox2_store.specs.declared.degradation.DegradationAction.TheVariants.{Warn};
-ghost use Rattle.iox2_store.specs.machine.Environments.{fixed_handlers};
+ghost use Rattle.iox2_domain.specs.Boxes.{answers_of};
 ghost use Rattle.iox2_store.specs.machine.Records.{Fixed};
 ghost use Rattle.iox2_store.specs.machine.Ports.{CreatePublisher};
 ghost use Rattle.iox2_store.specs.machine.State.{State, Messages};
-ghost use Rattle.iox2_pubsub.specs.Live.{ConnectionsStay, IsConnected, IsLiveSubscriber, IsNewIn, IsReadyPublisher, NeverFails, NeverWaits, NoneRefused, Stays, handler_box, publisher_key, publisher_port, payloads, waiting};
+ghost use Rattle.iox2_pubsub.specs.Live.{ConnectionsStay, IsConnected, IsLiveSubscriber, IsNewIn, IsReadyPublisher, NeverFails, NeverWaits, NoneRefused, Stays, degradation_box, handler_box, publisher_key, publisher_port, payloads, waiting};
 ghost use Rattle.iox2_pubsub.specs.LoansLeft.{HasLoansLeft, LoansLeftStay};
 ghost use Rattle.iox2_domain.specs.NewPublisher.{plain_publisher};
 ghost use Rattle.iox2_domain.specs.Handlers.{may_fail, may_fail_update};
-ghost use Rattle.iox2_pubsub.specs.Factories.{answer_of, with_handler};
+ghost use Rattle.iox2_pubsub.specs.Factories.{with_degradation, with_handler};
 ghost use Rattle.iox2_pubsub.specs.Handlers.{may_wait};
 ghost use Rattle.iox2_pubsub.specs.declared.subscriber.Subscriber.{Subscriber};
 ghost use Rattle.iox2_domain.specs.Shows.{Shows};
 
-use crate::degradation_handler::DegradationHandler;
 use crate::domain::Domain;
+use crate::port_factory::degradations::{box_in, mark_of};
 use crate::port_factory::publisher::create_plain;
 use crate::slice::Publisher;
-use iox2_domain::PublisherOptions;
+use iox2_domain::{HandlerMark, PublisherOptions};
 use iox2_store::{
     BackpressureFn, BackpressureHandler, BackpressureStrategy, DegradationAction, DegradationFn,
-    PublisherCreateError,
+    DegradationHandler, PublisherCreateError,
 };
 use std::marker::Model;
 
@@ -31,22 +31,25 @@ use std::marker::Model;
 ///
 /// iceoryx2's `PortFactoryPublisher` of a slice (`src/service/port_factory/publisher.rs`).
 #[derive(Drop)]
-pub struct PortFactoryPublisher<F = Box<dyn BackpressureFn>> {
+pub struct PortFactoryPublisher<F = Box<dyn BackpressureFn>, G = Box<dyn DegradationFn>> {
     options: PublisherOptions,
     backpressure_handler: Option<BackpressureHandler<F>>,
+    // What answers where it can't make a connection, where that is a box.
+    degradation_box: Option<G>,
 }
 
-impl<F> Model for PortFactoryPublisher<F> {
+impl<F, G> Model for PortFactoryPublisher<F, G> {
     ghost use Rattle.iox2_domain.specs.NewPublisher.{static_publisher};
     ghost use Rattle.iox2_ends.specs.Handlers.{marks_of};
     ghost use Rattle.iox2_ports.specs.Handlers.{custom_box};
     ghost use Rattle.iox2_pubsub.specs.Factories.{PublisherFactory};
 
-    ghost Value = { PublisherFactory F };
+    ghost Value = { PublisherFactory F G };
 
     ghost view = { λ factory. record {
       settings = static_publisher factory.options (marks_of factory.backpressure_handler);
       box = custom_box factory.backpressure_handler;
+      degradation_box = factory.degradation_box;
     } };
 }
 
@@ -55,22 +58,23 @@ impl<T: Drop, U: Default + Drop, F: BackpressureFn, G: DegradationFn> Domain<T, 
     /// publisher, each of one element at most, and with their strategy.
     ///
     /// iceoryx2's `publisher_builder` of a service's factory of ports.
-    pub fn slice_publisher_builder(&self) -> PortFactoryPublisher<F>
-        ensures { result ≡ record { settings = plain_publisher (self.now.config).publisher_max_loaned_samples (self.now.config).backpressure_strategy 1; box = None } }
+    pub fn slice_publisher_builder(&self) -> PortFactoryPublisher<F, G>
+        ensures { result ≡ record { settings = plain_publisher (self.now.config).publisher_max_loaned_samples (self.now.config).backpressure_strategy 1; box = None; degradation_box = None } }
     {
         PortFactoryPublisher {
             options: PublisherOptions {
                 max_loaned_samples: self.state.config().publisher_max_loaned_samples,
                 strategy: self.state.config().backpressure_strategy,
-                degradation: DegradationAction::Warn,
+                degradation: HandlerMark::Fixed(DegradationAction::Warn),
                 initial_max_slice_len: 1,
             },
             backpressure_handler: None,
+            degradation_box: None,
         }
     }
 }
 
-impl<F: BackpressureFn> PortFactoryPublisher<F> {
+impl<F: BackpressureFn, G: DegradationFn> PortFactoryPublisher<F, G> {
     ghost use Rattle.iox2_pubsub.specs.Handles.{as_publisher, max_slice_len_of, publisher_id, strategy_of};
     /// Sets how many loans of the publisher may be out at a time, 0 or more.
     ///
@@ -85,6 +89,7 @@ impl<F: BackpressureFn> PortFactoryPublisher<F> {
                 ..self.options
             },
             backpressure_handler: self.backpressure_handler,
+            degradation_box: self.degradation_box,
         }
     }
 
@@ -102,6 +107,7 @@ impl<F: BackpressureFn> PortFactoryPublisher<F> {
                 ..self.options
             },
             backpressure_handler: self.backpressure_handler,
+            degradation_box: self.degradation_box,
         }
     }
 
@@ -118,6 +124,7 @@ impl<F: BackpressureFn> PortFactoryPublisher<F> {
         PortFactoryPublisher {
             options: self.options,
             backpressure_handler: Some(handler),
+            degradation_box: self.degradation_box,
         }
     }
 
@@ -134,23 +141,26 @@ impl<F: BackpressureFn> PortFactoryPublisher<F> {
                 ..self.options
             },
             backpressure_handler: self.backpressure_handler,
+            degradation_box: self.degradation_box,
         }
     }
 
     /// Sets what answers where memory for a connection with a subscriber is refused: the publisher
-    /// goes on without it, or the domain warns of it too, as by default, or the call fails.
+    /// goes on without it, or the domain warns of it too, as by default, or the call fails. A handler
+    /// that is a box goes with the publisher to the domain, which keeps it until the publisher is closed.
     ///
     /// iceoryx2's `PortFactoryPublisher::set_degradation_handler`
     /// (`src/service/port_factory/publisher.rs`).
-    pub fn set_degradation_handler(self, handler: DegradationHandler) -> Self
-        ensures { result ≡ record self { settings = record (self.settings) { degradation_handler = answer_of handler } } }
+    pub fn set_degradation_handler(self, handler: DegradationHandler<G>) -> Self
+        ensures { result ≡ with_degradation self handler }
     {
         PortFactoryPublisher {
             options: PublisherOptions {
-                degradation: handler.answer(),
+                degradation: mark_of(&handler),
                 ..self.options
             },
             backpressure_handler: self.backpressure_handler,
+            degradation_box: box_in(handler),
         }
     }
 
@@ -160,14 +170,15 @@ impl<F: BackpressureFn> PortFactoryPublisher<F> {
     /// iceoryx2's `PortFactoryPublisher::__internal_partial_clone`
     /// (`src/service/port_factory/publisher.rs`).
     pub fn internal_partial_clone(&self) -> Self
-        ensures { result ≡ record { settings = record (self.now.settings) { degradation_handler = Fixed Warn; backpressure_handler = None }; box = None } }
+        ensures { result ≡ record { settings = record (self.now.settings) { degradation_handler = Fixed Warn; backpressure_handler = None }; box = None; degradation_box = None } }
     {
         PortFactoryPublisher {
             options: PublisherOptions {
-                degradation: DegradationAction::Warn,
+                degradation: HandlerMark::Fixed(DegradationAction::Warn),
                 ..self.options
             },
             backpressure_handler: None,
+            degradation_box: None,
         }
     }
 
@@ -179,25 +190,26 @@ impl<F: BackpressureFn> PortFactoryPublisher<F> {
     /// `UnableToCreateDataSegment` where the number of slots, or that times the longest length times
     /// the units of an element, doesn't fit `usize`. After these, where memory is refused: with
     /// `UnableToCreateDataSegment` if it was for the slots, with `FailedToDeployThreadsafetyPolicy`
-    /// if it was for the publisher's state or its box. No id is then used, and the domain stays as it
-    /// is.
+    /// if it was for the publisher's state or its boxes. No id is then used, and the domain stays as
+    /// it is.
     ///
     /// iceoryx2's `PortFactoryPublisher::create` (`src/service/port_factory/publisher.rs`) and
     /// `Publisher::new` (`src/port/publisher.rs`).
-    pub fn create<T: Drop, U: Default + Drop, G: DegradationFn>(
+    pub fn create<T: Drop, U: Default + Drop>(
         self,
         domain: &mut Domain<T, U, F, G>,
     ) -> Result<Publisher, PublisherCreateError>
         ensures creates { (m : Messages T U) (s : State T U) → Shows domain.old m s → (s' : State T U) × Shows domain.new m s'
             × MatchResult result
-            (λ publisher. (publisher_id (as_publisher publisher) ≡ s.next_port) × CreatePublisher fixed_handlers s self.settings s' None)
-            (λ e. CreatePublisher fixed_handlers s self.settings s' (Some e)) }
+            (λ publisher. (publisher_id (as_publisher publisher) ≡ s.next_port) × CreatePublisher (answers_of F.allows G.allows (domain.new.boxes).publishers) s self.settings s' None)
+            (λ e. CreatePublisher (answers_of F.allows G.allows (domain.new.boxes).publishers) s self.settings s' (Some e)) }
         ensures ready { IfOk result (λ publisher. IsReadyPublisher domain.new (as_publisher publisher)) }
         ensures discards { self.settings.backpressure_strategy ≡ BackpressureStrategy.DiscardData → self.settings.backpressure_handler ≡ None → may_fail_update self.settings.degradation_handler ≡ false → IfOk result (λ publisher. NeverWaits domain.new (publisher_key (as_publisher publisher))) }
         ensures passes { may_wait self.settings.backpressure_strategy self.settings.backpressure_handler ≡ false → may_fail self.settings.backpressure_handler ≡ false → may_fail_update self.settings.degradation_handler ≡ false → IfOk result (λ publisher. NeverWaits domain.new (publisher_key (as_publisher publisher))) }
         ensures overflows { (domain.old.config).enable_safe_overflow ≡ true → may_fail_update self.settings.degradation_handler ≡ false → IfOk result (λ publisher. NeverWaits domain.new (publisher_key (as_publisher publisher))) }
         ensures never_fails { may_fail self.settings.backpressure_handler ≡ false → may_fail_update self.settings.degradation_handler ≡ false → IfOk result (λ publisher. NeverFails domain.new (publisher_id (as_publisher publisher))) }
         ensures boxed { IfOk result (λ publisher. handler_box domain.new (publisher_id (as_publisher publisher)) ≡ self.box) }
+        ensures degrades { IfOk result (λ publisher. degradation_box domain.new (publisher_id (as_publisher publisher)) ≡ self.degradation_box) }
         ensures strategy { IfOk result (λ publisher. strategy_of (as_publisher publisher) ≡ self.settings.backpressure_strategy) }
         ensures longest { IfOk result (λ publisher. max_slice_len_of (as_publisher publisher) ≡ self.settings.initial_max_slice_len) }
         ensures new { IfOk result (λ publisher. IsNewIn domain.old (publisher_port (as_publisher publisher))) }
@@ -210,7 +222,7 @@ impl<F: BackpressureFn> PortFactoryPublisher<F> {
         ensures stays { Stays domain.old domain.new }
     {
         let options = self.options;
-        match create_plain(domain, &options, self.backpressure_handler) {
+        match create_plain(domain, &options, self.backpressure_handler, self.degradation_box) {
             Ok(publisher) => Ok(Publisher { publisher }),
             Err(error) => Err(error),
         }
