@@ -4,6 +4,7 @@ pub mod SampleOrigins
 pub mod UninitLoans
 pub mod SubscribersShown
 pub mod LoanHandles
+pub mod MarkedLoans
 pub mod LentHandles
 pub mod AssumedLoans
 pub mod WrittenLoanCalls

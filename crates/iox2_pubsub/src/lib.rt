@@ -4,6 +4,7 @@
 mod blocked_send;
 mod custom_markers;
 mod domain;
+mod parts;
 mod port_factory;
 mod publisher;
 mod sample;
@@ -26,6 +27,7 @@ pub use iox2_store::{
     UniqueNodeId, UniquePublisherId, UniqueSubscriberId, Warning, ZeroCopyCreationError,
     worst_case_slots,
 };
+pub use parts::{LoanParts, PublisherParts, SampleParts, SubscriberParts};
 pub use port_factory::publisher::PortFactoryPublisher;
 pub use port_factory::subscriber::PortFactorySubscriber;
 pub use publisher::Publisher;

@@ -26,6 +26,8 @@ mod in_place;
 #[cfg(test)]
 mod loans;
 #[cfg(test)]
+mod parts;
+#[cfg(test)]
 mod payloads;
 #[cfg(test)]
 mod publishers;
