@@ -5,7 +5,7 @@ use crate::waiting_publishers::{
     next_reading, subscriber_of, waiting_domain, waiting_publisher,
 };
 use iox2_fixtures::{Reading, Station, settings};
-use iox2_pubsub::{BlockedSend, Domain, Publisher};
+use iox2_pubsub::{BlockedSend, Domain, LoanParts, Publisher};
 use iox2_store::{BackpressureStrategy, Key, ServiceConfig};
 use std::process::Abort;
 use std::time::Duration;
@@ -102,6 +102,45 @@ fn a_blocked_send_is_held_until_it_has_ended(rt: HostRuntime) {
     drop(domain);
     assert!(rt; [first, second] == [1, 0]);
     assert!(rt; before == [true, false, false, false]);
+    assert!(rt; !after);
+}
+
+// Whether a send with the numbers waits.
+fn has_blocked(domain: &Domain<Reading, Station>, parts: &LoanParts) -> bool {
+    match domain.blocked_of(parts) {
+        Some(waiting) => {
+            waiting.disown();
+            true
+        }
+        None => false,
+    }
+}
+
+#[test]
+fn a_blocked_send_is_had_again_until_it_has_ended(rt: HostRuntime) {
+    let mut domain = waiting_domain(&rt, rt.alloc());
+    let subscriber = subscriber_of(&rt, &mut domain, 1);
+    let publisher = waiting_publisher(&rt, &mut domain);
+    let first = deliver(&rt, &mut domain, &publisher, 20);
+    let parts = block(&rt, &mut domain, &publisher, 21).into_parts();
+    let astray = LoanParts {
+        place: usize::MAX,
+        book: 7,
+        slot: usize::MAX,
+        ..parts
+    };
+    let before = [
+        has_blocked(&domain, &parts),
+        has_blocked(&domain, &LoanParts { number: 9, ..parts }),
+    ];
+    let waiting = domain.blocked_of(&astray).expect(&rt, "a blocked send");
+    let second = given_up(&rt, &mut domain, waiting);
+    let after = has_blocked(&domain, &parts);
+    subscriber.disown();
+    publisher.disown();
+    drop(domain);
+    assert!(rt; [first, second] == [1, 0]);
+    assert!(rt; before == [true, false]);
     assert!(rt; !after);
 }
 

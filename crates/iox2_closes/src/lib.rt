@@ -1,2 +1,4 @@
-//! Fields whose ports may be closed: what holds of them after a change.
+//! What a subscriber's close comes to: lemmas for `iox2_ports`, which has its functions.
+//!
+//! It has no function of its own. It is a crate for the prover's time alone, as `iox2_steps` is.
 #![tactic(auto)]

@@ -20,7 +20,7 @@ use crate::send_end::SendEnd;
 use iox2_domain::{BlockedDelivery, Boxes, DomainState, PublisherState};
 use iox2_ends::sender::{Delivery, DeliveryOutcome, Progress, deliver};
 use iox2_slots::SlotBook;
-use iox2_store::{BackpressureFn, UniquePublisherId};
+use iox2_store::{BackpressureFn, DegradationFn, UniquePublisherId};
 use std::time::Duration;
 
 // One retry more; the greatest number stays.
@@ -60,9 +60,9 @@ fn conclude_blocked(
 
 // The blocked delivery of the publisher at a place, which has reclaimed what was given back, is taken
 // up there.
-fn go_on<T: Drop, U: Default + Drop, F: BackpressureFn>(
+fn go_on<T: Drop, U: Default + Drop, F: BackpressureFn, G: DegradationFn>(
     state: &mut DomainState<T, U>,
-    boxes: &Boxes<F>,
+    boxes: &Boxes<F, G>,
     place: usize,
     start: Progress,
     elapsed: Duration,
@@ -72,7 +72,7 @@ fn go_on<T: Drop, U: Default + Drop, F: BackpressureFn>(
     requires can { (x : PublisherFields) (b : BlockedDelivery) → slice_index_or state.old.publishers place None ≡ Some x → x.blocked ≡ Some b → CanGoOn x b start }
     requires reclaimed { (x : PublisherFields) → slice_index_or state.old.publishers place None ≡ Some x → HasReclaimed state.old.connections x.keys }
     ensures { (x : PublisherFields) (b : BlockedDelivery) → slice_index_or state.old.publishers place None ≡ Some x → x.blocked ≡ Some b
-        → GoesOn (answers_of F.allows (boxes.now).boxes) state.old place x b start elapsed result state.new }
+        → GoesOn (answers_of F.allows G.allows (boxes.now).boxes) state.old place x b start elapsed result state.new }
 {
     let Some(publisher) = &mut state.publishers[place] else {
         unreachable!();
@@ -139,16 +139,16 @@ fn progress_behind<T: Drop, U: Default + Drop>(state: &DomainState<T, U>, place:
 /// The blocked send of the publisher at a place is tried again at the receiver that it waits for,
 /// which is asked with one retry more and with the time that is handed in. Connections aren't
 /// updated. It takes no memory.
-pub fn retry_send<T: Drop, U: Default + Drop, F: BackpressureFn>(
+pub fn retry_send<T: Drop, U: Default + Drop, F: BackpressureFn, G: DegradationFn>(
     state: &mut DomainState<T, U>,
-    boxes: &Boxes<F>,
+    boxes: &Boxes<F, G>,
     place: usize,
     elapsed: Duration,
 ) -> SendEnd
     requires agrees { IsDomain state.old }
     requires waits { HasBlocked state.old place }
     ensures goes { (x : PublisherFields) (b : BlockedDelivery) → slice_index_or state.old.publishers place None ≡ Some x → x.blocked ≡ Some b
-        → RetriesAs (answers_of F.allows (boxes.now).boxes) state.old state.new x b elapsed (end_result result) }
+        → RetriesAs (answers_of F.allows G.allows (boxes.now).boxes) state.old state.new x b elapsed (end_result result) }
     ensures kept { IsKept result }
 {
     reclaim(state, place);
@@ -162,15 +162,15 @@ pub fn retry_send<T: Drop, U: Default + Drop, F: BackpressureFn>(
 
 /// The blocked send of the publisher at a place goes on behind the receiver that it waits for, which
 /// is skipped. It takes no memory.
-pub fn give_up_send<T: Drop, U: Default + Drop, F: BackpressureFn>(
+pub fn give_up_send<T: Drop, U: Default + Drop, F: BackpressureFn, G: DegradationFn>(
     state: &mut DomainState<T, U>,
-    boxes: &Boxes<F>,
+    boxes: &Boxes<F, G>,
     place: usize,
 ) -> SendEnd
     requires agrees { IsDomain state.old }
     requires waits { HasBlocked state.old place }
     ensures goes { (x : PublisherFields) (b : BlockedDelivery) → slice_index_or state.old.publishers place None ≡ Some x → x.blocked ≡ Some b
-        → GivesUpAs (answers_of F.allows (boxes.now).boxes) state.old state.new x b (end_result result) }
+        → GivesUpAs (answers_of F.allows G.allows (boxes.now).boxes) state.old state.new x b (end_result result) }
     ensures kept { IsKept result }
 {
     reclaim(state, place);

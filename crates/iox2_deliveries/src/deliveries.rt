@@ -17,7 +17,7 @@ use crate::send_end::SendEnd;
 use iox2_domain::{AskedBox, BlockedDelivery, Boxes, DomainState, PublisherState};
 use iox2_ends::sender::{Delivery, DeliveryOutcome, Progress, deliver};
 use iox2_slots::{SlotBook, SlotMark};
-use iox2_store::{BackpressureFn, BackpressureHandler};
+use iox2_store::{BackpressureFn, BackpressureHandler, DegradationFn};
 use std::time::Duration;
 
 // The loan in a slot that was delivered is out no more, or its publisher waits for a receiver, and
@@ -72,11 +72,11 @@ pub fn has_handler_at<T: Drop, U: Default + Drop>(state: &DomainState<T, U>, pla
 }
 
 // What answers for the publisher at a place at a full buffer.
-fn handler_at<'a, T: Drop, U: Default + Drop, F: BackpressureFn>(
+fn handler_at<'a, T: Drop, U: Default + Drop, F: BackpressureFn, G: DegradationFn>(
     state: &DomainState<T, U>,
-    boxes: &'a Boxes<F>,
+    boxes: &'a Boxes<F, G>,
     place: usize,
-) -> Option<BackpressureHandler<AskedBox<'a, F>>>
+) -> Option<BackpressureHandler<AskedBox<'a, F, G>>>
     requires { (x : PublisherFields) × (slice_index_or state.now.publishers place None ≡ Some x) }
     ensures marks { (x : PublisherFields) → slice_index_or state.now.publishers place None ≡ Some x → marks_of result ≡ x.backpressure_handler }
     ensures asks { (x : PublisherFields) → slice_index_or state.now.publishers place None ≡ Some x → AsksFor x.id (boxes.now).boxes result }
@@ -128,16 +128,16 @@ fn send_slot<T: Drop, U: Default + Drop, X: BackpressureFn>(
 
 // Sends the loan in a slot of the publisher at a place, whatever answers for it at a full buffer.
 #[inline(never)]
-fn send_by_handler<T: Drop, U: Default + Drop, F: BackpressureFn>(
+fn send_by_handler<T: Drop, U: Default + Drop, F: BackpressureFn, G: DegradationFn>(
     state: &mut DomainState<T, U>,
-    boxes: &Boxes<F>,
+    boxes: &Boxes<F, G>,
     place: usize,
     slot: usize,
 ) -> SendEnd
     requires agrees { IsDomain state.old }
     requires can { (x : PublisherFields) × (slice_index_or state.old.publishers place None ≡ Some x) × CanSend state.old x slot }
     ensures sends { (outcome : DeliveryOutcome) × (end_result result ≡ result_of_send outcome)
-        × ((x : PublisherFields) → slice_index_or state.old.publishers place None ≡ Some x → SendsSlot (answers_of F.allows (boxes.now).boxes) state.old place x slot outcome state.new) }
+        × ((x : PublisherFields) → slice_index_or state.old.publishers place None ≡ Some x → SendsSlot (answers_of F.allows G.allows (boxes.now).boxes) state.old place x slot outcome state.new) }
     ensures kept { IsKept result }
 {
     let handler = handler_at(state, boxes, place);
@@ -165,16 +165,16 @@ pub fn send_unasked<T: Drop, U: Default + Drop>(
 
 /// The same, whether the publisher has a handler or not. A box is among these boxes.
 #[inline(always)]
-pub fn send_ready<T: Drop, U: Default + Drop, F: BackpressureFn>(
+pub fn send_ready<T: Drop, U: Default + Drop, F: BackpressureFn, G: DegradationFn>(
     state: &mut DomainState<T, U>,
-    boxes: &Boxes<F>,
+    boxes: &Boxes<F, G>,
     place: usize,
     slot: usize,
 ) -> SendEnd
     requires agrees { IsDomain state.old }
     requires can { (x : PublisherFields) × (slice_index_or state.old.publishers place None ≡ Some x) × CanSend state.old x slot }
     ensures sends { (outcome : DeliveryOutcome) × (end_result result ≡ result_of_send outcome)
-        × ((x : PublisherFields) → slice_index_or state.old.publishers place None ≡ Some x → SendsSlot (answers_of F.allows (boxes.now).boxes) state.old place x slot outcome state.new) }
+        × ((x : PublisherFields) → slice_index_or state.old.publishers place None ≡ Some x → SendsSlot (answers_of F.allows G.allows (boxes.now).boxes) state.old place x slot outcome state.new) }
     ensures kept { IsKept result }
 {
     if has_handler_at(state, place) {

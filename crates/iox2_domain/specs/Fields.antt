@@ -17,7 +17,7 @@ use Rattle.iox2_ends.specs.LookUp.{look_up}
 use Rattle.iox2_ends.specs.Mailboxes.{mailbox_of, sender_ends, receiver_ends}
 use Rattle.iox2_domain.specs.WarningRing.{WarningRing}
 use Rattle.iox2_domain.specs.Ports.{PublisherFields, SubscriberFields}
-use Rattle.iox2_domain.specs.declared.boxes.PortBox.{PortBox}
+use Rattle.iox2_domain.specs.Boxes.{DomainBoxes}
 use Rattle.iox2_domain.specs.declared.publisher_state.BlockedDelivery.{BlockedDelivery}
 use Rattle.iox2_domain.specs.Kept.{Named, Between, KeptMessage, Lent_message, Sent_message, KeptBook, Kept}
 
@@ -139,7 +139,7 @@ module _ (books : Slab Book) (connections : Slab Link) where
   between_of c = record { publisher = c.home.publisher; subscriber = c.home.subscriber; box = mailbox_of (numbers_of books c.home.publisher) c }
 
 -- What the fields keep, beside these boxes.
-abbrev pub keeping : {T U F : Type 0} → List (PortBox F) → Fields T U → Kept T U F
+abbrev pub keeping : {T U F G : Type 0} → DomainBoxes F G → Fields T U → Kept T U F G
 keeping boxes f = record {
   config = f.config;
   next_port = f.next_port;
@@ -153,5 +153,5 @@ keeping boxes f = record {
 }
 
 -- What the fields keep, where there are no boxes.
-abbrev pub kept_of : {T U : Type 0} → Fields T U → Kept T U ⊥
-kept_of f = keeping [] f
+abbrev pub kept_of : {T U : Type 0} → Fields T U → Kept T U ⊥ ⊥
+kept_of f = keeping (record { publishers = []; subscribers = [] }) f

@@ -29,7 +29,7 @@ abbrev pub handler_if_any : Option (HandlerMark BackpressureAction) → Option (
 handler_if_any has = option_map {U = Handler BackpressureAction} handler_of has
 
 -- Where the handler is asked, it asks the box of the publisher with the id.
-abbrev pub AsksFor : {F : Type 0} → (id : ℕ) → List (PortBox F) → Option (BackpressureHandler (AskedBox F)) → Type 0
+abbrev pub AsksFor : {F G : Type 0} → (id : ℕ) → List (PortBox F G) → Option (BackpressureHandler (AskedBox F G)) → Type 0
 AsksFor id boxes None = Unit {0}
 AsksFor id boxes (Some (handler.Fixed action)) = Unit {0}
 AsksFor id boxes (Some (handler.Custom asked)) = (asked.id ≡ id) × (asked.boxes.now.boxes ≡ boxes)

@@ -9,7 +9,7 @@ use Rattle.iox2_store.specs.machine.State.{State, Warnings, Messages}
 use Rattle.iox2_store.specs.declared.header.Header.{Header}
 use Rattle.iox2_store.specs.declared.service_config.ServiceConfig.{ServiceConfig}
 use Rattle.iox2_ends.specs.LookUp.{look_up}
-use Rattle.iox2_domain.specs.declared.boxes.PortBox.{PortBox}
+use Rattle.iox2_domain.specs.Boxes.{DomainBoxes}
 
 -- A port and its id.
 pub record Named (A : Type 0) : Type 0 where
@@ -32,8 +32,8 @@ pub record KeptBook (T U : Type 0) : Type 0 where
   pub publisher : ℕ
   pub slots : List (Option (KeptMessage T U))
 
--- What a domain keeps, with handlers of F in boxes.
-pub record Kept (T U F : Type 0) : Type 0 where
+-- What a domain keeps, with handlers of F and G in boxes.
+pub record Kept (T U F G : Type 0) : Type 0 where
   pub config : ServiceConfig
   pub next_port : ℕ
   pub next_message : ℕ
@@ -42,7 +42,7 @@ pub record Kept (T U F : Type 0) : Type 0 where
   pub connections : List (Option Between)  -- in no order that means anything
   pub books : List (Option (KeptBook T U))  -- in no order that means anything
   pub warnings : Warnings
-  pub boxes : List (PortBox F)  -- the boxed handlers of publishers, in no order that means anything
+  pub boxes : DomainBoxes F G
 
 -- ---- ports and mailboxes
 
@@ -113,9 +113,9 @@ module _ {T U : Type 0} where
   loan_changed n change (Lent_message number l) = Lent_message number (cond (number == n) (change l) l)
   loan_changed n change (Sent_message number entry) = Sent_message number entry
 
-module _ {T U F : Type 0} where
+module _ {T U F G : Type 0} where
   -- The state that is kept.
-  abbrev pub state_of : Kept T U F → State T U
+  abbrev pub state_of : Kept T U F G → State T U
   state_of kept = record {
     config = kept.config;
     next_port = kept.next_port;
@@ -130,11 +130,11 @@ module _ {T U F : Type 0} where
   }
 
   -- The messages that are kept.
-  abbrev pub entries_of : Kept T U F → Messages T U
+  abbrev pub entries_of : Kept T U F G → Messages T U
   entries_of kept = λ n. option_and_then entry_in (message_numbered n kept.books)
 
   -- What is kept, with the loan n changed so. Nothing else changes.
-  abbrev pub with_loan_changed : (n : ℕ) → (Loan T U → Loan T U) → Kept T U F → Kept T U F
+  abbrev pub with_loan_changed : (n : ℕ) → (Loan T U → Loan T U) → Kept T U F G → Kept T U F G
   with_loan_changed n change kept = record kept {
     books = map (option_map (λ (book : KeptBook T U). record book { slots = map (option_map (loan_changed n change)) book.slots })) kept.books;
   }

@@ -8,7 +8,7 @@ use Rattle.std.specs.declared.result.Result.TheVariants.{Ok, Err}
 use Rattle.slab.specs.Slab.{Slab, get, Updates}
 use Rattle.circular_buffer.specs.Buffer.{Buffer}
 use Rattle.iox2_store.specs.machine.Limits.{last_number}
-use Rattle.iox2_store.specs.machine.Records.{PublisherSettings, Handler, Fixed}
+use Rattle.iox2_store.specs.machine.Records.{PublisherSettings, Handler}
 use Rattle.iox2_slots.specs.SlotBook.{Book, IsAligned}
 use Rattle.iox2_contents.specs.SlotContents.{ContentState}
 use Rattle.iox2_store.specs.declared.allocation.AllocationStrategy.TheVariants.{Static}
@@ -17,6 +17,8 @@ use Rattle.iox2_store.specs.declared.backpressure.BackpressureStrategy.{Backpres
 use Rattle.iox2_store.specs.declared.degradation.DegradationAction.TheVariants.{Warn}
 use Rattle.iox2_store.specs.declared.errors.PublisherCreateError.{PublisherCreateError}
 use Rattle.iox2_store.specs.declared.errors.PublisherCreateError.TheVariants.{UnableToCreatePortTag, ExceedsMaxSupportedPublishers}
+use Rattle.iox2_domain.specs.Handlers.{handler_of}
+use Rattle.iox2_domain.specs.declared.handlers.HandlerMark.TheVariants as mark
 use Rattle.iox2_domain.specs.declared.options.PublisherOptions.{PublisherOptions}
 use Rattle.iox2_domain.specs.Ports.{PublisherFields, SubscriberFields}
 use Rattle.iox2_domain.specs.Fields.{Fields}
@@ -30,14 +32,14 @@ static_publisher given handler = record {
   allocation_strategy = Static;
   initial_max_slice_len = given.initial_max_slice_len;
   asked_slots = None;
-  degradation_handler = Fixed given.degradation;
+  degradation_handler = handler_of given.degradation;
   backpressure_handler = handler;
 }
 
 -- Those of one without handlers, which warns where it can't make a connection.
 abbrev pub plain_publisher : (max_loaned_samples : ℕ) → BackpressureStrategy → (initial_max_slice_len : ℕ) → PublisherSettings
 plain_publisher max_loaned_samples strategy initial_max_slice_len =
-    static_publisher (record { max_loaned_samples = max_loaned_samples; strategy = strategy; degradation = Warn; initial_max_slice_len = initial_max_slice_len }) None
+    static_publisher (record { max_loaned_samples = max_loaned_samples; strategy = strategy; degradation = mark.Fixed Warn; initial_max_slice_len = initial_max_slice_len }) None
 
 -- The publisher is to have one segment.
 pub record IsForOneSegment (given : PublisherSettings) : Type 0 where

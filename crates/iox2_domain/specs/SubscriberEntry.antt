@@ -4,16 +4,17 @@ use Rattle.std.specs.declared.result.Result.{Result}
 use Rattle.std.specs.declared.result.Result.TheVariants.{Ok, Err}
 use Rattle.iox2_store.specs.machine.Limits.{buffer_limit, last_number}
 use Rattle.iox2_store.specs.machine.Ports.{buffer_for}
-use Rattle.iox2_store.specs.machine.Records.{SubscriberSettings, Fixed}
+use Rattle.iox2_store.specs.machine.Records.{SubscriberSettings}
 use Rattle.iox2_store.specs.declared.errors.SubscriberCreateError.{SubscriberCreateError}
 use Rattle.iox2_store.specs.declared.errors.SubscriberCreateError.TheVariants.{UnableToCreatePortTag, BufferSizeExceedsMaxSupportedBufferSizeOfService, ExceedsMaxSupportedSubscribers}
+use Rattle.iox2_domain.specs.Handlers.{handler_of}
 use Rattle.iox2_domain.specs.declared.options.SubscriberOptions.{SubscriberOptions}
 use Rattle.iox2_domain.specs.Fields.{Fields}
 use Rattle.iox2_domain.specs.Placed.{lowest_empty}
 
 -- The settings of a subscriber that is made with these options.
 abbrev pub asked_for : SubscriberOptions → SubscriberSettings
-asked_for given = record { buffer_size = given.buffer_size; degradation_handler = Fixed given.degradation }
+asked_for given = record { buffer_size = given.buffer_size; degradation_handler = handler_of given.degradation }
 
 module _ {T U : Type 0} where
   -- The lowest free place, for a subscriber with these settings; or the first reason to refuse it.

@@ -7,6 +7,7 @@ use Rattle.slab.specs.Slab.{Slab, Updates, get}
 use Rattle.iox2_slots.specs.Link.{Link, empty_link}
 use Rattle.iox2_store.specs.machine.Places.{set_place, is_port}
 use Rattle.iox2_slots.specs.declared.connection.Home.{Home}
+use Rattle.iox2_store.specs.declared.degradation.DegradationInfo.{DegradationInfo}
 use Rattle.iox2_ends.specs.Mailboxes.{publisher_of_key}
 use Rattle.iox2_domain.specs.Ports.{PublisherFields, SubscriberFields}
 
@@ -102,6 +103,10 @@ pub record MakesConnection (old : Slab Link) (home : Home) (buffer limit key : �
 -- Where the connection stands of the publisher x at the place i and the subscriber y at the place j.
 abbrev pub home_of : (i j : ℕ) → PublisherFields → SubscriberFields → Home
 home_of i j x y = record { publisher = x.id; subscriber = y.id; publisher_place = i; subscriber_place = j; book = x.book }
+
+-- What a handler is told of the connection that was to stand there, in the service with this number.
+abbrev pub refused_between : (service_id : ℕ) → Home → DegradationInfo
+refused_between service_id home = record { service_id = service_id; sender_port_id = home.publisher; receiver_port_id = home.subscriber }
 
 -- A publisher stands at the place i, and a subscriber with that buffer at the place j; this is where their connection stands.
 pub record StandApart (publishers : List (Option PublisherFields)) (subscribers : List (Option SubscriberFields)) (i j : ℕ) (home : Home) (buffer : ℕ) : Type 0 where

@@ -1,15 +1,24 @@
 //! The boxes of the ports that have one for a handler.
 ghost use Rattle.std.specs.Prelude.{◌≡◌, ◌≢◌, ◌<◌, ℕ, [], length, None, Some, MatchOption, OnOk};
-ghost use Rattle.iox2_domain.specs.Boxes.{box_of};
+ghost use Rattle.iox2_domain.specs.Boxes.{box_of, boxes_of, degradation_box_of};
 
 use std::alloc::{AllocError, Global};
 use std::marker::Model;
 
-/// The box of the port with an id.
+/// The boxes of a port: for full buffers, and for connections that are refused memory.
 #[derive(Drop)]
-pub struct PortBox<F> {
+pub struct PortBoxes<F, G> {
+    /// What it asks at a full buffer.
+    pub backpressure: Option<F>,
+    /// What it asks where it can't make a connection.
+    pub degradation: Option<G>,
+}
+
+/// The boxes of the port with an id.
+#[derive(Drop)]
+pub struct PortBox<F, G> {
     id: u128,
-    function: F,
+    boxes: PortBoxes<F, G>,
 }
 
 /// The boxes that ports have for handlers. They stand beside the state of a domain, where a port has
@@ -17,20 +26,20 @@ pub struct PortBox<F> {
 ///
 /// This library's own, where iceoryx2 keeps a handler in its port.
 #[derive(Drop)]
-pub struct Boxes<F> {
-    kept: Vec<PortBox<F>>,
+pub struct Boxes<F, G> {
+    kept: Vec<PortBox<F, G>>,
 }
 
-impl<F> Model for Boxes<F> {
+impl<F, G> Model for Boxes<F, G> {
     ghost use Rattle.std.specs.Prelude.{vec_capacity};
     ghost use Rattle.iox2_domain.specs.Boxes.{KeptBoxes};
 
-    ghost Value = { KeptBoxes F };
+    ghost Value = { KeptBoxes F G };
 
     ghost view = { λ x. record { boxes = x.kept.items; room = vec_capacity x.kept } };
 }
 
-impl<F: Drop> Boxes<F> {
+impl<F: Drop, G: Drop> Boxes<F, G> {
     /// No port has a box. It takes no memory.
     pub fn new(alloc: Global) -> Self
         ensures { result.boxes ≡ [] }
@@ -40,7 +49,7 @@ impl<F: Drop> Boxes<F> {
         }
     }
 
-    /// Makes room for one box more.
+    /// Makes room for the boxes of one port more.
     pub fn reserve_one(&mut self) -> Result<(), AllocError>
         ensures boxes { (self.new).boxes ≡ (self.old).boxes }
         ensures room { OnOk result (length (self.new).boxes < (self.new).room) }
@@ -48,33 +57,54 @@ impl<F: Drop> Boxes<F> {
         self.kept.try_reserve(1)
     }
 
-    /// The port with this id has this box from now on, for which there is room. It takes no memory.
-    pub fn add(&mut self, id: u128, function: F)
+    /// The port with this id has these boxes from now on, for which there is room. It takes no
+    /// memory.
+    pub fn add(&mut self, id: u128, boxes: PortBoxes<F, G>)
         requires { length (self.old).boxes < (self.old).room }
-        ensures its { box_of id (self.new).boxes ≡ Some function }
-        ensures others { (port : ℕ) → port ≢ id → box_of port (self.new).boxes ≡ box_of port (self.old).boxes }
+        ensures its { boxes_of id (self.new).boxes ≡ Some boxes }
+        ensures others { (port : ℕ) → port ≢ id → boxes_of port (self.new).boxes ≡ boxes_of port (self.old).boxes }
     {
         self.kept.retain(|kept| kept.id != id);
-        self.kept.push_reserved(PortBox { id, function });
+        self.kept.push_reserved(PortBox { id, boxes });
     }
 
     /// The port with this id has no box any more.
     pub fn remove(&mut self, id: u128)
-        ensures its { box_of id (self.new).boxes ≡ None }
-        ensures others { (port : ℕ) → port ≢ id → box_of port (self.new).boxes ≡ box_of port (self.old).boxes }
+        ensures its { boxes_of id (self.new).boxes ≡ None }
+        ensures others { (port : ℕ) → port ≢ id → boxes_of port (self.new).boxes ≡ boxes_of port (self.old).boxes }
     {
         self.kept.retain(|kept| kept.id != id);
     }
 
-    /// The box of the port with an id, if it has one.
-    pub fn of(&self, id: u128) -> Option<&F>
-        ensures { MatchOption result (box_of id (self.now).boxes ≡ None) (λ f. box_of id (self.now).boxes ≡ Some f.now) }
+    // The boxes of the port with an id, if it has any.
+    fn find(&self, id: u128) -> Option<&PortBoxes<F, G>>
+        ensures { MatchOption result (boxes_of id (self.now).boxes ≡ None) (λ found. boxes_of id (self.now).boxes ≡ Some found.now) }
     {
         for kept in &self.kept {
             if kept.id == id {
-                return Some(&kept.function);
+                return Some(&kept.boxes);
             }
         }
         None
+    }
+
+    /// What the port with an id asks at a full buffer, if it has a box for that.
+    pub fn of(&self, id: u128) -> Option<&F>
+        ensures { MatchOption result (box_of id (self.now).boxes ≡ None) (λ f. box_of id (self.now).boxes ≡ Some f.now) }
+    {
+        match self.find(id) {
+            Some(found) => found.backpressure.as_ref(),
+            None => None,
+        }
+    }
+
+    /// What the port with an id asks where it can't make a connection, if it has a box for that.
+    pub fn degradation_of(&self, id: u128) -> Option<&G>
+        ensures { MatchOption result (degradation_box_of id (self.now).boxes ≡ None) (λ g. degradation_box_of id (self.now).boxes ≡ Some g.now) }
+    {
+        match self.find(id) {
+            Some(found) => found.degradation.as_ref(),
+            None => None,
+        }
     }
 }

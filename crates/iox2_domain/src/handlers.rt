@@ -19,12 +19,12 @@ pub enum HandlerMark<A> {
 /// Asks the box of the publisher with an id, which is looked for each time. Where there is none the
 /// strategy is followed.
 #[derive(Drop)]
-pub struct AskedBox<'a, F> {
-    pub(crate) boxes: &'a Boxes<F>,
+pub struct AskedBox<'a, F, G> {
+    pub(crate) boxes: &'a Boxes<F, G>,
     pub(crate) id: u128,
 }
 
-impl<F: BackpressureFn> BackpressureFn for AskedBox<'_, F> {
+impl<F: BackpressureFn, G: Drop> BackpressureFn for AskedBox<'_, F, G> {
     ghost allows = { λ asked info action. BoxAnswers F.allows (box_of asked.id (asked.boxes.now).boxes) info action };
 
     fn call(&self, info: &BackpressureInfo) -> BackpressureAction {

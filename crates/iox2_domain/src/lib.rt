@@ -8,6 +8,7 @@
 #![tactic(auto)]
 
 mod boxes;
+mod degradations;
 mod handlers;
 mod left_books;
 mod loan_slots;
@@ -23,14 +24,15 @@ mod subscriber_state;
 mod units;
 mod warnings;
 
-pub use boxes::Boxes;
+pub use boxes::{Boxes, PortBoxes};
+pub use degradations::degradation_answer;
 pub use handlers::{AskedBox, HandlerMark};
 pub use loan_slots::LoanAt;
 pub use message_slots::MessageSlot;
 pub use options::{PublisherOptions, SubscriberOptions};
 pub use places::{free_place, put_at_place, reserve_place, stands_at};
 pub use ports::{
-    Port, PortAt, answer_at, clear_key_at, is_due_at, key_at, make_all_due, make_due,
+    Port, PortAt, clear_key_at, degradation_at, is_due_at, key_at, make_all_due, make_due,
     reserve_key_at, set_key_at, settle,
 };
 pub use publisher_state::{BlockedDelivery, PublisherState};

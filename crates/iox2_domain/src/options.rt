@@ -1,5 +1,6 @@
 //! What a port is made with.
 
+use crate::handlers::HandlerMark;
 use iox2_store::{BackpressureStrategy, DegradationAction};
 
 /// What a publisher is made with, beside the handler that answers for it at a full buffer.
@@ -9,8 +10,8 @@ pub struct PublisherOptions {
     pub max_loaned_samples: usize,
     /// What it does at a full buffer where no handler answers.
     pub strategy: BackpressureStrategy,
-    /// What it does where it can't make a connection.
-    pub degradation: DegradationAction,
+    /// What answers for it where it can't make a connection.
+    pub degradation: HandlerMark<DegradationAction>,
     /// A loan has so many elements at most.
     pub initial_max_slice_len: usize,
 }
@@ -20,6 +21,6 @@ pub struct PublisherOptions {
 pub struct SubscriberOptions {
     /// So many messages of one publisher may wait, and one where this is none.
     pub buffer_size: usize,
-    /// What it does where it can't make a connection.
-    pub degradation: DegradationAction,
+    /// What answers for it where it can't make a connection.
+    pub degradation: HandlerMark<DegradationAction>,
 }

@@ -1,9 +1,10 @@
 //! What publishers and subscribers have in common.
 ghost use Rattle.std.specs.Prelude.{◌≡◌, ◌<◌, ◌≤◌, ℕ, Bool, true, false, List, None, Some, length, map, slice_index_or, OnOk};
 ghost use Rattle.std.specs.Option.{option_map};
-ghost use Rattle.iox2_store.specs.machine.Records.{Fixed};
+ghost use Rattle.iox2_domain.specs.Handlers.{handler_of};
 ghost use Rattle.iox2_domain.specs.Updates.{changed_at, is_due_at, key_at, room_at};
 
+use crate::handlers::HandlerMark;
 use iox2_store::DegradationAction;
 use std::alloc::AllocError;
 
@@ -20,7 +21,7 @@ pub struct PortAt<I> {
 /// places of the other side's ports. It may be due for an update.
 pub trait Port {
     ghost use Rattle.std.specs.declared.option.Option.{Option};
-    ghost use Rattle.iox2_store.specs.machine.Records.{Handler, Fixed};
+    ghost use Rattle.iox2_store.specs.machine.Records.{Handler};
     ghost use Rattle.iox2_store.specs.declared.degradation.DegradationAction.{DegradationAction};
 
     ghost number: { Self → ℕ };
@@ -73,8 +74,8 @@ pub trait Port {
         ensures { self.new ≡ with_due due self.old };
 
     /// What answers for it where it can't make a connection.
-    fn degradation(&self) -> DegradationAction
-        ensures { degradation self.now ≡ Fixed result };
+    fn degradation(&self) -> HandlerMark<DegradationAction>
+        ensures { degradation self.now ≡ handler_of result };
 }
 
 /// The key that the port at a place has for its connection with the other side's port at another.
@@ -138,9 +139,9 @@ pub fn is_due_at<P: Port>(ports: &[Option<P>], place: usize) -> bool
 }
 
 /// What answers for the port at a place where it can't make a connection.
-pub fn answer_at<P: Port>(ports: &[Option<P>], place: usize) -> DegradationAction
+pub fn degradation_at<P: Port>(ports: &[Option<P>], place: usize) -> HandlerMark<DegradationAction>
     requires { (x : _) × (slice_index_or ports.now place None ≡ Some x) }
-    ensures { (x : _) → slice_index_or ports.now place None ≡ Some x → P.degradation x ≡ Fixed result }
+    ensures { (x : _) → slice_index_or ports.now place None ≡ Some x → P.degradation x ≡ handler_of result }
 {
     let Some(port) = &ports[place] else {
         unreachable!();

@@ -43,7 +43,7 @@ pub struct PublisherState {
     // What answers for it at a full buffer.
     pub backpressure_handler: Option<HandlerMark<BackpressureAction>>,
     // What answers for it where it can't make a connection.
-    pub degradation: DegradationAction,
+    pub degradation: HandlerMark<DegradationAction>,
     pub allocation: AllocationStrategy,
     pub initial_max_slice_len: usize,
     pub longest_granted: usize,
@@ -61,8 +61,7 @@ pub struct PublisherState {
 
 impl Model for PublisherState {
     ghost use Rattle.std.specs.Prelude.{vec_capacity};
-    ghost use Rattle.iox2_store.specs.machine.Records.{Fixed};
-    ghost use Rattle.iox2_domain.specs.Handlers.{handler_if_any};
+    ghost use Rattle.iox2_domain.specs.Handlers.{handler_if_any, handler_of};
     ghost use Rattle.iox2_domain.specs.Ports.{PublisherFields};
 
     ghost Value = { PublisherFields };
@@ -75,7 +74,7 @@ impl Model for PublisherState {
       slots = x.slots;
       strategy = x.strategy;
       backpressure_handler = handler_if_any x.backpressure_handler;
-      degradation_handler = Fixed x.degradation;
+      degradation_handler = handler_of x.degradation;
       allocation = x.allocation;
       initial_max_slice_len = x.initial_max_slice_len;
       longest_granted = x.longest_granted;
@@ -153,10 +152,10 @@ impl PublisherState {
     }
 
     /// What answers for it at a full buffer. A box is among these boxes.
-    pub fn handler<'a, F>(
+    pub fn handler<'a, F, G>(
         &self,
-        boxes: &'a Boxes<F>,
-    ) -> Option<BackpressureHandler<AskedBox<'a, F>>>
+        boxes: &'a Boxes<F, G>,
+    ) -> Option<BackpressureHandler<AskedBox<'a, F, G>>>
         ensures marks { marks_of result ≡ self.now.backpressure_handler }
         ensures asks { AsksFor self.now.id (boxes.now).boxes result }
     {
@@ -257,7 +256,7 @@ impl Port for PublisherState {
         self.is_due = due;
     }
 
-    fn degradation(&self) -> DegradationAction {
+    fn degradation(&self) -> HandlerMark<DegradationAction> {
         self.degradation
     }
 }

@@ -32,15 +32,16 @@ use Rattle.iox2_laws.proofs.Puts.{at_each, found_put, found_removed, found_mappe
 abbrev CamePublisher : (publishers : ℕ → Option Publisher) → (p : ℕ) → Publisher → Type 0
 CamePublisher publishers p x' = (x : Publisher) × (publishers p ≡ Some x) × (x.blocked ≡ None → x'.blocked ≡ None)
 
--- where an open subscriber came from
-abbrev CameSubscriber : (subscribers : ℕ → Option Subscriber) → (q : ℕ) → Type 0
-CameSubscriber subscribers q = (y : Subscriber) × (subscribers q ≡ Some y) × (y.is_open ≡ true)
+-- where an open subscriber came from, with its handler
+abbrev CameSubscriber : (subscribers : ℕ → Option Subscriber) → (q : ℕ) → Subscriber → Type 0
+CameSubscriber subscribers q y' = (y : Subscriber) × (subscribers q ≡ Some y) × (y.is_open ≡ true) × (y'.degradation_handler ≡ y.degradation_handler)
 
--- Each publisher that is there and each subscriber that is open, of those whose ids were given out, was so before.
+-- Each publisher that is there and each subscriber that is open, of those whose ids were given out, was so before; the subscriber
+-- with the same handler.
 pub record PortsCome {T U : Type 0} (s s' : State T U) : Type 0 where
   pub next_port : s.next_port ≤ s'.next_port
   pub publishers : (p : ℕ) (x' : Publisher) → p < s.next_port → s'.publishers p ≡ Some x' → CamePublisher s.publishers p x'
-  pub subscribers : (q : ℕ) (y' : Subscriber) → q < s.next_port → s'.subscribers q ≡ Some y' → y'.is_open ≡ true → CameSubscriber s.subscribers q
+  pub subscribers : (q : ℕ) (y' : Subscriber) → q < s.next_port → s'.subscribers q ≡ Some y' → y'.is_open ≡ true → CameSubscriber s.subscribers q y'
 
 -- a publisher is set
 put_publisher : (publishers : ℕ → Option Publisher) (next i : ℕ) (z : Publisher) → (i < next → CamePublisher publishers i z)
@@ -49,10 +50,10 @@ put_publisher publishers next i z known p x' low e =
     found_put publishers i z (λ k a. k < next → CamePublisher publishers k a) p x' e (λ _. known) (λ _ old _. (x', old, λ free. free)) low
 
 -- a subscriber is set
-put_subscriber : (subscribers : ℕ → Option Subscriber) (next i : ℕ) (z : Subscriber) → (i < next → z.is_open ≡ true → CameSubscriber subscribers i)
-    → (q : ℕ) (y' : Subscriber) → q < next → put_at subscribers i (Some z) q ≡ Some y' → y'.is_open ≡ true → CameSubscriber subscribers q
+put_subscriber : (subscribers : ℕ → Option Subscriber) (next i : ℕ) (z : Subscriber) → (i < next → z.is_open ≡ true → CameSubscriber subscribers i z)
+    → (q : ℕ) (y' : Subscriber) → q < next → put_at subscribers i (Some z) q ≡ Some y' → y'.is_open ≡ true → CameSubscriber subscribers q y'
 put_subscriber subscribers next i z known q y' low e is_open =
-    found_put subscribers i z (λ k a. k < next → a.is_open ≡ true → CameSubscriber subscribers k) q y' e (λ _. known) (λ _ old _ o. (y', old, o)) low is_open
+    found_put subscribers i z (λ k a. k < next → a.is_open ≡ true → CameSubscriber subscribers k a) q y' e (λ _. known) (λ _ old _ o. (y', old, o, refl)) low is_open
 
 -- a publisher that may be there is changed
 mapped_publisher : (publishers : ℕ → Option Publisher) (f : Publisher → Publisher) → ((x : Publisher) → x.blocked ≡ None → (f x).blocked ≡ None)
@@ -60,15 +61,17 @@ mapped_publisher : (publishers : ℕ → Option Publisher) (f : Publisher → Pu
 mapped_publisher publishers f stays p x' e =
     found_mapped f (publishers p) x' (CamePublisher publishers p x') e (λ x old same. (x, old, λ free. ap (λ (v : Publisher). v.blocked) same ∙ stays x free))
 
--- a subscriber that may be there is changed, and isn't opened
+-- a subscriber that may be there is changed, and isn't opened, nor gets another handler
 mapped_subscriber : (subscribers : ℕ → Option Subscriber) (f : Subscriber → Subscriber) → ((y : Subscriber) → (f y).is_open ≡ true → y.is_open ≡ true)
-    → (q : ℕ) (y' : Subscriber) → option_map f (subscribers q) ≡ Some y' → y'.is_open ≡ true → CameSubscriber subscribers q
-mapped_subscriber subscribers f stays q y' e o =
-    found_mapped f (subscribers q) y' (CameSubscriber subscribers q) e (λ y old same. (y, old, stays y (ap (λ (v : Subscriber). v.is_open) (sym same) ∙ o)))
+    → ((y : Subscriber) → (f y).degradation_handler ≡ y.degradation_handler)
+    → (q : ℕ) (y' : Subscriber) → option_map f (subscribers q) ≡ Some y' → y'.is_open ≡ true → CameSubscriber subscribers q y'
+mapped_subscriber subscribers f stays keeps q y' e o =
+    found_mapped f (subscribers q) y' (CameSubscriber subscribers q y') e
+    (λ y old same. (y, old, stays y (ap (λ (v : Subscriber). v.is_open) (sym same) ∙ o), ap (λ (v : Subscriber). v.degradation_handler) same ∙ keeps y))
 
 module _ {T U : Type 0} where
   pub ports_come_themselves : (s : State T U) → PortsCome s s
-  ports_come_themselves s = record { next_port = le_refl s.next_port; publishers = λ p x low e. (x, e, λ free. free); subscribers = λ q y low e o. (y, e, o) }
+  ports_come_themselves s = record { next_port = le_refl s.next_port; publishers = λ p x low e. (x, e, λ free. free); subscribers = λ q y low e o. (y, e, o, refl) }
 
   pub ports_come_trans : (s s' s'' : State T U) → PortsCome s s' → PortsCome s' s'' → PortsCome s s''
   ports_come_trans s s' s'' a b = record {
@@ -78,7 +81,7 @@ module _ {T U : Type 0} where
         let v = b.publishers p x low' e in let u = a.publishers p v.0 low v.1 in (u.0, u.1, λ free. v.2 (u.2 free));
     subscribers = λ q y low e o.
         let low' : q < s'.next_port = (let rises = a.next_port in omega (arith, rises)) in
-        let v = b.subscribers q y low' e o in a.subscribers q v.0 low v.1 v.2;
+        let v = b.subscribers q y low' e o in let u = a.subscribers q v.0 low v.1 v.2 in (u.0, u.1, u.2, v.3 ∙ u.3);
   }
 
   -- the ports are the same
@@ -86,7 +89,7 @@ module _ {T U : Type 0} where
   same_ports s s' next publishers subscribers = record {
     next_port = omega (arith, next);
     publishers = λ p x low e. (x, ap (λ (f : ℕ → Option Publisher). f p) (sym publishers) ∙ e, λ free. free);
-    subscribers = λ q y low e o. (y, ap (λ (f : ℕ → Option Subscriber). f q) (sym subscribers) ∙ e, o);
+    subscribers = λ q y low e o. (y, ap (λ (f : ℕ → Option Subscriber). f q) (sym subscribers) ∙ e, o, refl);
   }
 
   -- ---- updates
@@ -99,7 +102,7 @@ module _ {T U : Type 0} where
       (λ _ h. subst (PortsCome s) (sym h.2) (record {
         next_port = le_refl s.next_port;
         publishers = put_publisher s.publishers s.next_port p (record x { ends = (h.0).ends; is_due = false }) (λ _. (x, present, λ free. free));
-        subscribers = λ q y low e o. (y, e, o);
+        subscribers = λ q y low e o. (y, e, o, refl);
       }))
       (λ _ h. subst (PortsCome s) (sym h.0) (ports_come_themselves s)))
 
@@ -111,7 +114,7 @@ module _ {T U : Type 0} where
       (λ _ h. subst (PortsCome s) (sym h.2) (record {
         next_port = le_refl s.next_port;
         publishers = λ p x low e. (x, e, λ free. free);
-        subscribers = put_subscriber s.subscribers s.next_port q (record y { ends = (h.0).ends; expired = (h.0).expired; is_due = (h.0).is_due }) (λ _ o. (y, present, o));
+        subscribers = put_subscriber s.subscribers s.next_port q (record y { ends = (h.0).ends; expired = (h.0).expired; is_due = (h.0).is_due }) (λ _ o. (y, present, o, refl));
       }))
       (λ _ h. subst (PortsCome s) (sym h.0) (ports_come_themselves s)))
 
@@ -125,7 +128,7 @@ module _ {T U : Type 0} where
   new_publisher_comes s given place = record {
     next_port = omega arith;
     publishers = put_publisher s.publishers s.next_port s.next_port (new_publisher s given place) (λ low. absurd (omega arith));
-    subscribers = λ q y low e o. mapped_subscriber s.subscribers (λ z. record z { is_due = true }) (λ z o. o) q y e o;
+    subscribers = λ q y low e o. mapped_subscriber s.subscribers (λ z. record z { is_due = true }) (λ z o. o) (λ z. refl) q y e o;
   }
 
   new_subscriber_comes : (s : State T U) (given : SubscriberSettings) (place : ℕ) → PortsCome s (with_new_subscriber s given place)
@@ -176,7 +179,7 @@ module _ {T U : Type 0} where
     next_port = le_refl s.next_port;
     publishers = put_publisher s.publishers s.next_port p
         (record x { loans = x.loans ++ s.next_message ∷ []; longest_granted = max x.longest_granted len; segments = segments }) (λ _. (x, present, λ free. free));
-    subscribers = λ q y low e o. (y, e, o);
+    subscribers = λ q y low e o. (y, e, o, refl);
   }
 
   pub loan_set_comes : (s : State T U) (n : ℕ) (l : Option (Loan T U)) → PortsCome s (with_loan s n l)
@@ -189,7 +192,7 @@ module _ {T U : Type 0} where
     next_port = le_refl s.next_port;
     publishers = λ p x low e. at_each s.publishers i (option_map f (s.publishers i)) (λ k o. o ≡ Some x → CamePublisher s.publishers k x) p
         (λ _ e. mapped_publisher s.publishers f stays i x e) (λ _ e. (x, e, λ free. free)) e;
-    subscribers = λ q y low e o. (y, e, o);
+    subscribers = λ q y low e o. (y, e, o, refl);
   }
 
   -- ---- sends
@@ -271,14 +274,14 @@ module _ {T U : Type 0} where
       taken mid y No_sample k = subst (PortsCome mid) (sym k.1) (ports_come_themselves mid)
       taken mid y (Receive_error e) k = subst (PortsCome mid) (sym k.3) (ports_come_themselves mid)
 
-  -- a subscriber that may be there is changed, and isn't opened
+  -- a subscriber that may be there is changed, and isn't opened, nor gets another handler
   subscriber_changed_comes : (s : State T U) (i : ℕ) (f : Subscriber → Subscriber) → ((y : Subscriber) → (f y).is_open ≡ true → y.is_open ≡ true)
-      → PortsCome s (subscriber_changed s i f)
-  subscriber_changed_comes s i f stays = record {
+      → ((y : Subscriber) → (f y).degradation_handler ≡ y.degradation_handler) → PortsCome s (subscriber_changed s i f)
+  subscriber_changed_comes s i f stays keeps = record {
     next_port = le_refl s.next_port;
     publishers = λ p x low e. (x, e, λ free. free);
-    subscribers = λ q y low e o. at_each s.subscribers i (option_map f (s.subscribers i)) (λ k v. v ≡ Some y → CameSubscriber s.subscribers k) q
-        (λ _ e. mapped_subscriber s.subscribers f stays i y e o) (λ _ e. (y, e, o)) e;
+    subscribers = λ q y low e o. at_each s.subscribers i (option_map f (s.subscribers i)) (λ k v. v ≡ Some y → CameSubscriber s.subscribers k y) q
+        (λ _ e. mapped_subscriber s.subscribers f stays keeps i y e o) (λ _ e. (y, e, o, refl)) e;
   }
 
   -- a subscriber that is unused is gone
@@ -286,14 +289,14 @@ module _ {T U : Type 0} where
   freed_comes s q = cond_both (is_unused s q) (place_freed s q) s (PortsCome s) (λ _. record {
     next_port = le_refl s.next_port;
     publishers = λ p x low e. mapped_publisher s.publishers (λ z. record z { is_due = true }) (λ z free. free) p x e;
-    subscribers = λ i y low e o. found_removed s.subscribers q i y (CameSubscriber s.subscribers i) e (λ _ old. (y, old, o));
+    subscribers = λ i y low e o. found_removed s.subscribers q i y (CameSubscriber s.subscribers i y) e (λ _ old. (y, old, o, refl));
   }) (λ _. ports_come_themselves s)
 
   pub released_comes : (s : State T U) (p q n : ℕ) → PortsCome s (released s p q n)
   released_comes s p q n =
       let mid : State T U = unborrowed s p q n in
       ports_come_trans s mid (released s p q n) (same_ports s mid refl refl refl)
-      (ports_come_trans mid (subscriber_pruned mid q) (released s p q n) (subscriber_changed_comes mid q (pruned mid q) (λ y o. o)) (freed_comes (subscriber_pruned mid q) q))
+      (ports_come_trans mid (subscriber_pruned mid q) (released s p q n) (subscriber_changed_comes mid q (pruned mid q) (λ y o. o) (λ y. refl)) (freed_comes (subscriber_pruned mid q) q))
 
   -- ---- closes
 
@@ -303,11 +306,11 @@ module _ {T U : Type 0} where
     publishers = λ i z low e. found_removed s.publishers p i z (CamePublisher s.publishers i z) e (λ _ old. (z, old, λ free. free));
     subscribers = λ q y low e o. came q y e o;
   } where
-    came : (q : ℕ) (y : Subscriber) → (publisher_closed s p x).subscribers q ≡ Some y → y.is_open ≡ true → CameSubscriber s.subscribers q
+    came : (q : ℕ) (y : Subscriber) → (publisher_closed s p x).subscribers q ≡ Some y → y.is_open ≡ true → CameSubscriber s.subscribers q y
     came q y e o =
-        found_mapped {A = Subscriber} (λ z. record z { is_due = true }) (option_map {T = Subscriber} {U = Subscriber} (pruned (publisher_gone s p x) q) (s.subscribers q)) y (CameSubscriber s.subscribers q) e (λ w old same.
-        found_mapped {A = Subscriber} (pruned (publisher_gone s p x) q) (s.subscribers q) w (CameSubscriber s.subscribers q) old (λ z at same'.
-        (z, at, ap (λ (v : Subscriber). v.is_open) (sym same') ∙ ap (λ (v : Subscriber). v.is_open) (sym same) ∙ o)))
+        found_mapped {A = Subscriber} (λ z. record z { is_due = true }) (option_map {T = Subscriber} {U = Subscriber} (pruned (publisher_gone s p x) q) (s.subscribers q)) y (CameSubscriber s.subscribers q y) e (λ w old same.
+        found_mapped {A = Subscriber} (pruned (publisher_gone s p x) q) (s.subscribers q) w (CameSubscriber s.subscribers q y) old (λ z at same'.
+        (z, at, ap (λ (v : Subscriber). v.is_open) (sym same') ∙ ap (λ (v : Subscriber). v.is_open) (sym same) ∙ o, ap (λ (v : Subscriber). v.degradation_handler) same ∙ ap (λ (v : Subscriber). v.degradation_handler) same')))
 
   pub subscriber_closed_comes : (s : State T U) (q : ℕ) (y : Subscriber) → PortsCome s (subscriber_closed s q y)
   subscriber_closed_comes s q y =
@@ -317,4 +320,4 @@ module _ {T U : Type 0} where
         publishers = λ p x low e. mapped_publisher s.publishers (λ z. record z { is_due = true }) (λ z free. free) p x e;
         subscribers = put_subscriber s.subscribers s.next_port q (record y { is_open = false }) (λ _ o. let clash : false ≡ true = o in absurd cc);
       })
-      (ports_come_trans mid (subscriber_pruned mid q) (subscriber_closed s q y) (subscriber_changed_comes mid q (pruned mid q) (λ y o. o)) (freed_comes (subscriber_pruned mid q) q))
+      (ports_come_trans mid (subscriber_pruned mid q) (subscriber_closed s q y) (subscriber_changed_comes mid q (pruned mid q) (λ y o. o) (λ y. refl)) (freed_comes (subscriber_pruned mid q) q))

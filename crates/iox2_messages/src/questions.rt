@@ -1,26 +1,27 @@
 //! Whether messages wait.
 ghost use Rattle.std.specs.Prelude.{◌≡◌, None, Some, slice_index_or};
-ghost use Rattle.iox2_store.specs.machine.Environments.{fixed_handlers};
+ghost use Rattle.iox2_domain.specs.Boxes.{answers_of};
 ghost use Rattle.iox2_domain.specs.Invariant.{IsDomain};
 ghost use Rattle.iox2_domain.specs.Ports.{SubscriberFields};
 ghost use Rattle.iox2_domain.specs.Questions.{IsWhetherWaiting, AnswersAs};
 
-use iox2_domain::DomainState;
+use iox2_domain::{Boxes, DomainState};
 use iox2_ends::receiver::has_samples;
-use iox2_store::ConnectionFailure;
+use iox2_store::{BackpressureFn, ConnectionFailure, DegradationFn};
 use iox2_updates::update_subscriber;
 
 /// The subscriber at a place is updated, and then asked whether any message waits for it, also one
 /// that it may not borrow yet. Where the update fails, that is the answer, and the update stands.
-pub fn has_samples_at<T: Drop, U: Default + Drop>(
+pub fn has_samples_at<T: Drop, U: Default + Drop, F: BackpressureFn, G: DegradationFn>(
     state: &mut DomainState<T, U>,
+    boxes: &Boxes<F, G>,
     place: usize,
 ) -> Result<bool, ConnectionFailure>
     requires agrees { IsDomain state.old }
     requires stands { (y : SubscriberFields) × (slice_index_or state.old.subscribers place None ≡ Some y) }
-    ensures { (y : SubscriberFields) → slice_index_or state.old.subscribers place None ≡ Some y → AnswersAs fixed_handlers state.old y.id result state.new }
+    ensures { (y : SubscriberFields) → slice_index_or state.old.subscribers place None ≡ Some y → AnswersAs (answers_of F.allows G.allows (boxes.now).boxes) state.old y.id result state.new }
 {
-    match update_subscriber(state, place) {
+    match update_subscriber(state, boxes, place) {
         Some(failure) => Err(failure),
         None => Ok(has_data_at(state, place)),
     }

@@ -1,7 +1,7 @@
 //! Messages that a subscriber takes from its connections, and gives back.
 ghost use Rattle.std.specs.Prelude.{◌≡◌, ◌<◌, ℕ, None, Some, length, slice_index_or, Contains, IsTrue, IsSomeAnd};
 ghost use Rattle.slab.specs.Slab.{get};
-ghost use Rattle.iox2_store.specs.machine.Environments.{fixed_handlers};
+ghost use Rattle.iox2_domain.specs.Boxes.{answers_of};
 ghost use Rattle.iox2_store.specs.machine.Mailbox.{is_borrowed};
 ghost use Rattle.iox2_store.specs.machine.Releases.{released, subscriber_pruned, unborrowed};
 ghost use Rattle.iox2_store.specs.machine.SingleCalls.{HoldsSample};
@@ -14,10 +14,12 @@ ghost use Rattle.iox2_domain.specs.Midway.{IsMidway};
 ghost use Rattle.iox2_domain.specs.Receipts.{IsReceiptFor, TakesAs, ReceivesAs};
 ghost use Rattle.iox2_domain.specs.SampleSlots.{IsReturnable, LiesAtHint};
 
-use iox2_domain::{DomainState, Receipt, SampleAt, SampleSlot, is_due_at, stands_at};
+use iox2_domain::{Boxes, DomainState, Receipt, SampleAt, SampleSlot, is_due_at, stands_at};
 use iox2_ends::receiver::{Taken, let_go, receive, release};
 use iox2_slots::{Home, SlotBook};
-use iox2_store::{ReceiveError, UniquePublisherId, UniqueSubscriberId};
+use iox2_store::{
+    BackpressureFn, DegradationFn, ReceiveError, UniquePublisherId, UniqueSubscriberId,
+};
 use iox2_updates::{forget_if_empty, free_book_if_unused, leave_if_unused, update_subscriber};
 use slab::Slab;
 
@@ -74,16 +76,17 @@ pub(crate) fn take_at<T: Drop, U: Default + Drop>(
 /// `ExceedsMaxBorrows` where messages wait, but only where as many are borrowed as may be, and
 /// `ConnectionFailure` where the update fails. The update stands then.
 #[inline(always)]
-pub fn receive_at<T: Drop, U: Default + Drop>(
+pub fn receive_at<T: Drop, U: Default + Drop, F: BackpressureFn, G: DegradationFn>(
     state: &mut DomainState<T, U>,
+    boxes: &Boxes<F, G>,
     place: usize,
 ) -> Result<Option<Receipt>, ReceiveError>
     requires agrees { IsDomain state.old }
     requires stands { (y : SubscriberFields) × (slice_index_or state.old.subscribers place None ≡ Some y) }
-    ensures { (y : SubscriberFields) → slice_index_or state.old.subscribers place None ≡ Some y → ReceivesAs fixed_handlers state.old y.id result state.new }
+    ensures { (y : SubscriberFields) → slice_index_or state.old.subscribers place None ≡ Some y → ReceivesAs (answers_of F.allows G.allows (boxes.now).boxes) state.old y.id result state.new }
 {
     if is_due_at(&state.subscribers, place) {
-        if let Some(failure) = update_subscriber(state, place) {
+        if let Some(failure) = update_subscriber(state, boxes, place) {
             return Err(ReceiveError::ConnectionFailure(failure));
         }
     }

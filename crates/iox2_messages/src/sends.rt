@@ -13,7 +13,7 @@ ghost use Rattle.iox2_deliveries.specs.SendEnds.{IsNotLost, end_result};
 
 use iox2_deliveries::{SendEnd, discard_loan, has_handler_at, send_ready, send_unasked};
 use iox2_domain::{Boxes, DomainState, LoanAt};
-use iox2_store::{BackpressureFn, ConnectionFailure, UniquePublisherId};
+use iox2_store::{BackpressureFn, ConnectionFailure, DegradationFn, UniquePublisherId};
 use iox2_updates::update_publisher;
 
 // Whether the loan lies where its handle says, and its publisher is due for no update.
@@ -39,8 +39,9 @@ struct ReadyLoan {
 
 // Updates the publisher of a loan, where it is due, and finds where both are. `None` where the
 // publisher is gone. Fails where the update does.
-fn update_and_find<T: Drop, U: Default + Drop>(
+fn update_and_find<T: Drop, U: Default + Drop, F: BackpressureFn, G: DegradationFn>(
     state: &mut DomainState<T, U>,
+    boxes: &Boxes<F, G>,
     publisher: UniquePublisherId,
     number: u128,
 ) -> Result<Option<ReadyLoan>, ConnectionFailure>
@@ -48,13 +49,13 @@ fn update_and_find<T: Drop, U: Default + Drop>(
     requires live { HoldsWritten (state_of (kept_of state.old)) publisher number }
     requires unblocked { is_blocked (state_of (kept_of state.old)) publisher ≡ false }
     ensures { MatchResult result
-        (λ found. MatchOption found (IsLeftLoan state.old state.new publisher) (λ ready. IsReadyToSend fixed_handlers state.old state.new publisher number ready.place ready.slot))
-        (λ failure. (place : ℕ) × IsNotUpdated fixed_handlers state.old state.new publisher place failure) }
+        (λ found. MatchOption found (IsLeftLoan state.old state.new publisher) (λ ready. IsReadyToSend (answers_of F.allows G.allows (boxes.now).boxes) state.old state.new publisher number ready.place ready.slot))
+        (λ failure. (place : ℕ) × IsNotUpdated (answers_of F.allows G.allows (boxes.now).boxes) state.old state.new publisher place failure) }
 {
     let Some(place) = state.find_publisher(publisher, 0) else {
         return Ok(None);
     };
-    if let Some(failure) = update_publisher(state, place) {
+    if let Some(failure) = update_publisher(state, boxes, place) {
         return Err(failure);
     }
     let Some(at) = state.find_loan(publisher, number) else {
@@ -69,19 +70,19 @@ fn update_and_find<T: Drop, U: Default + Drop>(
 // Updates the publisher of a loan, where it is due, and sends the loan, wherever both are. Where the
 // update fails, the loan is given back. Of a publisher that is gone the loan is lost.
 #[inline(never)]
-fn update_and_send<T: Drop, U: Default + Drop, F: BackpressureFn>(
+fn update_and_send<T: Drop, U: Default + Drop, F: BackpressureFn, G: DegradationFn>(
     state: &mut DomainState<T, U>,
-    boxes: &Boxes<F>,
+    boxes: &Boxes<F, G>,
     publisher: UniquePublisherId,
     number: u128,
 ) -> SendEnd
     requires agrees { IsDomain state.old }
     requires live { HoldsWritten (state_of (kept_of state.old)) publisher number }
     requires unblocked { is_blocked (state_of (kept_of state.old)) publisher ≡ false }
-    ensures sends { SendsLoan (answers_of F.allows (boxes.now).boxes) state.old state.new number (end_result result) }
+    ensures sends { SendsLoan (answers_of F.allows G.allows (boxes.now).boxes) state.old state.new number (end_result result) }
     ensures kept { HoldsPublisher (state_of (kept_of state.old)) publisher → IsNotLost result }
 {
-    match update_and_find(state, publisher, number) {
+    match update_and_find(state, boxes, publisher, number) {
         Ok(found) => match found {
             Some(ready) => send_ready(state, boxes, ready.place, ready.slot),
             None => {
@@ -120,15 +121,15 @@ fn loan_sought(publisher: UniquePublisherId, number: u128) -> LoanAt
 /// of a publisher without a handler.
 ///
 /// iceoryx2's `PublisherSharedState::send_sample` (`src/port/publisher.rs`).
-pub fn send_loan<T: Drop, U: Default + Drop, F: BackpressureFn>(
+pub fn send_loan<T: Drop, U: Default + Drop, F: BackpressureFn, G: DegradationFn>(
     state: &mut DomainState<T, U>,
-    boxes: &Boxes<F>,
+    boxes: &Boxes<F, G>,
     loan: LoanAt,
 ) -> SendEnd
     requires agrees { IsDomain state.old }
     requires live { HoldsWritten (state_of (kept_of state.old)) loan.publisher loan.number }
     requires unblocked { is_blocked (state_of (kept_of state.old)) loan.publisher ≡ false }
-    ensures sends { SendsLoan (answers_of F.allows (boxes.now).boxes) state.old state.new loan.number (end_result result) }
+    ensures sends { SendsLoan (answers_of F.allows G.allows (boxes.now).boxes) state.old state.new loan.number (end_result result) }
     ensures kept { HoldsPublisher (state_of (kept_of state.old)) loan.publisher → IsNotLost result }
 {
     if is_ready(state, &loan) && !has_handler_at(state, loan.place) {

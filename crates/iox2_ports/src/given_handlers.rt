@@ -1,12 +1,12 @@
-//! The handler that a new publisher is given.
-ghost use Rattle.std.specs.Prelude.{◌≡◌, ◌≢◌, ℕ, OnOk};
-ghost use Rattle.iox2_domain.specs.Boxes.{box_of};
+//! The handlers that a new port is given.
+ghost use Rattle.std.specs.Prelude.{◌≡◌, ◌≢◌, ℕ, IsTrue, OnOk};
+ghost use Rattle.iox2_domain.specs.Boxes.{box_of, boxes_of, degradation_box_of};
 ghost use Rattle.iox2_domain.specs.Handlers.{handler_if_any};
 ghost use Rattle.iox2_ends.specs.Handlers.{marks_of};
-ghost use Rattle.iox2_ports.specs.Handlers.{HasRoomFor, custom_box};
+ghost use Rattle.iox2_ports.specs.Handlers.{HasRoomFor, custom_box, has_box};
 
-use iox2_domain::{Boxes, HandlerMark};
-use iox2_store::{BackpressureAction, BackpressureHandler, UniquePublisherId};
+use iox2_domain::{Boxes, HandlerMark, PortBoxes};
+use iox2_store::{BackpressureAction, BackpressureHandler};
 use std::alloc::AllocError;
 
 /// What stands for the handler in its publisher.
@@ -22,32 +22,48 @@ pub(crate) fn mark_of<F>(
     }
 }
 
-/// Makes room for the handler, where it is a box.
-pub(crate) fn reserve_for<F: Drop>(
-    boxes: &mut Boxes<F>,
-    handler: &Option<BackpressureHandler<F>>,
-) -> Result<(), AllocError>
-    ensures same { (boxes.new).boxes ≡ (boxes.old).boxes }
-    ensures room { OnOk result (HasRoomFor handler.now boxes.new) }
+/// The box that the handler is, if it is one.
+pub(crate) fn box_in<F: Drop>(handler: Option<BackpressureHandler<F>>) -> Option<F>
+    ensures { result ≡ custom_box handler }
 {
     match handler {
-        Some(BackpressureHandler::Custom(_)) => boxes.reserve_one(),
-        _ => Ok(()),
+        Some(BackpressureHandler::Custom(function)) => Some(function),
+        _ => None,
     }
 }
 
-/// Keeps the handler for the publisher with this id, where it is a box. It takes no memory.
-pub(crate) fn keep_box<F: Drop>(
-    boxes: &mut Boxes<F>,
-    id: UniquePublisherId,
-    handler: Option<BackpressureHandler<F>>,
-)
-    requires { HasRoomFor handler boxes.old }
-    ensures its { box_of id (boxes.new).boxes ≡ custom_box handler }
-    ensures others { (port : ℕ) → port ≢ id → box_of port (boxes.new).boxes ≡ box_of port (boxes.old).boxes }
+// Whether there is any box.
+fn has_box<F, G>(boxes: &PortBoxes<F, G>) -> bool
+    ensures { result ≡ has_box boxes.now }
 {
-    match handler {
-        Some(BackpressureHandler::Custom(function)) => boxes.add(id.value(), function),
-        _ => boxes.remove(id.value()),
+    boxes.backpressure.is_some() || boxes.degradation.is_some()
+}
+
+/// Makes room for a port's boxes, if there are any.
+pub(crate) fn reserve_for<F: Drop, G: Drop>(
+    kept: &mut Boxes<F, G>,
+    boxes: &PortBoxes<F, G>,
+) -> Result<(), AllocError>
+    ensures same { (kept.new).boxes ≡ (kept.old).boxes }
+    ensures room { OnOk result (HasRoomFor boxes.now kept.new) }
+{
+    if has_box(boxes) {
+        kept.reserve_one()
+    } else {
+        Ok(())
+    }
+}
+
+/// Keeps the boxes for the port with this id, if there are any. It takes no memory.
+pub(crate) fn keep_boxes<F: Drop, G: Drop>(kept: &mut Boxes<F, G>, id: u128, boxes: PortBoxes<F, G>)
+    requires { HasRoomFor boxes kept.old }
+    ensures backpressure { box_of id (kept.new).boxes ≡ boxes.backpressure }
+    ensures degradation { degradation_box_of id (kept.new).boxes ≡ boxes.degradation }
+    ensures others { (port : ℕ) → port ≢ id → boxes_of port (kept.new).boxes ≡ boxes_of port (kept.old).boxes }
+{
+    if has_box(&boxes) {
+        kept.add(id, boxes);
+    } else {
+        kept.remove(id);
     }
 }

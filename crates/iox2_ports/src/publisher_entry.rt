@@ -1,14 +1,13 @@
 //! A publisher enters a domain.
 ghost use Rattle.std.specs.Prelude.{◌≡◌, ◌≢◌, ◌⊎◌, ℕ, true, None, Some, slice_index_or, IfOk, MatchResult, OnOk};
 ghost use Rattle.iox2_store.specs.machine.Limits.{segment_fits, warning_limit};
-ghost use Rattle.iox2_store.specs.machine.Environments.{fixed_handlers};
 ghost use Rattle.iox2_store.specs.machine.Ports.{CreatePublisher, slots_for, with_new_publisher};
 ghost use Rattle.iox2_store.specs.declared.errors.PublisherCreateError.TheVariants.{UnableToCreateDataSegment, FailedToDeployThreadsafetyPolicy};
 ghost use Rattle.iox2_store.specs.machine.State.{State};
 ghost use Rattle.iox2_domain.specs.Ports.{PublisherFields};
 ghost use Rattle.iox2_domain.specs.Kept.{state_of};
 ghost use Rattle.iox2_domain.specs.Fields.{kept_of};
-ghost use Rattle.iox2_domain.specs.Boxes.{box_of};
+ghost use Rattle.iox2_domain.specs.Boxes.{answers_of, box_of, boxes_of, degradation_box_of};
 ghost use Rattle.iox2_domain.specs.Handlers.{handler_if_any};
 ghost use Rattle.iox2_ends.specs.Handlers.{marks_of};
 ghost use Rattle.iox2_ports.specs.Handlers.{custom_box};
@@ -21,15 +20,15 @@ ghost use Rattle.iox2_domain.specs.Invariant.{IsDomain};
 ghost use Rattle.iox2_domain.specs.NewPublisher.{place_for_publisher};
 ghost use Rattle.iox2_domain.specs.Reaches.{Reaches};
 
-use crate::given_handlers::{keep_box, mark_of, reserve_for};
+use crate::given_handlers::{box_in, keep_boxes, mark_of, reserve_for};
 use crate::segments::{Segment, SegmentOptions, add_segment, first_segment, room_for};
 use iox2_domain::{
-    Boxes, DomainState, HandlerMark, PortAt, PublisherOptions, PublisherState, Warnings,
+    Boxes, DomainState, HandlerMark, PortAt, PortBoxes, PublisherOptions, PublisherState, Warnings,
     free_place, make_all_due, put_at_place,
 };
 use iox2_store::{
-    AllocationStrategy, BackpressureAction, BackpressureHandler, ConnectionFailure,
-    PublisherCreateError, UniquePublisherId, Warning,
+    AllocationStrategy, BackpressureAction, BackpressureFn, BackpressureHandler, ConnectionFailure,
+    DegradationFn, PublisherCreateError, UniquePublisherId, Warning,
 };
 use iox2_updates::update_publisher;
 
@@ -48,16 +47,17 @@ fn warn_of_failure(
 }
 
 // The new publisher at a place is updated for the first time, and it is warned where that fails.
-fn update_first<T: Drop, U: Default + Drop>(
+fn update_first<T: Drop, U: Default + Drop, F: BackpressureFn, G: DegradationFn>(
     state: &mut DomainState<T, U>,
+    boxes: &Boxes<F, G>,
     place: usize,
     publisher: UniquePublisherId,
 )
     requires agrees { IsDomain state.old }
     requires stands { (x : PublisherFields) × (slice_index_or state.old.publishers place None ≡ Some x) × (x.id ≡ publisher) × (x.blocked ≡ None) }
-    ensures { (x : PublisherFields) → slice_index_or state.old.publishers place None ≡ Some x → PublisherFirstUpdates fixed_handlers state.old place x state.new }
+    ensures { (x : PublisherFields) → slice_index_or state.old.publishers place None ≡ Some x → PublisherFirstUpdates (answers_of F.allows G.allows (boxes.now).boxes) state.old place x state.new }
 {
-    let failure = update_publisher(state, place);
+    let failure = update_publisher(state, boxes, place);
     warn_of_failure(&mut state.warnings, publisher, failure);
 }
 
@@ -131,20 +131,22 @@ pub(crate) fn admit_publisher<T: Drop, U: Default + Drop>(
 
 /// Makes a publisher with these options, and connects it with the subscribers that there are; it is
 /// warned where that fails. Where a receiver is full, the handler answers, or without one it follows
-/// the strategy. A box is kept among the boxes. Returns its id, which was the next, and its place.
-/// So far only static segments are made.
+/// the strategy. Where a connection can't be made, its options say what answers, or the box does that
+/// is handed in. Boxes are kept among the boxes. Returns its id, which was the next, and its place. So
+/// far only static segments are made.
 ///
 /// `UnableToCreatePortTag` where no id is left, then `ExceedsMaxSupportedPublishers` where no
 /// place is free, then `UnableToCreateDataSegment` where the segment's size doesn't fit `usize`, and
 /// where its memory is to grow.
 /// After that `UnableToCreateDataSegment` or `FailedToDeployThreadsafetyPolicy` where memory for
-/// the segment or for the port and its box is refused. No id is used then, and nothing changes that
+/// the segment or for the port and its boxes is refused. No id is used then, and nothing changes that
 /// can be seen.
-pub fn create_publisher<T: Drop, U: Default + Drop, F: Drop>(
+pub fn create_publisher<T: Drop, U: Default + Drop, F: BackpressureFn, G: DegradationFn>(
     state: &mut DomainState<T, U>,
-    boxes: &mut Boxes<F>,
+    boxes: &mut Boxes<F, G>,
     given: &PublisherOptions,
     handler: Option<BackpressureHandler<F>>,
+    degradation: Option<G>,
     segments: SegmentOptions,
 ) -> Result<PortAt<UniquePublisherId>, PublisherCreateError>
     requires { IsDomain state.old }
@@ -152,10 +154,11 @@ pub fn create_publisher<T: Drop, U: Default + Drop, F: Drop>(
     ensures stands { IfOk result (λ port. (x : PublisherFields) × (slice_index_or state.new.publishers port.place None ≡ Some x) × (x.id ≡ port.id)) }
     ensures is_static { OnOk result (segments.allocation ≡ AllocationStrategy.Static) }
     ensures boxed { IfOk result (λ port. box_of port.id (boxes.new).boxes ≡ custom_box handler) }
-    ensures others { (port : ℕ) → port ≢ state.old.next_port → box_of port (boxes.new).boxes ≡ box_of port (boxes.old).boxes }
+    ensures degrades { IfOk result (λ port. degradation_box_of port.id (boxes.new).boxes ≡ degradation) }
+    ensures others { (port : ℕ) → port ≢ state.old.next_port → boxes_of port (boxes.new).boxes ≡ boxes_of port (boxes.old).boxes }
     ensures step { MatchResult result
-        (λ _. (s' : State T U) × CreatePublisher fixed_handlers (state_of (kept_of state.old)) (settings_with given.now (marks_of handler) segments) s' None × Reaches state.old state.new s')
-        (λ e. CreatePublisher fixed_handlers (state_of (kept_of state.old)) (settings_with given.now (marks_of handler) segments) (state_of (kept_of state.old)) (Some e)
+        (λ _. (s' : State T U) × CreatePublisher (answers_of F.allows G.allows (boxes.new).boxes) (state_of (kept_of state.old)) (settings_with given.now (marks_of handler) segments) s' None × Reaches state.old state.new s')
+        (λ e. CreatePublisher (answers_of F.allows G.allows (boxes.new).boxes) (state_of (kept_of state.old)) (settings_with given.now (marks_of handler) segments) (state_of (kept_of state.old)) (Some e)
         × Reaches state.old state.new (state_of (kept_of state.old))) }
 {
     let place = place_for_publisher(state)?;
@@ -165,11 +168,16 @@ pub fn create_publisher<T: Drop, U: Default + Drop, F: Drop>(
     let AllocationStrategy::Static = segments.allocation else {
         return Err(PublisherCreateError::UnableToCreateDataSegment);
     };
-    let Ok(()) = reserve_for(boxes, &handler) else {
+    let mark = mark_of(&handler);
+    let its = PortBoxes {
+        backpressure: box_in(handler),
+        degradation,
+    };
+    let Ok(()) = reserve_for(boxes, &its) else {
         return Err(PublisherCreateError::FailedToDeployThreadsafetyPolicy);
     };
-    let id = admit_publisher(state, place, given, mark_of(&handler), slots)?;
-    keep_box(boxes, id, handler);
-    update_first(state, place, id);
+    let id = admit_publisher(state, place, given, mark, slots)?;
+    keep_boxes(boxes, id.value(), its);
+    update_first(state, boxes, place, id);
     Ok(PortAt { id, place })
 }

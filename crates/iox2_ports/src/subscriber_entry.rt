@@ -1,11 +1,11 @@
 //! A subscriber enters a domain.
-ghost use Rattle.std.specs.Prelude.{◌≡◌, None, Some, cond, nat_lt, slice_index_or, IfOk, MatchResult};
+ghost use Rattle.std.specs.Prelude.{◌≡◌, ◌≢◌, ℕ, None, Some, cond, nat_lt, slice_index_or, IfOk, MatchResult};
 ghost use Rattle.iox2_store.specs.machine.Limits.{warning_limit};
-ghost use Rattle.iox2_store.specs.machine.Environments.{fixed_handlers};
 ghost use Rattle.iox2_store.specs.machine.Ports.{with_new_subscriber, CreateSubscriber};
 ghost use Rattle.iox2_store.specs.machine.State.{State, warned};
 ghost use Rattle.iox2_store.specs.declared.errors.SubscriberCreateError.TheVariants.{FailedToDeployThreadsafetyPolicy};
 ghost use Rattle.iox2_store.specs.declared.warning.Warning.TheVariants.{ExpiredBufferRaised, SubscriberPartlyConnected};
+ghost use Rattle.iox2_domain.specs.Boxes.{answers_of, boxes_of, degradation_box_of};
 ghost use Rattle.iox2_domain.specs.Ports.{SubscriberFields};
 ghost use Rattle.iox2_domain.specs.WarningRing.{warning_ring};
 ghost use Rattle.iox2_domain.specs.Kept.{state_of};
@@ -15,12 +15,14 @@ ghost use Rattle.iox2_domain.specs.Reaches.{Reaches};
 ghost use Rattle.iox2_domain.specs.FirstUpdates.{SubscriberFirstUpdates, failure_warned};
 ghost use Rattle.iox2_domain.specs.SubscriberEntry.{asked_for, place_for_subscriber};
 
+use crate::given_handlers::{keep_boxes, reserve_for};
 use iox2_domain::{
-    DomainState, PortAt, SubscriberOptions, SubscriberState, Warnings, free_place, make_all_due,
-    put_at_place,
+    Boxes, DomainState, PortAt, PortBoxes, SubscriberOptions, SubscriberState, Warnings,
+    free_place, make_all_due, put_at_place,
 };
 use iox2_store::{
-    ConnectionFailure, ServiceConfig, SubscriberCreateError, UniqueSubscriberId, Warning,
+    BackpressureFn, ConnectionFailure, DegradationFn, ServiceConfig, SubscriberCreateError,
+    UniqueSubscriberId, Warning,
 };
 use iox2_updates::update_subscriber;
 
@@ -56,16 +58,17 @@ fn warn_of_failure(
 }
 
 // The new subscriber at a place is updated for the first time, and it is warned where that fails.
-fn update_first<T: Drop, U: Default + Drop>(
+fn update_first<T: Drop, U: Default + Drop, F: BackpressureFn, G: DegradationFn>(
     state: &mut DomainState<T, U>,
+    boxes: &Boxes<F, G>,
     place: usize,
     subscriber: UniqueSubscriberId,
 )
     requires agrees { IsDomain state.old }
     requires stands { (y : SubscriberFields) × (slice_index_or state.old.subscribers place None ≡ Some y) × (y.id ≡ subscriber) }
-    ensures { (y : SubscriberFields) → slice_index_or state.old.subscribers place None ≡ Some y → SubscriberFirstUpdates fixed_handlers state.old place y state.new }
+    ensures { (y : SubscriberFields) → slice_index_or state.old.subscribers place None ≡ Some y → SubscriberFirstUpdates (answers_of F.allows G.allows (boxes.now).boxes) state.old place y state.new }
 {
-    let failure = update_subscriber(state, place);
+    let failure = update_subscriber(state, boxes, place);
     warn_of_failure(&mut state.warnings, subscriber, failure);
 }
 
@@ -123,25 +126,39 @@ pub(crate) fn admit_subscriber<T: Drop, U: Default + Drop>(
 }
 
 /// Makes a subscriber with these options, and connects it with the publishers that there are; it is
-/// warned where that fails. Returns its id, which was the next, and its place.
+/// warned where that fails. Where a connection can't be made, its options say what answers, or the
+/// box does that is handed in, which is kept among the boxes. Returns its id, which was the next, and
+/// its place.
 ///
 /// `UnableToCreatePortTag` where no id is left, then
 /// `BufferSizeExceedsMaxSupportedBufferSizeOfService`, then `ExceedsMaxSupportedSubscribers`
-/// where no place is free, then `FailedToDeployThreadsafetyPolicy` where memory is refused.
-/// Nothing changes then.
-pub fn create_subscriber<T: Drop, U: Default + Drop>(
+/// where no place is free, then `FailedToDeployThreadsafetyPolicy` where memory for the port or its
+/// box is refused. Nothing changes then.
+pub fn create_subscriber<T: Drop, U: Default + Drop, F: BackpressureFn, G: DegradationFn>(
     state: &mut DomainState<T, U>,
+    boxes: &mut Boxes<F, G>,
     given: &SubscriberOptions,
+    degradation: Option<G>,
 ) -> Result<PortAt<UniqueSubscriberId>, SubscriberCreateError>
     requires { IsDomain state.old }
     ensures id { IfOk result (λ port. port.id ≡ state.old.next_port) }
     ensures stands { IfOk result (λ port. (y : SubscriberFields) × (slice_index_or state.new.subscribers port.place None ≡ Some y) × (y.id ≡ port.id)) }
+    ensures degrades { IfOk result (λ port. degradation_box_of port.id (boxes.new).boxes ≡ degradation) }
+    ensures others { (port : ℕ) → port ≢ state.old.next_port → boxes_of port (boxes.new).boxes ≡ boxes_of port (boxes.old).boxes }
     ensures step { MatchResult result
-        (λ _. (s' : State T U) × CreateSubscriber fixed_handlers (state_of (kept_of state.old)) (asked_for given.now) s' None × Reaches state.old state.new s')
-        (λ e. CreateSubscriber fixed_handlers (state_of (kept_of state.old)) (asked_for given.now) (state_of (kept_of state.old)) (Some e) × (state.new ≡ state.old)) }
+        (λ _. (s' : State T U) × CreateSubscriber (answers_of F.allows G.allows (boxes.new).boxes) (state_of (kept_of state.old)) (asked_for given.now) s' None × Reaches state.old state.new s')
+        (λ e. CreateSubscriber (answers_of F.allows G.allows (boxes.new).boxes) (state_of (kept_of state.old)) (asked_for given.now) (state_of (kept_of state.old)) (Some e) × (state.new ≡ state.old)) }
 {
     let place = place_for_subscriber(state, given)?;
+    let its = PortBoxes {
+        backpressure: None,
+        degradation,
+    };
+    let Ok(()) = reserve_for(boxes, &its) else {
+        return Err(SubscriberCreateError::FailedToDeployThreadsafetyPolicy);
+    };
     let id = admit_subscriber(state, place, given)?;
-    update_first(state, place, id);
+    keep_boxes(boxes, id.value(), its);
+    update_first(state, boxes, place, id);
     Ok(PortAt { id, place })
 }

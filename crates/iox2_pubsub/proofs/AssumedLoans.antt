@@ -9,7 +9,7 @@ use Rattle.iox2_store.specs.machine.Records.{Loan}
 use Rattle.iox2_store.specs.machine.SingleCalls.{HoldsLoan}
 use Rattle.iox2_store.specs.machine.State.{State, Messages}
 use Rattle.iox2_domain.specs.Kept.{Kept, state_of}
-use Rattle.iox2_domain.specs.declared.boxes.PortBox.{PortBox}
+use Rattle.iox2_domain.specs.Boxes.{DomainBoxes}
 use Rattle.iox2_domain.specs.Fields.{Fields, kept_of, keeping}
 use Rattle.iox2_domain.specs.Invariant.{IsDomain}
 use Rattle.iox2_domain.specs.LoanCalls.{AssumesLoan}
@@ -34,7 +34,7 @@ all-some : {T : Type 0} (values : List T) → list_all is_some (map Some values)
 all-some [] = refl
 all-some (value ∷ values) = all-some values
 
-module _ {T U F : Type 0} {boxes : List (PortBox F)} (f g : Fields T U) (sound : IsDomain f) (kept : Kept T U F) (view : keeping boxes f ≡ kept) (n : ℕ) (b : Bool) (assumes : AssumesLoan f g n b) where
+module _ {T U F G : Type 0} {boxes : DomainBoxes F G} (f g : Fields T U) (sound : IsDomain f) (kept : Kept T U F G) (view : keeping boxes f ≡ kept) (n : ℕ) (b : Bool) (assumes : AssumesLoan f g n b) where
   abbrev assumed : Loan T U
   assumed = record (assumes.0) { is_written = true }
 
@@ -42,14 +42,14 @@ module _ {T U F : Type 0} {boxes : List (PortBox F)} (f g : Fields T U) (sound :
   had-cell : (loan : SampleMutUninit) (cell : Option T) → loan.loan.number ≡ n → UnwrittenReads kept loan cell → (assumes.0).cells ≡ cell ∷ []
   had-cell loan cell its reads =
       let had = unwritten-cell kept loan cell reads in
-      let both : Some assumes.0 ≡ Some had.0 = sym assumes.1 ∙ ap (λ (k : Kept T U F). (state_of k).loans n) view ∙ ap (state_of kept).loans (sym its) ∙ had.1 in
+      let both : Some assumes.0 ≡ Some had.0 = sym assumes.1 ∙ ap (λ (k : Kept T U F G). (state_of k).loans n) view ∙ ap (state_of kept).loans (sym its) ∙ had.1 in
       let same : assumes.0 ≡ had.0 = cc in
       ap (λ (l : Loan T U). l.cells) same ∙ had.2
 
   had-cells : (cells : List (Option T)) → HasUnwrittenCells kept n cells → (assumes.0).cells ≡ cells
   had-cells cells has =
       let had = cells-parts kept n cells has in
-      let both : Some assumes.0 ≡ Some had.0 = sym assumes.1 ∙ ap (λ (k : Kept T U F). (state_of k).loans n) view ∙ had.1 in
+      let both : Some assumes.0 ≡ Some had.0 = sym assumes.1 ∙ ap (λ (k : Kept T U F G). (state_of k).loans n) view ∙ had.1 in
       let same : assumes.0 ≡ had.0 = cc in
       ap (λ (l : Loan T U). l.cells) same ∙ had.2
 
@@ -82,7 +82,7 @@ module _ {T U F : Type 0} {boxes : List (PortBox F)} (f g : Fields T U) (sound :
     taken-live loan its live =
         let parts = unwritten-parts kept loan live in
         let out : HoldsLoan (state_of (kept_of f)) loan.loan.publisher n =
-        subst (λ (k : Kept T U F). HoldsLoan (state_of k) loan.loan.publisher n) (sym view) (subst (HoldsLoan (state_of kept) loan.loan.publisher) its ((parts.1).0, (parts.1).1, (parts.1).2)) in
+        subst (λ (k : Kept T U F G). HoldsLoan (state_of k) loan.loan.publisher n) (sym view) (subst (HoldsLoan (state_of kept) loan.loan.publisher) its ((parts.1).0, (parts.1).1, (parts.1).2)) in
         change-written f g kept view n assumes.0 assumed assumes.1 reaches refl loan.loan.publisher loan.service_id parts.0 out refl (record { service_id = loan.service_id; loan = loan.loan }) its refl refl
 
     pub taken-reads : (loan : SampleMutUninit) (value : T) → loan.loan.number ≡ n → UnwrittenReads kept loan (Some value) → LoanReads (keeping boxes g) (record { service_id = loan.service_id; loan = loan.loan }) value
@@ -138,9 +138,9 @@ module _ {T U F : Type 0} {boxes : List (PortBox F)} (f g : Fields T U) (sound :
     pub left-shown : (m : Messages T U) (s : State T U) → Shows kept m s → (l : Loan T U) × (s.loans n ≡ Some l) × (is_initialized l ≡ false) × Shows (kept_of g) m s
     left-shown m s shown = (
       assumes.0,
-      ap (λ (t : State T U). t.loans n) shown.state ∙ sym (ap (λ (k : Kept T U F). (state_of k).loans n) view) ∙ assumes.1,
+      ap (λ (t : State T U). t.loans n) shown.state ∙ sym (ap (λ (k : Kept T U F G). (state_of k).loans n) view) ∙ assumes.1,
       sym assumes.2 ∙ no,
-      subst (λ (k : Kept T U F). Shows k m s) (sym left-same) shown,
+      subst (λ (k : Kept T U F G). Shows k m s) (sym left-same) shown,
     )
 
     pub left-stays : StaysBut (A_loan n) kept (keeping boxes g)

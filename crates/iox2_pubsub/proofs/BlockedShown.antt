@@ -17,7 +17,7 @@ use Rattle.iox2_laws.proofs.SendsRemain.{PortsRemain, retry_remains, retry_frees
 use Rattle.iox2_laws.proofs.Waits.{Waits, retry_waits, give_up_waits}
 use Rattle.iox2_domain.specs.BlockedSends.{HasBlocked, waiting_send}
 use Rattle.iox2_domain.specs.declared.publisher_state.BlockedDelivery.{BlockedDelivery}
-use Rattle.iox2_domain.specs.declared.boxes.PortBox.{PortBox}
+use Rattle.iox2_domain.specs.Boxes.{DomainBoxes}
 use Rattle.iox2_domain.specs.Fields.{Fields, kept_of, publisher_of, numbers_of, blocked_send, keeping}
 use Rattle.iox2_domain.specs.Invariant.{IsDomain}
 use Rattle.iox2_domain.specs.Kept.{Kept, state_of, entries_of}
@@ -60,7 +60,7 @@ module _ {T U : Type 0} (f : Fields T U) (sound : IsDomain f) (i p n : ℕ) (fou
   has-blocked = record { publisher = found.0; stands = found.1; blocked = (some-waits).0; waits = (some-waits).1 }
 
   -- what holds of it holds of the machine's
-  pub as-machine : {F : Type 0} {boxes : List (PortBox F)} (kept : Kept T U F) → keeping boxes f ≡ kept → (m : Messages T U) (s : State T U) → Shows kept m s → (x : Publisher) (b : BlockedSend) → s.publishers p ≡ Some x → x.blocked ≡ Some b
+  pub as-machine : {F G : Type 0} {boxes : DomainBoxes F G} (kept : Kept T U F G) → keeping boxes f ≡ kept → (m : Messages T U) (s : State T U) → Shows kept m s → (x : Publisher) (b : BlockedSend) → s.publishers p ≡ Some x → x.blocked ≡ Some b
       → (P : State T U → ℕ → BlockedSend → Type 0) → P (state_of (kept_of f)) (found.0).id (waiting_send f found.0 (some-waits).0) → P s p b
   as-machine kept view m s shown x b at waits P holds =
       let is : state_of (kept_of f) ≡ s = ap state_of view ∙ sym shown.state in
@@ -72,9 +72,9 @@ module _ {T U : Type 0} (f : Fields T U) (sound : IsDomain f) (i p n : ℕ) (fou
 
 -- ---- what the domain shows, and what stays
 
-module _ {T U F : Type 0} {boxes : List (PortBox F)} (f g : Fields T U) (kept : Kept T U F) (view : keeping boxes f ≡ kept) (m : Messages T U) (s : State T U) (shown : Shows kept m s) (p : ℕ) (result : SendResult) where
+module _ {T U F G : Type 0} {boxes : DomainBoxes F G} (f g : Fields T U) (kept : Kept T U F G) (view : keeping boxes f ≡ kept) (m : Messages T U) (s : State T U) (shown : Shows kept m s) (p : ℕ) (result : SendResult) where
   here : Shows (kept_of f) m s
-  here = subst (λ (k : Kept T U F). Shows k m s) (sym view) shown
+  here = subst (λ (k : Kept T U F G). Shows k m s) (sym view) shown
 
   -- no message is sent, and no loan changes
   goes-shown : IsDomain g → Advances s (state_of (kept_of g)) → (state_of (kept_of g)).loans ≡ s.loans
@@ -142,7 +142,7 @@ module _ {T U F : Type 0} {boxes : List (PortBox F)} (f g : Fields T U) (kept : 
 
 -- ---- a send that isn't blocked again has freed its publisher
 
-module _ {T U F : Type 0} (new : Kept T U F) (m : Messages T U) (s s' : State T U) (shown : Shows new m s') (p : ℕ) (x : Publisher) (b : BlockedSend) (stands : s.publishers p ≡ Some x)
+module _ {T U F G : Type 0} (new : Kept T U F G) (m : Messages T U) (s s' : State T U) (shown : Shows new m s') (p : ℕ) (x : Publisher) (b : BlockedSend) (stands : s.publishers p ≡ Some x)
     (result : SendResult) (free : result ≡ Blocked_send → ⊥) where
   freed : PortsRemain s s' → ((x' : Publisher) → s'.publishers p ≡ Some x' → x'.blocked ≡ None) → (key : Key) → key.port ≡ p → IsUnblocked new key
   freed remain frees key its =

@@ -31,7 +31,7 @@ use Rattle.iox2_laws.proofs.SendsRemain.{send_remains}
 use Rattle.iox2_laws.proofs.SamplesStay.{same_borrowed, IsReceived, received_one, nothing_received, released_remain, released_now, released_others}
 use Rattle.iox2_laws.proofs.SubscriberUpdates.{update_subscriber_keeps}
 use Rattle.iox2_laws.proofs.Waits.{Waits, waits_itself, create_publisher_waits, create_subscriber_waits, grant_loan_waits, loan_set_waits, send_waits as send_spared, receive_waits, released_waits}
-use Rattle.iox2_domain.specs.declared.boxes.PortBox.{PortBox}
+use Rattle.iox2_domain.specs.Boxes.{DomainBoxes}
 use Rattle.iox2_domain.specs.Fields.{Fields, kept_of, keeping}
 use Rattle.iox2_domain.specs.Invariant.{IsDomain}
 use Rattle.iox2_domain.specs.Kept.{Kept, state_of, entries_of}
@@ -50,21 +50,31 @@ use Rattle.iox2_pubsub.proofs.StaysBut.{BoxesStayBut, IsSpared, PortsRemainBut, 
 use Rattle.iox2_pubsub.proofs.UnfailedSends.{IsMild, HasNotFailed, blocked-unfailed}
 
 -- a domain shows some state
-pub always-shown : {T U F : Type 0} {boxes : List (PortBox F)} (f : Fields T U) (kept : Kept T U F) → IsDomain f → keeping boxes f ≡ kept → (m : Messages T U) × (s : State T U) × Shows kept m s
-always-shown {T} {U} {F} f kept sound view = (entries_of (kept_of f), state_of (kept_of f), subst (λ (k : Kept T U F). Shows k (entries_of (kept_of f)) (state_of (kept_of f))) view (shows_itself f sound))
+pub always-shown : {T U F G : Type 0} {boxes : DomainBoxes F G} (f : Fields T U) (kept : Kept T U F G) → IsDomain f → keeping boxes f ≡ kept → (m : Messages T U) × (s : State T U) × Shows kept m s
+always-shown {T} {U} {F} {G} f kept sound view = (entries_of (kept_of f), state_of (kept_of f), subst (λ (k : Kept T U F G). Shows k (entries_of (kept_of f)) (state_of (kept_of f))) view (shows_itself f sound))
 
 -- the next id is that of no publisher that is there
-pub apart-from-next : {T U F : Type 0} {boxes : List (PortBox F)} (f : Fields T U) (kept : Kept T U F) → IsDomain f → keeping boxes f ≡ kept → (key : Key) → IsPublisherKey kept key
+pub apart-from-next : {T U F G : Type 0} {boxes : DomainBoxes F G} (f : Fields T U) (kept : Kept T U F G) → IsDomain f → keeping boxes f ≡ kept → (key : Key) → IsPublisherKey kept key
     → key.port ≢ f.next_port
-apart-from-next {T} {U} {F} f kept sound view key live same =
+apart-from-next {T} {U} {F} {G} f kept sound view key live same =
     let it = always-shown f kept sound view in
     let has = (publisher-parts kept key live).2 in
     let known : key.port < (it.1).next_port = ((it.2).well_formed.publishers key.port has.0 (ap (λ (t : State T U). t.publishers key.port) (it.2).state ∙ has.1)).is_known in
-    let next : (it.1).next_port ≡ f.next_port = ap (λ (t : State T U). t.next_port) (it.2).state ∙ ap (λ (k : Kept T U F). k.next_port) (sym view) in
+    let next : (it.1).next_port ≡ f.next_port = ap (λ (t : State T U). t.next_port) (it.2).state ∙ ap (λ (k : Kept T U F G). k.next_port) (sym view) in
+    omega arith
+
+-- nor is a subscriber that is there the next port
+pub subscriber-apart-from-next : {T U F G : Type 0} {boxes : DomainBoxes F G} (f : Fields T U) (kept : Kept T U F G) → IsDomain f → keeping boxes f ≡ kept → (key : Key) → IsSubscriberKey kept key
+    → key.port ≢ f.next_port
+subscriber-apart-from-next {T} {U} {F} {G} f kept sound view key live same =
+    let it = always-shown f kept sound view in
+    let has = (subscriber-parts kept key live).2 in
+    let known : key.port < (it.1).next_port = ((it.2).well_formed.subscribers key.port has.0 (ap (λ (t : State T U). t.subscribers key.port) (it.2).state ∙ has.1)).is_known in
+    let next : (it.1).next_port ≡ f.next_port = ap (λ (t : State T U). t.next_port) (it.2).state ∙ ap (λ (k : Kept T U F G). k.next_port) (sym view) in
     omega arith
 
 -- two publishers whose messages with one number are borrowed are one
-one-origin : {T U F : Type 0} (kept : Kept T U F) (m : Messages T U) (s : State T U) → Shows kept m s → (p p' q q' n : ℕ)
+one-origin : {T U F G : Type 0} (kept : Kept T U F G) (m : Messages T U) (s : State T U) → Shows kept m s → (p p' q q' n : ℕ)
     → is_borrowed n (s.mailboxes p q) ≡ true → is_borrowed n (s.mailboxes p' q') ≡ true → p ≡ p'
 one-origin {T} {U} kept m s shown p p' q q' n here there =
     let a = entry p q (ap (λ (t : State T U). is_borrowed n (t.mailboxes p q)) (sym shown.state) ∙ here) in
@@ -76,7 +86,7 @@ one-origin {T} {U} kept m s shown p p' q q' n here there =
     entry : (i j : ℕ) → is_borrowed n ((state_of kept).mailboxes i j) ≡ true → (e : Entry T U) × (entries_of kept n ≡ Some e) × ((e.header).publisher_id ≡ i)
     entry i j borrowed = shown.complete i n (In_mailbox j (contains_right ((state_of kept).mailboxes i j).waiting ((state_of kept).mailboxes i j).borrowed n borrowed))
 
-module _ {T U F : Type 0} (old new : Kept T U F) (m : Messages T U) (s : State T U) (shown : Shows old m s) where
+module _ {T U F G : Type 0} (old new : Kept T U F G) (m : Messages T U) (s : State T U) (shown : Shows old m s) where
   -- ports, loans and samples stay
   quiet : BoxesStayBut No_item old new → (s' : State T U) → Shows new m s' → PortsStay s s' → s'.loans ≡ s.loans → Waits (IsSpared No_item) s s' → Stays old new
   quiet boxes s' shown' stay loans waits =

@@ -11,7 +11,7 @@ use Rattle.iox2_laws.proofs.CloseLaws.{subscriber_closed_advances}
 use Rattle.iox2_laws.proofs.LoanKeeping.{subscriber_closed_loans}
 use Rattle.iox2_laws.proofs.PortsClose.{publisher_closed_gone, publisher_closed_others, publisher_closed_subscribers, publisher_closed_borrowed, subscriber_closed_shut, subscriber_closed_others, subscriber_closed_publishers, subscriber_closed_borrowed}
 use Rattle.iox2_laws.proofs.Waits.{publisher_closed_waits, subscriber_closed_waits}
-use Rattle.iox2_domain.specs.declared.boxes.PortBox.{PortBox}
+use Rattle.iox2_domain.specs.Boxes.{DomainBoxes}
 use Rattle.iox2_domain.specs.Fields.{Fields, kept_of, publisher_of, subscriber_of, keeping}
 use Rattle.iox2_domain.specs.Invariant.{IsDomain}
 use Rattle.iox2_domain.specs.Kept.{Kept, state_of}
@@ -24,9 +24,9 @@ use Rattle.iox2_pubsub.specs.Live.{IsPublisherKey, IsSubscriberKey, A_publisher,
 use Rattle.iox2_pubsub.proofs.LiveParts.{publisher-parts, subscriber-parts}
 use Rattle.iox2_pubsub.proofs.StaysBut.{BoxesStayBut, IsSpared, stays-between, none-spared}
 
-module _ {T U F : Type 0} {boxes : List (PortBox F)} (f g : Fields T U) (sound : IsDomain f) (kept : Kept T U F) (view : keeping boxes f ≡ kept) (place id : ℕ) (m : Messages T U) (s : State T U) (shown : Shows kept m s) where
+module _ {T U F G : Type 0} {boxes : DomainBoxes F G} (f g : Fields T U) (sound : IsDomain f) (kept : Kept T U F G) (view : keeping boxes f ≡ kept) (place id : ℕ) (m : Messages T U) (s : State T U) (shown : Shows kept m s) where
   here : Shows (kept_of f) m s
-  here = subst (λ (k : Kept T U F). Shows k m s) (sym view) shown
+  here = subst (λ (k : Kept T U F G). Shows k m s) (sym view) shown
 
   -- the domain shows the machine's close of the publisher that stands at the place
   pub publisher-close-shows : (found : (x : PublisherFields) × (get_or f.publishers place None ≡ Some x) × (x.id ≡ id))
@@ -57,7 +57,7 @@ module _ {T U F : Type 0} {boxes : List (PortBox F)} (f g : Fields T U) (sound :
       reaches-shows f g m s (subscriber_closed s id y) here reached (subscriber_closed_advances s id y).next_message
       (λ n l out. here.unsent n l (ap (λ (loans : ℕ → Option (Loan T U)). loans n) (sym (subscriber_closed_loans s id y)) ∙ out))
 
-module _ {T U F : Type 0} (old new : Kept T U F) (m : Messages T U) (s : State T U) (shown : Shows old m s) (id : ℕ) where
+module _ {T U F G : Type 0} (old new : Kept T U F G) (m : Messages T U) (s : State T U) (shown : Shows old m s) (id : ℕ) where
   -- what is borrowed is told from what is borrowed in the mailboxes
   still-borrowed : (s' : State T U) → ((p q : ℕ) → (s'.mailboxes p q).borrowed ≡ (s.mailboxes p q).borrowed) → (p q n : ℕ) → is_borrowed n (s.mailboxes p q) ≡ true
       → is_borrowed n (s'.mailboxes p q) ≡ true

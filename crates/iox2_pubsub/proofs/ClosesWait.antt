@@ -13,7 +13,7 @@ use Rattle.iox2_pubsub.specs.declared.subscriber.Subscriber.{Subscriber}
 use Rattle.iox2_pubsub.proofs.UpToDateShown.{up-to-date, up-to-date-in}
 use Rattle.iox2_pubsub.proofs.WaitingShown.{others-wait, waiting-is}
 
-module _ {T U F : Type 0} (old new : Kept T U F) (m : Messages T U) (s : State T U) (shown : Shows old m s) (id : ℕ) where
+module _ {T U F G : Type 0} (old new : Kept T U F G) (m : Messages T U) (s : State T U) (shown : Shows old m s) (id : ℕ) where
   -- a publisher that closes leaves what waits for a subscriber that is up to date
   pub publisher-close-no-fewer : (x : Publisher) → Shows new m (publisher_closed s id x) → s.publishers id ≡ Some x
       → (subscriber : Subscriber) → IsUpToDate old subscriber → waiting old subscriber ≤ waiting new subscriber

@@ -37,7 +37,7 @@ use Rattle.iox2_pubsub.proofs.ServedLists.{send-served, send-counts, send-full}
 use Rattle.iox2_pubsub.proofs.UpToDateShown.{connected, connected-in, up-to-date-in}
 use Rattle.iox2_pubsub.proofs.WaitingShown.{live-open, payload-is, payloads-from-are, same-payload, waiting-is, written-cells}
 
-module _ {T U F : Type 0} (kept : Kept T U F) (m : Messages T U) (s : State T U) (shown : Shows kept m s) (p : ℕ) (subscriber : Subscriber) where
+module _ {T U F G : Type 0} (kept : Kept T U F G) (m : Messages T U) (s : State T U) (shown : Shows kept m s) (p : ℕ) (subscriber : Subscriber) where
   -- the payloads are those of what the machine has waiting
   from-shown : payloads_from kept p subscriber ≡ map (payload_of (entries_of kept)) (waiting_from s p subscriber.id)
   from-shown = payloads-from-are kept p subscriber ∙ ap (λ (t : State T U). map (payload_of (entries_of kept)) (waiting_from t p subscriber.id)) (sym shown.state)
@@ -46,7 +46,7 @@ module _ {T U F : Type 0} (kept : Kept T U F) (m : Messages T U) (s : State T U)
 mapped-some : {X : Type 0} (f : ℕ → X) (ns : List ℕ) (xs : List X) → xs ≡ map f ns → 0 < length ns → 0 < length xs
 mapped-some f ns xs is some = let same : length xs ≡ length ns = ap length is ∙ length-map ns f in omega (arith, same, some)
 
-served-parts : {T U F : Type 0} (old new : Kept T U F) (p : ℕ) (subscriber : Subscriber) (values : List T)
+served-parts : {T U F G : Type 0} (old new : Kept T U F G) (p : ℕ) (subscriber : Subscriber) (values : List T)
     → ((payloads_from new p subscriber ≡ payloads_from old p subscriber ++ values ∷ []) × (waiting new subscriber ≡ suc (waiting old subscriber)))
     ⊎ ((0 < length (payloads_from old p subscriber))
     × MatchBool (old.config).enable_safe_overflow
@@ -58,14 +58,14 @@ unfolding IsServed
 served-parts old new p subscriber values h = h
 
 -- a loan's message reads as the loan
-loan-values : {T U F : Type 0} (kept : Kept T U F) (m : Messages T U) (s : State T U) → Shows kept m s → (n : ℕ) (l : Loan T U) (values : List T) → s.loans n ≡ Some l → HasValues kept n values
+loan-values : {T U F G : Type 0} (kept : Kept T U F G) (m : Messages T U) (s : State T U) → Shows kept m s → (n : ℕ) (l : Loan T U) (values : List T) → s.loans n ≡ Some l → HasValues kept n values
     → (entry_of l).values ≡ values
 loan-values {T} {U} kept m s shown n l values out reads =
     let has = values-parts kept n values reads in
     let same : l ≡ has.0 = same_Some l has.0 (sym out ∙ ap (λ (t : State T U). t.loans n) shown.state ∙ has.1) in
     ap (filter_map (λ (cell : Option T). cell)) (ap (λ (k : Loan T U). k.cells) same ∙ has.2) ∙ written-cells values
 
-module _ {T U F : Type 0} (old new : Kept T U F) (m m' : Messages T U) (s s' : State T U) (shown : Shows old m s) (shown' : Shows new m' s') where
+module _ {T U F G : Type 0} (old new : Kept T U F G) (m m' : Messages T U) (s s' : State T U) (shown : Shows old m s) (shown' : Shows new m' s') where
   -- a send that was delivered serves each subscriber with which its publisher is connected
   module _ (environment : Environment) (n : ℕ) (l : Loan T U) (count : ℕ) (sent : (k : ℕ) (entry : Entry T U) → m k ≡ Some entry → m' k ≡ Some entry) (is_sent : m' n ≡ Some (entry_of l))
       (out : s.loans n ≡ Some l) (free : is_blocked s l.publisher ≡ false) (h : Send environment s n l s' (Delivered_to count)) (subscriber : Subscriber) (values : List T)
@@ -145,7 +145,7 @@ module _ {T U F : Type 0} (old new : Kept T U F) (m m' : Messages T U) (s s' : S
       (create-publisher-connects environment s shown.well_formed given s' h subscriber.id has.0 has.1 has.2 low
       (ap (λ (t : State T U). (t.warnings).refused_connections) shown'.state ∙ none.0 ∙ sym (ap (λ (t : State T U). (t.warnings).refused_connections) shown.state))))
 
-module _ {T U F : Type 0} (old new : Kept T U F) (m : Messages T U) (s : State T U) (environment : Environment) (shown : Shows old m s) where
+module _ {T U F G : Type 0} (old new : Kept T U F G) (m : Messages T U) (s : State T U) (environment : Environment) (shown : Shows old m s) where
   -- what a send serves, by its result
   pub serves : (n : ℕ) (l : Loan T U) (p : ℕ) (result : Result SendOutcome SendError) (s' : State T U) → Shows new (messages_after m n l result) s' → Sends environment s n l result s' → m n ≡ None
       → s.loans n ≡ Some l → l.publisher ≡ p → is_blocked (state_of old) p ≡ false → (subscriber : Subscriber) (values : List T) → IsConnected old p subscriber → HasValues old n values
@@ -159,7 +159,7 @@ module _ {T U F : Type 0} (old new : Kept T U F) (m : Messages T U) (s : State T
   serves n l p (Ok (Blocked blocked)) s' shown' h unsent out its free subscriber values is reads = λ no. absurd no
   serves n l p (Err error) s' shown' h unsent out its free subscriber values is reads = tt
 
-module _ {T U F : Type 0} (old new : Kept T U F) (m : Messages T U) (s : State T U) (shown : Shows old m s) (id : ℕ) where
+module _ {T U F G : Type 0} (old new : Kept T U F G) (m : Messages T U) (s : State T U) (shown : Shows old m s) (id : ℕ) where
   module _ (x : Publisher) (shown' : Shows new m (publisher_closed s id x)) (at : s.publishers id ≡ Some x) where
     -- a publisher that closes leaves what waits for a subscriber that is up to date and connected
     pub publisher-close-keeps : (publisher : ℕ) (subscriber : Subscriber) → IsUpToDate old subscriber → IsConnected old publisher subscriber → payloads_from new publisher subscriber ≡ payloads_from old publisher subscriber

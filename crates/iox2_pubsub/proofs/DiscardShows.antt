@@ -11,7 +11,7 @@ use Rattle.iox2_laws.proofs.Puts.{found_removed, put_at-other, put_at-same}
 use Rattle.iox2_laws.proofs.SamplesStay.{same_borrowed}
 use Rattle.iox2_laws.proofs.Waits.{loan_discarded_waits}
 use Rattle.iox2_domain.specs.Discards.{DiscardsLoan}
-use Rattle.iox2_domain.specs.declared.boxes.PortBox.{PortBox}
+use Rattle.iox2_domain.specs.Boxes.{DomainBoxes}
 use Rattle.iox2_domain.specs.Fields.{Fields, kept_of, keeping}
 use Rattle.iox2_domain.specs.Kept.{Kept, state_of}
 use Rattle.iox2_domain.specs.Reaches.{Reaches}
@@ -22,10 +22,10 @@ use Rattle.iox2_pubsub.proofs.LiveParts.{loan-parts}
 use Rattle.iox2_pubsub.proofs.StaysBut.{BoxesStayBut, IsSpared, ports-remain, stays-between, none-spared}
 
 -- the domain shows the machine's step
-pub discard-shows : {T U F : Type 0} {boxes : List (PortBox F)} (f g : Fields T U) (kept : Kept T U F) (view : keeping boxes f ≡ kept) (n : ℕ) (discards : DiscardsLoan f g n)
+pub discard-shows : {T U F G : Type 0} {boxes : DomainBoxes F G} (f g : Fields T U) (kept : Kept T U F G) (view : keeping boxes f ≡ kept) (n : ℕ) (discards : DiscardsLoan f g n)
     → (m : Messages T U) (s : State T U) (l : Loan T U) → Shows kept m s → s.loans n ≡ Some l → Shows (kept_of g) m (loan_discarded s n l)
-discard-shows {T} {U} {F} f g kept view n discards m s l shown out =
-    let here : Shows (kept_of f) m s = subst (λ (k : Kept T U F). Shows k m s) (sym view) shown in
+discard-shows {T} {U} {F} {G} f g kept view n discards m s l shown out =
+    let here : Shows (kept_of f) m s = subst (λ (k : Kept T U F G). Shows k m s) (sym view) shown in
     let is : state_of (kept_of f) ≡ s = sym here.state in
     let both : Some discards.0 ≡ Some l = sym discards.1 ∙ ap (λ (t : State T U). t.loans n) is ∙ out in
     let same : discards.0 ≡ l = cc in
@@ -34,7 +34,7 @@ discard-shows {T} {U} {F} f g kept view n discards m s l shown out =
     (le_refl s.next_message)
     (λ k loan at. found_removed s.loans n k loan (m k ≡ None) at (λ _ old. here.unsent k loan old))
 
-module _ {T U F : Type 0} (old new : Kept T U F) (m : Messages T U) (s : State T U) (shown : Shows old m s) (n : ℕ) (l : Loan T U)
+module _ {T U F G : Type 0} (old new : Kept T U F G) (m : Messages T U) (s : State T U) (shown : Shows old m s) (n : ℕ) (l : Loan T U)
     (shown' : Shows new m (loan_discarded s n l)) where
   -- all else stays
   pub discard-stays : BoxesStayBut (A_loan n) old new → StaysBut (A_loan n) old new

@@ -12,7 +12,7 @@ use Rattle.iox2_store.specs.machine.Records.{Loan}
 use Rattle.iox2_store.specs.machine.SingleCalls.{HoldsLoan}
 use Rattle.iox2_store.specs.machine.State.{State, Messages, with_loan}
 use Rattle.iox2_domain.specs.Kept.{Kept, state_of, with_loan_changed}
-use Rattle.iox2_domain.specs.declared.boxes.PortBox.{PortBox}
+use Rattle.iox2_domain.specs.Boxes.{DomainBoxes}
 use Rattle.iox2_domain.specs.Fields.{Fields, kept_of, contents_at, keeping}
 use Rattle.iox2_domain.specs.Invariant.{IsDomain}
 use Rattle.iox2_domain.specs.LoanCalls.{HoldsUnwritten, HoldsWritten, HasCells, HasCell, HasLoanUserHeader, HasContents, HasContentIn, with_content, first_cell_changed, cells_changed, user_header_changed}
@@ -38,7 +38,7 @@ use Rattle.iox2_pubsub.proofs.LoansLeftShown.{set-left}
 -- ---- the words
 
 -- what is kept, beside other boxes
-abbrev with-boxes : {T U F G : Type 0} → List (PortBox G) → Kept T U F → Kept T U G
+abbrev with-boxes : {T U F G F' G' : Type 0} → DomainBoxes F' G' → Kept T U F G → Kept T U F' G'
 with-boxes boxes kept = record {
   config = kept.config;
   next_port = kept.next_port;
@@ -51,7 +51,7 @@ with-boxes boxes kept = record {
   boxes = boxes;
 }
 
-module _ {T U F : Type 0} (kept : Kept T U F) (n : ℕ) where
+module _ {T U F G : Type 0} (kept : Kept T U F G) (n : ℕ) where
   pub cell-word : (cell : Option T) → with_cell kept n cell ≡ with_loan_changed n (first_cell_changed cell) kept
   unfolding with_cell
   cell-word cell = refl
@@ -87,8 +87,8 @@ refilled (x ∷ xs) (w ∷ ws) same = ap (λ ys. w ∷ ys) (refilled xs ws (omeg
 
 -- ---- a loan that was lent
 
-module _ {T U F : Type 0} {boxes : List (PortBox F)} (f g : Fields T U) (sound : IsDomain f) (kept : Kept T U F) (view : keeping boxes f ≡ kept) (n : ℕ) (l : Loan T U) (found : (state_of (kept_of f)).loans n ≡ Some l)
-    (h : Loan T U → Loan T U) (lent : IsLent f g n l h) (after : Kept T U F) (is : after ≡ with_loan_changed n h kept) where
+module _ {T U F G : Type 0} {boxes : DomainBoxes F G} (f g : Fields T U) (sound : IsDomain f) (kept : Kept T U F G) (view : keeping boxes f ≡ kept) (n : ℕ) (l : Loan T U) (found : (state_of (kept_of f)).loans n ≡ Some l)
+    (h : Loan T U → Loan T U) (lent : IsLent f g n l h) (after : Kept T U F G) (is : after ≡ with_loan_changed n h kept) where
   -- what is kept is what the word says
   pub lent-is : keeping boxes g ≡ after
   lent-is = ap (with-boxes boxes) lent.kept ∙ ap (with_loan_changed n h) view ∙ sym is
@@ -96,7 +96,7 @@ module _ {T U F : Type 0} {boxes : List (PortBox F)} (f g : Fields T U) (sound :
   pub lent-shown : (m : Messages T U) (s : State T U) → Shows kept m s → (k : Loan T U) × (s.loans n ≡ Some k) × Shows after m (with_loan s n (Some (h k)))
   lent-shown m s shown =
       let both = change-shown f g kept view n l (h l) found lent.reaches m s shown in
-      (l, both.0, subst (λ (k : Kept T U F). Shows k m (with_loan s n (Some (h l)))) lent-is both.1)
+      (l, both.0, subst (λ (k : Kept T U F G). Shows k m (with_loan s n (Some (h l)))) lent-is both.1)
 
   pub lent-stays : StaysBut (A_loan n) kept after
   lent-stays =
@@ -125,11 +125,11 @@ module _ {T U F : Type 0} {boxes : List (PortBox F)} (f g : Fields T U) (sound :
 
   -- the changed loan is the one that is kept
   lent-there : (state_of after).loans n ≡ Some (h l)
-  lent-there = ap (λ (k : Kept T U F). (state_of k).loans n) (sym lent-is) ∙ changed-out f g kept view n l (h l) found lent.reaches
+  lent-there = ap (λ (k : Kept T U F G). (state_of k).loans n) (sym lent-is) ∙ changed-out f g kept view n l (h l) found lent.reaches
 
   loan-there : (k : Loan T U) → (state_of kept).loans n ≡ Some k → k ≡ l
   loan-there k at =
-      let both : Some k ≡ Some l = sym at ∙ sym (ap (λ (s : Kept T U F). (state_of s).loans n) view) ∙ found in cc
+      let both : Some k ≡ Some l = sym at ∙ sym (ap (λ (s : Kept T U F G). (state_of s).loans n) view) ∙ found in cc
 
   -- what it reads as
   pub lent-cells : (m : ℕ) (cells : List (Option T)) → m ≡ n → (h l).cells ≡ cells → HasUnwrittenCells after m cells
@@ -144,11 +144,11 @@ module _ {T U F : Type 0} {boxes : List (PortBox F)} (f g : Fields T U) (sound :
   -- a header that didn't change
   pub lent-same-header : (h l).header ≡ l.header → (key : Key) → key.message ≡ n → (header : Header) → LoanHasHeader kept key header → LoanHasHeader after key header
   lent-same-header same key its header has =
-      subst (λ (k : Kept T U F). LoanHasHeader k key header) lent-is (change-header f g kept view n l (h l) found lent.reaches key key its its same header has)
+      subst (λ (k : Kept T U F G). LoanHasHeader k key header) lent-is (change-header f g kept view n l (h l) found lent.reaches key key its its same header has)
 
   pub lent-same-user-header : (h l).user_header ≡ l.user_header → (key : Key) → key.message ≡ n → (header : U) → LoanHasUserHeader kept key header → LoanHasUserHeader after key header
   lent-same-user-header same key its header has =
-      subst (λ (k : Kept T U F). LoanHasUserHeader k key header) lent-is (change-user-header f g kept view n l (h l) found lent.reaches key key its its same header has)
+      subst (λ (k : Kept T U F G). LoanHasUserHeader k key header) lent-is (change-user-header f g kept view n l (h l) found lent.reaches key key its its same header has)
 
   -- where only its user header changed, it reads as it did
   module _ (same : (h l).cells ≡ l.cells) (m : ℕ) (its : m ≡ n) where
@@ -167,20 +167,20 @@ module _ {T U F : Type 0} {boxes : List (PortBox F)} (f g : Fields T U) (sound :
     lent-written loan its live =
         let parts = written-parts kept loan live in
         let out : HoldsLoan (state_of (kept_of f)) loan.loan.publisher n =
-        subst (λ (k : Kept T U F). HoldsLoan (state_of k) loan.loan.publisher n) (sym view) (subst (HoldsLoan (state_of kept) loan.loan.publisher) its ((parts.1).0, (parts.1).1, (parts.1).2)) in
-        let both : Some l ≡ Some (parts.1).0 = sym found ∙ ap (λ (k : Kept T U F). (state_of k).loans n) view ∙ ap (state_of kept).loans (sym its) ∙ (parts.1).1 in
+        subst (λ (k : Kept T U F G). HoldsLoan (state_of k) loan.loan.publisher n) (sym view) (subst (HoldsLoan (state_of kept) loan.loan.publisher) its ((parts.1).0, (parts.1).1, (parts.1).2)) in
+        let both : Some l ≡ Some (parts.1).0 = sym found ∙ ap (λ (k : Kept T U F G). (state_of k).loans n) view ∙ ap (state_of kept).loans (sym its) ∙ (parts.1).1 in
         let one : l ≡ (parts.1).0 = cc in
         let written : (h l).is_written ≡ true = mark ∙ ap (λ (k : Loan T U). k.is_written) one ∙ (parts.1).3 in
-        subst (λ (k : Kept T U F). IsWritten k loan) lent-is
+        subst (λ (k : Kept T U F G). IsWritten k loan) lent-is
         (change-written f g kept view n l (h l) found lent.reaches same loan.loan.publisher loan.service_id parts.0 out written loan its refl refl)
 
     pub lent-unwritten : (loan : SampleMutUninit) → loan.loan.number ≡ n → IsUnwritten kept loan → IsUnwritten after loan
     lent-unwritten loan its live =
         let parts = unwritten-parts kept loan live in
-        let both : Some l ≡ Some (parts.1).0 = sym found ∙ ap (λ (k : Kept T U F). (state_of k).loans n) view ∙ ap (state_of kept).loans (sym its) ∙ (parts.1).1 in
+        let both : Some l ≡ Some (parts.1).0 = sym found ∙ ap (λ (k : Kept T U F G). (state_of k).loans n) view ∙ ap (state_of kept).loans (sym its) ∙ (parts.1).1 in
         let one : l ≡ (parts.1).0 = cc in
         let unwritten : (h l).is_written ≡ false = mark ∙ ap (λ (k : Loan T U). k.is_written) one ∙ (parts.1).3 in
-        subst (λ (k : Kept T U F). IsUnwritten k loan) lent-is (change-unwritten f g kept view n l (h l) found lent.reaches same loan its live unwritten)
+        subst (λ (k : Kept T U F G). IsUnwritten k loan) lent-is (change-unwritten f g kept view n l (h l) found lent.reaches same loan its live unwritten)
 
     -- one whose publisher never waits stays so
     pub lent-written-loan : (loan : SampleMut) → loan.loan.number ≡ n → IsWritten kept loan → NeverWaits kept (written_key loan) → IsWrittenLoan after loan

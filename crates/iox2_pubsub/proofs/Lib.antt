@@ -4,6 +4,7 @@ pub mod SampleOrigins
 pub mod UninitLoans
 pub mod SubscribersShown
 pub mod LoanHandles
+pub mod MarkedLoans
 pub mod LentHandles
 pub mod AssumedLoans
 pub mod WrittenLoanCalls
@@ -46,3 +47,4 @@ pub mod KeptCounts
 pub mod BlockedShown
 pub mod BoxesAlike
 pub mod ReceiversAhead
+pub mod KeptAnswers

@@ -20,7 +20,7 @@ use Rattle.iox2_pubsub.specs.declared.sample.Sample.{Sample}
 use Rattle.iox2_pubsub.specs.declared.sample_mut.SampleMut.{SampleMut}
 use Rattle.iox2_pubsub.specs.declared.sample_mut_uninit.SampleMutUninit.{SampleMutUninit}
 
-module _ {T U F : Type 0} (kept : Kept T U F) where
+module _ {T U F G : Type 0} (kept : Kept T U F G) where
   -- the key has this service's number
   abbrev IsOfService : Key → Type 0
   IsOfService key = key.service_id ≡ (kept.config).service_id

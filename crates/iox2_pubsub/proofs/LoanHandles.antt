@@ -9,7 +9,7 @@ use Rattle.iox2_store.specs.machine.Loans.{written}
 use Rattle.iox2_store.specs.machine.SingleCalls.{HoldsLoan}
 use Rattle.iox2_laws.proofs.Puts.{found_put}
 use Rattle.iox2_domain.specs.Kept.{Kept, state_of}
-use Rattle.iox2_domain.specs.declared.boxes.PortBox.{PortBox}
+use Rattle.iox2_domain.specs.Boxes.{DomainBoxes}
 use Rattle.iox2_domain.specs.Fields.{Fields, kept_of, keeping}
 use Rattle.iox2_store.specs.declared.key.Key.{Key}
 use Rattle.iox2_pubsub.specs.Live.{IsLoanKey, IsUnwritten, IsWritten, LoanHasHeader, LoanHasUserHeader, LoanReads}
@@ -23,7 +23,7 @@ use Rattle.iox2_domain.specs.Reaches.{Reaches}
 use Rattle.iox2_domain.specs.Shows.{Shows}
 use Rattle.iox2_domain.proofs.lemmas.fields.ReachesShows.{reaches-shows}
 
-module _ {T U F : Type 0} (inside kept : Kept T U F) (view : inside ≡ kept) where
+module _ {T U F G : Type 0} (inside kept : Kept T U F G) (view : inside ≡ kept) where
   -- what holds of the state that is kept holds of each that is shown
   pub of-shown : (P : State T U → Type 0) → P (state_of inside) → (m : Messages T U) (s : State T U) → Shows kept m s → P s
   of-shown P holds m s shown = subst P (ap state_of view ∙ sym shown.state) holds
@@ -40,7 +40,7 @@ module _ {T U F : Type 0} (inside kept : Kept T U F) (view : inside ≡ kept) wh
 
 -- ---- a loan is changed
 
-module _ {T U F : Type 0} {boxes : List (PortBox F)} (f g : Fields T U) (kept : Kept T U F) (view : keeping boxes f ≡ kept) (n : ℕ) (l changed : Loan T U) (found : (state_of (kept_of f)).loans n ≡ Some l)
+module _ {T U F G : Type 0} {boxes : DomainBoxes F G} (f g : Fields T U) (kept : Kept T U F G) (view : keeping boxes f ≡ kept) (n : ℕ) (l changed : Loan T U) (found : (state_of (kept_of f)).loans n ≡ Some l)
     (reaches : Reaches f g (with_loan (state_of (kept_of f)) n (Some changed))) where
   -- the domain shows the machine's step
   pub change-shown : (m : Messages T U) (s : State T U) → Shows kept m s → (s.loans n ≡ Some l) × Shows (kept_of g) m (with_loan s n (Some changed))
@@ -65,7 +65,7 @@ module _ {T U F : Type 0} {boxes : List (PortBox F)} (f g : Fields T U) (kept : 
   module _ (key key' : Key) (here : key.message ≡ n) (there : key'.message ≡ n) where
     -- what was out is what is changed
     was : (k : Loan T U) → (state_of kept).loans key.message ≡ Some k → l ≡ k
-    was k at = same_Some l k (sym found ∙ ap (λ (e : Kept T U F). (state_of e).loans n) view ∙ ap (state_of kept).loans (sym here) ∙ at)
+    was k at = same_Some l k (sym found ∙ ap (λ (e : Kept T U F G). (state_of e).loans n) view ∙ ap (state_of kept).loans (sym here) ∙ at)
 
     pub change-header : changed.header ≡ l.header → (header : Header) → LoanHasHeader kept key header → LoanHasHeader (keeping boxes g) key' header
     change-header same header has =
@@ -81,7 +81,7 @@ module _ {T U F : Type 0} {boxes : List (PortBox F)} (f g : Fields T U) (kept : 
 
   module _ (same : changed.publisher ≡ l.publisher) where
     service-still : (id : ℕ) → id ≡ (kept.config).service_id → id ≡ ((kept_of g).config).service_id
-    service-still id ours = ours ∙ sym (ap (λ (k : Kept T U F). (k.config).service_id) view) ∙ sym (ap (λ (t : State T U). (t.config).service_id) reaches.state)
+    service-still id ours = ours ∙ sym (ap (λ (k : Kept T U F G). (k.config).service_id) view) ∙ sym (ap (λ (t : State T U). (t.config).service_id) reaches.state)
 
     its-publisher : (p : ℕ) → HoldsLoan (state_of (kept_of f)) p n → l.publisher ≡ p
     its-publisher p live =
@@ -97,7 +97,7 @@ module _ {T U F : Type 0} {boxes : List (PortBox F)} (f g : Fields T U) (kept : 
     pub change-unwritten : (loan : SampleMutUninit) → loan.loan.number ≡ n → IsUnwritten kept loan → changed.is_written ≡ false → IsUnwritten (keeping boxes g) loan
     change-unwritten loan its live mark =
         let parts = unwritten-parts kept loan live in
-        let out = subst (λ (k : Kept T U F). HoldsLoan (state_of k) loan.loan.publisher loan.loan.number) (sym view) ((parts.1).0, (parts.1).1, (parts.1).2) in
+        let out = subst (λ (k : Kept T U F G). HoldsLoan (state_of k) loan.loan.publisher loan.loan.number) (sym view) ((parts.1).0, (parts.1).1, (parts.1).2) in
         let is = change-live loan.loan.publisher loan.service_id parts.0 (subst (HoldsLoan (state_of (kept_of f)) loan.loan.publisher) its out) in
         unwritten-live (keeping boxes g) loan is.0 (changed, ap (state_of (kept_of g)).loans its ∙ is.1, is.2, mark)
 
@@ -114,7 +114,7 @@ module _ {T U F : Type 0} {boxes : List (PortBox F)} (f g : Fields T U) (kept : 
 
 -- ---- a single value is written
 
-module _ {T U F : Type 0} {boxes : List (PortBox F)} (f g : Fields T U) (kept : Kept T U F) (view : keeping boxes f ≡ kept) (n : ℕ) (value : T) (writes : WritesLoan f g n (value ∷ [])) where
+module _ {T U F G : Type 0} {boxes : DomainBoxes F G} (f g : Fields T U) (kept : Kept T U F G) (view : keeping boxes f ≡ kept) (n : ℕ) (value : T) (writes : WritesLoan f g n (value ∷ [])) where
   write-reaches : Reaches f g (with_loan (state_of (kept_of f)) n (Some (written writes.0 value)))
   write-reaches =
       subst (λ (k : ℕ). Reaches f g (with_loan (state_of (kept_of f)) n (Some (record (writes.0) { cells = replicate k (Some value); is_written = true })))) writes.2 writes.3
@@ -132,7 +132,7 @@ module _ {T U F : Type 0} {boxes : List (PortBox F)} (f g : Fields T U) (kept : 
   write-live loan loan' its service publisher number live =
       let parts = unwritten-parts kept loan live in
       let out : HoldsLoan (state_of (kept_of f)) loan.loan.publisher n =
-      subst (λ (k : Kept T U F). HoldsLoan (state_of k) loan.loan.publisher n) (sym view) (subst (HoldsLoan (state_of kept) loan.loan.publisher) its ((parts.1).0, (parts.1).1, (parts.1).2)) in
+      subst (λ (k : Kept T U F G). HoldsLoan (state_of k) loan.loan.publisher n) (sym view) (subst (HoldsLoan (state_of kept) loan.loan.publisher) its ((parts.1).0, (parts.1).1, (parts.1).2)) in
       change-written f g kept view n writes.0 (written writes.0 value) writes.1 write-reaches refl loan.loan.publisher loan.service_id parts.0 out refl loan' number service publisher
 
   -- its headers stay

@@ -48,7 +48,7 @@ one_less now n last h = omega arith
 abbrev pub LendsAll : {T U : Type 0} → State T U → Publisher → (n : ℕ) → Type 0
 LendsAll s publisher n = CanLend s publisher.id n × LendsUpTo s publisher.id publisher.initial_max_slice_len
 
-module _ {T U F : Type 0} (domain : Kept T U F) where
+module _ {T U F G : Type 0} (domain : Kept T U F G) where
   pub lends-in : (publisher : Publisher) (n : ℕ) → HasLoansLeft domain publisher n → LendsAll (state_of domain) publisher n
   unfolding HasLoansLeft
   lends-in publisher n h = h
@@ -73,7 +73,7 @@ module _ {T U F : Type 0} (domain : Kept T U F) where
   pub number-left : (n : ℕ) → HasNumbersLeft domain (n + 1) → domain.next_message < last_number
   number-left n h = below_last domain.next_message n last_number (numbers-in (n + 1) h)
 
-module _ {T U F : Type 0} (kept : Kept T U F) (m : Messages T U) (s : State T U) (shown : Shows kept m s) where
+module _ {T U F G : Type 0} (kept : Kept T U F G) (m : Messages T U) (s : State T U) (shown : Shows kept m s) where
   lends-at : (publisher : Publisher) (n : ℕ) → HasLoansLeft kept publisher n → LendsAll s publisher n
   lends-at publisher n h = subst (λ (t : State T U). LendsAll t publisher n) (sym shown.state) (lends-in kept publisher n h)
 
@@ -83,7 +83,7 @@ module _ {T U F : Type 0} (kept : Kept T U F) (m : Messages T U) (s : State T U)
   next-at : s.next_message ≡ kept.next_message
   next-at = ap (λ (t : State T U). t.next_message) shown.state
 
-module _ {T U F : Type 0} (old new : Kept T U F) (m m' : Messages T U) (s s' : State T U) (shown : Shows old m s) (shown' : Shows new m' s') where
+module _ {T U F G : Type 0} (old new : Kept T U F G) (m m' : Messages T U) (s s' : State T U) (shown : Shows old m s) (shown' : Shows new m' s') where
   numbers-stay : s'.next_message ≡ s.next_message → NumbersLeftStay old new
   numbers-stay same n h =
       numbers-out new n (subst (λ (k : ℕ). k + n ≤ last_number) (sym (next-at old m s shown) ∙ sym same ∙ next-at new m' s' shown') (numbers-in old n h))
@@ -270,5 +270,5 @@ first_number : (now n last : ℕ) → 1 ≡ now → n < last → now + n ≤ las
 first_number now n last e h = omega arith
 
 -- a new domain has numbers left
-pub fresh-numbers : {T U F : Type 0} (kept : Kept T U F) (c : ServiceConfig) → Shows kept no_messages (fresh c) → (n : ℕ) → n < last_number → HasNumbersLeft kept n
+pub fresh-numbers : {T U F G : Type 0} (kept : Kept T U F G) (c : ServiceConfig) → Shows kept no_messages (fresh c) → (n : ℕ) → n < last_number → HasNumbersLeft kept n
 fresh-numbers {T} {U} kept c shown n low = numbers-out kept n (first_number kept.next_message n last_number (ap (λ (t : State T U). t.next_message) shown.state) low)

@@ -12,7 +12,7 @@ use Rattle.iox2_store.specs.declared.service_config.ServiceConfig.{ServiceConfig
 use Rattle.iox2_laws.proofs.SendsRemain.{created_as}
 use Rattle.iox2_domain.specs.Handlers.{may_fail, may_fail_update}
 use Rattle.iox2_domain.specs.Kept.{state_of}
-use Rattle.iox2_domain.specs.declared.boxes.PortBox.{PortBox}
+use Rattle.iox2_domain.specs.Boxes.{DomainBoxes}
 use Rattle.iox2_domain.specs.Fields.{Fields, kept_of, keeping}
 use Rattle.iox2_pubsub.specs.Handlers.{may_wait}
 use Rattle.iox2_pubsub.specs.Live.{IsReadyPublisher, NeverFails, NeverWaits, publisher_key}
@@ -51,9 +51,9 @@ module _ {T U : Type 0} (f g : Fields T U) (given : PublisherSettings) (environm
       )
 
   -- it is ready
-  pub created-ready : {F : Type 0} {boxes : List (PortBox F)} (t : State T U) → CreatePublisher environment (state_of (kept_of f)) given t None → Reaches f g t
+  pub created-ready : {F G : Type 0} {boxes : DomainBoxes F G} (t : State T U) → CreatePublisher environment (state_of (kept_of f)) given t None → Reaches f g t
       → (publisher : Publisher) → publisher.service_id ≡ (f.config).service_id → publisher.id ≡ f.next_port → IsReadyPublisher (keeping boxes g) publisher
-  created-ready {F} {boxes} t made reached publisher service id =
+  created-ready {F} {G} {boxes} t made reached publisher service id =
       let keeps = create-keeps environment (state_of (kept_of f)) given t None made in
       let stands = created-stands t made reached publisher id in
       record {
@@ -74,16 +74,16 @@ module _ {T U : Type 0} (f g : Fields T U) (given : PublisherSettings) (environm
       absurd (let no : None ≡ Some b = sym ((stands.1 x here).2) ∙ waits in cc)
 
   -- no handler fails a send of it
-  pub created-never-fails : {F : Type 0} (boxes : List (PortBox F)) (t : State T U) → CreatePublisher environment (state_of (kept_of f)) given t None → Reaches f g t
+  pub created-never-fails : {F G : Type 0} (boxes : DomainBoxes F G) (t : State T U) → CreatePublisher environment (state_of (kept_of f)) given t None → Reaches f g t
       → (publisher : Publisher) → publisher.id ≡ f.next_port → may_fail given.backpressure_handler ≡ false → may_fail_update given.degradation_handler ≡ false → NeverFails (keeping boxes g) publisher.id
   created-never-fails boxes t made reached publisher id none calm =
       let stands = created-stands t made reached publisher id in
       unfailed-from (keeping boxes g) _ (stands.0, inr (λ x here. ap may_fail (stands.1 x here).1 ∙ none), unwaiting t made reached publisher id, λ x here. ap may_fail_update (stands.1 x here).3 ∙ calm)
 
   -- and it never waits where it waits for no full receiver
-  pub created-never-waits : {F : Type 0} {boxes : List (PortBox F)} (t : State T U) → CreatePublisher environment (state_of (kept_of f)) given t None → Reaches f g t
+  pub created-never-waits : {F G : Type 0} {boxes : DomainBoxes F G} (t : State T U) → CreatePublisher environment (state_of (kept_of f)) given t None → Reaches f g t
       → (publisher : Publisher) → publisher.id ≡ f.next_port → may_wait given.backpressure_strategy given.backpressure_handler ≡ false → may_fail given.backpressure_handler ≡ false → may_fail_update given.degradation_handler ≡ false → NeverWaits (keeping boxes g) (publisher_key publisher)
-  created-never-waits {F} {boxes} t made reached publisher id past none calm =
+  created-never-waits {F} {G} {boxes} t made reached publisher id past none calm =
       let stands = created-stands t made reached publisher id in
       record {
         passes = passes-from (keeping boxes g) _ (stands.0, inr (λ x here. (λ i. may_wait ((stands.1 x here).0 i) ((stands.1 x here).1 i)) ∙ past));
@@ -92,9 +92,9 @@ module _ {T U : Type 0} (f g : Fields T U) (given : PublisherSettings) (environm
       }
 
   -- nor where the service overflows
-  pub created-overflows : {F : Type 0} {boxes : List (PortBox F)} (t : State T U) → CreatePublisher environment (state_of (kept_of f)) given t None → Reaches f g t
+  pub created-overflows : {F G : Type 0} {boxes : DomainBoxes F G} (t : State T U) → CreatePublisher environment (state_of (kept_of f)) given t None → Reaches f g t
       → (publisher : Publisher) → publisher.id ≡ f.next_port → (f.config).enable_safe_overflow ≡ true → may_fail_update given.degradation_handler ≡ false → NeverWaits (keeping boxes g) (publisher_key publisher)
-  created-overflows {F} {boxes} t made reached publisher id over calm =
+  created-overflows {F} {G} {boxes} t made reached publisher id over calm =
       let stands = created-stands t made reached publisher id in
       let keeps = create-keeps environment (state_of (kept_of f)) given t None made in
       let still : (g.config).enable_safe_overflow ≡ true = ap (λ (c : ServiceConfig). c.enable_safe_overflow) (ap (λ (u : State T U). u.config) reached.state ∙ keeps.config) ∙ over in

@@ -81,7 +81,7 @@ module _ {T U : Type 0} where
 
   -- ---- seen from outside
 
-  module _ {F : Type 0} (old new : Kept T U F) (blocked : Handle) (held : HoldsBlocked (state_of old) blocked.loan.publisher blocked.loan.number) (s s' : State T U) (before : s ≡ state_of old) (after : s' ≡ state_of new)
+  module _ {F G : Type 0} (old new : Kept T U F G) (blocked : Handle) (held : HoldsBlocked (state_of old) blocked.loan.publisher blocked.loan.number) (s s' : State T U) (before : s ≡ state_of old) (after : s' ≡ state_of new)
       (environment : Environment) (result : SendResult) (waits : result ≡ Blocked_send) where
     now-ahead : (most : ℕ) → IsAhead s' blocked.loan.publisher most → IsAhead (state_of new) blocked.loan.publisher most
     now-ahead most = subst (λ (t : State T U). IsAhead t blocked.loan.publisher most) after
@@ -114,6 +114,6 @@ where-blocked P blocked (Ok (Blocked it)) is holds = subst P (sym is) (holds ref
 where-blocked P blocked (Err error) is holds = tt
 
 -- where it is blocked again, what was there before it blocked is there when that has ended
-pub since-again : {T U F : Type 0} (old new : Kept T U F) (blocked : Handle) → StaysBut (blocked_send blocked) old new → (after : Kept T U F) → StaysSince blocked new after → StaysSince blocked old after
+pub since-again : {T U F G : Type 0} (old new : Kept T U F G) (blocked : Handle) → StaysBut (blocked_send blocked) old new → (after : Kept T U F G) → StaysSince blocked new after → StaysSince blocked old after
 unfolding StaysSince
 since-again old new blocked stays after since before unwaiting stood = since before unwaiting (stays-twice (blocked_send blocked) before old new stood stays)

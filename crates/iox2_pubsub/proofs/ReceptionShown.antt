@@ -16,7 +16,7 @@ use Rattle.iox2_pubsub.proofs.LiveParts.{subscriber-parts, sample-live, origin-l
 use Rattle.iox2_pubsub.specs.declared.sample.Sample.{Sample}
 use Rattle.iox2_domain.specs.Shows.{Shows}
 use Rattle.iox2_domain.specs.Kept.{Kept, Named, state_of, is_named}
-use Rattle.iox2_domain.specs.declared.boxes.PortBox.{PortBox}
+use Rattle.iox2_domain.specs.Boxes.{DomainBoxes}
 use Rattle.iox2_domain.specs.Fields.{Fields, kept_of, subscriber_of, keeping}
 use Rattle.iox2_domain.specs.Invariant.{is_subscriber}
 use Rattle.iox2_domain.proofs.lemmas.containers.LookUps.{look_up-map}
@@ -31,10 +31,10 @@ use Rattle.iox2_domain.proofs.lemmas.receives.Reception.{received-borrowed}
 
 module _ {T U : Type 0} where
   -- the domain shows what the receive comes to, with the same messages
-  pub reception-shows : {F : Type 0} {boxes : List (PortBox F)} (environment : Environment) (kept : Kept T U F) (f g : Fields T U) → keeping boxes f ≡ kept → (q : ℕ) (result : Result (Option Receipt) ReceiveError) → ReceivesAs environment f q result g
+  pub reception-shows : {F G : Type 0} {boxes : DomainBoxes F G} (environment : Environment) (kept : Kept T U F G) (f g : Fields T U) → keeping boxes f ≡ kept → (q : ℕ) (result : Result (Option Receipt) ReceiveError) → ReceivesAs environment f q result g
       → (m : Messages T U) (s : State T U) → Shows kept m s → (s' : State T U) × Shows (kept_of g) m s' × Receive environment s q s' (receive_result result)
-  reception-shows {F} environment kept f g same q result receives m s shown =
-      let here : Shows (kept_of f) m s = subst (λ (k : Kept T U F). Shows k m s) (sym same) shown in
+  reception-shows {F} {G} environment kept f g same q result receives m s shown =
+      let here : Shows (kept_of f) m s = subst (λ (k : Kept T U F G). Shows k m s) (sym same) shown in
       let received_result : Receive environment s q receives.0 (receive_result result) =
       subst (λ (t : State T U). Receive environment t q receives.0 (receive_result result)) (sym here.state) receives.2 in (
         receives.0,
@@ -44,7 +44,7 @@ module _ {T U : Type 0} where
       )
 
   -- the sample that was received
-  module _ {F : Type 0} {boxes : List (PortBox F)} (environment : Environment) (kept : Kept T U F) (f g : Fields T U) (same : keeping boxes f ≡ kept) (subscriber : Subscriber) (sample : Sample) (receipt : Receipt)
+  module _ {F G : Type 0} {boxes : DomainBoxes F G} (environment : Environment) (kept : Kept T U F G) (f g : Fields T U) (same : keeping boxes f ≡ kept) (subscriber : Subscriber) (sample : Sample) (receipt : Receipt)
       (receives : ReceivesAs environment f subscriber.id (Ok (Some receipt)) g) (origin : sample.origin ≡ receipt.publisher) (its : sample.sample ≡ receipt.sample) where
     is-borrowed : is_borrowed sample.sample.number ((state_of (kept_of g)).mailboxes sample.origin sample.sample.subscriber) ≡ true
     is-borrowed =
@@ -61,7 +61,7 @@ module _ {T U : Type 0} where
         ap (λ (s : State T U). s.config) receives.1.state
         ∙ (receive_advances environment (state_of (kept_of f)) subscriber.id receives.0 (Got_sample receipt.publisher receipt.sample.number) receives.2).config in
         sample-live (keeping boxes g) _ (
-          service ∙ (subscriber-parts kept _ live).1 ∙ ap (λ (k : Kept T U F). (k.config).service_id) (sym same) ∙ ap (λ (x : ServiceConfig). x.service_id) (sym config),
+          service ∙ (subscriber-parts kept _ live).1 ∙ ap (λ (k : Kept T U F G). (k.config).service_id) (sym same) ∙ ap (λ (x : ServiceConfig). x.service_id) (sym config),
           (sample.origin, is-borrowed),
         )
 
@@ -84,7 +84,7 @@ error-answered : (r : Result (Option Sample) ReceiveError) (e : ReceiveError) �
 error-answered (Ok sample) e same = absurd same
 error-answered (Err e') e same = ap Receive_error same
 
-module _ {T U F : Type 0} {boxes : List (PortBox F)} (environment : Environment) (kept : Kept T U F) (f g : Fields T U) (view : keeping boxes f ≡ kept) (q : ℕ) (e : ReceiveError) (receives : ReceivesAs environment f q (Err e) g)
+module _ {T U F G : Type 0} {boxes : DomainBoxes F G} (environment : Environment) (kept : Kept T U F G) (f g : Fields T U) (view : keeping boxes f ≡ kept) (q : ℕ) (e : ReceiveError) (receives : ReceivesAs environment f q (Err e) g)
     (r : Result (Option Sample) ReceiveError) (same : IsErrAnd r (λ e'. e' ≡ e)) where
   pub error-shows : (m : Messages T U) (s : State T U) → Shows kept m s → (s' : State T U) × Shows (kept_of g) m s' × Receive environment s q s' (received_result r)
   error-shows m s shown =
@@ -92,10 +92,10 @@ module _ {T U F : Type 0} {boxes : List (PortBox F)} (environment : Environment)
       (reception-shows environment kept f g view q (Err e) receives m s shown)
 
 -- a subscriber that is live stands somewhere
-pub subscriber-missing : {T U F : Type 0} {boxes : List (PortBox F)} (f : Fields T U) (kept : Kept T U F) → keeping boxes f ≡ kept → (subscriber : Subscriber)
+pub subscriber-missing : {T U F G : Type 0} {boxes : DomainBoxes F G} (f : Fields T U) (kept : Kept T U F G) → keeping boxes f ≡ kept → (subscriber : Subscriber)
     → look_up (is_subscriber subscriber.id) f.subscribers ≡ None → IsLiveSubscriber kept subscriber → ⊥
-subscriber-missing {T} {U} {F} {boxes} f kept view subscriber none live =
-    let live-here : IsLiveSubscriber (keeping boxes f) subscriber = subst (λ (k : Kept T U F). IsLiveSubscriber k subscriber) (sym view) live in
+subscriber-missing {T} {U} {F} {G} {boxes} f kept view subscriber none live =
+    let live-here : IsLiveSubscriber (keeping boxes f) subscriber = subst (λ (k : Kept T U F G). IsLiveSubscriber k subscriber) (sym view) live in
     let has = (subscriber-parts (keeping boxes f) _ live-here).2 in
     let nothing : (state_of (kept_of f)).subscribers subscriber.id ≡ None =
     ap (option_map (λ (z : Named MachineSubscriber). z.port))

@@ -4,7 +4,7 @@ use Rattle.iox2_store.specs.machine.Mailbox.{is_borrowed}
 use Rattle.iox2_store.specs.machine.Releases.{is_unused, place_freed, unborrowed, subscriber_pruned, released}
 use Rattle.iox2_store.specs.machine.State.{State, Messages}
 use Rattle.iox2_domain.specs.Kept.{Kept, state_of}
-use Rattle.iox2_domain.specs.declared.boxes.PortBox.{PortBox}
+use Rattle.iox2_domain.specs.Boxes.{DomainBoxes}
 use Rattle.iox2_domain.specs.Fields.{Fields, kept_of, keeping}
 use Rattle.iox2_domain.specs.Reaches.{Reaches}
 use Rattle.iox2_domain.specs.Shows.{Shows}
@@ -20,12 +20,12 @@ module _ {T U : Type 0} where
     by false = (refl, refl)
 
   -- the domain shows the released state, with the same messages, whoever the message is borrowed from
-  pub release-shows : {F : Type 0} {boxes : List (PortBox F)} (kept : Kept T U F) (f g : Fields T U) → keeping boxes f ≡ kept → (q n : ℕ)
+  pub release-shows : {F G : Type 0} {boxes : DomainBoxes F G} (kept : Kept T U F G) (f g : Fields T U) → keeping boxes f ≡ kept → (q n : ℕ)
       → ((p : ℕ) → is_borrowed n ((state_of (kept_of f)).mailboxes p q) ≡ true → Reaches f g (released (state_of (kept_of f)) p q n))
       → (m : Messages T U) (s : State T U) → Shows kept m s → (p : ℕ) → is_borrowed n (s.mailboxes p q) ≡ true
       → (s' : State T U) × Shows (kept_of g) m s' × (s' ≡ released s p q n)
-  release-shows {F} kept f g same q n reaches m s shown p borrowed =
-      let here : Shows (kept_of f) m s = subst (λ (k : Kept T U F). Shows k m s) (sym same) shown in
+  release-shows {F} {G} kept f g same q n reaches m s shown p borrowed =
+      let here : Shows (kept_of f) m s = subst (λ (k : Kept T U F G). Shows k m s) (sym same) shown in
       let state : s ≡ state_of (kept_of f) = here.state in
       let reached_from : Reaches f g (released s p q n) =
       subst (λ (u : State T U). Reaches f g (released u p q n)) (sym state)

@@ -31,7 +31,7 @@ use Rattle.iox2_pubsub.specs.declared.send_outcome.SendOutcome.TheVariants.{Deli
 use Rattle.iox2_store.specs.machine.State.{State, Messages, receiving_buffer}
 use Rattle.iox2_laws.proofs.Puts.{put_at-same, put_at-other}
 use Rattle.iox2_laws.proofs.SendLaws.{send_advances}
-use Rattle.iox2_domain.specs.declared.boxes.PortBox.{PortBox}
+use Rattle.iox2_domain.specs.Boxes.{DomainBoxes}
 use Rattle.iox2_domain.specs.Fields.{Fields, kept_of, keeping}
 use Rattle.iox2_domain.specs.Kept.{state_of}
 use Rattle.iox2_domain.specs.SentLoans.{SendsLoan}
@@ -145,19 +145,19 @@ steady-ok SendEnd.Lost there unfailed steady (Err error) is = absurd there
 steady-ok (SendEnd.Unconnected failure) there unfailed steady (Err error) is = absurd (steady failure refl)
 
 -- a send of a loan whose publisher's handler fails none
-pub never-fails-here : {T U F : Type 0} {boxes : List (PortBox F)} (environment : Environment) (old : Kept T U F) (f g : Fields T U) → keeping boxes f ≡ old → (n p : ℕ) → NeverFails old p → (result : SendResult) (sends : SendsLoan environment f g n result)
+pub never-fails-here : {T U F G : Type 0} {boxes : DomainBoxes F G} (environment : Environment) (old : Kept T U F G) (f g : Fields T U) → keeping boxes f ≡ old → (n p : ℕ) → NeverFails old p → (result : SendResult) (sends : SendsLoan environment f g n result)
     → (sends.loan).publisher ≡ p → result ≡ Send_error UnableToDeliver → ⊥
-never-fails-here {T} {U} {F} environment old f g same n p never result sends its = elim (unfailed-parts old p never).1 [
-  | inl over ↦ (overflowing-send environment (state_of (kept_of f)) n sends.loan (state_of (kept_of g)) result (ap (λ (k : Kept T U F). (k.config).enable_safe_overflow) same ∙ over) sends.sends).1
-  | inr mild ↦ sends.unfailed (λ x at. mild x (ap (λ (k : Kept T U F). (state_of k).publishers p) (sym same) ∙ ap (state_of (kept_of f)).publishers (sym its) ∙ at))
+never-fails-here {T} {U} {F} {G} environment old f g same n p never result sends its = elim (unfailed-parts old p never).1 [
+  | inl over ↦ (overflowing-send environment (state_of (kept_of f)) n sends.loan (state_of (kept_of g)) result (ap (λ (k : Kept T U F G). (k.config).enable_safe_overflow) same ∙ over) sends.sends).1
+  | inr mild ↦ sends.unfailed (λ x at. mild x (ap (λ (k : Kept T U F G). (state_of k).publishers p) (sym same) ∙ ap (state_of (kept_of f)).publishers (sym its) ∙ at))
 ]
 
 -- nor does it fail one before it is sent
-pub never-unconnected-here : {T U F : Type 0} {boxes : List (PortBox F)} (environment : Environment) (old : Kept T U F) (f g : Fields T U) → keeping boxes f ≡ old → (n p : ℕ) → NeverFails old p → (result : SendResult) (sends : SendsLoan environment f g n result)
+pub never-unconnected-here : {T U F G : Type 0} {boxes : DomainBoxes F G} (environment : Environment) (old : Kept T U F G) (f g : Fields T U) → keeping boxes f ≡ old → (n p : ℕ) → NeverFails old p → (result : SendResult) (sends : SendsLoan environment f g n result)
     → (sends.loan).publisher ≡ p → (failure : ConnectionFailure) → result ≡ Send_error (ConnectionError failure) → ⊥
-never-unconnected-here {T} {U} {F} environment old f g same n p never result sends its failure =
+never-unconnected-here {T} {U} {F} {G} environment old f g same n p never result sends its failure =
     steady-send environment (state_of (kept_of f)) (state_of (kept_of g)) n sends.loan result
-    (λ x at. (unfailed-parts old p never).3 x (ap (λ (k : Kept T U F). (state_of k).publishers p) (sym same) ∙ ap (state_of (kept_of f)).publishers (sym its) ∙ at))
+    (λ x at. (unfailed-parts old p never).3 x (ap (λ (k : Kept T U F G). (state_of k).publishers p) (sym same) ∙ ap (state_of (kept_of f)).publishers (sym its) ∙ at))
     sends.sends failure
 
 -- where its publisher is there, only a handler fails a send
@@ -223,7 +223,7 @@ is-delivered (Ok (Blocked blocked)) never = never refl
 is-delivered (Err error) never = tt
 
 -- where a send is blocked, its handle names it
-pub is-blocked : {T U F : Type 0} (kept : Kept T U F) (key : Key) (blocked : BlockedSend) → blocked_key blocked ≡ key → (outcome : Result SendOutcome SendError)
+pub is-blocked : {T U F G : Type 0} (kept : Kept T U F G) (key : Key) (blocked : BlockedSend) → blocked_key blocked ≡ key → (outcome : Result SendOutcome SendError)
     → IfOk outcome (λ came. IfBlocked came (λ it. it ≡ blocked)) → (result_of_send outcome ≡ Blocked_send → IsBlockedSend kept blocked)
     → IfOk outcome (λ came. IfBlocked came (λ it. IsBlockedSend kept it × (blocked_key it ≡ key)))
 is-blocked kept key blocked is_key (Ok (Delivered count)) is waits = tt
@@ -244,14 +244,14 @@ sent-entry {T} {U} m n l (Err error) unsent entry at = elim (after-error m n l e
 ]
 
 -- and whose it is
-pub whose-blocked : {T U F : Type 0} (kept : Kept T U F) (key : Key) (id : ℕ) → key.port ≡ id → (outcome : Result SendOutcome SendError)
+pub whose-blocked : {T U F G : Type 0} (kept : Kept T U F G) (key : Key) (id : ℕ) → key.port ≡ id → (outcome : Result SendOutcome SendError)
     → IfOk outcome (λ came. IfBlocked came (λ it. IsBlockedSend kept it × (blocked_key it ≡ key))) → IfOk outcome (λ came. IfBlocked came (λ it. blocked_send it ≡ A_blocked_send id))
 whose-blocked kept key id its (Ok (Delivered count)) is = tt
 whose-blocked kept key id its (Ok (Blocked it)) is = ap (λ (k : Key). A_blocked_send k.port) is.1 ∙ ap A_blocked_send its
 whose-blocked kept key id its (Err error) is = tt
 
 -- nor does one that never waits
-pub never-waits-send : {T U F : Type 0} (environment : Environment) (old : Kept T U F) (key : Key) (m : Messages T U) (s : State T U) → Shows old m s → NeverWaits old key → (n : ℕ) (l : Loan T U) → s.loans n ≡ Some l
+pub never-waits-send : {T U F G : Type 0} (environment : Environment) (old : Kept T U F G) (key : Key) (m : Messages T U) (s : State T U) → Shows old m s → NeverWaits old key → (n : ℕ) (l : Loan T U) → s.loans n ≡ Some l
     → key.port ≡ l.publisher → (s' : State T U) → Send environment s n l s' Blocked_send → ⊥
 never-waits-send {T} {U} environment old key m s shown never n l out its s' h = elim (passes-parts old key never.passes).1 [
   | inl over ↦
@@ -271,7 +271,7 @@ lost-or-failed error lost (inr failed) =
     let clash : ConnectionBrokenSinceSenderNoLongerExists ≡ ConnectionError failed.0 = sym lost ∙ failed.1 in absurd cc
 
 -- a send fails since its publisher is gone, or a handler of it fails the send
-pub fails-send : {T U F : Type 0} (domain : Kept T U F) (key : Key) (outcome : Result SendOutcome SendError)
+pub fails-send : {T U F G : Type 0} (domain : Kept T U F G) (key : Key) (outcome : Result SendOutcome SendError)
     → IfErr outcome (λ error. (error ≡ ConnectionBrokenSinceSenderNoLongerExists) ⊎ IsOfHandler error)
     → (HasLender domain key → IfErr outcome IsOfHandler)
     → (NeverFails domain key.port → IfErr outcome (λ error. error ≡ ConnectionBrokenSinceSenderNoLongerExists)) → IfErr outcome (FailsSend domain key)
@@ -283,14 +283,14 @@ fails-send domain key (Err error) either there gone = elim either [
 ]
 
 -- while the publisher is there, a handler fails it
-pub fails-there : {T U F : Type 0} (domain : Kept T U F) (key : Key) → HasLender domain key → (outcome : Result SendOutcome SendError) → IfErr outcome (FailsSend domain key)
+pub fails-there : {T U F G : Type 0} (domain : Kept T U F G) (key : Key) → HasLender domain key → (outcome : Result SendOutcome SendError) → IfErr outcome (FailsSend domain key)
     → IfErr outcome IsOfHandler
 unfolding FailsSend
 fails-there domain key lent (Ok came) fails = tt
 fails-there domain key lent (Err error) fails = elim fails [ inl lost ↦ absurd (lost.1 lent) | inr failed ↦ failed.0 ]
 
 -- so it is of a copy that was lent
-pub fails-copy : {T U F : Type 0} (domain mid : Kept T U F) (publisher : Handle) (key : Key) → key.port ≡ publisher.id → HasLender mid key
+pub fails-copy : {T U F G : Type 0} (domain mid : Kept T U F G) (publisher : Handle) (key : Key) → key.port ≡ publisher.id → HasLender mid key
     → (NeverFails domain publisher.id → NeverFails mid publisher.id) → (outcome : Result SendOutcome SendError) → IfErr outcome (FailsSend mid key)
     → IfErr outcome (FailsCopy domain publisher)
 unfolding FailsSend FailsCopy

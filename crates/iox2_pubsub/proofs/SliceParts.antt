@@ -21,7 +21,7 @@ same-values {T} (x ∷ xs) (y ∷ ys) same =
     let others : xs ≡ ys = same-values xs ys rest in
     cc
 
-module _ {T U F : Type 0} (kept : Kept T U F) where
+module _ {T U F G : Type 0} (kept : Kept T U F G) where
   pub sliced-parts : IsSliced kept → is_single_valued kept.config ≡ false
   unfolding IsSliced
   sliced-parts sliced = sliced

@@ -1,6 +1,7 @@
 -- What of a domain stays from one state to the next.
 use Rattle.std.proofs.Common.{◌⊎◌, inl, inr, ◌≡◌, ◌≢◌, refl, ℕ, ◌<◌, arith, Bool, true, false, List, sym, ap, subst, ◌∙◌, Option, None, Some}
 use Rattle.std.proofs.lemmas.Bool.{cases_eq}
+use Rattle.std.specs.Option.{option_and_then}
 use Rattle.iox2_store.specs.SingleValues.{is_single_valued}
 use Rattle.iox2_store.specs.machine.Mailbox.{is_borrowed}
 use Rattle.iox2_store.specs.machine.Records.{Entry, Loan, Publisher, Subscriber}
@@ -13,15 +14,16 @@ use Rattle.iox2_laws.proofs.PortsStay.{Remain}
 use Rattle.iox2_laws.proofs.Waits.{Waits}
 use Rattle.iox2_store.specs.Stored.{In_mailbox}
 use Rattle.iox2_laws.proofs.NumberLemmas.{contains_right}
-use Rattle.iox2_domain.specs.Boxes.{box_of}
+use Rattle.iox2_domain.specs.Boxes.{DomainBoxes, box_of, boxes_of, degradation_box_of}
+use Rattle.iox2_domain.specs.declared.boxes.PortBox.{PortBox}
+use Rattle.iox2_domain.specs.declared.boxes.PortBoxes.{PortBoxes}
 use Rattle.iox2_domain.specs.Fields.{Fields, keeping}
 use Rattle.iox2_domain.specs.Handlers.{may_fail, may_fail_update}
-use Rattle.iox2_domain.specs.declared.boxes.PortBox.{PortBox}
 use Rattle.iox2_domain.specs.Kept.{Kept, state_of, entries_of}
 use Rattle.iox2_domain.specs.Shows.{Shows}
 use Rattle.iox2_pubsub.proofs.UnfailedSends.{IsMild, HasNotFailed}
 use Rattle.iox2_pubsub.specs.Handlers.{may_wait}
-use Rattle.iox2_pubsub.specs.Live.{handler_box, IsSingleValued, IsPublisherKey, IsSubscriberKey, IsLoanKey, IsSampleKey, IsBlockedKey, HasMark, IsFromOrigin, LoanHasHeader, LoanHasUserHeader, SampleHasHeader, SampleHasUserHeader, Item, No_item, A_publisher, A_subscriber, A_loan, A_sample, A_blocked_send, A_sent_loan, A_sent_copy, Both, IsOtherPublisher, IsOtherSubscriber, IsOtherLoan, IsOtherSample, IsUnblocked, PassesFull, NeverFails, NeverWaits, IsOtherBlocked, StaysBut, Stays, IsNewIn, unwritten_key, written_key}
+use Rattle.iox2_pubsub.specs.Live.{degradation_box, handler_box, subscriber_box, IsSingleValued, IsPublisherKey, IsSubscriberKey, IsLoanKey, IsSampleKey, IsBlockedKey, HasMark, IsFromOrigin, LoanHasHeader, LoanHasUserHeader, SampleHasHeader, SampleHasUserHeader, Item, No_item, A_publisher, A_subscriber, A_loan, A_sample, A_blocked_send, A_sent_loan, A_sent_copy, Both, IsOtherPublisher, IsOtherSubscriber, IsOtherLoan, IsOtherSample, IsUnblocked, PassesFull, NeverFails, NeverWaits, IsOtherBlocked, StaysBut, Stays, IsNewIn, unwritten_key, written_key}
 use Rattle.iox2_pubsub.specs.Slices.{IsSliced, HasUnwrittenCells, HasValues, SampleHasValues}
 use Rattle.iox2_pubsub.specs.declared.sample.Sample.{Sample}
 
@@ -49,32 +51,79 @@ module _ {T U : Type 0} where
   abbrev pub SamplesStayBut : Item → (s s' : State T U) → Type 0
   SamplesStayBut spent s s' = (p q n : ℕ) → is_borrowed n (s.mailboxes p q) ≡ true → IsOtherSample spent q n → is_borrowed n (s'.mailboxes p q) ≡ true
 
-module _ {T U F : Type 0} where
-  -- each publisher keeps its box, but for the item
-  pub record BoxesStayBut (spent : Item) (old new : Kept T U F) : Type 0 where
-    pub at : (key : Key) → IsPublisherKey old key → IsOtherPublisher spent key.port → handler_box new key.port ≡ handler_box old key.port
+module _ {T U F G : Type 0} where
+  -- each port keeps its boxes, but for the item
+  pub record BoxesStayBut (spent : Item) (old new : Kept T U F G) : Type 0 where
+    pub at : (key : Key) → IsPublisherKey old key → IsOtherPublisher spent key.port → boxes_of key.port (new.boxes).publishers ≡ boxes_of key.port (old.boxes).publishers
+    pub subscribers : (key : Key) → IsSubscriberKey old key → IsOtherSubscriber spent key.port → boxes_of key.port (new.boxes).subscribers ≡ boxes_of key.port (old.boxes).subscribers
 
   -- where the call changes no box
-  pub same-boxes : {boxes : List (PortBox F)} {spent : Item} (f g : Fields T U) (kept : Kept T U F) → keeping boxes f ≡ kept → BoxesStayBut spent kept (keeping boxes g)
-  unfolding handler_box
-  same-boxes f g kept view = record { at = λ key live other. ap (λ (k : Kept T U F). box_of key.port k.boxes) view }
+  pub same-boxes : {boxes : DomainBoxes F G} {spent : Item} (f g : Fields T U) (kept : Kept T U F G) → keeping boxes f ≡ kept → BoxesStayBut spent kept (keeping boxes g)
+  same-boxes f g kept view = record {
+    at = λ key live other. ap (λ (k : Kept T U F G). boxes_of key.port (k.boxes).publishers) view;
+    subscribers = λ key live other. ap (λ (k : Kept T U F G). boxes_of key.port (k.boxes).subscribers) view;
+  }
 
-  -- where it changes no box but that of the item
-  pub other-boxes : {boxes boxes' : List (PortBox F)} {spent : Item} (f g : Fields T U) (kept : Kept T U F) → keeping boxes f ≡ kept
-      → ((p : ℕ) → IsOtherPublisher spent p → box_of p boxes' ≡ box_of p boxes) → BoxesStayBut spent kept (keeping boxes' g)
-  unfolding handler_box
-  other-boxes f g kept view same = record { at = λ key live other. same key.port other ∙ ap (λ (k : Kept T U F). box_of key.port k.boxes) view }
+  -- where it changes no box but those of the publisher that is the item
+  pub other-boxes : {boxes : DomainBoxes F G} {publishers : List (PortBox F G)} {spent : Item} (f g : Fields T U) (kept : Kept T U F G) → keeping boxes f ≡ kept
+      → ((p : ℕ) → IsOtherPublisher spent p → boxes_of p publishers ≡ boxes_of p boxes.publishers) → BoxesStayBut spent kept (keeping (record boxes { publishers = publishers }) g)
+  other-boxes f g kept view same = record {
+    at = λ key live other. same key.port other ∙ ap (λ (k : Kept T U F G). boxes_of key.port (k.boxes).publishers) view;
+    subscribers = λ key live other. ap (λ (k : Kept T U F G). boxes_of key.port (k.boxes).subscribers) view;
+  }
 
-  -- where it changes the box of no publisher that is there
-  pub live-boxes : {boxes boxes' : List (PortBox F)} {spent : Item} (f g : Fields T U) (kept : Kept T U F) → keeping boxes f ≡ kept
-      → ((key : Key) → IsPublisherKey kept key → IsOtherPublisher spent key.port → box_of key.port boxes' ≡ box_of key.port boxes) → BoxesStayBut spent kept (keeping boxes' g)
-  unfolding handler_box
-  live-boxes f g kept view same = record { at = λ key live other. same key live other ∙ ap (λ (k : Kept T U F). box_of key.port k.boxes) view }
+  -- where it changes no box but those of the subscriber that is the item
+  pub other-subscriber-boxes : {boxes : DomainBoxes F G} {subscribers : List (PortBox F G)} {spent : Item} (f g : Fields T U) (kept : Kept T U F G) → keeping boxes f ≡ kept
+      → ((q : ℕ) → IsOtherSubscriber spent q → boxes_of q subscribers ≡ boxes_of q boxes.subscribers) → BoxesStayBut spent kept (keeping (record boxes { subscribers = subscribers }) g)
+  other-subscriber-boxes f g kept view same = record {
+    at = λ key live other. ap (λ (k : Kept T U F G). boxes_of key.port (k.boxes).publishers) view;
+    subscribers = λ key live other. same key.port other ∙ ap (λ (k : Kept T U F G). boxes_of key.port (k.boxes).subscribers) view;
+  }
 
-  -- a publisher has the box that is kept under its id
-  pub box-is : (boxes : List (PortBox F)) (f : Fields T U) (p : ℕ) (box : Option F) → box_of p boxes ≡ box → handler_box (keeping boxes f) p ≡ box
+  -- where it changes the boxes of no publisher that is there
+  pub live-boxes : {boxes : DomainBoxes F G} {publishers : List (PortBox F G)} {spent : Item} (f g : Fields T U) (kept : Kept T U F G) → keeping boxes f ≡ kept
+      → ((key : Key) → IsPublisherKey kept key → IsOtherPublisher spent key.port → boxes_of key.port publishers ≡ boxes_of key.port boxes.publishers)
+      → BoxesStayBut spent kept (keeping (record boxes { publishers = publishers }) g)
+  live-boxes f g kept view same = record {
+    at = λ key live other. same key live other ∙ ap (λ (k : Kept T U F G). boxes_of key.port (k.boxes).publishers) view;
+    subscribers = λ key live other. ap (λ (k : Kept T U F G). boxes_of key.port (k.boxes).subscribers) view;
+  }
+
+  -- where it changes the boxes of no subscriber that is there
+  pub live-subscriber-boxes : {boxes : DomainBoxes F G} {subscribers : List (PortBox F G)} {spent : Item} (f g : Fields T U) (kept : Kept T U F G) → keeping boxes f ≡ kept
+      → ((key : Key) → IsSubscriberKey kept key → IsOtherSubscriber spent key.port → boxes_of key.port subscribers ≡ boxes_of key.port boxes.subscribers)
+      → BoxesStayBut spent kept (keeping (record boxes { subscribers = subscribers }) g)
+  live-subscriber-boxes f g kept view same = record {
+    at = λ key live other. ap (λ (k : Kept T U F G). boxes_of key.port (k.boxes).publishers) view;
+    subscribers = λ key live other. same key live other ∙ ap (λ (k : Kept T U F G). boxes_of key.port (k.boxes).subscribers) view;
+  }
+
+  -- a port with the same boxes has the same one of each kind
+  pub handlers-stay : (spent : Item) (old new : Kept T U F G) → BoxesStayBut spent old new → (key : Key) → IsPublisherKey old key → IsOtherPublisher spent key.port → handler_box new key.port ≡ handler_box old key.port
+  unfolding handler_box
+  handlers-stay spent old new stay key live other = ap (option_and_then (λ (b : PortBoxes F G). b.backpressure)) (stay.at key live other)
+
+  pub degradations-stay : (spent : Item) (old new : Kept T U F G) → BoxesStayBut spent old new → (key : Key) → IsPublisherKey old key → IsOtherPublisher spent key.port → degradation_box new key.port ≡ degradation_box old key.port
+  unfolding degradation_box
+  degradations-stay spent old new stay key live other = ap (option_and_then (λ (b : PortBoxes F G). b.degradation)) (stay.at key live other)
+
+  pub subscribers-stay : (spent : Item) (old new : Kept T U F G) → BoxesStayBut spent old new → (key : Key) → IsSubscriberKey old key → IsOtherSubscriber spent key.port → subscriber_box new key.port ≡ subscriber_box old key.port
+  unfolding subscriber_box
+  subscribers-stay spent old new stay key live other = ap (option_and_then (λ (b : PortBoxes F G). b.degradation)) (stay.subscribers key live other)
+
+  -- a publisher has the boxes that are kept under its id
+  pub box-is : (boxes : DomainBoxes F G) (f : Fields T U) (p : ℕ) (box : Option F) → box_of p boxes.publishers ≡ box → handler_box (keeping boxes f) p ≡ box
   unfolding handler_box
   box-is boxes f p box is = is
+
+  pub degradation-box-is : (boxes : DomainBoxes F G) (f : Fields T U) (p : ℕ) (box : Option G) → degradation_box_of p boxes.publishers ≡ box → degradation_box (keeping boxes f) p ≡ box
+  unfolding degradation_box
+  degradation-box-is boxes f p box is = is
+
+  -- and a subscriber those under its
+  pub subscriber-box-is : (boxes : DomainBoxes F G) (f : Fields T U) (q : ℕ) (box : Option G) → degradation_box_of q boxes.subscribers ≡ box → subscriber_box (keeping boxes f) q ≡ box
+  unfolding subscriber_box
+  subscriber-box-is boxes f q box is = is
 
 -- the publisher's blocked send is the item
 abbrev pub IsSpared : Item → (publisher : ℕ) → Type 0
@@ -104,18 +153,18 @@ other-or-spared (Both first second) p = elim (other-or-spared first p) [
 module _ {T U : Type 0} where
   -- Of a publisher whose blocked send is the item: where no handler fails a send of it, none has failed that one then; and it isn't
   -- one that never waits.
-  pub record SparedPublishers {F : Type 0} (spent : Item) (old : Kept T U F) (s s' : State T U) : Type 0 where
+  pub record SparedPublishers {F G : Type 0} (spent : Item) (old : Kept T U F G) (s s' : State T U) : Type 0 where
     pub unfailed : (p : ℕ) → IsSpared spent p → p < s.next_port → IsMild s p → HasNotFailed s p → HasNotFailed s' p
     pub waits : (key : Key) → IsSpared spent key.port → NeverWaits old key → ⊥
 
   -- where the item is no blocked send
-  pub none-spared : {F : Type 0} (spent : Item) (old : Kept T U F) (s s' : State T U) → ((p : ℕ) → IsOtherBlocked spent p) → SparedPublishers spent old s s'
+  pub none-spared : {F G : Type 0} (spent : Item) (old : Kept T U F G) (s s' : State T U) → ((p : ℕ) → IsOtherBlocked spent p) → SparedPublishers spent old s s'
   none-spared spent old s s' other = record {
     unfailed = λ p spared low mild none. absurd (spared (other p));
     waits = λ key spared never. absurd (spared (other key.port));
   }
 
-module _ {T U F : Type 0} (spent : Item) (old new : Kept T U F) (remain : PortsRemainBut spent (state_of old) (state_of new)) (loans : LoansStayBut spent (state_of old) (state_of new))
+module _ {T U F G : Type 0} (spent : Item) (old new : Kept T U F G) (remain : PortsRemainBut spent (state_of old) (state_of new)) (loans : LoansStayBut spent (state_of old) (state_of new))
     (samples : SamplesStayBut spent (state_of old) (state_of new)) (waits : Waits (IsSpared spent) (state_of old) (state_of new))
     (goes-on : SparedPublishers spent old (state_of old) (state_of new))
     (known : (p : ℕ) (x : Publisher) → (state_of old).publishers p ≡ Some x → p < (state_of old).next_port)
@@ -258,7 +307,9 @@ module _ {T U F : Type 0} (spent : Item) (old new : Kept T U F) (remain : PortsR
     single_valued = single;
     sliced = slices;
     publishers = publisher;
-    boxes = boxes.at;
+    boxes = handlers-stay spent old new boxes;
+    degradation_boxes = degradations-stay spent old new boxes;
+    subscriber_boxes = subscribers-stay spent old new boxes;
     subscribers = subscriber;
     loans = loan;
     unwritten_loans = λ it live other. record { live = loan (unwritten_key it) live.live other; unwritten = mark it.loan.number _ live.unwritten other };
@@ -286,7 +337,7 @@ module _ {T U F : Type 0} (spent : Item) (old new : Kept T U F) (remain : PortsR
   }
 
 -- seen from a state that is shown
-pub stays-between : {T U F : Type 0} (spent : Item) (old new : Kept T U F) (m m' : Messages T U) (s s' : State T U) → Shows old m s → Shows new m' s'
+pub stays-between : {T U F G : Type 0} (spent : Item) (old new : Kept T U F G) (m m' : Messages T U) (s s' : State T U) → Shows old m s → Shows new m' s'
     → ((n : ℕ) (entry : Entry T U) → m n ≡ Some entry → m' n ≡ Some entry) → PortsRemainBut spent s s' → LoansStayBut spent s s' → SamplesStayBut spent s s' → Waits (IsSpared spent) s s' → SparedPublishers spent old s s'
     → BoxesStayBut spent old new → StaysBut spent old new
 stays-between {T} {U} spent old new m m' s s' shown shown' sent remain loans samples waits goes-on boxes =
@@ -304,7 +355,7 @@ stays-between {T} {U} spent old new m m' s s' shown shown' sent remain loans sam
 
 -- ---- one step after another
 
-module _ {T U F : Type 0} (start old : Kept T U F) (before : Stays start old) (item : Item) where
+module _ {T U F G : Type 0} (start old : Kept T U F G) (before : Stays start old) (item : Item) where
   -- what is new later was new before
   pub new-since : IsNewIn old item → IsNewIn start item
   new-since new = record {
@@ -322,13 +373,15 @@ module _ {T U F : Type 0} (start old : Kept T U F) (before : Stays start old) (i
   }
 
   -- where an item that was new is spent, all that was there before stays
-  pub stays-on : (new : Kept T U F) → IsNewIn start item → StaysBut item old new → Stays start new
+  pub stays-on : (new : Kept T U F G) → IsNewIn start item → StaysBut item old new → Stays start new
   stays-on new apart next = record {
     settings = next.settings ∙ before.settings;
     single_valued = λ was. next.single_valued (before.single_valued was);
     sliced = λ was. next.sliced (before.sliced was);
     publishers = λ key live other. next.publishers key (before.publishers key live other) (apart.publishers key live);
     boxes = λ key live other. next.boxes key (before.publishers key live other) (apart.publishers key live) ∙ before.boxes key live other;
+    degradation_boxes = λ key live other. next.degradation_boxes key (before.publishers key live other) (apart.publishers key live) ∙ before.degradation_boxes key live other;
+    subscriber_boxes = λ key live other. next.subscriber_boxes key (before.subscribers key live other) (apart.subscribers key live) ∙ before.subscriber_boxes key live other;
     subscribers = λ key live other. next.subscribers key (before.subscribers key live other) (apart.subscribers key live);
     loans = λ key live other. next.loans key (before.loans key live other) (apart.loans key live);
     unwritten_loans = λ it live other. next.unwritten_loans it (before.unwritten_loans it live other) (apart.unwritten_loans it live);
@@ -354,13 +407,15 @@ module _ {T U F : Type 0} (start old : Kept T U F) (before : Stays start old) (i
   }
 
   -- and so it does but for what is spent beside it
-  pub stays-on-but : (spent : Item) (new : Kept T U F) → IsNewIn start item → StaysBut (Both item spent) old new → StaysBut spent start new
+  pub stays-on-but : (spent : Item) (new : Kept T U F G) → IsNewIn start item → StaysBut (Both item spent) old new → StaysBut spent start new
   stays-on-but spent new apart next = record {
     settings = next.settings ∙ before.settings;
     single_valued = λ was. next.single_valued (before.single_valued was);
     sliced = λ was. next.sliced (before.sliced was);
     publishers = λ key live other. next.publishers key (before.publishers key live tt) (apart.publishers key live, other);
     boxes = λ key live other. next.boxes key (before.publishers key live tt) (apart.publishers key live, other) ∙ before.boxes key live tt;
+    degradation_boxes = λ key live other. next.degradation_boxes key (before.publishers key live tt) (apart.publishers key live, other) ∙ before.degradation_boxes key live tt;
+    subscriber_boxes = λ key live other. next.subscriber_boxes key (before.subscribers key live tt) (apart.subscribers key live, other) ∙ before.subscriber_boxes key live tt;
     subscribers = λ key live other. next.subscribers key (before.subscribers key live tt) (apart.subscribers key live, other);
     loans = λ key live other. next.loans key (before.loans key live tt) (apart.loans key live, other);
     unwritten_loans = λ it live other. next.unwritten_loans it (before.unwritten_loans it live tt) (apart.unwritten_loans it live, other);
@@ -386,7 +441,7 @@ module _ {T U F : Type 0} (start old : Kept T U F) (before : Stays start old) (i
   }
 
 -- nothing is always new
-pub nothing-is-new : {T U F : Type 0} (start : Kept T U F) → IsNewIn start No_item
+pub nothing-is-new : {T U F G : Type 0} (start : Kept T U F G) → IsNewIn start No_item
 nothing-is-new start = record {
   publishers = λ key live. tt;
   subscribers = λ key live. tt;
@@ -402,13 +457,15 @@ nothing-is-new start = record {
 }
 
 -- nothing changed
-pub unchanged-stays : {T U F : Type 0} (spent : Item) (kept : Kept T U F) → StaysBut spent kept kept
+pub unchanged-stays : {T U F G : Type 0} (spent : Item) (kept : Kept T U F G) → StaysBut spent kept kept
 unchanged-stays spent kept = record {
   settings = refl;
   single_valued = λ was. was;
   sliced = λ was. was;
   publishers = λ key live other. live;
   boxes = λ key live other. refl;
+  degradation_boxes = λ key live other. refl;
+  subscriber_boxes = λ key live other. refl;
   subscribers = λ key live other. live;
   loans = λ key live other. live;
   unwritten_loans = λ it live other. live;
@@ -428,12 +485,12 @@ unchanged-stays spent kept = record {
   sample_user_headers = λ key header live has other. has;
 }
 
-pub stays-itself : {T U F : Type 0} (kept : Kept T U F) → Stays kept kept
+pub stays-itself : {T U F G : Type 0} (kept : Kept T U F G) → Stays kept kept
 stays-itself kept = unchanged-stays No_item kept
 
 -- ---- more than one item
 
-module _ {T U F : Type 0} (start : Kept T U F) where
+module _ {T U F G : Type 0} (start : Kept T U F G) where
   -- two new items are new
   pub both-new : (first second : Item) → IsNewIn start first → IsNewIn start second → IsNewIn start (Both first second)
   both-new first second a b = record {
@@ -538,7 +595,7 @@ sent-loan-part n p is_blocked = record {
     apart false r other = tt
 
 -- a part of what is new is new
-pub part-new : {T U F : Type 0} (start : Kept T U F) (part whole : Item) → IsPartOf part whole → IsNewIn start whole → IsNewIn start part
+pub part-new : {T U F G : Type 0} (start : Kept T U F G) (part whole : Item) → IsPartOf part whole → IsNewIn start whole → IsNewIn start part
 part-new start part whole is new = record {
   publishers = λ key live. is.publishers key.port (new.publishers key live);
   subscribers = λ key live. is.subscribers key.port (new.subscribers key live);
@@ -554,13 +611,15 @@ part-new start part whole is new = record {
 }
 
 -- what stays but for an item stays but for what that is a part of
-pub stays-but-whole : {T U F : Type 0} (part whole : Item) → IsPartOf part whole → (old new : Kept T U F) → StaysBut part old new → StaysBut whole old new
+pub stays-but-whole : {T U F G : Type 0} (part whole : Item) → IsPartOf part whole → (old new : Kept T U F G) → StaysBut part old new → StaysBut whole old new
 stays-but-whole part whole is old new stays = record {
   settings = stays.settings;
   single_valued = stays.single_valued;
   sliced = stays.sliced;
   publishers = λ key live other. stays.publishers key live (is.publishers key.port other);
   boxes = λ key live other. stays.boxes key live (is.publishers key.port other);
+  degradation_boxes = λ key live other. stays.degradation_boxes key live (is.publishers key.port other);
+  subscriber_boxes = λ key live other. stays.subscriber_boxes key live (is.subscribers key.port other);
   subscribers = λ key live other. stays.subscribers key live (is.subscribers key.port other);
   loans = λ key live other. stays.loans key live (is.loans key.message other);
   unwritten_loans = λ it live other. stays.unwritten_loans it live (is.loans it.loan.number other);
@@ -581,17 +640,19 @@ stays-but-whole part whole is old new stays = record {
 }
 
 -- what stays but for an item stays but for that and another
-pub stays-but-more : {T U F : Type 0} (first second : Item) (old new : Kept T U F) → StaysBut first old new → StaysBut (Both first second) old new
+pub stays-but-more : {T U F G : Type 0} (first second : Item) (old new : Kept T U F G) → StaysBut first old new → StaysBut (Both first second) old new
 stays-but-more first second = stays-but-whole first (Both first second) (first-part first second)
 
 -- what stays twice but for an item stays but for it
-pub stays-twice : {T U F : Type 0} (spent : Item) (start old new : Kept T U F) → StaysBut spent start old → StaysBut spent old new → StaysBut spent start new
+pub stays-twice : {T U F G : Type 0} (spent : Item) (start old new : Kept T U F G) → StaysBut spent start old → StaysBut spent old new → StaysBut spent start new
 stays-twice spent start old new before next = record {
   settings = next.settings ∙ before.settings;
   single_valued = λ was. next.single_valued (before.single_valued was);
   sliced = λ was. next.sliced (before.sliced was);
   publishers = λ key live other. next.publishers key (before.publishers key live other) other;
   boxes = λ key live other. next.boxes key (before.publishers key live other) other ∙ before.boxes key live other;
+  degradation_boxes = λ key live other. next.degradation_boxes key (before.publishers key live other) other ∙ before.degradation_boxes key live other;
+  subscriber_boxes = λ key live other. next.subscriber_boxes key (before.subscribers key live other) other ∙ before.subscriber_boxes key live other;
   subscribers = λ key live other. next.subscribers key (before.subscribers key live other) other;
   loans = λ key live other. next.loans key (before.loans key live other) other;
   unwritten_loans = λ it live other. next.unwritten_loans it (before.unwritten_loans it live other) other;
@@ -614,12 +675,12 @@ stays-twice spent start old new before next = record {
 -- ---- a send that blocked has ended
 
 -- a publisher with a blocked send isn't unblocked
-waits-not : {T U F : Type 0} (kept : Kept T U F) (key : Key) → IsBlockedKey kept key → IsUnblocked kept key → ⊥
+waits-not : {T U F G : Type 0} (kept : Kept T U F G) (key : Key) → IsBlockedKey kept key → IsUnblocked kept key → ⊥
 unfolding IsBlockedKey IsUnblocked
 waits-not kept key live free = let no : None ≡ Some (live.1).1 = sym (free.1 (live.1).0 (live.1).2) ∙ (live.1).3 in absurd cc
 
 -- What stood before a send of the publisher blocked, none of whose sends was blocked, stands when the blocked send has ended.
-pub stays-since-block : {T U F : Type 0} (p : ℕ) (start old new : Kept T U F) → ((key : Key) → key.port ≡ p → IsUnblocked start key) → StaysBut (A_blocked_send p) start old
+pub stays-since-block : {T U F G : Type 0} (p : ℕ) (start old new : Kept T U F G) → ((key : Key) → key.port ≡ p → IsUnblocked start key) → StaysBut (A_blocked_send p) start old
     → StaysBut (A_blocked_send p) old new → ((key : Key) → key.port ≡ p → IsUnblocked new key) → Stays start new
 stays-since-block {T} {U} p start old new was before next frees = record {
   settings = next.settings ∙ before.settings;
@@ -627,6 +688,8 @@ stays-since-block {T} {U} p start old new was before next frees = record {
   sliced = λ sliced. next.sliced (before.sliced sliced);
   publishers = λ key live other. next.publishers key (before.publishers key live tt) tt;
   boxes = λ key live other. next.boxes key (before.publishers key live tt) tt ∙ before.boxes key live tt;
+  degradation_boxes = λ key live other. next.degradation_boxes key (before.publishers key live tt) tt ∙ before.degradation_boxes key live tt;
+  subscriber_boxes = λ key live other. next.subscriber_boxes key (before.subscribers key live tt) tt ∙ before.subscriber_boxes key live tt;
   subscribers = λ key live other. next.subscribers key (before.subscribers key live tt) tt;
   loans = λ key live other. next.loans key (before.loans key live tt) tt;
   unwritten_loans = λ it live other. next.unwritten_loans it (before.unwritten_loans it live tt) tt;

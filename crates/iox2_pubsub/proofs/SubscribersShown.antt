@@ -6,7 +6,7 @@ use Rattle.iox2_store.specs.machine.Records.{SubscriberSettings, Environment}
 use Rattle.iox2_store.specs.machine.State.{State, Messages}
 use Rattle.iox2_store.specs.declared.errors.SubscriberCreateError.{SubscriberCreateError}
 use Rattle.iox2_domain.specs.Kept.{Kept, state_of}
-use Rattle.iox2_domain.specs.declared.boxes.PortBox.{PortBox}
+use Rattle.iox2_domain.specs.Boxes.{DomainBoxes}
 use Rattle.iox2_domain.specs.Fields.{Fields, kept_of, keeping}
 use Rattle.iox2_pubsub.specs.Live.{IsLiveSubscriber}
 use Rattle.iox2_pubsub.specs.declared.subscriber.Subscriber.{Subscriber}
@@ -16,9 +16,9 @@ use Rattle.iox2_domain.specs.Shows.{Shows}
 use Rattle.iox2_domain.proofs.lemmas.fields.ReachesShows.{reaches-shows-same}
 use Rattle.iox2_steps.proofs.creations.SubscriberCreations.{create-keeps, create-open}
 
-module _ {T U F : Type 0} {boxes : List (PortBox F)} (environment : Environment) (old new : Fields T U) (before : Kept T U F) (is_before : keeping boxes old ≡ before) where
+module _ {T U F G : Type 0} {boxes : DomainBoxes F G} (environment : Environment) (old new : Fields T U) (before : Kept T U F G) (is_before : keeping boxes old ≡ before) where
   was : (m : Messages T U) (s : State T U) → Shows before m s → Shows (kept_of old) m s
-  was m s shown = subst (λ (kept : Kept T U F). Shows kept m s) (sym is_before) shown
+  was m s shown = subst (λ (kept : Kept T U F G). Shows kept m s) (sym is_before) shown
 
   module _ (asked given : SubscriberSettings) (is_given : asked ≡ given) where
     -- for every state that was shown, the one that is shown now has the subscriber
@@ -52,7 +52,7 @@ module _ {T U F : Type 0} {boxes : List (PortBox F)} (environment : Environment)
 
 module _ {T U : Type 0} (environment : Environment) (old new : Fields T U) (asked : SubscriberSettings) where
   -- the domain has the new subscriber
-  pub made-live : {F : Type 0} (boxes : List (PortBox F)) → (s' : State T U) × CreateSubscriber environment (state_of (kept_of old)) asked s' None × Reaches old new s'
+  pub made-live : {F G : Type 0} (boxes : DomainBoxes F G) → (s' : State T U) × CreateSubscriber environment (state_of (kept_of old)) asked s' None × Reaches old new s'
       → (subscriber : Subscriber) → subscriber.service_id ≡ (old.config).service_id → subscriber.id ≡ old.next_port → IsLiveSubscriber (keeping boxes new) subscriber
   made-live boxes made subscriber is_service is_id =
       let keeps = create-keeps environment (state_of (kept_of old)) asked made.0 None made.1 in

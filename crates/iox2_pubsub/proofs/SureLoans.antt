@@ -13,7 +13,7 @@ use Rattle.iox2_store.specs.machine.Records.{Publisher}
 use Rattle.iox2_store.specs.machine.State.{State}
 use Rattle.iox2_store.specs.declared.errors.LoanError.{LoanError}
 use Rattle.iox2_laws.proofs.EnoughSlots.{worst_case_of_slots_grants}
-use Rattle.iox2_domain.specs.declared.boxes.PortBox.{PortBox}
+use Rattle.iox2_domain.specs.Boxes.{DomainBoxes}
 use Rattle.iox2_domain.specs.Fields.{Fields, kept_of, publisher_of, keeping}
 use Rattle.iox2_domain.specs.Invariant.{IsDomain, HasBook}
 use Rattle.iox2_domain.specs.Kept.{Kept, state_of}
@@ -27,7 +27,7 @@ use Rattle.iox2_pubsub.specs.declared.publisher.Publisher.{Publisher as Publishe
 
 -- The publisher has its slots in one segment, at least as many as the worst case for its limit of loans, lends slices as long as
 -- its handle says, and has fewer loans out than that limit; and the domain has a message number left.
-pub record IsSureOfLoan {T U F : Type 0} (domain : Kept T U F) (publisher : PublisherHandle) : Type 0 where
+pub record IsSureOfLoan {T U F G : Type 0} (domain : Kept T U F G) (publisher : PublisherHandle) : Type 0 where
   pub port : Publisher
   pub stands : (state_of domain).publishers publisher.id ≡ Some port
   pub static : is_static port.allocation_strategy ≡ true
@@ -40,7 +40,7 @@ fewer_than : (loans more most : ℕ) → loans + (more + 1) ≤ most → loans <
 fewer_than loans more most h = omega arith
 
 -- it has a loan left, and the domain a number
-pub sure-of-loan : {T U F : Type 0} (domain : Kept T U F) (publisher : PublisherHandle) (loans numbers : ℕ) → HasLoansLeft domain publisher (loans + 1) → HasNumbersLeft domain (numbers + 1)
+pub sure-of-loan : {T U F G : Type 0} (domain : Kept T U F G) (publisher : PublisherHandle) (loans numbers : ℕ) → HasLoansLeft domain publisher (loans + 1) → HasNumbersLeft domain (numbers + 1)
     → IsSureOfLoan domain publisher
 sure-of-loan {T} {U} domain publisher loans numbers left numbered =
     let has = lends-in domain publisher (loans + 1) left in
@@ -76,7 +76,7 @@ module _ {T U : Type 0} where
         first_header (get_or f.contents x.book None) (length (has.book).holders) (omega (arith, some, has.slots)) ((sound.parts.books).books x.book has.book has.stands).shaped
 
     -- what stands here is no refusal of a loan of that length
-    unrefused : {F : Type 0} {boxes : List (PortBox F)} (checks : Bool) (len : ℕ) (publisher : PublisherHandle) → (checks ≡ true → len ≤ publisher.initial_max_slice_len) → x.id ≡ publisher.id
+    unrefused : {F G : Type 0} {boxes : DomainBoxes F G} (checks : Bool) (len : ℕ) (publisher : PublisherHandle) → (checks ≡ true → len ≤ publisher.initial_max_slice_len) → x.id ≡ publisher.id
         → IsSureOfLoan (keeping boxes f) publisher → (e : LoanError) → ((user_header : U) → GrantLoan ample_memory user_header checks len state x.id state (Some e)) → ⊥
     unrefused checks len publisher short its sure e refuses =
         let stands : state.publishers x.id ≡ Some sure.port = ap state.publishers its ∙ sure.stands in
@@ -90,12 +90,12 @@ module _ {T U : Type 0} where
         (λ is. subst (λ (longest : ℕ). len ≤ longest) (sym sure.longest) (short is))).1 state (Some e) (refuses user_header)))
 
   -- no loan that isn't too long is refused to a publisher that can't be refused one
-  pub sure-granted : {F : Type 0} {boxes : List (PortBox F)} (is_default : U → Type 0) (checks : Bool) (len : ℕ) (f new : Fields T U) → IsDomain f → (i : ℕ) (publisher : PublisherHandle)
+  pub sure-granted : {F G : Type 0} {boxes : DomainBoxes F G} (is_default : U → Type 0) (checks : Bool) (len : ℕ) (f new : Fields T U) → IsDomain f → (i : ℕ) (publisher : PublisherHandle)
       → (checks ≡ true → len ≤ publisher.initial_max_slice_len)
       → ((x : PublisherFields) × (get_or f.publishers i None ≡ Some x) × (x.id ≡ publisher.id)) → (answer : Result LoanAt LoanError)
       → IsSomeAnd (get_or f.publishers i None) (λ z. LoanReaches is_default checks len f z answer new) → (e : LoanError) → answer ≡ Err e
-      → (kept : Kept T U F) → keeping boxes f ≡ kept → IsSureOfLoan kept publisher → ⊥
-  sure-granted {F} is_default checks len f new sound i publisher short stands answer reaches e is kept view sure =
+      → (kept : Kept T U F G) → keeping boxes f ≡ kept → IsSureOfLoan kept publisher → ⊥
+  sure-granted {F} {G} is_default checks len f new sound i publisher short stands answer reaches e is kept view sure =
       let here : LoanReaches is_default checks len f stands.0 answer new = subst (λ (o : Option PublisherFields). IsSomeAnd o (λ z. LoanReaches is_default checks len f z answer new)) stands.1 reaches in
       let refused : LoanReaches {A = LoanAt} is_default checks len f stands.0 (Err e) new = subst (λ (r : Result LoanAt LoanError). LoanReaches is_default checks len f stands.0 r new) is here in
-      unrefused f sound i stands.0 stands.1 checks len publisher short stands.2 (subst (λ (k : Kept T U F). IsSureOfLoan k publisher) (sym view) sure) e refused.0
+      unrefused f sound i stands.0 stands.1 checks len publisher short stands.2 (subst (λ (k : Kept T U F G). IsSureOfLoan k publisher) (sym view) sure) e refused.0

@@ -22,7 +22,7 @@ use Rattle.iox2_pubsub.proofs.LiveParts.{loan-header, publisher-parts, unwritten
 use Rattle.iox2_pubsub.proofs.SliceParts.{has-cells, cells-parts}
 use Rattle.iox2_domain.specs.Ports.{PublisherFields}
 use Rattle.iox2_domain.specs.Kept.{Kept, Named, state_of, is_named}
-use Rattle.iox2_domain.specs.declared.boxes.PortBox.{PortBox}
+use Rattle.iox2_domain.specs.Boxes.{DomainBoxes}
 use Rattle.iox2_domain.specs.Fields.{Fields, kept_of, publisher_of, keeping}
 use Rattle.iox2_domain.specs.Invariant.{is_publisher}
 use Rattle.iox2_domain.specs.Lending.{IsNamed, LoanReaches, LoanCall, header_for}
@@ -39,10 +39,10 @@ module _ {T U : Type 0} (f : Fields T U) where
   machine x = (publisher_of f.books f.connections x).port
 
   -- a publisher that is live stands somewhere
-  pub publisher-missing : {F : Type 0} {boxes : List (PortBox F)} (kept : Kept T U F) → keeping boxes f ≡ kept → (publisher : PublisherHandle) → look_up (is_publisher publisher.id) f.publishers ≡ None
+  pub publisher-missing : {F G : Type 0} {boxes : DomainBoxes F G} (kept : Kept T U F G) → keeping boxes f ≡ kept → (publisher : PublisherHandle) → look_up (is_publisher publisher.id) f.publishers ≡ None
       → IsPublisherKey kept (publisher_key publisher) → ⊥
-  publisher-missing {F} {boxes} kept view publisher none live =
-      let live-here : IsPublisherKey (keeping boxes f) (publisher_key publisher) = subst (λ (k : Kept T U F). IsPublisherKey k (publisher_key publisher)) (sym view) live in
+  publisher-missing {F} {G} {boxes} kept view publisher none live =
+      let live-here : IsPublisherKey (keeping boxes f) (publisher_key publisher) = subst (λ (k : Kept T U F G). IsPublisherKey k (publisher_key publisher)) (sym view) live in
       let has = (publisher-parts (keeping boxes f) _ live-here).2 in
       let nothing : state.publishers publisher.id ≡ None =
       ap (option_map (λ (z : Named Publisher). z.port))
@@ -100,9 +100,9 @@ module _ {T U : Type 0} (f : Fields T U) where
       ∙ ap (λ b. cond b (Some (lent_loan x reaches.0 len)) (state.loans f.next_message)) (eq-eqb f.next_message f.next_message refl)
 
   -- and isn't written
-  granted-live : {F : Type 0} {boxes : List (PortBox F)} (is_default : U → Type 0) (checks : Bool) (len : ℕ) (new : Fields T U) (x : PublisherFields) (loan : SampleMutUninit) → loan.service_id ≡ (f.config).service_id
+  granted-live : {F G : Type 0} {boxes : DomainBoxes F G} (is_default : U → Type 0) (checks : Bool) (len : ℕ) (new : Fields T U) (x : PublisherFields) (loan : SampleMutUninit) → loan.service_id ≡ (f.config).service_id
       → IsNamed f x loan.loan → LoanReaches {A = LoanAt} is_default checks len f x (Ok loan.loan) new → IsUnwritten (keeping boxes new) loan
-  granted-live {F} {boxes} is_default checks len new x loan its names reaches =
+  granted-live {F} {G} {boxes} is_default checks len new x loan its names reaches =
       unwritten-live (keeping boxes new) loan (its ∙ ap (λ (t : State T U). (t.config).service_id) (sym reaches.3.state))
       (lent_loan x reaches.0 len, granted-out is_default checks len new x loan.loan names reaches, sym names.publisher, refl)
 
@@ -113,27 +113,27 @@ module _ {T U : Type 0} (is_default : U → Type 0) (checks : Bool) (len : ℕ) 
   its = subst (λ (o : Option PublisherFields). IsSomeAnd o (λ z. LoanReaches is_default checks len f z answer new)) stands.1 reaches
 
   -- a loan that was refused
-  pub err-shown : {F : Type 0} {boxes : List (PortBox F)} (A : Type 0) (e : LoanError) → answer ≡ Err e → (r : Result A LoanError) → IsErrAnd r (λ e'. e' ≡ e) → (kept : Kept T U F) → keeping boxes f ≡ kept
+  pub err-shown : {F G : Type 0} {boxes : DomainBoxes F G} (A : Type 0) (e : LoanError) → answer ≡ Err e → (r : Result A LoanError) → IsErrAnd r (λ e'. e' ≡ e) → (kept : Kept T U F G) → keeping boxes f ≡ kept
       → (m : Messages T U) (s : State T U) → Shows kept m s → (s' : State T U) × Shows (kept_of new) m s' × LoanCall {A = A} is_default checks len s p r s'
-  err-shown {F} A e is (Ok a) same kept view m s shown = absurd same
-  err-shown {F} A e is (Err e') same kept view m s shown =
+  err-shown {F} {G} A e is (Ok a) same kept view m s shown = absurd same
+  err-shown {F} {G} A e is (Err e') same kept view m s shown =
       subst (λ (q : ℕ). (s' : State T U) × Shows (kept_of new) m s' × LoanCall {A = A} is_default checks len s q (Err e') s') stands.2
-      (refused-shows f is_default checks len new stands.0 m s (subst (λ (k : Kept T U F). Shows k m s) (sym view) shown) A e'
+      (refused-shows f is_default checks len new stands.0 m s (subst (λ (k : Kept T U F G). Shows k m s) (sym view) shown) A e'
       (subst (λ (r : Result LoanAt LoanError). LoanReaches is_default checks len f stands.0 r new) (is ∙ ap Err (sym same)) its))
 
   -- a loan that was granted
-  pub ok-shown : {F : Type 0} {boxes : List (PortBox F)} (A : Type 0) (a : A) (loan : LoanAt) → answer ≡ Ok loan → (kept : Kept T U F) → keeping boxes f ≡ kept
+  pub ok-shown : {F G : Type 0} {boxes : DomainBoxes F G} (A : Type 0) (a : A) (loan : LoanAt) → answer ≡ Ok loan → (kept : Kept T U F G) → keeping boxes f ≡ kept
       → (m : Messages T U) (s : State T U) → Shows kept m s → (s' : State T U) × Shows (kept_of new) m s' × LoanCall {A = A} is_default checks len s p (Ok a) s'
-  ok-shown {F} A a loan is kept view m s shown =
+  ok-shown {F} {G} A a loan is kept view m s shown =
       subst (λ (q : ℕ). (s' : State T U) × Shows (kept_of new) m s' × LoanCall {A = A} is_default checks len s q (Ok a) s') stands.2
-      (granted-shows f is_default checks len new stands.0 m s (subst (λ (k : Kept T U F). Shows k m s) (sym view) shown) A loan a
+      (granted-shows f is_default checks len new stands.0 m s (subst (λ (k : Kept T U F G). Shows k m s) (sym view) shown) A loan a
       (subst (λ (r : Result LoanAt LoanError). LoanReaches is_default checks len f stands.0 r new) is its))
 
   -- it is out
-  pub ok-live : {F : Type 0} {boxes : List (PortBox F)} (loan : SampleMutUninit) → answer ≡ Ok loan.loan → IsSomeAnd (get_or f.publishers i None) (λ z. IsNamed f z loan.loan) → (kept : Kept T U F) → keeping boxes f ≡ kept
+  pub ok-live : {F G : Type 0} {boxes : DomainBoxes F G} (loan : SampleMutUninit) → answer ≡ Ok loan.loan → IsSomeAnd (get_or f.publishers i None) (λ z. IsNamed f z loan.loan) → (kept : Kept T U F G) → keeping boxes f ≡ kept
       → loan.service_id ≡ (kept.config).service_id → IsUnwritten (keeping boxes new) loan
-  ok-live {F} loan is named kept view service =
-      granted-live f is_default checks len new stands.0 loan (service ∙ sym (ap (λ (k : Kept T U F). (k.config).service_id) view))
+  ok-live {F} {G} loan is named kept view service =
+      granted-live f is_default checks len new stands.0 loan (service ∙ sym (ap (λ (k : Kept T U F G). (k.config).service_id) view))
       (subst (λ (o : Option PublisherFields). IsSomeAnd o (λ z. IsNamed f z loan.loan)) stands.1 named)
       (subst (λ (r : Result LoanAt LoanError). LoanReaches is_default checks len f stands.0 r new) is its)
 
@@ -146,7 +146,7 @@ module _ {T U : Type 0} (is_default : U → Type 0) (checks : Bool) (len : ℕ) 
   ok-number loan named = (subst (λ (o : Option PublisherFields). IsSomeAnd o (λ z. IsNamed f z loan)) stands.1 named).number
 
   -- its cells aren't written
-  pub ok-cells : {F : Type 0} (boxes : List (PortBox F)) (loan : LoanAt) → answer ≡ Ok loan → IsSomeAnd (get_or f.publishers i None) (λ z. IsNamed f z loan)
+  pub ok-cells : {F G : Type 0} (boxes : DomainBoxes F G) (loan : LoanAt) → answer ≡ Ok loan → IsSomeAnd (get_or f.publishers i None) (λ z. IsNamed f z loan)
       → HasUnwrittenCells (keeping boxes new) loan.number (replicate (len * (f.config).units_per_element) None)
   ok-cells boxes loan is named =
       let names : IsNamed f stands.0 loan = subst (λ (o : Option PublisherFields). IsSomeAnd o (λ z. IsNamed f z loan)) stands.1 named in
@@ -154,7 +154,7 @@ module _ {T U : Type 0} (is_default : U → Type 0) (checks : Bool) (len : ℕ) 
       has-cells (keeping boxes new) loan.number _ (lent_loan f stands.0 granted.0 len, granted-out f is_default checks len new stands.0 loan names granted, refl)
 
   -- there are no others
-  pub ok-lengths : {F : Type 0} (boxes : List (PortBox F)) (loan : LoanAt) → answer ≡ Ok loan → IsSomeAnd (get_or f.publishers i None) (λ z. IsNamed f z loan) → (cells : List (Option T))
+  pub ok-lengths : {F G : Type 0} (boxes : DomainBoxes F G) (loan : LoanAt) → answer ≡ Ok loan → IsSomeAnd (get_or f.publishers i None) (λ z. IsNamed f z loan) → (cells : List (Option T))
       → HasUnwrittenCells (keeping boxes new) loan.number cells → length cells ≡ len * (f.config).units_per_element
   ok-lengths boxes loan is named cells has =
       let names : IsNamed f stands.0 loan = subst (λ (o : Option PublisherFields). IsSomeAnd o (λ z. IsNamed f z loan)) stands.1 named in
@@ -164,7 +164,7 @@ module _ {T U : Type 0} (is_default : U → Type 0) (checks : Bool) (len : ℕ) 
       ap (λ (cs : List (Option T)). length cs) (sym there.2 ∙ ap (λ (l : Loan T U). l.cells) same) ∙ length-replicate {A = Option T} (len * (f.config).units_per_element) None
 
   -- and its header says whose it is, and how long
-  pub ok-header : {F : Type 0} (boxes : List (PortBox F)) (loan : LoanAt) → answer ≡ Ok loan → IsSomeAnd (get_or f.publishers i None) (λ z. IsNamed f z loan) → (key : Key) → key.message ≡ loan.number
+  pub ok-header : {F G : Type 0} (boxes : DomainBoxes F G) (loan : LoanAt) → answer ≡ Ok loan → IsSomeAnd (get_or f.publishers i None) (λ z. IsNamed f z loan) → (key : Key) → key.message ≡ loan.number
       → LoanHasHeader (keeping boxes new) key (header_for f.config p len)
   ok-header boxes loan is named key number =
       let names : IsNamed f stands.0 loan = subst (λ (o : Option PublisherFields). IsSomeAnd o (λ z. IsNamed f z loan)) stands.1 named in

@@ -30,7 +30,7 @@ use Rattle.iox2_pubsub.proofs.SendsServe.{send-connections}
 use Rattle.iox2_pubsub.proofs.ConnectionsStay.{ConnectsStay, stays-itself, grant-connections, set-connections, discard-connections, retry-connections, give-up-connections, update-subscriber-connections, receive-connections, released-connections, create-subscriber-connections}
 use Rattle.iox2_pubsub.proofs.WaitingShown.{live-open, waiting-is}
 
-module _ {T U F : Type 0} (kept : Kept T U F) (m : Messages T U) (s : State T U) (shown : Shows kept m s) (subscriber : Subscriber) where
+module _ {T U F G : Type 0} (kept : Kept T U F G) (m : Messages T U) (s : State T U) (shown : Shows kept m s) (subscriber : Subscriber) where
   pub up-to-date-in : IsUpToDate kept subscriber → IsUpdated s subscriber.id
   unfolding IsUpToDate
   up-to-date-in is = subst (λ (t : State T U). IsUpdated t subscriber.id) (sym shown.state) is
@@ -39,7 +39,7 @@ module _ {T U F : Type 0} (kept : Kept T U F) (m : Messages T U) (s : State T U)
   unfolding IsUpToDate
   up-to-date is = subst (λ (t : State T U). IsUpdated t subscriber.id) shown.state is
 
-module _ {T U F : Type 0} (kept : Kept T U F) (m : Messages T U) (s : State T U) (shown : Shows kept m s) (p : ℕ) (subscriber : Subscriber) where
+module _ {T U F G : Type 0} (kept : Kept T U F G) (m : Messages T U) (s : State T U) (shown : Shows kept m s) (p : ℕ) (subscriber : Subscriber) where
   pub connected-in : IsConnected kept p subscriber → Connects s p subscriber.id
   unfolding IsConnected
   connected-in is = subst (λ (t : State T U). Connects t p subscriber.id) (sym shown.state) is
@@ -48,7 +48,7 @@ module _ {T U F : Type 0} (kept : Kept T U F) (m : Messages T U) (s : State T U)
   unfolding IsConnected
   connected is = subst (λ (t : State T U). Connects t p subscriber.id) shown.state is
 
-module _ {T U F : Type 0} (old new : Kept T U F) (m m' : Messages T U) (s s' : State T U) (shown : Shows old m s) (shown' : Shows new m' s') where
+module _ {T U F G : Type 0} (old new : Kept T U F G) (m m' : Messages T U) (s s' : State T U) (shown : Shows old m s) (shown' : Shows new m' s') where
   stay : UpdatedStay s s' → ConnectsStay s s' → UpToDateStay old new
   stay each connects = record {
     subscribers = λ subscriber is. up-to-date new m' s' shown' subscriber (each subscriber.id (up-to-date-in old m s shown subscriber is));
@@ -109,7 +109,7 @@ module _ {T U F : Type 0} (old new : Kept T U F) (m m' : Messages T U) (s s' : S
         ∙ receive_one_fewer environment s subscriber.id p n s' shown.well_formed (up-to-date-in old m s shown subscriber is) h
         ∙ sym (waiting-is old m s shown subscriber)
 
-module _ {T U F : Type 0} (old new : Kept T U F) (m : Messages T U) (s : State T U) (shown : Shows old m s) (n : ℕ) where
+module _ {T U F G : Type 0} (old new : Kept T U F G) (m : Messages T U) (s : State T U) (shown : Shows old m s) (n : ℕ) where
   pub set-leaves : (l : Option (Loan T U)) → Shows new m (with_loan s n l) → UpToDateStay old new
   set-leaves l shown' = stay old new m m s (with_loan s n l) shown shown' (same_subscribers s (with_loan s n l) refl) (set-connections s n l)
 

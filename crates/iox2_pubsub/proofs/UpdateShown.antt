@@ -9,7 +9,7 @@ use Rattle.iox2_laws.proofs.PublisherUpdates.{update_publisher_advances}
 use Rattle.iox2_laws.proofs.SubscriberUpdates.{update_subscriber_advances}
 use Rattle.iox2_domain.specs.Connects.{UpdatesPublisher}
 use Rattle.iox2_domain.specs.ReceiverSteps.{UpdatesReceiver}
-use Rattle.iox2_domain.specs.declared.boxes.PortBox.{PortBox}
+use Rattle.iox2_domain.specs.Boxes.{DomainBoxes}
 use Rattle.iox2_domain.specs.Fields.{Fields, kept_of, keeping}
 use Rattle.iox2_domain.specs.Kept.{Kept, state_of}
 use Rattle.iox2_domain.specs.Ports.{PublisherFields, SubscriberFields}
@@ -18,9 +18,9 @@ use Rattle.iox2_store.specs.declared.errors.ConnectionFailure.{ConnectionFailure
 use Rattle.iox2_domain.proofs.lemmas.fields.ReachesShows.{reaches-shows}
 use Rattle.iox2_domain.proofs.lemmas.receives.Reception.{updated-reaches}
 
-module _ {T U F : Type 0} {boxes : List (PortBox F)} (environment : Environment) (kept : Kept T U F) (f g : Fields T U) (view : keeping boxes f ≡ kept) (place id : ℕ) (m : Messages T U) (s : State T U) (shown : Shows kept m s) where
+module _ {T U F G : Type 0} {boxes : DomainBoxes F G} (environment : Environment) (kept : Kept T U F G) (f g : Fields T U) (view : keeping boxes f ≡ kept) (place id : ℕ) (m : Messages T U) (s : State T U) (shown : Shows kept m s) where
   here : Shows (kept_of f) m s
-  here = subst (λ (k : Kept T U F). Shows k m s) (sym view) shown
+  here = subst (λ (k : Kept T U F G). Shows k m s) (sym view) shown
 
   -- a publisher's update, with the same messages
   pub publisher-update-shows : (failure : Option ConnectionFailure) → (x : PublisherFields) × (get_or f.publishers place None ≡ Some x) × (x.id ≡ id)

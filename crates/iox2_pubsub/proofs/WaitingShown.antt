@@ -49,17 +49,17 @@ use Rattle.iox2_pubsub.proofs.PayloadLists.{all_same, parts_same, payloads_same,
 use Rattle.iox2_pubsub.proofs.OldestFirst.{receive-first}
 
 -- the payloads are what the domain keeps
-payloads-are : {T U F : Type 0} (kept : Kept T U F) (subscriber : Subscriber) → payloads kept subscriber ≡ payloads_for (state_of kept) (entries_of kept) subscriber.id
+payloads-are : {T U F G : Type 0} (kept : Kept T U F G) (subscriber : Subscriber) → payloads kept subscriber ≡ payloads_for (state_of kept) (entries_of kept) subscriber.id
 unfolding payloads
 payloads-are kept subscriber = refl
 
-pub payloads-from-are : {T U F : Type 0} (kept : Kept T U F) (p : ℕ) (subscriber : Subscriber)
+pub payloads-from-are : {T U F G : Type 0} (kept : Kept T U F G) (p : ℕ) (subscriber : Subscriber)
     → payloads_from kept p subscriber ≡ map (payload_of (entries_of kept)) (waiting_from (state_of kept) p subscriber.id)
 unfolding payloads_from
 payloads-from-are kept p subscriber = refl
 
 -- as many wait as the machine counts
-pub waiting-is : {T U F : Type 0} (kept : Kept T U F) (m : Messages T U) (s : State T U) → Shows kept m s → (subscriber : Subscriber) → waiting kept subscriber ≡ waiting_for s subscriber.id
+pub waiting-is : {T U F G : Type 0} (kept : Kept T U F G) (m : Messages T U) (s : State T U) → Shows kept m s → (subscriber : Subscriber) → waiting kept subscriber ≡ waiting_for s subscriber.id
 waiting-is {T} {U} kept m s shown subscriber =
     ap length (payloads-are kept subscriber) ∙ length-payloads (state_of kept) (entries_of kept) subscriber.id ∙ ap (λ (t : State T U). waiting_for t subscriber.id) (sym shown.state)
 
@@ -68,7 +68,7 @@ waits-in-mailbox : {T U : Type 0} (s : State T U) (p q n : ℕ) → contains (wa
 waits-in-mailbox s p q n at = contains_left (s.mailboxes p q).waiting (s.mailboxes p q).borrowed n (cond_among _ (s.mailboxes p q).waiting n at)
 
 -- the entry of what waits is kept, and is the message
-entry-of : {T U F : Type 0} (kept : Kept T U F) (m : Messages T U) (s : State T U) → Shows kept m s → (p q n : ℕ) → contains (numbers_in (s.mailboxes p q)) n ≡ true
+entry-of : {T U F G : Type 0} (kept : Kept T U F G) (m : Messages T U) (s : State T U) → Shows kept m s → (p q n : ℕ) → contains (numbers_in (s.mailboxes p q)) n ≡ true
     → (entry : Entry T U) × (entries_of kept n ≡ Some entry) × (m n ≡ Some entry)
 entry-of {T} {U} kept m s shown p q n at =
     let here : contains (numbers_in ((state_of kept).mailboxes p q)) n ≡ true = ap (λ (t : State T U). contains (numbers_in (t.mailboxes p q)) n) (sym shown.state) ∙ at in
@@ -76,7 +76,7 @@ entry-of {T} {U} kept m s shown p q n at =
     (has.0, has.1, shown.entries n has.0 has.1)
 
 -- the payload of what waits is that of its message
-pub payload-is : {T U F : Type 0} (kept : Kept T U F) (m : Messages T U) (s : State T U) → Shows kept m s → (p q n : ℕ) → contains (waiting_from s p q) n ≡ true
+pub payload-is : {T U F G : Type 0} (kept : Kept T U F G) (m : Messages T U) (s : State T U) → Shows kept m s → (p q n : ℕ) → contains (waiting_from s p q) n ≡ true
     → (entry : Entry T U) → m n ≡ Some entry → payload_of (entries_of kept) n ≡ entry.values
 payload-is {T} {U} kept m s shown p q n at entry is =
     let has = entry-of kept m s shown p q n (waits-in-mailbox s p q n at) in
@@ -100,7 +100,7 @@ some_there : (ns : List ℕ) (k : ℕ) → contains ns k ≡ true → 0 < length
 some_there [] k at = let clash : false ≡ true = at in absurd cc
 some_there (n ∷ ns) k at = omega arith
 
-module _ {T U F : Type 0} (old new : Kept T U F) (m m' : Messages T U) (s s' : State T U) (shown : Shows old m s) (shown' : Shows new m' s') where
+module _ {T U F G : Type 0} (old new : Kept T U F G) (m m' : Messages T U) (s s' : State T U) (shown : Shows old m s) (shown' : Shows new m' s') where
   -- Each message that was sent before is the same.
   abbrev AreKept : Type 0
   AreKept = (n : ℕ) (entry : Entry T U) → m n ≡ Some entry → m' n ≡ Some entry
@@ -396,7 +396,7 @@ module _ {T U F : Type 0} (old new : Kept T U F) (m m' : Messages T U) (s s' : S
           ∙ ap (λ (t : State T U). map (payload_of (entries_of new)) (waiting_from t p q)) shown'.state
           ∙ sym (payloads-from-are new p subscriber))
 
-module _ {T U F : Type 0} (old new : Kept T U F) (m : Messages T U) (s : State T U) (shown : Shows old m s) (n : ℕ) where
+module _ {T U F G : Type 0} (old new : Kept T U F G) (m : Messages T U) (s : State T U) (shown : Shows old m s) (n : ℕ) where
   -- a loan is set
   pub set-waits : (l : Option (Loan T U)) → Shows new m (with_loan s n l) → payloads new ≡ payloads old
   set-waits l shown' = payloads-stay old new m m s (with_loan s n l) shown shown' (λ k entry at. at) (loan_set_waits s n l)

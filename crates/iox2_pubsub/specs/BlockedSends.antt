@@ -13,13 +13,13 @@ module _ {T U : Type 0} where
   abbrev pub places_ahead : State T U → (p : ℕ) → ℕ
   places_ahead s p = option_map_or (λ (x : MachinePublisher). option_map_or (λ (b : MachineBlocked). length b.ends) x.blocked 0) (s.publishers p) 0
 
-module _ {T U F : Type 0} where
+module _ {T U F G : Type 0} where
   -- At how many places the blocked send may meet a receiver yet, the one that it waits for among them; at none where it isn't
   -- blocked.
-  unfoldable pub receivers_ahead : Kept T U F → BlockedSend → ℕ
+  unfoldable pub receivers_ahead : Kept T U F G → BlockedSend → ℕ
   receivers_ahead domain blocked = places_ahead (state_of domain) blocked.loan.publisher
 
   -- What was live before a send blocked is live and reads as it did then: before means a state in which no send of its publisher
   -- was blocked, and from which all but the blocked send stayed.
-  unfoldable pub StaysSince : BlockedSend → (old new : Kept T U F) → Type 0
-  StaysSince blocked old new = (before : Kept T U F) → IsUnblocked before (lender_key (blocked_key blocked)) → StaysBut (blocked_send blocked) before old → Stays before new
+  unfoldable pub StaysSince : BlockedSend → (old new : Kept T U F G) → Type 0
+  StaysSince blocked old new = (before : Kept T U F G) → IsUnblocked before (lender_key (blocked_key blocked)) → StaysBut (blocked_send blocked) before old → Stays before new

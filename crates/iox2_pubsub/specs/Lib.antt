@@ -14,3 +14,4 @@ pub mod WrittenLoans
 pub mod Handlers
 pub mod Factories
 pub mod BlockedSends
+pub mod Parts

@@ -12,7 +12,7 @@ use Rattle.iox2_store.specs.declared.header.Header.{Header}
 use Rattle.iox2_store.specs.declared.key.Key.{Key}
 use Rattle.iox2_store.specs.declared.service_config.TypeVariant.TheVariants.{FixedSize}
 use Rattle.iox2_store.specs.machine.Waiting.{waiting_from}
-use Rattle.iox2_domain.specs.Boxes.{box_of}
+use Rattle.iox2_domain.specs.Boxes.{box_of, degradation_box_of}
 use Rattle.iox2_domain.specs.Handlers.{may_fail, may_fail_update}
 use Rattle.iox2_domain.specs.Kept.{Kept, state_of, entries_of}
 use Rattle.iox2_domain.specs.LoanCalls.{HasLoanHeader, HasLoanUserHeader}
@@ -59,7 +59,7 @@ lender_key loan = record { service_id = loan.service_id; port = loan.port; messa
 
 -- ---- what is live
 
-module _ {T U F : Type 0} (domain : Kept T U F) where
+module _ {T U F G : Type 0} (domain : Kept T U F G) where
   -- In the domain a message is a single value of one unit.
   unfoldable pub IsSingleValued : Type 0
   IsSingleValued = ((domain.config).variant ≡ FixedSize) × ((domain.config).units_per_element ≡ 1)
@@ -169,9 +169,17 @@ module _ {T U F : Type 0} (domain : Kept T U F) where
   unfoldable pub IsFromOrigin : Sample → Type 0
   IsFromOrigin sample = IsTrue (is_borrowed sample.sample.number ((state_of domain).mailboxes sample.origin sample.sample.subscriber))
 
-  -- The boxed handler of the publisher with this id, if it has one.
+  -- The boxed handler that the publisher with this id has for full buffers, if it has one.
   unfoldable pub handler_box : (publisher : ℕ) → Option F
-  handler_box publisher = box_of publisher domain.boxes
+  handler_box publisher = box_of publisher (domain.boxes).publishers
+
+  -- The boxed handler that the publisher with this id has for connections that are refused, if it has one.
+  unfoldable pub degradation_box : (publisher : ℕ) → Option G
+  degradation_box publisher = degradation_box_of publisher (domain.boxes).publishers
+
+  -- That of the subscriber with this id.
+  unfoldable pub subscriber_box : (subscriber : ℕ) → Option G
+  subscriber_box subscriber = degradation_box_of subscriber (domain.boxes).subscribers
 
   -- ---- what is read: a single value is a slice of one
 
@@ -229,21 +237,21 @@ module _ {T U F : Type 0} (domain : Kept T U F) where
   IsConnected publisher subscriber = Connects (state_of domain) publisher subscriber.id
 
 -- Each subscriber that was up to date is, and each publisher that was connected with a subscriber is.
-pub record UpToDateStay {T U F : Type 0} (old new : Kept T U F) : Type 0 where
+pub record UpToDateStay {T U F G : Type 0} (old new : Kept T U F G) : Type 0 where
   pub subscribers : (subscriber : Subscriber) → IsUpToDate old subscriber → IsUpToDate new subscriber
   pub connections : (publisher : ℕ) (subscriber : Subscriber) → IsConnected old publisher subscriber → IsConnected new publisher subscriber
 
 -- Each publisher that was connected with a subscriber is.
-abbrev pub ConnectionsStay : {T U F : Type 0} → (old new : Kept T U F) → Type 0
+abbrev pub ConnectionsStay : {T U F G : Type 0} → (old new : Kept T U F G) → Type 0
 ConnectionsStay old new = (publisher : ℕ) (subscriber : Subscriber) → IsConnected old publisher subscriber → IsConnected new publisher subscriber
 
 -- No port was refused memory for a connection meanwhile, as the domain's count says while it isn't at its end.
-abbrev pub NoneRefused : {T U F : Type 0} → (old new : Kept T U F) → Type 0
+abbrev pub NoneRefused : {T U F G : Type 0} → (old new : Kept T U F G) → Type 0
 NoneRefused old new = ((new.warnings).refused_connections ≡ (old.warnings).refused_connections) × ((old.warnings).refused_connections < refusal_limit)
 
 -- The publisher's message with these values waits for the subscriber, behind all others of that publisher. Where the buffer was
 -- full, the oldest of them went in its place, with overflow; without overflow this message did, and they wait still.
-unfoldable pub IsServed : {T U F : Type 0} → (old new : Kept T U F) → (publisher : ℕ) → Subscriber → List T → Type 0
+unfoldable pub IsServed : {T U F G : Type 0} → (old new : Kept T U F G) → (publisher : ℕ) → Subscriber → List T → Type 0
 IsServed old new publisher subscriber values =
     ((payloads_from new publisher subscriber ≡ payloads_from old publisher subscriber ++ values ∷ []) × (waiting new subscriber ≡ suc (waiting old subscriber)))
     ⊎ ((0 < length (payloads_from old publisher subscriber))
@@ -253,20 +261,20 @@ IsServed old new publisher subscriber values =
     × (waiting new subscriber ≡ waiting old subscriber))
 
 -- Each other subscriber that was up to date is.
-abbrev pub OthersStayUpToDate : {T U F : Type 0} → Subscriber → (old new : Kept T U F) → Type 0
+abbrev pub OthersStayUpToDate : {T U F G : Type 0} → Subscriber → (old new : Kept T U F G) → Type 0
 OthersStayUpToDate subscriber old new = (other : Subscriber) → other.id ≢ subscriber.id → IsUpToDate old other → IsUpToDate new other
 
 -- For every other subscriber the same messages wait as before.
-abbrev pub OthersWait : {T U F : Type 0} → Subscriber → (old new : Kept T U F) → Type 0
+abbrev pub OthersWait : {T U F G : Type 0} → Subscriber → (old new : Kept T U F G) → Type 0
 OthersWait subscriber old new = (other : Subscriber) → other.id ≢ subscriber.id → payloads new other ≡ payloads old other
 
 -- The sample is the oldest that waited from its publisher, and the others of that publisher wait still.
-abbrev pub TakesOldest : {T U F : Type 0} → Subscriber → Sample → (old new : Kept T U F) → Type 0
+abbrev pub TakesOldest : {T U F G : Type 0} → Subscriber → Sample → (old new : Kept T U F G) → Type 0
 TakesOldest {T} subscriber sample old new =
     (values : List T) × (payloads_from old sample.origin subscriber ≡ values ∷ payloads_from new sample.origin subscriber) × SampleHasValues new (sample_key sample) values
 
 -- For no subscriber more than so many messages are added to what waits.
-abbrev pub AddAtMost : {T U F : Type 0} → (more : ℕ) → (old new : Kept T U F) → Type 0
+abbrev pub AddAtMost : {T U F G : Type 0} → (more : ℕ) → (old new : Kept T U F G) → Type 0
 AddAtMost more old new = (subscriber : Subscriber) → waiting new subscriber ≤ waiting old subscriber + more
 
 -- Each of the payloads has these values.
@@ -363,16 +371,18 @@ AreApart first (A_sent_copy publisher true) = IsOtherBlocked first publisher
 AreApart first (A_sent_copy publisher false) = Unit {0}
 AreApart first (Both second third) = AreApart first second × AreApart first third
 
-module _ {T U F : Type 0} where
+module _ {T U F G : Type 0} where
   -- The settings stay, and each port, loan, sample and blocked send that was live is live and reads as it did, but for the
   -- item that was spent. A publisher none of whose sends is blocked, or ever is, stays so, and one that no handler fails; and each
-  -- keeps its box.
-  pub record StaysBut (spent : Item) (old new : Kept T U F) : Type 0 where
+  -- port keeps its boxes.
+  pub record StaysBut (spent : Item) (old new : Kept T U F G) : Type 0 where
     pub settings : new.config ≡ old.config
     pub single_valued : IsSingleValued old → IsSingleValued new
     pub sliced : IsSliced old → IsSliced new
     pub publishers : (key : Key) → IsPublisherKey old key → IsOtherPublisher spent key.port → IsPublisherKey new key
     pub boxes : (key : Key) → IsPublisherKey old key → IsOtherPublisher spent key.port → handler_box new key.port ≡ handler_box old key.port
+    pub degradation_boxes : (key : Key) → IsPublisherKey old key → IsOtherPublisher spent key.port → degradation_box new key.port ≡ degradation_box old key.port
+    pub subscriber_boxes : (key : Key) → IsSubscriberKey old key → IsOtherSubscriber spent key.port → subscriber_box new key.port ≡ subscriber_box old key.port
     pub subscribers : (key : Key) → IsSubscriberKey old key → IsOtherSubscriber spent key.port → IsSubscriberKey new key
     pub loans : (key : Key) → IsLoanKey old key → IsOtherLoan spent key.message → IsLoanKey new key
     pub unwritten_loans : (loan : SampleMutUninit) → IsUnwritten old loan → IsOtherLoan spent loan.loan.number → IsUnwritten new loan
@@ -395,12 +405,12 @@ module _ {T U F : Type 0} where
         → IsOtherSample spent key.port key.message → SampleHasUserHeader new key header
 
   -- The settings stay, and each port, loan, sample and blocked send that was live is live and reads as it did.
-  abbrev pub Stays : (old new : Kept T U F) → Type 0
+  abbrev pub Stays : (old new : Kept T U F G) → Type 0
   Stays old new = StaysBut No_item old new
 
   -- The item is none of the ports, loans, samples and blocked sends that were live, nor a publisher that waited for nobody, nor a send
   -- of one.
-  pub record IsNewIn (old : Kept T U F) (made : Item) : Type 0 where
+  pub record IsNewIn (old : Kept T U F G) (made : Item) : Type 0 where
     pub publishers : (key : Key) → IsPublisherKey old key → IsOtherPublisher made key.port
     pub subscribers : (key : Key) → IsSubscriberKey old key → IsOtherSubscriber made key.port
     pub loans : (key : Key) → IsLoanKey old key → IsOtherLoan made key.message

@@ -6,7 +6,7 @@ use Rattle.iox2_domain.specs.Kept.{Kept}
 use Rattle.iox2_pubsub.specs.ChangedLoans.{with_cell, with_payload, with_cells, with_payloads, with_user_header}
 use Rattle.iox2_pubsub.specs.contracts.domain.Domain.{the_row}
 
-module _ (T U F G : RattleType) (domain : MutBor (Kept T.Denot U.Denot F.Denot)) (number : ℕ) where
+module _ (T U F G : RattleType) (domain : MutBor (Kept T.Denot U.Denot F.Denot G.Denot)) (number : ℕ) where
   -- It ends with the loan's single cell as it was left. Nothing else changes.
   abbrev pub LendsCell : MutBor (Option T.Denot) → Fml
   LendsCell lent = Lends (the_row T U F G) (option_row T) domain lent (with_cell domain.now number)

@@ -13,35 +13,35 @@ module _ {T U : Type 0} where
   abbrev pub LendsUpTo : State T U → (p longest : ℕ) → Type 0
   LendsUpTo s p longest = (x : MachinePublisher) × (s.publishers p ≡ Some x) × (x.initial_max_slice_len ≡ longest)
 
-module _ {T U F : Type 0} where
+module _ {T U F G : Type 0} where
   -- The publisher wasn't closed, lends slices of up to as many elements as its handle says, and can't be refused n loans more
   -- for want of a slot or for its limit of loans.
-  unfoldable pub HasLoansLeft : Kept T U F → Publisher → (n : ℕ) → Type 0
+  unfoldable pub HasLoansLeft : Kept T U F G → Publisher → (n : ℕ) → Type 0
   HasLoansLeft domain publisher n = CanLend (state_of domain) publisher.id n × LendsUpTo (state_of domain) publisher.id publisher.initial_max_slice_len
 
   -- The domain has numbers for at least n messages more.
-  unfoldable pub HasNumbersLeft : Kept T U F → (n : ℕ) → Type 0
+  unfoldable pub HasNumbersLeft : Kept T U F G → (n : ℕ) → Type 0
   HasNumbersLeft domain n = domain.next_message + n ≤ last_number
 
   -- As many numbers are left as before.
-  abbrev pub NumbersLeftStay : (old new : Kept T U F) → Type 0
+  abbrev pub NumbersLeftStay : (old new : Kept T U F G) → Type 0
   NumbersLeftStay old new = (n : ℕ) → HasNumbersLeft old n → HasNumbersLeft new n
 
   -- Each publisher has as many loans left as before, and so has the domain numbers.
-  pub record LoansLeftStay (old new : Kept T U F) : Type 0 where
+  pub record LoansLeftStay (old new : Kept T U F G) : Type 0 where
     pub loans : (publisher : Publisher) (n : ℕ) → HasLoansLeft old publisher n → HasLoansLeft new publisher n
     pub numbers : NumbersLeftStay old new
 
   -- Each other publisher has as many loans left as before.
-  abbrev pub OthersLoansLeftStay : Publisher → (old new : Kept T U F) → Type 0
+  abbrev pub OthersLoansLeftStay : Publisher → (old new : Kept T U F G) → Type 0
   OthersLoansLeftStay publisher old new = (other : Publisher) (n : ℕ) → other.id ≢ publisher.id → HasLoansLeft old other n → HasLoansLeft new other n
 
   -- The publisher with this id, where it wasn't closed, has one loan more left than before.
-  abbrev pub HasOneMoreLeft : (id : ℕ) → (old new : Kept T U F) → Type 0
+  abbrev pub HasOneMoreLeft : (id : ℕ) → (old new : Kept T U F G) → Type 0
   HasOneMoreLeft id old new = (publisher : Publisher) (n : ℕ) → publisher.id ≡ id → HasLoansLeft old publisher n → HasLoansLeft new publisher (n + 1)
 
   -- The publisher has one loan fewer left than before, and the domain one number fewer; other publishers have as many.
-  pub record TakesOneLeft (publisher : Publisher) (old new : Kept T U F) : Type 0 where
+  pub record TakesOneLeft (publisher : Publisher) (old new : Kept T U F G) : Type 0 where
     pub loans : (n : ℕ) → HasLoansLeft old publisher (n + 1) → HasLoansLeft new publisher n
     pub others : OthersLoansLeftStay publisher old new
     pub numbers : (n : ℕ) → HasNumbersLeft old (n + 1) → HasNumbersLeft new n

@@ -70,7 +70,7 @@ messages_after m n l (Err error) = m
 abbrev pub IsOfHandler : SendError → Type 0
 IsOfHandler error = (error ≡ UnableToDeliver) ⊎ ((failure : ConnectionFailure) × (error ≡ ConnectionError failure))
 
-module _ {T U F : Type 0} (domain : Kept T U F) where
+module _ {T U F G : Type 0} (domain : Kept T U F G) where
   -- Why a send of the loan with this key fails: its publisher is gone, or a handler of it fails the send.
   unfoldable pub FailsSend : Key → SendError → Type 0
   FailsSend key error =

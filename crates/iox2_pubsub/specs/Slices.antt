@@ -8,7 +8,7 @@ use Rattle.iox2_store.specs.declared.key.Key.{Key}
 use Rattle.iox2_domain.specs.Kept.{Kept, state_of, entries_of}
 use Rattle.iox2_domain.specs.LoanCalls.{HasCells}
 
-module _ {T U F : Type 0} (domain : Kept T U F) where
+module _ {T U F G : Type 0} (domain : Kept T U F G) where
   -- In the domain a message isn't a single value of one unit, so that its payload is handed out as a slice.
   unfoldable pub IsSliced : Type 0
   IsSliced = is_single_valued domain.config ≡ false

@@ -18,18 +18,20 @@ use iox2_store::{
     BackpressureFn, DegradationFn, DomainCreateError, ServiceConfig, TypeVariant, Warning,
 };
 use std::alloc::Global;
-use std::marker::{Model, PhantomData};
+use std::marker::Model;
 
 /// A service and all of its ports, whose messages have payloads of `T` and user headers of `U`. Its
-/// publishers may have handlers of `F`, by default boxes. `G` is for handlers of refused
-/// connections; no port has one yet.
+/// ports may have handlers of `F` for full buffers and of `G` for refused connections, by default
+/// boxes.
 ///
 /// This library's own, where iceoryx2 has a `Service` and shared memory.
 #[derive(Drop)]
 pub struct Domain<T, U, F = Box<dyn BackpressureFn>, G = Box<dyn DegradationFn>> {
     pub(crate) state: DomainState<T, U>,
-    pub(crate) boxes: Boxes<F>,
-    degradation: PhantomData<G>,
+    // Those of publishers.
+    pub(crate) boxes: Boxes<F, G>,
+    // Those of subscribers, which have some for refused connections alone.
+    pub(crate) subscriber_boxes: Boxes<F, G>,
 }
 
 impl<T, U, F, G> Model for Domain<T, U, F, G> {
@@ -37,9 +39,9 @@ impl<T, U, F, G> Model for Domain<T, U, F, G> {
     ghost use Rattle.iox2_domain.specs.Fields.{keeping};
     ghost use Rattle.iox2_domain.specs.Invariant.{IsDomain};
 
-    ghost Value = { Kept T U F };
+    ghost Value = { Kept T U F G };
 
-    ghost view = { λ domain. keeping (domain.boxes).boxes domain.state };
+    ghost view = { λ domain. keeping (record { publishers = (domain.boxes).boxes; subscribers = (domain.subscriber_boxes).boxes }) domain.state };
 
     ghost invariant = { λ domain. IsDomain domain.state };
 }
@@ -78,7 +80,7 @@ impl<T: Drop, U: Default + Drop, F: BackpressureFn, G: DegradationFn> Domain<T, 
         Ok(Domain {
             state,
             boxes: Boxes::new(alloc),
-            degradation: PhantomData,
+            subscriber_boxes: Boxes::new(alloc),
         })
     }
 

@@ -3,8 +3,8 @@
 
 mod blocked_send;
 mod custom_markers;
-mod degradation_handler;
 mod domain;
+mod parts;
 mod port_factory;
 mod publisher;
 mod sample;
@@ -18,16 +18,16 @@ mod update_connections;
 pub use blocked_send::BlockedSend;
 pub use circular_buffer::HeapCircularBuffer;
 pub use custom_markers::{CustomHeaderMarker, CustomPayloadMarker};
-pub use degradation_handler::DegradationHandler;
 pub use domain::Domain;
 pub use iox2_store::{
     AllocationStrategy, BackpressureAction, BackpressureFn, BackpressureHandler, BackpressureInfo,
     BackpressureStrategy, ConnectionFailure, DegradationAction, DegradationCause, DegradationFn,
-    DegradationInfo, DomainCreateError, Header, Key, LoanError, PublisherCreateError, ReceiveError,
+    DegradationHandler, DegradationInfo, DomainCreateError, Header, Key, LoanError, PublisherCreateError, ReceiveError,
     SendError, ServiceConfig, SharedMemoryOpenError, SubscriberCreateError, TypeVariant,
     UniqueNodeId, UniquePublisherId, UniqueSubscriberId, Warning, ZeroCopyCreationError,
     worst_case_slots,
 };
+pub use parts::{LoanParts, PublisherParts, SampleParts, SubscriberParts};
 pub use port_factory::preallocation::{NoOverride, PreallocatedSamplesOverride};
 pub use port_factory::publisher::PortFactoryPublisher;
 pub use port_factory::subscriber::PortFactorySubscriber;

@@ -1,5 +1,6 @@
 //! Factories of ports.
 
+pub mod degradations;
 pub mod preallocation;
 pub mod publisher;
 pub mod subscriber;

@@ -20,16 +20,17 @@ pub trait UpdateConnections<T: Drop, U: Default + Drop, F: BackpressureFn, G: De
     ghost use Rattle.iox2_pubsub.specs.UpdateCalls.{failure_of};
 
     // The port is one of the domain's, wasn't closed, and no send of it is blocked.
-    ghost is_live: { Kept T U F → Self → Type 0 };
+    ghost is_live: { Kept T U F G → Self → Type 0 };
 
-    // The machine's update of the port, with this failure if any.
-    ghost updates: { State T U → Self → State T U → Option ConnectionFailure → Type 0 };
+    // The machine's update of the port, where the boxes answer that the domain keeps, with this
+    // failure if any.
+    ghost updates: { Kept T U F G → State T U → Self → State T U → Option ConnectionFailure → Type 0 };
 
     // What an update that didn't fail leaves true of the port.
-    ghost is_updated: { Kept T U F → Self → Type 0 };
+    ghost is_updated: { Kept T U F G → Self → Type 0 };
 
     // How many messages more may wait for a subscriber afterwards.
-    ghost adds: { Kept T U F → ℕ };
+    ghost adds: { Kept T U F G → ℕ };
 
     /// Makes the port's connections with the ports of the other side that came since its last
     /// update. Where none came it does nothing.
@@ -43,7 +44,7 @@ pub trait UpdateConnections<T: Drop, U: Default + Drop, F: BackpressureFn, G: De
         requires live { is_live domain.old self.now }
         ensures live { is_live domain.new self.now }
         ensures updates { (m : Messages T U) (s : State T U) → Shows domain.old m s
-            → (s' : State T U) × Shows domain.new m s' × updates s self.now s' (failure_of result) }
+            → (s' : State T U) × Shows domain.new m s' × updates domain.old s self.now s' (failure_of result) }
         ensures adds { AddAtMost (adds domain.old) domain.old domain.new }
         ensures updated { OnOk result (is_updated domain.new self.now) }
         ensures up_to_date { UpToDateStay domain.old domain.new }
@@ -51,7 +52,7 @@ pub trait UpdateConnections<T: Drop, U: Default + Drop, F: BackpressureFn, G: De
         ensures stays { Stays domain.old domain.new };
 
     // A port that is live stays so where everything does.
-    ghost live_stays: { (old new : Kept T U F) (port : Self) → Stays old new → is_live old port → is_live new port };
+    ghost live_stays: { (old new : Kept T U F G) (port : Self) → Stays old new → is_live old port → is_live new port };
 }
 
 /// What an update with this failure, if any, returns.

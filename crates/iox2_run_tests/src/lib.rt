@@ -11,6 +11,8 @@ mod commands;
 #[cfg(test)]
 mod comparisons;
 #[cfg(test)]
+mod degradations;
+#[cfg(test)]
 mod handlers;
 #[cfg(test)]
 mod laws;

@@ -2,11 +2,10 @@
 use Rattle.std.proofs.Common.{◌≡◌, ◌∙◌, ◌⊎◌, inl, inr, ℕ, Bool, true, false, ◌&&◌, ◌==◌, refl, ap, subst, Option, None, Some, Result, Ok, Err}
 use Rattle.std.specs.Bool.{MatchBool}
 use Rattle.std.specs.Prelude.{MatchOption, MatchResult}
-use Rattle.iox2_store.specs.machine.Environments.{fixed_handlers}
 use Rattle.iox2_store.specs.machine.Limits.{fits, last_number, segment_fits, worst_case}
 use Rattle.iox2_store.specs.machine.Places.{free_place}
 use Rattle.iox2_store.specs.machine.Ports.{CreatePublisher, MakePublisher, slots_for}
-use Rattle.iox2_store.specs.machine.Records.{PublisherSettings}
+use Rattle.iox2_store.specs.machine.Records.{Environment, PublisherSettings}
 use Rattle.iox2_store.specs.machine.State.{State}
 use Rattle.iox2_store.specs.declared.errors.PublisherCreateError.{PublisherCreateError}
 use Rattle.iox2_store.specs.declared.errors.PublisherCreateError.TheVariants.{UnableToCreatePortTag, ExceedsMaxSupportedPublishers, UnableToCreateDataSegment}
@@ -27,10 +26,10 @@ unfit-as : (a fit rest rest' : Bool) (b : Option ℕ) (X Y Z : Type 0) (M M' : �
     → MatchBool a X (MatchOption b Y (λ place. MatchBool (fit && rest) (M place) Z)) → MatchBool a X (MatchOption b Y (λ place. MatchBool (fit && rest') (M' place) Z))
 unfit-as a fit rest rest' b X Y Z M M' e h = rw e (subst (λ (f : Bool). MatchBool a X (MatchOption b Y (λ place. MatchBool (f && rest) (M place) Z))) e h)
 
-module _ {T U : Type 0} (s : State T U) (given : PublisherSettings) (s' : State T U) where
+module _ {T U : Type 0} (environment : Environment) (s : State T U) (given : PublisherSettings) (s' : State T U) where
   -- the publisher is made with so many slots asked for, or refused
   abbrev Creates : Option ℕ → Option PublisherCreateError → Type 0
-  Creates asked refusal = CreatePublisher fixed_handlers s (with_slots given asked) s' refusal
+  Creates asked refusal = CreatePublisher environment s (with_slots given asked) s' refusal
 
   -- where the worst case doesn't fit, the number that is asked for doesn't count
   unfit-asked : (refusal : Option PublisherCreateError) (was asked : Option ℕ) → fits (worst_case s.config given.max_loaned_samples) ≡ false → Creates was refusal → Creates asked refusal
@@ -40,7 +39,7 @@ module _ {T U : Type 0} (s : State T U) (given : PublisherSettings) (s' : State 
       (segment_fits s.config (slots_for s.config (with_slots given asked)) given.initial_max_slice_len)
       (free_place (s.config).max_publishers s.publisher_places)
       ((s' ≡ s) × (refusal ≡ Some UnableToCreatePortTag)) ((s' ≡ s) × (refusal ≡ Some ExceedsMaxSupportedPublishers)) ((s' ≡ s) × (refusal ≡ Some UnableToCreateDataSegment))
-      (λ place. MakePublisher fixed_handlers s (with_slots given was) place s' refusal) (λ place. MakePublisher fixed_handlers s (with_slots given asked) place s' refusal)
+      (λ place. MakePublisher environment s (with_slots given was) place s' refusal) (λ place. MakePublisher environment s (with_slots given asked) place s' refusal)
       unfit h
 
   -- what is asked for is the number, or the worst case doesn't fit

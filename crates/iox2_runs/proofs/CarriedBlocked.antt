@@ -49,7 +49,7 @@ each_blocked P Q maps (Ok (IsBlocked blocked)) is = maps blocked is
 each_blocked P Q maps (Err error) is = tt
 
 -- a blocked send of a publisher without a box has its entry
-pub blocked_entry : {T U F : Type 0} (new : Domain T U F) (m : Messages T U) (s : State T U) → Shows new m s → (blocked : BlockedSend) → IsBlockedSend new blocked
+pub blocked_entry : {T U F G : Type 0} (new : Domain T U F G) (m : Messages T U) (s : State T U) → Shows new m s → (blocked : BlockedSend) → IsBlockedSend new blocked
     → (key : Key) → blocked_key blocked ≡ key → HasNoBox s key.port → IsEntryOf s (Blocked_handle key.port key.message) (entry_for (Blocked blocked))
 blocked_entry {T} {U} new m s shown blocked waits key is unboxed =
     let parts = blocked-parts new (blocked_key blocked) waits in (
@@ -107,7 +107,7 @@ give_up_goes environment of = record {
   frees = λ s p b s' result ended goes. give_up_frees fixed_handlers s p b s' result ended goes;
 }
 
-module _ {T U F : Type 0} (defaults : Defaults T U) (old new : Domain T U F) (table table' : List Made) (of : ℕ) (command : Command T U) (on : GoesOn T U command of) where
+module _ {T U F G : Type 0} (defaults : Defaults T U) (old new : Domain T U F G) (table table' : List Made) (of : ℕ) (command : Command T U) (on : GoesOn T U command of) where
   -- there is no such send
   pub goes_on_passed : is_blocked_entry (entry_for (slice_index_or table of Nothing)) ≡ false → old ≡ new → table' ≡ table
       → Carries fixed_handlers defaults old new table command Skipped table' Nothing
@@ -115,7 +115,7 @@ module _ {T U F : Type 0} (defaults : Defaults T U) (old new : Domain T U F) (ta
       subst (λ (t : List Made). Comes fixed_handlers defaults (Shows new) m s handles events command Skipped (map entry_for t ++ No_entry ∷ [])) (sym is)
       (skip_comes fixed_handlers defaults (Shows new) m s handles events (map entry_for table) w default_value default_header is_value is_header command
       (on.skips default_value default_header m s handles (lacks_blocked s handles events (map entry_for table) w of (lacks is_blocked_entry refl table of other)))
-      (subst (λ (d : Domain T U F). Shows d m s) same shown))
+      (subst (λ (d : Domain T U F G). Shows d m s) same shown))
 
   -- it goes on, and comes out so
   pub goes_on_carried : (h : BlockedSend) (outcome : Result SendOutcome SendError) → slice_index_or table of Nothing ≡ Blocked h

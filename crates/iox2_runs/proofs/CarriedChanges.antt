@@ -33,7 +33,7 @@ use Rattle.iox2_runs.proofs.TableEntries.{entries-set, entry-stands, lacks, set_
 use Rattle.iox2_runs.proofs.TableLooks.{handle_of, is_loan_entry, is_unwritten_entry, is_written_entry, has_unwritten, has_written, lacks_loan, lacks_unwritten, lacks_written}
 use Rattle.iox2_runs.proofs.TableSteps.{Nobody}
 
-module _ {T U F : Type 0} (defaults : Defaults T U) (old new : Domain T U F) (table table' : List Made) (of : ℕ) where
+module _ {T U F G : Type 0} (defaults : Defaults T U) (old new : Domain T U F G) (table table' : List Made) (of : ℕ) where
   -- the loan, where it has a cell at the index
   abbrev if_there : ℕ × Loan T U → Bool → Option (ℕ × Loan T U)
   if_there it is_there = cond is_there (Some it) None

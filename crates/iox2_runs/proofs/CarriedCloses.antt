@@ -43,7 +43,7 @@ publisher-leaves {T} {U} s p x free =
       publishers = others;
       subscribers = λ q y other there is_open. let v = publisher_closed_subscribers s p x q y there in (v.0, v.1, v.2 ∙ is_open);
       next_port = come.next_port;
-      came = λ i z low there. let was = waits.publishers i z low there in (was.0, was.1, (was.2).handler);
+      came = λ i z low there. let was = waits.publishers i z low there in (was.0, was.1, (was.2).handler, (was.2).degradation);
       opened = come.subscribers;
       blocked = λ i n other low. (
         λ has. elim (cases_eq i p) [
@@ -66,7 +66,7 @@ subscriber-leaves s q y =
       publishers = λ p x other there. let v = subscriber_closed_publishers s q y p x there in (v.0, v.1);
       subscribers = λ i z other there is_open. (z, subscriber_closed_others s q y i (λ e. other (ap Subscriber_handle e)) ∙ there, is_open);
       next_port = come.next_port;
-      came = λ p x' low there. let was = waits.publishers p x' low there in (was.0, was.1, (was.2).handler);
+      came = λ p x' low there. let was = waits.publishers p x' low there in (was.0, was.1, (was.2).handler, (was.2).degradation);
       opened = come.subscribers;
       blocked = λ p n other low. waits_still Nobody s (subscriber_closed s q y) waits
           (λ i x there. let v = subscriber_closed_publishers s q y i x there in (v.0, v.1)) p n (λ nobody. nobody) low;
@@ -100,7 +100,7 @@ module _ {T U : Type 0} (environment : Environment) (defaults : Defaults T U) (S
 
 -- ---- what the function of the command ensures
 
-module _ {T U F : Type 0} (environment : Environment) (defaults : Defaults T U) (old new : Domain T U F) (table table' : List Made) (of : ℕ) where
+module _ {T U F G : Type 0} (environment : Environment) (defaults : Defaults T U) (old new : Domain T U F G) (table table' : List Made) (of : ℕ) where
   -- there is no such port
   pub close_passed : is_publisher_entry (entry_for (slice_index_or table of Nothing)) ≡ false → is_subscriber_entry (entry_for (slice_index_or table of Nothing)) ≡ false
       → old ≡ new → table' ≡ table → Carries environment defaults old new table (Close of) Skipped table' Nothing
@@ -109,7 +109,7 @@ module _ {T U F : Type 0} (environment : Environment) (defaults : Defaults T U) 
       (skip_comes environment defaults (Shows new) m s handles events (map entry_for table) w default_value default_header is_value is_header (Close of)
       (at_none _ _ _ (lacks_publisher s handles events (map entry_for table) w of (lacks is_publisher_entry refl table of no_publisher))
       (at_none _ _ _ (lacks_subscriber s handles events (map entry_for table) w of (lacks is_subscriber_entry refl table of no_subscriber)) refl))
-      (subst (λ (d : Domain T U F). Shows d m s) same shown))
+      (subst (λ (d : Domain T U F G). Shows d m s) same shown))
 
   -- the table afterwards
   after : table' ≡ slice_set table of Nothing → map entry_for table' ≡ slice_set (map entry_for table) of No_entry
@@ -138,7 +138,7 @@ module _ {T U F : Type 0} (environment : Environment) (defaults : Defaults T U) 
       (skip_comes environment defaults (Shows new) m s handles events (map entry_for table) w default_value default_header is_value is_header (Close of)
       (at_none _ _ _ (waiting_publisher s handles events (map entry_for table) w of h.service_id h.id stand (waits m s shown))
       (at_none _ _ _ (lacks_subscriber s handles events (map entry_for table) w of (lacks is_subscriber_entry refl table of (ap (λ (v : Made). is_subscriber_entry (entry_for v)) at))) refl))
-      (subst (λ (d : Domain T U F). Shows d m s) same shown))
+      (subst (λ (d : Domain T U F G). Shows d m s) same shown))
 
   -- a subscriber is closed
   pub subscriber_close_carried : (h : SubscriberHandle) → slice_index_or table of Nothing ≡ MadeSubscriber h

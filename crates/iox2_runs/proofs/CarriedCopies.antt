@@ -18,7 +18,6 @@ use Rattle.iox2_store.specs.declared.errors.SendError.{SendError}
 use Rattle.iox2_store.specs.declared.errors.SendError.TheVariants.{ConnectionError, UnableToDeliver}
 use Rattle.iox2_domain.specs.Kept.{Kept as Domain}
 use Rattle.iox2_domain.specs.Shows.{Shows}
-use Rattle.iox2_steps.proofs.updates.AnyBoxes.{AllowsUpdates}
 use Rattle.iox2_store.specs.declared.key.Key.{Key}
 use Rattle.iox2_pubsub.specs.Live.{IsBlockedSend, blocked_key, lender_key, publisher_key}
 use Rattle.iox2_pubsub.proofs.LiveParts.{blocked-parts}
@@ -50,7 +49,7 @@ use Rattle.iox2_runs.proofs.TableLooks.{is_publisher_entry, handle_of, publisher
 
 -- ---- what comes of a copy
 
-module _ {T U F : Type 0} (environment : Environment) (updates : AllowsUpdates environment fixed_handlers) (defaults : Defaults T U) (new : Domain T U F) (table : List Made) (of : ℕ) (h : PublisherHandle) (value : T) (m : Messages T U) (s : State T U) (handles : List Handle) (events : List (Event T U)) (w : IsTable s handles events (map entry_for table)) (default_value : T) (default_header : U)
+module _ {T U F G : Type 0} (environment : Environment) (defaults : Defaults T U) (new : Domain T U F G) (table : List Made) (of : ℕ) (h : PublisherHandle) (value : T) (m : Messages T U) (s : State T U) (handles : List Handle) (events : List (Event T U)) (w : IsTable s handles events (map entry_for table)) (default_value : T) (default_header : U)
     (is_value : defaults.IsDefaultValue default_value) (is_header : defaults.IsDefaultHeader default_header)
     (stand : slice_get (map entry_for table) of ≡ Some (Publisher_entry h.service_id h.id)) (unblocked : IsUnblocked s h.id) (alone : is_single_valued s.config ≡ true)
     (header : U) (is_default : defaults.IsDefaultHeader header) (mid : State T U) (grants : GrantWrittenLoan fixed_handlers value header false 1 s h.id mid None)
@@ -72,7 +71,7 @@ module _ {T U F : Type 0} (environment : Environment) (updates : AllowsUpdates e
 
   -- so the loan is sent where no port has a box
   fixed : (s' : State T U) (result : SendResult) → Send environment mid s.next_message l s' result → Send fixed_handlers mid s.next_message l s' result
-  fixed s' result sends = sends_fixed environment updates mid s.next_message l s' result lender-unboxed.0 lender-unboxed.1 sends
+  fixed s' result sends = sends_fixed environment mid s.next_message l s' result lender-unboxed.0 lender-unboxed.1 sends
 
   -- and the publisher has none afterwards
   still-unboxed : (s' : State T U) (result : SendResult) → Send fixed_handlers mid s.next_message l s' result → HasNoBox s' h.id
@@ -119,24 +118,24 @@ module _ {T U F : Type 0} (environment : Environment) (updates : AllowsUpdates e
       header is_default mid grants l out s' (Send_error (ConnectionError failure)) (fixed s' (Send_error (ConnectionError failure)) sends) (SendRefused (ConnectionError failure)) No_handle No_event No_entry refl refl
       (λ k e. let clash : No_handle ≡ Loan_handle k = e in absurd cc) (λ p q k e. let clash : No_handle ≡ Sample_handle p q k = e in absurd cc) (λ p k e. let clash : No_handle ≡ Blocked_handle p k = e in absurd cc) shown tt
 
-module _ {T U F : Type 0} (defaults : Defaults T U) (old new : Domain T U F) (table : List Made) (of : ℕ) where
+module _ {T U F G : Type 0} (defaults : Defaults T U) (old new : Domain T U F G) (table : List Made) (of : ℕ) where
   -- ---- a default value
 
   pub default_passed : is_publisher_entry (entry_for (slice_index_or table of Nothing)) ≡ false → old ≡ new → Carries fixed_handlers defaults old new table (LoanDefault of) Skipped table Nothing
   default_passed other same = λ m s handles events shown w default_value default_header is_value is_header.
       default_skipped fixed_handlers defaults (Shows new) m s handles events (map entry_for table) w default_value default_header is_value is_header of
-      (lacks is_publisher_entry refl table of other) (subst (λ (d : Domain T U F). Shows d m s) same shown)
+      (lacks is_publisher_entry refl table of other) (subst (λ (d : Domain T U F G). Shows d m s) same shown)
 
   -- the publisher waits for a receiver
   pub default_held_up : (h : PublisherHandle) → slice_index_or table of Nothing ≡ MadePublisher h → ((m : Messages T U) (s : State T U) → Shows old m s → IsUnblocked s h.id → ⊥) → old ≡ new → Carries fixed_handlers defaults old new table (LoanDefault of) Skipped table Nothing
   default_held_up h at waits same = λ m s handles events shown w default_value default_header is_value is_header.
       default_waiting fixed_handlers defaults (Shows new) m s handles events (map entry_for table) w default_value default_header is_value is_header of h.service_id h.id
-      (entry-stands table of (MadePublisher h) at (λ e. let clash : MadePublisher h ≡ Nothing = e in cc)) (waits m s shown) (subst (λ (d : Domain T U F). Shows d m s) same shown)
+      (entry-stands table of (MadePublisher h) at (λ e. let clash : MadePublisher h ≡ Nothing = e in cc)) (waits m s shown) (subst (λ (d : Domain T U F G). Shows d m s) same shown)
 
   pub default_of_other : is_single_valued old.config ≡ false → old ≡ new → Carries fixed_handlers defaults old new table (LoanDefault of) Skipped table Nothing
   default_of_other other same = λ m s handles events shown w default_value default_header is_value is_header.
       default_elsewhere fixed_handlers defaults (Shows new) m s handles events (map entry_for table) w default_value default_header is_value is_header of
-      (ap (λ (t : State T U). is_single_valued t.config) shown.state ∙ other) (subst (λ (d : Domain T U F). Shows d m s) same shown)
+      (ap (λ (t : State T U). is_single_valued t.config) shown.state ∙ other) (subst (λ (d : Domain T U F G). Shows d m s) same shown)
 
   pub default_carried : (h : PublisherHandle) (h' : SampleMut) → slice_index_or table of Nothing ≡ MadePublisher h → ((m : Messages T U) (s : State T U) → Shows old m s → IsUnblocked s h.id)
       → is_single_valued old.config ≡ true
@@ -171,21 +170,21 @@ module _ {T U F : Type 0} (defaults : Defaults T U) (old new : Domain T U F) (ta
   pub copy_passed : (value : T) → is_publisher_entry (entry_for (slice_index_or table of Nothing)) ≡ false → old ≡ new → Carries fixed_handlers defaults old new table (SendCopy of value) Skipped table Nothing
   copy_passed value other same = λ m s handles events shown w default_value default_header is_value is_header.
       copy_skipped fixed_handlers defaults (Shows new) m s handles events (map entry_for table) w default_value default_header is_value is_header of value
-      (lacks is_publisher_entry refl table of other) (subst (λ (d : Domain T U F). Shows d m s) same shown)
+      (lacks is_publisher_entry refl table of other) (subst (λ (d : Domain T U F G). Shows d m s) same shown)
 
   pub copy_of_other : (value : T) → is_single_valued old.config ≡ false → old ≡ new → Carries fixed_handlers defaults old new table (SendCopy of value) Skipped table Nothing
   copy_of_other value other same = λ m s handles events shown w default_value default_header is_value is_header.
       copy_elsewhere fixed_handlers defaults (Shows new) m s handles events (map entry_for table) w default_value default_header is_value is_header of value
-      (ap (λ (t : State T U). is_single_valued t.config) shown.state ∙ other) (subst (λ (d : Domain T U F). Shows d m s) same shown)
+      (ap (λ (t : State T U). is_single_valued t.config) shown.state ∙ other) (subst (λ (d : Domain T U F G). Shows d m s) same shown)
 
   -- the publisher waits for a receiver
   pub copy_held_up : (value : T) (h : PublisherHandle) → slice_index_or table of Nothing ≡ MadePublisher h → ((m : Messages T U) (s : State T U) → Shows old m s → IsUnblocked s h.id → ⊥) → old ≡ new
       → Carries fixed_handlers defaults old new table (SendCopy of value) Skipped table Nothing
   copy_held_up value h at waits same = λ m s handles events shown w default_value default_header is_value is_header.
       copy_waiting fixed_handlers defaults (Shows new) m s handles events (map entry_for table) w default_value default_header is_value is_header of h.service_id h.id value
-      (entry-stands table of (MadePublisher h) at (λ e. let clash : MadePublisher h ≡ Nothing = e in cc)) (waits m s shown) (subst (λ (d : Domain T U F). Shows d m s) same shown)
+      (entry-stands table of (MadePublisher h) at (λ e. let clash : MadePublisher h ≡ Nothing = e in cc)) (waits m s shown) (subst (λ (d : Domain T U F G). Shows d m s) same shown)
 
-module _ {T U F : Type 0} (environment : Environment) (updates : AllowsUpdates environment fixed_handlers) (defaults : Defaults T U) (old new : Domain T U F) (table : List Made) (of : ℕ) where
+module _ {T U F G : Type 0} (environment : Environment) (defaults : Defaults T U) (old new : Domain T U F G) (table : List Made) (of : ℕ) where
   -- the copy is sent: to all receivers, or it waits for one
   pub copy_carried : (h : PublisherHandle) (value : T) (outcome : SendOutcome) → slice_index_or table of Nothing ≡ MadePublisher h → ((m : Messages T U) (s : State T U) → Shows old m s → IsUnblocked s h.id)
       → is_single_valued old.config ≡ true
@@ -195,7 +194,7 @@ module _ {T U F : Type 0} (environment : Environment) (updates : AllowsUpdates e
   copy_carried h value outcome at free single sends blocked = λ m s handles events shown w default_value default_header is_value is_header.
       let sent = sends m s shown in
       let it = sent.3 in
-      copied-by environment updates defaults new table of h value m s handles events w default_value default_header is_value is_header
+      copied-by environment defaults new table of h value m s handles events w default_value default_header is_value is_header
       (entry-stands table of (MadePublisher h) at (λ e. let clash : MadePublisher h ≡ Nothing = e in cc)) (free m s shown) (ap (λ (t : State T U). is_single_valued t.config) shown.state ∙ single)
       it.user_header it.default it.granted (written_any fixed_handlers value it.user_header s h.id it.granted None it.grants) it.loan it.out outcome blocked sent.1 it.sends
       (subst (λ (k : Messages T U). Shows new k sent.1) it.messages sent.2)
@@ -216,13 +215,13 @@ module _ {T U F : Type 0} (environment : Environment) (updates : AllowsUpdates e
             elim failed.0 [
               | inl undelivered ↦
                   subst (λ (e : SendError). Comes fixed_handlers defaults (Shows new) m s handles events (SendCopy of value) (SendRefused e) (map entry_for table ++ No_entry ∷ [])) (sym undelivered)
-                  (copied-failing environment updates defaults new table of h value m s handles events w default_value default_header is_value is_header stand (free m s shown) alone
+                  (copied-failing environment defaults new table of h value m s handles events w default_value default_header is_value is_header stand (free m s shown) alone
                   it.user_header it.default it.granted granted it.loan it.out came.1
                   (subst (λ (e : SendError). Sends environment it.granted s.next_message it.loan (Err e) came.1) undelivered it.sends)
                   (subst (λ (k : Messages T U). Shows new k came.1) (it.messages ∙ ap (λ (e : SendError). messages_after m s.next_message it.loan (Err e)) undelivered) came.2))
               | inr unconnected ↦
                   subst (λ (e : SendError). Comes fixed_handlers defaults (Shows new) m s handles events (SendCopy of value) (SendRefused e) (map entry_for table ++ No_entry ∷ [])) (sym unconnected.1)
-                  (copied-unconnected environment updates defaults new table of h value m s handles events w default_value default_header is_value is_header stand (free m s shown) alone
+                  (copied-unconnected environment defaults new table of h value m s handles events w default_value default_header is_value is_header stand (free m s shown) alone
                   it.user_header it.default it.granted granted it.loan it.out unconnected.0 came.1
                   (subst (λ (e : SendError). Sends environment it.granted s.next_message it.loan (Err e) came.1) unconnected.1 it.sends)
                   (subst (λ (k : Messages T U). Shows new k came.1) (it.messages ∙ ap (λ (e : SendError). messages_after m s.next_message it.loan (Err e)) unconnected.1) came.2))

@@ -32,7 +32,7 @@ use Rattle.iox2_runs.proofs.TableEntries.{entry-stands, lacks}
 use Rattle.iox2_runs.proofs.TableLooks.{is_loan_entry, is_sample_entry, has_sample, has_unwritten, has_written, lacks_loan, lacks_sample}
 use Rattle.iox2_runs.proofs.TableSteps.{Nobody}
 
-module _ {T U F : Type 0} (defaults : Defaults T U) (domain : Domain T U F) (table : List Made) (of : ℕ) where
+module _ {T U F G : Type 0} (defaults : Defaults T U) (domain : Domain T U F G) (table : List Made) (of : ℕ) where
   -- a command that replies, and changes nothing
   quiet : (m : Messages T U) (s : State T U) (handles : List Handle) (events : List (Event T U)) (w : IsTable s handles events (map entry_for table)) (default_value : T) (default_header : U)
       → defaults.IsDefaultValue default_value → defaults.IsDefaultHeader default_header → (command : Command T U) (reply : Reply T U)

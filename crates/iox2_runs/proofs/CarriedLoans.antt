@@ -16,7 +16,6 @@ use Rattle.iox2_laws.proofs.Waits.{send_waits}
 use Rattle.iox2_domain.specs.Kept.{Kept as Domain}
 use Rattle.iox2_store.specs.declared.key.Key.{Key}
 use Rattle.iox2_domain.specs.Shows.{Shows}
-use Rattle.iox2_steps.proofs.updates.AnyBoxes.{AllowsUpdates}
 use Rattle.iox2_pubsub.specs.Live.{IsBlockedSend, blocked_key, written_key}
 use Rattle.iox2_pubsub.specs.SendCalls.{FailsSend, IfBlocked, IsOfHandler, Sends, messages_after, result_of_send}
 use Rattle.iox2_pubsub.specs.declared.publisher.Publisher.{Publisher as PublisherHandle}
@@ -41,7 +40,7 @@ use Rattle.iox2_runs.proofs.TableCalls.{write_comes, write_skipped, send_comes, 
 use Rattle.iox2_runs.proofs.TableMakes.{loan_skipped, loan_waiting, loan_elsewhere, loan_comes, loan_refused_comes, loan_any}
 use Rattle.iox2_runs.proofs.TableEntries.{entries-set, entry-stands, lacks}
 
-module _ {T U F : Type 0} (environment : Environment) (defaults : Defaults T U) (old new : Domain T U F) (table table' : List Made) (of : ℕ) where
+module _ {T U F G : Type 0} (environment : Environment) (defaults : Defaults T U) (old new : Domain T U F G) (table table' : List Made) (of : ℕ) where
   -- a written loan
   pub write_carried : (value : T) (h : SampleMutUninit) (h' : SampleMut) → slice_index_or table of Nothing ≡ Unwritten h
       → ((m : Messages T U) (s : State T U) → Shows old m s → (l : Loan T U) × (s.loans h.loan.number ≡ Some l) × Shows new m (with_loan s h.loan.number (Some (written l value))))
@@ -67,7 +66,7 @@ module _ {T U F : Type 0} (environment : Environment) (defaults : Defaults T U) 
   write_passed value other same is = λ m s handles events shown w default_value default_header is_value is_header.
       subst (λ (t : List Made). Comes environment defaults (Shows new) m s handles events (WriteAll of value) Skipped (map entry_for t ++ No_entry ∷ [])) (sym is)
       (write_skipped environment defaults (Shows new) m s handles events (map entry_for table) w default_value default_header is_value is_header of value
-      (lacks is_unwritten_entry refl table of other) (subst (λ (d : Domain T U F). Shows d m s) same shown))
+      (lacks is_unwritten_entry refl table of other) (subst (λ (d : Domain T U F G). Shows d m s) same shown))
 
   -- ---- a loan
 
@@ -75,12 +74,12 @@ module _ {T U F : Type 0} (environment : Environment) (defaults : Defaults T U) 
   loan_passed is other same = λ m s handles events shown w default_value default_header is_value is_header.
       subst (λ (t : List Made). Comes environment defaults (Shows new) m s handles events (LoanUninit of) Skipped (map entry_for t ++ No_entry ∷ [])) (sym is)
       (loan_skipped environment defaults (Shows new) m s handles events (map entry_for table) w default_value default_header is_value is_header of
-      (lacks is_publisher_entry refl table of other) (subst (λ (d : Domain T U F). Shows d m s) same shown))
+      (lacks is_publisher_entry refl table of other) (subst (λ (d : Domain T U F G). Shows d m s) same shown))
 
   pub loan_of_other : is_single_valued old.config ≡ false → old ≡ new → Carries environment defaults old new table (LoanUninit of) Skipped table Nothing
   loan_of_other other same = λ m s handles events shown w default_value default_header is_value is_header.
       loan_elsewhere environment defaults (Shows new) m s handles events (map entry_for table) w default_value default_header is_value is_header of
-      (ap (λ (t : State T U). is_single_valued t.config) shown.state ∙ other) (subst (λ (d : Domain T U F). Shows d m s) same shown)
+      (ap (λ (t : State T U). is_single_valued t.config) shown.state ∙ other) (subst (λ (d : Domain T U F G). Shows d m s) same shown)
 
   -- the publisher waits for a receiver
   pub loan_held_up : table' ≡ table → (h : PublisherHandle) → slice_index_or table of Nothing ≡ MadePublisher h → ((m : Messages T U) (s : State T U) → Shows old m s → IsUnblocked s h.id → ⊥) → old ≡ new
@@ -88,7 +87,7 @@ module _ {T U F : Type 0} (environment : Environment) (defaults : Defaults T U) 
   loan_held_up is h at waits same = λ m s handles events shown w default_value default_header is_value is_header.
       subst (λ (t : List Made). Comes environment defaults (Shows new) m s handles events (LoanUninit of) Skipped (map entry_for t ++ No_entry ∷ [])) (sym is)
       (loan_waiting environment defaults (Shows new) m s handles events (map entry_for table) w default_value default_header is_value is_header of h.service_id h.id
-      (entry-stands table of (MadePublisher h) at (λ e. let clash : MadePublisher h ≡ Nothing = e in cc)) (waits m s shown) (subst (λ (d : Domain T U F). Shows d m s) same shown))
+      (entry-stands table of (MadePublisher h) at (λ e. let clash : MadePublisher h ≡ Nothing = e in cc)) (waits m s shown) (subst (λ (d : Domain T U F G). Shows d m s) same shown))
 
   pub loan_carried : table' ≡ table → (h : PublisherHandle) (h' : SampleMutUninit) → slice_index_or table of Nothing ≡ MadePublisher h → ((m : Messages T U) (s : State T U) → Shows old m s → IsUnblocked s h.id)
       → is_single_valued old.config ≡ true
@@ -128,7 +127,7 @@ module _ {T U F : Type 0} (environment : Environment) (defaults : Defaults T U) 
   send_passed other same is = λ m s handles events shown w default_value default_header is_value is_header.
       subst (λ (t : List Made). Comes environment defaults (Shows new) m s handles events (SendLoan of) Skipped (map entry_for t ++ No_entry ∷ [])) (sym is)
       (send_skipped environment defaults (Shows new) m s handles events (map entry_for table) w default_value default_header is_value is_header of
-      (lacks is_written_entry refl table of other) (subst (λ (d : Domain T U F). Shows d m s) same shown))
+      (lacks is_written_entry refl table of other) (subst (λ (d : Domain T U F G). Shows d m s) same shown))
 
   -- its publisher waits for a receiver
   pub send_held_up : (h : SampleMut) → slice_index_or table of Nothing ≡ Written h → ((m : Messages T U) (s : State T U) → Shows old m s → IsUnblocked s h.loan.publisher → ⊥) → old ≡ new → table' ≡ table
@@ -136,11 +135,11 @@ module _ {T U F : Type 0} (environment : Environment) (defaults : Defaults T U) 
   send_held_up h at waits same is = λ m s handles events shown w default_value default_header is_value is_header.
       subst (λ (t : List Made). Comes environment defaults (Shows new) m s handles events (SendLoan of) Skipped (map entry_for t ++ No_entry ∷ [])) (sym is)
       (send_waiting environment defaults (Shows new) m s handles events (map entry_for table) w default_value default_header is_value is_header of h.service_id h.loan.publisher h.loan.number
-      (entry-stands table of (Written h) at (λ e. let clash : Written h ≡ Nothing = e in cc)) (waits m s shown) (subst (λ (d : Domain T U F). Shows d m s) same shown))
+      (entry-stands table of (Written h) at (λ e. let clash : Written h ≡ Nothing = e in cc)) (waits m s shown) (subst (λ (d : Domain T U F G). Shows d m s) same shown))
 
 -- ---- what comes of a send
 
-module _ {T U F : Type 0} (defaults : Defaults T U) (new : Domain T U F) (table : List Made) (of : ℕ) (h : SampleMut) (m : Messages T U) (s : State T U) (handles : List Handle) (events : List (Event T U)) (w : IsTable s handles events (map entry_for table)) (default_value : T) (default_header : U)
+module _ {T U F G : Type 0} (defaults : Defaults T U) (new : Domain T U F G) (table : List Made) (of : ℕ) (h : SampleMut) (m : Messages T U) (s : State T U) (handles : List Handle) (events : List (Event T U)) (w : IsTable s handles events (map entry_for table)) (default_value : T) (default_header : U)
     (is_value : defaults.IsDefaultValue default_value) (is_header : defaults.IsDefaultHeader default_header)
     (stand : slice_get (map entry_for table) of ≡ Some (Written_entry h.service_id h.loan.publisher h.loan.number)) (unblocked : IsUnblocked s h.loan.publisher)
     (l : Loan T U) (out : s.loans h.loan.number ≡ Some l) (lender : l.publisher ≡ h.loan.publisher) where
@@ -185,7 +184,7 @@ module _ {T U F : Type 0} (defaults : Defaults T U) (new : Domain T U F) (table 
       s' (Send_error ConnectionBrokenSinceSenderNoLongerExists) so (SendRefused ConnectionBrokenSinceSenderNoLongerExists) No_handle No_event No_entry refl refl
       (λ k e. let clash : No_handle ≡ Loan_handle k = e in absurd cc) (λ p q k e. let clash : No_handle ≡ Sample_handle p q k = e in absurd cc) (λ p k e. let clash : No_handle ≡ Blocked_handle p k = e in absurd cc) there tt)
 
-module _ {T U F : Type 0} (environment : Environment) (updates : AllowsUpdates environment fixed_handlers) (defaults : Defaults T U) (old new : Domain T U F) (table table' : List Made) (of : ℕ) where
+module _ {T U F G : Type 0} (environment : Environment) (defaults : Defaults T U) (old new : Domain T U F G) (table table' : List Made) (of : ℕ) where
   -- the loan is sent: to all receivers, or it waits for one, or its publisher is gone, or a handler failed the send
   pub send_carried : (h : SampleMut) (outcome : Result SendOutcome SendError) → slice_index_or table of Nothing ≡ Written h
       → ((m : Messages T U) (s : State T U) → Shows old m s → IsUnblocked s h.loan.publisher)
@@ -202,13 +201,13 @@ module _ {T U F : Type 0} (environment : Environment) (updates : AllowsUpdates e
       let its = handle_of s handles events (map entry_for table) w of (entry_for (Written h)) stand in
       let low : (named.0).publisher < s.next_port = subst (λ (p : ℕ). p < s.next_port) (sym named.4) ((its.2).2).1 in
       let unboxed : HasNoBox s (named.0).publisher = subst (HasNoBox s) (sym named.4) (its.2).3 in
-      let fixed : Sends fixed_handlers s h.loan.number named.0 outcome sent.0 = sends_fixed environment updates s h.loan.number named.0 sent.0 (result_of_send outcome) low unboxed sent.2 in
+      let fixed : Sends fixed_handlers s h.loan.number named.0 outcome sent.0 = sends_fixed environment s h.loan.number named.0 sent.0 (result_of_send outcome) low unboxed sent.2 in
       let after : map entry_for table' ≡ slice_set (map entry_for table) of No_entry = ap (λ (t : List Made). map entry_for t) is ∙ entries-set table of Nothing in
       subst (λ (ks : List TableEntry). Comes fixed_handlers defaults (Shows new) m s handles events (SendLoan of) (reply_to_send outcome) (ks ++ entry_for (made_by_send outcome) ∷ [])) (sym after)
       (sent-by defaults new table of h m s handles events w default_value default_header is_value is_header stand (free m s shown) named.0 named.3 named.4 outcome blocked gone sent.0 sent.1 fixed)
 
 -- why a send fails, without what is so then
-pub either-failure : {T U F : Type 0} (domain : Domain T U F) (key : Key) (outcome : Result SendOutcome SendError) → IfErr outcome (FailsSend domain key)
+pub either-failure : {T U F G : Type 0} (domain : Domain T U F G) (key : Key) (outcome : Result SendOutcome SendError) → IfErr outcome (FailsSend domain key)
     → IfErr outcome (λ error. (error ≡ ConnectionBrokenSinceSenderNoLongerExists) ⊎ IsOfHandler error)
 unfolding FailsSend
 either-failure domain key (Ok came) fails = tt

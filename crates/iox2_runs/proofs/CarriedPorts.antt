@@ -16,6 +16,7 @@ use Rattle.iox2_laws.proofs.PortLaws.{create_publisher_advances, create_subscrib
 use Rattle.iox2_domain.specs.Kept.{Kept as Domain}
 use Rattle.iox2_domain.specs.Shows.{Shows}
 use Rattle.iox2_domain.specs.Handlers.{fixed_handler}
+use Rattle.iox2_domain.specs.declared.handlers.HandlerMark.TheVariants as mark
 use Rattle.iox2_domain.specs.NewPublisher.{static_publisher}
 use Rattle.iox2_pubsub.specs.Factories.{with_slots}
 use Rattle.iox2_pubsub.specs.declared.publisher.Publisher.{Publisher as PublisherHandle}
@@ -39,22 +40,22 @@ given_for limit buffer degradation = record { buffer_size = elim buffer [ None �
 abbrev pub settings_of : {T U : Type 0} → (loans : ℕ) → BackpressureStrategy → (len : ℕ) (asked : Option ℕ) → DegradationAction → Option BackpressureAction → State T U → PublisherSettings
 settings_of loans strategy len asked degradation backpressure s = publisher_settings (s.config).variant loans strategy Static len asked degradation backpressure
 
-module _ {T U F : Type 0} (old : Domain T U F) where
+module _ {T U F G : Type 0} (old : Domain T U F G) where
   -- what a factory was told is what the command says, where messages are single values
   pub fixed-settings : (loans : ℕ) (strategy : BackpressureStrategy) (len : ℕ) (asked : Option ℕ) (degradation : DegradationAction) (backpressure : Option BackpressureAction) (told : PublisherSettings)
-      → told ≡ static_publisher (record { max_loaned_samples = loans; strategy = strategy; degradation = degradation; initial_max_slice_len = 1 }) (fixed_handler backpressure) → (old.config).variant ≡ FixedSize
+      → told ≡ static_publisher (record { max_loaned_samples = loans; strategy = strategy; degradation = mark.Fixed degradation; initial_max_slice_len = 1 }) (fixed_handler backpressure) → (old.config).variant ≡ FixedSize
       → (m : Messages T U) (s : State T U) → Shows old m s → with_slots told asked ≡ settings_of loans strategy len asked degradation backpressure s
   fixed-settings loans strategy len asked degradation backpressure told is variant = λ m s shown.
       ap (λ (given : PublisherSettings). with_slots given asked) is ∙ ap (λ (v : TypeVariant). publisher_settings v loans strategy Static len asked degradation backpressure) (sym (ap (λ (t : State T U). (t.config).variant) shown.state ∙ variant))
 
   -- and so where they are slices
   pub slice-settings : (loans : ℕ) (strategy : BackpressureStrategy) (len : ℕ) (asked : Option ℕ) (degradation : DegradationAction) (backpressure : Option BackpressureAction) (told : PublisherSettings)
-      → told ≡ static_publisher (record { max_loaned_samples = loans; strategy = strategy; degradation = degradation; initial_max_slice_len = len }) (fixed_handler backpressure) → (old.config).variant ≡ Dynamic
+      → told ≡ static_publisher (record { max_loaned_samples = loans; strategy = strategy; degradation = mark.Fixed degradation; initial_max_slice_len = len }) (fixed_handler backpressure) → (old.config).variant ≡ Dynamic
       → (m : Messages T U) (s : State T U) → Shows old m s → with_slots told asked ≡ settings_of loans strategy len asked degradation backpressure s
   slice-settings loans strategy len asked degradation backpressure told is variant = λ m s shown.
       ap (λ (given : PublisherSettings). with_slots given asked) is ∙ ap (λ (v : TypeVariant). publisher_settings v loans strategy Static len asked degradation backpressure) (sym (ap (λ (t : State T U). (t.config).variant) shown.state ∙ variant))
 
-module _ {T U F : Type 0} (environment : Environment) (defaults : Defaults T U) (old new : Domain T U F) (table : List Made) where
+module _ {T U F G : Type 0} (environment : Environment) (defaults : Defaults T U) (old new : Domain T U F G) (table : List Made) where
   pub publisher_carried : (loans : ℕ) (strategy : BackpressureStrategy) (len : ℕ) (asked : Option ℕ) (degradation : DegradationAction) (backpressure : Option BackpressureAction) (h : PublisherHandle) (id : ℕ)
       → ((m : Messages T U) (s : State T U) → Shows old m s → (s' : State T U) × Shows new m s' × ((h.id ≡ s.next_port) × CreatePublisher environment s (settings_of loans strategy len asked degradation backpressure s) s' None))
       → h.service_id ≡ (new.config).service_id → id ≡ h.id

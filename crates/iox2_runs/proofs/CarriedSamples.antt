@@ -35,7 +35,7 @@ use Rattle.iox2_runs.proofs.TableCalls.{at_none, at_some}
 use Rattle.iox2_runs.proofs.TableSamples.{receive_skipped, receive_elsewhere, receive_quiet_comes, receive_comes, release_skipped, release_comes, read_comes}
 use Rattle.iox2_runs.proofs.TableEntries.{entries-set, entry-stands, lacks}
 
-module _ {T U F : Type 0} (environment : Environment) (defaults : Defaults T U) (old new : Domain T U F) (table table' : List Made) (of : ℕ) where
+module _ {T U F G : Type 0} (environment : Environment) (defaults : Defaults T U) (old new : Domain T U F G) (table table' : List Made) (of : ℕ) where
   -- ---- release
 
   pub release_passed : is_sample_entry (entry_for (slice_index_or table of Nothing)) ≡ false → old ≡ new → table' ≡ table
@@ -43,7 +43,7 @@ module _ {T U F : Type 0} (environment : Environment) (defaults : Defaults T U) 
   release_passed other same is = λ m s handles events shown w default_value default_header is_value is_header.
       subst (λ (t : List Made). Comes environment defaults (Shows new) m s handles events (ReleaseCommand of) Skipped (map entry_for t ++ No_entry ∷ [])) (sym is)
       (release_skipped environment defaults (Shows new) m s handles events (map entry_for table) w default_value default_header is_value is_header of
-      (lacks is_sample_entry refl table of other) (subst (λ (d : Domain T U F). Shows d m s) same shown))
+      (lacks is_sample_entry refl table of other) (subst (λ (d : Domain T U F G). Shows d m s) same shown))
 
   pub release_carried : (h : SampleHandle) → slice_index_or table of Nothing ≡ MadeSample h
       → is_borrowed h.sample.number ((state_of old).mailboxes h.origin h.sample.subscriber) ≡ true
@@ -66,12 +66,12 @@ module _ {T U F : Type 0} (environment : Environment) (defaults : Defaults T U) 
   receive_passed is other same = λ m s handles events shown w default_value default_header is_value is_header.
       subst (λ (t : List Made). Comes environment defaults (Shows new) m s handles events (ReceiveCommand of) Skipped (map entry_for t ++ No_entry ∷ [])) (sym is)
       (receive_skipped environment defaults (Shows new) m s handles events (map entry_for table) w default_value default_header is_value is_header of
-      (lacks is_subscriber_entry refl table of other) (subst (λ (d : Domain T U F). Shows d m s) same shown))
+      (lacks is_subscriber_entry refl table of other) (subst (λ (d : Domain T U F G). Shows d m s) same shown))
 
   pub receive_of_other : ((old.config).units_per_element ≡ 1 → ⊥) → old ≡ new → Carries environment defaults old new table (ReceiveCommand of) Skipped table Nothing
   receive_of_other other same = λ m s handles events shown w default_value default_header is_value is_header.
       receive_elsewhere environment defaults (Shows new) m s handles events (map entry_for table) w default_value default_header is_value is_header of
-      (λ units. other (sym (ap (λ (t : State T U). (t.config).units_per_element) shown.state) ∙ units)) (subst (λ (d : Domain T U F). Shows d m s) same shown)
+      (λ units. other (sym (ap (λ (t : State T U). (t.config).units_per_element) shown.state) ∙ units)) (subst (λ (d : Domain T U F G). Shows d m s) same shown)
 
   pub receive_carried : table' ≡ table → (h : SubscriberHandle) (h' : SampleHandle) (origin : ℕ) → slice_index_or table of Nothing ≡ MadeSubscriber h
       → (old.config).units_per_element ≡ 1

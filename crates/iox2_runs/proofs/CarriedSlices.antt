@@ -22,7 +22,7 @@ use Rattle.iox2_runs.proofs.TableEntries.{entry-stands, lacks}
 use Rattle.iox2_runs.proofs.TableLooks.{is_publisher_entry}
 use Rattle.iox2_runs.proofs.TableMakes.{slice_skipped, slice_waiting, slice_elsewhere_skipped, slice_comes, slice_refused_comes, loan_any}
 
-module _ {T U F : Type 0} (defaults : Defaults T U) (old new : Domain T U F) (table table' : List Made) (is : table' ≡ table) (of len : ℕ) where
+module _ {T U F G : Type 0} (defaults : Defaults T U) (old new : Domain T U F G) (table table' : List Made) (is : table' ≡ table) (of len : ℕ) where
   -- there is no such publisher
   pub slice_passed : is_publisher_entry (entry_for (slice_index_or table of Nothing)) ≡ false → Carries fixed_handlers defaults old old table (LoanSlice of len) Skipped table' Nothing
   slice_passed other = λ m s handles events shown w default_value default_header is_value is_header.

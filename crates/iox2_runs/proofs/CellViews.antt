@@ -25,12 +25,12 @@ past_first x zero other = absurd (other refl)
 past_first x (suc i) other = refl
 
 -- a sample's values are those of its message
-pub message-of : {T U F : Type 0} (old : Domain T U F) (key : Key) (values : List T) → SampleHasValues old key values
+pub message-of : {T U F G : Type 0} (old : Domain T U F G) (key : Key) (values : List T) → SampleHasValues old key values
     → (entry : Entry T U) × (entries_of old key.message ≡ Some entry) × (entry.values ≡ values)
 unfolding SampleHasValues
 message-of old key values has = has
 
-module _ {T U F : Type 0} (old : Domain T U F) (n : ℕ) where
+module _ {T U F G : Type 0} (old : Domain T U F G) (n : ℕ) where
   alike : (cells cells' : List (Option T)) → HasCells (state_of old) n cells → HasCells (state_of old) n cells' → length cells ≡ length cells'
   alike cells cells' has has' =
       ap length (sym has.2 ∙ ap (λ (l : Loan T U). l.cells) (same_Some has.0 has'.0 (sym has.1 ∙ has'.1)) ∙ has'.2)
@@ -92,7 +92,7 @@ module _ {T U F : Type 0} (old : Domain T U F) (n : ℕ) where
     pub values-past : (values : List T) (value : T) → length values ≤ at → HasValues old n values → WritesAt old old n at value false
     values-past values value past has = nothing-written value (values-read values None has (sym (slice_get_past values at past)))
 
-    module _ (new : Domain T U F) (value : T) where
+    module _ (new : Domain T U F G) (value : T) where
       -- the loan's only cell is written
       pub cell-written : (cell : Option T) → at ≡ 0 → ((m : Messages T U) (s : State T U) → Shows old m s → HasCell s n cell)
           → ((m : Messages T U) (s : State T U) → Shows old m s → (l : Loan T U) × (s.loans n ≡ Some l) × Shows new m (with_loan s n (Some (first_cell_changed (Some value) l))))
@@ -150,7 +150,7 @@ answers-alike {F} step f value each (answer ∷ answers) start last calls =
     λ i. Some (first.0 i) ∷ rest i
 
 -- so it writes the value into each cell
-pub all-written : {T U F : Type 0} (old new : Domain T U F) (n : ℕ) (value : T) (answers : List T) → map Some answers ≡ replicate (length answers) (Some value)
+pub all-written : {T U F G : Type 0} (old new : Domain T U F G) (n : ℕ) (value : T) (answers : List T) → map Some answers ≡ replicate (length answers) (Some value)
     → ((m : Messages T U) (s : State T U) → Shows old m s → (l : Loan T U) × (s.loans n ≡ Some l) × (s' : State T U) × WriteAllFrom s n l answers s' × Shows new m s')
     → (m : Messages T U) (s : State T U) → Shows old m s → (l : Loan T U) × (s.loans n ≡ Some l) × Shows new m (with_loan s n (Some (written l value)))
 all-written {T} {U} old new n value answers alike wrote m s shown =

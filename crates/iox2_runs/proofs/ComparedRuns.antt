@@ -47,7 +47,7 @@ module _ {T U : Type 0} where
   all_tell : (commands : List (Command T U)) → All IsSupportedCommand commands → All TellsOfRefusals commands
   all_tell commands all = λ i d inside. supported_tells _ (all i d inside)
 
-  pub compared : {F : Type 0} (default_value : T) (default_header : U) (c : ServiceConfig) (commands reduced : List (Command T U)) (new : Kept T U F) (replies : List (Reply T U)) (new' : Kept T U F) (replies' : List (Reply T U))
+  pub compared : {F G : Type 0} (default_value : T) (default_header : U) (c : ServiceConfig) (commands reduced : List (Command T U)) (new : Kept T U F G) (replies : List (Reply T U)) (new' : Kept T U F G) (replies' : List (Reply T U))
       → All IsSupportedCommand commands → All IsSupportedCommand reduced
       → RunsOnDomain (only_defaults default_value default_header) new no_messages (fresh c) commands replies
       → RunsOnDomain (only_defaults default_value default_header) new' no_messages (fresh c) reduced replies'

@@ -1,5 +1,5 @@
 -- Publishers without boxes: none of them gets one, and what they send is sent where no port has a box.
-use Rattle.std.proofs.Common.{◌≡◌, ℕ, ◌<◌, List, refl, sym, ap, ◌∙◌, Option, None, Some}
+use Rattle.std.proofs.Common.{◌≡◌, ℕ, ◌<◌, refl, sym, ap, ◌∙◌, Option, None, Some}
 use Rattle.std.proofs.lemmas.Option.{none-some, same_Some}
 use Rattle.std.specs.Option.{option_map}
 use Rattle.std.specs.declared.time.Duration.{Duration}
@@ -8,11 +8,9 @@ use Rattle.iox2_store.specs.machine.Records.{BlockedSend, Custom, Environment, F
 use Rattle.iox2_store.specs.machine.Sends.{Send, Retry, GiveUp, SendResult}
 use Rattle.iox2_store.specs.machine.State.{State}
 use Rattle.iox2_store.specs.declared.backpressure.BackpressureAction.{BackpressureAction}
-use Rattle.iox2_store.specs.declared.backpressure.BackpressureInfo.{BackpressureInfo}
+use Rattle.iox2_store.specs.declared.degradation.DegradationAction.{DegradationAction}
 use Rattle.iox2_laws.proofs.Waits.{Waits, update_publisher_waits}
 use Rattle.iox2_ends.proofs.AnyEnvironment.{AllowsAsMuch}
-use Rattle.iox2_domain.specs.Boxes.{answers_of}
-use Rattle.iox2_domain.specs.declared.boxes.PortBox.{PortBox}
 use Rattle.iox2_steps.proofs.sends.AnySends.{MayAnswerAsMuch, sends-alike, retries-alike, gives_up-alike}
 use Rattle.iox2_steps.proofs.updates.AnyBoxes.{AllowsUpdates}
 use Rattle.iox2_runs.specs.Tables.{HasNoBox}
@@ -23,34 +21,45 @@ pub fixed_unboxed : (answer : Option BackpressureAction) → option_map {U = Han
 fixed_unboxed None e = none-some Custom e
 fixed_unboxed (Some action) e = let clash : Fixed action ≡ Custom = same_Some (Fixed action) Custom e in absurd cc
 
+-- nor is one for refused connections
+pub always_unboxed : (action : DegradationAction) → Fixed action ≡ Custom → ⊥
+always_unboxed action e = cc
+
 module _ {T U : Type 0} where
-  -- a publisher that is there with another handler has no box
-  pub unboxed_there : (s : State T U) (p : ℕ) (x : Publisher) → s.publishers p ≡ Some x → (x.backpressure_handler ≡ Some Custom → ⊥) → HasNoBox s p
-  unboxed_there s p x there other y at boxed = other (ap (λ (z : Publisher). z.backpressure_handler) (same_Some x y (sym there ∙ at)) ∙ boxed)
+  -- a publisher that is there with other handlers has no box
+  pub unboxed_there : (s : State T U) (p : ℕ) (x : Publisher) → s.publishers p ≡ Some x → (x.backpressure_handler ≡ Some Custom → ⊥) → (x.degradation_handler ≡ Custom → ⊥) → HasNoBox s p
+  unboxed_there s p x there other calm y at =
+      let same : y ≡ x = same_Some y x (sym at ∙ there) in (
+        λ boxed. other (ap (λ (z : Publisher). z.backpressure_handler) (sym same) ∙ boxed),
+        λ boxed. calm (ap (λ (z : Publisher). z.degradation_handler) (sym same) ∙ boxed),
+      )
 
   -- one that has no box gets none
   pub unboxed_still : (Spared : ℕ → Type 0) (s s' : State T U) → Waits Spared s s' → (p : ℕ) → p < s.next_port → HasNoBox s p → HasNoBox s' p
-  unboxed_still Spared s s' waits p low none x there boxed =
-      let was = waits.publishers p x low there in none was.0 was.1 (sym (was.2).handler ∙ boxed)
-
--- what boxes answer at full buffers is nothing to updates
-pub updates_fixed : {F : Type 0} (allows : F → BackpressureInfo → BackpressureAction → Type 0) (boxes : List (PortBox F)) → AllowsUpdates (answers_of allows boxes) fixed_handlers
-updates_fixed allows boxes = record { memory = λ may. may; answers = λ port cause info action answers. answers }
+  unboxed_still Spared s s' waits p low none x there =
+      let was = waits.publishers p x low there in
+      let had = none was.0 was.1 in (λ boxed. had.0 (sym (was.2).handler ∙ boxed), λ boxed. had.1 (sym (was.2).degradation ∙ boxed))
 
 module _ {T U : Type 0} (environment : Environment) where
   -- where there is no box there is nothing to answer
   may_answer : (s : State T U) (p : ℕ) → HasNoBox s p → MayAnswerAsMuch environment fixed_handlers s p
-  may_answer s p none x there = by x.backpressure_handler (none x there) where
+  may_answer s p none x there = by x.backpressure_handler (none x there).0 where
     by : (handler : Option (Handler BackpressureAction)) → (handler ≡ Some Custom → ⊥) → AllowsAsMuch environment fixed_handlers p handler
     by None other = tt
     by (Some (Fixed action)) other = tt
     by (Some Custom) other = absurd (other refl)
 
+  -- neither at full buffers nor where connections are refused
+  pub calm : (port : ℕ) (handler : Handler DegradationAction) → (handler ≡ Custom → ⊥) → AllowsUpdates environment fixed_handlers port handler
+  calm port (Fixed action) other = record { memory = λ may. tt; answers = tt }
+  calm port Custom other = absurd (other refl)
+
   -- what a publisher without a box sends is sent where no port has one
-  pub sends_fixed : AllowsUpdates environment fixed_handlers → (s : State T U) (n : ℕ) (l : Loan T U) (s' : State T U) (result : SendResult)
+  pub sends_fixed : (s : State T U) (n : ℕ) (l : Loan T U) (s' : State T U) (result : SendResult)
       → l.publisher < s.next_port → HasNoBox s l.publisher → Send environment s n l s' result → Send fixed_handlers s n l s' result
-  sends_fixed updates s n l s' result low none =
-      sends-alike environment fixed_handlers updates s n l s' result
+  sends_fixed s n l s' result low none =
+      sends-alike environment fixed_handlers s n l s' result
+      (λ x there. calm l.publisher x.degradation_handler (none x there).1)
       (λ mid updated. may_answer mid l.publisher (unboxed_still Nobody s mid (update_publisher_waits Nobody environment s l.publisher mid None updated) l.publisher low none))
 
   -- so is what it tries again

@@ -24,7 +24,7 @@ at_each_index : (P : ℕ → Type 0) → P zero → ((k : ℕ) → P (suc k)) �
 at_each_index P first later zero = first
 at_each_index P first later (suc k) = later k
 
-module _ {T U F : Type 0} (start : Domain T U F) where
+module _ {T U F G : Type 0} (start : Domain T U F G) where
   -- an empty table
   pub none-new : AreNewIn start []
   none-new = λ of. nothing-is-new start
@@ -46,7 +46,7 @@ module _ {T U F : Type 0} (start : Domain T U F) where
       at_each_index (λ k. IsNewIn start (item_of (slice_index_or (h ∷ (table ++ made ∷ [])) k Nothing))) (are zero)
       (push-new table made (λ k. are (suc k)) is)
 
-module _ {T U F : Type 0} (old new : Domain T U F) (table : List Made) where
+module _ {T U F G : Type 0} (old new : Domain T U F G) (table : List Made) where
   -- a command that changes nothing
   pub leaves-all : (table' : List Made) → old ≡ new → table' ≡ table → Leaves old new table table' Nothing
   leaves-all table' same is = λ start before are.
@@ -63,9 +63,9 @@ module _ {T U F : Type 0} (old new : Domain T U F) (table : List Made) where
 
   -- one that uses what stands at a position, puts something in its place, and may make something
   pub leaves-using : (table' : List Made) (of : ℕ) (made put made' : Made) → slice_index_or table of Nothing ≡ made → (spent : Item) → StaysBut spent old new
-      → ((start : Domain T U F) → IsNewIn start (item_of made) → IsNewIn start spent)
-      → ((start : Domain T U F) → IsNewIn start (item_of made) → IsNewIn start (item_of put))
-      → ((start : Domain T U F) → Stays start old → IsNewIn start (item_of made) → IsNewIn start (item_of made'))
+      → ((start : Domain T U F G) → IsNewIn start (item_of made) → IsNewIn start spent)
+      → ((start : Domain T U F G) → IsNewIn start (item_of made) → IsNewIn start (item_of put))
+      → ((start : Domain T U F G) → Stays start old → IsNewIn start (item_of made) → IsNewIn start (item_of made'))
       → table' ≡ slice_set table of put → Leaves old new table table' made'
   leaves-using table' of made put made' at spent stays spends puts makes is = λ start before are.
       let new-one : IsNewIn start (item_of made) = subst (λ (h : Made). IsNewIn start (item_of h)) at (are of) in (
@@ -76,7 +76,7 @@ module _ {T U F : Type 0} (old new : Domain T U F) (table : List Made) where
 
   -- one that spends what stands at a position, and may leave the same there as another handle
   pub leaves-spending : (table' : List Made) (of : ℕ) (made made' : Made) → slice_index_or table of Nothing ≡ made → StaysBut (item_of made) old new
-      → ((start : Domain T U F) → IsNewIn start (item_of made) → IsNewIn start (item_of made')) → table' ≡ slice_set table of made' → Leaves old new table table' Nothing
+      → ((start : Domain T U F G) → IsNewIn start (item_of made) → IsNewIn start (item_of made')) → table' ≡ slice_set table of made' → Leaves old new table table' Nothing
   leaves-spending table' of made made' at stays put is =
       leaves-using table' of made made' Nothing at (item_of made) stays (λ start new-one. new-one) put (λ start before new-one. nothing-is-new start) is
 
@@ -91,7 +91,7 @@ module _ {T U F : Type 0} (old new : Domain T U F) (table : List Made) where
 
   -- what a send of this publisher makes is new, where the publisher's sends are
   made-new : (p : ℕ) (outcome : Result SendOutcome SendError) → IfOk outcome (λ came. IfBlocked came (λ blocked. blocked.loan.publisher ≡ p))
-      → (start : Domain T U F) → IsNewIn start (A_blocked_send p) → IsNewIn start (item_of (made_by_send outcome))
+      → (start : Domain T U F G) → IsNewIn start (A_blocked_send p) → IsNewIn start (item_of (made_by_send outcome))
   made-new p (Ok (WasDelivered count)) its start is = nothing-is-new start
   made-new p (Ok (IsBlocked blocked)) its start is = subst (λ (i : ℕ). IsNewIn start (A_blocked_send i)) (sym its) is
   made-new p (Err error) its start is = nothing-is-new start

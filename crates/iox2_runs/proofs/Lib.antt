@@ -1,5 +1,6 @@
 pub mod TableSteps
 pub mod FixedSends
+pub mod FixedCalls
 pub mod TableLooks
 pub mod TableCalls
 pub mod TableMakes

@@ -17,14 +17,14 @@ use Rattle.iox2_pubsub.specs.declared.sample_mut_uninit.SampleMutUninit.{SampleM
 use Rattle.iox2_pubsub.specs.declared.sample_mut.SampleMut.{SampleMut}
 use Rattle.iox2_pubsub.specs.declared.sample.Sample.{Sample as SampleHandle}
 use Rattle.iox2_commands.specs.Outcomes.{Handle}
-use Rattle.iox2_runs.specs.Tables.{IsUnblocked as IsFree, IsEntryOf}
+use Rattle.iox2_runs.specs.Tables.{IsUnblocked as IsFree, HasNoBox, HasNoReceiverBox, IsEntryOf}
 use Rattle.iox2_runs.specs.Carries.{entry_for, IsLiveTable}
 use Rattle.iox2_runs.specs.declared.runs.made.Made.{Made}
 use Rattle.iox2_runs.specs.declared.runs.made.Made.TheVariants.{Nothing, Publisher as MadePublisher, Subscriber as MadeSubscriber, Unwritten, Written, Blocked, Sample as MadeSample}
 use Rattle.iox2_runs.proofs.TableLooks.{handle_of}
 use Rattle.iox2_runs.proofs.TableEntries.{entry-stands}
 
-module _ {T U F : Type 0} (domain : Domain T U F) (key : Key) where
+module _ {T U F G : Type 0} (domain : Domain T U F G) (key : Key) where
   -- who is free in the domain is so in each state that it shows
   pub shown_free : IsUnblocked domain key → (m : Messages T U) (s : State T U) → Shows domain m s → IsFree s key.port
   shown_free free m s shown = subst (λ (t : State T U). IsFree t key.port) (sym shown.state) (unblocked-parts domain key free).1
@@ -35,7 +35,7 @@ module _ {T U F : Type 0} (domain : Domain T U F) (key : Key) where
   shown_waits low answer tells is m s shown free =
       true≢false (sym is ∙ tells.1 (unblocked-free domain key (low, subst (λ (t : State T U). IsFree t key.port) shown.state free)))
 
-module _ {T U F : Type 0} (domain : Domain T U F) (table : List Made) (keeps : IsLiveTable domain table) (of : ℕ) where
+module _ {T U F G : Type 0} (domain : Domain T U F G) (table : List Made) (keeps : IsLiveTable domain table) (of : ℕ) where
   -- what stands at a position is the entry of some handle, in the state that the domain keeps
   has_entry : (made : Made) → slice_index_or table of Nothing ≡ made → (made ≡ Nothing → ⊥) → (h : Handle) × IsEntryOf (state_of domain) h (entry_for made)
   has_entry made at some =
@@ -53,6 +53,10 @@ module _ {T U F : Type 0} (domain : Domain T U F) (table : List Made) (keeps : I
       let v = (has_entry (MadePublisher h) at (λ e. let clash : MadePublisher h ≡ Nothing = e in cc)).1 in
       ((subst IsWellFormed (keeps.4).state (keeps.4).well_formed).publishers h.id v.2 v.3).is_known
 
+  -- no box answers for it
+  pub unboxed_publisher : (h : PublisherHandle) → slice_index_or table of Nothing ≡ MadePublisher h → HasNoBox (state_of domain) h.id
+  unboxed_publisher h at = ((has_entry (MadePublisher h) at (λ e. let clash : MadePublisher h ≡ Nothing = e in cc)).1).4
+
   -- where no send of it is blocked it is ready
   pub ready_publisher : (h : PublisherHandle) → slice_index_or table of Nothing ≡ MadePublisher h → IsUnblocked domain (publisher_key h) → IsReadyPublisher domain h
   ready_publisher h at free = record { there = live_publisher h at; unblocked = free }
@@ -61,6 +65,10 @@ module _ {T U F : Type 0} (domain : Domain T U F) (table : List Made) (keeps : I
   live_subscriber h at =
       let v = (has_entry (MadeSubscriber h) at (λ e. let clash : MadeSubscriber h ≡ Nothing = e in cc)).1 in
       subscriber-live domain _ (refl, v.0, (v.2, v.3, v.4))
+
+  -- nor does one for it
+  pub unboxed_subscriber : (h : SubscriberHandle) → slice_index_or table of Nothing ≡ MadeSubscriber h → HasNoReceiverBox (state_of domain) h.id
+  unboxed_subscriber h at = ((has_entry (MadeSubscriber h) at (λ e. let clash : MadeSubscriber h ≡ Nothing = e in cc)).1).5
 
   pub live_unwritten : (h : SampleMutUninit) → slice_index_or table of Nothing ≡ Unwritten h → IsUnwritten domain h
   live_unwritten h at =

@@ -26,7 +26,7 @@ use Rattle.iox2_runs.proofs.RunsOn.{run_of, run_more, received_once}
 
 module _ {T U : Type 0} (environment : Environment) (defaults : Defaults T U) where
   -- From each state that the domain showed, the commands ran to one that it shows now, with what the table keeps.
-  abbrev pub HasRun : {F : Type 0} (old new : Domain T U F) → List (Command T U) → List (Reply T U) → List Made → Type 0
+  abbrev pub HasRun : {F G : Type 0} (old new : Domain T U F G) → List (Command T U) → List (Reply T U) → List Made → Type 0
   HasRun old new commands replies table =
       (m : Messages T U) (s : State T U) → Shows old m s
       → (events : List (Event T U)) × (handles : List Handle) × (m' : Messages T U) × (s' : State T U) × Shows new m' s'
@@ -34,7 +34,7 @@ module _ {T U : Type 0} (environment : Environment) (defaults : Defaults T U) wh
       × IsTable s' handles events (map entry_for table)
 
   -- at the start nothing ran
-  pub has_run_none : {F : Type 0} (domain : Domain T U F) → HasRun domain domain [] [] []
+  pub has_run_none : {F G : Type 0} (domain : Domain T U F G) → HasRun domain domain [] [] []
   has_run_none domain = λ m s shown. (
     [],
     [],
@@ -59,7 +59,7 @@ module _ {T U : Type 0} (environment : Environment) (defaults : Defaults T U) wh
     no_element i handle at = none-some handle at
 
   -- one command more
-  pub has_run_more : {F : Type 0} (old mid new : Domain T U F) (commands : List (Command T U)) (replies : List (Reply T U)) (table table' : List Made) (command : Command T U) (reply : Reply T U) (made : Made)
+  pub has_run_more : {F G : Type 0} (old mid new : Domain T U F G) (commands : List (Command T U)) (replies : List (Reply T U)) (table table' : List Made) (command : Command T U) (reply : Reply T U) (made : Made)
       → HasRun old mid commands replies table → Carries environment defaults mid new table command reply table' made
       → (default_value : T) (default_header : U) → defaults.IsDefaultValue default_value → defaults.IsDefaultHeader default_header
       → HasRun old new (commands ++ command ∷ []) (replies ++ reply ∷ []) (table' ++ made ∷ [])
@@ -80,13 +80,13 @@ module _ {T U : Type 0} (environment : Environment) (defaults : Defaults T U) wh
       )
 
   -- what ran so far is kept, where the domain showed some state at the start
-  pub still_keeps : {F : Type 0} (old new : Domain T U F) (commands : List (Command T U)) (replies : List (Reply T U)) (table : List Made)
+  pub still_keeps : {F G : Type 0} (old new : Domain T U F G) (commands : List (Command T U)) (replies : List (Reply T U)) (table : List Made)
       → (m : Messages T U) (s : State T U) → Shows old m s → HasRun old new commands replies table → IsLiveTable new table
   still_keeps old new commands replies table m s shown ran =
       let now = ran m s shown in (now.2, now.3, now.1, now.0, now.4, now.6)
 
   -- it is a run, and a faithful one, and it grants the loans that it has to
-  pub is_run : {F : Type 0} (old new : Domain T U F) (commands : List (Command T U)) (replies : List (Reply T U)) (table : List Made) → HasRun old new commands replies table
+  pub is_run : {F G : Type 0} (old new : Domain T U F G) (commands : List (Command T U)) (replies : List (Reply T U)) (table : List Made) → HasRun old new commands replies table
       → (m : Messages T U) (s : State T U) → Shows old m s
       → (events : List (Event T U)) × (m' : Messages T U) × (s' : State T U) × Shows new m' s' × Run environment defaults m s commands replies events m' s'
       × IsFaithful commands replies events × GrantsLoans environment defaults m s commands replies events m' s'
@@ -104,7 +104,7 @@ module _ {T U : Type 0} (environment : Environment) (defaults : Defaults T U) wh
 
 module _ {T U : Type 0} (defaults : Defaults T U) where
   -- it has one default value and one default header throughout, where there are no others
-  pub runs_on_domain : {F : Type 0} (old new : Domain T U F) (commands : List (Command T U)) (replies : List (Reply T U)) (table : List Made) → HasRun fixed_handlers defaults old new commands replies table
+  pub runs_on_domain : {F G : Type 0} (old new : Domain T U F G) (commands : List (Command T U)) (replies : List (Reply T U)) (table : List Made) → HasRun fixed_handlers defaults old new commands replies table
       → HasOneDefault defaults → (default_value : T) (default_header : U) → defaults.IsDefaultValue default_value → defaults.IsDefaultHeader default_header
       → (m : Messages T U) (s : State T U) → Shows old m s → RunsOnDomain (only_defaults default_value default_header) new m s commands replies
   runs_on_domain old new commands replies table ran one default_value default_header is_value is_header m s shown =

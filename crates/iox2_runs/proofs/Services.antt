@@ -80,7 +80,7 @@ slices-parts c slices =
     by Dynamic true e = (refl, refl)
     by Dynamic false e = absurd cc
 
-module _ {T U F : Type 0} (domain : Domain T U F) where
+module _ {T U F G : Type 0} (domain : Domain T U F G) where
   -- in a domain messages are single values, or slices
   pub single-here : is_single_valued domain.config ≡ true → IsSingleValued domain
   single-here single = let parts = single-settings domain.config single in single-valued domain parts.0 parts.1

@@ -46,12 +46,12 @@ use Rattle.iox2_runs.proofs.Services.{single_named, single_elsewhere, single_not
 use Rattle.iox2_runs.proofs.TableCalls.{quiet_comes, skip_comes, at_none, at_some}
 
 module _ {T U : Type 0} (environment : Environment) (s : State T U) where
-  -- a publisher that was made is there, with the handler that it was to have
+  -- a publisher that was made is there, with the handlers that it was to have
   pub publisher_made : (given : PublisherSettings) (s' : State T U) → CreatePublisher environment s given s' None
-      → ((x : Publisher) × (s'.publishers s.next_port ≡ Some x) × (x.backpressure_handler ≡ given.backpressure_handler)) × (s.next_port < s'.next_port)
+      → ((x : Publisher) × (s'.publishers s.next_port ≡ Some x) × (x.backpressure_handler ≡ given.backpressure_handler) × (x.degradation_handler ≡ given.degradation_handler)) × (s.next_port < s'.next_port)
   publisher_made given s' h =
       let made = created_as environment s given s' h in (
-        (made.0, made.1, made.3),
+        (made.0, made.1, made.3, made.5),
         by_bool IsKnown (s.next_port == last_number) _ _ h (λ _ k. absurd (none-some _ k.1)) (λ _ k.
             by_option IsKnown (free_place (s.config).max_publishers s.publisher_places) _ _ k (λ _ j. absurd (none-some _ j.1)) (λ place _ j.
             by_bool IsKnown (first_segment_fits s.config given) _ _ j (λ _ i. known place i) (λ _ i. absurd (none-some _ i.1)))),
@@ -67,16 +67,16 @@ module _ {T U : Type 0} (environment : Environment) (s : State T U) where
           (ports_come_trans new i.0 _ (update_publisher_comes environment new s.next_port i.0 i.1 i.2) (warning_comes i.0 (PublisherPartlyConnected s.next_port) i.1)) in
           let up = come.next_port in omega (arith, up)
 
-  -- a subscriber that was made is there, and open
+  -- a subscriber that was made is there, open, and with the handler that it was to have
   pub subscriber_made : (given : SubscriberSettings) (s' : State T U) → CreateSubscriber environment s given s' None
-      → ((y : Subscriber) × (s'.subscribers s.next_port ≡ Some y) × (y.is_open ≡ true)) × (s.next_port < s'.next_port)
+      → ((y : Subscriber) × (s'.subscribers s.next_port ≡ Some y) × (y.is_open ≡ true) × (y.degradation_handler ≡ given.degradation_handler)) × (s.next_port < s'.next_port)
   subscriber_made given s' h =
       by_bool IsMade (s.next_port == last_number) _ _ h (λ _ k. absurd (none-some _ k.1)) (λ _ k.
       by_bool IsMade (nat_lt (buffer_limit s.config) (buffer_for given)) _ _ k (λ _ j. absurd (none-some _ j.1)) (λ _ j.
       by_option IsMade (free_place (s.config).max_subscribers s.subscriber_places) _ _ j (λ _ i. absurd (none-some _ i.1)) (λ place _ i. made place i)))
     where
       IsMade : Type 0
-      IsMade = ((y : Subscriber) × (s'.subscribers s.next_port ≡ Some y) × (y.is_open ≡ true)) × (s.next_port < s'.next_port)
+      IsMade = ((y : Subscriber) × (s'.subscribers s.next_port ≡ Some y) × (y.is_open ≡ true) × (y.degradation_handler ≡ given.degradation_handler)) × (s.next_port < s'.next_port)
 
       made : (place : ℕ) → MakeSubscriber environment s given place s' None → IsMade
       made place i =
@@ -85,9 +85,17 @@ module _ {T U : Type 0} (environment : Environment) (s : State T U) where
           (ports_stay_trans new i.0 _ (update_subscriber_stays environment new s.next_port i.0 i.1 i.2) (warning_stays i.0 (SubscriberPartlyConnected s.next_port) i.1)) in
           let come : PortsCome new s' = subst (PortsCome new) (sym i.3)
           (ports_come_trans new i.0 _ (update_subscriber_comes environment new s.next_port i.0 i.1 i.2) (warning_comes i.0 (SubscriberPartlyConnected s.next_port) i.1)) in (
-            (stay.remain).subscribers s.next_port (new_subscriber given place) (put_at-same s.subscribers s.next_port (Some (new_subscriber given place))) refl,
+            as_given come ((stay.remain).subscribers s.next_port (new_subscriber given place) (put_at-same s.subscribers s.next_port (Some (new_subscriber given place))) refl),
             (let up = come.next_port in omega (arith, up)),
           )
+        where
+          as_given : PortsCome (with_new_subscriber s given place) s' → (y : Subscriber) × (s'.subscribers s.next_port ≡ Some y) × (y.is_open ≡ true)
+              → (y : Subscriber) × (s'.subscribers s.next_port ≡ Some y) × (y.is_open ≡ true) × (y.degradation_handler ≡ given.degradation_handler)
+          as_given come v =
+              let low : s.next_port < s.next_port + 1 = omega arith in
+              let was = come.subscribers s.next_port v.0 low v.1 v.2 in
+              let its : was.0 ≡ new_subscriber given place = same_Some was.0 (new_subscriber given place) (sym was.1 ∙ put_at-same s.subscribers s.next_port (Some (new_subscriber given place))) in
+              (v.0, v.1, v.2, was.3 ∙ ap (λ (y : Subscriber). y.degradation_handler) its)
 
 module _ {T U : Type 0} (environment : Environment) (defaults : Defaults T U) (Shown : Messages T U → State T U → Type 0) (m : Messages T U) (s : State T U) (handles : List Handle)
     (events : List (Event T U)) (table : List TableEntry) (w : IsTable s handles events table) (default_value : T) (default_header : U)
@@ -126,7 +134,8 @@ module _ {T U : Type 0} (environment : Environment) (defaults : Defaults T U) (S
       let given = publisher_settings (s.config).variant loans strategy allocation len override_slots degradation backpressure in
       let stay : PortsStay s s' = create_publisher_stays environment s given s' None h in
       let made = publisher_made environment s given s' h in
-      let unboxed : HasNoBox s' s.next_port = unboxed_there s' s.next_port (made.0).0 (made.0).1 (λ boxed. fixed_unboxed backpressure (sym (made.0).2 ∙ boxed)) in
+      let unboxed : HasNoBox s' s.next_port = unboxed_there s' s.next_port (made.0).0 (made.0).1 (λ boxed. fixed_unboxed backpressure (sym (made.0).2 ∙ boxed))
+      (λ boxed. let clash : Fixed degradation ≡ Custom = sym (made.0).3 ∙ boxed in cc) in
       port_comes (PublisherCommand loans strategy allocation len override_slots degradation backpressure) (PublisherMade s.next_port) (Publisher_handle s.next_port)
       (Publisher_entry service s.next_port) s' (s', None, h, refl) shown stay (create_publisher_comes environment s given s' None h) (create_publisher_waits Nobody environment s given s' None h) (create_publisher_loans environment s given s' None h) rises
       (ours, refl, (made.0).0, (made.0).1, unboxed) refl made.1
@@ -156,7 +165,9 @@ module _ {T U : Type 0} (environment : Environment) (defaults : Defaults T U) (S
       let made = subscriber_made environment s (subscriber_settings buffer degradation) s' h in
       port_comes (SubscriberCommand buffer degradation) (SubscriberMade s.next_port) (Subscriber_handle s.next_port) (Subscriber_entry service s.next_port) s' (s', None, h, refl) shown stay
       (create_subscriber_comes environment s (subscriber_settings buffer degradation) s' None h) (create_subscriber_waits Nobody environment s (subscriber_settings buffer degradation) s' None h) (create_subscriber_loans environment s (subscriber_settings buffer degradation) s' None h) rises
-      (ours, refl, (made.0).0, (made.0).1, (made.0).2) refl made.1
+      (ours, refl, (made.0).0, (made.0).1, (made.0).2, λ y at boxed.
+      let same : y ≡ (made.0).0 = same_Some y (made.0).0 (sym at ∙ (made.0).1) in
+      let clash : Fixed degradation ≡ Custom = sym (made.0).3 ∙ ap (λ (z : Subscriber). z.degradation_handler) (sym same) ∙ boxed in absurd cc) refl made.1
       (λ n e. let clash : Subscriber_handle s.next_port ≡ Loan_handle n = e in absurd (cc)) (λ p q n e. let clash : Subscriber_handle s.next_port ≡ Sample_handle p q n = e in absurd (cc)) (λ p n e. let clash : Subscriber_handle s.next_port ≡ Blocked_handle p n = e in absurd (cc))
 
   pub subscriber_refused_comes : (buffer : Option ℕ) (degradation : DegradationAction) (s' : State T U) (e : SubscriberCreateError)

@@ -42,8 +42,8 @@ module _ {T U : Type 0} (spent : Handle) (p n : ℕ) (s s' : State T U) (passed 
     publishers = λ i x other there. (passed.remain).publishers i x there;
     subscribers = λ q y other there is_open. (passed.remain).subscribers q y there is_open;
     next_port = (passed.waits).next_port;
-    came = λ i x' low there. let was = (passed.waits).publishers i x' low there in (was.0, was.1, (was.2).handler);
-    opened = λ q y' low there is_open. (y', ap (λ (f : ℕ → Option Subscriber). f q) (sym passed.subscribers) ∙ there, is_open);
+    came = λ i x' low there. let was = (passed.waits).publishers i x' low there in (was.0, was.1, (was.2).handler, (was.2).degradation);
+    opened = λ q y' low there is_open. (y', ap (λ (f : ℕ → Option Subscriber). f q) (sym passed.subscribers) ∙ there, is_open, refl);
     blocked = λ i k other low. elim (cases_eq i p) [
       | inl same ↦ (
         λ has. absurd (other (ap (λ (v : ℕ). Blocked_handle v k) same ∙ ap (λ (v : ℕ). Blocked_handle p v) (passed.before k (subst (λ (v : ℕ). HoldsBlocked s v k) same has)))),

@@ -11,7 +11,7 @@ use Rattle.iox2_store.specs.machine.State.{State}
 use Rattle.iox2_store.specs.declared.service_config.ServiceConfig.{ServiceConfig}
 use Rattle.iox2_commands.specs.Outcomes.{Handle, No_handle, Publisher_handle, Subscriber_handle, Loan_handle, Blocked_handle, Sample_handle, Event, Message_received}
 use Rattle.iox2_commands.specs.Runs.{received}
-use Rattle.iox2_runs.specs.Tables.{port_of, TableEntry, No_entry, Publisher_entry, Subscriber_entry, Unwritten_entry, Written_entry, Blocked_entry, Sample_entry, HasLoan, HasNoBox, IsEntryOf, IsTable}
+use Rattle.iox2_runs.specs.Tables.{port_of, TableEntry, No_entry, Publisher_entry, Subscriber_entry, Unwritten_entry, Written_entry, Blocked_entry, Sample_entry, HasLoan, HasNoBox, HasNoReceiverBox, IsEntryOf, IsTable}
 use Rattle.iox2_laws.proofs.NumberLemmas.{IsOnce-apart, contains_left, contains_right, contains_first}
 use Rattle.iox2_commands.proofs.GrowingLists.{old_or_last, longer}
 use Rattle.iox2_laws.proofs.PortsCome.{PortsCome}
@@ -32,8 +32,8 @@ pub record PortsKeep {T U : Type 0} (spent moved : Handle) (s s' : State T U) : 
       → (y' : Subscriber) × (s'.subscribers q ≡ Some y') × (y'.is_open ≡ true)
   pub next_port : s.next_port ≤ s'.next_port
   pub came : (p : ℕ) (x' : Publisher) → p < s.next_port → s'.publishers p ≡ Some x'
-      → (x : Publisher) × (s.publishers p ≡ Some x) × (x'.backpressure_handler ≡ x.backpressure_handler)
-  pub opened : (q : ℕ) (y' : Subscriber) → q < s.next_port → s'.subscribers q ≡ Some y' → y'.is_open ≡ true → (y : Subscriber) × (s.subscribers q ≡ Some y) × (y.is_open ≡ true)
+      → (x : Publisher) × (s.publishers p ≡ Some x) × (x'.backpressure_handler ≡ x.backpressure_handler) × (x'.degradation_handler ≡ x.degradation_handler)
+  pub opened : (q : ℕ) (y' : Subscriber) → q < s.next_port → s'.subscribers q ≡ Some y' → y'.is_open ≡ true → (y : Subscriber) × (s.subscribers q ≡ Some y) × (y.is_open ≡ true) × (y'.degradation_handler ≡ y.degradation_handler)
   pub blocked : (p n : ℕ) → (Blocked_handle p n ≡ moved → ⊥) → p < s.next_port → (HoldsBlocked s p n → HoldsBlocked s' p n) × (HoldsBlocked s' p n → HoldsBlocked s p n)
 
 -- Ids and numbers don't fall, and no loan that is out no more comes back.
@@ -99,7 +99,7 @@ ports-keep spent moved s s' remain come waits = record {
   publishers = λ p x other there. let v = remain.publishers p x there in (v.0, v.1);
   subscribers = λ q y other there is_open. remain.subscribers q y there is_open;
   next_port = come.next_port;
-  came = λ p x' low there. let v = waits.publishers p x' low there in (v.0, v.1, (v.2).handler);
+  came = λ p x' low there. let v = waits.publishers p x' low there in (v.0, v.1, (v.2).handler, (v.2).degradation);
   opened = come.subscribers;
   blocked = λ p n _ low. waits_still Nobody s s' waits (λ p x there. let v = remain.publishers p x there in (v.0, v.1)) p n (λ nobody. nobody) low;
 }
@@ -114,10 +114,11 @@ keep-trans spent moved s mid s' a b = record {
   came = λ p x' low there.
       let up = a.next_port in
       let v = b.came p x' (omega (arith, low, up)) there in
-      let u = a.came p v.0 low v.1 in (u.0, u.1, v.2 ∙ u.2);
+      let u = a.came p v.0 low v.1 in (u.0, u.1, v.2 ∙ u.2, v.3 ∙ u.3);
   opened = λ q y' low there is_open.
       let up = a.next_port in
-      let v = b.opened q y' (omega (arith, low, up)) there is_open in a.opened q v.0 low v.1 v.2;
+      let v = b.opened q y' (omega (arith, low, up)) there is_open in
+      let u = a.opened q v.0 low v.1 v.2 in (u.0, u.1, u.2, v.3 ∙ u.3);
   blocked = λ p n other low.
       let up = a.next_port in
       let first = a.blocked p n other low in
@@ -138,7 +139,16 @@ module _ {T U : Type 0} (spent moved : Handle) (s s' : State T U) (keep : PortsK
 
   -- nor does one get a box
   boxless : {p : ℕ} → p < s.next_port → HasNoBox s p → HasNoBox s' p
-  boxless {p} low none x there boxed = let was = keep.came p x low there in none was.0 was.1 (sym was.2 ∙ boxed)
+  boxless {p} low none x there =
+      let was = keep.came p x low there in
+      let had = none was.0 was.1 in (λ boxed. had.0 (sym was.2 ∙ boxed), λ boxed. had.1 (sym was.3 ∙ boxed))
+
+  -- nor does an open subscriber
+  receiver-boxless : {q : ℕ} → q < s.next_port → HasNoReceiverBox s q → (y : Subscriber) → s'.subscribers q ≡ Some y → y.is_open ≡ true → HasNoReceiverBox s' q
+  receiver-boxless {q} low none y there is_open z at boxed =
+      let same : z ≡ y = same_Some z y (sym at ∙ there) in
+      let was = keep.opened q y low there is_open in
+      none was.0 was.1 (sym was.3 ∙ ap (λ (w : Subscriber). w.degradation_handler) (sym same) ∙ boxed)
 
   -- nor is a subscriber opened
   shut : (q : ℕ) → q < s.next_port → ((y : Subscriber) → s.subscribers q ≡ Some y → y.is_open ≡ false) → (y : Subscriber) → s'.subscribers q ≡ Some y → y.is_open ≡ false
@@ -171,7 +181,8 @@ module _ {T U : Type 0} (spent moved : Handle) (s s' : State T U) (keep : PortsK
       let v = keep.publishers p h.2 (λ e. other (h.1 ∙ e)) h.3 in (same h.0, h.1, v.0, v.1, boxless (ports p (ap port_of h.1)).0 h.4)
   still_entry named (Subscriber_entry service q) loans samples ports sends h =
       let other = (ports q (ap port_of h.1)).1 in
-      let v = keep.subscribers q h.2 (λ e. other (h.1 ∙ e)) h.3 h.4 in (same h.0, h.1, v.0, v.1, v.2)
+      let v = keep.subscribers q h.2 (λ e. other (h.1 ∙ e)) h.3 h.4 in
+      (same h.0, h.1, v.0, v.1, v.2, receiver-boxless (ports q (ap port_of h.1)).0 h.5 v.0 v.1 v.2)
   still_entry named (Unwritten_entry service p n) loans samples ports sends h = (same h.0, h.1, loan_kept (loans n h.1) h.2, boxless (h.2).1 h.3)
   still_entry named (Written_entry service p n) loans samples ports sends h = (same h.0, h.1, loan_kept (loans n h.1) h.2, boxless (h.2).1 h.3)
   still_entry named (Blocked_entry service p n) loans samples ports sends h =

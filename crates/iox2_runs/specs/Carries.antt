@@ -32,13 +32,13 @@ abbrev pub defaults_of : {T U : Type 0} → (T → Type 0) → (U → Type 0) �
 defaults_of is_default_value is_default_header = record { IsDefaultValue = is_default_value; IsDefaultHeader = is_default_header }
 
 -- The domain shows a state in which the table has the entries of handles.
-abbrev pub IsLiveTable : {T U F : Type 0} → Domain T U F → List Made → Type 0
+abbrev pub IsLiveTable : {T U F G : Type 0} → Domain T U F G → List Made → Type 0
 IsLiveTable {T} {U} domain table =
     (m : Messages T U) × (s : State T U) × (handles : List Handle) × (events : List (Event T U)) × Shows domain m s × IsTable s handles events (map entry_for table)
 
 -- Whatever state the domain shows and whatever handles the table has entries of, the command steps to what the domain shows
 -- afterwards, with this reply, and the table follows.
-abbrev pub Carries : {T U F : Type 0} → Environment → Defaults T U → (old new : Domain T U F) → (table : List Made) → Command T U → Reply T U → (table' : List Made) → (made : Made) → Type 0
+abbrev pub Carries : {T U F G : Type 0} → Environment → Defaults T U → (old new : Domain T U F G) → (table : List Made) → Command T U → Reply T U → (table' : List Made) → (made : Made) → Type 0
 Carries {T} {U} environment defaults old new table command reply table' made =
     (m : Messages T U) (s : State T U) (handles : List Handle) (events : List (Event T U)) → Shows old m s → IsTable s handles events (map entry_for table)
     → (default_value : T) (default_header : U) → defaults.IsDefaultValue default_value → defaults.IsDefaultHeader default_header

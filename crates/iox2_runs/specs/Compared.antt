@@ -18,7 +18,7 @@ use Rattle.iox2_commands.specs.declared.reply.Reply.TheVariants.{SubscriberMade}
 use Rattle.iox2_runs.specs.DomainRuns.{RunsOnDomain}
 
 -- The commands ran on a new domain with these settings, where only one value of each type is a default.
-abbrev pub RanAfresh : {T U F : Type 0} → Defaults T U → ServiceConfig → List (Command T U) → Domain T U F → List (Reply T U) → Type 0
+abbrev pub RanAfresh : {T U F G : Type 0} → Defaults T U → ServiceConfig → List (Command T U) → Domain T U F G → List (Reply T U) → Type 0
 RanAfresh {T} {U} defaults c commands new replies =
     HasOneDefault defaults → (default_value : T) (default_header : U) → defaults.IsDefaultValue default_value → defaults.IsDefaultHeader default_header
     → RunsOnDomain (only_defaults default_value default_header) new no_messages (fresh c) commands replies
@@ -29,8 +29,8 @@ RanAfresh {T} {U} defaults c commands new replies =
 -- same replies, then it sees the same at the end of both, and reads of its samples got the same replies. It sees the same after
 -- each number of commands too: at any point of each run, of which there is one after each number of commands (`grants` of both
 -- runs).
-pub record AreCompared {T U F : Type 0} (default_value : T) (default_header : U) (c : ServiceConfig) (commands reduced : List (Command T U))
-    (new : Domain T U F) (replies : List (Reply T U)) (new' : Domain T U F) (replies' : List (Reply T U)) : Type 0 where
+pub record AreCompared {T U F G : Type 0} (default_value : T) (default_header : U) (c : ServiceConfig) (commands reduced : List (Command T U))
+    (new : Domain T U F G) (replies : List (Reply T U)) (new' : Domain T U F G) (replies' : List (Reply T U)) : Type 0 where
   pub first : RunsOnDomain (only_defaults default_value default_header) new no_messages (fresh c) commands replies
   pub second : RunsOnDomain (only_defaults default_value default_header) new' no_messages (fresh c) reduced replies'
   pub isolated : (position q : ℕ) → OmitsOthersFrom position commands commands reduced → AreIndependent c position commands replies reduced replies'

@@ -15,13 +15,13 @@ item_of (Written sample) = Both (written_loan sample) (A_blocked_send sample.loa
 item_of (Blocked blocked) = blocked_send blocked
 item_of (Sample sample) = received_sample sample
 
-module _ {T U F : Type 0} where
+module _ {T U F G : Type 0} where
   -- The table has no port, no loan, no blocked send and no sample that was live in this domain, and no publisher of one.
-  abbrev pub AreNewIn : Domain T U F → List Made → Type 0
+  abbrev pub AreNewIn : Domain T U F G → List Made → Type 0
   AreNewIn start table = (of : ℕ) → IsNewIn start (item_of (slice_index_or table of Nothing))
 
   -- Where all that was live in an earlier domain is live and the table has nothing of it, this is so afterwards too, also of
   -- what is made.
-  abbrev pub Leaves : (old new : Domain T U F) → (table table' : List Made) → (made : Made) → Type 0
+  abbrev pub Leaves : (old new : Domain T U F G) → (table table' : List Made) → (made : Made) → Type 0
   Leaves old new table table' made =
-      (start : Domain T U F) → Stays start old → AreNewIn start table → Stays start new × AreNewIn start table' × IsNewIn start (item_of made)
+      (start : Domain T U F G) → Stays start old → AreNewIn start table → Stays start new × AreNewIn start table' × IsNewIn start (item_of made)

@@ -40,22 +40,26 @@ module _ {T U : Type 0} (s : State T U) where
   abbrev pub IsUnblocked : (p : ℕ) → Type 0
   IsUnblocked p = (x : Publisher) → s.publishers p ≡ Some x → x.blocked ≡ None
 
-  -- No box answers full buffers for the publisher, where it is there.
+  -- No box answers for the publisher, where it is there.
   abbrev pub HasNoBox : (p : ℕ) → Type 0
-  HasNoBox p = (x : Publisher) → s.publishers p ≡ Some x → x.backpressure_handler ≡ Some Custom → ⊥
+  HasNoBox p = (x : Publisher) → s.publishers p ≡ Some x → (x.backpressure_handler ≡ Some Custom → ⊥) × (x.degradation_handler ≡ Custom → ⊥)
+
+  -- Nor does one for the subscriber.
+  abbrev pub HasNoReceiverBox : (q : ℕ) → Type 0
+  HasNoReceiverBox q = (y : Subscriber) → s.subscribers q ≡ Some y → y.degradation_handler ≡ Custom → ⊥
 
   -- The loan n is out, which is written or not. The publisher that lent it may be closed.
   abbrev pub HasLoan : (p n : ℕ) → (is_written : Bool) → Type 0
   HasLoan p n is_written = ((l : Loan T U) × (s.loans n ≡ Some l) × (l.publisher ≡ p) × (l.is_written ≡ is_written)) × (p < s.next_port)
 
-  -- The entry names what the handle names in this service, and that is live. The publisher that it names has no box, but a sample's may
+  -- The entry names what the handle names in this service, and that is live. The port that it names has no box, but a sample's may
   -- have one.
   abbrev pub IsEntryOf : Handle → TableEntry → Type 0
   IsEntryOf handle No_entry = IsSpent handle
   IsEntryOf handle (Publisher_entry service p) =
       (service ≡ (s.config).service_id) × (handle ≡ Publisher_handle p) × (x : Publisher) × (s.publishers p ≡ Some x) × HasNoBox p
   IsEntryOf handle (Subscriber_entry service q) =
-      (service ≡ (s.config).service_id) × (handle ≡ Subscriber_handle q) × (y : Subscriber) × (s.subscribers q ≡ Some y) × (y.is_open ≡ true)
+      (service ≡ (s.config).service_id) × (handle ≡ Subscriber_handle q) × (y : Subscriber) × (s.subscribers q ≡ Some y) × (y.is_open ≡ true) × HasNoReceiverBox q
   IsEntryOf handle (Unwritten_entry service p n) = (service ≡ (s.config).service_id) × (handle ≡ Loan_handle n) × HasLoan p n false × HasNoBox p
   IsEntryOf handle (Written_entry service p n) = (service ≡ (s.config).service_id) × (handle ≡ Loan_handle n) × HasLoan p n true × HasNoBox p
   IsEntryOf handle (Blocked_entry service p n) = (service ≡ (s.config).service_id) × (handle ≡ Blocked_handle p n) × HoldsBlocked s p n × HasNoBox p

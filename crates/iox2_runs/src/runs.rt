@@ -149,7 +149,8 @@ fn carry_out<
 /// An uninitialised loan is granted wherever a command of the run asks for one of permitted length
 /// from a publisher that waits for no receiver, has one segment and at least the slots that
 /// `worst_case_slots` says for its limit of loans, while fewer loans than that limit are out and a
-/// message number is left.
+/// message number is left. That is said of services whose elements are one unit each
+/// (`units_per_element`); on any other every loan, every value sent at once and every receive is skipped.
 ///
 /// What the commands made is spent at the end: ports stay in the domain, loans stay out, blocked
 /// sends stay so and messages stay borrowed. The memory for the replies and for what the commands make is taken

@@ -1,5 +1,6 @@
 -- A port goes over the places of the other side.
 pub mod AnyBoxes
+pub mod AnySubscriberBoxes
 pub mod MadeRoom
 pub mod Grown
 pub mod SenderChanges

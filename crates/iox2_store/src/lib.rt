@@ -6,6 +6,7 @@ mod allocation;
 mod backpressure;
 mod backpressure_handler;
 mod degradation;
+mod degradation_handler;
 mod errors;
 mod header;
 mod ids;
@@ -21,6 +22,7 @@ pub use backpressure::{
 };
 pub use backpressure_handler::BackpressureHandler;
 pub use degradation::{DegradationAction, DegradationCause, DegradationFn, DegradationInfo};
+pub use degradation_handler::DegradationHandler;
 pub use errors::{
     ConnectionFailure, DomainCreateError, LoanError, PublisherCreateError, ReceiveError, SendError,
     SharedMemoryOpenError, SubscriberCreateError, ZeroCopyCreationError,

@@ -3,7 +3,7 @@ ghost use Rattle.iox2_store.specs.declared.backpressure.BackpressureAction.TheVa
 
 use iox2_store::{
     BackpressureAction, BackpressureFn, BackpressureInfo, DegradationAction, DegradationCause,
-    DegradationFn, DegradationInfo,
+    DegradationFn, DegradationHandler, DegradationInfo,
 };
 use std::time::Duration;
 
@@ -68,4 +68,22 @@ fn a_boxed_degradation_handler_answers(rt: HostRuntime) {
     let answer = handler.call(DegradationCause::FailedToEstablishConnection, &info);
     drop(handler);
     assert!(rt; answer == DegradationAction::Ignore);
+}
+
+#[test]
+fn a_handler_of_refused_connections_answers(rt: HostRuntime) {
+    let info = DegradationInfo {
+        service_id: 7,
+        sender_port_id: 2,
+        receiver_port_id: 1,
+    };
+    let strict = DegradationHandler::new_with(DegradationAction::DegradeAndFail);
+    let first = strict.call(DegradationCause::FailedToEstablishConnection, &info);
+    drop(strict);
+    let box_of_it: Box<dyn DegradationFn> = Box::new(rt.alloc(), Indifference).expect(&rt, "memory");
+    let indifferent: DegradationHandler = DegradationHandler::Custom(box_of_it);
+    let second = indifferent.call(DegradationCause::FailedToEstablishConnection, &info);
+    drop(indifferent);
+    assert!(rt; first == DegradationAction::DegradeAndFail);
+    assert!(rt; second == DegradationAction::Ignore);
 }

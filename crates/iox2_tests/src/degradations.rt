@@ -17,6 +17,7 @@ fn passed_on(
     let handler = DegradationHandler::new_with(action);
     let factory = domain.subscriber_builder().set_degradation_handler(handler);
     let subscriber = factory.create(&mut domain).expect(rt, "a subscriber");
+    let handler = DegradationHandler::new_with(action);
     let factory = domain.publisher_builder().set_degradation_handler(handler);
     let publisher = factory.create(&mut domain).expect(rt, "a publisher");
     let sent = publisher.send_copy(&mut domain, Reading { celsius: 21 });

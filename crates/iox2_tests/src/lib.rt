@@ -12,6 +12,8 @@ mod copies;
 #[cfg(test)]
 mod custom_payloads;
 #[cfg(test)]
+mod degradation_boxes;
+#[cfg(test)]
 mod degradations;
 #[cfg(test)]
 mod discards;
@@ -27,6 +29,8 @@ mod in_place;
 mod loans;
 #[cfg(test)]
 mod overrides;
+#[cfg(test)]
+mod parts;
 #[cfg(test)]
 mod payloads;
 #[cfg(test)]

@@ -383,6 +383,7 @@ fn slices_arrive_whatever_a_refused_connection_would_do(rt: HostRuntime) {
         .slice_subscriber_builder()
         .set_degradation_handler(handler);
     let subscriber = factory.create(&mut domain).expect(&rt, "a subscriber");
+    let handler = DegradationHandler::new_with(DegradationAction::DegradeAndFail);
     let factory = domain
         .slice_publisher_builder()
         .set_degradation_handler(handler);

@@ -2,7 +2,7 @@
 ghost use Rattle.std.specs.Prelude.{◌≡◌, ℕ, ◌<◌, cond, true, false, Some, None, length, slice_index_or, [], IsSomeAnd, IfOk, OnOk, OnErr, MatchResult};
 ghost use Rattle.slab.specs.Slab.{get};
 ghost use Rattle.iox2_slots.specs.Link.{Link};
-ghost use Rattle.iox2_store.specs.machine.Environments.{fixed_handlers};
+ghost use Rattle.iox2_domain.specs.Boxes.{answers_of};
 ghost use Rattle.iox2_domain.specs.Ports.{PublisherFields, SubscriberFields};
 ghost use Rattle.iox2_domain.specs.Updates.{MakesConnection, StandApart, home_of, is_open_subscriber, key_from, sender_key, IsUnblockedAt};
 ghost use Rattle.iox2_domain.specs.Invariant.{IsDomain, ReceiverHas, connection_count, one_if_receivers};
@@ -10,15 +10,15 @@ ghost use Rattle.iox2_domain.specs.Connects.{MakesRoom, MakesSenderEnd, Connects
 ghost use Rattle.iox2_domain.specs.Drops.{HasEnd, LosesSenderEnd, LosesWaiting};
 ghost use Rattle.iox2_domain.specs.Histories.{HasNewEnd, HandsOut};
 
-use crate::failures::degrade;
+use crate::failures::{ask, degrade};
 use crate::marks::mark_end;
 use iox2_domain::{
-    DomainState, PublisherState, SubscriberState, answer_at, clear_key_at, is_open_at, key_at,
-    reserve_connection_at, reserve_key_at, set_key_at, stands_at,
+    Boxes, DomainState, PublisherState, SubscriberState, clear_key_at, degradation_at, is_open_at,
+    key_at, reserve_connection_at, reserve_key_at, set_key_at, stands_at,
 };
 use iox2_ends::sender::{deliver_history, drop_all, reclaim_all, remove_connection};
 use iox2_slots::{Connection, Home};
-use iox2_store::ConnectionFailure;
+use iox2_store::{BackpressureFn, ConnectionFailure, DegradationFn};
 use slab::Slab;
 use std::alloc::{AllocError, Global};
 
@@ -149,8 +149,9 @@ fn key_from(connections: &Slab<Connection>, publisher: u128, key: Option<usize>)
 // has none. Returns the key of its connection, in which no slot stands: the one that the subscriber
 // has with this very publisher, or a new one. Where memory for a new one is refused, the publisher's
 // handler is asked, and the failure is returned that it makes of this, if any.
-fn make_sender_end<T: Drop, U: Default + Drop>(
+fn make_sender_end<T: Drop, U: Default + Drop, F: BackpressureFn, G: DegradationFn>(
     state: &mut DomainState<T, U>,
+    boxes: &Boxes<F, G>,
     publisher_place: usize,
     subscriber_place: usize,
 ) -> Result<usize, Option<ConnectionFailure>>
@@ -160,8 +161,8 @@ fn make_sender_end<T: Drop, U: Default + Drop>(
     requires opened { is_open_subscriber state.old.subscribers subscriber_place ≡ true }
     requires none { sender_key state.old.publishers publisher_place subscriber_place ≡ None }
     ensures { (x : PublisherFields) → slice_index_or state.old.publishers publisher_place None ≡ Some x → x.is_due ≡ false → x.blocked ≡ None
-        → MatchResult result (λ key. MakesSenderEnd fixed_handlers state.old publisher_place subscriber_place x key state.new)
-        (λ failure. ConnectsSender fixed_handlers state.old publisher_place subscriber_place x state.new failure) }
+        → MatchResult result (λ key. MakesSenderEnd (answers_of F.allows G.allows (boxes.now).boxes) state.old publisher_place subscriber_place x key state.new)
+        (λ failure. ConnectsSender (answers_of F.allows G.allows (boxes.now).boxes) state.old publisher_place subscriber_place x state.new failure) }
 {
     let (home, buffer) = ports_at(state, publisher_place, subscriber_place);
     let other = key_at(&state.subscribers, subscriber_place, publisher_place);
@@ -174,8 +175,10 @@ fn make_sender_end<T: Drop, U: Default + Drop>(
         );
         return Ok(key);
     }
-    let answer = answer_at(&state.publishers, publisher_place);
+    let mark = degradation_at(&state.publishers, publisher_place);
+    let service_id = state.config.service_id;
     let Ok(key) = make_between(state, publisher_place, subscriber_place, home, buffer) else {
+        let answer = ask(mark, boxes, home.publisher, service_id, home);
         return Err(degrade(&mut state.warnings, answer, home));
     };
     set_key_at(
@@ -214,8 +217,9 @@ fn hand_out_history<T: Drop, U: Default + Drop>(
 // The publisher at a place that isn't due, with no end at a subscriber's place, gets one if an open
 // subscriber stands there. The last messages of its history wait in it, as many as fit. Where memory
 // for a connection is refused, its handler is asked.
-fn connect_sender<T: Drop, U: Default + Drop>(
+fn connect_sender<T: Drop, U: Default + Drop, F: BackpressureFn, G: DegradationFn>(
     state: &mut DomainState<T, U>,
+    boxes: &Boxes<F, G>,
     publisher_place: usize,
     subscriber_place: usize,
 ) -> Option<ConnectionFailure>
@@ -226,12 +230,12 @@ fn connect_sender<T: Drop, U: Default + Drop>(
     requires unblocked { IsUnblockedAt state.old.publishers publisher_place }
     requires none { sender_key state.old.publishers publisher_place subscriber_place ≡ None }
     ensures { (x : PublisherFields) → slice_index_or state.old.publishers publisher_place None ≡ Some x
-        → ConnectsSender fixed_handlers state.old publisher_place subscriber_place x state.new result }
+        → ConnectsSender (answers_of F.allows G.allows (boxes.now).boxes) state.old publisher_place subscriber_place x state.new result }
 {
     if !is_open_at(&state.subscribers, subscriber_place) {
         return None;
     }
-    match make_sender_end(state, publisher_place, subscriber_place) {
+    match make_sender_end(state, boxes, publisher_place, subscriber_place) {
         Ok(key) => {
             hand_out_history(state, publisher_place, key);
             mark_end(state, publisher_place, subscriber_place);
@@ -287,8 +291,9 @@ fn disconnect_sender<T: Drop, U: Default + Drop>(
 /// to the subscriber that stands there stays; where it is closed, what waits for it is lost. Any
 /// other end goes, and one to an open subscriber is made, in which the last messages of the history
 /// wait. Where memory for one is refused, its handler is asked.
-pub(crate) fn update_sender_place<T: Drop, U: Default + Drop>(
+pub(crate) fn update_sender_place<T: Drop, U: Default + Drop, F: BackpressureFn, G: DegradationFn>(
     state: &mut DomainState<T, U>,
+    boxes: &Boxes<F, G>,
     publisher_place: usize,
     subscriber_place: usize,
 ) -> Option<ConnectionFailure>
@@ -298,15 +303,15 @@ pub(crate) fn update_sender_place<T: Drop, U: Default + Drop>(
     requires settled { (x : PublisherFields) → slice_index_or state.old.publishers publisher_place None ≡ Some x → x.is_due ≡ false }
     requires unblocked { IsUnblockedAt state.old.publishers publisher_place }
     ensures { (x : PublisherFields) → slice_index_or state.old.publishers publisher_place None ≡ Some x
-        → ConnectsSender fixed_handlers state.old publisher_place subscriber_place x state.new result }
+        → ConnectsSender (answers_of F.allows G.allows (boxes.now).boxes) state.old publisher_place subscriber_place x state.new result }
 {
     let Some(key) = key_at(&state.publishers, publisher_place, subscriber_place) else {
-        return connect_sender(state, publisher_place, subscriber_place);
+        return connect_sender(state, boxes, publisher_place, subscriber_place);
     };
     let subscriber = state.connections[key].home().subscriber;
     if !stands_at(&state.subscribers, subscriber_place, subscriber) {
         disconnect_sender(state, publisher_place, subscriber_place, key);
-        connect_sender(state, publisher_place, subscriber_place)
+        connect_sender(state, boxes, publisher_place, subscriber_place)
     } else if !is_open_at(&state.subscribers, subscriber_place) {
         drop_waiting_at(state, publisher_place, key);
         None

@@ -1,15 +1,37 @@
 //! What a port does without a connection, and what its update fails with.
 ghost use Rattle.std.specs.Prelude.{◌≡◌};
-ghost use Rattle.iox2_store.specs.machine.Connections.{failure_of, first_failure, warnings_after};
+ghost use Rattle.iox2_store.specs.machine.Connections.{DegradationAnswers, failure_of, first_failure, warnings_after};
 ghost use Rattle.iox2_store.specs.machine.Limits.{warning_limit};
+ghost use Rattle.iox2_domain.specs.Boxes.{answers_of};
+ghost use Rattle.iox2_domain.specs.Handlers.{handler_of};
+ghost use Rattle.iox2_domain.specs.Updates.{refused_between};
 ghost use Rattle.iox2_domain.specs.WarningRing.{warning_ring};
 
-use iox2_domain::Warnings;
+use iox2_domain::{Boxes, HandlerMark, Warnings, degradation_answer};
 use iox2_slots::Home;
 use iox2_store::{
-    ConnectionFailure, DegradationAction, UniquePublisherId, UniqueSubscriberId, Warning,
-    ZeroCopyCreationError,
+    BackpressureFn, ConnectionFailure, DegradationAction, DegradationFn, DegradationInfo,
+    UniquePublisherId, UniqueSubscriberId, Warning, ZeroCopyCreationError,
 };
+
+/// What the port with an id and this mark, of the service with a number, answers for the connection
+/// which was to stand there, for which memory was refused. A box is among these boxes.
+pub(crate) fn ask<F: BackpressureFn, G: DegradationFn>(
+    mark: HandlerMark<DegradationAction>,
+    boxes: &Boxes<F, G>,
+    port: u128,
+    service_id: u128,
+    home: Home,
+) -> DegradationAction
+    ensures { DegradationAnswers (answers_of F.allows G.allows (boxes.now).boxes) port (handler_of mark) (refused_between service_id home) result }
+{
+    let info = DegradationInfo {
+        service_id,
+        sender_port_id: home.publisher,
+        receiver_port_id: home.subscriber,
+    };
+    degradation_answer(mark, boxes, port, &info)
+}
 
 /// What a port does without the connection which was to stand there, for which memory was refused:
 /// as its handler answers it goes on, or warns, or its update fails. The connection is counted.

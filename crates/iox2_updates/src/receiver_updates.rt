@@ -5,17 +5,20 @@ ghost use Rattle.slab.specs.Slab.{get, ContainsKey};
 ghost use Rattle.iox2_slots.specs.Link.{Link};
 ghost use Rattle.iox2_store.specs.machine.Connections.{expired_buffer_full};
 ghost use Rattle.iox2_store.specs.machine.Environments.{fixed_handlers};
+ghost use Rattle.iox2_domain.specs.Boxes.{answers_of};
 ghost use Rattle.iox2_domain.specs.Ports.{PublisherFields, SubscriberFields};
 ghost use Rattle.iox2_domain.specs.Invariant.{IsDomain};
 ghost use Rattle.iox2_domain.specs.Updates.{home_of, is_subscriber_due};
 ghost use Rattle.iox2_domain.specs.ReceiverSteps.{NotJoined, JoinsAt, ConnectsEnd, ConnectsAt, DisconnectsAt, UpdatesReceiver};
 
 use crate::connects::{home_of, make_between};
-use crate::failures::{degrade, first_of};
+use crate::failures::{ask, degrade, first_of};
 use crate::retirements::retire;
-use iox2_domain::{DomainState, PublisherState, answer_at, is_due_at, key_at, set_key_at, settle};
+use iox2_domain::{
+    Boxes, DomainState, PublisherState, degradation_at, is_due_at, key_at, set_key_at, settle,
+};
 use iox2_slots::Home;
-use iox2_store::{ConnectionFailure, ZeroCopyCreationError};
+use iox2_store::{BackpressureFn, ConnectionFailure, DegradationFn, ZeroCopyCreationError};
 
 // The id of the publisher at a place.
 fn publisher_at(publishers: &[Option<PublisherState>], place: usize) -> Option<u128>
@@ -108,8 +111,9 @@ fn joined_key<T: Drop, U: Default + Drop>(
 // The subscriber at a place gets its end to the publisher at another, at whose place it has none.
 // Where memory for a connection is refused, its handler is asked, and the failure is returned that it
 // makes of this, if any.
-fn connect_end<T: Drop, U: Default + Drop>(
+fn connect_end<T: Drop, U: Default + Drop, F: BackpressureFn, G: DegradationFn>(
     state: &mut DomainState<T, U>,
+    boxes: &Boxes<F, G>,
     subscriber_place: usize,
     publisher_place: usize,
 ) -> Option<ConnectionFailure>
@@ -118,7 +122,7 @@ fn connect_end<T: Drop, U: Default + Drop>(
     requires subscriber { (y : SubscriberFields) × (slice_index_or state.old.subscribers subscriber_place None ≡ Some y) × (slice_index_or y.keys publisher_place None ≡ None) }
     ensures { (x : PublisherFields) (y : SubscriberFields) → slice_index_or state.old.publishers publisher_place None ≡ Some x
         → slice_index_or state.old.subscribers subscriber_place None ≡ Some y
-        → ConnectsEnd fixed_handlers state.old subscriber_place publisher_place y x.id state.new result }
+        → ConnectsEnd (answers_of F.allows G.allows (boxes.now).boxes) state.old subscriber_place publisher_place y x.id state.new result }
 {
     let (home, buffer) = between(state, publisher_place, subscriber_place);
     if let Some(key) = joined_key(state, publisher_place, subscriber_place, home.subscriber) {
@@ -130,8 +134,10 @@ fn connect_end<T: Drop, U: Default + Drop>(
         );
         return None;
     }
-    let answer = answer_at(&state.subscribers, subscriber_place);
+    let mark = degradation_at(&state.subscribers, subscriber_place);
+    let service_id = state.config.service_id;
     let Ok(key) = make_between(state, publisher_place, subscriber_place, home, buffer) else {
+        let answer = ask(mark, boxes, home.subscriber, service_id, home);
         return degrade(&mut state.warnings, answer, home);
     };
     set_key_at(
@@ -157,8 +163,9 @@ fn is_publishers<T: Drop, U: Default + Drop>(
 
 // The subscriber at a place, which has its end at this key at a publisher's place, keeps it where it
 // leads to the publisher that stands there, and gets one in its place where not.
-fn replace_end<T: Drop, U: Default + Drop>(
+fn replace_end<T: Drop, U: Default + Drop, F: BackpressureFn, G: DegradationFn>(
     state: &mut DomainState<T, U>,
+    boxes: &Boxes<F, G>,
     subscriber_place: usize,
     publisher_place: usize,
     key: usize,
@@ -168,13 +175,13 @@ fn replace_end<T: Drop, U: Default + Drop>(
     requires publisher { (x : PublisherFields) × (slice_index_or state.old.publishers publisher_place None ≡ Some x) × (x.id ≡ publisher) }
     requires subscriber { (y : SubscriberFields) × (slice_index_or state.old.subscribers subscriber_place None ≡ Some y) × (slice_index_or y.keys publisher_place None ≡ Some key) }
     ensures { (y : SubscriberFields) → slice_index_or state.old.subscribers subscriber_place None ≡ Some y
-        → ConnectsAt fixed_handlers state.old subscriber_place publisher_place y state.new result }
+        → ConnectsAt (answers_of F.allows G.allows (boxes.now).boxes) state.old subscriber_place publisher_place y state.new result }
 {
     if is_publishers(state, key, publisher) {
         return None;
     }
     if retire(state, subscriber_place, publisher_place, key) {
-        connect_end(state, subscriber_place, publisher_place)
+        connect_end(state, boxes, subscriber_place, publisher_place)
     } else {
         Some(expired_full())
     }
@@ -182,8 +189,9 @@ fn replace_end<T: Drop, U: Default + Drop>(
 
 // At a place where a publisher stands, the subscriber keeps its end to it or gets one, after the one
 // that it has to another was retired.
-fn connect_at<T: Drop, U: Default + Drop>(
+fn connect_at<T: Drop, U: Default + Drop, F: BackpressureFn, G: DegradationFn>(
     state: &mut DomainState<T, U>,
+    boxes: &Boxes<F, G>,
     subscriber_place: usize,
     publisher_place: usize,
 ) -> Option<ConnectionFailure>
@@ -191,14 +199,21 @@ fn connect_at<T: Drop, U: Default + Drop>(
     requires publisher { publisher_place < length state.old.publishers }
     requires subscriber { (y : SubscriberFields) × (slice_index_or state.old.subscribers subscriber_place None ≡ Some y) }
     ensures { (y : SubscriberFields) → slice_index_or state.old.subscribers subscriber_place None ≡ Some y
-        → ConnectsAt fixed_handlers state.old subscriber_place publisher_place y state.new result }
+        → ConnectsAt (answers_of F.allows G.allows (boxes.now).boxes) state.old subscriber_place publisher_place y state.new result }
 {
     let Some(publisher) = publisher_at(&state.publishers, publisher_place) else {
         return None;
     };
     match key_at(&state.subscribers, subscriber_place, publisher_place) {
-        Some(key) => replace_end(state, subscriber_place, publisher_place, key, publisher),
-        None => connect_end(state, subscriber_place, publisher_place),
+        Some(key) => replace_end(
+            state,
+            boxes,
+            subscriber_place,
+            publisher_place,
+            key,
+            publisher,
+        ),
+        None => connect_end(state, boxes, subscriber_place, publisher_place),
     }
 }
 
@@ -208,17 +223,18 @@ fn connect_at<T: Drop, U: Default + Drop>(
 /// refused, the update fails, and the subscriber is due again.
 ///
 /// iceoryx2's `Subscriber::force_update_connections` (`src/port/subscriber.rs`).
-pub fn update_subscriber<T: Drop, U: Default + Drop>(
+pub fn update_subscriber<T: Drop, U: Default + Drop, F: BackpressureFn, G: DegradationFn>(
     state: &mut DomainState<T, U>,
+    boxes: &Boxes<F, G>,
     place: usize,
 ) -> Option<ConnectionFailure>
     requires agrees { IsDomain state.old }
     requires stands { (y : SubscriberFields) × (slice_index_or state.old.subscribers place None ≡ Some y) }
     ensures { (y : SubscriberFields) → slice_index_or state.old.subscribers place None ≡ Some y
-        → UpdatesReceiver fixed_handlers state.old place y state.new result }
+        → UpdatesReceiver (answers_of F.allows G.allows (boxes.now).boxes) state.old place y state.new result }
 {
     if is_due_at(&state.subscribers, place) {
-        walk_places(state, place)
+        walk_places(state, boxes, place)
     } else {
         None
     }
@@ -227,20 +243,21 @@ pub fn update_subscriber<T: Drop, U: Default + Drop>(
 // The subscriber at a place, which is due, goes over the publishers' places, and then over the empty
 // ones.
 #[inline(never)]
-fn walk_places<T: Drop, U: Default + Drop>(
+fn walk_places<T: Drop, U: Default + Drop, F: BackpressureFn, G: DegradationFn>(
     state: &mut DomainState<T, U>,
+    boxes: &Boxes<F, G>,
     place: usize,
 ) -> Option<ConnectionFailure>
     requires agrees { IsDomain state.old }
     requires stands { (y : SubscriberFields) × (slice_index_or state.old.subscribers place None ≡ Some y) }
     requires due { is_subscriber_due state.old.subscribers place ≡ true }
     ensures { (y : SubscriberFields) → slice_index_or state.old.subscribers place None ≡ Some y
-        → UpdatesReceiver fixed_handlers state.old place y state.new result }
+        → UpdatesReceiver (answers_of F.allows G.allows (boxes.now).boxes) state.old place y state.new result }
 {
     settle(&mut state.subscribers, place);
     let mut first = None;
     for other in 0..state.publishers.len() {
-        let failure = connect_at(state, place, other);
+        let failure = connect_at(state, boxes, place, other);
         first = first_of(first, failure);
     }
     let mut later = None;

@@ -1,6 +1,6 @@
 //! Updates: a port gets its connections with the ports of the other side.
 ghost use Rattle.std.specs.Prelude.{◌≡◌, Some, None, true, slice_index_or};
-ghost use Rattle.iox2_store.specs.machine.Environments.{fixed_handlers};
+ghost use Rattle.iox2_domain.specs.Boxes.{answers_of};
 ghost use Rattle.iox2_domain.specs.Ports.{PublisherFields};
 ghost use Rattle.iox2_domain.specs.Invariant.{IsDomain};
 ghost use Rattle.iox2_domain.specs.Updates.{is_publisher_due, IsUnblockedAt};
@@ -8,8 +8,8 @@ ghost use Rattle.iox2_domain.specs.Connects.{UpdatesPublisher};
 
 use crate::connects::update_sender_place;
 use crate::failures::first_of;
-use iox2_domain::{DomainState, is_due_at, settle};
-use iox2_store::ConnectionFailure;
+use iox2_domain::{Boxes, DomainState, is_due_at, settle};
+use iox2_store::{BackpressureFn, ConnectionFailure, DegradationFn};
 
 /// Updates the publisher at a place, where it is due: it goes over the subscribers' places. An end to
 /// the subscriber that stands there stays; where it is closed, what waits for it is lost. Any other
@@ -17,18 +17,19 @@ use iox2_store::ConnectionFailure;
 /// asked, which may fail the update. The first failure is returned.
 ///
 /// iceoryx2's `PublisherSharedState::force_update_connections` (`src/port/publisher.rs`).
-pub fn update_publisher<T: Drop, U: Default + Drop>(
+pub fn update_publisher<T: Drop, U: Default + Drop, F: BackpressureFn, G: DegradationFn>(
     state: &mut DomainState<T, U>,
+    boxes: &Boxes<F, G>,
     place: usize,
 ) -> Option<ConnectionFailure>
     requires agrees { IsDomain state.old }
     requires stands { (x : PublisherFields) × (slice_index_or state.old.publishers place None ≡ Some x) }
     requires unblocked { IsUnblockedAt state.old.publishers place }
     ensures { (x : PublisherFields) → slice_index_or state.old.publishers place None ≡ Some x
-        → UpdatesPublisher fixed_handlers state.old place x state.new result }
+        → UpdatesPublisher (answers_of F.allows G.allows (boxes.now).boxes) state.old place x state.new result }
 {
     if is_due_at(&state.publishers, place) {
-        connect_publisher(state, place)
+        connect_publisher(state, boxes, place)
     } else {
         None
     }
@@ -36,8 +37,9 @@ pub fn update_publisher<T: Drop, U: Default + Drop>(
 
 // The publisher at a place, which is due, goes over the subscribers' places.
 #[inline(never)]
-fn connect_publisher<T: Drop, U: Default + Drop>(
+fn connect_publisher<T: Drop, U: Default + Drop, F: BackpressureFn, G: DegradationFn>(
     state: &mut DomainState<T, U>,
+    boxes: &Boxes<F, G>,
     place: usize,
 ) -> Option<ConnectionFailure>
     requires agrees { IsDomain state.old }
@@ -45,12 +47,12 @@ fn connect_publisher<T: Drop, U: Default + Drop>(
     requires unblocked { IsUnblockedAt state.old.publishers place }
     requires due { is_publisher_due state.old.publishers place ≡ true }
     ensures { (x : PublisherFields) → slice_index_or state.old.publishers place None ≡ Some x
-        → UpdatesPublisher fixed_handlers state.old place x state.new result }
+        → UpdatesPublisher (answers_of F.allows G.allows (boxes.now).boxes) state.old place x state.new result }
 {
     settle(&mut state.publishers, place);
     let mut first = None;
     for other in 0..state.subscribers.len() {
-        let failure = update_sender_place(state, place, other);
+        let failure = update_sender_place(state, boxes, place, other);
         first = first_of(first, failure);
     }
     first

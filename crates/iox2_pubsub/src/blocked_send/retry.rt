@@ -42,7 +42,7 @@ impl BlockedSend {
     ) -> Result<SendOutcome, SendError>
         requires live { IsBlockedSend domain.old self }
         ensures retries { (m : Messages T U) (s : State T U) (x : Record) (b : Waiting) → Shows domain.old m s → s.publishers (blocked_sender self) ≡ Some x → x.blocked ≡ Some b
-            → (s' : State T U) × Shows domain.new m s' × Retry (answers_of F.allows (domain.old).boxes) s (blocked_sender self) b elapsed s' (result_of_send result) }
+            → (s' : State T U) × Shows domain.new m s' × Retry (answers_of F.allows G.allows (domain.old.boxes).publishers) s (blocked_sender self) b elapsed s' (result_of_send result) }
         ensures blocked { IfOk result (λ outcome. IfBlocked outcome (λ blocked. IsBlockedSend domain.new blocked × (blocked_key blocked ≡ blocked_key self))) }
         ensures no_more { IfOk result (λ outcome. IfBlocked outcome (λ blocked. receivers_ahead domain.new blocked ≤ receivers_ahead domain.old self)) }
         ensures ok { NeverFails domain.old (blocked_sender self) → IsOk result }
@@ -55,7 +55,7 @@ impl BlockedSend {
         ensures given_back { IfOk result IsDelivered → HasOneMoreLeft (blocked_sender self) domain.old domain.new }
         ensures stays { StaysBut (blocked_send self) domain.old domain.new }
         ensures stays_since { IfOk result IsDelivered → StaysSince self domain.old domain.new }
-        ensures since_again { IfOk result (λ outcome. IfBlocked outcome (λ blocked. (after : Kept T U F) → StaysSince blocked domain.new after → StaysSince self domain.old after)) }
+        ensures since_again { IfOk result (λ outcome. IfBlocked outcome (λ blocked. (after : Kept T U F G) → StaysSince blocked domain.new after → StaysSince self domain.old after)) }
     {
         let BlockedSend { service_id, loan } = self;
         let place = domain.state.find_live_publisher(loan.publisher, loan.place);
@@ -75,7 +75,7 @@ impl BlockedSend {
     ) -> Result<SendOutcome, SendError>
         requires live { IsBlockedSend domain.old self }
         ensures gives_up { (m : Messages T U) (s : State T U) (x : Record) (b : Waiting) → Shows domain.old m s → s.publishers (blocked_sender self) ≡ Some x → x.blocked ≡ Some b
-            → (s' : State T U) × Shows domain.new m s' × GiveUp (answers_of F.allows (domain.old).boxes) s (blocked_sender self) b s' (result_of_send result) }
+            → (s' : State T U) × Shows domain.new m s' × GiveUp (answers_of F.allows G.allows (domain.old.boxes).publishers) s (blocked_sender self) b s' (result_of_send result) }
         ensures blocked { IfOk result (λ outcome. IfBlocked outcome (λ blocked. IsBlockedSend domain.new blocked × (blocked_key blocked ≡ blocked_key self))) }
         ensures fewer { IfOk result (λ outcome. IfBlocked outcome (λ blocked. receivers_ahead domain.new blocked < receivers_ahead domain.old self)) }
         ensures ok { NeverFails domain.old (blocked_sender self) → IsOk result }
@@ -88,7 +88,7 @@ impl BlockedSend {
         ensures given_back { IfOk result IsDelivered → HasOneMoreLeft (blocked_sender self) domain.old domain.new }
         ensures stays { StaysBut (blocked_send self) domain.old domain.new }
         ensures stays_since { IfOk result IsDelivered → StaysSince self domain.old domain.new }
-        ensures since_again { IfOk result (λ outcome. IfBlocked outcome (λ blocked. (after : Kept T U F) → StaysSince blocked domain.new after → StaysSince self domain.old after)) }
+        ensures since_again { IfOk result (λ outcome. IfBlocked outcome (λ blocked. (after : Kept T U F G) → StaysSince blocked domain.new after → StaysSince self domain.old after)) }
     {
         let BlockedSend { service_id, loan } = self;
         let place = domain.state.find_live_publisher(loan.publisher, loan.place);

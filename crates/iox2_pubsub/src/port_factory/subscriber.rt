@@ -1,69 +1,77 @@
 //! The factory of subscribers.
 ghost use Rattle.std.specs.Prelude.{◌≡◌, None, Some, IfOk, MatchResult};
 ghost use Rattle.iox2_store.specs.declared.degradation.DegradationAction.TheVariants.{Warn};
-ghost use Rattle.iox2_store.specs.machine.Environments.{fixed_handlers};
+ghost use Rattle.iox2_domain.specs.Boxes.{answers_of};
 ghost use Rattle.iox2_store.specs.machine.Records.{Fixed};
 ghost use Rattle.iox2_store.specs.machine.Ports.{default_subscriber_settings, buffer_for, CreateSubscriber};
 ghost use Rattle.iox2_store.specs.machine.State.{State, Messages};
-ghost use Rattle.iox2_pubsub.specs.Live.{IsLiveSubscriber, IsNewIn, Stays, subscriber_port, UpToDateStay, payloads, waiting};
+ghost use Rattle.iox2_pubsub.specs.Live.{IsLiveSubscriber, IsNewIn, Stays, subscriber_box, subscriber_port, UpToDateStay, payloads, waiting};
 ghost use Rattle.iox2_pubsub.specs.LoansLeft.{LoansLeftStay};
-ghost use Rattle.iox2_pubsub.specs.Factories.{answer_of};
+ghost use Rattle.iox2_pubsub.specs.Factories.{receiver_with_degradation};
 ghost use Rattle.iox2_domain.specs.Shows.{Shows};
 
-use crate::degradation_handler::DegradationHandler;
 use crate::domain::Domain;
+use crate::port_factory::degradations::{box_in, mark_of};
 use crate::subscriber::Subscriber;
-use iox2_domain::SubscriberOptions;
+use iox2_domain::{HandlerMark, SubscriberOptions};
 use iox2_ports::create_subscriber;
-use iox2_store::{BackpressureFn, DegradationAction, DegradationFn, SubscriberCreateError};
+use iox2_store::{
+    BackpressureFn, DegradationAction, DegradationFn, DegradationHandler, SubscriberCreateError,
+};
 use std::marker::Model;
 
 /// Makes a subscriber. It begins with the largest buffer that the domain allows.
 ///
 /// iceoryx2's `PortFactorySubscriber` (`src/service/port_factory/subscriber.rs`).
 #[derive(Drop)]
-pub struct PortFactorySubscriber {
+pub struct PortFactorySubscriber<G = Box<dyn DegradationFn>> {
     options: SubscriberOptions,
+    // What answers where it can't make a connection, where that is a box.
+    degradation_box: Option<G>,
 }
 
-impl Model for PortFactorySubscriber {
-    ghost use Rattle.iox2_store.specs.machine.Records.{SubscriberSettings};
+impl<G> Model for PortFactorySubscriber<G> {
     ghost use Rattle.iox2_domain.specs.SubscriberEntry.{asked_for};
+    ghost use Rattle.iox2_pubsub.specs.Factories.{SubscriberFactory};
 
-    ghost Value = { SubscriberSettings };
+    ghost Value = { SubscriberFactory G };
 
-    ghost view = { λ factory. asked_for factory.options };
+    ghost view = { λ factory. record { settings = asked_for factory.options; box = factory.degradation_box } };
 }
 
-impl PortFactorySubscriber {
+impl<G: DegradationFn> PortFactorySubscriber<G> {
     ghost use Rattle.iox2_pubsub.specs.Handles.{buffer_size_of, subscriber_id};
     /// Sets how many messages of one publisher may wait for the subscriber. Here 0 counts as 1.
     ///
     /// iceoryx2's `PortFactorySubscriber::buffer_size` (`src/service/port_factory/subscriber.rs`).
     pub fn buffer_size(self, value: usize) -> Self
-        ensures { result ≡ record self { buffer_size = value } }
+        ensures { result ≡ record self { settings = record (self.settings) { buffer_size = value } } }
     {
         PortFactorySubscriber {
             options: SubscriberOptions {
                 buffer_size: value,
                 ..self.options
             },
+            degradation_box: self.degradation_box,
         }
     }
 
     /// Sets what answers where memory for a connection with a publisher is refused: the subscriber
-    /// goes on without it, or the domain warns of it too, as by default, or the call fails.
+    /// goes on without it, or the domain warns of it too, as by default, or the call fails. A handler
+    /// that is a box goes with the subscriber to the domain, which keeps it until the subscriber is
+    /// closed.
     ///
     /// iceoryx2's `PortFactorySubscriber::set_degradation_handler`
     /// (`src/service/port_factory/subscriber.rs`).
-    pub fn set_degradation_handler(self, handler: DegradationHandler) -> Self
-        ensures { result ≡ record self { degradation_handler = answer_of handler } }
+    pub fn set_degradation_handler(self, handler: DegradationHandler<G>) -> Self
+        ensures { result ≡ receiver_with_degradation self handler }
     {
         PortFactorySubscriber {
             options: SubscriberOptions {
-                degradation: handler.answer(),
+                degradation: mark_of(&handler),
                 ..self.options
             },
+            degradation_box: box_in(handler),
         }
     }
 
@@ -73,13 +81,14 @@ impl PortFactorySubscriber {
     /// iceoryx2's `PortFactorySubscriber::__internal_partial_clone`
     /// (`src/service/port_factory/subscriber.rs`).
     pub fn internal_partial_clone(&self) -> Self
-        ensures { result ≡ record (self.now) { degradation_handler = Fixed Warn } }
+        ensures { result ≡ record { settings = record (self.now.settings) { degradation_handler = Fixed Warn }; box = None } }
     {
         PortFactorySubscriber {
             options: SubscriberOptions {
-                degradation: DegradationAction::Warn,
+                degradation: HandlerMark::Fixed(DegradationAction::Warn),
                 ..self.options
             },
+            degradation_box: None,
         }
     }
 
@@ -92,19 +101,20 @@ impl PortFactorySubscriber {
     /// Fails with `UnableToCreatePortTag` where the domain has no port ids left, then with
     /// `BufferSizeExceedsMaxSupportedBufferSizeOfService` where the buffer is larger than the domain
     /// allows, then with `ExceedsMaxSupportedSubscribers` where there are as many subscribers as it
-    /// allows, then with `FailedToDeployThreadsafetyPolicy` where memory is refused. A failure
-    /// leaves the domain as it was, and uses up no id.
+    /// allows, then with `FailedToDeployThreadsafetyPolicy` where memory for the subscriber or its box
+    /// is refused. A failure leaves the domain as it was, and uses up no id.
     ///
     /// iceoryx2's `PortFactorySubscriber::create` (`src/service/port_factory/subscriber.rs`) and
     /// `Subscriber::new` (`src/port/subscriber.rs`).
-    pub fn create<T: Drop, U: Default + Drop, F: BackpressureFn, G: DegradationFn>(
+    pub fn create<T: Drop, U: Default + Drop, F: BackpressureFn>(
         self,
         domain: &mut Domain<T, U, F, G>,
     ) -> Result<Subscriber, SubscriberCreateError>
         ensures creates { (m : Messages T U) (s : State T U) → Shows domain.old m s → (s' : State T U) × Shows domain.new m s' × MatchResult result
-            (λ subscriber. CreateSubscriber fixed_handlers s self s' None × (subscriber_id subscriber ≡ s.next_port) × (buffer_size_of subscriber ≡ buffer_for self))
-            (λ error. CreateSubscriber fixed_handlers s self s' (Some error)) }
+            (λ subscriber. CreateSubscriber (answers_of F.allows G.allows (domain.new.boxes).subscribers) s self.settings s' None × (subscriber_id subscriber ≡ s.next_port) × (buffer_size_of subscriber ≡ buffer_for self.settings))
+            (λ error. CreateSubscriber (answers_of F.allows G.allows (domain.new.boxes).subscribers) s self.settings s' (Some error)) }
         ensures live { IfOk result (λ subscriber. IsLiveSubscriber domain.new subscriber) }
+        ensures boxed { IfOk result (λ subscriber. subscriber_box domain.new (subscriber_id subscriber) ≡ self.box) }
         ensures new { IfOk result (λ subscriber. IsNewIn domain.old (subscriber_port subscriber)) }
         ensures none { IfOk result (λ subscriber. waiting domain.new subscriber ≡ 0) }
         ensures waits { payloads domain.new ≡ payloads domain.old }
@@ -113,12 +123,18 @@ impl PortFactorySubscriber {
         ensures stays { Stays domain.old domain.new }
     {
         let service_id = domain.state.config().service_id;
-        let port = create_subscriber(&mut domain.state, &self.options)?;
+        let options = self.options;
+        let port = create_subscriber(
+            &mut domain.state,
+            &mut domain.subscriber_boxes,
+            &options,
+            self.degradation_box,
+        )?;
         Ok(Subscriber {
             service_id,
             id: port.id,
             place: port.place,
-            buffer_size: self.options.buffer_size.max(1),
+            buffer_size: options.buffer_size.max(1),
         })
     }
 }
@@ -127,14 +143,15 @@ impl<T: Drop, U: Default + Drop, F: BackpressureFn, G: DegradationFn> Domain<T, 
     /// A factory of subscribers, with the largest buffer that the domain allows.
     ///
     /// iceoryx2's `subscriber_builder` of a service's factory of ports.
-    pub fn subscriber_builder(&self) -> PortFactorySubscriber
-        ensures { result ≡ default_subscriber_settings self.now.config }
+    pub fn subscriber_builder(&self) -> PortFactorySubscriber<G>
+        ensures { result ≡ record { settings = default_subscriber_settings self.now.config; box = None } }
     {
         PortFactorySubscriber {
             options: SubscriberOptions {
                 buffer_size: self.state.config().subscriber_max_buffer_size.max(1),
-                degradation: DegradationAction::Warn,
+                degradation: HandlerMark::Fixed(DegradationAction::Warn),
             },
+            degradation_box: None,
         }
     }
 }

@@ -11,7 +11,7 @@ impl Publisher {
     ghost use Rattle.iox2_store.specs.machine.Ports.{publisher_closed};
     ghost use Rattle.iox2_store.specs.machine.Records.{Publisher as Record};
     ghost use Rattle.iox2_store.specs.machine.State.{State, Messages};
-    ghost use Rattle.iox2_pubsub.specs.Live.{IsConnected, IsPublisherKey, IsReadyPublisher, IsUpToDate, StaysBut, handler_box, publisher_key, publisher_port, payloads_from, waiting};
+    ghost use Rattle.iox2_pubsub.specs.Live.{IsConnected, IsPublisherKey, IsReadyPublisher, IsUpToDate, StaysBut, degradation_box, handler_box, publisher_key, publisher_port, payloads_from, waiting};
     ghost use Rattle.iox2_pubsub.specs.LoansLeft.{NumbersLeftStay, OthersLoansLeftStay};
     ghost use Rattle.iox2_pubsub.specs.declared.subscriber.Subscriber.{Subscriber};
     ghost use Rattle.iox2_pubsub.specs.Handles.{publisher_id};
@@ -32,6 +32,7 @@ impl Publisher {
             → Shows domain.new m (publisher_closed s (publisher_key self).port x) }
         ensures spent { IsPublisherKey domain.new (publisher_key self) → ⊥ }
         ensures unboxed { handler_box domain.new (publisher_key self).port ≡ None }
+        ensures undegraded { degradation_box domain.new (publisher_key self).port ≡ None }
         ensures no_fewer { (subscriber : Subscriber) → IsUpToDate domain.old subscriber → waiting domain.old subscriber ≤ waiting domain.new subscriber }
         ensures keeps { (publisher : ℕ) (subscriber : Subscriber) → IsUpToDate domain.old subscriber → IsConnected domain.old publisher subscriber
             → payloads_from domain.new publisher subscriber ≡ payloads_from domain.old publisher subscriber }

@@ -30,7 +30,7 @@ impl Publisher {
         requires ready { IsReadyPublisher domain.old self.now }
         requires single_valued { IsSingleValued domain.old }
         ensures sends { (m : Messages T U) (s : State T U) → Shows domain.old m s
-            → (m' : Messages T U) × (s' : State T U) × Shows domain.new m' s' × SendsCopy (answers_of F.allows (domain.old).boxes) U.is_default m s (publisher_id self.now) value result m' s' }
+            → (m' : Messages T U) × (s' : State T U) × Shows domain.new m' s' × SendsCopy (answers_of F.allows G.allows (domain.old.boxes).publishers) U.is_default m s (publisher_id self.now) value result m' s' }
         ensures delivered { NeverWaits domain.old (publisher_key self.now) → IfOk result IsDelivered }
         ensures blocked { IfOk result (λ outcome. IfBlocked outcome (λ blocked. IsBlockedSend domain.new blocked × (lender_key (blocked_key blocked) ≡ publisher_key self.now))) }
         ensures whose { IfOk result (λ outcome. IfBlocked outcome (λ blocked. blocked_send blocked ≡ A_blocked_send (publisher_id self.now))) }

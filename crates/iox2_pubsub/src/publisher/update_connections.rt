@@ -11,7 +11,7 @@ use iox2_updates::update_publisher;
 /// iceoryx2's `UpdateConnections` of `Publisher` (`src/port/publisher.rs`).
 impl<T: Drop, U: Default + Drop, F: BackpressureFn, G: DegradationFn> UpdateConnections<T, U, F, G>
     for Publisher {
-    ghost use Rattle.iox2_store.specs.machine.Environments.{fixed_handlers};
+    ghost use Rattle.iox2_domain.specs.Boxes.{answers_of};
     ghost use Rattle.iox2_store.specs.machine.PublisherUpdate.{UpdatePublisher};
     ghost use Rattle.iox2_pubsub.specs.Live.{IsReadyPublisher, publisher_key};
     ghost use Rattle.iox2_pubsub.specs.Handles.{publisher_id};
@@ -23,7 +23,7 @@ impl<T: Drop, U: Default + Drop, F: BackpressureFn, G: DegradationFn> UpdateConn
       unblocked = stays.unblocked (publisher_key publisher) live.unblocked tt;
     } };
 
-    ghost updates = { λ s publisher s' failure. UpdatePublisher fixed_handlers s (publisher_id publisher) s' failure };
+    ghost updates = { λ old s publisher s' failure. UpdatePublisher (answers_of F.allows G.allows (old.boxes).publishers) s (publisher_id publisher) s' failure };
 
     ghost is_updated = { λ domain publisher. Unit {0} };
 
@@ -33,6 +33,6 @@ impl<T: Drop, U: Default + Drop, F: BackpressureFn, G: DegradationFn> UpdateConn
         let Some(place) = domain.state.find_publisher(self.id, self.place) else {
             unreachable!()
         };
-        outcome_of(update_publisher(&mut domain.state, place))
+        outcome_of(update_publisher(&mut domain.state, &domain.boxes, place))
     }
 }

@@ -56,7 +56,7 @@ impl SampleMut {
         ensures ok { HasLender domain.old (written_key (as_written self)) → NeverFails domain.old (written_lender (as_written self)) → IsOk result }
         ensures errors { IfErr result (FailsSend domain.old (written_key (as_written self))) }
         ensures sent { (m : Messages T U) (s : State T U) (l : Loan T U) → Shows domain.old m s → s.loans (written_number (as_written self)) ≡ Some l
-            → (s' : State T U) × Shows domain.new (messages_after m (written_number (as_written self)) l result) s' × Sends (answers_of F.allows (domain.old).boxes) s (written_number (as_written self)) l result s' }
+            → (s' : State T U) × Shows domain.new (messages_after m (written_number (as_written self)) l result) s' × Sends (answers_of F.allows G.allows (domain.old.boxes).publishers) s (written_number (as_written self)) l result s' }
         ensures delivered { NeverWaits domain.old (written_key (as_written self)) → IfOk result IsDelivered }
         ensures blocked { IfOk result (λ outcome. IfBlocked outcome (λ blocked. IsBlockedSend domain.new blocked × (blocked_key blocked ≡ written_key (as_written self)))) }
         ensures spent { IsLoanKey domain.new (written_key (as_written self)) → ⊥ }

@@ -11,6 +11,7 @@ impl Subscriber {
     ghost use Rattle.iox2_pubsub.specs.Live.{IsLiveSubscriber, IsUpToDate, OthersWait, Stays, UpToDateStay, waiting};
     ghost use Rattle.iox2_pubsub.specs.LoansLeft.{LoansLeftStay};
     ghost use Rattle.iox2_pubsub.specs.QuestionCalls.{Answers};
+    ghost use Rattle.iox2_domain.specs.Boxes.{answers_of};
     ghost use Rattle.iox2_domain.specs.Shows.{Shows};
     ghost use Rattle.iox2_pubsub.specs.Handles.{subscriber_id};
 
@@ -26,7 +27,7 @@ impl Subscriber {
     ) -> Result<bool, ConnectionFailure>
         requires live { IsLiveSubscriber domain.old self.now }
         ensures answers { (m : Messages T U) (s : State T U) → Shows domain.old m s
-            → (s' : State T U) × Shows domain.new m s' × Answers s (subscriber_id self.now) result s' }
+            → (s' : State T U) × Shows domain.new m s' × Answers (answers_of F.allows G.allows (domain.old.boxes).subscribers) s (subscriber_id self.now) result s' }
         ensures waits { IfOk result (λ waits. IsTrue waits ↔ (0 < waiting domain.new self.now)) }
         ensures no_more { waiting domain.new self.now ≤ waiting domain.old self.now }
         ensures others { OthersWait self.now domain.old domain.new }
@@ -38,6 +39,6 @@ impl Subscriber {
         let Some(place) = domain.state.find_subscriber(self.id, self.place) else {
             unreachable!()
         };
-        has_samples_at(&mut domain.state, place)
+        has_samples_at(&mut domain.state, &domain.subscriber_boxes, place)
     }
 }

@@ -9,7 +9,7 @@ use iox2_messages::receive_at;
 use iox2_store::{BackpressureFn, DegradationFn, ReceiveError};
 
 impl Subscriber {
-    ghost use Rattle.iox2_store.specs.machine.Environments.{fixed_handlers};
+    ghost use Rattle.iox2_domain.specs.Boxes.{answers_of};
     ghost use Rattle.iox2_store.specs.machine.Receives.{Receive};
     ghost use Rattle.iox2_store.specs.machine.State.{State, Messages};
     ghost use Rattle.iox2_pubsub.specs.Live.{AreAllSlices, IsFromOrigin, IsLiveSample, IsLiveSubscriber, IsUpToDate, IsNewIn, OthersWait, Stays, TakesOldest, UpToDateStay, payloads, received_sample, sample_key, waiting};
@@ -35,7 +35,7 @@ impl Subscriber {
     ) -> Result<Option<Sample>, ReceiveError>
         requires live { IsLiveSubscriber domain.old self.now }
         ensures receives { (m : Messages T U) (s : State T U) → Shows domain.old m s
-            → (s' : State T U) × Shows domain.new m s' × Receive fixed_handlers s (subscriber_id self.now) s' (received_result result) }
+            → (s' : State T U) × Shows domain.new m s' × Receive (answers_of F.allows G.allows (domain.old.boxes).subscribers) s (subscriber_id self.now) s' (received_result result) }
         ensures live { IfOk result (λ sample. IfSome sample (IsLiveSample domain.new)) }
         ensures new { IfOk result (λ sample. IfSome sample (λ it. IsNewIn domain.old (received_sample it))) }
         ensures origin { IfOk result (λ sample. IfSome sample (IsFromOrigin domain.new)) }
@@ -53,7 +53,7 @@ impl Subscriber {
         ensures stays { Stays domain.old domain.new }
     {
         let place = domain.state.find_live_subscriber(self.id, self.place);
-        let receipt = receive_at(&mut domain.state, place)?;
+        let receipt = receive_at(&mut domain.state, &domain.subscriber_boxes, place)?;
         let Some(receipt) = receipt else {
             return Ok(None);
         };

@@ -11,7 +11,7 @@ use iox2_updates::update_subscriber;
 /// iceoryx2's `UpdateConnections` of `Subscriber` (`src/port/subscriber.rs`).
 impl<T: Drop, U: Default + Drop, F: BackpressureFn, G: DegradationFn> UpdateConnections<T, U, F, G>
     for Subscriber {
-    ghost use Rattle.iox2_store.specs.machine.Environments.{fixed_handlers};
+    ghost use Rattle.iox2_domain.specs.Boxes.{answers_of};
     ghost use Rattle.iox2_store.specs.machine.SubscriberUpdate.{UpdateSubscriber};
     ghost use Rattle.iox2_pubsub.specs.Live.{IsLiveSubscriber, IsUpToDate, subscriber_key};
     ghost use Rattle.iox2_pubsub.specs.Handles.{subscriber_id};
@@ -20,7 +20,7 @@ impl<T: Drop, U: Default + Drop, F: BackpressureFn, G: DegradationFn> UpdateConn
 
     ghost live_stays = { λ old new subscriber stays live. stays.subscribers (subscriber_key subscriber) live tt };
 
-    ghost updates = { λ s subscriber s' failure. UpdateSubscriber fixed_handlers s (subscriber_id subscriber) s' failure };
+    ghost updates = { λ old s subscriber s' failure. UpdateSubscriber (answers_of F.allows G.allows (old.boxes).subscribers) s (subscriber_id subscriber) s' failure };
 
     ghost is_updated = { IsUpToDate };
 
@@ -30,6 +30,6 @@ impl<T: Drop, U: Default + Drop, F: BackpressureFn, G: DegradationFn> UpdateConn
         let Some(place) = domain.state.find_subscriber(self.id, self.place) else {
             unreachable!()
         };
-        outcome_of(update_subscriber(&mut domain.state, place))
+        outcome_of(update_subscriber(&mut domain.state, &domain.subscriber_boxes, place))
     }
 }

@@ -5,8 +5,10 @@ ghost use Rattle.iox2_store.specs.machine.Environments.{fixed_handlers};
 ghost use Rattle.iox2_store.specs.machine.Ports.{CreatePublisher};
 ghost use Rattle.iox2_store.specs.machine.State.{State, Messages};
 ghost use Rattle.iox2_store.specs.declared.allocation.AllocationStrategy.TheVariants.{Static};
+ghost use Rattle.iox2_domain.specs.Boxes.{answers_of};
 ghost use Rattle.iox2_domain.specs.Handlers.{fixed_handler};
 ghost use Rattle.iox2_domain.specs.NewPublisher.{static_publisher};
+ghost use Rattle.iox2_domain.specs.declared.handlers.HandlerMark.TheVariants.{Fixed};
 ghost use Rattle.iox2_domain.specs.Shows.{Shows};
 ghost use Rattle.iox2_pubsub.specs.Factories.{with_slots};
 ghost use Rattle.iox2_pubsub.specs.Handles.{as_publisher, publisher_id};
@@ -15,8 +17,8 @@ ghost use Rattle.iox2_commands.specs.Step.{publisher_settings};
 
 use iox2_pubsub::{DegradationHandler, Domain, PortFactoryPublisher, Publisher, slice};
 use iox2_store::{
-    AllocationStrategy, BackpressureAction, BackpressureFn, BackpressureHandler,
-    BackpressureStrategy, DegradationAction, DegradationFn, PublisherCreateError, TypeVariant,
+    AllocationStrategy, BackpressureAction, BackpressureFn, BackpressureHandler, BackpressureStrategy,
+    DegradationAction, DegradationFn, PublisherCreateError, TypeVariant,
 };
 
 // A factory of publishers of single values, with so many loans and that answer to a refused
@@ -27,8 +29,8 @@ fn value_factory<T: Drop, U: Default + Drop, F: BackpressureFn, G: DegradationFn
     strategy: BackpressureStrategy,
     degradation: DegradationAction,
     backpressure: Option<BackpressureAction>,
-) -> PortFactoryPublisher<F>
-    ensures { result.settings ≡ static_publisher (record { max_loaned_samples = loans; strategy = strategy; degradation = degradation; initial_max_slice_len = 1 }) (fixed_handler backpressure) }
+) -> PortFactoryPublisher<F, G>
+    ensures { result.settings ≡ static_publisher (record { max_loaned_samples = loans; strategy = strategy; degradation = Fixed degradation; initial_max_slice_len = 1 }) (fixed_handler backpressure) }
 {
     let factory = domain
         .publisher_builder()
@@ -50,8 +52,8 @@ fn slice_factory<T: Drop, U: Default + Drop, F: BackpressureFn, G: DegradationFn
     len: usize,
     degradation: DegradationAction,
     backpressure: Option<BackpressureAction>,
-) -> slice::PortFactoryPublisher<F>
-    ensures { result.settings ≡ static_publisher (record { max_loaned_samples = loans; strategy = strategy; degradation = degradation; initial_max_slice_len = len }) (fixed_handler backpressure) }
+) -> slice::PortFactoryPublisher<F, G>
+    ensures { result.settings ≡ static_publisher (record { max_loaned_samples = loans; strategy = strategy; degradation = Fixed degradation; initial_max_slice_len = len }) (fixed_handler backpressure) }
 {
     let factory = domain
         .slice_publisher_builder()
@@ -75,7 +77,7 @@ fn create_asked_values<
     P: Fn(usize) -> usize + Drop,
 >(
     domain: &mut Domain<T, U, F, G>,
-    factory: PortFactoryPublisher<F>,
+    factory: PortFactoryPublisher<F, G>,
     slots: usize,
     callback: P,
 ) -> Result<Publisher, PublisherCreateError>
@@ -83,8 +85,8 @@ fn create_asked_values<
     requires asks { (worst n : ℕ) → P.post callback worst n → n ≡ slots }
     ensures creates { (m : Messages T U) (s : State T U) → Shows domain.old m s → (s' : State T U) × Shows domain.new m s'
         × MatchResult result
-        (λ publisher. (publisher_id publisher ≡ s.next_port) × CreatePublisher fixed_handlers s (with_slots factory.settings (Some slots)) s' None)
-        (λ e. CreatePublisher fixed_handlers s (with_slots factory.settings (Some slots)) s' (Some e)) }
+        (λ publisher. (publisher_id publisher ≡ s.next_port) × CreatePublisher (answers_of F.allows G.allows (domain.new.boxes).publishers) s (with_slots factory.settings (Some slots)) s' None)
+        (λ e. CreatePublisher (answers_of F.allows G.allows (domain.new.boxes).publishers) s (with_slots factory.settings (Some slots)) s' (Some e)) }
     ensures ready { IfOk result (λ publisher. IsReadyPublisher domain.new publisher) }
     ensures new { IfOk result (λ publisher. IsNewIn domain.old (publisher_port publisher)) }
     ensures stays { Stays domain.old domain.new }
@@ -96,14 +98,14 @@ fn create_asked_values<
 // Makes a publisher by the factory, with an override that asks for so many slots where there is one.
 fn create_values<T: Drop, U: Default + Drop, F: BackpressureFn, G: DegradationFn>(
     domain: &mut Domain<T, U, F, G>,
-    factory: PortFactoryPublisher<F>,
+    factory: PortFactoryPublisher<F, G>,
     asked_slots: Option<usize>,
 ) -> Result<Publisher, PublisherCreateError>
     requires { factory.settings.asked_slots ≡ None }
     ensures creates { (m : Messages T U) (s : State T U) → Shows domain.old m s → (s' : State T U) × Shows domain.new m s'
         × MatchResult result
-        (λ publisher. (publisher_id publisher ≡ s.next_port) × CreatePublisher fixed_handlers s (with_slots factory.settings asked_slots) s' None)
-        (λ e. CreatePublisher fixed_handlers s (with_slots factory.settings asked_slots) s' (Some e)) }
+        (λ publisher. (publisher_id publisher ≡ s.next_port) × CreatePublisher (answers_of F.allows G.allows (domain.new.boxes).publishers) s (with_slots factory.settings asked_slots) s' None)
+        (λ e. CreatePublisher (answers_of F.allows G.allows (domain.new.boxes).publishers) s (with_slots factory.settings asked_slots) s' (Some e)) }
     ensures ready { IfOk result (λ publisher. IsReadyPublisher domain.new publisher) }
     ensures new { IfOk result (λ publisher. IsNewIn domain.old (publisher_port publisher)) }
     ensures stays { Stays domain.old domain.new }
@@ -123,7 +125,7 @@ fn create_asked_slices<
     P: Fn(usize) -> usize + Drop,
 >(
     domain: &mut Domain<T, U, F, G>,
-    factory: slice::PortFactoryPublisher<F>,
+    factory: slice::PortFactoryPublisher<F, G>,
     slots: usize,
     callback: P,
 ) -> Result<slice::Publisher, PublisherCreateError>
@@ -131,8 +133,8 @@ fn create_asked_slices<
     requires asks { (worst n : ℕ) → P.post callback worst n → n ≡ slots }
     ensures creates { (m : Messages T U) (s : State T U) → Shows domain.old m s → (s' : State T U) × Shows domain.new m s'
         × MatchResult result
-        (λ publisher. (publisher_id (as_publisher publisher) ≡ s.next_port) × CreatePublisher fixed_handlers s (with_slots factory.settings (Some slots)) s' None)
-        (λ e. CreatePublisher fixed_handlers s (with_slots factory.settings (Some slots)) s' (Some e)) }
+        (λ publisher. (publisher_id (as_publisher publisher) ≡ s.next_port) × CreatePublisher (answers_of F.allows G.allows (domain.new.boxes).publishers) s (with_slots factory.settings (Some slots)) s' None)
+        (λ e. CreatePublisher (answers_of F.allows G.allows (domain.new.boxes).publishers) s (with_slots factory.settings (Some slots)) s' (Some e)) }
     ensures ready { IfOk result (λ publisher. IsReadyPublisher domain.new (as_publisher publisher)) }
     ensures new { IfOk result (λ publisher. IsNewIn domain.old (publisher_port (as_publisher publisher))) }
     ensures stays { Stays domain.old domain.new }
@@ -145,14 +147,14 @@ fn create_asked_slices<
 // there is one.
 fn create_slices<T: Drop, U: Default + Drop, F: BackpressureFn, G: DegradationFn>(
     domain: &mut Domain<T, U, F, G>,
-    factory: slice::PortFactoryPublisher<F>,
+    factory: slice::PortFactoryPublisher<F, G>,
     asked_slots: Option<usize>,
 ) -> Result<slice::Publisher, PublisherCreateError>
     requires { factory.settings.asked_slots ≡ None }
     ensures creates { (m : Messages T U) (s : State T U) → Shows domain.old m s → (s' : State T U) × Shows domain.new m s'
         × MatchResult result
-        (λ publisher. (publisher_id (as_publisher publisher) ≡ s.next_port) × CreatePublisher fixed_handlers s (with_slots factory.settings asked_slots) s' None)
-        (λ e. CreatePublisher fixed_handlers s (with_slots factory.settings asked_slots) s' (Some e)) }
+        (λ publisher. (publisher_id (as_publisher publisher) ≡ s.next_port) × CreatePublisher (answers_of F.allows G.allows (domain.new.boxes).publishers) s (with_slots factory.settings asked_slots) s' None)
+        (λ e. CreatePublisher (answers_of F.allows G.allows (domain.new.boxes).publishers) s (with_slots factory.settings asked_slots) s' (Some e)) }
     ensures ready { IfOk result (λ publisher. IsReadyPublisher domain.new (as_publisher publisher)) }
     ensures new { IfOk result (λ publisher. IsNewIn domain.old (publisher_port (as_publisher publisher))) }
     ensures stays { Stays domain.old domain.new }

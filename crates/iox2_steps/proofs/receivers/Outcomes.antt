@@ -6,14 +6,14 @@ use Rattle.slab.specs.Slab.{get}
 use Rattle.iox2_slots.specs.Link.{Link}
 use Rattle.iox2_store.specs.machine.Connections.{DegradationAnswers, failure_of, warnings_after}
 use Rattle.iox2_store.specs.machine.Limits.{warning_limit}
-use Rattle.iox2_store.specs.machine.Records.{Environment}
+use Rattle.iox2_store.specs.machine.Records.{Environment, Handler}
 use Rattle.iox2_slots.specs.declared.connection.Home.{Home}
 use Rattle.iox2_store.specs.declared.degradation.DegradationAction.{DegradationAction}
 use Rattle.iox2_domain.specs.WarningRing.{WarningRing, warning_ring}
 use Rattle.iox2_domain.specs.Ports.{PublisherFields, SubscriberFields}
 use Rattle.iox2_domain.specs.Fields.{Fields}
 use Rattle.iox2_domain.specs.Invariant.{IsDomain, connection_count}
-use Rattle.iox2_domain.specs.Updates.{changed_at, with_receiver_key, with_sender_room, with_receiver_rooms, sender_room, receiver_room, expired_room_at, home_of, MakesConnection}
+use Rattle.iox2_domain.specs.Updates.{changed_at, with_receiver_key, with_sender_room, with_receiver_rooms, sender_room, receiver_room, expired_room_at, home_of, refused_between, MakesConnection}
 use Rattle.iox2_domain.specs.Connects.{MakesRoom}
 use Rattle.iox2_domain.specs.ReceiverSteps.{ConnectsEnd}
 use Rattle.iox2_domain.proofs.lemmas.containers.ChangedRecords.{changed-here}
@@ -93,16 +93,21 @@ module _ {T U : Type 0} (environment : Environment) (f : Fields T U) (sound : Is
             ∙ ap (λ o. record g { subscribers = slice_set g.subscribers j (option_map (with_receiver_key i key) o); connections = mid.connections }) here_y
 
     -- memory for a new one is refused, and the subscriber's handler says what comes of that
-    pub misses-as : environment.may_refuse_memory → (action : DegradationAction)
-        → DegradationAnswers environment y.id y.degradation_handler (record { service_id = (f.config).service_id; sender_port_id = x.id; receiver_port_id = y.id }) action
+    pub misses-as : environment.may_refuse_memory → (service : ℕ) (handler : Handler DegradationAction) → service ≡ (f.config).service_id → y.degradation_handler ≡ handler
+        → (action : DegradationAction) → DegradationAnswers environment home.subscriber handler (refused_between service home) action
         → (warnings : WarningRing) → mid.connections ≡ record f.connections { capacity = mid.connections.capacity }
         → warnings ≡ warning_ring (warnings_after home.publisher home.subscriber action f.warnings.items) warning_limit
         → (f' : Fields T U) → f' ≡ record mid { warnings = warnings } → ConnectsEnd environment f j i y x.id f' (failure_of action)
-    misses-as may action answers warnings same warned_is f' is =
+    misses-as may service handler serviced handled action answers warnings same warned_is f' is =
         end-from-grown f sound i j x y n m e at_x at_y more_x more_y more_e environment f' (failure_of action)
         (subst (λ (h : Fields T U). ConnectsEnd environment g j i (with_receiver_rooms m e y) x.id h (failure_of action))
         (sym (is ∙ (λ k. record (mid-is k) { warnings = told k }) ∙ (λ k. record g { connections = same k; warnings = warning_ring (warnings_after x.id y.id action f.warnings.items) warning_limit })))
-        (misses-connection environment g grown-here i j (with_sender_room n x) (with_receiver_rooms m e y) here_x here_y none none_x may action answers mid.connections.capacity))
+        (misses-connection environment g grown-here i j (with_sender_room n x) (with_receiver_rooms m e y) here_x here_y none none_x may action asked mid.connections.capacity))
       where
+        asked : DegradationAnswers environment y.id y.degradation_handler (refused_between (f.config).service_id (home_of i j x y)) action
+        asked = subst (λ h. DegradationAnswers environment y.id h (refused_between (f.config).service_id (home_of i j x y)) action) (sym handled)
+            (subst (λ (h : Home). DegradationAnswers environment h.subscriber handler (refused_between (f.config).service_id h) action) home-is
+            (subst (λ (k : ℕ). DegradationAnswers environment home.subscriber handler (refused_between k home) action) serviced answers))
+
         told : warnings ≡ warning_ring (warnings_after x.id y.id action f.warnings.items) warning_limit
         told = warned_is ∙ ap (λ (h : Home). warning_ring (warnings_after h.publisher h.subscriber action f.warnings.items) warning_limit) home-is

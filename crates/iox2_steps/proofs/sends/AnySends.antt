@@ -63,7 +63,8 @@ module _ {T U : Type 0} (e e' : Environment) where
       by None h = h
       by (Some x) h = concludes-alike p n 0 no_time 0 x.ends 0 false (published s p n) s' result published-allows h
 
-  module _ (updates : AllowsUpdates e e') (s : State T U) (n : ℕ) (l : Loan T U) (s' : State T U) (result : SendResult)
+  module _ (s : State T U) (n : ℕ) (l : Loan T U) (s' : State T U) (result : SendResult)
+      (updates : (x : Publisher) → s.publishers l.publisher ≡ Some x → AllowsUpdates e e' l.publisher x.degradation_handler)
       (allows : (mid : State T U) → UpdatePublisher e s l.publisher mid None → MayAnswerAsMuch mid l.publisher) where
     -- what becomes of the message after the update
     abbrev After : Environment → (mid : State T U) → Option ConnectionFailure → Type 0
@@ -88,7 +89,7 @@ module _ {T U : Type 0} (e e' : Environment) where
     sends-alike h = by (s.publishers l.publisher) h where
       by : (o : Option Publisher) → MatchOption o Lost (Updates e) → MatchOption o Lost (Updates e')
       by None h = h
-      by (Some x) h = (h.0, h.1, update-alike e e' updates s l.publisher h.0 h.1 h.2, after h.0 h.1 h.2 h.3)
+      by (Some x) h = (h.0, h.1, update-alike e e' s l.publisher h.0 h.1 updates h.2, after h.0 h.1 h.2 h.3)
 
   module _ (s : State T U) (p : ℕ) (b : BlockedSend) (s' : State T U) (result : SendResult) (allows : MayAnswerAsMuch s p) where
     -- and so is what is tried again

@@ -7,12 +7,15 @@ use Rattle.iox2_store.specs.machine.Environments.{fixed_handlers}
 use Rattle.iox2_store.specs.machine.Records.{Environment, Handler}
 use Rattle.iox2_store.specs.declared.backpressure.BackpressureAction.{BackpressureAction}
 use Rattle.iox2_store.specs.declared.backpressure.BackpressureInfo.{BackpressureInfo}
+use Rattle.iox2_store.specs.declared.degradation.DegradationAction.{DegradationAction}
+use Rattle.iox2_store.specs.declared.degradation.DegradationCause.{DegradationCause}
+use Rattle.iox2_store.specs.declared.degradation.DegradationInfo.{DegradationInfo}
 use Rattle.iox2_ends.proofs.AnyEnvironment.{AllowsAsMuch}
 use Rattle.iox2_domain.specs.Boxes.{answers_of}
 use Rattle.iox2_domain.specs.Fields.{Fields}
 use Rattle.iox2_domain.specs.SentLoans.{IsReadyToSend}
 use Rattle.iox2_domain.specs.declared.boxes.PortBox.{PortBox}
-use Rattle.iox2_steps.proofs.updates.AnyBoxes.{updates-alike}
+use Rattle.iox2_steps.proofs.updates.AnyBoxes.{updates-alike, unboxed-updates}
 
 -- a publisher for which nothing answers has no handler
 pub unhandled : (h : Option (Handler BackpressureAction)) → is_some h ≡ false → None ≡ h
@@ -24,14 +27,14 @@ pub unasked : (e e' : Environment) (p : ℕ) (h : Option (Handler BackpressureAc
 unasked e e' p None none = tt
 unasked e e' p (Some h) none = absurd (let no : true ≡ false = none in cc)
 
--- an update asks no box for full buffers
-pub ready-boxes : {T U F : Type 0} (allows : F → BackpressureInfo → BackpressureAction → Type 0) (boxes : List (PortBox F)) (old new : Fields T U) (p n place slot : ℕ)
-    → IsReadyToSend fixed_handlers old new p n place slot → IsReadyToSend (answers_of allows boxes) old new p n place slot
-ready-boxes allows boxes old new p n place slot ready = record {
+-- a publisher that is due for no update asks no box
+pub ready-boxes : {T U F G : Type 0} (allows : F → BackpressureInfo → BackpressureAction → Type 0) (degrades : G → DegradationCause → DegradationInfo → DegradationAction → Type 0) (boxes : List (PortBox F G))
+    (old new : Fields T U) (p n place slot : ℕ) → IsReadyToSend fixed_handlers old new p n place slot → IsReadyToSend (answers_of allows degrades boxes) old new p n place slot
+ready-boxes allows degrades boxes old new p n place slot ready = record {
   publisher = ready.publisher;
   stands = ready.stands;
   is_its = ready.is_its;
-  updated = updates-alike fixed_handlers (answers_of allows boxes) (record { memory = λ m. m; answers = λ port cause info action a. a }) old place ready.publisher new None ready.updated;
+  updated = updates-alike fixed_handlers (answers_of allows degrades boxes) old place ready.publisher new None (λ z there. unboxed-updates (answers_of allows degrades boxes) tt (ready.publisher).id z.degradation_handler) ready.updated;
   key = ready.key;
   lies = ready.lies;
 }

@@ -16,6 +16,9 @@ use Rattle.iox2_store.specs.declared.backpressure.BackpressureAction.TheVariants
 use Rattle.iox2_store.specs.declared.backpressure.BackpressureInfo.{BackpressureInfo}
 use Rattle.iox2_store.specs.declared.backpressure.BackpressureStrategy.{BackpressureStrategy}
 use Rattle.iox2_store.specs.declared.backpressure.BackpressureStrategy.TheVariants.{DiscardData, RetryUntilDelivered}
+use Rattle.iox2_store.specs.declared.degradation.DegradationAction.{DegradationAction}
+use Rattle.iox2_store.specs.declared.degradation.DegradationCause.{DegradationCause}
+use Rattle.iox2_store.specs.declared.degradation.DegradationInfo.{DegradationInfo}
 use Rattle.iox2_store.specs.declared.service_config.ServiceConfig.{ServiceConfig}
 use Rattle.iox2_ends.specs.Counters.{GrowsAlone, with_counters, HoldsItself, times}
 use Rattle.iox2_ends.specs.Mailboxes.{mailboxes_of, sender_ends}
@@ -106,18 +109,19 @@ never-fails environment f x slot start elapsed outcome new d none so_far count h
     number : ℕ → ℕ → ℕ
     number p slot = 0
 
-module _ {F : Type 0} (allows : F → BackpressureInfo → BackpressureAction → Type 0) where
+module _ {F G : Type 0} (allows : F → BackpressureInfo → BackpressureAction → Type 0) where
   -- what a box that is asked may answer
-  abbrev pub Asked : AskedBox F → BackpressureInfo → BackpressureAction → Type 0
+  abbrev pub Asked : AskedBox F G → BackpressureInfo → BackpressureAction → Type 0
   Asked a info action = BoxAnswers allows (box_of a.id (a.boxes.now).boxes) info action
 
   -- a handler that asks among these boxes answers as they do
-  pub asks-boxes : (id : ℕ) (boxes : List (PortBox F)) (h : Option (BackpressureHandler (AskedBox F))) → AsksFor id boxes h → AllowsAsMuch (asked Asked h) (answers_of allows boxes) id (marks_of h)
-  asks-boxes id boxes None asks = tt
-  asks-boxes id boxes (Some (handlers.Fixed action)) asks = tt
-  asks-boxes id boxes (Some (handlers.Custom a)) asks = λ info action answers.
+  pub asks-boxes : (degrades : G → DegradationCause → DegradationInfo → DegradationAction → Type 0) (id : ℕ) (boxes : List (PortBox F G)) (h : Option (BackpressureHandler (AskedBox F G)))
+      → AsksFor id boxes h → AllowsAsMuch (asked Asked h) (answers_of allows degrades boxes) id (marks_of h)
+  asks-boxes degrades id boxes None asks = tt
+  asks-boxes degrades id boxes (Some (handlers.Fixed action)) asks = tt
+  asks-boxes degrades id boxes (Some (handlers.Custom a)) asks = λ info action answers.
       subst (λ (p : ℕ). BoxAnswers allows (box_of p boxes) info action) asks.0
-      (subst (λ (all : List (PortBox F)). BoxAnswers allows (box_of a.id all) info action) asks.1 answers)
+      (subst (λ (all : List (PortBox F G)). BoxAnswers allows (box_of a.id all) info action) asks.1 answers)
 
 module _ {T U : Type 0} (e e' : Environment) (old : Fields T U) (x : PublisherFields) (slot : ℕ) (outcome : DeliveryOutcome) (new : Fields T U) (allows : AllowsAsMuch e e' x.id x.backpressure_handler) where
   delivers-alike : (start : Progress) (elapsed : Duration) → DeliversFrom e old x slot start elapsed outcome new → DeliversFrom e' old x slot start elapsed outcome new

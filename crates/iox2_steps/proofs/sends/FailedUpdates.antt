@@ -1,8 +1,7 @@
 -- A send before which the publisher's update fails: the loan is given back, and no message was sent.
-use Rattle.std.proofs.Common.{◌≡◌, ℕ, List, refl, ap, sym, subst, ◌∙◌, inr, None}
+use Rattle.std.proofs.Common.{◌≡◌, ℕ, refl, ap, sym, subst, ◌∙◌, inr, None}
 use Rattle.std.specs.declared.option.Option.{Option}
 use Rattle.std.specs.declared.option.Option.TheVariants.{Some}
-use Rattle.iox2_store.specs.machine.Environments.{fixed_handlers}
 use Rattle.iox2_store.specs.machine.Loans.{loan_discarded}
 use Rattle.iox2_store.specs.machine.Numbers.{put_at}
 use Rattle.iox2_store.specs.machine.PublisherUpdate.{UpdatePublisher}
@@ -10,12 +9,9 @@ use Rattle.iox2_store.specs.machine.Records.{Loan, Environment}
 use Rattle.iox2_store.specs.machine.Sends.{Send_error}
 use Rattle.iox2_store.specs.machine.SingleCalls.{HoldsLoan}
 use Rattle.iox2_store.specs.machine.State.{State}
-use Rattle.iox2_store.specs.declared.backpressure.BackpressureAction.{BackpressureAction}
-use Rattle.iox2_store.specs.declared.backpressure.BackpressureInfo.{BackpressureInfo}
 use Rattle.iox2_store.specs.declared.errors.ConnectionFailure.{ConnectionFailure}
 use Rattle.iox2_store.specs.declared.errors.SendError.TheVariants.{ConnectionError}
 use Rattle.iox2_laws.proofs.PublisherUpdates.{update_publisher_leaves}
-use Rattle.iox2_domain.specs.Boxes.{answers_of}
 use Rattle.iox2_domain.specs.Connects.{UpdatesPublisher}
 use Rattle.iox2_domain.specs.Discards.{DiscardsLoan}
 use Rattle.iox2_domain.specs.Fields.{Fields, kept_of, publisher_of}
@@ -24,20 +20,8 @@ use Rattle.iox2_domain.specs.Kept.{state_of}
 use Rattle.iox2_domain.specs.LoanCalls.{HoldsWritten}
 use Rattle.iox2_domain.specs.Ports.{PublisherFields}
 use Rattle.iox2_domain.specs.SentLoans.{IsNotUpdated, SendsLoan}
-use Rattle.iox2_domain.specs.declared.boxes.PortBox.{PortBox}
 use Rattle.iox2_domain.proofs.lemmas.fields.ConnectionEnds.{publisher-stands}
 use Rattle.iox2_steps.proofs.sends.Published.{match-some}
-use Rattle.iox2_steps.proofs.updates.AnyBoxes.{updates-alike}
-
--- an update that fails asked no box for full buffers
-pub failed-boxes : {T U F : Type 0} (allows : F → BackpressureInfo → BackpressureAction → Type 0) (boxes : List (PortBox F)) (old new : Fields T U) (p place : ℕ) (failure : ConnectionFailure)
-    → IsNotUpdated fixed_handlers old new p place failure → IsNotUpdated (answers_of allows boxes) old new p place failure
-failed-boxes allows boxes old new p place failure fails = record {
-  publisher = fails.publisher;
-  stands = fails.stands;
-  is_its = fails.is_its;
-  updated = updates-alike fixed_handlers (answers_of allows boxes) (record { memory = λ m. m; answers = λ port cause info action a. a }) old place fails.publisher new (Some failure) fails.updated;
-}
 
 module _ {T U : Type 0} (environment : Environment) (f0 : Fields T U) (sound : IsDomain f0) (p n : ℕ) (holds : HoldsWritten (state_of (kept_of f0)) p n)
     (place : ℕ) (failure : ConnectionFailure) (f1 : Fields T U) (fails : IsNotUpdated environment f0 f1 p place failure) where

@@ -59,7 +59,7 @@ connects-marked {T} {U} environment f g h i j x failure connects marks =
       side = connects.side;
       steps = connects.steps;
       state = ap state_of kept ∙ connects.state;
-      entries = λ n entry e. connects.entries n entry (sym (ap (λ (k : Kept T U ⊥). entries_of k n) kept) ∙ e);
+      entries = λ n entry e. connects.entries n entry (sym (ap (λ (k : Kept T U ⊥ ⊥). entries_of k n) kept) ∙ e);
     })
   where
     kept : kept_of (record g { connections = h.connections }) ≡ kept_of g
@@ -210,7 +210,7 @@ module _ {T U : Type 0} (f g : Fields T U) (marks : ChangesMarks f g) where
   reaches-marked h s step = record {
     agrees = step.agrees;
     state = step.state;
-    entries = λ n entry e. sym (ap (λ (k : Kept T U ⊥). entries_of k n) marks.kept) ∙ step.entries n entry e;
+    entries = λ n entry e. sym (ap (λ (k : Kept T U ⊥ ⊥). entries_of k n) marks.kept) ∙ step.entries n entry e;
   }
 
   -- a publisher stands where it stood, and is to the machine what it was
@@ -219,7 +219,7 @@ module _ {T U : Type 0} (f g : Fields T U) (marks : ChangesMarks f g) where
   marks-publisher i x at = (
     there,
     same_Some _ _ (sym (map-at (publisher_of g.books g.connections) g.publishers i ∙ ap (option_map (publisher_of g.books g.connections)) there)
-        ∙ ap (λ (k : Kept T U ⊥). get_or k.publishers i None) marks.kept
+        ∙ ap (λ (k : Kept T U ⊥ ⊥). get_or k.publishers i None) marks.kept
         ∙ map-at (publisher_of f.books f.connections) f.publishers i ∙ ap (option_map (publisher_of f.books f.connections)) at),
   ) where
     there : get_or g.publishers i None ≡ Some x
@@ -231,7 +231,7 @@ module _ {T U : Type 0} (f g : Fields T U) (marks : ChangesMarks f g) where
   marks-subscriber j y at = (
     there,
     same_Some _ _ (sym (map-at (subscriber_of g.books g.connections) g.subscribers j ∙ ap (option_map (subscriber_of g.books g.connections)) there)
-        ∙ ap (λ (k : Kept T U ⊥). get_or k.subscribers j None) marks.kept
+        ∙ ap (λ (k : Kept T U ⊥ ⊥). get_or k.subscribers j None) marks.kept
         ∙ map-at (subscriber_of f.books f.connections) f.subscribers j ∙ ap (option_map (subscriber_of f.books f.connections)) at),
   ) where
     there : get_or g.subscribers j None ≡ Some y

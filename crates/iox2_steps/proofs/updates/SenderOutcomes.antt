@@ -10,15 +10,14 @@ use Rattle.iox2_slots.specs.Link.{Link}
 use Rattle.iox2_store.specs.machine.Places.{is_port}
 use Rattle.iox2_store.specs.machine.Connections.{DegradationAnswers, failure_of, warnings_after}
 use Rattle.iox2_store.specs.machine.Limits.{warning_limit}
-use Rattle.iox2_store.specs.machine.Records.{Environment, Handler, Fixed}
+use Rattle.iox2_store.specs.machine.Records.{Environment, Handler}
 use Rattle.iox2_slots.specs.declared.connection.Home.{Home}
 use Rattle.iox2_store.specs.declared.degradation.DegradationAction.{DegradationAction}
-use Rattle.iox2_store.specs.declared.degradation.DegradationInfo.{DegradationInfo}
 use Rattle.iox2_domain.specs.WarningRing.{WarningRing, warning_ring}
 use Rattle.iox2_domain.specs.Ports.{PublisherFields, SubscriberFields}
 use Rattle.iox2_domain.specs.Fields.{Fields}
 use Rattle.iox2_domain.specs.Invariant.{IsDomain, connection_count}
-use Rattle.iox2_domain.specs.Updates.{changed_at, with_sender_key, with_sender_room, with_receiver_rooms, sender_key, receiver_key, key_from, is_open_subscriber, sender_room, receiver_room, expired_room_at, home_of, MakesConnection, StandApart}
+use Rattle.iox2_domain.specs.Updates.{changed_at, with_sender_key, with_sender_room, with_receiver_rooms, sender_key, receiver_key, key_from, is_open_subscriber, sender_room, receiver_room, expired_room_at, home_of, refused_between, MakesConnection, StandApart}
 use Rattle.iox2_domain.specs.Connects.{ConnectsSender, MakesSenderEnd, MakesRoom}
 use Rattle.iox2_domain.proofs.lemmas.containers.ChangedRecords.{changed-here}
 use Rattle.iox2_steps.proofs.updates.Grown.{grown, grown-agrees, sender-from, end-from}
@@ -36,11 +35,6 @@ some_from connections p (Some k) key e = by (get connections k) refl where
     which : (b : Bool) → eqb c.home.publisher p ≡ b → cond b (Some k) None ≡ Some key → (d : Link) × (Some k ≡ Some key) × (get connections key ≡ Some d) × (d.home.publisher ≡ p)
     which true its e = (c, e, ap (get connections) (sym (same_Some k key e)) ∙ at, eqb-true c.home.publisher p its)
     which false its e = absurd cc
-
--- a port whose handler has a fixed answer is answered so
-pub answers-fixed : (environment : Environment) (port : ℕ) (handler : Handler DegradationAction) (info : DegradationInfo) (action : DegradationAction) → handler ≡ Fixed action
-    → DegradationAnswers environment port handler info action
-answers-fixed environment port handler info action is = subst (λ h. DegradationAnswers environment port h info action) (sym is) refl
 
 -- who stands where an open subscriber does is open
 pub open-at : (subscribers : List (Option SubscriberFields)) (j : ℕ) (y : SubscriberFields) → get_or subscribers j None ≡ Some y → is_open_subscriber subscribers j ≡ true → y.is_open ≡ true
@@ -150,16 +144,21 @@ module _ {T U : Type 0} (environment : Environment) (f : Fields T U) (sound : Is
                 ∙ ap (λ o. record g { publishers = slice_set g.publishers i (option_map (with_sender_key j key) o); connections = mid.connections }) here_x
 
         -- memory for a new one is refused, and the publisher's handler says what comes of that
-        pub misses-as : environment.may_refuse_memory → (action : DegradationAction)
-            → DegradationAnswers environment x.id x.degradation_handler (record { service_id = (f.config).service_id; sender_port_id = x.id; receiver_port_id = y.id }) action
+        pub misses-as : environment.may_refuse_memory → (service : ℕ) (handler : Handler DegradationAction) → service ≡ (f.config).service_id → x.degradation_handler ≡ handler
+            → (action : DegradationAction) → DegradationAnswers environment home.publisher handler (refused_between service home) action
             → (warnings : WarningRing) → mid.connections ≡ record f.connections { capacity = mid.connections.capacity }
             → warnings ≡ warning_ring (warnings_after home.publisher home.subscriber action f.warnings.items) warning_limit
             → (f' : Fields T U) → f' ≡ record mid { warnings = warnings } → ConnectsSender environment f i j x f' (failure_of action)
-        misses-as may action answers warnings same warned_is f' is =
+        misses-as may service handler serviced handled action answers warnings same warned_is f' is =
             sender-from f i j x y n m e sound at_x apart.subscriber_stands more_x more_y more_e environment f' (failure_of action)
             (subst (λ (h : Fields T U). ConnectsSender environment g i j (with_sender_room n x) h (failure_of action))
             (sym (is ∙ (λ k. record (mid-is k) { warnings = told k }) ∙ (λ k. record g { connections = same k; warnings = warning_ring (warnings_after x.id y.id action f.warnings.items) warning_limit })))
-            (misses-connection environment g grown-here i j (with_sender_room n x) (with_receiver_rooms m e y) here_x here_y due free opened_y no_key no_key_y may action answers mid.connections.capacity))
+            (misses-connection environment g grown-here i j (with_sender_room n x) (with_receiver_rooms m e y) here_x here_y due free opened_y no_key no_key_y may action asked mid.connections.capacity))
           where
+            asked : DegradationAnswers environment x.id x.degradation_handler (refused_between (f.config).service_id (home_of i j x y)) action
+            asked = subst (λ h. DegradationAnswers environment x.id h (refused_between (f.config).service_id (home_of i j x y)) action) (sym handled)
+                (subst (λ (h : Home). DegradationAnswers environment h.publisher handler (refused_between (f.config).service_id h) action) (home-is f sound i j x at_x home size apart)
+                (subst (λ (k : ℕ). DegradationAnswers environment home.publisher handler (refused_between k home) action) serviced answers))
+
             told : warnings ≡ warning_ring (warnings_after x.id y.id action f.warnings.items) warning_limit
             told = warned_is ∙ ap (λ (h : Home). warning_ring (warnings_after h.publisher h.subscriber action f.warnings.items) warning_limit) (home-is f sound i j x at_x home size apart)

@@ -13,5 +13,5 @@ go_on-requires-clause-can g c = λ x b at waits.
 pub returns-clause-goes : goal.returns-clause-goes
 returns-clause-goes g c = λ x b at waits.
     let now = ap (λ (f : Fields g.row.T.Denot g.row.U.Denot). get_or f.publishers c.args.place None) c.reclaim.ensures.only ∙ at in
-    rw c.of.ensures.same (gives-up-as (answers_of g.F.BackpressureFn.allows c.args.boxes.now.boxes) c.args.state.now c.reclaim.new.state c.go_on.new.state c.requires.agrees c.reclaim.ensures.reaches c.args.place x at now b waits c.go_on.result _
+    rw c.of.ensures.same (gives-up-as (answers_of g.F.BackpressureFn.allows g.G.DegradationFn.allows c.args.boxes.now.boxes) c.args.state.now c.reclaim.new.state c.go_on.new.state c.requires.agrees c.reclaim.ensures.reaches c.args.place x at now b waits c.go_on.result _
     (c.progress_behind-start.ensures x b now waits) (c.go_on.ensures x b now waits))

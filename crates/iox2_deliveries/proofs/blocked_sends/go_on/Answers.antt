@@ -58,11 +58,11 @@ returns g c = λ x w at waits.
     let it : c.in-Some.publisher ≡ x = (let same : Some c.in-Some.publisher ≡ Some x = both in cc) in
     let blocked : Some c.in-Some-blocked.blocked ≡ Some w = sym c.in-Some-blocked.is ∙ ap (λ (y : PublisherFields). y.blocked) c.publisher.view_is ∙ ap (λ (y : PublisherFields). y.blocked) it ∙ waits in
     let is : c.in-Some-blocked.blocked ≡ w = cc in
-    let asking : AllowsAsMuch (asked (Asked g.F.BackpressureFn.allows) c.handler-handler.result) (answers_of g.F.BackpressureFn.allows c.args.boxes.now.boxes) x.id x.backpressure_handler =
-    subst (λ (y : PublisherFields). AllowsAsMuch (asked (Asked g.F.BackpressureFn.allows) c.handler-handler.result) (answers_of g.F.BackpressureFn.allows c.args.boxes.now.boxes) y.id y.backpressure_handler) it
-    (subst (λ h. AllowsAsMuch (asked (Asked g.F.BackpressureFn.allows) c.handler-handler.result) (answers_of g.F.BackpressureFn.allows c.args.boxes.now.boxes) (c.in-Some.publisher).id h) c.handler-handler.ensures.marks
-    (asks-boxes g.F.BackpressureFn.allows (c.in-Some.publisher).id c.args.boxes.now.boxes c.handler-handler.result c.handler-handler.ensures.asks)) in
-    goes-alike (asked (Asked g.F.BackpressureFn.allows) c.handler-handler.result) (answers_of g.F.BackpressureFn.allows c.args.boxes.now.boxes) c.args.state.now c.args.place x c.deliver-outcome.result _ asking w c.args.start c.args.elapsed
+    let asking : AllowsAsMuch (asked (Asked g.F.BackpressureFn.allows) c.handler-handler.result) (answers_of g.F.BackpressureFn.allows g.G.DegradationFn.allows c.args.boxes.now.boxes) x.id x.backpressure_handler =
+    subst (λ (y : PublisherFields). AllowsAsMuch (asked (Asked g.F.BackpressureFn.allows) c.handler-handler.result) (answers_of g.F.BackpressureFn.allows g.G.DegradationFn.allows c.args.boxes.now.boxes) y.id y.backpressure_handler) it
+    (subst (λ h. AllowsAsMuch (asked (Asked g.F.BackpressureFn.allows) c.handler-handler.result) (answers_of g.F.BackpressureFn.allows g.G.DegradationFn.allows c.args.boxes.now.boxes) (c.in-Some.publisher).id h) c.handler-handler.ensures.marks
+    (asks-boxes g.F.BackpressureFn.allows g.G.DegradationFn.allows (c.in-Some.publisher).id c.args.boxes.now.boxes c.handler-handler.result c.handler-handler.ensures.asks)) in
+    goes-alike (asked (Asked g.F.BackpressureFn.allows) c.handler-handler.result) (answers_of g.F.BackpressureFn.allows g.G.DegradationFn.allows c.args.boxes.now.boxes) c.args.state.now c.args.place x c.deliver-outcome.result _ asking w c.args.start c.args.elapsed
     (goes-slot (asked (Asked g.F.BackpressureFn.allows) c.handler-handler.result) _ _ c.state.view_is c.args.place _ (read-there _ c.args.place _ _ (ap (λ (f : Fields g.row.T.Denot g.row.U.Denot). slice_index_or f.publishers c.args.place None) c.state.view_is ∙ c.requires.waits.stands) c.index_mut.ensures.value ∙ c.in-Some.is ∙ ap Some (sym c.publisher.view_is)) _ _ c.index_mut-book.ensures.value _ c.deliver-outcome.ensures.book
     (rw c.value.ensures at c.deliver-outcome.ensures.recounts) c.in-Some-blocked.blocked.slot c.args.start c.args.elapsed c.deliver-outcome.result c.deliver-outcome.ensures.alone
     (delivers-own (asked (Asked g.F.BackpressureFn.allows) c.handler-handler.result) _ _ c.state.view_is c.args.place _ (read-there _ c.args.place _ _ (ap (λ (f : Fields g.row.T.Denot g.row.U.Denot). slice_index_or f.publishers c.args.place None) c.state.view_is ∙ c.requires.waits.stands) c.index_mut.ensures.value ∙ c.in-Some.is ∙ ap Some (sym c.publisher.view_is))

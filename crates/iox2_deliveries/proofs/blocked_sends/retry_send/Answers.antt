@@ -15,6 +15,6 @@ pub returns-clause-goes : goal.returns-clause-goes
 returns-clause-goes g c = λ x b at waits.
     let now = ap (λ (f : Fields g.row.T.Denot g.row.U.Denot). get_or f.publishers c.args.place None) c.reclaim.ensures.only ∙ at in
     let is = c.progress_at-progress.ensures x b now waits in
-    rw c.of.ensures.same (retries-as (answers_of g.F.BackpressureFn.allows c.args.boxes.now.boxes) c.args.state.now c.reclaim.new.state c.go_on.new.state c.requires.agrees c.reclaim.ensures.reaches c.args.place x at now b waits c.go_on.result c.args.elapsed _
+    rw c.of.ensures.same (retries-as (answers_of g.F.BackpressureFn.allows g.G.DegradationFn.allows c.args.boxes.now.boxes) c.args.state.now c.reclaim.new.state c.go_on.new.state c.requires.agrees c.reclaim.ensures.reaches c.args.place x at now b waits c.go_on.result c.args.elapsed _
     ((λ t. record c.progress_at-progress.result { retries = c.more_retries.ensures t }) ∙ ap (λ (v : Progress). let w : Progress = record v { retries = more_retries v.retries } in w) is)
     (c.go_on.ensures x b now waits))

@@ -13,7 +13,7 @@ returns-else-has_handler_at-clause-sends g c = (
   c.send_unasked.ensures.sends.0,
   c.send_unasked.ensures.sends.1,
   λ x at.
-      sends-alike fixed_handlers (answers_of g.F.BackpressureFn.allows c.args.boxes.now.boxes) c.args.state.now c.args.place x c.send_unasked.ensures.sends.0 c.send_unasked.new.state
-      (unasked fixed_handlers (answers_of g.F.BackpressureFn.allows c.args.boxes.now.boxes) x.id x.backpressure_handler (sym (c.has_handler_at.ensures x at) ∙ c.if-has_handler_at.false))
+      sends-alike fixed_handlers (answers_of g.F.BackpressureFn.allows g.G.DegradationFn.allows c.args.boxes.now.boxes) c.args.state.now c.args.place x c.send_unasked.ensures.sends.0 c.send_unasked.new.state
+      (unasked fixed_handlers (answers_of g.F.BackpressureFn.allows g.G.DegradationFn.allows c.args.boxes.now.boxes) x.id x.backpressure_handler (sym (c.has_handler_at.ensures x at) ∙ c.if-has_handler_at.false))
       c.args.slot (c.send_unasked.ensures.sends.2 x at),
 )

@@ -160,7 +160,7 @@ module _ {T U : Type 0} (f : Fields T U) (sound : IsDomain f) (key : ℕ) (c : L
   -- nothing but the mark changed
   pub changes-mark : ChangesMarks f with_mark
   changes-mark = record {
-    agrees = whole_of with_mark consistent sound.lone sound.kept_books (subst (λ (k : Kept T U ⊥). IsWellFormed (state_of k)) (sym mark-kept) sound.well_formed)
+    agrees = whole_of with_mark consistent sound.lone sound.kept_books (subst (λ (k : Kept T U ⊥ ⊥). IsWellFormed (state_of k)) (sym mark-kept) sound.well_formed)
         (subst KeepsEntries (sym mark-kept) sound.entries);
     fields = refl;
     kept = mark-kept;

@@ -67,7 +67,7 @@ module _ {T U : Type 0} where
       let was = kept y at in In_blocked_send was.0 b was.1 (was.2.blocked ∙ blocked) is
 
   -- a domain that shows a state and keeps no new message shows its new state afterwards, with the same messages
-  pub shows-next : {F : Type 0} (old new : Kept T U F) (m : Messages T U) (s : State T U) → Shows old m s
+  pub shows-next : {F G : Type 0} (old new : Kept T U F G) (m : Messages T U) (s : State T U) → Shows old m s
       → IsWellFormed (state_of new) → KeepsEntries new
       → ((n : ℕ) (entry : Entry T U) → entries_of new n ≡ Some entry → entries_of old n ≡ Some entry)
       → s.next_message ≤ (state_of new).next_message

@@ -1,5 +1,5 @@
 use Rattle.std.proofs.Common.{None, Some, ap, refl, slice_index_or, subst, sym, ◌≡◌, ◌∙◌}
-use Rattle.iox2_store.specs.machine.Environments.{fixed_handlers}
+use Rattle.iox2_domain.specs.Boxes.{answers_of}
 use Rattle.iox2_domain.specs.Fields.{Fields}
 use Rattle.iox2_domain.specs.Ports.{SubscriberFields}
 use Rattle.iox2_domain.specs.ReceiverSteps.{UpdatesReceiver}
@@ -11,15 +11,15 @@ use Rattle.iox2_messages.proofs.receipts.receive_at.Goals as goal
 
 pub returns-in-Some : goal.returns-in-Some
 returns-in-Some g c =
-    receives-failed fixed_handlers c.args.state.now c.update_subscriber.new.state c.args.place c.update_subscriber.result c.in-Some.failure c.in-Some.is c.update_subscriber.ensures
+    receives-failed (answers_of g.F.BackpressureFn.allows g.G.DegradationFn.allows c.args.boxes.now.boxes) c.args.state.now c.update_subscriber.new.state c.args.place c.update_subscriber.result c.in-Some.failure c.in-Some.is c.update_subscriber.ensures
 
 pub take_at-requires-clause-agrees : goal.take_at-requires-clause-agrees
 take_at-requires-clause-agrees g c =
     let same = c.deref.ensures.value ∙ ap (λ (f : Fields g.row.T.Denot g.row.U.Denot). f.subscribers) c.state.view_is in
-    let updates : (y : SubscriberFields) → slice_index_or c.args.state.now.subscribers c.args.place None ≡ Some y → UpdatesReceiver fixed_handlers c.args.state.now c.args.place y c.if-is_due_at.state None =
+    let updates : (y : SubscriberFields) → slice_index_or c.args.state.now.subscribers c.args.place None ≡ Some y → UpdatesReceiver (answers_of g.F.BackpressureFn.allows g.G.DegradationFn.allows c.args.boxes.now.boxes) c.args.state.now c.args.place y c.if-is_due_at.state None =
     λ y at. elim c.if-is_due_at.branch [
-      | then-is_due_at+in_default w ↦ rw w.state-is (subst (UpdatesReceiver fixed_handlers c.args.state.now c.args.place y w.update_subscriber.new.state) w.in_default.is (w.update_subscriber.ensures y at))
-      | else-is_due_at w ↦ rw w.state-is (idle-at fixed_handlers c.args.state.now c.requires.agrees c.args.place
+      | then-is_due_at+in_default w ↦ rw w.state-is (subst (UpdatesReceiver (answers_of g.F.BackpressureFn.allows g.G.DegradationFn.allows c.args.boxes.now.boxes) c.args.state.now c.args.place y w.update_subscriber.new.state) w.in_default.is (w.update_subscriber.ensures y at))
+      | else-is_due_at w ↦ rw w.state-is (idle-at (answers_of g.F.BackpressureFn.allows g.G.DegradationFn.allows c.args.boxes.now.boxes) c.args.state.now c.requires.agrees c.args.place
           (ap (λ xs. is_subscriber_due xs c.args.place) (sym same) ∙ sym c.is_due_at.ensures ∙ w.if-is_due_at.false) y at)
     ] in
     (updates c.requires.stands.0 c.requires.stands.1).changes.agrees
@@ -27,22 +27,22 @@ take_at-requires-clause-agrees g c =
 pub take_at-requires-clause-stands : goal.take_at-requires-clause-stands
 take_at-requires-clause-stands g c =
     let same = c.deref.ensures.value ∙ ap (λ (f : Fields g.row.T.Denot g.row.U.Denot). f.subscribers) c.state.view_is in
-    let updates : (y : SubscriberFields) → slice_index_or c.args.state.now.subscribers c.args.place None ≡ Some y → UpdatesReceiver fixed_handlers c.args.state.now c.args.place y c.if-is_due_at.state None =
+    let updates : (y : SubscriberFields) → slice_index_or c.args.state.now.subscribers c.args.place None ≡ Some y → UpdatesReceiver (answers_of g.F.BackpressureFn.allows g.G.DegradationFn.allows c.args.boxes.now.boxes) c.args.state.now c.args.place y c.if-is_due_at.state None =
     λ y at. elim c.if-is_due_at.branch [
-      | then-is_due_at+in_default w ↦ rw w.state-is (subst (UpdatesReceiver fixed_handlers c.args.state.now c.args.place y w.update_subscriber.new.state) w.in_default.is (w.update_subscriber.ensures y at))
-      | else-is_due_at w ↦ rw w.state-is (idle-at fixed_handlers c.args.state.now c.requires.agrees c.args.place
+      | then-is_due_at+in_default w ↦ rw w.state-is (subst (UpdatesReceiver (answers_of g.F.BackpressureFn.allows g.G.DegradationFn.allows c.args.boxes.now.boxes) c.args.state.now c.args.place y w.update_subscriber.new.state) w.in_default.is (w.update_subscriber.ensures y at))
+      | else-is_due_at w ↦ rw w.state-is (idle-at (answers_of g.F.BackpressureFn.allows g.G.DegradationFn.allows c.args.boxes.now.boxes) c.args.state.now c.requires.agrees c.args.place
           (ap (λ xs. is_subscriber_due xs c.args.place) (sym same) ∙ sym c.is_due_at.ensures ∙ w.if-is_due_at.false) y at)
     ] in
     let y = c.requires.stands in
-    (_, updated-stands fixed_handlers c.args.state.now c.if-is_due_at.state c.args.place y.0 _ (updates y.0 y.1) y.1)
+    (_, updated-stands (answers_of g.F.BackpressureFn.allows g.G.DegradationFn.allows c.args.boxes.now.boxes) c.args.state.now c.if-is_due_at.state c.args.place y.0 _ (updates y.0 y.1) y.1)
 
 pub returns : goal.returns
 returns g c =
     let same = c.deref.ensures.value ∙ ap (λ (f : Fields g.row.T.Denot g.row.U.Denot). f.subscribers) c.state.view_is in
-    let updates : (y : SubscriberFields) → slice_index_or c.args.state.now.subscribers c.args.place None ≡ Some y → UpdatesReceiver fixed_handlers c.args.state.now c.args.place y c.if-is_due_at.state None =
+    let updates : (y : SubscriberFields) → slice_index_or c.args.state.now.subscribers c.args.place None ≡ Some y → UpdatesReceiver (answers_of g.F.BackpressureFn.allows g.G.DegradationFn.allows c.args.boxes.now.boxes) c.args.state.now c.args.place y c.if-is_due_at.state None =
     λ y at. elim c.if-is_due_at.branch [
-      | then-is_due_at+in_default w ↦ rw w.state-is (subst (UpdatesReceiver fixed_handlers c.args.state.now c.args.place y w.update_subscriber.new.state) w.in_default.is (w.update_subscriber.ensures y at))
-      | else-is_due_at w ↦ rw w.state-is (idle-at fixed_handlers c.args.state.now c.requires.agrees c.args.place
+      | then-is_due_at+in_default w ↦ rw w.state-is (subst (UpdatesReceiver (answers_of g.F.BackpressureFn.allows g.G.DegradationFn.allows c.args.boxes.now.boxes) c.args.state.now c.args.place y w.update_subscriber.new.state) w.in_default.is (w.update_subscriber.ensures y at))
+      | else-is_due_at w ↦ rw w.state-is (idle-at (answers_of g.F.BackpressureFn.allows g.G.DegradationFn.allows c.args.boxes.now.boxes) c.args.state.now c.requires.agrees c.args.place
           (ap (λ xs. is_subscriber_due xs c.args.place) (sym same) ∙ sym c.is_due_at.ensures ∙ w.if-is_due_at.false) y at)
     ] in
-    receives-at fixed_handlers c.args.state.now c.if-is_due_at.state c.take_at.new.state c.args.place None refl c.take_at.result updates c.take_at.ensures
+    receives-at (answers_of g.F.BackpressureFn.allows g.G.DegradationFn.allows c.args.boxes.now.boxes) c.args.state.now c.if-is_due_at.state c.take_at.new.state c.args.place None refl c.take_at.result updates c.take_at.ensures

@@ -22,11 +22,11 @@ send_unasked-requires-clause-unasked g c = λ x at. unhandled x.backpressure_han
 
 pub returns-then-not-has_handler_at-clause-sends : goal.returns-then-not-has_handler_at-clause-sends
 returns-then-not-has_handler_at-clause-sends g c =
-    let r = ready-boxes g.F.BackpressureFn.allows c.args.boxes.now.boxes c.args.state.now c.args.state.now c.args.loan.publisher c.args.loan.number c.args.loan.place c.args.loan.slot (c.is_ready.ensures c.if-is_ready.true) in
-    rw c.send_unasked.ensures.sends.1 (sends-loan (answers_of g.F.BackpressureFn.allows c.args.boxes.now.boxes) c.args.state.now c.requires.agrees c.args.loan.publisher c.args.loan.number c.args.loan.place c.requires.live (r.publisher, r.stands, r.is_its) (free-of c.args.state.now c.requires.agrees.parts c.args.loan.publisher c.args.loan.place r.publisher r.stands r.is_its c.requires.unblocked) c.args.state.now r.updated
+    let r = ready-boxes g.F.BackpressureFn.allows g.G.DegradationFn.allows c.args.boxes.now.boxes c.args.state.now c.args.state.now c.args.loan.publisher c.args.loan.number c.args.loan.place c.args.loan.slot (c.is_ready.ensures c.if-is_ready.true) in
+    rw c.send_unasked.ensures.sends.1 (sends-loan (answers_of g.F.BackpressureFn.allows g.G.DegradationFn.allows c.args.boxes.now.boxes) c.args.state.now c.requires.agrees c.args.loan.publisher c.args.loan.number c.args.loan.place c.requires.live (r.publisher, r.stands, r.is_its) (free-of c.args.state.now c.requires.agrees.parts c.args.loan.publisher c.args.loan.place r.publisher r.stands r.is_its c.requires.unblocked) c.args.state.now r.updated
     r.key c.args.loan.slot r.lies c.send_unasked.ensures.sends.0 c.send_unasked.new.state (λ x at.
-    sends-alike fixed_handlers (answers_of g.F.BackpressureFn.allows c.args.boxes.now.boxes) c.args.state.now c.args.loan.place x c.send_unasked.ensures.sends.0 c.send_unasked.new.state
-    (unasked fixed_handlers (answers_of g.F.BackpressureFn.allows c.args.boxes.now.boxes) x.id x.backpressure_handler (sym (c.has_handler_at.ensures x at) ∙ c.if-not-has_handler_at.true))
+    sends-alike fixed_handlers (answers_of g.F.BackpressureFn.allows g.G.DegradationFn.allows c.args.boxes.now.boxes) c.args.state.now c.args.loan.place x c.send_unasked.ensures.sends.0 c.send_unasked.new.state
+    (unasked fixed_handlers (answers_of g.F.BackpressureFn.allows g.G.DegradationFn.allows c.args.boxes.now.boxes) x.id x.backpressure_handler (sym (c.has_handler_at.ensures x at) ∙ c.if-not-has_handler_at.true))
     c.args.loan.slot (c.send_unasked.ensures.sends.2 x at)))
 
 pub returns-then-not-has_handler_at-clause-kept : goal.returns-then-not-has_handler_at-clause-kept

@@ -1,5 +1,5 @@
 use Rattle.std.proofs.Common.{refl, ◌≡◌, sym, ◌∙◌, ap, subst}
-use Rattle.iox2_store.specs.machine.Environments.{fixed_handlers}
+use Rattle.iox2_domain.specs.Boxes.{answers_of}
 use Rattle.iox2_steps.proofs.sends.SendSteps.{updated-agrees, still-holds}
 use Rattle.std.specs.declared.option.Option.TheVariants.{Some}
 use Rattle.iox2_domain.specs.Connects.{UpdatesPublisher}
@@ -17,25 +17,25 @@ returns-in-Some-update_publisher g c = (
     publisher = c.in-Some.ensures.0;
     stands = c.in-Some.ensures.1;
     is_its = c.in-Some.ensures.2;
-    updated = subst (UpdatesPublisher fixed_handlers c.args.state.now c.in-Some.place c.in-Some.ensures.0 c.update_publisher.new.state) c.in-Some-update_publisher.is (c.update_publisher.ensures _ c.in-Some.ensures.1);
+    updated = subst (UpdatesPublisher (answers_of g.F.BackpressureFn.allows g.G.DegradationFn.allows c.args.boxes.now.boxes) c.args.state.now c.in-Some.place c.in-Some.ensures.0 c.update_publisher.new.state) c.in-Some-update_publisher.is (c.update_publisher.ensures _ c.in-Some.ensures.1);
   },
 )
 
 pub find_loan-requires : goal.find_loan-requires
 find_loan-requires g c =
-    updated-agrees fixed_handlers c.args.state.now c.requires.agrees c.args.publisher c.args.number c.in-Some.place c.requires.live c.in-Some.ensures (free-of c.args.state.now c.requires.agrees.parts c.args.publisher c.in-Some.place c.in-Some.ensures.0 c.in-Some.ensures.1 c.in-Some.ensures.2 c.requires.unblocked) c.update_publisher.new.state (subst (UpdatesPublisher fixed_handlers c.args.state.now c.in-Some.place c.in-Some.ensures.0 c.update_publisher.new.state) c.in_default-update_publisher.is (c.update_publisher.ensures _ c.in-Some.ensures.1))
+    updated-agrees (answers_of g.F.BackpressureFn.allows g.G.DegradationFn.allows c.args.boxes.now.boxes) c.args.state.now c.requires.agrees c.args.publisher c.args.number c.in-Some.place c.requires.live c.in-Some.ensures (free-of c.args.state.now c.requires.agrees.parts c.args.publisher c.in-Some.place c.in-Some.ensures.0 c.in-Some.ensures.1 c.in-Some.ensures.2 c.requires.unblocked) c.update_publisher.new.state (subst (UpdatesPublisher (answers_of g.F.BackpressureFn.allows g.G.DegradationFn.allows c.args.boxes.now.boxes) c.args.state.now c.in-Some.place c.in-Some.ensures.0 c.update_publisher.new.state) c.in_default-update_publisher.is (c.update_publisher.ensures _ c.in-Some.ensures.1))
 
 pub unreachable-requires : goal.unreachable-requires
 unreachable-requires g c =
     c.in_default-find_loan.ensures
-    (still-holds fixed_handlers c.args.state.now c.requires.agrees c.args.publisher c.args.number c.in-Some.place c.requires.live c.in-Some.ensures (free-of c.args.state.now c.requires.agrees.parts c.args.publisher c.in-Some.place c.in-Some.ensures.0 c.in-Some.ensures.1 c.in-Some.ensures.2 c.requires.unblocked) c.update_publisher.new.state (subst (UpdatesPublisher fixed_handlers c.args.state.now c.in-Some.place c.in-Some.ensures.0 c.update_publisher.new.state) c.in_default-update_publisher.is (c.update_publisher.ensures _ c.in-Some.ensures.1)))
+    (still-holds (answers_of g.F.BackpressureFn.allows g.G.DegradationFn.allows c.args.boxes.now.boxes) c.args.state.now c.requires.agrees c.args.publisher c.args.number c.in-Some.place c.requires.live c.in-Some.ensures (free-of c.args.state.now c.requires.agrees.parts c.args.publisher c.in-Some.place c.in-Some.ensures.0 c.in-Some.ensures.1 c.in-Some.ensures.2 c.requires.unblocked) c.update_publisher.new.state (subst (UpdatesPublisher (answers_of g.F.BackpressureFn.allows g.G.DegradationFn.allows c.args.boxes.now.boxes) c.args.state.now c.in-Some.place c.in-Some.ensures.0 c.update_publisher.new.state) c.in_default-update_publisher.is (c.update_publisher.ensures _ c.in-Some.ensures.1)))
 
 pub returns : goal.returns
 returns g c = record {
   publisher = c.in-Some.ensures.0;
   stands = c.in-Some.ensures.1;
   is_its = c.in-Some.ensures.2;
-  updated = subst (UpdatesPublisher fixed_handlers c.args.state.now c.in-Some.place c.in-Some.ensures.0 c.update_publisher.new.state) c.in_default-update_publisher.is (c.update_publisher.ensures _ c.in-Some.ensures.1);
+  updated = subst (UpdatesPublisher (answers_of g.F.BackpressureFn.allows g.G.DegradationFn.allows c.args.boxes.now.boxes) c.args.state.now c.in-Some.place c.in-Some.ensures.0 c.update_publisher.new.state) c.in_default-update_publisher.is (c.update_publisher.ensures _ c.in-Some.ensures.1);
   key = c.in-Some-find_loan.at.book;
   lies = c.in-Some-find_loan.ensures;
 }

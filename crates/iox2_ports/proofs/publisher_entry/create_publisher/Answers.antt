@@ -3,7 +3,6 @@ use Rattle.std.specs.declared.option.Option.{Option}
 use Rattle.std.proofs.lemmas.Result.{err_from_is_err_and}
 use Rattle.std.specs.Prelude.{IsTrue}
 use Rattle.std.specs.declared.option.Option.TheVariants.{None, Some}
-use Rattle.iox2_store.specs.machine.Environments.{fixed_handlers}
 use Rattle.iox2_store.specs.machine.Limits.{segment_fits}
 use Rattle.iox2_store.specs.machine.Ports.{first_segment_fits, slots_for, with_new_publisher}
 use Rattle.iox2_store.specs.machine.Records.{Handler}
@@ -11,7 +10,7 @@ use Rattle.iox2_store.specs.declared.backpressure.BackpressureAction.{Backpressu
 use Rattle.iox2_store.specs.declared.allocation.AllocationStrategy.{AllocationStrategy}
 use Rattle.iox2_store.specs.declared.errors.PublisherCreateError.TheVariants.{FailedToDeployThreadsafetyPolicy, UnableToCreateDataSegment}
 use Rattle.iox2_ends.proofs.MailboxChanges.{both-true}
-use Rattle.iox2_domain.specs.Boxes.{box_of}
+use Rattle.iox2_domain.specs.Boxes.{answers_of, boxes_of}
 use Rattle.iox2_domain.specs.Kept.{state_of}
 use Rattle.iox2_domain.specs.Reaches.{Reaches}
 use Rattle.iox2_domain.specs.declared.boxes.PortBox.{PortBox}
@@ -26,13 +25,13 @@ pub returns-in_err-place-clause-step : goal.returns-in_err-place-clause-step
 returns-in_err-place-clause-step g c =
     let refused = err_from_is_err_and c.from_residual.result c.from_residual.ensures.1 in
     rw (refused.1, refused.2) (
-      created-refused {T = g.row.T.Denot} {U = g.row.U.Denot} c.args.state.now (settings_with c.args.given.now (marks_of c.args.handler) c.args.segments) fixed_handlers c.in_err-place.field-0.0 (sym c.place_for_publisher.ensures ∙ c.in_err-place.was),
+      created-refused {T = g.row.T.Denot} {U = g.row.U.Denot} c.args.state.now (settings_with c.args.given.now (marks_of c.args.handler) c.args.segments) (answers_of g.F.BackpressureFn.allows g.G.DegradationFn.allows c.args.boxes.now.boxes) c.in_err-place.field-0.0 (sym c.place_for_publisher.ensures ∙ c.in_err-place.was),
       reaches-same c.args.state.now c.requires,
     )
 
 pub returns-in_default-clause-step : goal.returns-in_default-clause-step
 returns-in_default-clause-step g c = (
-  created-unfit {T = g.row.T.Denot} {U = g.row.U.Denot} c.args.state.now (settings_with c.args.given.now (marks_of c.args.handler) c.args.segments) fixed_handlers c.in_ok-place.place (sym c.place_for_publisher.ensures ∙ c.in_ok-place.was)
+  created-unfit {T = g.row.T.Denot} {U = g.row.U.Denot} c.args.state.now (settings_with c.args.given.now (marks_of c.args.handler) c.args.segments) (answers_of g.F.BackpressureFn.allows g.G.DegradationFn.allows c.args.boxes.now.boxes) c.in_ok-place.place (sym c.place_for_publisher.ensures ∙ c.in_ok-place.was)
       (subst (λ (f : Fields g.row.T.Denot g.row.U.Denot). IsTrue (first_segment_fits f.config (settings_with c.args.given.now (marks_of c.args.handler) c.args.segments)) → ⊥) c.state.view_is c.in_default.ensures),
   reaches-same c.args.state.now c.requires,
 )
@@ -41,7 +40,7 @@ pub returns-in_err-id-clause-step : goal.returns-in_err-id-clause-step
 returns-in_err-id-clause-step g c =
     let refused = err_from_is_err_and c.from_residual-in_err-id.result c.from_residual-in_err-id.ensures.1 in
     rw (refused.1, refused.2) (
-      created-made {T = g.row.T.Denot} {U = g.row.U.Denot} c.args.state.now (settings_with c.args.given.now (marks_of c.args.handler) c.args.segments) fixed_handlers c.in_ok-place.place (state_of (kept_of c.args.state.now)) (Some c.in_err-id.field-0.0)
+      created-made {T = g.row.T.Denot} {U = g.row.U.Denot} c.args.state.now (settings_with c.args.given.now (marks_of c.args.handler) c.args.segments) (answers_of g.F.BackpressureFn.allows g.G.DegradationFn.allows c.reserve_for.new.kept.boxes) c.in_ok-place.place (state_of (kept_of c.args.state.now)) (Some c.in_err-id.field-0.0)
           (sym c.place_for_publisher.ensures ∙ c.in_ok-place.was)
           (subst (λ (f : Fields g.row.T.Denot g.row.U.Denot). IsTrue (first_segment_fits f.config (settings_with c.args.given.now (marks_of c.args.handler) c.args.segments))) c.state.view_is c.in-Some.ensures.0)
           (tt, refl, c.in_err-id.ensures.step.1),
@@ -64,18 +63,18 @@ returns-clause-step g c =
     let entered = c.in_ok-id.ensures in
     let asked = c.args.segments.asked_slots in
     let slots = c.in-Some.ensures.1 ∙ ap (λ (f : Fields g.row.T.Denot g.row.U.Denot). slots_for f.config (static_with c.args.given.now None asked)) c.state.view_is in
-    created-updated {T = g.row.T.Denot} {U = g.row.U.Denot} c.args.state.now (settings_with c.args.given.now (marks_of c.args.handler) c.args.segments) fixed_handlers
+    created-updated {T = g.row.T.Denot} {U = g.row.U.Denot} c.args.state.now (settings_with c.args.given.now (marks_of c.args.handler) c.args.segments) (answers_of g.F.BackpressureFn.allows g.G.DegradationFn.allows c.keep_boxes.new.kept.boxes)
     c.admit_publisher.new.state c.update_first.new.state c.in_ok-place.place (sym c.place_for_publisher.ensures ∙ c.in_ok-place.was)
     (subst (λ (f : Fields g.row.T.Denot g.row.U.Denot). IsTrue (first_segment_fits f.config (settings_with c.args.given.now (marks_of c.args.handler) c.args.segments))) c.state.view_is c.in-Some.ensures.0)
     (subst (λ (allocation : AllocationStrategy). Reaches c.args.state.now c.admit_publisher.new.state
     (with_new_publisher (state_of (kept_of c.args.state.now)) (record (static_with c.args.given.now (marks_of c.args.handler) asked) { allocation_strategy = allocation }) c.in_ok-place.place)) (sym c.in-Static.is)
     (subst (λ (h : Option (Handler BackpressureAction)). Reaches c.args.state.now c.admit_publisher.new.state
-    (with_new_publisher (state_of (kept_of c.args.state.now)) (static_with c.args.given.now h asked) c.in_ok-place.place)) c.mark_of.ensures (entered.step asked slots)))
+    (with_new_publisher (state_of (kept_of c.args.state.now)) (static_with c.args.given.now h asked) c.in_ok-place.place)) c.mark_of-mark.ensures (entered.step asked slots)))
     entered.stands.0 entered.stands.2 (c.update_first.ensures entered.stands.0 entered.stands.1)
 
 pub returns-in_default-allocation-clause-step : goal.returns-in_default-allocation-clause-step
 returns-in_default-allocation-clause-step g c = (
-  created-made {T = g.row.T.Denot} {U = g.row.U.Denot} c.args.state.now (settings_with c.args.given.now (marks_of c.args.handler) c.args.segments) fixed_handlers c.in_ok-place.place (state_of (kept_of c.args.state.now)) (Some UnableToCreateDataSegment)
+  created-made {T = g.row.T.Denot} {U = g.row.U.Denot} c.args.state.now (settings_with c.args.given.now (marks_of c.args.handler) c.args.segments) (answers_of g.F.BackpressureFn.allows g.G.DegradationFn.allows c.args.boxes.now.boxes) c.in_ok-place.place (state_of (kept_of c.args.state.now)) (Some UnableToCreateDataSegment)
       (sym c.place_for_publisher.ensures ∙ c.in_ok-place.was)
       (subst (λ (f : Fields g.row.T.Denot g.row.U.Denot). IsTrue (first_segment_fits f.config (settings_with c.args.given.now (marks_of c.args.handler) c.args.segments))) c.state.view_is c.in-Some.ensures.0)
       (tt, refl, inl refl),
@@ -84,7 +83,7 @@ returns-in_default-allocation-clause-step g c = (
 
 pub returns-in_default-reserve_for-clause-step : goal.returns-in_default-reserve_for-clause-step
 returns-in_default-reserve_for-clause-step g c = (
-  created-made {T = g.row.T.Denot} {U = g.row.U.Denot} c.args.state.now (settings_with c.args.given.now (marks_of c.args.handler) c.args.segments) fixed_handlers c.in_ok-place.place (state_of (kept_of c.args.state.now)) (Some FailedToDeployThreadsafetyPolicy)
+  created-made {T = g.row.T.Denot} {U = g.row.U.Denot} c.args.state.now (settings_with c.args.given.now (marks_of c.args.handler) c.args.segments) (answers_of g.F.BackpressureFn.allows g.G.DegradationFn.allows c.reserve_for.new.kept.boxes) c.in_ok-place.place (state_of (kept_of c.args.state.now)) (Some FailedToDeployThreadsafetyPolicy)
       (sym c.place_for_publisher.ensures ∙ c.in_ok-place.was)
       (subst (λ (f : Fields g.row.T.Denot g.row.U.Denot). IsTrue (first_segment_fits f.config (settings_with c.args.given.now (marks_of c.args.handler) c.args.segments))) c.state.view_is c.in-Some.ensures.0)
       (tt, refl, inr refl),
@@ -93,7 +92,7 @@ returns-in_default-reserve_for-clause-step g c = (
 
 pub returns-clause-others : goal.returns-clause-others
 returns-clause-others g c = λ port away.
-    c.keep_box.ensures.others port (λ is. away (is ∙ c.in_ok-id.ensures.id)) ∙ ap (λ (all : List (PortBox g.row.F.Denot)). box_of port all) c.reserve_for.ensures.same
+    c.keep_boxes.ensures.others port (λ is. away (is ∙ c.value.ensures ∙ c.in_ok-id.ensures.id)) ∙ ap (λ (all : List (PortBox g.row.F.Denot g.row.G.Denot)). boxes_of port all) c.reserve_for.ensures.same
 
 pub admit_publisher-requires-clause-has_place : goal.admit_publisher-requires-clause-has_place
 admit_publisher-requires-clause-has_place g c = sym c.place_for_publisher.ensures ∙ c.in_ok-place.was

@@ -1,7 +1,7 @@
 use Rattle.std.proofs.Common.{rules, ◌≡◌, ◌∙◌, ◌≤◌, length, vec_len, max, ap, map, refl, arith}
 use Rattle.std.proofs.lemmas.List.{with_items_is}
 use Rattle.std.specs.Option.{option_map}
-use Rattle.iox2_store.specs.machine.Records.{Fixed}
+use Rattle.iox2_domain.specs.Handlers.{handler_of}
 use Rattle.iox2_domain.specs.SubscriberEntry.{asked_for}
 use Rattle.iox2_domain.specs.Fields.{Fields}
 use Rattle.iox2_domain.specs.Ports.{due, entering}
@@ -34,8 +34,8 @@ returns-clause-step g c =
     let size : c.max.result ≡ max 1 c.args.given.now.buffer_size = grind (arith, c.max.ensures) in
     has-entered {T = g.row.T.Denot} {U = g.row.U.Denot} c.args.state.now (asked_for c.args.given.now) _ c.state.view_is c.requires.agrees c.args.place c.new-subscriber.result
     c.warn_of_expired_buffer.new.warnings _ _ c.requires.has_place
-    (c.new-subscriber.ensures ∙ ap (λ id. entering id c.args.place c.max.result (Fixed c.args.given.now.degradation) c.new-subscriber.result.key_room c.new-subscriber.result.expired_room) c.new-id.ensures
-    ∙ ap (λ size. entering c.state.inside.next_port c.args.place size (Fixed c.args.given.now.degradation) c.new-subscriber.result.key_room c.new-subscriber.result.expired_room) size)
+    (c.new-subscriber.ensures ∙ ap (λ id. entering id c.args.place c.max.result (handler_of c.args.given.now.degradation) c.new-subscriber.result.key_room c.new-subscriber.result.expired_room) c.new-id.ensures
+    ∙ ap (λ size. entering c.state.inside.next_port c.args.place size (handler_of c.args.given.now.degradation) c.new-subscriber.result.key_room c.new-subscriber.result.expired_room) size)
     (rw (← c.new-id.ensures) c.warn_of_expired_buffer.ensures)
     (with_items_is c.state.inside.publishers c.make_all_due.new.ports (c.make_all_due.auto.ports ∙ c.deref_mut.ensures.len) ∙ all_due)
     (c.put_at_place.ensures.items ∙ ap (λ ys. placed ys c.args.place c.new-subscriber.result) c.in-Ok.ensures.items)

@@ -1,56 +1,63 @@
 //! The factory of publishers of slices.
 ghost use Rattle.std.specs.Prelude.{◌≡◌, ◌≤◌, true, false, None, Some, IfOk, OnErr, OnOk, MatchResult};
 ghost use Rattle.iox2_store.specs.declared.degradation.DegradationAction.TheVariants.{Warn};
-ghost use Rattle.iox2_store.specs.machine.Environments.{fixed_handlers};
+ghost use Rattle.iox2_domain.specs.Boxes.{answers_of};
 ghost use Rattle.iox2_store.specs.machine.Records.{Fixed};
 ghost use Rattle.iox2_store.specs.machine.Ports.{CreatePublisher};
 ghost use Rattle.iox2_store.specs.machine.State.{State, Messages};
-ghost use Rattle.iox2_pubsub.specs.Live.{ConnectionsStay, IsConnected, IsLiveSubscriber, IsNewIn, IsReadyPublisher, NeverFails, NeverWaits, NoneRefused, Stays, handler_box, publisher_key, publisher_port, payloads, waiting};
+ghost use Rattle.iox2_pubsub.specs.Live.{ConnectionsStay, IsConnected, IsLiveSubscriber, IsNewIn, IsReadyPublisher, NeverFails, NeverWaits, NoneRefused, Stays, degradation_box, handler_box, publisher_key, publisher_port, payloads, waiting};
 ghost use Rattle.iox2_pubsub.specs.LoansLeft.{HasLoansLeft, LoansLeftStay};
 ghost use Rattle.iox2_domain.specs.NewPublisher.{plain_publisher};
 ghost use Rattle.iox2_domain.specs.Handlers.{may_fail, may_fail_update};
-ghost use Rattle.iox2_pubsub.specs.Factories.{answer_of, with_callback, with_handler};
+ghost use Rattle.iox2_pubsub.specs.Factories.{with_callback, with_degradation, with_handler};
 ghost use Rattle.iox2_pubsub.specs.Handlers.{may_wait};
 ghost use Rattle.iox2_pubsub.specs.declared.subscriber.Subscriber.{Subscriber};
 ghost use Rattle.iox2_domain.specs.Shows.{Shows};
 
 mod overridden;
 
-use crate::degradation_handler::DegradationHandler;
 use crate::domain::Domain;
+use crate::port_factory::degradations::{box_in, mark_of};
 use crate::port_factory::preallocation::{NoOverride, PreallocatedSamplesOverride, SlotSettings};
 use crate::port_factory::publisher::create_plain;
 use crate::slice::Publisher;
-use iox2_domain::PublisherOptions;
+use iox2_domain::{HandlerMark, PublisherOptions};
 use iox2_ports::SegmentOptions;
 use iox2_store::{
-    AllocationStrategy, BackpressureFn, BackpressureHandler, BackpressureStrategy,
-    DegradationAction, DegradationFn, PublisherCreateError,
+    AllocationStrategy, BackpressureFn, BackpressureHandler, BackpressureStrategy, DegradationAction, DegradationFn,
+    DegradationHandler, PublisherCreateError,
 };
 use std::marker::Model;
 
 /// Makes a publisher of slices. It begins with the loans that the domain's settings allow a
-/// publisher, each of one element at most, and with their strategy.
+/// publisher, each of one element at most, and with their strategy. Its memory is to grow as they say.
 ///
 /// iceoryx2's `PortFactoryPublisher` of a slice (`src/service/port_factory/publisher.rs`).
 #[derive(Drop)]
-pub struct PortFactoryPublisher<F = Box<dyn BackpressureFn>, O = NoOverride> {
+pub struct PortFactoryPublisher<
+    F = Box<dyn BackpressureFn>,
+    G = Box<dyn DegradationFn>,
+    O = NoOverride,
+> {
     slots: SlotSettings<O>,
     options: PublisherOptions,
     backpressure_handler: Option<BackpressureHandler<F>>,
+    // What answers where it can't make a connection, where that is a box.
+    degradation_box: Option<G>,
 }
 
-impl<F, O> Model for PortFactoryPublisher<F, O> {
+impl<F, G, O> Model for PortFactoryPublisher<F, G, O> {
     ghost use Rattle.iox2_domain.specs.NewPublisher.{static_publisher};
     ghost use Rattle.iox2_ends.specs.Handlers.{marks_of};
     ghost use Rattle.iox2_ports.specs.Handlers.{custom_box};
     ghost use Rattle.iox2_pubsub.specs.Factories.{PublisherFactory};
 
-    ghost Value = { PublisherFactory F O };
+    ghost Value = { PublisherFactory F G O };
 
     ghost view = { λ factory. record {
       settings = record (static_publisher factory.options (marks_of factory.backpressure_handler)) { allocation_strategy = factory.slots.allocation };
       box = custom_box factory.backpressure_handler;
+      degradation_box = factory.degradation_box;
       preallocated = factory.slots.preallocated;
     } };
 }
@@ -60,8 +67,8 @@ impl<T: Drop, U: Default + Drop, F: BackpressureFn, G: DegradationFn> Domain<T, 
     /// publisher, each of one element at most, and with their strategy.
     ///
     /// iceoryx2's `publisher_builder` of a service's factory of ports.
-    pub fn slice_publisher_builder(&self) -> PortFactoryPublisher<F>
-        ensures { result ≡ record { settings = record (plain_publisher (self.now.config).publisher_max_loaned_samples (self.now.config).backpressure_strategy 1) { allocation_strategy = (self.now.config).publisher_allocation_strategy }; box = None; preallocated = record {} } }
+    pub fn slice_publisher_builder(&self) -> PortFactoryPublisher<F, G>
+        ensures { result ≡ record { settings = record (plain_publisher (self.now.config).publisher_max_loaned_samples (self.now.config).backpressure_strategy 1) { allocation_strategy = (self.now.config).publisher_allocation_strategy }; box = None; degradation_box = None; preallocated = record {} } }
     {
         let config = self.state.config();
         PortFactoryPublisher {
@@ -72,15 +79,16 @@ impl<T: Drop, U: Default + Drop, F: BackpressureFn, G: DegradationFn> Domain<T, 
             options: PublisherOptions {
                 max_loaned_samples: config.publisher_max_loaned_samples,
                 strategy: config.backpressure_strategy,
-                degradation: DegradationAction::Warn,
+                degradation: HandlerMark::Fixed(DegradationAction::Warn),
                 initial_max_slice_len: 1,
             },
             backpressure_handler: None,
+            degradation_box: None,
         }
     }
 }
 
-impl<F: BackpressureFn, O: Drop> PortFactoryPublisher<F, O> {
+impl<F: BackpressureFn, G: DegradationFn, O: Drop> PortFactoryPublisher<F, G, O> {
     /// Sets how many loans of the publisher may be out at a time, 0 or more.
     ///
     /// iceoryx2's `PortFactoryPublisher::max_loaned_samples`
@@ -95,6 +103,7 @@ impl<F: BackpressureFn, O: Drop> PortFactoryPublisher<F, O> {
                 ..self.options
             },
             backpressure_handler: self.backpressure_handler,
+            degradation_box: self.degradation_box,
         }
     }
 
@@ -113,6 +122,7 @@ impl<F: BackpressureFn, O: Drop> PortFactoryPublisher<F, O> {
                 ..self.options
             },
             backpressure_handler: self.backpressure_handler,
+            degradation_box: self.degradation_box,
         }
     }
 
@@ -130,6 +140,7 @@ impl<F: BackpressureFn, O: Drop> PortFactoryPublisher<F, O> {
             slots: self.slots,
             options: self.options,
             backpressure_handler: Some(handler),
+            degradation_box: self.degradation_box,
         }
     }
 
@@ -147,24 +158,27 @@ impl<F: BackpressureFn, O: Drop> PortFactoryPublisher<F, O> {
                 ..self.options
             },
             backpressure_handler: self.backpressure_handler,
+            degradation_box: self.degradation_box,
         }
     }
 
     /// Sets what answers where memory for a connection with a subscriber is refused: the publisher
-    /// goes on without it, or the domain warns of it too, as by default, or the call fails.
+    /// goes on without it, or the domain warns of it too, as by default, or the call fails. A handler
+    /// that is a box goes with the publisher to the domain, which keeps it until the publisher is closed.
     ///
     /// iceoryx2's `PortFactoryPublisher::set_degradation_handler`
     /// (`src/service/port_factory/publisher.rs`).
-    pub fn set_degradation_handler(self, handler: DegradationHandler) -> Self
-        ensures { result ≡ record self { settings = record (self.settings) { degradation_handler = answer_of handler } } }
+    pub fn set_degradation_handler(self, handler: DegradationHandler<G>) -> Self
+        ensures { result ≡ with_degradation self handler }
     {
         PortFactoryPublisher {
             slots: self.slots,
             options: PublisherOptions {
-                degradation: handler.answer(),
+                degradation: mark_of(&handler),
                 ..self.options
             },
             backpressure_handler: self.backpressure_handler,
+            degradation_box: box_in(handler),
         }
     }
 
@@ -183,6 +197,7 @@ impl<F: BackpressureFn, O: Drop> PortFactoryPublisher<F, O> {
             },
             options: self.options,
             backpressure_handler: self.backpressure_handler,
+            degradation_box: self.degradation_box,
         }
     }
 
@@ -195,7 +210,7 @@ impl<F: BackpressureFn, O: Drop> PortFactoryPublisher<F, O> {
     pub fn override_sample_preallocation<P: Fn(usize) -> usize + Drop>(
         self,
         callback: P,
-    ) -> PortFactoryPublisher<F, PreallocatedSamplesOverride<P>>
+    ) -> PortFactoryPublisher<F, G, PreallocatedSamplesOverride<P>>
         ensures { result ≡ with_callback self callback }
     {
         PortFactoryPublisher {
@@ -205,6 +220,7 @@ impl<F: BackpressureFn, O: Drop> PortFactoryPublisher<F, O> {
             },
             options: self.options,
             backpressure_handler: self.backpressure_handler,
+            degradation_box: self.degradation_box,
         }
     }
 
@@ -213,8 +229,8 @@ impl<F: BackpressureFn, O: Drop> PortFactoryPublisher<F, O> {
     ///
     /// iceoryx2's `PortFactoryPublisher::__internal_partial_clone`
     /// (`src/service/port_factory/publisher.rs`).
-    pub fn internal_partial_clone(&self) -> PortFactoryPublisher<F>
-        ensures { result ≡ record { settings = record (self.now.settings) { degradation_handler = Fixed Warn; backpressure_handler = None }; box = None; preallocated = record {} } }
+    pub fn internal_partial_clone(&self) -> PortFactoryPublisher<F, G>
+        ensures { result ≡ record { settings = record (self.now.settings) { degradation_handler = Fixed Warn; backpressure_handler = None }; box = None; degradation_box = None; preallocated = record {} } }
     {
         PortFactoryPublisher {
             slots: SlotSettings {
@@ -222,15 +238,16 @@ impl<F: BackpressureFn, O: Drop> PortFactoryPublisher<F, O> {
                 preallocated: NoOverride,
             },
             options: PublisherOptions {
-                degradation: DegradationAction::Warn,
+                degradation: HandlerMark::Fixed(DegradationAction::Warn),
                 ..self.options
             },
             backpressure_handler: None,
+            degradation_box: None,
         }
     }
 }
 
-impl<F: BackpressureFn> PortFactoryPublisher<F> {
+impl<F: BackpressureFn, G: DegradationFn> PortFactoryPublisher<F, G> {
     ghost use Rattle.iox2_pubsub.specs.Handles.{as_publisher, max_slice_len_of, publisher_id, strategy_of};
 
     /// Makes the publisher, as the factory of publishers of single values does. Each of its slots has
@@ -240,21 +257,20 @@ impl<F: BackpressureFn> PortFactoryPublisher<F> {
     /// `ExceedsMaxSupportedPublishers` where as many publishers are open as may be, with
     /// `UnableToCreateDataSegment` where the number of slots, or that times the longest length times
     /// the units of an element, doesn't fit `usize`, and so far where the publisher isn't to be
-    /// static. After these, where memory is refused: with
-    /// `UnableToCreateDataSegment` if it was for the slots, with `FailedToDeployThreadsafetyPolicy`
-    /// if it was for the publisher's state or its box. No id is then used, and the domain stays as it
-    /// is.
+    /// static. After these, where memory is refused: with `UnableToCreateDataSegment` if it was for
+    /// the slots, with `FailedToDeployThreadsafetyPolicy` if it was for the publisher's state or its
+    /// boxes. No id is then used, and the domain stays as it is.
     ///
     /// iceoryx2's `PortFactoryPublisher::create` (`src/service/port_factory/publisher.rs`) and
     /// `Publisher::new` (`src/port/publisher.rs`).
-    pub fn create<T: Drop, U: Default + Drop, G: DegradationFn>(
+    pub fn create<T: Drop, U: Default + Drop>(
         self,
         domain: &mut Domain<T, U, F, G>,
     ) -> Result<Publisher, PublisherCreateError>
         ensures creates { (m : Messages T U) (s : State T U) → Shows domain.old m s → (s' : State T U) × Shows domain.new m s'
             × MatchResult result
-            (λ publisher. (publisher_id (as_publisher publisher) ≡ s.next_port) × CreatePublisher fixed_handlers s self.settings s' None)
-            (λ e. CreatePublisher fixed_handlers s self.settings s' (Some e)) }
+            (λ publisher. (publisher_id (as_publisher publisher) ≡ s.next_port) × CreatePublisher (answers_of F.allows G.allows (domain.new.boxes).publishers) s self.settings s' None)
+            (λ e. CreatePublisher (answers_of F.allows G.allows (domain.new.boxes).publishers) s self.settings s' (Some e)) }
         ensures is_static { OnOk result (self.settings.allocation_strategy ≡ AllocationStrategy.Static) }
         ensures ready { IfOk result (λ publisher. IsReadyPublisher domain.new (as_publisher publisher)) }
         ensures discards { self.settings.backpressure_strategy ≡ BackpressureStrategy.DiscardData → self.settings.backpressure_handler ≡ None → may_fail_update self.settings.degradation_handler ≡ false → IfOk result (λ publisher. NeverWaits domain.new (publisher_key (as_publisher publisher))) }
@@ -262,6 +278,7 @@ impl<F: BackpressureFn> PortFactoryPublisher<F> {
         ensures overflows { (domain.old.config).enable_safe_overflow ≡ true → may_fail_update self.settings.degradation_handler ≡ false → IfOk result (λ publisher. NeverWaits domain.new (publisher_key (as_publisher publisher))) }
         ensures never_fails { may_fail self.settings.backpressure_handler ≡ false → may_fail_update self.settings.degradation_handler ≡ false → IfOk result (λ publisher. NeverFails domain.new (publisher_id (as_publisher publisher))) }
         ensures boxed { IfOk result (λ publisher. handler_box domain.new (publisher_id (as_publisher publisher)) ≡ self.box) }
+        ensures degrades { IfOk result (λ publisher. degradation_box domain.new (publisher_id (as_publisher publisher)) ≡ self.degradation_box) }
         ensures strategy { IfOk result (λ publisher. strategy_of (as_publisher publisher) ≡ self.settings.backpressure_strategy) }
         ensures longest { IfOk result (λ publisher. max_slice_len_of (as_publisher publisher) ≡ self.settings.initial_max_slice_len) }
         ensures new { IfOk result (λ publisher. IsNewIn domain.old (publisher_port (as_publisher publisher))) }
@@ -278,7 +295,13 @@ impl<F: BackpressureFn> PortFactoryPublisher<F> {
             asked_slots: None,
         };
         let options = self.options;
-        match create_plain(domain, &options, self.backpressure_handler, segments) {
+        match create_plain(
+            domain,
+            &options,
+            self.backpressure_handler,
+            self.degradation_box,
+            segments,
+        ) {
             Ok(publisher) => Ok(Publisher { publisher }),
             Err(error) => Err(error),
         }

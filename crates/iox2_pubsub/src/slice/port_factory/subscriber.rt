@@ -1,44 +1,43 @@
 //! The factory of subscribers of slices.
 ghost use Rattle.std.specs.Prelude.{◌≡◌, None, Some, IfOk, MatchResult};
 ghost use Rattle.iox2_store.specs.declared.degradation.DegradationAction.TheVariants.{Warn};
-ghost use Rattle.iox2_store.specs.machine.Environments.{fixed_handlers};
+ghost use Rattle.iox2_domain.specs.Boxes.{answers_of};
 ghost use Rattle.iox2_store.specs.machine.Records.{Fixed};
 ghost use Rattle.iox2_store.specs.machine.Ports.{default_subscriber_settings, buffer_for, CreateSubscriber};
 ghost use Rattle.iox2_store.specs.machine.State.{State, Messages};
-ghost use Rattle.iox2_pubsub.specs.Live.{IsLiveSubscriber, IsNewIn, Stays, subscriber_port, UpToDateStay, payloads, waiting};
+ghost use Rattle.iox2_pubsub.specs.Live.{IsLiveSubscriber, IsNewIn, Stays, subscriber_box, subscriber_port, UpToDateStay, payloads, waiting};
 ghost use Rattle.iox2_pubsub.specs.LoansLeft.{LoansLeftStay};
-ghost use Rattle.iox2_pubsub.specs.Factories.{answer_of};
+ghost use Rattle.iox2_pubsub.specs.Factories.{receiver_with_degradation};
 ghost use Rattle.iox2_domain.specs.Shows.{Shows};
 
-use crate::degradation_handler::DegradationHandler;
 use crate::domain::Domain;
 use crate::slice::Subscriber;
-use iox2_store::{BackpressureFn, DegradationFn, SubscriberCreateError};
+use iox2_store::{BackpressureFn, DegradationFn, DegradationHandler, SubscriberCreateError};
 use std::marker::Model;
 
 /// Makes a subscriber of slices. It begins with the largest buffer that the domain allows.
 ///
 /// iceoryx2's `PortFactorySubscriber` of a slice (`src/service/port_factory/subscriber.rs`).
 #[derive(Drop)]
-pub struct PortFactorySubscriber {
-    factory: crate::PortFactorySubscriber,
+pub struct PortFactorySubscriber<G = Box<dyn DegradationFn>> {
+    factory: crate::PortFactorySubscriber<G>,
 }
 
-impl Model for PortFactorySubscriber {
-    ghost use Rattle.iox2_store.specs.machine.Records.{SubscriberSettings};
+impl<G> Model for PortFactorySubscriber<G> {
+    ghost use Rattle.iox2_pubsub.specs.Factories.{SubscriberFactory};
 
-    ghost Value = { SubscriberSettings };
+    ghost Value = { SubscriberFactory G };
 
     ghost view = { λ factory. factory.factory };
 }
 
-impl PortFactorySubscriber {
+impl<G: DegradationFn> PortFactorySubscriber<G> {
     ghost use Rattle.iox2_pubsub.specs.Handles.{as_subscriber, buffer_size_of, subscriber_id};
     /// Sets how many messages of one publisher may wait for the subscriber. Here 0 counts as 1.
     ///
     /// iceoryx2's `PortFactorySubscriber::buffer_size` (`src/service/port_factory/subscriber.rs`).
     pub fn buffer_size(self, value: usize) -> Self
-        ensures { result ≡ record self { buffer_size = value } }
+        ensures { result ≡ record self { settings = record (self.settings) { buffer_size = value } } }
     {
         PortFactorySubscriber {
             factory: self.factory.buffer_size(value),
@@ -46,12 +45,14 @@ impl PortFactorySubscriber {
     }
 
     /// Sets what answers where memory for a connection with a publisher is refused: the subscriber
-    /// goes on without it, or the domain warns of it too, as by default, or the call fails.
+    /// goes on without it, or the domain warns of it too, as by default, or the call fails. A handler
+    /// that is a box goes with the subscriber to the domain, which keeps it until the subscriber is
+    /// closed.
     ///
     /// iceoryx2's `PortFactorySubscriber::set_degradation_handler`
     /// (`src/service/port_factory/subscriber.rs`).
-    pub fn set_degradation_handler(self, handler: DegradationHandler) -> Self
-        ensures { result ≡ record self { degradation_handler = answer_of handler } }
+    pub fn set_degradation_handler(self, handler: DegradationHandler<G>) -> Self
+        ensures { result ≡ receiver_with_degradation self handler }
     {
         PortFactorySubscriber {
             factory: self.factory.set_degradation_handler(handler),
@@ -64,7 +65,7 @@ impl PortFactorySubscriber {
     /// iceoryx2's `PortFactorySubscriber::__internal_partial_clone`
     /// (`src/service/port_factory/subscriber.rs`).
     pub fn internal_partial_clone(&self) -> Self
-        ensures { result ≡ record (self.now) { degradation_handler = Fixed Warn } }
+        ensures { result ≡ record { settings = record (self.now.settings) { degradation_handler = Fixed Warn }; box = None } }
     {
         PortFactorySubscriber {
             factory: self.factory.internal_partial_clone(),
@@ -76,14 +77,15 @@ impl PortFactorySubscriber {
     ///
     /// iceoryx2's `PortFactorySubscriber::create` (`src/service/port_factory/subscriber.rs`) and
     /// `Subscriber::new` (`src/port/subscriber.rs`).
-    pub fn create<T: Drop, U: Default + Drop, F: BackpressureFn, G: DegradationFn>(
+    pub fn create<T: Drop, U: Default + Drop, F: BackpressureFn>(
         self,
         domain: &mut Domain<T, U, F, G>,
     ) -> Result<Subscriber, SubscriberCreateError>
         ensures creates { (m : Messages T U) (s : State T U) → Shows domain.old m s → (s' : State T U) × Shows domain.new m s' × MatchResult result
-            (λ subscriber. CreateSubscriber fixed_handlers s self s' None × (subscriber_id (as_subscriber subscriber) ≡ s.next_port) × (buffer_size_of (as_subscriber subscriber) ≡ buffer_for self))
-            (λ error. CreateSubscriber fixed_handlers s self s' (Some error)) }
+            (λ subscriber. CreateSubscriber (answers_of F.allows G.allows (domain.new.boxes).subscribers) s self.settings s' None × (subscriber_id (as_subscriber subscriber) ≡ s.next_port) × (buffer_size_of (as_subscriber subscriber) ≡ buffer_for self.settings))
+            (λ error. CreateSubscriber (answers_of F.allows G.allows (domain.new.boxes).subscribers) s self.settings s' (Some error)) }
         ensures live { IfOk result (λ subscriber. IsLiveSubscriber domain.new (as_subscriber subscriber)) }
+        ensures boxed { IfOk result (λ subscriber. subscriber_box domain.new (subscriber_id (as_subscriber subscriber)) ≡ self.box) }
         ensures new { IfOk result (λ subscriber. IsNewIn domain.old (subscriber_port (as_subscriber subscriber))) }
         ensures none { IfOk result (λ subscriber. waiting domain.new (as_subscriber subscriber) ≡ 0) }
         ensures waits { payloads domain.new ≡ payloads domain.old }
@@ -102,8 +104,8 @@ impl<T: Drop, U: Default + Drop, F: BackpressureFn, G: DegradationFn> Domain<T, 
     /// A factory of subscribers of slices, with the largest buffer that the domain allows.
     ///
     /// iceoryx2's `subscriber_builder` of a service's factory of ports.
-    pub fn slice_subscriber_builder(&self) -> PortFactorySubscriber
-        ensures { result ≡ default_subscriber_settings self.now.config }
+    pub fn slice_subscriber_builder(&self) -> PortFactorySubscriber<G>
+        ensures { result ≡ record { settings = default_subscriber_settings self.now.config; box = None } }
     {
         PortFactorySubscriber {
             factory: self.subscriber_builder(),

@@ -10,7 +10,7 @@ use iox2_store::{BackpressureFn, ConnectionFailure, DegradationFn};
 /// iceoryx2's `UpdateConnections` of `Publisher` (`src/port/publisher.rs`).
 impl<T: Drop, U: Default + Drop, F: BackpressureFn, G: DegradationFn> UpdateConnections<T, U, F, G>
     for Publisher {
-    ghost use Rattle.iox2_store.specs.machine.Environments.{fixed_handlers};
+    ghost use Rattle.iox2_domain.specs.Boxes.{answers_of};
     ghost use Rattle.iox2_store.specs.machine.PublisherUpdate.{UpdatePublisher};
     ghost use Rattle.iox2_pubsub.specs.Live.{IsReadyPublisher, publisher_key};
     ghost use Rattle.iox2_pubsub.specs.Handles.{as_publisher, publisher_id};
@@ -22,7 +22,7 @@ impl<T: Drop, U: Default + Drop, F: BackpressureFn, G: DegradationFn> UpdateConn
       unblocked = stays.unblocked (publisher_key publisher.publisher) live.unblocked tt;
     } };
 
-    ghost updates = { λ s publisher s' failure. UpdatePublisher fixed_handlers s (publisher_id (as_publisher publisher)) s' failure };
+    ghost updates = { λ old s publisher s' failure. UpdatePublisher (answers_of F.allows G.allows (old.boxes).publishers) s (publisher_id (as_publisher publisher)) s' failure };
 
     ghost is_updated = { λ domain publisher. Unit {0} };
 

@@ -10,6 +10,7 @@ impl Subscriber {
     ghost use Rattle.iox2_pubsub.specs.Live.{IsLiveSubscriber, IsUpToDate, OthersWait, Stays, UpToDateStay, waiting};
     ghost use Rattle.iox2_pubsub.specs.LoansLeft.{LoansLeftStay};
     ghost use Rattle.iox2_pubsub.specs.QuestionCalls.{Answers};
+    ghost use Rattle.iox2_domain.specs.Boxes.{answers_of};
     ghost use Rattle.iox2_domain.specs.Shows.{Shows};
     ghost use Rattle.iox2_pubsub.specs.Handles.{as_subscriber, subscriber_id};
 
@@ -24,7 +25,7 @@ impl Subscriber {
     ) -> Result<bool, ConnectionFailure>
         requires live { IsLiveSubscriber domain.old (as_subscriber self.now) }
         ensures answers { (m : Messages T U) (s : State T U) → Shows domain.old m s
-            → (s' : State T U) × Shows domain.new m s' × Answers s (subscriber_id (as_subscriber self.now)) result s' }
+            → (s' : State T U) × Shows domain.new m s' × Answers (answers_of F.allows G.allows (domain.old.boxes).subscribers) s (subscriber_id (as_subscriber self.now)) result s' }
         ensures waits { IfOk result (λ waits. IsTrue waits ↔ (0 < waiting domain.new (as_subscriber self.now))) }
         ensures no_more { waiting domain.new (as_subscriber self.now) ≤ waiting domain.old (as_subscriber self.now) }
         ensures others { OthersWait (as_subscriber self.now) domain.old domain.new }

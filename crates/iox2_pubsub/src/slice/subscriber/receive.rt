@@ -6,7 +6,7 @@ use crate::slice::{Sample, Subscriber};
 use iox2_store::{BackpressureFn, DegradationFn, ReceiveError};
 
 impl Subscriber {
-    ghost use Rattle.iox2_store.specs.machine.Environments.{fixed_handlers};
+    ghost use Rattle.iox2_domain.specs.Boxes.{answers_of};
     ghost use Rattle.iox2_store.specs.machine.Receives.{Receive};
     ghost use Rattle.iox2_store.specs.machine.State.{State, Messages};
     ghost use Rattle.iox2_pubsub.specs.Live.{AreAllSlices, IsFromOrigin, IsLiveSample, IsLiveSubscriber, IsUpToDate, IsNewIn, OthersWait, Stays, TakesOldest, UpToDateStay, payloads, received_sample, sample_key, waiting};
@@ -32,7 +32,7 @@ impl Subscriber {
     ) -> Result<Option<Sample>, ReceiveError>
         requires live { IsLiveSubscriber domain.old (as_subscriber self.now) }
         ensures receives { (m : Messages T U) (s : State T U) → Shows domain.old m s
-            → (s' : State T U) × Shows domain.new m s' × Receive fixed_handlers s (subscriber_id (as_subscriber self.now)) s' (received_slice result) }
+            → (s' : State T U) × Shows domain.new m s' × Receive (answers_of F.allows G.allows (domain.old.boxes).subscribers) s (subscriber_id (as_subscriber self.now)) s' (received_slice result) }
         ensures live { IfOk result (λ sample. IfSome sample (λ it. IsLiveSample domain.new (as_sample it))) }
         ensures new { IfOk result (λ sample. IfSome sample (λ it. IsNewIn domain.old (received_sample (as_sample it)))) }
         ensures origin { IfOk result (λ sample. IfSome sample (λ it. IsFromOrigin domain.new (as_sample it))) }

@@ -1,14 +1,14 @@
 use Rattle.std.proofs.Common.{◌≡◌, ◌∙◌, ap, sym, slice_index_or}
 use Rattle.std.proofs.lemmas.List.{with_items_is}
 use Rattle.std.specs.declared.option.Option.TheVariants.{None, Some}
-use Rattle.iox2_store.specs.machine.Environments.{fixed_handlers}
+use Rattle.iox2_domain.specs.Boxes.{answers_of}
 use Rattle.iox2_store.specs.machine.Limits.{warning_limit}
 use Rattle.iox2_store.specs.machine.Connections.{warnings_after}
 use Rattle.iox2_domain.specs.WarningRing.{warning_ring}
 use Rattle.iox2_domain.specs.Fields.{Fields}
 use Rattle.iox2_domain.specs.Updates.{receiver_key, changed_at, key_from, with_sender_key}
 use Rattle.iox2_domain.proofs.lemmas.fields.Standing.{some-buffer}
-use Rattle.iox2_steps.proofs.updates.SenderOutcomes.{answers-fixed, joins-room, joins-as, makes-as, misses-as}
+use Rattle.iox2_steps.proofs.updates.SenderOutcomes.{joins-room, joins-as, makes-as, misses-as}
 use Rattle.iox2_updates.proofs.connects.make_sender_end.Goals as goal
 
 pub set_key_at-requires-clause-room : goal.set_key_at-requires-clause-room
@@ -48,7 +48,7 @@ returns-in-Some g c = λ x at due free.
     let written : _ ≡ changed_at (with_sender_key c.args.subscriber_place c.in-Some.key) old.publishers c.args.publisher_place =
     with_items_is c.state.inside.publishers c.set_key_at.new.ports (c.set_key_at.auto.ports ∙ c.deref_mut.ensures.len)
     ∙ c.set_key_at.ensures ∙ ap (λ xs. changed_at (with_sender_key c.args.subscriber_place c.in-Some.key) xs c.args.publisher_place) (c.deref_mut.ensures.value ∙ publishers) in
-    joins-as fixed_handlers old c.requires.agrees c.args.publisher_place c.args.subscriber_place x at due free _ _ c.ports_at-buffer.ensures c.requires.none c.requires.opened
+    joins-as (answers_of g.F.BackpressureFn.allows g.G.DegradationFn.allows c.args.boxes.now.boxes) old c.requires.agrees c.args.publisher_place c.args.subscriber_place x at due free _ _ c.ports_at-buffer.ensures c.requires.none c.requires.opened
     c.in-Some.key looked _ (λ k. record (viewed k) { publishers = written k })
 
 pub returns-in_default-make_between : goal.returns-in_default-make_between
@@ -63,11 +63,11 @@ returns-in_default-make_between g c = λ x at due free.
     let looked : key_from old.connections c.ports_at-buffer.result.0.publisher (receiver_key old.subscribers c.args.subscriber_place c.args.publisher_place) ≡ None =
     sym (c.key_from.ensures ∙ (λ k. key_from (connections k) c.ports_at-buffer.result.0.publisher (other k))) ∙ c.in_default.is in
     let mid = c.make_between.new.state in
-    rw c.degrade.ensures.failure (misses-as fixed_handlers old c.requires.agrees c.args.publisher_place c.args.subscriber_place x at due free _ _ c.ports_at-buffer.ensures c.requires.none c.requires.opened
-    looked mid c.make_between.ensures.grows tt c.answer_at-answer.result
-    (answers-fixed fixed_handlers x.id x.degradation_handler _ c.answer_at-answer.result (c.answer_at-answer.ensures x (ap (λ xs. slice_index_or xs c.args.publisher_place None) (c.deref-2.ensures.value ∙ publishers) ∙ at))) c.degrade.new.warnings
+    rw c.degrade.ensures.failure (misses-as (answers_of g.F.BackpressureFn.allows g.G.DegradationFn.allows c.args.boxes.now.boxes) old c.requires.agrees c.args.publisher_place c.args.subscriber_place x at due free _ _ c.ports_at-buffer.ensures c.requires.none c.requires.opened
+    looked mid c.make_between.ensures.grows tt _ _ (ap (λ (f : Fields g.row.T.Denot g.row.U.Denot). (f.config).service_id) viewed)
+    (c.degradation_at-mark.ensures x (ap (λ xs. slice_index_or xs c.args.publisher_place None) (c.deref-2.ensures.value ∙ publishers) ∙ at)) c.ask-answer.result c.ask-answer.ensures c.degrade.new.warnings
     c.in_default-make_between.ensures.refused
-    (c.degrade.ensures.warnings ∙ ap (λ (f : Fields g.row.T.Denot g.row.U.Denot). warning_ring (warnings_after c.ports_at-buffer.result.0.publisher c.ports_at-buffer.result.0.subscriber c.answer_at-answer.result f.warnings.items) warning_limit) (c.state-2.view_is ∙ c.make_between.ensures.grows.fields))
+    (c.degrade.ensures.warnings ∙ ap (λ (f : Fields g.row.T.Denot g.row.U.Denot). warning_ring (warnings_after c.ports_at-buffer.result.0.publisher c.ports_at-buffer.result.0.subscriber c.ask-answer.result f.warnings.items) warning_limit) (c.state-2.view_is ∙ c.make_between.ensures.grows.fields))
     _ (λ k. record (c.state-2.view_is k) { warnings = c.degrade.new.warnings }))
 
 pub returns : goal.returns
@@ -86,7 +86,7 @@ returns g c = λ x at due free.
     with_items_is c.state-2.inside.publishers c.set_key_at-2.new.ports (c.set_key_at-2.auto.ports ∙ c.deref_mut-2.ensures.len)
     ∙ c.set_key_at-2.ensures
     ∙ ap (λ zs. changed_at (with_sender_key c.args.subscriber_place c.in-Ok.key) zs c.args.publisher_place) (c.deref_mut-2.ensures.value ∙ ap (λ (f : Fields g.row.T.Denot g.row.U.Denot). f.publishers) c.state-2.view_is) in
-    makes-as fixed_handlers old c.requires.agrees c.args.publisher_place c.args.subscriber_place x at due free _ _ c.ports_at-buffer.ensures c.requires.none c.requires.opened
+    makes-as (answers_of g.F.BackpressureFn.allows g.G.DegradationFn.allows c.args.boxes.now.boxes) old c.requires.agrees c.args.publisher_place c.args.subscriber_place x at due free _ _ c.ports_at-buffer.ensures c.requires.none c.requires.opened
     looked mid c.make_between.ensures.grows
     c.in-Ok.ensures.sender_room c.in-Ok.ensures.receiver_room c.in-Ok.ensures.expired_room c.in-Ok.key c.in-Ok.ensures.made
     _ (λ k. record (c.state-2.view_is k) { publishers = written k })

@@ -2,7 +2,7 @@ use Rattle.std.proofs.Common.{◌≡◌, ◌∙◌, true, false, ap, sym, subst,
 use Rattle.slab.specs.Slab.{get}
 use Rattle.iox2_slots.specs.Link.{Link}
 use Rattle.iox2_slots.specs.declared.connection.Home.{Home}
-use Rattle.iox2_store.specs.machine.Environments.{fixed_handlers}
+use Rattle.iox2_domain.specs.Boxes.{answers_of}
 use Rattle.iox2_domain.specs.Fields.{Fields}
 use Rattle.iox2_domain.specs.Drops.{StandsElsewhere}
 use Rattle.iox2_domain.specs.Updates.{sender_key, is_open_subscriber}
@@ -156,7 +156,7 @@ returns-then-not-stands_at g c = λ x at.
     let elsewhere : StandsElsewhere old.subscribers c.args.subscriber_place c.index.result.now.home.subscriber =
     rw (sym (c.deref-2.ensures.value ∙ subscribers), sym c.home-subscriber.ensures.value) (stands-elsewhere _ c.args.subscriber_place _ c.stands_at.result c.stands_at.ensures c.if-not-stands_at.true) in
     let loses = c.disconnect_sender.ensures x at in
-    loses-there old c.requires.agrees c.args.publisher_place c.args.subscriber_place x at (c.requires.settled x at) (c.requires.unblocked x at) c.in-Some.key named fixed_handlers c.index.result.now at_c
+    loses-there old c.requires.agrees c.args.publisher_place c.args.subscriber_place x at (c.requires.settled x at) (c.requires.unblocked x at) c.in-Some.key named (answers_of g.F.BackpressureFn.allows g.G.DegradationFn.allows c.args.boxes.now.boxes) c.index.result.now at_c
     elsewhere c.disconnect_sender.new.state loses c.connect_sender-then-not-stands_at.new.state c.connect_sender-then-not-stands_at.result
     (c.connect_sender-then-not-stands_at.ensures _ (lost-stands old c.requires.agrees c.args.publisher_place c.args.subscriber_place x at (c.requires.settled x at) c.disconnect_sender.new.state loses))
 
@@ -173,7 +173,7 @@ returns-then-not-is_open_at g c = λ x at.
     let its : (there.0).id ≡ c.index.result.now.home.subscriber = there.2 ∙ ap (λ (h : Home). h.subscriber) c.home-subscriber.ensures.value in
     let shut : is_open_subscriber old.subscribers c.args.subscriber_place ≡ false =
     sym (c.is_open_at.ensures ∙ ap (λ ys. is_open_subscriber ys c.args.subscriber_place) (c.deref-else-not-stands_at.ensures.value ∙ subscribers)) ∙ c.if-not-is_open_at.true in
-    drops-there old c.requires.agrees c.args.publisher_place c.args.subscriber_place x at (c.requires.settled x at) (c.requires.unblocked x at) c.in-Some.key named fixed_handlers c.index.result.now at_c
+    drops-there old c.requires.agrees c.args.publisher_place c.args.subscriber_place x at (c.requires.settled x at) (c.requires.unblocked x at) c.in-Some.key named (answers_of g.F.BackpressureFn.allows g.G.DegradationFn.allows c.args.boxes.now.boxes) c.index.result.now at_c
     there.0 at_y its shut c.drop_waiting_at.new.state (c.drop_waiting_at.ensures x at c.index.result.now at_c)
 
 pub returns-else-not-is_open_at : goal.returns-else-not-is_open_at
@@ -189,5 +189,5 @@ returns-else-not-is_open_at g c = λ x at.
     let its : (there.0).id ≡ c.index.result.now.home.subscriber = there.2 ∙ ap (λ (h : Home). h.subscriber) c.home-subscriber.ensures.value in
     let opened : is_open_subscriber old.subscribers c.args.subscriber_place ≡ true =
     sym (c.is_open_at.ensures ∙ ap (λ ys. is_open_subscriber ys c.args.subscriber_place) (c.deref-else-not-stands_at.ensures.value ∙ subscribers)) ∙ c.if-not-is_open_at.false in
-    keeps-there old c.requires.agrees c.args.publisher_place c.args.subscriber_place x at (c.requires.settled x at) (c.requires.unblocked x at) c.in-Some.key named fixed_handlers c.index.result.now at_c
+    keeps-there old c.requires.agrees c.args.publisher_place c.args.subscriber_place x at (c.requires.settled x at) (c.requires.unblocked x at) c.in-Some.key named (answers_of g.F.BackpressureFn.allows g.G.DegradationFn.allows c.args.boxes.now.boxes) c.index.result.now at_c
     there.0 at_y its opened

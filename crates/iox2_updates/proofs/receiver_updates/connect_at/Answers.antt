@@ -1,7 +1,7 @@
 use Rattle.std.proofs.Common.{◌∙◌, ap, sym, get_or}
 use Rattle.std.specs.declared.option.Option.TheVariants.{None}
 use Rattle.std.specs.Option.{option_map}
-use Rattle.iox2_store.specs.machine.Environments.{fixed_handlers}
+use Rattle.iox2_domain.specs.Boxes.{answers_of}
 use Rattle.iox2_domain.specs.Ports.{PublisherFields}
 use Rattle.iox2_domain.specs.Fields.{Fields}
 use Rattle.iox2_domain.specs.Updates.{receiver_key}
@@ -15,7 +15,7 @@ returns-in_default g c = λ y at.
     let same = c.deref.ensures.value ∙ ap (λ (f : Fields g.row.T.Denot g.row.U.Denot). f.publishers) c.state.view_is in
     let nobody = no-id (get_or old.publishers c.args.publisher_place None)
     (ap (λ xs. option_map (λ (z : PublisherFields). z.id) (get_or xs c.args.publisher_place None)) (sym same) ∙ sym c.publisher_at.ensures ∙ c.in_default.is) in
-    empty-place fixed_handlers old c.requires.agrees c.args.subscriber_place c.args.publisher_place y at nobody
+    empty-place (answers_of g.F.BackpressureFn.allows g.G.DegradationFn.allows c.args.boxes.now.boxes) old c.requires.agrees c.args.subscriber_place c.args.publisher_place y at nobody
 
 pub returns-in-None : goal.returns-in-None
 returns-in-None g c = λ y at.
@@ -26,4 +26,4 @@ returns-in-None g c = λ y at.
     let subscribers = c.deref-2.ensures.value ∙ ap (λ (f : Fields g.row.T.Denot g.row.U.Denot). f.subscribers) c.state.view_is in
     let none = key-of old.subscribers c.args.subscriber_place c.args.publisher_place y None at
     (ap (λ xs. receiver_key xs c.args.subscriber_place c.args.publisher_place) (sym subscribers) ∙ sym c.key_at.ensures ∙ c.in-None.is) in
-    makes-end fixed_handlers old c.requires.agrees c.args.subscriber_place c.args.publisher_place y at x.0 x.1 none c.connect_end.new.state c.connect_end.result (c.connect_end.ensures x.0 y x.1 at)
+    makes-end (answers_of g.F.BackpressureFn.allows g.G.DegradationFn.allows c.args.boxes.now.boxes) old c.requires.agrees c.args.subscriber_place c.args.publisher_place y at x.0 x.1 none c.connect_end.new.state c.connect_end.result (c.connect_end.ensures x.0 y x.1 at)

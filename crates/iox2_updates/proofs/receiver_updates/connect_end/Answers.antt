@@ -2,7 +2,7 @@ use Rattle.std.proofs.Common.{◌≡◌, ◌<◌, ◌∙◌, ap, sym, subst, get
 use Rattle.std.proofs.lemmas.List.{with_items_is}
 use Rattle.std.specs.Prelude.{MatchOption}
 use Rattle.std.specs.declared.option.Option.TheVariants.{None, Some}
-use Rattle.iox2_store.specs.machine.Environments.{fixed_handlers}
+use Rattle.iox2_domain.specs.Boxes.{answers_of}
 use Rattle.iox2_store.specs.machine.Limits.{warning_limit}
 use Rattle.iox2_store.specs.machine.Connections.{warnings_after}
 use Rattle.iox2_slots.specs.declared.connection.Home.{Home}
@@ -11,7 +11,6 @@ use Rattle.iox2_domain.specs.WarningRing.{warning_ring}
 use Rattle.iox2_domain.specs.Fields.{Fields}
 use Rattle.iox2_domain.specs.ReceiverSteps.{NotJoined, JoinsAt}
 use Rattle.iox2_domain.specs.Updates.{changed_at, with_receiver_key}
-use Rattle.iox2_steps.proofs.updates.SenderOutcomes.{answers-fixed}
 use Rattle.iox2_steps.proofs.receivers.Outcomes.{joins-as, makes-as, misses-as}
 use Rattle.iox2_domain.proofs.lemmas.fields.Standing.{receiver-room, sender-joins, some-buffer}
 use Rattle.iox2_updates.proofs.receiver_updates.connect_end.Goals as goal
@@ -49,7 +48,7 @@ returns-in-Some g c = λ x y at_x at_y.
     let written : _ ≡ changed_at (with_receiver_key c.args.publisher_place c.in-Some.key) old.subscribers c.args.subscriber_place =
     with_items_is c.state.inside.subscribers c.set_key_at.new.ports (c.set_key_at.auto.ports ∙ c.deref_mut.ensures.len)
     ∙ c.set_key_at.ensures ∙ ap (λ xs. changed_at (with_receiver_key c.args.publisher_place c.in-Some.key) xs c.args.subscriber_place) (c.deref_mut.ensures.value ∙ subscribers) in
-    joins-as fixed_handlers old c.requires.agrees c.args.publisher_place c.args.subscriber_place x y at_x at_y vacant c.in-Some.key joins.link joins.has joins.stands (joins.its ∙ own) _ (λ k. record (viewed k) { subscribers = written k })
+    joins-as (answers_of g.F.BackpressureFn.allows g.G.DegradationFn.allows c.args.boxes.now.boxes) old c.requires.agrees c.args.publisher_place c.args.subscriber_place x y at_x at_y vacant c.in-Some.key joins.link joins.has joins.stands (joins.its ∙ own) _ (λ k. record (viewed k) { subscribers = written k })
 
 pub make_between-requires-clause-buffer : goal.make_between-requires-clause-buffer
 make_between-requires-clause-buffer g c =
@@ -72,11 +71,11 @@ returns-in_default-make_between g c = λ x y at_x at_y.
     let apart : NotJoined old x c.args.subscriber_place c.between-buffer.result.0.subscriber =
     subst (λ o. MatchOption o (NotJoined old x c.args.subscriber_place c.between-buffer.result.0.subscriber) (λ key. JoinsAt old x c.args.subscriber_place c.between-buffer.result.0.subscriber key)) c.in_default.is (c.joined_key.ensures x at_x) in
     let mid = c.make_between.new.state in
-    rw c.degrade.ensures.failure (misses-as fixed_handlers old c.requires.agrees c.args.publisher_place c.args.subscriber_place x y at_x at_y vacant (λ key l has st its. apart.at key l has st (its ∙ sym own))
-    c.between-buffer.result.0 c.between-buffer.result.1 home size mid c.make_between.ensures.grows tt c.answer_at-answer.result
-    (answers-fixed fixed_handlers y.id y.degradation_handler _ c.answer_at-answer.result (c.answer_at-answer.ensures y (ap (λ ys. get_or ys c.args.subscriber_place None) (c.deref.ensures.value ∙ ap (λ (f : Fields g.row.T.Denot g.row.U.Denot). f.subscribers) c.state.view_is) ∙ at_y))) c.degrade.new.warnings
+    rw c.degrade.ensures.failure (misses-as (answers_of g.F.BackpressureFn.allows g.G.DegradationFn.allows c.args.boxes.now.boxes) old c.requires.agrees c.args.publisher_place c.args.subscriber_place x y at_x at_y vacant (λ key l has st its. apart.at key l has st (its ∙ sym own))
+    c.between-buffer.result.0 c.between-buffer.result.1 home size mid c.make_between.ensures.grows tt _ _ (ap (λ (f : Fields g.row.T.Denot g.row.U.Denot). (f.config).service_id) c.state.view_is)
+    (c.degradation_at-mark.ensures y (ap (λ ys. get_or ys c.args.subscriber_place None) (c.deref.ensures.value ∙ ap (λ (f : Fields g.row.T.Denot g.row.U.Denot). f.subscribers) c.state.view_is) ∙ at_y)) c.ask-answer.result c.ask-answer.ensures c.degrade.new.warnings
     c.in_default-make_between.ensures.refused
-    (c.degrade.ensures.warnings ∙ ap (λ (f : Fields g.row.T.Denot g.row.U.Denot). warning_ring (warnings_after c.between-buffer.result.0.publisher c.between-buffer.result.0.subscriber c.answer_at-answer.result f.warnings.items) warning_limit) (c.state-2.view_is ∙ c.make_between.ensures.grows.fields))
+    (c.degrade.ensures.warnings ∙ ap (λ (f : Fields g.row.T.Denot g.row.U.Denot). warning_ring (warnings_after c.between-buffer.result.0.publisher c.between-buffer.result.0.subscriber c.ask-answer.result f.warnings.items) warning_limit) (c.state-2.view_is ∙ c.make_between.ensures.grows.fields))
     _ (λ k. record (c.state-2.view_is k) { warnings = c.degrade.new.warnings }))
 
 pub returns : goal.returns
@@ -97,7 +96,7 @@ returns g c = λ x y at_x at_y.
     with_items_is c.state-2.inside.subscribers c.set_key_at-2.new.ports (c.set_key_at-2.auto.ports ∙ c.deref_mut-2.ensures.len)
     ∙ c.set_key_at-2.ensures
     ∙ ap (λ zs. changed_at (with_receiver_key c.args.publisher_place c.in-Ok.key) zs c.args.subscriber_place) (c.deref_mut-2.ensures.value ∙ ap (λ (f : Fields g.row.T.Denot g.row.U.Denot). f.subscribers) c.state-2.view_is) in
-    makes-as fixed_handlers old c.requires.agrees c.args.publisher_place c.args.subscriber_place x y at_x at_y vacant (λ key l has st its. apart.at key l has st (its ∙ sym own))
+    makes-as (answers_of g.F.BackpressureFn.allows g.G.DegradationFn.allows c.args.boxes.now.boxes) old c.requires.agrees c.args.publisher_place c.args.subscriber_place x y at_x at_y vacant (λ key l has st its. apart.at key l has st (its ∙ sym own))
     c.between-buffer.result.0 c.between-buffer.result.1 home size mid c.make_between.ensures.grows
     c.in-Ok.ensures.sender_room c.in-Ok.ensures.receiver_room c.in-Ok.ensures.expired_room c.in-Ok.key c.in-Ok.ensures.made
     _ (λ k. record (c.state-2.view_is k) { subscribers = written k })

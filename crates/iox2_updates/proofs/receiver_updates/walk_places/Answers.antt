@@ -1,6 +1,6 @@
 use Rattle.std.proofs.Common.{rules, ◌≡◌, ◌<◌, ◌≤◌, ◌∙◌, false, length, vec_len, ap, arith}
 use Rattle.std.proofs.lemmas.List.{with_items_is}
-use Rattle.iox2_store.specs.machine.Environments.{fixed_handlers}
+use Rattle.iox2_domain.specs.Boxes.{answers_of}
 use Rattle.iox2_domain.specs.Ports.{SubscriberFields}
 use Rattle.iox2_domain.specs.Fields.{Fields}
 use Rattle.iox2_domain.specs.Updates.{changed_at}
@@ -15,10 +15,10 @@ loop-other-init g c =
     let written : _ ≡ changed_at (λ (z : SubscriberFields). record z { is_due = false }) old.subscribers c.args.place =
     with_items_is c.state.inside.subscribers c.settle.new.ports (c.settle.auto.ports ∙ c.deref_mut.ensures.len)
     ∙ c.settle.ensures ∙ ap (λ xs. changed_at (λ (z : SubscriberFields). record z { is_due = false }) xs c.args.place) (c.deref_mut.ensures.value ∙ subscribers) in
-    begins-first fixed_handlers old c.requires.agrees c.args.place c.requires.stands.0 c.requires.stands.1 _ (λ k. record (viewed k) { subscribers = written k })
+    begins-first (answers_of g.F.BackpressureFn.allows g.G.DegradationFn.allows c.args.boxes.now.boxes) old c.requires.agrees c.args.place c.requires.stands.0 c.requires.stands.1 _ (λ k. record (viewed k) { subscribers = written k })
 
 pub connect_at-failure-requires-clause-subscriber : goal.connect_at-failure-requires-clause-subscriber
-connect_at-failure-requires-clause-subscriber g c = walker fixed_handlers _ _ _ _ _ c.loop-other.invariant
+connect_at-failure-requires-clause-subscriber g c = walker (answers_of g.F.BackpressureFn.allows g.G.DegradationFn.allows c.args.boxes.now.boxes) _ _ _ _ _ c.loop-other.invariant
 
 pub loop-other-preserved : goal.loop-other-preserved
 loop-other-preserved g c =
@@ -28,7 +28,7 @@ loop-other-preserved g c =
     let end = c.len-other-end.ensures in
     let below = c.loop-other-test.true in
     let low : c.loop-other.other < length old.publishers = omega (arith, long, same, end, below) in
-    first-more fixed_handlers old c.args.place c.loop-other.other c.loop-other.state c.loop-other.first c.loop-other.invariant low
+    first-more (answers_of g.F.BackpressureFn.allows g.G.DegradationFn.allows c.args.boxes.now.boxes) old c.args.place c.loop-other.other c.loop-other.state c.loop-other.first c.loop-other.invariant low
     c.connect_at-failure.new.state c.connect_at-failure.result c.first_of-first.result c.connect_at-failure.ensures c.first_of-first.ensures
 
 pub loop-empty-init : goal.loop-empty-init
@@ -39,18 +39,18 @@ loop-empty-init g c =
     let end = c.len-other-end.ensures in
     let past = c.loop-other-test.false in
     let over : length old.publishers ≤ c.loop-other.other = omega (arith, long, same, end, past) in
-    begins-both fixed_handlers old c.args.place c.loop-other.other c.loop-other.state c.loop-other.first c.loop-other.invariant over
+    begins-both (answers_of g.F.BackpressureFn.allows g.G.DegradationFn.allows c.args.boxes.now.boxes) old c.args.place c.loop-other.other c.loop-other.state c.loop-other.first c.loop-other.invariant over
 
 pub loop-empty-preserved : goal.loop-empty-preserved
 loop-empty-preserved g c =
     let old = c.args.state.now in
     let long : vec_len c.state-2.inside.publishers ≡ length c.state-2.inside.publishers.items = search rules in
     let same : length c.state-2.inside.publishers.items ≡ length (c.loop-other.state).publishers = ap (λ (f : Fields g.row.T.Denot g.row.U.Denot). length f.publishers) c.state-2.view_is in
-    let walked = walked-length fixed_handlers old c.args.place c.loop-other.other c.loop-other.state c.loop-other.first c.loop-other.invariant in
+    let walked = walked-length (answers_of g.F.BackpressureFn.allows g.G.DegradationFn.allows c.args.boxes.now.boxes) old c.args.place c.loop-other.other c.loop-other.state c.loop-other.first c.loop-other.invariant in
     let end = c.len-empty-end.ensures in
     let below = c.loop-empty-test.true in
     let low : c.loop-empty.empty < length old.publishers = omega (arith, long, same, walked, end, below) in
-    both-more fixed_handlers old c.args.place c.loop-empty.empty c.loop-empty.state c.loop-other.first c.loop-empty.later c.loop-empty.invariant low
+    both-more (answers_of g.F.BackpressureFn.allows g.G.DegradationFn.allows c.args.boxes.now.boxes) old c.args.place c.loop-empty.empty c.loop-empty.state c.loop-other.first c.loop-empty.later c.loop-empty.invariant low
     c.disconnect_at-failure.new.state c.disconnect_at-failure.result c.first_of-later.result c.disconnect_at-failure.ensures c.first_of-later.ensures
 
 pub returns : goal.returns
@@ -58,8 +58,8 @@ returns g c =
     let old = c.args.state.now in
     let long : vec_len c.state-2.inside.publishers ≡ length c.state-2.inside.publishers.items = search rules in
     let same : length c.state-2.inside.publishers.items ≡ length (c.loop-other.state).publishers = ap (λ (f : Fields g.row.T.Denot g.row.U.Denot). length f.publishers) c.state-2.view_is in
-    let walked = walked-length fixed_handlers old c.args.place c.loop-other.other c.loop-other.state c.loop-other.first c.loop-other.invariant in
+    let walked = walked-length (answers_of g.F.BackpressureFn.allows g.G.DegradationFn.allows c.args.boxes.now.boxes) old c.args.place c.loop-other.other c.loop-other.state c.loop-other.first c.loop-other.invariant in
     let end = c.len-empty-end.ensures in
     let past = c.loop-empty-test.false in
     let over : length old.publishers ≤ c.loop-empty.empty = omega (arith, long, same, walked, end, past) in
-    both-update fixed_handlers old c.args.place c.loop-empty.empty c.loop-empty.state c.loop-other.first c.loop-empty.later c.loop-empty.invariant over c.requires.due c.first_of.result c.first_of.ensures
+    both-update (answers_of g.F.BackpressureFn.allows g.G.DegradationFn.allows c.args.boxes.now.boxes) old c.args.place c.loop-empty.empty c.loop-empty.state c.loop-other.first c.loop-empty.later c.loop-empty.invariant over c.requires.due c.first_of.result c.first_of.ensures

@@ -1,14 +1,14 @@
 use Rattle.std.proofs.Common.{rules}
 use Rattle.std.proofs.lemmas.Fn.{filter_same}
-use Rattle.iox2_domain.proofs.lemmas.boxes.KeptBoxes.{is_other, box_of-without, box_of-others}
+use Rattle.iox2_domain.proofs.lemmas.boxes.KeptBoxes.{is_other, boxes_of-without, boxes_of-others}
 use Rattle.iox2_domain.proofs.boxes.Boxes.remove.Goals as goal
 
 pub returns-clause-its : goal.returns-clause-its
 returns-clause-its g c =
     let kept = filter_same _ (is_other c.args.id) _ (λ x b f' k. search rules) _ _ c.retain.ensures.filtered in
-    rw kept (box_of-without c.args.id c.self.inside.kept.items)
+    rw kept (boxes_of-without c.args.id c.self.inside.kept.items)
 
 pub returns-clause-others : goal.returns-clause-others
 returns-clause-others g c = λ port other.
     let kept = filter_same _ (is_other c.args.id) _ (λ x b f' k. search rules) _ _ c.retain.ensures.filtered in
-    rw (kept, ← c.self.view_is) (box_of-others c.args.id port other c.self.inside.kept.items)
+    rw (kept, ← c.self.view_is) (boxes_of-others c.args.id port other c.self.inside.kept.items)

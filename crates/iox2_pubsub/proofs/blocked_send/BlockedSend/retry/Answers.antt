@@ -28,39 +28,39 @@ use Rattle.iox2_pubsub.proofs.blocked_send.BlockedSend.retry.Goals as goal
 
 pub find_live_publisher-place-requires : goal.find_live_publisher-place-requires
 find_live_publisher-place-requires g c = λ none.
-    let held = subst (λ (k : Kept g.row.T.Denot g.row.U.Denot g.row.F.Denot). HoldsBlocked (state_of k) c.args.self.loan.publisher c.args.self.loan.number) (sym c.domain.view_is) (blocked-parts c.args.domain.now (blocked_key c.args.self) c.requires.live).1 in
+    let held = subst (λ (k : Kept g.row.T.Denot g.row.U.Denot g.row.F.Denot g.row.G.Denot). HoldsBlocked (state_of k) c.args.self.loan.publisher c.args.self.loan.number) (sym c.domain.view_is) (blocked-parts c.args.domain.now (blocked_key c.args.self) c.requires.live).1 in
     let no : None ≡ Some held.0 = sym (unknown c.domain.inside.state c.args.self.loan.publisher (stands-nowhere c.domain.inside.state.publishers c.args.self.loan.publisher none)) ∙ held.2 in
     absurd cc
 
 pub retry_send-end-requires-clause-waits : goal.retry_send-end-requires-clause-waits
 retry_send-end-requires-clause-waits g c =
     has-blocked c.domain.inside.state c.domain.invariant c.find_live_publisher-place.result c.args.self.loan.publisher c.args.self.loan.number c.find_live_publisher-place.ensures
-    (subst (λ (k : Kept g.row.T.Denot g.row.U.Denot g.row.F.Denot). HoldsBlocked (state_of k) c.args.self.loan.publisher c.args.self.loan.number) (sym c.domain.view_is) (blocked-parts c.args.domain.now (blocked_key c.args.self) c.requires.live).1)
+    (subst (λ (k : Kept g.row.T.Denot g.row.U.Denot g.row.F.Denot g.row.G.Denot). HoldsBlocked (state_of k) c.args.self.loan.publisher c.args.self.loan.number) (sym c.domain.view_is) (blocked-parts c.args.domain.now (blocked_key c.args.self) c.requires.live).1)
 
 pub invariant_of-domain : goal.invariant_of-domain
 invariant_of-domain g c =
     let d = some-waits c.domain.inside.state c.domain.invariant c.find_live_publisher-place.result c.args.self.loan.publisher c.args.self.loan.number c.find_live_publisher-place.ensures
-    (subst (λ (k : Kept g.row.T.Denot g.row.U.Denot g.row.F.Denot). HoldsBlocked (state_of k) c.args.self.loan.publisher c.args.self.loan.number) (sym c.domain.view_is) (blocked-parts c.args.domain.now (blocked_key c.args.self) c.requires.live).1) in
+    (subst (λ (k : Kept g.row.T.Denot g.row.U.Denot g.row.F.Denot g.row.G.Denot). HoldsBlocked (state_of k) c.args.self.loan.publisher c.args.self.loan.number) (sym c.domain.view_is) (blocked-parts c.args.domain.now (blocked_key c.args.self) c.requires.live).1) in
     (c.retry_send-end.ensures.goes c.find_live_publisher-place.ensures.0 (d).0 c.find_live_publisher-place.ensures.1 (d).1).agrees
 
 pub returns-clause-retries : goal.returns-clause-retries
 returns-clause-retries g c = λ m s x b shown at waits.
     let d = some-waits c.domain.inside.state c.domain.invariant c.find_live_publisher-place.result c.args.self.loan.publisher c.args.self.loan.number c.find_live_publisher-place.ensures
-    (subst (λ (k : Kept g.row.T.Denot g.row.U.Denot g.row.F.Denot). HoldsBlocked (state_of k) c.args.self.loan.publisher c.args.self.loan.number) (sym c.domain.view_is) (blocked-parts c.args.domain.now (blocked_key c.args.self) c.requires.live).1) in
+    (subst (λ (k : Kept g.row.T.Denot g.row.U.Denot g.row.F.Denot g.row.G.Denot). HoldsBlocked (state_of k) c.args.self.loan.publisher c.args.self.loan.number) (sym c.domain.view_is) (blocked-parts c.args.domain.now (blocked_key c.args.self) c.requires.live).1) in
     let step = c.retry_send-end.ensures.goes c.find_live_publisher-place.ensures.0 (d).0 c.find_live_publisher-place.ensures.1 (d).1 in
     let after : State g.row.T.Denot g.row.U.Denot = state_of (kept_of c.retry_send-end.new.state) in
-    let inside : Retry (answers_of g.F.BackpressureFn.allows c.domain.inside.boxes.boxes) s c.args.self.loan.publisher b c.args.elapsed after (end_result c.retry_send-end.result) =
+    let inside : Retry (answers_of g.F.BackpressureFn.allows g.G.DegradationFn.allows c.domain.inside.boxes.boxes) s c.args.self.loan.publisher b c.args.elapsed after (end_result c.retry_send-end.result) =
     as-machine c.domain.inside.state c.domain.invariant c.find_live_publisher-place.result c.args.self.loan.publisher c.args.self.loan.number c.find_live_publisher-place.ensures
-    (subst (λ (k : Kept g.row.T.Denot g.row.U.Denot g.row.F.Denot). HoldsBlocked (state_of k) c.args.self.loan.publisher c.args.self.loan.number) (sym c.domain.view_is) (blocked-parts c.args.domain.now (blocked_key c.args.self) c.requires.live).1)
+    (subst (λ (k : Kept g.row.T.Denot g.row.U.Denot g.row.F.Denot g.row.G.Denot). HoldsBlocked (state_of k) c.args.self.loan.publisher c.args.self.loan.number) (sym c.domain.view_is) (blocked-parts c.args.domain.now (blocked_key c.args.self) c.requires.live).1)
     c.args.domain.now c.domain.view_is m s shown x b at waits
-    (λ t q w. Retry (answers_of g.F.BackpressureFn.allows c.domain.inside.boxes.boxes) t q w c.args.elapsed after (end_result c.retry_send-end.result)) step.retries in
-    let machine : Retry (answers_of g.F.BackpressureFn.allows c.args.domain.now.boxes) s c.args.self.loan.publisher b c.args.elapsed after (end_result c.retry_send-end.result) =
-    subst (λ (boxes : List (PortBox g.row.F.Denot)). Retry (answers_of g.F.BackpressureFn.allows boxes) s c.args.self.loan.publisher b c.args.elapsed after (end_result c.retry_send-end.result))
-    (ap (λ (k : Kept g.row.T.Denot g.row.U.Denot g.row.F.Denot). k.boxes) c.domain.view_is) inside in (
+    (λ t q w. Retry (answers_of g.F.BackpressureFn.allows g.G.DegradationFn.allows c.domain.inside.boxes.boxes) t q w c.args.elapsed after (end_result c.retry_send-end.result)) step.retries in
+    let machine : Retry (answers_of g.F.BackpressureFn.allows g.G.DegradationFn.allows c.args.domain.now.boxes.publishers) s c.args.self.loan.publisher b c.args.elapsed after (end_result c.retry_send-end.result) =
+    subst (λ (boxes : List (PortBox g.row.F.Denot g.row.G.Denot)). Retry (answers_of g.F.BackpressureFn.allows g.G.DegradationFn.allows boxes) s c.args.self.loan.publisher b c.args.elapsed after (end_result c.retry_send-end.result))
+    (ap (λ (k : Kept g.row.T.Denot g.row.U.Denot g.row.F.Denot g.row.G.Denot). k.boxes.publishers) c.domain.view_is) inside in (
       after,
-      retry-shown {T = g.row.T.Denot} {U = g.row.U.Denot} c.domain.inside.state c.retry_send-end.new.state c.args.domain.now c.domain.view_is m s shown c.args.self.loan.publisher (end_result c.retry_send-end.result) (answers_of g.F.BackpressureFn.allows c.args.domain.now.boxes) x b at waits c.args.elapsed
+      retry-shown {T = g.row.T.Denot} {U = g.row.U.Denot} c.domain.inside.state c.retry_send-end.new.state c.args.domain.now c.domain.view_is m s shown c.args.self.loan.publisher (end_result c.retry_send-end.result) (answers_of g.F.BackpressureFn.allows g.G.DegradationFn.allows c.args.domain.now.boxes.publishers) x b at waits c.args.elapsed
           step.agrees machine step.entries,
-      subst (Retry (answers_of g.F.BackpressureFn.allows c.args.domain.now.boxes) s c.args.self.loan.publisher b c.args.elapsed after) (sym c.outcome_of.ensures.same) machine,
+      subst (Retry (answers_of g.F.BackpressureFn.allows g.G.DegradationFn.allows c.args.domain.now.boxes.publishers) s c.args.self.loan.publisher b c.args.elapsed after) (sym c.outcome_of.ensures.same) machine,
     )
 
 pub returns-clause-stays : goal.returns-clause-stays
@@ -70,10 +70,10 @@ returns-clause-stays g c =
     let at = ap (λ (t : State g.row.T.Denot g.row.U.Denot). t.publishers c.args.self.loan.publisher) (it.2).state ∙ held.2 in
     let next = returns-clause-retries g c it.0 it.1 held.0 held.1 it.2 at held.3 in
     let d = some-waits c.domain.inside.state c.domain.invariant c.find_live_publisher-place.result c.args.self.loan.publisher c.args.self.loan.number c.find_live_publisher-place.ensures
-    (subst (λ (k : Kept g.row.T.Denot g.row.U.Denot g.row.F.Denot). HoldsBlocked (state_of k) c.args.self.loan.publisher c.args.self.loan.number) (sym c.domain.view_is) (blocked-parts c.args.domain.now (blocked_key c.args.self) c.requires.live).1) in
+    (subst (λ (k : Kept g.row.T.Denot g.row.U.Denot g.row.F.Denot g.row.G.Denot). HoldsBlocked (state_of k) c.args.self.loan.publisher c.args.self.loan.number) (sym c.domain.view_is) (blocked-parts c.args.domain.now (blocked_key c.args.self) c.requires.live).1) in
     let step = c.retry_send-end.ensures.goes c.find_live_publisher-place.ensures.0 (d).0 c.find_live_publisher-place.ensures.1 (d).1 in
-    retry-stays {T = g.row.T.Denot} {U = g.row.U.Denot} c.domain.inside.state c.retry_send-end.new.state c.args.domain.now c.domain.view_is it.0 it.1 it.2 c.args.self.loan.publisher (result_of_send c.outcome_of.result) (answers_of g.F.BackpressureFn.allows c.args.domain.now.boxes) held.0 held.1 at held.3 c.args.elapsed
-    step.agrees (subst (λ (t : State g.row.T.Denot g.row.U.Denot). Retry (answers_of g.F.BackpressureFn.allows c.args.domain.now.boxes) it.1 c.args.self.loan.publisher held.1 c.args.elapsed t (result_of_send c.outcome_of.result)) (next.1).state next.2) step.entries
+    retry-stays {T = g.row.T.Denot} {U = g.row.U.Denot} c.domain.inside.state c.retry_send-end.new.state c.args.domain.now c.domain.view_is it.0 it.1 it.2 c.args.self.loan.publisher (result_of_send c.outcome_of.result) (answers_of g.F.BackpressureFn.allows g.G.DegradationFn.allows c.args.domain.now.boxes.publishers) held.0 held.1 at held.3 c.args.elapsed
+    step.agrees (subst (λ (t : State g.row.T.Denot g.row.U.Denot). Retry (answers_of g.F.BackpressureFn.allows g.G.DegradationFn.allows c.args.domain.now.boxes.publishers) it.1 c.args.self.loan.publisher held.1 c.args.elapsed t (result_of_send c.outcome_of.result)) (next.1).state next.2) step.entries
 
 pub returns-clause-blocked : goal.returns-clause-blocked
 returns-clause-blocked g c =
@@ -87,7 +87,7 @@ returns-clause-blocked g c =
       parts.0 ∙ sym (ap (λ (k : ServiceConfig). k.service_id) (returns-clause-stays g c).settings),
       subst (HoldsBlocked (state_of (kept_of c.retry_send-end.new.state)) c.args.self.loan.publisher) held.4
           (subst (λ (t : State g.row.T.Denot g.row.U.Denot). HoldsBlocked t c.args.self.loan.publisher held.1.message) (next.1).state
-          (retry_waits_with (answers_of g.F.BackpressureFn.allows c.args.domain.now.boxes) it.1 c.args.self.loan.publisher held.1 c.args.elapsed next.0 _ next.2 blocked)),
+          (retry_waits_with (answers_of g.F.BackpressureFn.allows g.G.DegradationFn.allows c.args.domain.now.boxes.publishers) it.1 c.args.self.loan.publisher held.1 c.args.elapsed next.0 _ next.2 blocked)),
     ))
 
 pub returns-clause-failed : goal.returns-clause-failed
@@ -99,7 +99,7 @@ returns-clause-freed g c = λ ends.
     let held = (blocked-parts c.args.domain.now (blocked_key c.args.self) c.requires.live).1 in
     let at = ap (λ (t : State g.row.T.Denot g.row.U.Denot). t.publishers c.args.self.loan.publisher) (it.2).state ∙ held.2 in
     let next = returns-clause-retries g c it.0 it.1 held.0 held.1 it.2 at held.3 in
-    retry-frees-key {T = g.row.T.Denot} {U = g.row.U.Denot} (keeping _ c.retry_send-end.new.state) it.0 it.1 next.0 next.1 c.args.self.loan.publisher held.0 held.1 at (result_of_send c.outcome_of.result) (sent-free c.outcome_of.result ends) (answers_of g.F.BackpressureFn.allows c.args.domain.now.boxes) c.args.elapsed next.2 (lender_key (blocked_key c.args.self)) refl
+    retry-frees-key {T = g.row.T.Denot} {U = g.row.U.Denot} (keeping _ c.retry_send-end.new.state) it.0 it.1 next.0 next.1 c.args.self.loan.publisher held.0 held.1 at (result_of_send c.outcome_of.result) (sent-free c.outcome_of.result ends) (answers_of g.F.BackpressureFn.allows g.G.DegradationFn.allows c.args.domain.now.boxes.publishers) c.args.elapsed next.2 (lender_key (blocked_key c.args.self)) refl
 
 pub returns-clause-loans_freed : goal.returns-clause-loans_freed
 returns-clause-loans_freed g c = λ ends loan its.
@@ -107,7 +107,7 @@ returns-clause-loans_freed g c = λ ends loan its.
     let held = (blocked-parts c.args.domain.now (blocked_key c.args.self) c.requires.live).1 in
     let at = ap (λ (t : State g.row.T.Denot g.row.U.Denot). t.publishers c.args.self.loan.publisher) (it.2).state ∙ held.2 in
     let next = returns-clause-retries g c it.0 it.1 held.0 held.1 it.2 at held.3 in
-    retry-frees-key {T = g.row.T.Denot} {U = g.row.U.Denot} (keeping _ c.retry_send-end.new.state) it.0 it.1 next.0 next.1 c.args.self.loan.publisher held.0 held.1 at (result_of_send c.outcome_of.result) (sent-free c.outcome_of.result ends) (answers_of g.F.BackpressureFn.allows c.args.domain.now.boxes) c.args.elapsed next.2 (written_key loan) its
+    retry-frees-key {T = g.row.T.Denot} {U = g.row.U.Denot} (keeping _ c.retry_send-end.new.state) it.0 it.1 next.0 next.1 c.args.self.loan.publisher held.0 held.1 at (result_of_send c.outcome_of.result) (sent-free c.outcome_of.result ends) (answers_of g.F.BackpressureFn.allows g.G.DegradationFn.allows c.args.domain.now.boxes.publishers) c.args.elapsed next.2 (written_key loan) its
 
 pub returns-clause-adds : goal.returns-clause-adds
 returns-clause-adds g c =
@@ -115,7 +115,7 @@ returns-clause-adds g c =
     let held = (blocked-parts c.args.domain.now (blocked_key c.args.self) c.requires.live).1 in
     let at = ap (λ (t : State g.row.T.Denot g.row.U.Denot). t.publishers c.args.self.loan.publisher) (it.2).state ∙ held.2 in
     let next = returns-clause-retries g c it.0 it.1 held.0 held.1 it.2 at held.3 in
-    retry-adds {T = g.row.T.Denot} {U = g.row.U.Denot} c.args.domain.now (keeping _ c.retry_send-end.new.state) it.0 it.0 it.1 next.0 it.2 next.1 (answers_of g.F.BackpressureFn.allows c.args.domain.now.boxes) c.args.self.loan.publisher held.0 held.1 c.args.elapsed (result_of_send c.outcome_of.result) at held.3 next.2
+    retry-adds {T = g.row.T.Denot} {U = g.row.U.Denot} c.args.domain.now (keeping _ c.retry_send-end.new.state) it.0 it.0 it.1 next.0 it.2 next.1 (answers_of g.F.BackpressureFn.allows g.G.DegradationFn.allows c.args.domain.now.boxes.publishers) c.args.self.loan.publisher held.0 held.1 c.args.elapsed (result_of_send c.outcome_of.result) at held.3 next.2
 
 pub returns-clause-up_to_date : goal.returns-clause-up_to_date
 returns-clause-up_to_date g c =
@@ -123,7 +123,7 @@ returns-clause-up_to_date g c =
     let held = (blocked-parts c.args.domain.now (blocked_key c.args.self) c.requires.live).1 in
     let at = ap (λ (t : State g.row.T.Denot g.row.U.Denot). t.publishers c.args.self.loan.publisher) (it.2).state ∙ held.2 in
     let next = returns-clause-retries g c it.0 it.1 held.0 held.1 it.2 at held.3 in
-    retry-leaves {T = g.row.T.Denot} {U = g.row.U.Denot} c.args.domain.now (keeping _ c.retry_send-end.new.state) it.0 it.0 it.1 next.0 it.2 next.1 (answers_of g.F.BackpressureFn.allows c.args.domain.now.boxes) c.args.self.loan.publisher held.1 c.args.elapsed (result_of_send c.outcome_of.result) next.2
+    retry-leaves {T = g.row.T.Denot} {U = g.row.U.Denot} c.args.domain.now (keeping _ c.retry_send-end.new.state) it.0 it.0 it.1 next.0 it.2 next.1 (answers_of g.F.BackpressureFn.allows g.G.DegradationFn.allows c.args.domain.now.boxes.publishers) c.args.self.loan.publisher held.1 c.args.elapsed (result_of_send c.outcome_of.result) next.2
 
 pub returns-clause-loans_left : goal.returns-clause-loans_left
 returns-clause-loans_left g c =
@@ -131,7 +131,7 @@ returns-clause-loans_left g c =
     let held = (blocked-parts c.args.domain.now (blocked_key c.args.self) c.requires.live).1 in
     let at = ap (λ (t : State g.row.T.Denot g.row.U.Denot). t.publishers c.args.self.loan.publisher) (it.2).state ∙ held.2 in
     let next = returns-clause-retries g c it.0 it.1 held.0 held.1 it.2 at held.3 in
-    retry-left {T = g.row.T.Denot} {U = g.row.U.Denot} c.args.domain.now (keeping _ c.retry_send-end.new.state) it.0 it.0 it.1 next.0 it.2 next.1 c.args.self.loan.publisher held.0 held.1 at held.3 (answers_of g.F.BackpressureFn.allows c.args.domain.now.boxes) c.args.elapsed (result_of_send c.outcome_of.result) next.2
+    retry-left {T = g.row.T.Denot} {U = g.row.U.Denot} c.args.domain.now (keeping _ c.retry_send-end.new.state) it.0 it.0 it.1 next.0 it.2 next.1 c.args.self.loan.publisher held.0 held.1 at held.3 (answers_of g.F.BackpressureFn.allows g.G.DegradationFn.allows c.args.domain.now.boxes.publishers) c.args.elapsed (result_of_send c.outcome_of.result) next.2
 
 pub returns-clause-given_back : goal.returns-clause-given_back
 returns-clause-given_back g c = λ ends.
@@ -139,7 +139,7 @@ returns-clause-given_back g c = λ ends.
     let held = (blocked-parts c.args.domain.now (blocked_key c.args.self) c.requires.live).1 in
     let at = ap (λ (t : State g.row.T.Denot g.row.U.Denot). t.publishers c.args.self.loan.publisher) (it.2).state ∙ held.2 in
     let next = returns-clause-retries g c it.0 it.1 held.0 held.1 it.2 at held.3 in
-    retry-gives {T = g.row.T.Denot} {U = g.row.U.Denot} c.args.domain.now (keeping _ c.retry_send-end.new.state) it.0 it.0 it.1 next.0 it.2 next.1 c.args.self.loan.publisher held.0 held.1 at held.3 (answers_of g.F.BackpressureFn.allows c.args.domain.now.boxes) c.args.elapsed (result_of_send c.outcome_of.result) (sent-free c.outcome_of.result ends) next.2
+    retry-gives {T = g.row.T.Denot} {U = g.row.U.Denot} c.args.domain.now (keeping _ c.retry_send-end.new.state) it.0 it.0 it.1 next.0 it.2 next.1 c.args.self.loan.publisher held.0 held.1 at held.3 (answers_of g.F.BackpressureFn.allows g.G.DegradationFn.allows c.args.domain.now.boxes.publishers) c.args.elapsed (result_of_send c.outcome_of.result) (sent-free c.outcome_of.result ends) next.2
 
 pub returns-clause-stays_since : goal.returns-clause-stays_since
 unfolding StaysSince
@@ -149,7 +149,7 @@ returns-clause-stays_since g c = λ ends start free before.
     let at = ap (λ (t : State g.row.T.Denot g.row.U.Denot). t.publishers c.args.self.loan.publisher) (it.2).state ∙ held.2 in
     let next = returns-clause-retries g c it.0 it.1 held.0 held.1 it.2 at held.3 in
     stays-since-block c.args.self.loan.publisher start c.args.domain.now _ (λ key its. unblocked-alike start (lender_key (blocked_key c.args.self)) key its free) before (returns-clause-stays g c)
-    (retry-frees-key {T = g.row.T.Denot} {U = g.row.U.Denot} (keeping _ c.retry_send-end.new.state) it.0 it.1 next.0 next.1 c.args.self.loan.publisher held.0 held.1 at (result_of_send c.outcome_of.result) (sent-free c.outcome_of.result ends) (answers_of g.F.BackpressureFn.allows c.args.domain.now.boxes) c.args.elapsed next.2)
+    (retry-frees-key {T = g.row.T.Denot} {U = g.row.U.Denot} (keeping _ c.retry_send-end.new.state) it.0 it.1 next.0 next.1 c.args.self.loan.publisher held.0 held.1 at (result_of_send c.outcome_of.result) (sent-free c.outcome_of.result ends) (answers_of g.F.BackpressureFn.allows g.G.DegradationFn.allows c.args.domain.now.boxes.publishers) c.args.elapsed next.2)
 
 pub returns-clause-no_more : goal.returns-clause-no_more
 returns-clause-no_more g c =
@@ -158,7 +158,7 @@ returns-clause-no_more g c =
     let at = ap (λ (t : State g.row.T.Denot g.row.U.Denot). t.publishers c.args.self.loan.publisher) (it.2).state ∙ held.2 in
     let next = returns-clause-retries g c it.0 it.1 held.0 held.1 it.2 at held.3 in
     where-blocked (λ (again : Handle). receivers_ahead (keeping _ c.retry_send-end.new.state) again ≤ receivers_ahead c.args.domain.now c.args.self) c.args.self c.outcome_of.result c.outcome_of.ensures.blocked (λ waits.
-    retry-no-more {T = g.row.T.Denot} {U = g.row.U.Denot} c.args.domain.now (keeping _ c.retry_send-end.new.state) c.args.self held it.1 next.0 (it.2).state (next.1).state (answers_of g.F.BackpressureFn.allows c.args.domain.now.boxes) (result_of_send c.outcome_of.result) waits c.args.elapsed next.2)
+    retry-no-more {T = g.row.T.Denot} {U = g.row.U.Denot} c.args.domain.now (keeping _ c.retry_send-end.new.state) c.args.self held it.1 next.0 (it.2).state (next.1).state (answers_of g.F.BackpressureFn.allows g.G.DegradationFn.allows c.args.domain.now.boxes.publishers) (result_of_send c.outcome_of.result) waits c.args.elapsed next.2)
 
 pub returns-clause-ok : goal.returns-clause-ok
 returns-clause-ok g c = λ never.
@@ -169,12 +169,12 @@ returns-clause-ok g c = λ never.
     let has = unfailed-parts c.args.domain.now c.args.self.loan.publisher never in
     let mild : IsMild it.1 c.args.self.loan.publisher = subst (λ (t : State g.row.T.Denot g.row.U.Denot). IsMild t c.args.self.loan.publisher) (sym (it.2).state) has.1 in
     only-ok c.retry_send-end.result c.retry_send-end.ensures.kept (λ failed.
-    (retry-unfailed {T = g.row.T.Denot} {U = g.row.U.Denot} (answers_of g.F.BackpressureFn.allows c.args.domain.now.boxes) it.1 c.args.self.loan.publisher held.1 c.args.elapsed next.0 (result_of_send c.outcome_of.result) mild (has.2 held.0 held.1 held.2 held.3) next.2).1
+    (retry-unfailed {T = g.row.T.Denot} {U = g.row.U.Denot} (answers_of g.F.BackpressureFn.allows g.G.DegradationFn.allows c.args.domain.now.boxes.publishers) it.1 c.args.self.loan.publisher held.1 c.args.elapsed next.0 (result_of_send c.outcome_of.result) mild (has.2 held.0 held.1 held.2 held.3) next.2).1
     (c.outcome_of.ensures.same ∙ failed))
     c.outcome_of.result c.outcome_of.ensures.same
 
 pub returns-clause-since_again : goal.returns-clause-since_again
 returns-clause-since_again g c =
-    where-blocked (λ (again : Handle). (after : Kept g.row.T.Denot g.row.U.Denot g.row.F.Denot) → StaysSince again (keeping _ c.retry_send-end.new.state) after → StaysSince c.args.self c.args.domain.now after)
+    where-blocked (λ (again : Handle). (after : Kept g.row.T.Denot g.row.U.Denot g.row.F.Denot g.row.G.Denot) → StaysSince again (keeping _ c.retry_send-end.new.state) after → StaysSince c.args.self c.args.domain.now after)
     c.args.self c.outcome_of.result c.outcome_of.ensures.blocked (λ waits.
     since-again {T = g.row.T.Denot} {U = g.row.U.Denot} c.args.domain.now (keeping _ c.retry_send-end.new.state) c.args.self (returns-clause-stays g c))

@@ -8,7 +8,7 @@ use Rattle.iox2_pubsub.proofs.AlwaysShows.{shows_itself}
 use Rattle.iox2_pubsub.proofs.domain.Domain.config.Goals as goal
 
 pub returns-clause-value : goal.returns-clause-value
-returns-clause-value g c = c.config.ensures ∙ ap (λ (k : Kept g.row.T.Denot g.row.U.Denot g.row.F.Denot). k.config) c.self.view_is
+returns-clause-value g c = c.config.ensures ∙ ap (λ (k : Kept g.row.T.Denot g.row.U.Denot g.row.F.Denot g.row.G.Denot). k.config) c.self.view_is
 
 pub returns-clause-shown : goal.returns-clause-shown
 returns-clause-shown g c =

@@ -8,7 +8,7 @@ pub returns : goal.returns
 unfolding IsPublisherKey
 returns g c =
     let has = rw c.new.ensures at c.has_publisher.ensures in
-    let its : c.args.key.service_id ≡ (c.args.self.now.config).service_id = cc (ap (λ (k : Kept g.row.T.Denot g.row.U.Denot g.row.F.Denot). (k.config).service_id) c.self.view_is) in (
-      λ yes. (c.if-key-ne0.false, its, subst (λ (k : Kept g.row.T.Denot g.row.U.Denot g.row.F.Denot). HoldsPublisher (state_of k) c.args.key.port) c.self.view_is (has.0 yes)),
-      λ live. has.1 (subst (λ (k : Kept g.row.T.Denot g.row.U.Denot g.row.F.Denot). HoldsPublisher (state_of k) c.args.key.port) (sym c.self.view_is) live.2),
+    let its : c.args.key.service_id ≡ (c.args.self.now.config).service_id = cc (ap (λ (k : Kept g.row.T.Denot g.row.U.Denot g.row.F.Denot g.row.G.Denot). (k.config).service_id) c.self.view_is) in (
+      λ yes. (c.if-key-ne0.false, its, subst (λ (k : Kept g.row.T.Denot g.row.U.Denot g.row.F.Denot g.row.G.Denot). HoldsPublisher (state_of k) c.args.key.port) c.self.view_is (has.0 yes)),
+      λ live. has.1 (subst (λ (k : Kept g.row.T.Denot g.row.U.Denot g.row.F.Denot g.row.G.Denot). HoldsPublisher (state_of k) c.args.key.port) (sym c.self.view_is) live.2),
     )

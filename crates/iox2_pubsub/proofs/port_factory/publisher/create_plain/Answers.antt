@@ -1,9 +1,9 @@
-use Rattle.iox2_store.specs.machine.Limits.{worst_case}
-use Rattle.iox2_store.specs.machine.Ports.{slots_for}
 use Rattle.std.proofs.Common.{◌≤◌, refl, ◌∙◌, ap, sym, subst}
 use Rattle.std.proofs.lemmas.Result.{err_from_is_err_and}
 use Rattle.std.specs.declared.option.Option.TheVariants.{None, Some}
-use Rattle.iox2_store.specs.machine.Environments.{fixed_handlers}
+use Rattle.iox2_domain.specs.Boxes.{answers_of}
+use Rattle.iox2_store.specs.machine.Limits.{worst_case}
+use Rattle.iox2_store.specs.machine.Ports.{slots_for}
 use Rattle.iox2_store.specs.machine.State.{State}
 use Rattle.iox2_store.specs.declared.service_config.ServiceConfig.{ServiceConfig}
 use Rattle.iox2_domain.specs.Kept.{Kept, state_of}
@@ -18,7 +18,7 @@ use Rattle.iox2_pubsub.proofs.CallsStay.{always-shown, apart-from-next, publishe
 use Rattle.iox2_pubsub.proofs.ConnectionsShown.{made-connections, made-connects}
 use Rattle.iox2_pubsub.proofs.WaitingShown.{publisher-refused, publisher-no-fewer}
 use Rattle.iox2_pubsub.proofs.LoansLeftShown.{publisher-creation-left, created-left}
-use Rattle.iox2_pubsub.proofs.StaysBut.{box-is, live-boxes}
+use Rattle.iox2_pubsub.proofs.StaysBut.{box-is, degradation-box-is, live-boxes}
 use Rattle.iox2_pubsub.proofs.port_factory.publisher.create_plain.Goals as goal
 
 pub returns-in_err-port-clause-creates : goal.returns-in_err-port-clause-creates
@@ -27,15 +27,15 @@ returns-in_err-port-clause-creates g c m s shows =
     let why = c.in_err-port.field-0.0 in
     let made = c.in_err-port.ensures.step in
     let before : State g.row.T.Denot g.row.U.Denot = state_of (kept_of c.domain.inside.state) in
-    let shown : Shows (kept_of c.domain.inside.state) m s = subst (λ (kept : Kept g.row.T.Denot g.row.U.Denot g.row.F.Denot). Shows kept m s) (sym c.domain.view_is) shows in
-    let next = created-shows {T = g.row.T.Denot} {U = g.row.U.Denot} c.domain.inside.state c.create_publisher.new.state (settings_with c.args.given.now (marks_of c.args.handler) c.args.segments) fixed_handlers m s before (Some why) shown made.0 made.1 in
+    let shown : Shows (kept_of c.domain.inside.state) m s = subst (λ (kept : Kept g.row.T.Denot g.row.U.Denot g.row.F.Denot g.row.G.Denot). Shows kept m s) (sym c.domain.view_is) shows in
+    let next = created-shows {T = g.row.T.Denot} {U = g.row.U.Denot} c.domain.inside.state c.create_publisher.new.state (settings_with c.args.given.now (marks_of c.args.handler) c.args.segments) (answers_of g.F.BackpressureFn.allows g.G.DegradationFn.allows (c.create_publisher.new.boxes).boxes) m s before (Some why) shown made.0 made.1 in
     rw (refused.1, refused.2) (before, next.0, next.1)
 
 pub returns-clause-creates : goal.returns-clause-creates
 returns-clause-creates g c m s shows =
     let made = c.in_ok-port.ensures.step in
-    let shown : Shows (kept_of c.domain.inside.state) m s = subst (λ (kept : Kept g.row.T.Denot g.row.U.Denot g.row.F.Denot). Shows kept m s) (sym c.domain.view_is) shows in
-    let next = created-shows {T = g.row.T.Denot} {U = g.row.U.Denot} c.domain.inside.state c.create_publisher.new.state (settings_with c.args.given.now (marks_of c.args.handler) c.args.segments) fixed_handlers m s made.0 None shown made.1 made.2 in (
+    let shown : Shows (kept_of c.domain.inside.state) m s = subst (λ (kept : Kept g.row.T.Denot g.row.U.Denot g.row.F.Denot g.row.G.Denot). Shows kept m s) (sym c.domain.view_is) shows in
+    let next = created-shows {T = g.row.T.Denot} {U = g.row.U.Denot} c.domain.inside.state c.create_publisher.new.state (settings_with c.args.given.now (marks_of c.args.handler) c.args.segments) (answers_of g.F.BackpressureFn.allows g.G.DegradationFn.allows (c.create_publisher.new.boxes).boxes) m s made.0 None shown made.1 made.2 in (
       made.0,
       next.0,
       (
@@ -47,35 +47,35 @@ returns-clause-creates g c m s shows =
 pub returns-clause-ready : goal.returns-clause-ready
 returns-clause-ready g c =
     let made = c.in_ok-port.ensures.step in
-    created-ready {T = g.row.T.Denot} {U = g.row.U.Denot} c.domain.inside.state c.create_publisher.new.state (settings_with c.args.given.now (marks_of c.args.handler) c.args.segments) fixed_handlers made.0 made.1 made.2
+    created-ready {T = g.row.T.Denot} {U = g.row.U.Denot} c.domain.inside.state c.create_publisher.new.state (settings_with c.args.given.now (marks_of c.args.handler) c.args.segments) (answers_of g.F.BackpressureFn.allows g.G.DegradationFn.allows (c.create_publisher.new.boxes).boxes) made.0 made.1 made.2
     (record { service_id = c.config.result.now.service_id; id = c.in_ok-port.port.id; place = c.in_ok-port.port.place; strategy = c.args.given.now.strategy; initial_max_slice_len = c.args.given.now.initial_max_slice_len })
     (ap (λ (config : ServiceConfig). config.service_id) c.config.ensures) c.in_ok-port.ensures.id
 
 pub returns-clause-discards : goal.returns-clause-discards
 returns-clause-discards g c = λ discards none calm.
     let made = c.in_ok-port.ensures.step in
-    created-never-waits {T = g.row.T.Denot} {U = g.row.U.Denot} c.domain.inside.state c.create_publisher.new.state (settings_with c.args.given.now (marks_of c.args.handler) c.args.segments) fixed_handlers made.0 made.1 made.2
+    created-never-waits {T = g.row.T.Denot} {U = g.row.U.Denot} c.domain.inside.state c.create_publisher.new.state (settings_with c.args.given.now (marks_of c.args.handler) c.args.segments) (answers_of g.F.BackpressureFn.allows g.G.DegradationFn.allows (c.create_publisher.new.boxes).boxes) made.0 made.1 made.2
     (record { service_id = c.config.result.now.service_id; id = c.in_ok-port.port.id; place = c.in_ok-port.port.place; strategy = c.args.given.now.strategy; initial_max_slice_len = c.args.given.now.initial_max_slice_len })
     c.in_ok-port.ensures.id ((λ i. may_wait (discards i) (none i))) (ap may_fail none) calm
 
 pub returns-clause-passes : goal.returns-clause-passes
 returns-clause-passes g c = λ past none calm.
     let made = c.in_ok-port.ensures.step in
-    created-never-waits {T = g.row.T.Denot} {U = g.row.U.Denot} c.domain.inside.state c.create_publisher.new.state (settings_with c.args.given.now (marks_of c.args.handler) c.args.segments) fixed_handlers made.0 made.1 made.2
+    created-never-waits {T = g.row.T.Denot} {U = g.row.U.Denot} c.domain.inside.state c.create_publisher.new.state (settings_with c.args.given.now (marks_of c.args.handler) c.args.segments) (answers_of g.F.BackpressureFn.allows g.G.DegradationFn.allows (c.create_publisher.new.boxes).boxes) made.0 made.1 made.2
     (record { service_id = c.config.result.now.service_id; id = c.in_ok-port.port.id; place = c.in_ok-port.port.place; strategy = c.args.given.now.strategy; initial_max_slice_len = c.args.given.now.initial_max_slice_len })
     c.in_ok-port.ensures.id past none calm
 
 pub returns-clause-overflows : goal.returns-clause-overflows
 returns-clause-overflows g c = λ over calm.
     let made = c.in_ok-port.ensures.step in
-    created-overflows {T = g.row.T.Denot} {U = g.row.U.Denot} c.domain.inside.state c.create_publisher.new.state (settings_with c.args.given.now (marks_of c.args.handler) c.args.segments) fixed_handlers made.0 made.1 made.2
+    created-overflows {T = g.row.T.Denot} {U = g.row.U.Denot} c.domain.inside.state c.create_publisher.new.state (settings_with c.args.given.now (marks_of c.args.handler) c.args.segments) (answers_of g.F.BackpressureFn.allows g.G.DegradationFn.allows (c.create_publisher.new.boxes).boxes) made.0 made.1 made.2
     (record { service_id = c.config.result.now.service_id; id = c.in_ok-port.port.id; place = c.in_ok-port.port.place; strategy = c.args.given.now.strategy; initial_max_slice_len = c.args.given.now.initial_max_slice_len })
-    c.in_ok-port.ensures.id (ap (λ (k : Kept g.row.T.Denot g.row.U.Denot g.row.F.Denot). (k.config).enable_safe_overflow) c.domain.view_is ∙ over) calm
+    c.in_ok-port.ensures.id (ap (λ (k : Kept g.row.T.Denot g.row.U.Denot g.row.F.Denot g.row.G.Denot). (k.config).enable_safe_overflow) c.domain.view_is ∙ over) calm
 
 pub returns-clause-never_fails : goal.returns-clause-never_fails
 returns-clause-never_fails g c = λ none calm.
     let made = c.in_ok-port.ensures.step in
-    created-never-fails {T = g.row.T.Denot} {U = g.row.U.Denot} c.domain.inside.state c.create_publisher.new.state (settings_with c.args.given.now (marks_of c.args.handler) c.args.segments) fixed_handlers (c.create_publisher.new.boxes).boxes made.0 made.1 made.2
+    created-never-fails {T = g.row.T.Denot} {U = g.row.U.Denot} c.domain.inside.state c.create_publisher.new.state (settings_with c.args.given.now (marks_of c.args.handler) c.args.segments) (answers_of g.F.BackpressureFn.allows g.G.DegradationFn.allows (c.create_publisher.new.boxes).boxes) (record { publishers = (c.create_publisher.new.boxes).boxes; subscribers = (c.domain.inside.subscriber_boxes).boxes }) made.0 made.1 made.2
     (record { service_id = c.config.result.now.service_id; id = c.in_ok-port.port.id; place = c.in_ok-port.port.place; strategy = c.args.given.now.strategy; initial_max_slice_len = c.args.given.now.initial_max_slice_len })
     c.in_ok-port.ensures.id none calm
 
@@ -84,16 +84,16 @@ returns-in_err-port-clause-stays g c =
     let it = always-shown {T = g.row.T.Denot} {U = g.row.U.Denot} c.domain.inside.state c.args.domain.now c.domain.invariant c.domain.view_is in
     let made = c.in_err-port.ensures.step in
     let why = c.in_err-port.field-0.0 in
-    let shown : Shows (kept_of c.domain.inside.state) it.0 it.1 = subst (λ (kept : Kept g.row.T.Denot g.row.U.Denot g.row.F.Denot). Shows kept it.0 it.1) (sym c.domain.view_is) it.2 in
-    let next = created-shows {T = g.row.T.Denot} {U = g.row.U.Denot} c.domain.inside.state c.create_publisher.new.state (settings_with c.args.given.now (marks_of c.args.handler) c.args.segments) fixed_handlers it.0 it.1 _ (Some why) shown made.0 made.1 in
-    publisher-creation-stays {T = g.row.T.Denot} {U = g.row.U.Denot} c.args.domain.now _ it.0 it.1 it.2 fixed_handlers (settings_with c.args.given.now (marks_of c.args.handler) c.args.segments) (Some why) _ next.0 next.1 (live-boxes c.domain.inside.state c.create_publisher.new.state c.args.domain.now c.domain.view_is
+    let shown : Shows (kept_of c.domain.inside.state) it.0 it.1 = subst (λ (kept : Kept g.row.T.Denot g.row.U.Denot g.row.F.Denot g.row.G.Denot). Shows kept it.0 it.1) (sym c.domain.view_is) it.2 in
+    let next = created-shows {T = g.row.T.Denot} {U = g.row.U.Denot} c.domain.inside.state c.create_publisher.new.state (settings_with c.args.given.now (marks_of c.args.handler) c.args.segments) (answers_of g.F.BackpressureFn.allows g.G.DegradationFn.allows (c.create_publisher.new.boxes).boxes) it.0 it.1 _ (Some why) shown made.0 made.1 in
+    publisher-creation-stays {T = g.row.T.Denot} {U = g.row.U.Denot} c.args.domain.now _ it.0 it.1 it.2 (answers_of g.F.BackpressureFn.allows g.G.DegradationFn.allows (c.create_publisher.new.boxes).boxes) (settings_with c.args.given.now (marks_of c.args.handler) c.args.segments) (Some why) _ next.0 next.1 (live-boxes c.domain.inside.state c.create_publisher.new.state c.args.domain.now c.domain.view_is
     (λ key live other. c.create_publisher.ensures.others key.port (apart-from-next c.domain.inside.state c.args.domain.now c.domain.invariant c.domain.view_is key live)))
 
 pub returns-clause-stays : goal.returns-clause-stays
 returns-clause-stays g c =
     let it = always-shown {T = g.row.T.Denot} {U = g.row.U.Denot} c.domain.inside.state c.args.domain.now c.domain.invariant c.domain.view_is in
     let step = returns-clause-creates g c it.0 it.1 it.2 in
-    publisher-creation-stays {T = g.row.T.Denot} {U = g.row.U.Denot} c.args.domain.now _ it.0 it.1 it.2 fixed_handlers (settings_with c.args.given.now (marks_of c.args.handler) c.args.segments) None step.0 step.1 (step.2).1 (live-boxes c.domain.inside.state c.create_publisher.new.state c.args.domain.now c.domain.view_is
+    publisher-creation-stays {T = g.row.T.Denot} {U = g.row.U.Denot} c.args.domain.now _ it.0 it.1 it.2 (answers_of g.F.BackpressureFn.allows g.G.DegradationFn.allows (c.create_publisher.new.boxes).boxes) (settings_with c.args.given.now (marks_of c.args.handler) c.args.segments) None step.0 step.1 (step.2).1 (live-boxes c.domain.inside.state c.create_publisher.new.state c.args.domain.now c.domain.view_is
     (λ key live other. c.create_publisher.ensures.others key.port (apart-from-next c.domain.inside.state c.args.domain.now c.domain.invariant c.domain.view_is key live)))
 
 pub returns-clause-new : goal.returns-clause-new
@@ -107,40 +107,40 @@ returns-in_err-port-clause-refused g c =
     let it = always-shown {T = g.row.T.Denot} {U = g.row.U.Denot} c.domain.inside.state c.args.domain.now c.domain.invariant c.domain.view_is in
     let made = c.in_err-port.ensures.step in
     let why = c.in_err-port.field-0.0 in
-    let shown : Shows (kept_of c.domain.inside.state) it.0 it.1 = subst (λ (kept : Kept g.row.T.Denot g.row.U.Denot g.row.F.Denot). Shows kept it.0 it.1) (sym c.domain.view_is) it.2 in
-    let next = created-shows {T = g.row.T.Denot} {U = g.row.U.Denot} c.domain.inside.state c.create_publisher.new.state (settings_with c.args.given.now (marks_of c.args.handler) c.args.segments) fixed_handlers it.0 it.1 _ (Some why) shown made.0 made.1 in
+    let shown : Shows (kept_of c.domain.inside.state) it.0 it.1 = subst (λ (kept : Kept g.row.T.Denot g.row.U.Denot g.row.F.Denot g.row.G.Denot). Shows kept it.0 it.1) (sym c.domain.view_is) it.2 in
+    let next = created-shows {T = g.row.T.Denot} {U = g.row.U.Denot} c.domain.inside.state c.create_publisher.new.state (settings_with c.args.given.now (marks_of c.args.handler) c.args.segments) (answers_of g.F.BackpressureFn.allows g.G.DegradationFn.allows (c.create_publisher.new.boxes).boxes) it.0 it.1 _ (Some why) shown made.0 made.1 in
     let refused = err_from_is_err_and c.from_residual.result c.from_residual.ensures.1 in
-    rw refused.1 (publisher-refused {T = g.row.T.Denot} {U = g.row.U.Denot} c.args.domain.now _ it.0 it.0 it.1 _ it.2 next.0 fixed_handlers (settings_with c.args.given.now (marks_of c.args.handler) c.args.segments) (Some why) next.1 (λ n entry at. at) why refl)
+    rw refused.1 (publisher-refused {T = g.row.T.Denot} {U = g.row.U.Denot} c.args.domain.now _ it.0 it.0 it.1 _ it.2 next.0 (answers_of g.F.BackpressureFn.allows g.G.DegradationFn.allows (c.create_publisher.new.boxes).boxes) (settings_with c.args.given.now (marks_of c.args.handler) c.args.segments) (Some why) next.1 (λ n entry at. at) why refl)
 
 pub returns-in_err-port-clause-no_fewer : goal.returns-in_err-port-clause-no_fewer
 returns-in_err-port-clause-no_fewer g c =
     let it = always-shown {T = g.row.T.Denot} {U = g.row.U.Denot} c.domain.inside.state c.args.domain.now c.domain.invariant c.domain.view_is in
     let made = c.in_err-port.ensures.step in
     let why = c.in_err-port.field-0.0 in
-    let shown : Shows (kept_of c.domain.inside.state) it.0 it.1 = subst (λ (kept : Kept g.row.T.Denot g.row.U.Denot g.row.F.Denot). Shows kept it.0 it.1) (sym c.domain.view_is) it.2 in
-    let next = created-shows {T = g.row.T.Denot} {U = g.row.U.Denot} c.domain.inside.state c.create_publisher.new.state (settings_with c.args.given.now (marks_of c.args.handler) c.args.segments) fixed_handlers it.0 it.1 _ (Some why) shown made.0 made.1 in
-    publisher-no-fewer {T = g.row.T.Denot} {U = g.row.U.Denot} c.args.domain.now _ it.0 it.0 it.1 _ it.2 next.0 fixed_handlers (settings_with c.args.given.now (marks_of c.args.handler) c.args.segments) (Some why) next.1
+    let shown : Shows (kept_of c.domain.inside.state) it.0 it.1 = subst (λ (kept : Kept g.row.T.Denot g.row.U.Denot g.row.F.Denot g.row.G.Denot). Shows kept it.0 it.1) (sym c.domain.view_is) it.2 in
+    let next = created-shows {T = g.row.T.Denot} {U = g.row.U.Denot} c.domain.inside.state c.create_publisher.new.state (settings_with c.args.given.now (marks_of c.args.handler) c.args.segments) (answers_of g.F.BackpressureFn.allows g.G.DegradationFn.allows (c.create_publisher.new.boxes).boxes) it.0 it.1 _ (Some why) shown made.0 made.1 in
+    publisher-no-fewer {T = g.row.T.Denot} {U = g.row.U.Denot} c.args.domain.now _ it.0 it.0 it.1 _ it.2 next.0 (answers_of g.F.BackpressureFn.allows g.G.DegradationFn.allows (c.create_publisher.new.boxes).boxes) (settings_with c.args.given.now (marks_of c.args.handler) c.args.segments) (Some why) next.1
 
 pub returns-clause-no_fewer : goal.returns-clause-no_fewer
 returns-clause-no_fewer g c =
     let it = always-shown {T = g.row.T.Denot} {U = g.row.U.Denot} c.domain.inside.state c.args.domain.now c.domain.invariant c.domain.view_is in
     let step = returns-clause-creates g c it.0 it.1 it.2 in
-    publisher-no-fewer {T = g.row.T.Denot} {U = g.row.U.Denot} c.args.domain.now _ it.0 it.0 it.1 step.0 it.2 step.1 fixed_handlers (settings_with c.args.given.now (marks_of c.args.handler) c.args.segments) None (step.2).1
+    publisher-no-fewer {T = g.row.T.Denot} {U = g.row.U.Denot} c.args.domain.now _ it.0 it.0 it.1 step.0 it.2 step.1 (answers_of g.F.BackpressureFn.allows g.G.DegradationFn.allows (c.create_publisher.new.boxes).boxes) (settings_with c.args.given.now (marks_of c.args.handler) c.args.segments) None (step.2).1
 
 pub returns-in_err-port-clause-loans_left : goal.returns-in_err-port-clause-loans_left
 returns-in_err-port-clause-loans_left g c =
     let it = always-shown {T = g.row.T.Denot} {U = g.row.U.Denot} c.domain.inside.state c.args.domain.now c.domain.invariant c.domain.view_is in
     let made = c.in_err-port.ensures.step in
     let why = c.in_err-port.field-0.0 in
-    let shown : Shows (kept_of c.domain.inside.state) it.0 it.1 = subst (λ (kept : Kept g.row.T.Denot g.row.U.Denot g.row.F.Denot). Shows kept it.0 it.1) (sym c.domain.view_is) it.2 in
-    let next = created-shows {T = g.row.T.Denot} {U = g.row.U.Denot} c.domain.inside.state c.create_publisher.new.state (settings_with c.args.given.now (marks_of c.args.handler) c.args.segments) fixed_handlers it.0 it.1 _ (Some why) shown made.0 made.1 in
-    publisher-creation-left {T = g.row.T.Denot} {U = g.row.U.Denot} c.args.domain.now _ it.0 it.0 it.1 _ it.2 next.0 fixed_handlers (settings_with c.args.given.now (marks_of c.args.handler) c.args.segments) (Some why) next.1
+    let shown : Shows (kept_of c.domain.inside.state) it.0 it.1 = subst (λ (kept : Kept g.row.T.Denot g.row.U.Denot g.row.F.Denot g.row.G.Denot). Shows kept it.0 it.1) (sym c.domain.view_is) it.2 in
+    let next = created-shows {T = g.row.T.Denot} {U = g.row.U.Denot} c.domain.inside.state c.create_publisher.new.state (settings_with c.args.given.now (marks_of c.args.handler) c.args.segments) (answers_of g.F.BackpressureFn.allows g.G.DegradationFn.allows (c.create_publisher.new.boxes).boxes) it.0 it.1 _ (Some why) shown made.0 made.1 in
+    publisher-creation-left {T = g.row.T.Denot} {U = g.row.U.Denot} c.args.domain.now _ it.0 it.0 it.1 _ it.2 next.0 (answers_of g.F.BackpressureFn.allows g.G.DegradationFn.allows (c.create_publisher.new.boxes).boxes) (settings_with c.args.given.now (marks_of c.args.handler) c.args.segments) (Some why) next.1
 
 pub returns-clause-loans_left : goal.returns-clause-loans_left
 returns-clause-loans_left g c =
     let it = always-shown {T = g.row.T.Denot} {U = g.row.U.Denot} c.domain.inside.state c.args.domain.now c.domain.invariant c.domain.view_is in
     let step = returns-clause-creates g c it.0 it.1 it.2 in
-    publisher-creation-left {T = g.row.T.Denot} {U = g.row.U.Denot} c.args.domain.now _ it.0 it.0 it.1 step.0 it.2 step.1 fixed_handlers (settings_with c.args.given.now (marks_of c.args.handler) c.args.segments) None (step.2).1
+    publisher-creation-left {T = g.row.T.Denot} {U = g.row.U.Denot} c.args.domain.now _ it.0 it.0 it.1 step.0 it.2 step.1 (answers_of g.F.BackpressureFn.allows g.G.DegradationFn.allows (c.create_publisher.new.boxes).boxes) (settings_with c.args.given.now (marks_of c.args.handler) c.args.segments) None (step.2).1
 
 pub returns-clause-left : goal.returns-clause-left
 returns-clause-left g c = λ enough.
@@ -148,29 +148,32 @@ returns-clause-left g c = λ enough.
     let step = returns-clause-creates g c it.0 it.1 it.2 in
     let given = settings_with c.args.given.now (marks_of c.args.handler) c.args.segments in
     let slots = subst (λ (s : State g.row.T.Denot g.row.U.Denot). worst_case s.config given.max_loaned_samples ≤ slots_for s.config given) (sym (it.2).state) enough in
-    created-left {T = g.row.T.Denot} {U = g.row.U.Denot} c.args.domain.now _ it.0 it.0 it.1 step.0 it.2 step.1 fixed_handlers given c.in_ok-port.ensures.is_static slots
+    created-left {T = g.row.T.Denot} {U = g.row.U.Denot} c.args.domain.now _ it.0 it.0 it.1 step.0 it.2 step.1 (answers_of g.F.BackpressureFn.allows g.G.DegradationFn.allows (c.create_publisher.new.boxes).boxes) given c.in_ok-port.ensures.is_static slots
     (record { service_id = c.config.result.now.service_id; id = c.in_ok-port.port.id; place = c.in_ok-port.port.place; strategy = c.args.given.now.strategy; initial_max_slice_len = c.args.given.now.initial_max_slice_len }) (step.2).0 refl (step.2).1
 
 pub returns-clause-boxed : goal.returns-clause-boxed
 returns-clause-boxed g c = box-is _ c.create_publisher.new.state c.in_ok-port.port.id _ c.in_ok-port.ensures.boxed
+
+pub returns-clause-degrades : goal.returns-clause-degrades
+returns-clause-degrades g c = degradation-box-is _ c.create_publisher.new.state c.in_ok-port.port.id _ c.in_ok-port.ensures.degrades
 
 pub returns-in_err-port-clause-connections : goal.returns-in_err-port-clause-connections
 returns-in_err-port-clause-connections g c =
     let it = always-shown {T = g.row.T.Denot} {U = g.row.U.Denot} c.domain.inside.state c.args.domain.now c.domain.invariant c.domain.view_is in
     let made = c.in_err-port.ensures.step in
     let why = c.in_err-port.field-0.0 in
-    let shown : Shows (kept_of c.domain.inside.state) it.0 it.1 = subst (λ (kept : Kept g.row.T.Denot g.row.U.Denot g.row.F.Denot). Shows kept it.0 it.1) (sym c.domain.view_is) it.2 in
-    let next = created-shows {T = g.row.T.Denot} {U = g.row.U.Denot} c.domain.inside.state c.create_publisher.new.state (settings_with c.args.given.now (marks_of c.args.handler) c.args.segments) fixed_handlers it.0 it.1 _ (Some why) shown made.0 made.1 in
-    made-connections {T = g.row.T.Denot} {U = g.row.U.Denot} c.args.domain.now _ it.0 it.0 it.1 _ it.2 next.0 fixed_handlers (settings_with c.args.given.now (marks_of c.args.handler) c.args.segments) (Some why) next.1
+    let shown : Shows (kept_of c.domain.inside.state) it.0 it.1 = subst (λ (kept : Kept g.row.T.Denot g.row.U.Denot g.row.F.Denot g.row.G.Denot). Shows kept it.0 it.1) (sym c.domain.view_is) it.2 in
+    let next = created-shows {T = g.row.T.Denot} {U = g.row.U.Denot} c.domain.inside.state c.create_publisher.new.state (settings_with c.args.given.now (marks_of c.args.handler) c.args.segments) (answers_of g.F.BackpressureFn.allows g.G.DegradationFn.allows (c.create_publisher.new.boxes).boxes) it.0 it.1 _ (Some why) shown made.0 made.1 in
+    made-connections {T = g.row.T.Denot} {U = g.row.U.Denot} c.args.domain.now _ it.0 it.0 it.1 _ it.2 next.0 (answers_of g.F.BackpressureFn.allows g.G.DegradationFn.allows (c.create_publisher.new.boxes).boxes) (settings_with c.args.given.now (marks_of c.args.handler) c.args.segments) (Some why) next.1
 
 pub returns-clause-connections : goal.returns-clause-connections
 returns-clause-connections g c =
     let it = always-shown {T = g.row.T.Denot} {U = g.row.U.Denot} c.domain.inside.state c.args.domain.now c.domain.invariant c.domain.view_is in
     let step = returns-clause-creates g c it.0 it.1 it.2 in
-    made-connections {T = g.row.T.Denot} {U = g.row.U.Denot} c.args.domain.now _ it.0 it.0 it.1 step.0 it.2 step.1 fixed_handlers (settings_with c.args.given.now (marks_of c.args.handler) c.args.segments) None (step.2).1
+    made-connections {T = g.row.T.Denot} {U = g.row.U.Denot} c.args.domain.now _ it.0 it.0 it.1 step.0 it.2 step.1 (answers_of g.F.BackpressureFn.allows g.G.DegradationFn.allows (c.create_publisher.new.boxes).boxes) (settings_with c.args.given.now (marks_of c.args.handler) c.args.segments) None (step.2).1
 
 pub returns-clause-connects : goal.returns-clause-connects
 returns-clause-connects g c =
     let it = always-shown {T = g.row.T.Denot} {U = g.row.U.Denot} c.domain.inside.state c.args.domain.now c.domain.invariant c.domain.view_is in
     let step = returns-clause-creates g c it.0 it.1 it.2 in
-    made-connects {T = g.row.T.Denot} {U = g.row.U.Denot} c.args.domain.now _ it.0 it.0 it.1 step.0 it.2 step.1 fixed_handlers (settings_with c.args.given.now (marks_of c.args.handler) c.args.segments) c.in_ok-port.port.id (step.2).0 (step.2).1
+    made-connects {T = g.row.T.Denot} {U = g.row.U.Denot} c.args.domain.now _ it.0 it.0 it.1 step.0 it.2 step.1 (answers_of g.F.BackpressureFn.allows g.G.DegradationFn.allows (c.create_publisher.new.boxes).boxes) (settings_with c.args.given.now (marks_of c.args.handler) c.args.segments) c.in_ok-port.port.id (step.2).0 (step.2).1

@@ -12,8 +12,10 @@ use Rattle.iox2_pubsub.proofs.ConnectionsShown.{publisher-close-keeps, publisher
 use Rattle.iox2_pubsub.proofs.LiveParts.{publisher-parts, unblocked-test}
 use Rattle.iox2_pubsub.proofs.UninitLoans.{publisher-missing}
 use Rattle.iox2_pubsub.proofs.LoansLeftShown.{publisher-close-others, publisher-close-numbers}
-use Rattle.iox2_domain.specs.Boxes.{box_of}
-use Rattle.iox2_pubsub.proofs.StaysBut.{box-is, other-boxes}
+use Rattle.std.specs.Option.{option_and_then}
+use Rattle.iox2_domain.specs.Boxes.{box_of, degradation_box_of}
+use Rattle.iox2_domain.specs.declared.boxes.PortBoxes.{PortBoxes}
+use Rattle.iox2_pubsub.proofs.StaysBut.{box-is, degradation-box-is, other-boxes}
 use Rattle.iox2_pubsub.proofs.publisher.Publisher.close.Goals as goal
 
 pub find_live_publisher-place-requires : goal.find_live_publisher-place-requires
@@ -51,7 +53,11 @@ returns-clause-stays g c =
 
 pub returns-clause-unboxed : goal.returns-clause-unboxed
 returns-clause-unboxed g c = box-is _ c.close_publisher.new.state c.args.self.id None
-    (subst (λ (p : ℕ). box_of p (c.remove.new.self).boxes ≡ None) c.value.ensures c.remove.ensures.its)
+    (subst (λ (p : ℕ). box_of p (c.remove.new.self).boxes ≡ None) c.value.ensures (ap (option_and_then (λ (b : PortBoxes g.row.F.Denot g.row.G.Denot). b.backpressure)) c.remove.ensures.its))
+
+pub returns-clause-undegraded : goal.returns-clause-undegraded
+returns-clause-undegraded g c = degradation-box-is _ c.close_publisher.new.state c.args.self.id None
+    (subst (λ (p : ℕ). degradation_box_of p (c.remove.new.self).boxes ≡ None) c.value.ensures (ap (option_and_then (λ (b : PortBoxes g.row.F.Denot g.row.G.Denot). b.degradation)) c.remove.ensures.its))
 
 pub returns-clause-no_fewer : goal.returns-clause-no_fewer
 returns-clause-no_fewer g c =
@@ -84,7 +90,7 @@ close_publisher-requires-clause-unblocked g c = λ z at_z.
     let is : z ≡ found.0 = cc in
     ap (λ (w : PublisherFields). w.blocked) is
     ∙ free-of c.domain.inside.state c.domain.invariant.parts c.args.self.id c.find_live_publisher-place.result found.0 found.1 found.2
-    (subst (λ (k : Kept g.row.T.Denot g.row.U.Denot g.row.F.Denot). is_blocked (state_of k) c.args.self.id ≡ false) (sym c.domain.view_is) (unblocked-test c.args.domain.now (publisher_key c.args.self) c.requires.ready.unblocked))
+    (subst (λ (k : Kept g.row.T.Denot g.row.U.Denot g.row.F.Denot g.row.G.Denot). is_blocked (state_of k) c.args.self.id ≡ false) (sym c.domain.view_is) (unblocked-test c.args.domain.now (publisher_key c.args.self) c.requires.ready.unblocked))
 
 pub returns-clause-keeps : goal.returns-clause-keeps
 returns-clause-keeps g c =

@@ -38,27 +38,27 @@ returns-clause-out g c =
 
 pub returns-clause-cells : goal.returns-clause-cells
 returns-clause-cells g c =
-    subst (λ (k : Kept g.row.T.Denot g.row.U.Denot g.row.F.Denot). HasUnwrittenCells (keeping (c.domain.inside.boxes).boxes c.loan.new.state) c.in_ok-loan.loan.number (replicate (c.args.len * (k.config).units_per_element) None)) c.domain.view_is
+    subst (λ (k : Kept g.row.T.Denot g.row.U.Denot g.row.F.Denot g.row.G.Denot). HasUnwrittenCells (keeping (record { publishers = (c.domain.inside.boxes).boxes; subscribers = (c.domain.inside.subscriber_boxes).boxes }) c.loan.new.state) c.in_ok-loan.loan.number (replicate (c.args.len * (k.config).units_per_element) None)) c.domain.view_is
     (ok-cells {T = g.row.T.Denot} {U = g.row.U.Denot} g.U.Default.is_default c.args.checks_length c.args.len c.domain.inside.state c.loan.new.state c.find_live_publisher-place.result c.args.self.now.id c.loan.result
-    c.find_live_publisher-place.ensures c.loan.ensures.reaches (c.domain.inside.boxes).boxes c.in_ok-loan.loan c.in_ok-loan.was c.in_ok-loan.ensures.named)
+    c.find_live_publisher-place.ensures c.loan.ensures.reaches (record { publishers = (c.domain.inside.boxes).boxes; subscribers = (c.domain.inside.subscriber_boxes).boxes }) c.in_ok-loan.loan c.in_ok-loan.was c.in_ok-loan.ensures.named)
 
 pub returns-clause-lengths : goal.returns-clause-lengths
 returns-clause-lengths g c = λ cells has.
-    subst (λ (k : Kept g.row.T.Denot g.row.U.Denot g.row.F.Denot). length cells ≡ c.args.len * (k.config).units_per_element) c.domain.view_is
+    subst (λ (k : Kept g.row.T.Denot g.row.U.Denot g.row.F.Denot g.row.G.Denot). length cells ≡ c.args.len * (k.config).units_per_element) c.domain.view_is
     (ok-lengths {T = g.row.T.Denot} {U = g.row.U.Denot} g.U.Default.is_default c.args.checks_length c.args.len c.domain.inside.state c.loan.new.state c.find_live_publisher-place.result c.args.self.now.id c.loan.result
-    c.find_live_publisher-place.ensures c.loan.ensures.reaches (c.domain.inside.boxes).boxes c.in_ok-loan.loan c.in_ok-loan.was c.in_ok-loan.ensures.named cells has)
+    c.find_live_publisher-place.ensures c.loan.ensures.reaches (record { publishers = (c.domain.inside.boxes).boxes; subscribers = (c.domain.inside.subscriber_boxes).boxes }) c.in_ok-loan.loan c.in_ok-loan.was c.in_ok-loan.ensures.named cells has)
 
 pub returns-clause-header : goal.returns-clause-header
 returns-clause-header g c =
     let key = unwritten_key (record { service_id = c.args.self.now.service_id; loan = c.in_ok-loan.loan }) in
-    subst (λ (k : Kept g.row.T.Denot g.row.U.Denot g.row.F.Denot). LoanHasHeader (keeping (c.domain.inside.boxes).boxes c.loan.new.state) key (header_for k.config c.args.self.now.id c.args.len)) c.domain.view_is
+    subst (λ (k : Kept g.row.T.Denot g.row.U.Denot g.row.F.Denot g.row.G.Denot). LoanHasHeader (keeping (record { publishers = (c.domain.inside.boxes).boxes; subscribers = (c.domain.inside.subscriber_boxes).boxes }) c.loan.new.state) key (header_for k.config c.args.self.now.id c.args.len)) c.domain.view_is
     (ok-header {T = g.row.T.Denot} {U = g.row.U.Denot} g.U.Default.is_default c.args.checks_length c.args.len c.domain.inside.state c.loan.new.state c.find_live_publisher-place.result c.args.self.now.id c.loan.result
-    c.find_live_publisher-place.ensures c.loan.ensures.reaches (c.domain.inside.boxes).boxes c.in_ok-loan.loan c.in_ok-loan.was c.in_ok-loan.ensures.named key refl)
+    c.find_live_publisher-place.ensures c.loan.ensures.reaches (record { publishers = (c.domain.inside.boxes).boxes; subscribers = (c.domain.inside.subscriber_boxes).boxes }) c.in_ok-loan.loan c.in_ok-loan.was c.in_ok-loan.ensures.named key refl)
 
 pub returns-clause-number : goal.returns-clause-number
 returns-clause-number g c =
     ok-number {T = g.row.T.Denot} {U = g.row.U.Denot} g.U.Default.is_default c.args.checks_length c.args.len c.domain.inside.state c.loan.new.state c.find_live_publisher-place.result c.args.self.now.id c.loan.result
-    c.find_live_publisher-place.ensures c.loan.ensures.reaches c.in_ok-loan.loan c.in_ok-loan.ensures.named ∙ ap (λ (k : Kept g.row.T.Denot g.row.U.Denot g.row.F.Denot). k.next_message) c.domain.view_is
+    c.find_live_publisher-place.ensures c.loan.ensures.reaches c.in_ok-loan.loan c.in_ok-loan.ensures.named ∙ ap (λ (k : Kept g.row.T.Denot g.row.U.Denot g.row.F.Denot g.row.G.Denot). k.next_message) c.domain.view_is
 
 pub returns-clause-publisher : goal.returns-clause-publisher
 returns-clause-publisher g c =
@@ -85,13 +85,13 @@ returns-clause-stays g c =
 pub returns-clause-live : goal.returns-clause-live
 returns-clause-live g c = λ never. record {
   out = returns-clause-out g c;
-  never_waits = never-waits-alike (keeping (c.domain.inside.boxes).boxes c.loan.new.state) (publisher_key c.args.self.now) (unwritten_key (record { service_id = c.args.self.now.service_id; loan = c.in_ok-loan.loan }))
+  never_waits = never-waits-alike (keeping (record { publishers = (c.domain.inside.boxes).boxes; subscribers = (c.domain.inside.subscriber_boxes).boxes }) c.loan.new.state) (publisher_key c.args.self.now) (unwritten_key (record { service_id = c.args.self.now.service_id; loan = c.in_ok-loan.loan }))
       (returns-clause-publisher g c) ((returns-clause-stays g c).never_wait (publisher_key c.args.self.now) never);
 }
 
 pub returns-clause-unblocked : goal.returns-clause-unblocked
 returns-clause-unblocked g c =
-    unblocked-alike (keeping (c.domain.inside.boxes).boxes c.loan.new.state) (publisher_key c.args.self.now) (unwritten_key (record { service_id = c.args.self.now.service_id; loan = c.in_ok-loan.loan }))
+    unblocked-alike (keeping (record { publishers = (c.domain.inside.boxes).boxes; subscribers = (c.domain.inside.subscriber_boxes).boxes }) c.loan.new.state) (publisher_key c.args.self.now) (unwritten_key (record { service_id = c.args.self.now.service_id; loan = c.in_ok-loan.loan }))
     (returns-clause-publisher g c) ((returns-clause-stays g c).unblocked (publisher_key c.args.self.now) c.requires.ready.unblocked tt)
 
 pub find_live_publisher-place-requires : goal.find_live_publisher-place-requires
@@ -104,7 +104,7 @@ returns-clause-lender g c = ap (λ (p : ℕ). lender_key (record { service_id = 
 
 pub returns-clause-lent : goal.returns-clause-lent
 returns-clause-lent g c =
-    subst (IsPublisherKey (keeping (c.domain.inside.boxes).boxes c.loan.new.state)) (sym (returns-clause-lender g c)) ((returns-clause-stays g c).publishers (publisher_key c.args.self.now) c.requires.ready.there tt)
+    subst (IsPublisherKey (keeping (record { publishers = (c.domain.inside.boxes).boxes; subscribers = (c.domain.inside.subscriber_boxes).boxes }) c.loan.new.state)) (sym (returns-clause-lender g c)) ((returns-clause-stays g c).publishers (publisher_key c.args.self.now) c.requires.ready.there tt)
 
 pub returns-in_err-loan-clause-waits : goal.returns-in_err-loan-clause-waits
 returns-in_err-loan-clause-waits g c =
@@ -143,10 +143,10 @@ returns-clause-loans_left g c =
     loan-takes {T = g.row.T.Denot} {U = g.row.U.Denot} c.args.domain.now _ it.0 it.0 it.1 step.0 it.2 step.1 g.U.Default.is_default c.args.checks_length c.args.len c.args.self.now (Ok c.in_ok-loan.loan) step.2
 
 pub loan-requires-clause-unchecked : goal.loan-requires-clause-unchecked
-loan-requires-clause-unchecked g c = λ unchecked. ap (λ (k : Kept g.row.T.Denot g.row.U.Denot g.row.F.Denot). (k.config).variant) c.domain.view_is ∙ c.requires.unchecked unchecked
+loan-requires-clause-unchecked g c = λ unchecked. ap (λ (k : Kept g.row.T.Denot g.row.U.Denot g.row.F.Denot g.row.G.Denot). (k.config).variant) c.domain.view_is ∙ c.requires.unchecked unchecked
 
 pub loan-requires-clause-single : goal.loan-requires-clause-single
-loan-requires-clause-single g c = λ fixed. c.requires.single (sym (ap (λ (k : Kept g.row.T.Denot g.row.U.Denot g.row.F.Denot). (k.config).variant) c.domain.view_is) ∙ fixed)
+loan-requires-clause-single g c = λ fixed. c.requires.single (sym (ap (λ (k : Kept g.row.T.Denot g.row.U.Denot g.row.F.Denot g.row.G.Denot). (k.config).variant) c.domain.view_is) ∙ fixed)
 
 pub returns-in_err-loan-clause-refused : goal.returns-in_err-loan-clause-refused
 returns-in_err-loan-clause-refused g c =

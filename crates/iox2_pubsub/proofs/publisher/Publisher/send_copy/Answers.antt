@@ -41,6 +41,7 @@ returns-clause-sends g c = λ m s shown.
     let there = c.requires.ready.there in
     let still = c.in_ok-loan.ensures.stays.publishers key there tt in
     let boxed = c.write_payload.ensures.stays.boxes key still tt ∙ c.in_ok-loan.ensures.stays.boxes key there tt in
+    let degrading = c.write_payload.ensures.stays.degradation_boxes key still tt ∙ c.in_ok-loan.ensures.stays.degradation_boxes key there tt in
     let lender =
     written-lender _ c.write_payload.result c.write_payload.ensures.out m mid wrote.2 (written wrote.0 c.args.value) (ap mid.loans same ∙ out)
     ∙ ap (λ (k : Key). k.port) c.write_payload.ensures.key ∙ c.in_ok-loan.ensures.publisher in (
@@ -48,9 +49,9 @@ returns-clause-sends g c = λ m s shown.
       sent.0,
       sent.1,
       copy-sent s lends.0 c.args.self.now.id c.in_ok-loan.loan.loan.number next wrote.0 wrote.1 c.args.value (lends.2).0 (lends.2).2
-          (answers_of g.F.BackpressureFn.allows c.args.domain.now.boxes) g.U.Default.is_default (lends.2).1 m c.write_payload.result.loan.number same c.send.result
+          (answers_of g.F.BackpressureFn.allows g.G.DegradationFn.allows c.args.domain.now.boxes.publishers) g.U.Default.is_default (lends.2).1 m c.write_payload.result.loan.number same c.send.result
           (fails-there _ (written_key c.write_payload.result) (c.write_payload.ensures.lent c.in_ok-loan.ensures.lent) c.send.result c.send.ensures.errors) sent.0
-          (sends-kept g.F.BackpressureFn.allows c.args.domain.now _ c.args.self.now.id boxed mid c.write_payload.result.loan.number (written wrote.0 c.args.value) c.send.result sent.0 lender sent.2),
+          (sends-kept g.F.BackpressureFn.allows g.G.DegradationFn.allows c.args.domain.now _ c.args.self.now.id boxed degrading mid c.write_payload.result.loan.number (written wrote.0 c.args.value) c.send.result sent.0 lender sent.2),
     )
 
 pub send-requires-clause-unblocked : goal.send-requires-clause-unblocked

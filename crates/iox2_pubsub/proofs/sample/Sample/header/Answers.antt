@@ -10,24 +10,24 @@ use Rattle.iox2_pubsub.proofs.sample.Sample.header.Goals as goal
 
 pub sample_header-requires-clause-live : goal.sample_header-requires-clause-live
 sample_header-requires-clause-live g c =
-    subst (λ (k : Kept g.row.T.Denot g.row.U.Denot g.row.F.Denot). HoldsSample (state_of k) c.args.self.now.sample.subscriber c.args.self.now.sample.number) (sym c.domain.view_is) (sample-parts c.args.domain.now _ c.requires.live).1
+    subst (λ (k : Kept g.row.T.Denot g.row.U.Denot g.row.F.Denot g.row.G.Denot). HoldsSample (state_of k) c.args.self.now.sample.subscriber c.args.self.now.sample.number) (sym c.domain.view_is) (sample-parts c.args.domain.now _ c.requires.live).1
 
 pub returns-clause-header : goal.returns-clause-header
 returns-clause-header g c = λ m s shown.
     let read = c.sample_header.ensures in
-    (read.0, shown.entries c.args.self.now.sample.number read.0 (ap (λ (k : Kept g.row.T.Denot g.row.U.Denot g.row.F.Denot). entries_of k c.args.self.now.sample.number) (sym c.domain.view_is) ∙ read.1), read.2)
+    (read.0, shown.entries c.args.self.now.sample.number read.0 (ap (λ (k : Kept g.row.T.Denot g.row.U.Denot g.row.F.Denot g.row.G.Denot). entries_of k c.args.self.now.sample.number) (sym c.domain.view_is) ∙ read.1), read.2)
 
 pub returns-clause-origin : goal.returns-clause-origin
 returns-clause-origin g c = λ from.
     entry-origin c.domain.inside.state c.domain.invariant c.args.self.now.sample.subscriber c.args.self.now.origin c.args.self.now.sample.number c.sample_header.result.now
-    (subst (λ (k : Kept g.row.T.Denot g.row.U.Denot g.row.F.Denot). IsTrue (is_borrowed c.args.self.now.sample.number ((state_of k).mailboxes c.args.self.now.origin c.args.self.now.sample.subscriber))) (sym c.domain.view_is) (origin-parts c.args.domain.now c.args.self.now from))
+    (subst (λ (k : Kept g.row.T.Denot g.row.U.Denot g.row.F.Denot g.row.G.Denot). IsTrue (is_borrowed c.args.self.now.sample.number ((state_of k).mailboxes c.args.self.now.origin c.args.self.now.sample.subscriber))) (sym c.domain.view_is) (origin-parts c.args.domain.now c.args.self.now from))
     c.sample_header.ensures
 
 pub returns-clause-reads : goal.returns-clause-reads
 returns-clause-reads g c =
     let read = c.sample_header.ensures in
     sample-header {T = g.row.T.Denot} {U = g.row.U.Denot} c.args.domain.now (sample_key c.args.self.now) c.sample_header.result.now
-    (read.0, ap (λ (k : Kept g.row.T.Denot g.row.U.Denot g.row.F.Denot). entries_of k c.args.self.now.sample.number) (sym c.domain.view_is) ∙ read.1, read.2)
+    (read.0, ap (λ (k : Kept g.row.T.Denot g.row.U.Denot g.row.F.Denot g.row.G.Denot). entries_of k c.args.self.now.sample.number) (sym c.domain.view_is) ∙ read.1, read.2)
 
 pub returns-clause-same : goal.returns-clause-same
 returns-clause-same g c = λ header has.

@@ -6,26 +6,26 @@ use Rattle.iox2_pubsub.proofs.sample.Sample.payload.Goals as goal
 
 pub sample_payload-requires-clause-live : goal.sample_payload-requires-clause-live
 sample_payload-requires-clause-live g c =
-    subst (λ (k : Kept g.row.T.Denot g.row.U.Denot g.row.F.Denot). HoldsSample (state_of k) c.args.self.now.sample.subscriber c.args.self.now.sample.number) (sym c.domain.view_is) (sample-parts c.args.domain.now _ c.requires.live).1
+    subst (λ (k : Kept g.row.T.Denot g.row.U.Denot g.row.F.Denot g.row.G.Denot). HoldsSample (state_of k) c.args.self.now.sample.subscriber c.args.self.now.sample.number) (sym c.domain.view_is) (sample-parts c.args.domain.now _ c.requires.live).1
 
 pub returns-clause-entry : goal.returns-clause-entry
 returns-clause-entry g c = λ m s shown.
     let read = c.sample_payload.ensures in
-    (read.0, shown.entries c.args.self.now.sample.number read.0 (ap (λ (k : Kept g.row.T.Denot g.row.U.Denot g.row.F.Denot). entries_of k c.args.self.now.sample.number) (sym c.domain.view_is) ∙ read.1), read.2)
+    (read.0, shown.entries c.args.self.now.sample.number read.0 (ap (λ (k : Kept g.row.T.Denot g.row.U.Denot g.row.F.Denot g.row.G.Denot). entries_of k c.args.self.now.sample.number) (sym c.domain.view_is) ∙ read.1), read.2)
 
 pub sample_payload-requires-clause-single : goal.sample_payload-requires-clause-single
 sample_payload-requires-clause-single g c =
-    ap (λ (k : Kept g.row.T.Denot g.row.U.Denot g.row.F.Denot). (k.config).units_per_element) c.domain.view_is ∙ (single-parts c.args.domain.now c.requires.single_valued).1
+    ap (λ (k : Kept g.row.T.Denot g.row.U.Denot g.row.F.Denot g.row.G.Denot). (k.config).units_per_element) c.domain.view_is ∙ (single-parts c.args.domain.now c.requires.single_valued).1
 
 pub returns-clause-reads : goal.returns-clause-reads
 returns-clause-reads g c =
     let read = c.sample_payload.ensures in
     sample-reads {T = g.row.T.Denot} {U = g.row.U.Denot} c.args.domain.now c.args.self.now c.sample_payload.result.now read.0
-    (ap (λ (k : Kept g.row.T.Denot g.row.U.Denot g.row.F.Denot). entries_of k c.args.self.now.sample.number) (sym c.domain.view_is) ∙ read.1) read.2
+    (ap (λ (k : Kept g.row.T.Denot g.row.U.Denot g.row.F.Denot g.row.G.Denot). entries_of k c.args.self.now.sample.number) (sym c.domain.view_is) ∙ read.1) read.2
 
 pub returns-clause-same : goal.returns-clause-same
 returns-clause-same g c = λ value reads. sample-reads-one {T = g.row.T.Denot} {U = g.row.U.Denot} c.args.domain.now c.args.self.now c.sample_payload.result.now value (returns-clause-reads g c) reads
 
 pub sample_payload-requires-clause-fixed_size : goal.sample_payload-requires-clause-fixed_size
 sample_payload-requires-clause-fixed_size g c =
-    ap (λ (k : Kept g.row.T.Denot g.row.U.Denot g.row.F.Denot). (k.config).variant) c.domain.view_is ∙ (single-parts c.args.domain.now c.requires.single_valued).0
+    ap (λ (k : Kept g.row.T.Denot g.row.U.Denot g.row.F.Denot g.row.G.Denot). (k.config).variant) c.domain.view_is ∙ (single-parts c.args.domain.now c.requires.single_valued).0

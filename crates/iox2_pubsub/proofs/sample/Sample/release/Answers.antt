@@ -14,7 +14,7 @@ use Rattle.iox2_pubsub.proofs.sample.Sample.release.Goals as goal
 
 pub give_back-requires-clause-live : goal.give_back-requires-clause-live
 give_back-requires-clause-live g c =
-    subst (λ (k : Kept g.row.T.Denot g.row.U.Denot g.row.F.Denot). HoldsSample (state_of k) c.args.self.sample.subscriber c.args.self.sample.number) (sym c.domain.view_is) (sample-parts c.args.domain.now _ c.requires.live).1
+    subst (λ (k : Kept g.row.T.Denot g.row.U.Denot g.row.F.Denot g.row.G.Denot). HoldsSample (state_of k) c.args.self.sample.subscriber c.args.self.sample.number) (sym c.domain.view_is) (sample-parts c.args.domain.now _ c.requires.live).1
 
 pub returns-clause-released : goal.returns-clause-released
 returns-clause-released g c =

@@ -20,7 +20,7 @@ returns-clause-header g c =
 pub returns-clause-reads : goal.returns-clause-reads
 returns-clause-reads g c =
     loan-user-header {T = g.row.T.Denot} {U = g.row.U.Denot} c.args.domain.now (written_key c.args.self.now) c.loan_user_header.result.now
-    (subst (λ (k : Kept g.row.T.Denot g.row.U.Denot g.row.F.Denot). HasLoanUserHeader (state_of k) c.args.self.now.loan.number c.loan_user_header.result.now) c.domain.view_is c.loan_user_header.ensures)
+    (subst (λ (k : Kept g.row.T.Denot g.row.U.Denot g.row.F.Denot g.row.G.Denot). HasLoanUserHeader (state_of k) c.args.self.now.loan.number c.loan_user_header.result.now) c.domain.view_is c.loan_user_header.ensures)
 
 pub returns-clause-same : goal.returns-clause-same
 returns-clause-same g c = λ header has.

@@ -24,7 +24,7 @@ returns g c =
       record {
         writes_back = tt;
         same = refl;
-        user_header = loan-user-header c.args.domain.now (written_key c.args.sample.now) c.user_header_at_mut.result.now (subst (λ (k : Kept g.row.T.Denot g.row.U.Denot g.row.F.Denot). HasLoanUserHeader (state_of k) c.args.sample.now.loan.number c.user_header_at_mut.result.now) c.domain.view_is known);
+        user_header = loan-user-header c.args.domain.now (written_key c.args.sample.now) c.user_header_at_mut.result.now (subst (λ (k : Kept g.row.T.Denot g.row.U.Denot g.row.F.Denot g.row.G.Denot). HasLoanUserHeader (state_of k) c.args.sample.now.loan.number c.user_header_at_mut.result.now) c.domain.view_is known);
         changes = λ m s w shown. lent-shown {T = g.row.T.Denot} {U = g.row.U.Denot} c.domain.inside.state _ c.domain.invariant c.args.domain.now c.domain.view_is c.args.sample.now.loan.number (c.find_live_loan-at.ensures).loan (c.find_live_loan-at.ensures).is_out (user_header_changed w) (header-lends {T = g.row.T.Denot} {U = g.row.U.Denot} c.domain.inside.state c.domain.invariant c.args.sample.now.loan.publisher c.args.sample.now.loan.number c.find_live_loan-at.result.book c.find_live_loan-at.result.slot c.find_live_loan-at.ensures w) (with_user_header c.args.domain.now c.args.sample.now.loan.number w) (user_header-word c.args.domain.now c.args.sample.now.loan.number w) m s shown;
         out = λ w. lent-written {T = g.row.T.Denot} {U = g.row.U.Denot} c.domain.inside.state _ c.domain.invariant c.args.domain.now c.domain.view_is c.args.sample.now.loan.number (c.find_live_loan-at.ensures).loan (c.find_live_loan-at.ensures).is_out (user_header_changed w) (header-lends {T = g.row.T.Denot} {U = g.row.U.Denot} c.domain.inside.state c.domain.invariant c.args.sample.now.loan.publisher c.args.sample.now.loan.number c.find_live_loan-at.result.book c.find_live_loan-at.result.slot c.find_live_loan-at.ensures w) (with_user_header c.args.domain.now c.args.sample.now.loan.number w) (user_header-word c.args.domain.now c.args.sample.now.loan.number w) refl refl c.args.sample.now refl c.requires.live;
         live = λ never w. lent-written-loan {T = g.row.T.Denot} {U = g.row.U.Denot} c.domain.inside.state _ c.domain.invariant c.args.domain.now c.domain.view_is c.args.sample.now.loan.number (c.find_live_loan-at.ensures).loan (c.find_live_loan-at.ensures).is_out (user_header_changed w) (header-lends {T = g.row.T.Denot} {U = g.row.U.Denot} c.domain.inside.state c.domain.invariant c.args.sample.now.loan.publisher c.args.sample.now.loan.number c.find_live_loan-at.result.book c.find_live_loan-at.result.slot c.find_live_loan-at.ensures w) (with_user_header c.args.domain.now c.args.sample.now.loan.number w) (user_header-word c.args.domain.now c.args.sample.now.loan.number w) refl refl c.args.sample.now refl c.requires.live never;

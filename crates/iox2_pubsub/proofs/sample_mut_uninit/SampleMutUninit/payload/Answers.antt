@@ -18,16 +18,16 @@ returns-clause-cell g c =
 
 pub loan_cell-requires-clause-single : goal.loan_cell-requires-clause-single
 loan_cell-requires-clause-single g c =
-    ap (λ (k : Kept g.row.T.Denot g.row.U.Denot g.row.F.Denot). (k.config).units_per_element) c.domain.view_is ∙ (single-parts c.args.domain.now c.requires.single_valued).1
+    ap (λ (k : Kept g.row.T.Denot g.row.U.Denot g.row.F.Denot g.row.G.Denot). (k.config).units_per_element) c.domain.view_is ∙ (single-parts c.args.domain.now c.requires.single_valued).1
 
 pub returns-clause-reads : goal.returns-clause-reads
 returns-clause-reads g c =
     unwritten-reads {T = g.row.T.Denot} {U = g.row.U.Denot} c.args.domain.now c.args.self.now c.loan_cell.result.now
-    (subst (λ (k : Kept g.row.T.Denot g.row.U.Denot g.row.F.Denot). HasCell (state_of k) c.args.self.now.loan.number c.loan_cell.result.now) c.domain.view_is c.loan_cell.ensures)
+    (subst (λ (k : Kept g.row.T.Denot g.row.U.Denot g.row.F.Denot g.row.G.Denot). HasCell (state_of k) c.args.self.now.loan.number c.loan_cell.result.now) c.domain.view_is c.loan_cell.ensures)
 
 pub returns-clause-same : goal.returns-clause-same
 returns-clause-same g c = λ cell reads. unwritten-reads-one {T = g.row.T.Denot} {U = g.row.U.Denot} c.args.domain.now c.args.self.now c.loan_cell.result.now cell (returns-clause-reads g c) reads
 
 pub loan_cell-requires-clause-fixed_size : goal.loan_cell-requires-clause-fixed_size
 loan_cell-requires-clause-fixed_size g c =
-    ap (λ (k : Kept g.row.T.Denot g.row.U.Denot g.row.F.Denot). (k.config).variant) c.domain.view_is ∙ (single-parts c.args.domain.now c.requires.single_valued).0
+    ap (λ (k : Kept g.row.T.Denot g.row.U.Denot g.row.F.Denot g.row.G.Denot). (k.config).variant) c.domain.view_is ∙ (single-parts c.args.domain.now c.requires.single_valued).0

@@ -13,23 +13,23 @@ pub find_live_loan-at-requires-clause-live : goal.find_live_loan-at-requires-cla
 find_live_loan-at-requires-clause-live g c = loan-out {T = g.row.T.Denot} {U = g.row.U.Denot} _ c.args.domain.now c.domain.view_is _ c.requires.live.live
 
 pub cell_at_mut-requires : goal.cell_at_mut-requires
-cell_at_mut-requires g c = cell-there {T = g.row.T.Denot} {U = g.row.U.Denot} c.domain.inside.state c.domain.invariant c.args.sample.now.loan.publisher c.args.sample.now.loan.number c.find_live_loan-at.result.book c.find_live_loan-at.result.slot c.find_live_loan-at.ensures (unwritten-out {T = g.row.T.Denot} {U = g.row.U.Denot} _ c.args.domain.now c.domain.view_is c.args.sample.now c.requires.live) (one-cell {T = g.row.T.Denot} {U = g.row.U.Denot} c.domain.inside.state c.domain.invariant c.args.sample.now.loan.publisher c.args.sample.now.loan.number c.find_live_loan-at.result.book c.find_live_loan-at.result.slot c.find_live_loan-at.ensures (ap (λ (k : Kept g.row.T.Denot g.row.U.Denot g.row.F.Denot). (k.config).variant) c.domain.view_is ∙ (single-parts c.args.domain.now c.requires.single_valued).0) (ap (λ (k : Kept g.row.T.Denot g.row.U.Denot g.row.F.Denot). (k.config).units_per_element) c.domain.view_is ∙ (single-parts c.args.domain.now c.requires.single_valued).1))
+cell_at_mut-requires g c = cell-there {T = g.row.T.Denot} {U = g.row.U.Denot} c.domain.inside.state c.domain.invariant c.args.sample.now.loan.publisher c.args.sample.now.loan.number c.find_live_loan-at.result.book c.find_live_loan-at.result.slot c.find_live_loan-at.ensures (unwritten-out {T = g.row.T.Denot} {U = g.row.U.Denot} _ c.args.domain.now c.domain.view_is c.args.sample.now c.requires.live) (one-cell {T = g.row.T.Denot} {U = g.row.U.Denot} c.domain.inside.state c.domain.invariant c.args.sample.now.loan.publisher c.args.sample.now.loan.number c.find_live_loan-at.result.book c.find_live_loan-at.result.slot c.find_live_loan-at.ensures (ap (λ (k : Kept g.row.T.Denot g.row.U.Denot g.row.F.Denot g.row.G.Denot). (k.config).variant) c.domain.view_is ∙ (single-parts c.args.domain.now c.requires.single_valued).0) (ap (λ (k : Kept g.row.T.Denot g.row.U.Denot g.row.F.Denot g.row.G.Denot). (k.config).units_per_element) c.domain.view_is ∙ (single-parts c.args.domain.now c.requires.single_valued).1))
 
 pub invariant_of-domain-lent : goal.invariant_of-domain-lent
 invariant_of-domain-lent g c = λ w. (cell-lends {T = g.row.T.Denot} {U = g.row.U.Denot} c.domain.inside.state c.domain.invariant c.args.sample.now.loan.publisher c.args.sample.now.loan.number c.find_live_loan-at.result.book c.find_live_loan-at.result.slot c.find_live_loan-at.ensures (unwritten-out {T = g.row.T.Denot} {U = g.row.U.Denot} _ c.args.domain.now c.domain.view_is c.args.sample.now c.requires.live) w).agrees
 
 pub returns : goal.returns
 returns g c =
-    let known = cell-known {T = g.row.T.Denot} {U = g.row.U.Denot} c.domain.inside.state c.domain.invariant c.args.sample.now.loan.publisher c.args.sample.now.loan.number c.find_live_loan-at.result.book c.find_live_loan-at.result.slot c.find_live_loan-at.ensures (unwritten-out {T = g.row.T.Denot} {U = g.row.U.Denot} _ c.args.domain.now c.domain.view_is c.args.sample.now c.requires.live) (one-cell {T = g.row.T.Denot} {U = g.row.U.Denot} c.domain.inside.state c.domain.invariant c.args.sample.now.loan.publisher c.args.sample.now.loan.number c.find_live_loan-at.result.book c.find_live_loan-at.result.slot c.find_live_loan-at.ensures (ap (λ (k : Kept g.row.T.Denot g.row.U.Denot g.row.F.Denot). (k.config).variant) c.domain.view_is ∙ (single-parts c.args.domain.now c.requires.single_valued).0) (ap (λ (k : Kept g.row.T.Denot g.row.U.Denot g.row.F.Denot). (k.config).units_per_element) c.domain.view_is ∙ (single-parts c.args.domain.now c.requires.single_valued).1)) _ c.cell_at_mut.ensures.value in (
+    let known = cell-known {T = g.row.T.Denot} {U = g.row.U.Denot} c.domain.inside.state c.domain.invariant c.args.sample.now.loan.publisher c.args.sample.now.loan.number c.find_live_loan-at.result.book c.find_live_loan-at.result.slot c.find_live_loan-at.ensures (unwritten-out {T = g.row.T.Denot} {U = g.row.U.Denot} _ c.args.domain.now c.domain.view_is c.args.sample.now c.requires.live) (one-cell {T = g.row.T.Denot} {U = g.row.U.Denot} c.domain.inside.state c.domain.invariant c.args.sample.now.loan.publisher c.args.sample.now.loan.number c.find_live_loan-at.result.book c.find_live_loan-at.result.slot c.find_live_loan-at.ensures (ap (λ (k : Kept g.row.T.Denot g.row.U.Denot g.row.F.Denot g.row.G.Denot). (k.config).variant) c.domain.view_is ∙ (single-parts c.args.domain.now c.requires.single_valued).0) (ap (λ (k : Kept g.row.T.Denot g.row.U.Denot g.row.F.Denot g.row.G.Denot). (k.config).units_per_element) c.domain.view_is ∙ (single-parts c.args.domain.now c.requires.single_valued).1)) _ c.cell_at_mut.ensures.value in (
       (refl, λ w. lent-is {T = g.row.T.Denot} {U = g.row.U.Denot} c.domain.inside.state _ c.domain.invariant c.args.domain.now c.domain.view_is c.args.sample.now.loan.number (c.find_live_loan-at.ensures).loan (c.find_live_loan-at.ensures).is_out (first_cell_changed w) (cell-lends {T = g.row.T.Denot} {U = g.row.U.Denot} c.domain.inside.state c.domain.invariant c.args.sample.now.loan.publisher c.args.sample.now.loan.number c.find_live_loan-at.result.book c.find_live_loan-at.result.slot c.find_live_loan-at.ensures (unwritten-out {T = g.row.T.Denot} {U = g.row.U.Denot} _ c.args.domain.now c.domain.view_is c.args.sample.now c.requires.live) w) (with_cell c.args.domain.now c.args.sample.now.loan.number w) (cell-word c.args.domain.now c.args.sample.now.loan.number w)),
       record {
         writes_back = tt;
         same = refl;
-        payload = unwritten-reads c.args.domain.now c.args.sample.now c.cell_at_mut.result.now (subst (λ (k : Kept g.row.T.Denot g.row.U.Denot g.row.F.Denot). HasCell (state_of k) c.args.sample.now.loan.number c.cell_at_mut.result.now) c.domain.view_is known);
+        payload = unwritten-reads c.args.domain.now c.args.sample.now c.cell_at_mut.result.now (subst (λ (k : Kept g.row.T.Denot g.row.U.Denot g.row.F.Denot g.row.G.Denot). HasCell (state_of k) c.args.sample.now.loan.number c.cell_at_mut.result.now) c.domain.view_is known);
         changes = λ m s w shown. lent-shown {T = g.row.T.Denot} {U = g.row.U.Denot} c.domain.inside.state _ c.domain.invariant c.args.domain.now c.domain.view_is c.args.sample.now.loan.number (c.find_live_loan-at.ensures).loan (c.find_live_loan-at.ensures).is_out (first_cell_changed w) (cell-lends {T = g.row.T.Denot} {U = g.row.U.Denot} c.domain.inside.state c.domain.invariant c.args.sample.now.loan.publisher c.args.sample.now.loan.number c.find_live_loan-at.result.book c.find_live_loan-at.result.slot c.find_live_loan-at.ensures (unwritten-out {T = g.row.T.Denot} {U = g.row.U.Denot} _ c.args.domain.now c.domain.view_is c.args.sample.now c.requires.live) w) (with_cell c.args.domain.now c.args.sample.now.loan.number w) (cell-word c.args.domain.now c.args.sample.now.loan.number w) m s shown;
         out = λ w. lent-unwritten {T = g.row.T.Denot} {U = g.row.U.Denot} c.domain.inside.state _ c.domain.invariant c.args.domain.now c.domain.view_is c.args.sample.now.loan.number (c.find_live_loan-at.ensures).loan (c.find_live_loan-at.ensures).is_out (first_cell_changed w) (cell-lends {T = g.row.T.Denot} {U = g.row.U.Denot} c.domain.inside.state c.domain.invariant c.args.sample.now.loan.publisher c.args.sample.now.loan.number c.find_live_loan-at.result.book c.find_live_loan-at.result.slot c.find_live_loan-at.ensures (unwritten-out {T = g.row.T.Denot} {U = g.row.U.Denot} _ c.args.domain.now c.domain.view_is c.args.sample.now c.requires.live) w) (with_cell c.args.domain.now c.args.sample.now.loan.number w) (cell-word c.args.domain.now c.args.sample.now.loan.number w) refl refl c.args.sample.now refl c.requires.live;
         live = λ never w. lent-unwritten-loan {T = g.row.T.Denot} {U = g.row.U.Denot} c.domain.inside.state _ c.domain.invariant c.args.domain.now c.domain.view_is c.args.sample.now.loan.number (c.find_live_loan-at.ensures).loan (c.find_live_loan-at.ensures).is_out (first_cell_changed w) (cell-lends {T = g.row.T.Denot} {U = g.row.U.Denot} c.domain.inside.state c.domain.invariant c.args.sample.now.loan.publisher c.args.sample.now.loan.number c.find_live_loan-at.result.book c.find_live_loan-at.result.slot c.find_live_loan-at.ensures (unwritten-out {T = g.row.T.Denot} {U = g.row.U.Denot} _ c.args.domain.now c.domain.view_is c.args.sample.now c.requires.live) w) (with_cell c.args.domain.now c.args.sample.now.loan.number w) (cell-word c.args.domain.now c.args.sample.now.loan.number w) refl refl c.args.sample.now refl c.requires.live never;
-        reads = λ w. lent-cells {T = g.row.T.Denot} {U = g.row.U.Denot} c.domain.inside.state _ c.domain.invariant c.args.domain.now c.domain.view_is c.args.sample.now.loan.number (c.find_live_loan-at.ensures).loan (c.find_live_loan-at.ensures).is_out (first_cell_changed w) (cell-lends {T = g.row.T.Denot} {U = g.row.U.Denot} c.domain.inside.state c.domain.invariant c.args.sample.now.loan.publisher c.args.sample.now.loan.number c.find_live_loan-at.result.book c.find_live_loan-at.result.slot c.find_live_loan-at.ensures (unwritten-out {T = g.row.T.Denot} {U = g.row.U.Denot} _ c.args.domain.now c.domain.view_is c.args.sample.now c.requires.live) w) (with_cell c.args.domain.now c.args.sample.now.loan.number w) (cell-word c.args.domain.now c.args.sample.now.loan.number w) c.args.sample.now.loan.number (w ∷ []) refl (one-changed _ w (one-cell {T = g.row.T.Denot} {U = g.row.U.Denot} c.domain.inside.state c.domain.invariant c.args.sample.now.loan.publisher c.args.sample.now.loan.number c.find_live_loan-at.result.book c.find_live_loan-at.result.slot c.find_live_loan-at.ensures (ap (λ (k : Kept g.row.T.Denot g.row.U.Denot g.row.F.Denot). (k.config).variant) c.domain.view_is ∙ (single-parts c.args.domain.now c.requires.single_valued).0) (ap (λ (k : Kept g.row.T.Denot g.row.U.Denot g.row.F.Denot). (k.config).units_per_element) c.domain.view_is ∙ (single-parts c.args.domain.now c.requires.single_valued).1)));
+        reads = λ w. lent-cells {T = g.row.T.Denot} {U = g.row.U.Denot} c.domain.inside.state _ c.domain.invariant c.args.domain.now c.domain.view_is c.args.sample.now.loan.number (c.find_live_loan-at.ensures).loan (c.find_live_loan-at.ensures).is_out (first_cell_changed w) (cell-lends {T = g.row.T.Denot} {U = g.row.U.Denot} c.domain.inside.state c.domain.invariant c.args.sample.now.loan.publisher c.args.sample.now.loan.number c.find_live_loan-at.result.book c.find_live_loan-at.result.slot c.find_live_loan-at.ensures (unwritten-out {T = g.row.T.Denot} {U = g.row.U.Denot} _ c.args.domain.now c.domain.view_is c.args.sample.now c.requires.live) w) (with_cell c.args.domain.now c.args.sample.now.loan.number w) (cell-word c.args.domain.now c.args.sample.now.loan.number w) c.args.sample.now.loan.number (w ∷ []) refl (one-changed _ w (one-cell {T = g.row.T.Denot} {U = g.row.U.Denot} c.domain.inside.state c.domain.invariant c.args.sample.now.loan.publisher c.args.sample.now.loan.number c.find_live_loan-at.result.book c.find_live_loan-at.result.slot c.find_live_loan-at.ensures (ap (λ (k : Kept g.row.T.Denot g.row.U.Denot g.row.F.Denot g.row.G.Denot). (k.config).variant) c.domain.view_is ∙ (single-parts c.args.domain.now c.requires.single_valued).0) (ap (λ (k : Kept g.row.T.Denot g.row.U.Denot g.row.F.Denot g.row.G.Denot). (k.config).units_per_element) c.domain.view_is ∙ (single-parts c.args.domain.now c.requires.single_valued).1)));
         header = λ w header. lent-same-header {T = g.row.T.Denot} {U = g.row.U.Denot} c.domain.inside.state _ c.domain.invariant c.args.domain.now c.domain.view_is c.args.sample.now.loan.number (c.find_live_loan-at.ensures).loan (c.find_live_loan-at.ensures).is_out (first_cell_changed w) (cell-lends {T = g.row.T.Denot} {U = g.row.U.Denot} c.domain.inside.state c.domain.invariant c.args.sample.now.loan.publisher c.args.sample.now.loan.number c.find_live_loan-at.result.book c.find_live_loan-at.result.slot c.find_live_loan-at.ensures (unwritten-out {T = g.row.T.Denot} {U = g.row.U.Denot} _ c.args.domain.now c.domain.view_is c.args.sample.now c.requires.live) w) (with_cell c.args.domain.now c.args.sample.now.loan.number w) (cell-word c.args.domain.now c.args.sample.now.loan.number w) refl (unwritten_key c.args.sample.now) refl header;
         user_header = λ w header. lent-same-user-header {T = g.row.T.Denot} {U = g.row.U.Denot} c.domain.inside.state _ c.domain.invariant c.args.domain.now c.domain.view_is c.args.sample.now.loan.number (c.find_live_loan-at.ensures).loan (c.find_live_loan-at.ensures).is_out (first_cell_changed w) (cell-lends {T = g.row.T.Denot} {U = g.row.U.Denot} c.domain.inside.state c.domain.invariant c.args.sample.now.loan.publisher c.args.sample.now.loan.number c.find_live_loan-at.result.book c.find_live_loan-at.result.slot c.find_live_loan-at.ensures (unwritten-out {T = g.row.T.Denot} {U = g.row.U.Denot} _ c.args.domain.now c.domain.view_is c.args.sample.now c.requires.live) w) (with_cell c.args.domain.now c.args.sample.now.loan.number w) (cell-word c.args.domain.now c.args.sample.now.loan.number w) refl (unwritten_key c.args.sample.now) refl header;
         waits = λ w. lent-waits {T = g.row.T.Denot} {U = g.row.U.Denot} c.domain.inside.state _ c.domain.invariant c.args.domain.now c.domain.view_is c.args.sample.now.loan.number (c.find_live_loan-at.ensures).loan (c.find_live_loan-at.ensures).is_out (first_cell_changed w) (cell-lends {T = g.row.T.Denot} {U = g.row.U.Denot} c.domain.inside.state c.domain.invariant c.args.sample.now.loan.publisher c.args.sample.now.loan.number c.find_live_loan-at.result.book c.find_live_loan-at.result.slot c.find_live_loan-at.ensures (unwritten-out {T = g.row.T.Denot} {U = g.row.U.Denot} _ c.args.domain.now c.domain.view_is c.args.sample.now c.requires.live) w) (with_cell c.args.domain.now c.args.sample.now.loan.number w) (cell-word c.args.domain.now c.args.sample.now.loan.number w);

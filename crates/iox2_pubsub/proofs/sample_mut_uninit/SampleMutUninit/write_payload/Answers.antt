@@ -38,22 +38,22 @@ returns-clause-stays g c =
 pub returns-clause-live : goal.returns-clause-live
 returns-clause-live g c = λ never. record {
   out = returns-clause-out g c;
-  never_waits = never-waits-alike (keeping (c.domain.inside.boxes).boxes c.write_loan.new.state) (unwritten_key c.args.self) (written_key (record { service_id = c.args.self.service_id; loan = c.write_loan.result }))
+  never_waits = never-waits-alike (keeping (record { publishers = (c.domain.inside.boxes).boxes; subscribers = (c.domain.inside.subscriber_boxes).boxes }) c.write_loan.new.state) (unwritten_key c.args.self) (written_key (record { service_id = c.args.self.service_id; loan = c.write_loan.result }))
       (ap (λ (at : LoanAt). at.publisher) c.write_loan.ensures.same) ((returns-clause-stays g c).never_wait (unwritten_key c.args.self) never);
 }
 
 pub returns-clause-unblocked : goal.returns-clause-unblocked
 returns-clause-unblocked g c = λ free.
-    unblocked-alike (keeping (c.domain.inside.boxes).boxes c.write_loan.new.state) (unwritten_key c.args.self) (written_key (record { service_id = c.args.self.service_id; loan = c.write_loan.result }))
+    unblocked-alike (keeping (record { publishers = (c.domain.inside.boxes).boxes; subscribers = (c.domain.inside.subscriber_boxes).boxes }) c.write_loan.new.state) (unwritten_key c.args.self) (written_key (record { service_id = c.args.self.service_id; loan = c.write_loan.result }))
     (ap (λ (at : LoanAt). at.publisher) c.write_loan.ensures.same) ((returns-clause-stays g c).unblocked (unwritten_key c.args.self) free tt)
 
 pub write_loan-requires-clause-single : goal.write_loan-requires-clause-single
 write_loan-requires-clause-single g c =
-    ap (λ (k : Kept g.row.T.Denot g.row.U.Denot g.row.F.Denot). (k.config).units_per_element) c.domain.view_is ∙ (single-parts c.args.domain.now c.requires.single_valued).1
+    ap (λ (k : Kept g.row.T.Denot g.row.U.Denot g.row.F.Denot g.row.G.Denot). (k.config).units_per_element) c.domain.view_is ∙ (single-parts c.args.domain.now c.requires.single_valued).1
 
 pub write_loan-requires-clause-fixed_size : goal.write_loan-requires-clause-fixed_size
 write_loan-requires-clause-fixed_size g c =
-    ap (λ (k : Kept g.row.T.Denot g.row.U.Denot g.row.F.Denot). (k.config).variant) c.domain.view_is ∙ (single-parts c.args.domain.now c.requires.single_valued).0
+    ap (λ (k : Kept g.row.T.Denot g.row.U.Denot g.row.F.Denot g.row.G.Denot). (k.config).variant) c.domain.view_is ∙ (single-parts c.args.domain.now c.requires.single_valued).0
 
 pub returns-clause-reads : goal.returns-clause-reads
 returns-clause-reads g c =
@@ -74,7 +74,7 @@ returns-clause-user_header g c = λ header.
 
 pub returns-clause-lent : goal.returns-clause-lent
 returns-clause-lent g c = λ lent.
-    subst (λ (p : ℕ). IsPublisherKey (keeping (c.domain.inside.boxes).boxes c.write_loan.new.state) (record { service_id = c.args.self.service_id; port = p; message = 0 })) (sym (ap (λ (at : LoanAt). at.publisher) c.write_loan.ensures.same))
+    subst (λ (p : ℕ). IsPublisherKey (keeping (record { publishers = (c.domain.inside.boxes).boxes; subscribers = (c.domain.inside.subscriber_boxes).boxes }) c.write_loan.new.state) (record { service_id = c.args.self.service_id; port = p; message = 0 })) (sym (ap (λ (at : LoanAt). at.publisher) c.write_loan.ensures.same))
     ((returns-clause-stays g c).publishers (lender_key (unwritten_key c.args.self)) lent tt)
 
 pub returns-clause-waits : goal.returns-clause-waits

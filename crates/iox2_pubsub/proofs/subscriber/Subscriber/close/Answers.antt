@@ -1,5 +1,8 @@
-use Rattle.std.proofs.Common.{ap, refl, subst, sym, ◌∙◌}
+use Rattle.std.proofs.Common.{◌≡◌, ℕ, None, ap, refl, subst, sym, ◌∙◌}
 use Rattle.std.specs.Prelude.{IsSome}
+use Rattle.std.specs.Option.{option_and_then}
+use Rattle.iox2_domain.specs.Boxes.{degradation_box_of}
+use Rattle.iox2_domain.specs.declared.boxes.PortBoxes.{PortBoxes}
 use Rattle.iox2_store.specs.machine.State.{State}
 use Rattle.iox2_domain.specs.Fields.{keeping}
 use Rattle.iox2_pubsub.specs.Live.{subscriber_key}
@@ -10,7 +13,7 @@ use Rattle.iox2_pubsub.proofs.ConnectionsShown.{subscriber-close-connections}
 use Rattle.iox2_pubsub.proofs.LiveParts.{subscriber-parts}
 use Rattle.iox2_pubsub.proofs.ReceptionShown.{subscriber-missing}
 use Rattle.iox2_pubsub.proofs.LoansLeftShown.{subscriber-close-left}
-use Rattle.iox2_pubsub.proofs.StaysBut.{same-boxes}
+use Rattle.iox2_pubsub.proofs.StaysBut.{other-subscriber-boxes, subscriber-box-is}
 use Rattle.iox2_pubsub.proofs.subscriber.Subscriber.close.Goals as goal
 
 pub find_live_subscriber-place-requires : goal.find_live_subscriber-place-requires
@@ -42,7 +45,13 @@ returns-clause-stays g c =
     let has = (subscriber-parts c.args.domain.now _ c.requires.live).2 in
     let there = ap (λ (t : State g.row.T.Denot g.row.U.Denot). t.subscribers c.args.self.id) (it.2).state ∙ has.1 in
     subscriber-close-stays {T = g.row.T.Denot} {U = g.row.U.Denot} c.args.domain.now (keeping _ c.close_subscriber.new.state) it.0 it.1 it.2 c.args.self.id has.0
-    (returns-clause-closed g c it.0 it.1 has.0 it.2 there) (same-boxes c.domain.inside.state c.close_subscriber.new.state c.args.domain.now c.domain.view_is)
+    (returns-clause-closed g c it.0 it.1 has.0 it.2 there)
+    (other-subscriber-boxes c.domain.inside.state c.close_subscriber.new.state c.args.domain.now c.domain.view_is
+    (λ q other. c.remove.ensures.others q (λ same. other (same ∙ c.value.ensures))))
+
+pub returns-clause-unboxed : goal.returns-clause-unboxed
+returns-clause-unboxed g c = subscriber-box-is _ c.close_subscriber.new.state c.args.self.id None
+    (subst (λ (q : ℕ). degradation_box_of q (c.remove.new.self).boxes ≡ None) c.value.ensures (ap (option_and_then (λ (b : PortBoxes g.row.F.Denot g.row.G.Denot). b.degradation)) c.remove.ensures.its))
 
 pub returns-clause-none : goal.returns-clause-none
 returns-clause-none g c =

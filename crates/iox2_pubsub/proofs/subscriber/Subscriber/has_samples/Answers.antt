@@ -1,4 +1,5 @@
-use Rattle.iox2_store.specs.machine.Environments.{fixed_handlers}
+use Rattle.iox2_domain.specs.Boxes.{answers_of}
+use Rattle.iox2_pubsub.proofs.KeptAnswers.{asked}
 use Rattle.iox2_domain.specs.Fields.{keeping}
 use Rattle.iox2_laws.proofs.LoanKeeping.{has_samples_loans}
 use Rattle.iox2_laws.proofs.PortsStay.{update_subscriber_stays}
@@ -21,56 +22,57 @@ unreachable-requires g c =
 
 pub returns-clause-answers : goal.returns-clause-answers
 returns-clause-answers g c =
-    answer-shows {T = g.row.T.Denot} {U = g.row.U.Denot} c.args.domain.now c.domain.inside.state c.has_samples_at.new.state c.domain.view_is c.args.self.now.id c.has_samples_at.result
-    (answer-at {T = g.row.T.Denot} {U = g.row.U.Denot} c.domain.inside.state c.has_samples_at.new.state c.in-Some.place c.args.self.now.id c.has_samples_at.result
-    c.in-Some.ensures c.has_samples_at.ensures)
+    answer-shows {T = g.row.T.Denot} {U = g.row.U.Denot} (answers_of g.F.BackpressureFn.allows g.G.DegradationFn.allows c.args.domain.now.boxes.subscribers) c.args.domain.now c.domain.inside.state c.has_samples_at.new.state c.domain.view_is c.args.self.now.id c.has_samples_at.result
+    (answer-at {T = g.row.T.Denot} {U = g.row.U.Denot} (answers_of g.F.BackpressureFn.allows g.G.DegradationFn.allows c.args.domain.now.boxes.subscribers) c.domain.inside.state c.has_samples_at.new.state c.in-Some.place c.args.self.now.id c.has_samples_at.result
+    c.in-Some.ensures
+    (asked g.F.BackpressureFn.allows g.G.DegradationFn.allows c.domain.inside.state c.has_samples_at.new.state c.args.domain.now c.domain.view_is c.in-Some.place c.has_samples_at.result c.has_samples_at.ensures))
 
 pub returns-clause-stays : goal.returns-clause-stays
 returns-clause-stays g c =
     let it = always-shown {T = g.row.T.Denot} {U = g.row.U.Denot} c.domain.inside.state c.args.domain.now c.domain.invariant c.domain.view_is in
     let step = returns-clause-answers g c it.0 it.1 it.2 in
-    let has = answered {T = g.row.T.Denot} {U = g.row.U.Denot} it.1 c.args.self.now.id c.has_samples_at.result step.0 step.2 in
+    let has = answered {T = g.row.T.Denot} {U = g.row.U.Denot} (answers_of g.F.BackpressureFn.allows g.G.DegradationFn.allows c.args.domain.now.boxes.subscribers) it.1 c.args.self.now.id c.has_samples_at.result step.0 step.2 in
     updates-stay {T = g.row.T.Denot} {U = g.row.U.Denot} c.args.domain.now (keeping _ c.has_samples_at.new.state) it.0 it.1 step.0 it.2 step.1
-    (update_subscriber_stays fixed_handlers it.1 c.args.self.now.id step.0 has.0 (has.2).0)
-    (has_samples_loans fixed_handlers it.1 c.args.self.now.id step.0 has.0 has.1 has.2)
-    (update_subscriber_waits (IsSpared No_item) fixed_handlers it.1 c.args.self.now.id step.0 has.0 (has.2).0) (same-boxes c.domain.inside.state c.has_samples_at.new.state c.args.domain.now c.domain.view_is)
+    (update_subscriber_stays (answers_of g.F.BackpressureFn.allows g.G.DegradationFn.allows c.args.domain.now.boxes.subscribers) it.1 c.args.self.now.id step.0 has.0 (has.2).0)
+    (has_samples_loans (answers_of g.F.BackpressureFn.allows g.G.DegradationFn.allows c.args.domain.now.boxes.subscribers) it.1 c.args.self.now.id step.0 has.0 has.1 has.2)
+    (update_subscriber_waits (IsSpared No_item) (answers_of g.F.BackpressureFn.allows g.G.DegradationFn.allows c.args.domain.now.boxes.subscribers) it.1 c.args.self.now.id step.0 has.0 (has.2).0) (same-boxes c.domain.inside.state c.has_samples_at.new.state c.args.domain.now c.domain.view_is)
 
 pub returns-clause-waits : goal.returns-clause-waits
 returns-clause-waits g c =
     let it = always-shown {T = g.row.T.Denot} {U = g.row.U.Denot} c.domain.inside.state c.args.domain.now c.domain.invariant c.domain.view_is in
     let step = returns-clause-answers g c it.0 it.1 it.2 in
-    answers-say {T = g.row.T.Denot} {U = g.row.U.Denot} c.args.domain.now (keeping _ c.has_samples_at.new.state) it.0 it.0 it.1 step.0 it.2 step.1 fixed_handlers c.args.self.now c.requires.live c.has_samples_at.result step.2
+    answers-say {T = g.row.T.Denot} {U = g.row.U.Denot} c.args.domain.now (keeping _ c.has_samples_at.new.state) it.0 it.0 it.1 step.0 it.2 step.1 (answers_of g.F.BackpressureFn.allows g.G.DegradationFn.allows c.args.domain.now.boxes.subscribers) c.args.self.now c.requires.live c.has_samples_at.result step.2
 
 pub returns-clause-no_more : goal.returns-clause-no_more
 returns-clause-no_more g c =
     let it = always-shown {T = g.row.T.Denot} {U = g.row.U.Denot} c.domain.inside.state c.args.domain.now c.domain.invariant c.domain.view_is in
     let step = returns-clause-answers g c it.0 it.1 it.2 in
-    let has = answered {T = g.row.T.Denot} {U = g.row.U.Denot} it.1 c.args.self.now.id c.has_samples_at.result step.0 step.2 in
-    update-no-more {T = g.row.T.Denot} {U = g.row.U.Denot} c.args.domain.now (keeping _ c.has_samples_at.new.state) it.0 it.0 it.1 step.0 it.2 step.1 fixed_handlers c.args.self.now has.0 (has.2).0
+    let has = answered {T = g.row.T.Denot} {U = g.row.U.Denot} (answers_of g.F.BackpressureFn.allows g.G.DegradationFn.allows c.args.domain.now.boxes.subscribers) it.1 c.args.self.now.id c.has_samples_at.result step.0 step.2 in
+    update-no-more {T = g.row.T.Denot} {U = g.row.U.Denot} c.args.domain.now (keeping _ c.has_samples_at.new.state) it.0 it.0 it.1 step.0 it.2 step.1 (answers_of g.F.BackpressureFn.allows g.G.DegradationFn.allows c.args.domain.now.boxes.subscribers) c.args.self.now has.0 (has.2).0
 
 pub returns-clause-others : goal.returns-clause-others
 returns-clause-others g c =
     let it = always-shown {T = g.row.T.Denot} {U = g.row.U.Denot} c.domain.inside.state c.args.domain.now c.domain.invariant c.domain.view_is in
     let step = returns-clause-answers g c it.0 it.1 it.2 in
-    let has = answered {T = g.row.T.Denot} {U = g.row.U.Denot} it.1 c.args.self.now.id c.has_samples_at.result step.0 step.2 in
-    update-others {T = g.row.T.Denot} {U = g.row.U.Denot} c.args.domain.now (keeping _ c.has_samples_at.new.state) it.0 it.0 it.1 step.0 it.2 step.1 fixed_handlers c.args.self.now (λ n entry at. at) has.0 (has.2).0
+    let has = answered {T = g.row.T.Denot} {U = g.row.U.Denot} (answers_of g.F.BackpressureFn.allows g.G.DegradationFn.allows c.args.domain.now.boxes.subscribers) it.1 c.args.self.now.id c.has_samples_at.result step.0 step.2 in
+    update-others {T = g.row.T.Denot} {U = g.row.U.Denot} c.args.domain.now (keeping _ c.has_samples_at.new.state) it.0 it.0 it.1 step.0 it.2 step.1 (answers_of g.F.BackpressureFn.allows g.G.DegradationFn.allows c.args.domain.now.boxes.subscribers) c.args.self.now (λ n entry at. at) has.0 (has.2).0
 
 pub returns-clause-up_to_date : goal.returns-clause-up_to_date
 returns-clause-up_to_date g c =
     let it = always-shown {T = g.row.T.Denot} {U = g.row.U.Denot} c.domain.inside.state c.args.domain.now c.domain.invariant c.domain.view_is in
     let step = returns-clause-answers g c it.0 it.1 it.2 in
-    let has = answered {T = g.row.T.Denot} {U = g.row.U.Denot} it.1 c.args.self.now.id c.has_samples_at.result step.0 step.2 in
-    subscriber-update-leaves {T = g.row.T.Denot} {U = g.row.U.Denot} c.args.domain.now (keeping _ c.has_samples_at.new.state) it.0 it.0 it.1 step.0 it.2 step.1 fixed_handlers c.args.self.now.id has.0 (has.2).0
+    let has = answered {T = g.row.T.Denot} {U = g.row.U.Denot} (answers_of g.F.BackpressureFn.allows g.G.DegradationFn.allows c.args.domain.now.boxes.subscribers) it.1 c.args.self.now.id c.has_samples_at.result step.0 step.2 in
+    subscriber-update-leaves {T = g.row.T.Denot} {U = g.row.U.Denot} c.args.domain.now (keeping _ c.has_samples_at.new.state) it.0 it.0 it.1 step.0 it.2 step.1 (answers_of g.F.BackpressureFn.allows g.G.DegradationFn.allows c.args.domain.now.boxes.subscribers) c.args.self.now.id has.0 (has.2).0
 
 pub returns-clause-updated : goal.returns-clause-updated
 returns-clause-updated g c =
     let it = always-shown {T = g.row.T.Denot} {U = g.row.U.Denot} c.domain.inside.state c.args.domain.now c.domain.invariant c.domain.view_is in
     let step = returns-clause-answers g c it.0 it.1 it.2 in
-    answers-updated {T = g.row.T.Denot} {U = g.row.U.Denot} c.args.domain.now (keeping _ c.has_samples_at.new.state) it.0 it.0 it.1 step.0 it.2 step.1 fixed_handlers c.args.self.now c.requires.live c.has_samples_at.result step.2
+    answers-updated {T = g.row.T.Denot} {U = g.row.U.Denot} c.args.domain.now (keeping _ c.has_samples_at.new.state) it.0 it.0 it.1 step.0 it.2 step.1 (answers_of g.F.BackpressureFn.allows g.G.DegradationFn.allows c.args.domain.now.boxes.subscribers) c.args.self.now c.requires.live c.has_samples_at.result step.2
 
 pub returns-clause-loans_left : goal.returns-clause-loans_left
 returns-clause-loans_left g c =
     let it = always-shown {T = g.row.T.Denot} {U = g.row.U.Denot} c.domain.inside.state c.args.domain.now c.domain.invariant c.domain.view_is in
     let step = returns-clause-answers g c it.0 it.1 it.2 in
-    let has = answered {T = g.row.T.Denot} {U = g.row.U.Denot} it.1 c.args.self.now.id c.has_samples_at.result step.0 step.2 in
-    update-subscriber-left {T = g.row.T.Denot} {U = g.row.U.Denot} c.args.domain.now (keeping _ c.has_samples_at.new.state) it.0 it.0 it.1 step.0 it.2 step.1 fixed_handlers c.args.self.now.id has.0 (has.2).0
+    let has = answered {T = g.row.T.Denot} {U = g.row.U.Denot} (answers_of g.F.BackpressureFn.allows g.G.DegradationFn.allows c.args.domain.now.boxes.subscribers) it.1 c.args.self.now.id c.has_samples_at.result step.0 step.2 in
+    update-subscriber-left {T = g.row.T.Denot} {U = g.row.U.Denot} c.args.domain.now (keeping _ c.has_samples_at.new.state) it.0 it.0 it.1 step.0 it.2 step.1 (answers_of g.F.BackpressureFn.allows g.G.DegradationFn.allows c.args.domain.now.boxes.subscribers) c.args.self.now.id has.0 (has.2).0

@@ -1,5 +1,6 @@
 use Rattle.std.proofs.Common.{◌≡◌, ℕ, ap, sym, subst, ◌∙◌, Ok, Err, Some, None, refl, Option}
-use Rattle.iox2_store.specs.machine.Environments.{fixed_handlers}
+use Rattle.iox2_domain.specs.Boxes.{answers_of}
+use Rattle.iox2_pubsub.proofs.KeptAnswers.{received}
 use Rattle.iox2_store.specs.machine.Receives.{Got_sample, No_sample, Receive_error}
 use Rattle.iox2_domain.specs.Fields.{keeping}
 use Rattle.iox2_pubsub.specs.Live.{IsNewIn, A_sample}
@@ -15,44 +16,45 @@ use Rattle.iox2_pubsub.proofs.subscriber.Subscriber.receive.Goals as goal
 
 pub returns-in_err-receipt-clause-receives : goal.returns-in_err-receipt-clause-receives
 returns-in_err-receipt-clause-receives g c =
-    error-shows {T = g.row.T.Denot} {U = g.row.U.Denot} fixed_handlers c.args.domain.now c.domain.inside.state c.receive_at.new.state c.domain.view_is c.args.self.now.id c.in_err-receipt.field-0.0
-    (reception-at {T = g.row.T.Denot} {U = g.row.U.Denot} fixed_handlers c.domain.inside.state c.receive_at.new.state c.find_live_subscriber-place.result c.args.self.now.id c.receive_at.result (Err c.in_err-receipt.field-0.0)
-    c.find_live_subscriber-place.ensures c.in_err-receipt.was c.receive_at.ensures) c.from_residual.result c.from_residual.ensures.1
+    error-shows {T = g.row.T.Denot} {U = g.row.U.Denot} (answers_of g.F.BackpressureFn.allows g.G.DegradationFn.allows c.args.domain.now.boxes.subscribers) c.args.domain.now c.domain.inside.state c.receive_at.new.state c.domain.view_is c.args.self.now.id c.in_err-receipt.field-0.0
+    (reception-at {T = g.row.T.Denot} {U = g.row.U.Denot} (answers_of g.F.BackpressureFn.allows g.G.DegradationFn.allows c.args.domain.now.boxes.subscribers) c.domain.inside.state c.receive_at.new.state c.find_live_subscriber-place.result c.args.self.now.id c.receive_at.result (Err c.in_err-receipt.field-0.0)
+    c.find_live_subscriber-place.ensures c.in_err-receipt.was (received g.F.BackpressureFn.allows g.G.DegradationFn.allows c.domain.inside.state c.receive_at.new.state c.args.domain.now c.domain.view_is c.find_live_subscriber-place.result c.receive_at.result c.receive_at.ensures)) c.from_residual.result c.from_residual.ensures.1
 
 pub returns-in_default-clause-receives : goal.returns-in_default-clause-receives
 returns-in_default-clause-receives g c =
-    reception-shows {T = g.row.T.Denot} {U = g.row.U.Denot} fixed_handlers c.args.domain.now c.domain.inside.state c.receive_at.new.state c.domain.view_is c.args.self.now.id (Ok None)
-    (reception-at {T = g.row.T.Denot} {U = g.row.U.Denot} fixed_handlers c.domain.inside.state c.receive_at.new.state c.find_live_subscriber-place.result c.args.self.now.id c.receive_at.result (Ok None)
-    c.find_live_subscriber-place.ensures (c.in_ok-receipt.was ∙ ap (λ (o : Option Receipt). Ok o) c.in_default.is) c.receive_at.ensures)
+    reception-shows {T = g.row.T.Denot} {U = g.row.U.Denot} (answers_of g.F.BackpressureFn.allows g.G.DegradationFn.allows c.args.domain.now.boxes.subscribers) c.args.domain.now c.domain.inside.state c.receive_at.new.state c.domain.view_is c.args.self.now.id (Ok None)
+    (reception-at {T = g.row.T.Denot} {U = g.row.U.Denot} (answers_of g.F.BackpressureFn.allows g.G.DegradationFn.allows c.args.domain.now.boxes.subscribers) c.domain.inside.state c.receive_at.new.state c.find_live_subscriber-place.result c.args.self.now.id c.receive_at.result (Ok None)
+    c.find_live_subscriber-place.ensures (c.in_ok-receipt.was ∙ ap (λ (o : Option Receipt). Ok o) c.in_default.is) (received g.F.BackpressureFn.allows g.G.DegradationFn.allows c.domain.inside.state c.receive_at.new.state c.args.domain.now c.domain.view_is c.find_live_subscriber-place.result c.receive_at.result c.receive_at.ensures))
 
 pub returns-clause-receives : goal.returns-clause-receives
 returns-clause-receives g c =
     let receipt = c.in-Some.receipt in
-    reception-shows {T = g.row.T.Denot} {U = g.row.U.Denot} fixed_handlers c.args.domain.now c.domain.inside.state c.receive_at.new.state c.domain.view_is c.args.self.now.id (Ok (Some receipt))
-    (reception-at {T = g.row.T.Denot} {U = g.row.U.Denot} fixed_handlers c.domain.inside.state c.receive_at.new.state c.find_live_subscriber-place.result c.args.self.now.id c.receive_at.result (Ok (Some receipt))
-    c.find_live_subscriber-place.ensures (c.in_ok-receipt.was ∙ ap (λ (o : Option Receipt). Ok o) c.in-Some.is) c.receive_at.ensures)
+    reception-shows {T = g.row.T.Denot} {U = g.row.U.Denot} (answers_of g.F.BackpressureFn.allows g.G.DegradationFn.allows c.args.domain.now.boxes.subscribers) c.args.domain.now c.domain.inside.state c.receive_at.new.state c.domain.view_is c.args.self.now.id (Ok (Some receipt))
+    (reception-at {T = g.row.T.Denot} {U = g.row.U.Denot} (answers_of g.F.BackpressureFn.allows g.G.DegradationFn.allows c.args.domain.now.boxes.subscribers) c.domain.inside.state c.receive_at.new.state c.find_live_subscriber-place.result c.args.self.now.id c.receive_at.result (Ok (Some receipt))
+    c.find_live_subscriber-place.ensures (c.in_ok-receipt.was ∙ ap (λ (o : Option Receipt). Ok o) c.in-Some.is) (received g.F.BackpressureFn.allows g.G.DegradationFn.allows c.domain.inside.state c.receive_at.new.state c.args.domain.now c.domain.view_is c.find_live_subscriber-place.result c.receive_at.result c.receive_at.ensures))
 
 pub returns-clause-live : goal.returns-clause-live
 returns-clause-live g c =
     let receipt = c.in-Some.receipt in
-    reception-live {T = g.row.T.Denot} {U = g.row.U.Denot} fixed_handlers c.args.domain.now c.domain.inside.state c.receive_at.new.state c.domain.view_is c.args.self.now
+    reception-live {T = g.row.T.Denot} {U = g.row.U.Denot} (answers_of g.F.BackpressureFn.allows g.G.DegradationFn.allows c.args.domain.now.boxes.subscribers) c.args.domain.now c.domain.inside.state c.receive_at.new.state c.domain.view_is c.args.self.now
     (record { service_id = c.args.self.now.service_id; origin = receipt.publisher; sample = receipt.sample }) receipt
-    (reception-at {T = g.row.T.Denot} {U = g.row.U.Denot} fixed_handlers c.domain.inside.state c.receive_at.new.state c.find_live_subscriber-place.result c.args.self.now.id c.receive_at.result (Ok (Some receipt))
-    c.find_live_subscriber-place.ensures (c.in_ok-receipt.was ∙ ap (λ (o : Option Receipt). Ok o) c.in-Some.is) c.receive_at.ensures) refl refl refl c.requires.live
+    (reception-at {T = g.row.T.Denot} {U = g.row.U.Denot} (answers_of g.F.BackpressureFn.allows g.G.DegradationFn.allows c.args.domain.now.boxes.subscribers) c.domain.inside.state c.receive_at.new.state c.find_live_subscriber-place.result c.args.self.now.id c.receive_at.result (Ok (Some receipt))
+    c.find_live_subscriber-place.ensures (c.in_ok-receipt.was ∙ ap (λ (o : Option Receipt). Ok o) c.in-Some.is) (received g.F.BackpressureFn.allows g.G.DegradationFn.allows c.domain.inside.state c.receive_at.new.state c.args.domain.now c.domain.view_is c.find_live_subscriber-place.result c.receive_at.result c.receive_at.ensures)) refl refl refl c.requires.live
 
 pub returns-clause-origin : goal.returns-clause-origin
 returns-clause-origin g c =
     let receipt = c.in-Some.receipt in
-    reception-origin {T = g.row.T.Denot} {U = g.row.U.Denot} fixed_handlers c.args.domain.now c.domain.inside.state c.receive_at.new.state c.domain.view_is c.args.self.now
+    reception-origin {T = g.row.T.Denot} {U = g.row.U.Denot} (answers_of g.F.BackpressureFn.allows g.G.DegradationFn.allows c.args.domain.now.boxes.subscribers) c.args.domain.now c.domain.inside.state c.receive_at.new.state c.domain.view_is c.args.self.now
     (record { service_id = c.args.self.now.service_id; origin = receipt.publisher; sample = receipt.sample }) receipt
-    (reception-at {T = g.row.T.Denot} {U = g.row.U.Denot} fixed_handlers c.domain.inside.state c.receive_at.new.state c.find_live_subscriber-place.result c.args.self.now.id c.receive_at.result (Ok (Some receipt))
-    c.find_live_subscriber-place.ensures (c.in_ok-receipt.was ∙ ap (λ (o : Option Receipt). Ok o) c.in-Some.is) c.receive_at.ensures) refl refl
+    (reception-at {T = g.row.T.Denot} {U = g.row.U.Denot} (answers_of g.F.BackpressureFn.allows g.G.DegradationFn.allows c.args.domain.now.boxes.subscribers) c.domain.inside.state c.receive_at.new.state c.find_live_subscriber-place.result c.args.self.now.id c.receive_at.result (Ok (Some receipt))
+    c.find_live_subscriber-place.ensures (c.in_ok-receipt.was ∙ ap (λ (o : Option Receipt). Ok o) c.in-Some.is) (received g.F.BackpressureFn.allows g.G.DegradationFn.allows c.domain.inside.state c.receive_at.new.state c.args.domain.now c.domain.view_is c.find_live_subscriber-place.result c.receive_at.result c.receive_at.ensures)) refl refl
 
 pub returns-clause-subscriber : goal.returns-clause-subscriber
 returns-clause-subscriber g c =
     let receives =
-    reception-at {T = g.row.T.Denot} {U = g.row.U.Denot} fixed_handlers c.domain.inside.state c.receive_at.new.state c.find_live_subscriber-place.result c.args.self.now.id c.receive_at.result (Ok (Some c.in-Some.receipt))
-    c.find_live_subscriber-place.ensures (c.in_ok-receipt.was ∙ ap (λ (o : Option Receipt). Ok o) c.in-Some.is) c.receive_at.ensures in
+    reception-at {T = g.row.T.Denot} {U = g.row.U.Denot} (answers_of g.F.BackpressureFn.allows g.G.DegradationFn.allows c.args.domain.now.boxes.subscribers) c.domain.inside.state c.receive_at.new.state c.find_live_subscriber-place.result c.args.self.now.id c.receive_at.result (Ok (Some c.in-Some.receipt))
+    c.find_live_subscriber-place.ensures (c.in_ok-receipt.was ∙ ap (λ (o : Option Receipt). Ok o) c.in-Some.is)
+    (received g.F.BackpressureFn.allows g.G.DegradationFn.allows c.domain.inside.state c.receive_at.new.state c.args.domain.now c.domain.view_is c.find_live_subscriber-place.result c.receive_at.result c.receive_at.ensures) in
     (receives.3).its
 
 pub returns-clause-new : goal.returns-clause-new
@@ -60,26 +62,26 @@ returns-clause-new g c =
     let it = always-shown {T = g.row.T.Denot} {U = g.row.U.Denot} c.domain.inside.state c.args.domain.now c.domain.invariant c.domain.view_is in
     let step = returns-clause-receives g c it.0 it.1 it.2 in
     subst (λ (q : ℕ). IsNewIn c.args.domain.now (A_sample q c.in-Some.receipt.sample.number)) (sym (returns-clause-subscriber g c))
-    (received-is-new {T = g.row.T.Denot} {U = g.row.U.Denot} c.args.domain.now (keeping (c.domain.inside.boxes).boxes c.receive_at.new.state) it.0 it.1 it.2 fixed_handlers c.in-Some.receipt.publisher c.args.self.now.id
+    (received-is-new {T = g.row.T.Denot} {U = g.row.U.Denot} c.args.domain.now (keeping (record { publishers = (c.domain.inside.boxes).boxes; subscribers = (c.domain.inside.subscriber_boxes).boxes }) c.receive_at.new.state) it.0 it.1 it.2 (answers_of g.F.BackpressureFn.allows g.G.DegradationFn.allows c.args.domain.now.boxes.subscribers) c.in-Some.receipt.publisher c.args.self.now.id
     c.in-Some.receipt.sample.number step.0 step.1 step.2)
 
 pub returns-in_err-receipt-clause-stays : goal.returns-in_err-receipt-clause-stays
 returns-in_err-receipt-clause-stays g c =
     let it = always-shown {T = g.row.T.Denot} {U = g.row.U.Denot} c.domain.inside.state c.args.domain.now c.domain.invariant c.domain.view_is in
     let step = returns-in_err-receipt-clause-receives g c it.0 it.1 it.2 in
-    receive-stays {T = g.row.T.Denot} {U = g.row.U.Denot} c.args.domain.now _ it.0 it.1 it.2 fixed_handlers c.args.self.now.id (received_result c.from_residual.result) step.0 step.1 step.2 (same-boxes c.domain.inside.state c.receive_at.new.state c.args.domain.now c.domain.view_is)
+    receive-stays {T = g.row.T.Denot} {U = g.row.U.Denot} c.args.domain.now _ it.0 it.1 it.2 (answers_of g.F.BackpressureFn.allows g.G.DegradationFn.allows c.args.domain.now.boxes.subscribers) c.args.self.now.id (received_result c.from_residual.result) step.0 step.1 step.2 (same-boxes c.domain.inside.state c.receive_at.new.state c.args.domain.now c.domain.view_is)
 
 pub returns-in_default-clause-stays : goal.returns-in_default-clause-stays
 returns-in_default-clause-stays g c =
     let it = always-shown {T = g.row.T.Denot} {U = g.row.U.Denot} c.domain.inside.state c.args.domain.now c.domain.invariant c.domain.view_is in
     let step = returns-in_default-clause-receives g c it.0 it.1 it.2 in
-    receive-stays {T = g.row.T.Denot} {U = g.row.U.Denot} c.args.domain.now _ it.0 it.1 it.2 fixed_handlers c.args.self.now.id No_sample step.0 step.1 step.2 (same-boxes c.domain.inside.state c.receive_at.new.state c.args.domain.now c.domain.view_is)
+    receive-stays {T = g.row.T.Denot} {U = g.row.U.Denot} c.args.domain.now _ it.0 it.1 it.2 (answers_of g.F.BackpressureFn.allows g.G.DegradationFn.allows c.args.domain.now.boxes.subscribers) c.args.self.now.id No_sample step.0 step.1 step.2 (same-boxes c.domain.inside.state c.receive_at.new.state c.args.domain.now c.domain.view_is)
 
 pub returns-clause-stays : goal.returns-clause-stays
 returns-clause-stays g c =
     let it = always-shown {T = g.row.T.Denot} {U = g.row.U.Denot} c.domain.inside.state c.args.domain.now c.domain.invariant c.domain.view_is in
     let step = returns-clause-receives g c it.0 it.1 it.2 in
-    receive-stays {T = g.row.T.Denot} {U = g.row.U.Denot} c.args.domain.now _ it.0 it.1 it.2 fixed_handlers c.args.self.now.id (Got_sample c.in-Some.receipt.publisher c.in-Some.receipt.sample.number) step.0 step.1 step.2 (same-boxes c.domain.inside.state c.receive_at.new.state c.args.domain.now c.domain.view_is)
+    receive-stays {T = g.row.T.Denot} {U = g.row.U.Denot} c.args.domain.now _ it.0 it.1 it.2 (answers_of g.F.BackpressureFn.allows g.G.DegradationFn.allows c.args.domain.now.boxes.subscribers) c.args.self.now.id (Got_sample c.in-Some.receipt.publisher c.in-Some.receipt.sample.number) step.0 step.1 step.2 (same-boxes c.domain.inside.state c.receive_at.new.state c.args.domain.now c.domain.view_is)
 
 pub find_live_subscriber-place-requires : goal.find_live_subscriber-place-requires
 find_live_subscriber-place-requires g c = λ none.
@@ -90,114 +92,114 @@ pub returns-clause-fewer : goal.returns-clause-fewer
 returns-clause-fewer g c =
     let it = always-shown {T = g.row.T.Denot} {U = g.row.U.Denot} c.domain.inside.state c.args.domain.now c.domain.invariant c.domain.view_is in
     let step = returns-clause-receives g c it.0 it.1 it.2 in
-    received-fewer {T = g.row.T.Denot} {U = g.row.U.Denot} c.args.domain.now (keeping (c.domain.inside.boxes).boxes c.receive_at.new.state) it.0 it.0 it.1 step.0 it.2 step.1 fixed_handlers c.args.self.now c.requires.live c.in-Some.receipt.publisher c.in-Some.receipt.sample.number step.2
+    received-fewer {T = g.row.T.Denot} {U = g.row.U.Denot} c.args.domain.now (keeping (record { publishers = (c.domain.inside.boxes).boxes; subscribers = (c.domain.inside.subscriber_boxes).boxes }) c.receive_at.new.state) it.0 it.0 it.1 step.0 it.2 step.1 (answers_of g.F.BackpressureFn.allows g.G.DegradationFn.allows c.args.domain.now.boxes.subscribers) c.args.self.now c.requires.live c.in-Some.receipt.publisher c.in-Some.receipt.sample.number step.2
 
 pub returns-in_default-clause-none : goal.returns-in_default-clause-none
 returns-in_default-clause-none g c =
     let it = always-shown {T = g.row.T.Denot} {U = g.row.U.Denot} c.domain.inside.state c.args.domain.now c.domain.invariant c.domain.view_is in
     let step = returns-in_default-clause-receives g c it.0 it.1 it.2 in
-    received-none {T = g.row.T.Denot} {U = g.row.U.Denot} c.args.domain.now (keeping (c.domain.inside.boxes).boxes c.receive_at.new.state) it.0 it.0 it.1 step.0 it.2 step.1 fixed_handlers c.args.self.now step.2
+    received-none {T = g.row.T.Denot} {U = g.row.U.Denot} c.args.domain.now (keeping (record { publishers = (c.domain.inside.boxes).boxes; subscribers = (c.domain.inside.subscriber_boxes).boxes }) c.receive_at.new.state) it.0 it.0 it.1 step.0 it.2 step.1 (answers_of g.F.BackpressureFn.allows g.G.DegradationFn.allows c.args.domain.now.boxes.subscribers) c.args.self.now step.2
 
 pub returns-in_err-receipt-clause-others : goal.returns-in_err-receipt-clause-others
 returns-in_err-receipt-clause-others g c =
     let it = always-shown {T = g.row.T.Denot} {U = g.row.U.Denot} c.domain.inside.state c.args.domain.now c.domain.invariant c.domain.view_is in
     let step = returns-in_err-receipt-clause-receives g c it.0 it.1 it.2 in
-    received-others {T = g.row.T.Denot} {U = g.row.U.Denot} c.args.domain.now (keeping (c.domain.inside.boxes).boxes c.receive_at.new.state) it.0 it.0 it.1 step.0 it.2 step.1 fixed_handlers c.args.self.now (λ n entry at. at) (received_result c.from_residual.result) step.2
+    received-others {T = g.row.T.Denot} {U = g.row.U.Denot} c.args.domain.now (keeping (record { publishers = (c.domain.inside.boxes).boxes; subscribers = (c.domain.inside.subscriber_boxes).boxes }) c.receive_at.new.state) it.0 it.0 it.1 step.0 it.2 step.1 (answers_of g.F.BackpressureFn.allows g.G.DegradationFn.allows c.args.domain.now.boxes.subscribers) c.args.self.now (λ n entry at. at) (received_result c.from_residual.result) step.2
 
 pub returns-in_default-clause-others : goal.returns-in_default-clause-others
 returns-in_default-clause-others g c =
     let it = always-shown {T = g.row.T.Denot} {U = g.row.U.Denot} c.domain.inside.state c.args.domain.now c.domain.invariant c.domain.view_is in
     let step = returns-in_default-clause-receives g c it.0 it.1 it.2 in
-    received-others {T = g.row.T.Denot} {U = g.row.U.Denot} c.args.domain.now (keeping (c.domain.inside.boxes).boxes c.receive_at.new.state) it.0 it.0 it.1 step.0 it.2 step.1 fixed_handlers c.args.self.now (λ n entry at. at) No_sample step.2
+    received-others {T = g.row.T.Denot} {U = g.row.U.Denot} c.args.domain.now (keeping (record { publishers = (c.domain.inside.boxes).boxes; subscribers = (c.domain.inside.subscriber_boxes).boxes }) c.receive_at.new.state) it.0 it.0 it.1 step.0 it.2 step.1 (answers_of g.F.BackpressureFn.allows g.G.DegradationFn.allows c.args.domain.now.boxes.subscribers) c.args.self.now (λ n entry at. at) No_sample step.2
 
 pub returns-clause-others : goal.returns-clause-others
 returns-clause-others g c =
     let it = always-shown {T = g.row.T.Denot} {U = g.row.U.Denot} c.domain.inside.state c.args.domain.now c.domain.invariant c.domain.view_is in
     let step = returns-clause-receives g c it.0 it.1 it.2 in
-    received-others {T = g.row.T.Denot} {U = g.row.U.Denot} c.args.domain.now (keeping (c.domain.inside.boxes).boxes c.receive_at.new.state) it.0 it.0 it.1 step.0 it.2 step.1 fixed_handlers c.args.self.now (λ n entry at. at) (Got_sample c.in-Some.receipt.publisher c.in-Some.receipt.sample.number) step.2
+    received-others {T = g.row.T.Denot} {U = g.row.U.Denot} c.args.domain.now (keeping (record { publishers = (c.domain.inside.boxes).boxes; subscribers = (c.domain.inside.subscriber_boxes).boxes }) c.receive_at.new.state) it.0 it.0 it.1 step.0 it.2 step.1 (answers_of g.F.BackpressureFn.allows g.G.DegradationFn.allows c.args.domain.now.boxes.subscribers) c.args.self.now (λ n entry at. at) (Got_sample c.in-Some.receipt.publisher c.in-Some.receipt.sample.number) step.2
 
 pub returns-in_err-receipt-clause-no_more : goal.returns-in_err-receipt-clause-no_more
 returns-in_err-receipt-clause-no_more g c =
     let it = always-shown {T = g.row.T.Denot} {U = g.row.U.Denot} c.domain.inside.state c.args.domain.now c.domain.invariant c.domain.view_is in
     let step = returns-in_err-receipt-clause-receives g c it.0 it.1 it.2 in
-    received-no-more {T = g.row.T.Denot} {U = g.row.U.Denot} c.args.domain.now (keeping (c.domain.inside.boxes).boxes c.receive_at.new.state) it.0 it.0 it.1 step.0 it.2 step.1 fixed_handlers c.args.self.now c.requires.live (received_result c.from_residual.result) step.2
+    received-no-more {T = g.row.T.Denot} {U = g.row.U.Denot} c.args.domain.now (keeping (record { publishers = (c.domain.inside.boxes).boxes; subscribers = (c.domain.inside.subscriber_boxes).boxes }) c.receive_at.new.state) it.0 it.0 it.1 step.0 it.2 step.1 (answers_of g.F.BackpressureFn.allows g.G.DegradationFn.allows c.args.domain.now.boxes.subscribers) c.args.self.now c.requires.live (received_result c.from_residual.result) step.2
 
 pub returns-in_default-clause-no_more : goal.returns-in_default-clause-no_more
 returns-in_default-clause-no_more g c =
     let it = always-shown {T = g.row.T.Denot} {U = g.row.U.Denot} c.domain.inside.state c.args.domain.now c.domain.invariant c.domain.view_is in
     let step = returns-in_default-clause-receives g c it.0 it.1 it.2 in
-    received-no-more {T = g.row.T.Denot} {U = g.row.U.Denot} c.args.domain.now (keeping (c.domain.inside.boxes).boxes c.receive_at.new.state) it.0 it.0 it.1 step.0 it.2 step.1 fixed_handlers c.args.self.now c.requires.live No_sample step.2
+    received-no-more {T = g.row.T.Denot} {U = g.row.U.Denot} c.args.domain.now (keeping (record { publishers = (c.domain.inside.boxes).boxes; subscribers = (c.domain.inside.subscriber_boxes).boxes }) c.receive_at.new.state) it.0 it.0 it.1 step.0 it.2 step.1 (answers_of g.F.BackpressureFn.allows g.G.DegradationFn.allows c.args.domain.now.boxes.subscribers) c.args.self.now c.requires.live No_sample step.2
 
 pub returns-clause-no_more : goal.returns-clause-no_more
 returns-clause-no_more g c =
     let it = always-shown {T = g.row.T.Denot} {U = g.row.U.Denot} c.domain.inside.state c.args.domain.now c.domain.invariant c.domain.view_is in
     let step = returns-clause-receives g c it.0 it.1 it.2 in
-    received-no-more {T = g.row.T.Denot} {U = g.row.U.Denot} c.args.domain.now (keeping (c.domain.inside.boxes).boxes c.receive_at.new.state) it.0 it.0 it.1 step.0 it.2 step.1 fixed_handlers c.args.self.now c.requires.live (Got_sample c.in-Some.receipt.publisher c.in-Some.receipt.sample.number) step.2
+    received-no-more {T = g.row.T.Denot} {U = g.row.U.Denot} c.args.domain.now (keeping (record { publishers = (c.domain.inside.boxes).boxes; subscribers = (c.domain.inside.subscriber_boxes).boxes }) c.receive_at.new.state) it.0 it.0 it.1 step.0 it.2 step.1 (answers_of g.F.BackpressureFn.allows g.G.DegradationFn.allows c.args.domain.now.boxes.subscribers) c.args.self.now c.requires.live (Got_sample c.in-Some.receipt.publisher c.in-Some.receipt.sample.number) step.2
 
 pub returns-clause-reads : goal.returns-clause-reads
 returns-clause-reads g c =
     let it = always-shown {T = g.row.T.Denot} {U = g.row.U.Denot} c.domain.inside.state c.args.domain.now c.domain.invariant c.domain.view_is in
     let step = returns-clause-receives g c it.0 it.1 it.2 in
-    received-reads {T = g.row.T.Denot} {U = g.row.U.Denot} c.args.domain.now (keeping (c.domain.inside.boxes).boxes c.receive_at.new.state) it.0 it.0 it.1 step.0 it.2 step.1 fixed_handlers c.args.self.now (λ n entry at. at) c.requires.live
+    received-reads {T = g.row.T.Denot} {U = g.row.U.Denot} c.args.domain.now (keeping (record { publishers = (c.domain.inside.boxes).boxes; subscribers = (c.domain.inside.subscriber_boxes).boxes }) c.receive_at.new.state) it.0 it.0 it.1 step.0 it.2 step.1 (answers_of g.F.BackpressureFn.allows g.G.DegradationFn.allows c.args.domain.now.boxes.subscribers) c.args.self.now (λ n entry at. at) c.requires.live
     c.in-Some.receipt.publisher (record { service_id = c.args.self.now.service_id; origin = c.in-Some.receipt.publisher; sample = c.in-Some.receipt.sample }) step.2
 
 pub returns-clause-oldest : goal.returns-clause-oldest
 returns-clause-oldest g c =
     let it = always-shown {T = g.row.T.Denot} {U = g.row.U.Denot} c.domain.inside.state c.args.domain.now c.domain.invariant c.domain.view_is in
     let step = returns-clause-receives g c it.0 it.1 it.2 in
-    received-oldest {T = g.row.T.Denot} {U = g.row.U.Denot} c.args.domain.now (keeping (c.domain.inside.boxes).boxes c.receive_at.new.state) it.0 it.0 it.1 step.0 it.2 step.1 fixed_handlers c.args.self.now (λ n entry at. at) c.requires.live
+    received-oldest {T = g.row.T.Denot} {U = g.row.U.Denot} c.args.domain.now (keeping (record { publishers = (c.domain.inside.boxes).boxes; subscribers = (c.domain.inside.subscriber_boxes).boxes }) c.receive_at.new.state) it.0 it.0 it.1 step.0 it.2 step.1 (answers_of g.F.BackpressureFn.allows g.G.DegradationFn.allows c.args.domain.now.boxes.subscribers) c.args.self.now (λ n entry at. at) c.requires.live
     (record { service_id = c.args.self.now.service_id; origin = c.in-Some.receipt.publisher; sample = c.in-Some.receipt.sample }) step.2
 
 pub returns-in_err-receipt-clause-up_to_date : goal.returns-in_err-receipt-clause-up_to_date
 returns-in_err-receipt-clause-up_to_date g c =
     let it = always-shown {T = g.row.T.Denot} {U = g.row.U.Denot} c.domain.inside.state c.args.domain.now c.domain.invariant c.domain.view_is in
     let step = returns-in_err-receipt-clause-receives g c it.0 it.1 it.2 in
-    receive-leaves {T = g.row.T.Denot} {U = g.row.U.Denot} c.args.domain.now (keeping (c.domain.inside.boxes).boxes c.receive_at.new.state) it.0 it.0 it.1 step.0 it.2 step.1 fixed_handlers c.args.self.now (received_result c.from_residual.result) step.2
+    receive-leaves {T = g.row.T.Denot} {U = g.row.U.Denot} c.args.domain.now (keeping (record { publishers = (c.domain.inside.boxes).boxes; subscribers = (c.domain.inside.subscriber_boxes).boxes }) c.receive_at.new.state) it.0 it.0 it.1 step.0 it.2 step.1 (answers_of g.F.BackpressureFn.allows g.G.DegradationFn.allows c.args.domain.now.boxes.subscribers) c.args.self.now (received_result c.from_residual.result) step.2
 
 pub returns-in_default-clause-up_to_date : goal.returns-in_default-clause-up_to_date
 returns-in_default-clause-up_to_date g c =
     let it = always-shown {T = g.row.T.Denot} {U = g.row.U.Denot} c.domain.inside.state c.args.domain.now c.domain.invariant c.domain.view_is in
     let step = returns-in_default-clause-receives g c it.0 it.1 it.2 in
-    receive-leaves {T = g.row.T.Denot} {U = g.row.U.Denot} c.args.domain.now (keeping (c.domain.inside.boxes).boxes c.receive_at.new.state) it.0 it.0 it.1 step.0 it.2 step.1 fixed_handlers c.args.self.now No_sample step.2
+    receive-leaves {T = g.row.T.Denot} {U = g.row.U.Denot} c.args.domain.now (keeping (record { publishers = (c.domain.inside.boxes).boxes; subscribers = (c.domain.inside.subscriber_boxes).boxes }) c.receive_at.new.state) it.0 it.0 it.1 step.0 it.2 step.1 (answers_of g.F.BackpressureFn.allows g.G.DegradationFn.allows c.args.domain.now.boxes.subscribers) c.args.self.now No_sample step.2
 
 pub returns-clause-up_to_date : goal.returns-clause-up_to_date
 returns-clause-up_to_date g c =
     let it = always-shown {T = g.row.T.Denot} {U = g.row.U.Denot} c.domain.inside.state c.args.domain.now c.domain.invariant c.domain.view_is in
     let step = returns-clause-receives g c it.0 it.1 it.2 in
-    receive-leaves {T = g.row.T.Denot} {U = g.row.U.Denot} c.args.domain.now (keeping (c.domain.inside.boxes).boxes c.receive_at.new.state) it.0 it.0 it.1 step.0 it.2 step.1 fixed_handlers c.args.self.now (Got_sample c.in-Some.receipt.publisher c.in-Some.receipt.sample.number) step.2
+    receive-leaves {T = g.row.T.Denot} {U = g.row.U.Denot} c.args.domain.now (keeping (record { publishers = (c.domain.inside.boxes).boxes; subscribers = (c.domain.inside.subscriber_boxes).boxes }) c.receive_at.new.state) it.0 it.0 it.1 step.0 it.2 step.1 (answers_of g.F.BackpressureFn.allows g.G.DegradationFn.allows c.args.domain.now.boxes.subscribers) c.args.self.now (Got_sample c.in-Some.receipt.publisher c.in-Some.receipt.sample.number) step.2
 
 pub returns-in_default-clause-updated : goal.returns-in_default-clause-updated
 returns-in_default-clause-updated g c =
     let it = always-shown {T = g.row.T.Denot} {U = g.row.U.Denot} c.domain.inside.state c.args.domain.now c.domain.invariant c.domain.view_is in
     let step = returns-in_default-clause-receives g c it.0 it.1 it.2 in
-    received-updated {T = g.row.T.Denot} {U = g.row.U.Denot} c.args.domain.now (keeping (c.domain.inside.boxes).boxes c.receive_at.new.state) it.0 it.0 it.1 step.0 it.2 step.1 fixed_handlers c.args.self.now c.requires.live No_sample (λ e is. let clash : No_sample ≡ Receive_error e = is in absurd cc) step.2
+    received-updated {T = g.row.T.Denot} {U = g.row.U.Denot} c.args.domain.now (keeping (record { publishers = (c.domain.inside.boxes).boxes; subscribers = (c.domain.inside.subscriber_boxes).boxes }) c.receive_at.new.state) it.0 it.0 it.1 step.0 it.2 step.1 (answers_of g.F.BackpressureFn.allows g.G.DegradationFn.allows c.args.domain.now.boxes.subscribers) c.args.self.now c.requires.live No_sample (λ e is. let clash : No_sample ≡ Receive_error e = is in absurd cc) step.2
 
 pub returns-clause-updated : goal.returns-clause-updated
 returns-clause-updated g c =
     let it = always-shown {T = g.row.T.Denot} {U = g.row.U.Denot} c.domain.inside.state c.args.domain.now c.domain.invariant c.domain.view_is in
     let step = returns-clause-receives g c it.0 it.1 it.2 in
-    received-updated {T = g.row.T.Denot} {U = g.row.U.Denot} c.args.domain.now (keeping (c.domain.inside.boxes).boxes c.receive_at.new.state) it.0 it.0 it.1 step.0 it.2 step.1 fixed_handlers c.args.self.now c.requires.live (Got_sample c.in-Some.receipt.publisher c.in-Some.receipt.sample.number) (λ e is. let clash : Got_sample c.in-Some.receipt.publisher c.in-Some.receipt.sample.number ≡ Receive_error e = is in absurd cc) step.2
+    received-updated {T = g.row.T.Denot} {U = g.row.U.Denot} c.args.domain.now (keeping (record { publishers = (c.domain.inside.boxes).boxes; subscribers = (c.domain.inside.subscriber_boxes).boxes }) c.receive_at.new.state) it.0 it.0 it.1 step.0 it.2 step.1 (answers_of g.F.BackpressureFn.allows g.G.DegradationFn.allows c.args.domain.now.boxes.subscribers) c.args.self.now c.requires.live (Got_sample c.in-Some.receipt.publisher c.in-Some.receipt.sample.number) (λ e is. let clash : Got_sample c.in-Some.receipt.publisher c.in-Some.receipt.sample.number ≡ Receive_error e = is in absurd cc) step.2
 
 pub returns-clause-one_fewer : goal.returns-clause-one_fewer
 returns-clause-one_fewer g c =
     let it = always-shown {T = g.row.T.Denot} {U = g.row.U.Denot} c.domain.inside.state c.args.domain.now c.domain.invariant c.domain.view_is in
     let step = returns-clause-receives g c it.0 it.1 it.2 in
-    received-one-fewer {T = g.row.T.Denot} {U = g.row.U.Denot} c.args.domain.now (keeping (c.domain.inside.boxes).boxes c.receive_at.new.state) it.0 it.0 it.1 step.0 it.2 step.1 fixed_handlers c.args.self.now c.in-Some.receipt.publisher c.in-Some.receipt.sample.number step.2
+    received-one-fewer {T = g.row.T.Denot} {U = g.row.U.Denot} c.args.domain.now (keeping (record { publishers = (c.domain.inside.boxes).boxes; subscribers = (c.domain.inside.subscriber_boxes).boxes }) c.receive_at.new.state) it.0 it.0 it.1 step.0 it.2 step.1 (answers_of g.F.BackpressureFn.allows g.G.DegradationFn.allows c.args.domain.now.boxes.subscribers) c.args.self.now c.in-Some.receipt.publisher c.in-Some.receipt.sample.number step.2
 
 pub returns-in_err-receipt-clause-loans_left : goal.returns-in_err-receipt-clause-loans_left
 returns-in_err-receipt-clause-loans_left g c =
     let it = always-shown {T = g.row.T.Denot} {U = g.row.U.Denot} c.domain.inside.state c.args.domain.now c.domain.invariant c.domain.view_is in
     let step = returns-in_err-receipt-clause-receives g c it.0 it.1 it.2 in
-    receive-left {T = g.row.T.Denot} {U = g.row.U.Denot} c.args.domain.now (keeping (c.domain.inside.boxes).boxes c.receive_at.new.state) it.0 it.0 it.1 step.0 it.2 step.1 fixed_handlers c.args.self.now.id (received_result c.from_residual.result) step.2
+    receive-left {T = g.row.T.Denot} {U = g.row.U.Denot} c.args.domain.now (keeping (record { publishers = (c.domain.inside.boxes).boxes; subscribers = (c.domain.inside.subscriber_boxes).boxes }) c.receive_at.new.state) it.0 it.0 it.1 step.0 it.2 step.1 (answers_of g.F.BackpressureFn.allows g.G.DegradationFn.allows c.args.domain.now.boxes.subscribers) c.args.self.now.id (received_result c.from_residual.result) step.2
 
 pub returns-in_default-clause-loans_left : goal.returns-in_default-clause-loans_left
 returns-in_default-clause-loans_left g c =
     let it = always-shown {T = g.row.T.Denot} {U = g.row.U.Denot} c.domain.inside.state c.args.domain.now c.domain.invariant c.domain.view_is in
     let step = returns-in_default-clause-receives g c it.0 it.1 it.2 in
-    receive-left {T = g.row.T.Denot} {U = g.row.U.Denot} c.args.domain.now (keeping (c.domain.inside.boxes).boxes c.receive_at.new.state) it.0 it.0 it.1 step.0 it.2 step.1 fixed_handlers c.args.self.now.id No_sample step.2
+    receive-left {T = g.row.T.Denot} {U = g.row.U.Denot} c.args.domain.now (keeping (record { publishers = (c.domain.inside.boxes).boxes; subscribers = (c.domain.inside.subscriber_boxes).boxes }) c.receive_at.new.state) it.0 it.0 it.1 step.0 it.2 step.1 (answers_of g.F.BackpressureFn.allows g.G.DegradationFn.allows c.args.domain.now.boxes.subscribers) c.args.self.now.id No_sample step.2
 
 pub returns-clause-loans_left : goal.returns-clause-loans_left
 returns-clause-loans_left g c =
     let it = always-shown {T = g.row.T.Denot} {U = g.row.U.Denot} c.domain.inside.state c.args.domain.now c.domain.invariant c.domain.view_is in
     let step = returns-clause-receives g c it.0 it.1 it.2 in
-    receive-left {T = g.row.T.Denot} {U = g.row.U.Denot} c.args.domain.now (keeping (c.domain.inside.boxes).boxes c.receive_at.new.state) it.0 it.0 it.1 step.0 it.2 step.1 fixed_handlers c.args.self.now.id (Got_sample c.in-Some.receipt.publisher c.in-Some.receipt.sample.number) step.2
+    receive-left {T = g.row.T.Denot} {U = g.row.U.Denot} c.args.domain.now (keeping (record { publishers = (c.domain.inside.boxes).boxes; subscribers = (c.domain.inside.subscriber_boxes).boxes }) c.receive_at.new.state) it.0 it.0 it.1 step.0 it.2 step.1 (answers_of g.F.BackpressureFn.allows g.G.DegradationFn.allows c.args.domain.now.boxes.subscribers) c.args.self.now.id (Got_sample c.in-Some.receipt.publisher c.in-Some.receipt.sample.number) step.2

@@ -1,16 +1,16 @@
 //! A publisher of slices is made with as many slots as an override says.
 ghost use Rattle.std.specs.Prelude.{◌≡◌, ◌≤◌, ℕ, true, false, None, Some, IfOk, OnErr, OnOk, MatchResult};
 ghost use Rattle.std.specs.declared.option.Option.{Option};
-ghost use Rattle.iox2_store.specs.machine.Environments.{fixed_handlers};
 ghost use Rattle.iox2_store.specs.machine.Limits.{worst_case};
 ghost use Rattle.iox2_store.specs.machine.Ports.{CreatePublisher};
 ghost use Rattle.iox2_store.specs.machine.State.{State, Messages};
+ghost use Rattle.iox2_domain.specs.Boxes.{answers_of};
 ghost use Rattle.iox2_domain.specs.Handlers.{may_fail, may_fail_update};
 ghost use Rattle.iox2_domain.specs.Shows.{Shows};
 ghost use Rattle.iox2_pubsub.specs.Factories.{AsksFor, AsksForAll, callback_of, with_slots};
 ghost use Rattle.iox2_pubsub.specs.Handlers.{may_wait};
 ghost use Rattle.iox2_pubsub.specs.Handles.{as_publisher, max_slice_len_of, publisher_id, strategy_of};
-ghost use Rattle.iox2_pubsub.specs.Live.{ConnectionsStay, IsConnected, IsLiveSubscriber, IsNewIn, IsReadyPublisher, NeverFails, NeverWaits, NoneRefused, Stays, handler_box, publisher_key, publisher_port, payloads, waiting};
+ghost use Rattle.iox2_pubsub.specs.Live.{ConnectionsStay, IsConnected, IsLiveSubscriber, IsNewIn, IsReadyPublisher, NeverFails, NeverWaits, NoneRefused, Stays, degradation_box, handler_box, publisher_key, publisher_port, payloads, waiting};
 ghost use Rattle.iox2_pubsub.specs.LoansLeft.{HasLoansLeft, LoansLeftStay};
 ghost use Rattle.iox2_pubsub.specs.declared.subscriber.Subscriber.{Subscriber};
 
@@ -38,7 +38,7 @@ impl<F: BackpressureFn, P: Fn(usize) -> usize + Drop> PortFactoryPublisher<
     ///
     /// iceoryx2's `PortFactoryPublisher::create` (`src/service/port_factory/publisher.rs`) and
     /// `Publisher::new` (`src/port/publisher.rs`).
-    pub fn create<T: Drop, U: Default + Drop, G: DegradationFn>(
+    pub fn create<T: Drop, U: Default + Drop>(
         self,
         domain: &mut Domain<T, U, F, G>,
     ) -> Result<Publisher, PublisherCreateError>
@@ -46,8 +46,8 @@ impl<F: BackpressureFn, P: Fn(usize) -> usize + Drop> PortFactoryPublisher<
         ensures creates { (asked : Option ℕ) × AsksFor (P.post (callback_of self)) (worst_case (domain.old.config) self.settings.max_loaned_samples) asked
             × ((m : Messages T U) (s : State T U) → Shows domain.old m s → (s' : State T U) × Shows domain.new m s'
             × MatchResult result
-            (λ publisher. (publisher_id (as_publisher publisher) ≡ s.next_port) × CreatePublisher fixed_handlers s (with_slots self.settings asked) s' None)
-            (λ e. CreatePublisher fixed_handlers s (with_slots self.settings asked) s' (Some e))) }
+            (λ publisher. (publisher_id (as_publisher publisher) ≡ s.next_port) × CreatePublisher (answers_of F.allows G.allows (domain.new.boxes).publishers) s (with_slots self.settings asked) s' None)
+            (λ e. CreatePublisher (answers_of F.allows G.allows (domain.new.boxes).publishers) s (with_slots self.settings asked) s' (Some e))) }
         ensures is_static { OnOk result (self.settings.allocation_strategy ≡ AllocationStrategy.Static) }
         ensures ready { IfOk result (λ publisher. IsReadyPublisher domain.new (as_publisher publisher)) }
         ensures discards { self.settings.backpressure_strategy ≡ BackpressureStrategy.DiscardData → self.settings.backpressure_handler ≡ None → may_fail_update self.settings.degradation_handler ≡ false → IfOk result (λ publisher. NeverWaits domain.new (publisher_key (as_publisher publisher))) }
@@ -55,6 +55,7 @@ impl<F: BackpressureFn, P: Fn(usize) -> usize + Drop> PortFactoryPublisher<
         ensures overflows { (domain.old.config).enable_safe_overflow ≡ true → may_fail_update self.settings.degradation_handler ≡ false → IfOk result (λ publisher. NeverWaits domain.new (publisher_key (as_publisher publisher))) }
         ensures never_fails { may_fail self.settings.backpressure_handler ≡ false → may_fail_update self.settings.degradation_handler ≡ false → IfOk result (λ publisher. NeverFails domain.new (publisher_id (as_publisher publisher))) }
         ensures boxed { IfOk result (λ publisher. handler_box domain.new (publisher_id (as_publisher publisher)) ≡ self.box) }
+        ensures degrades { IfOk result (λ publisher. degradation_box domain.new (publisher_id (as_publisher publisher)) ≡ self.degradation_box) }
         ensures strategy { IfOk result (λ publisher. strategy_of (as_publisher publisher) ≡ self.settings.backpressure_strategy) }
         ensures longest { IfOk result (λ publisher. max_slice_len_of (as_publisher publisher) ≡ self.settings.initial_max_slice_len) }
         ensures new { IfOk result (λ publisher. IsNewIn domain.old (publisher_port (as_publisher publisher))) }
@@ -70,7 +71,13 @@ impl<F: BackpressureFn, P: Fn(usize) -> usize + Drop> PortFactoryPublisher<
         let segments = self
             .slots
             .ask(domain.state.config(), options.max_loaned_samples);
-        match create_plain(domain, &options, self.backpressure_handler, segments) {
+        match create_plain(
+            domain,
+            &options,
+            self.backpressure_handler,
+            self.degradation_box,
+            segments,
+        ) {
             Ok(publisher) => Ok(Publisher { publisher }),
             Err(error) => Err(error),
         }

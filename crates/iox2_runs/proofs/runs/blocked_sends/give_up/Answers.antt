@@ -21,7 +21,7 @@ give_up-requires g c = record {
 pub returns-in-Blocked-clause-carries : goal.returns-in-Blocked-clause-carries
 returns-in-Blocked-clause-carries g c =
     rw c.send_reply-reply.ensures.reply
-    (goes_on_carried {T = g.row.T.Denot} {U = g.row.U.Denot} _ c.args.domain.now c.give_up.new.domain c.args.table.now.items c.put.new.table.items c.args.of _ (give_up_goes (answers_of g.F.BackpressureFn.allows c.args.domain.now.boxes) c.args.of) c.in-Blocked.blocked c.give_up.result (sym c.take.ensures.made ∙ c.in-Blocked.is)
+    (goes_on_carried {T = g.row.T.Denot} {U = g.row.U.Denot} _ c.args.domain.now c.give_up.new.domain c.args.table.now.items c.put.new.table.items c.args.of _ (give_up_goes (answers_of g.F.BackpressureFn.allows g.G.DegradationFn.allows c.args.domain.now.boxes.publishers) c.args.of) c.in-Blocked.blocked c.give_up.result (sym c.take.ensures.made ∙ c.in-Blocked.is)
     c.give_up.ensures.gives_up c.give_up.ensures.blocked
     (c.put.ensures.items ∙ ap (λ (t : List Made). slice_set t c.args.of c.send_reply-reply.result.1) c.take.ensures.items ∙ set_again c.args.table.now.items c.args.of Nothing c.send_reply-reply.result.1
     ∙ ap (λ (h : Made). slice_set c.args.table.now.items c.args.of h) c.send_reply-reply.ensures.made))

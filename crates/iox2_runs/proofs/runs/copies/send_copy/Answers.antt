@@ -9,7 +9,6 @@ use Rattle.iox2_pubsub.specs.Live.{publisher_key}
 use Rattle.iox2_runs.proofs.CarriedBlocked.{each_blocked}
 use Rattle.iox2_runs.proofs.LiveEntries.{live_publisher, known_publisher, ready_publisher, shown_free, shown_waits}
 use Rattle.iox2_domain.specs.Boxes.{answers_of}
-use Rattle.iox2_runs.proofs.FixedSends.{updates_fixed}
 use Rattle.iox2_runs.proofs.CarriedCopies.{copy_passed, copy_of_other, copy_held_up, copy_came}
 use Rattle.iox2_runs.proofs.LeavingSteps.{leaves-all, leaves-copying}
 use Rattle.iox2_runs.proofs.runs.copies.send_copy.Goals as goal
@@ -66,7 +65,7 @@ returns-then-is_blocked-clause-leaves g c =
 pub returns-else-is_blocked-clause-carries : goal.returns-else-is_blocked-clause-carries
 returns-else-is_blocked-clause-carries g c =
     rw (c.send_reply.ensures.reply, c.send_reply.ensures.made)
-    (copy_came {T = g.row.T.Denot} {U = g.row.U.Denot} (answers_of g.F.BackpressureFn.allows c.args.domain.now.boxes) (updates_fixed g.F.BackpressureFn.allows c.args.domain.now.boxes) _ c.args.domain.now c.send_copy.new.domain c.args.table.now c.args.of c.in-Publisher.publisher c.args.value c.send_copy.result
+    (copy_came {T = g.row.T.Denot} {U = g.row.U.Denot} (answers_of g.F.BackpressureFn.allows g.G.DegradationFn.allows c.args.domain.now.boxes.publishers) _ c.args.domain.now c.send_copy.new.domain c.args.table.now c.args.of c.in-Publisher.publisher c.args.value c.send_copy.result
     (looked c.args.table.now c.args.of c.get.result c.in-Some.made _ c.get.ensures.lookup c.in-Some.is c.in-Publisher.is)
     (shown_free {T = g.row.T.Denot} {U = g.row.U.Denot} c.args.domain.now (publisher_key c.in-Publisher.publisher) (c.is_blocked.ensures.0 c.if-is_blocked.false)) (sym c.is_single_valued.ensures ∙ c.if-not-is_single_valued.false)
     c.send_copy.ensures.sends c.send_copy.ensures.blocked)

@@ -7,7 +7,6 @@ use Rattle.iox2_runs.specs.declared.runs.made.Made.{Made}
 use Rattle.iox2_runs.specs.declared.runs.made.Made.TheVariants.{Written}
 use Rattle.iox2_runs.proofs.CarriedBlocked.{each_blocked}
 use Rattle.iox2_domain.specs.Boxes.{answers_of}
-use Rattle.iox2_runs.proofs.FixedSends.{updates_fixed}
 use Rattle.iox2_runs.proofs.CarriedLoans.{either-failure, send_passed, send_held_up, send_carried}
 use Rattle.iox2_runs.proofs.LeavingSteps.{leaves-all, leaves-sending}
 use Rattle.iox2_runs.proofs.LiveEntries.{live_written, known_lender, shown_free, shown_waits}
@@ -42,7 +41,7 @@ returns-then-is_blocked-clause-leaves g c =
 pub returns-else-is_blocked-clause-carries : goal.returns-else-is_blocked-clause-carries
 returns-else-is_blocked-clause-carries g c =
     rw (c.send_reply.ensures.reply, c.send_reply.ensures.made)
-    (send_carried {T = g.row.T.Denot} {U = g.row.U.Denot} (answers_of g.F.BackpressureFn.allows c.args.domain.now.boxes) (updates_fixed g.F.BackpressureFn.allows c.args.domain.now.boxes) _ c.args.domain.now c.send.new.domain c.args.table.now.items c.take.new.table.items c.args.of c.in-Written.sample c.send.result (sym c.take.ensures.made ∙ c.in-Written.is)
+    (send_carried {T = g.row.T.Denot} {U = g.row.U.Denot} (answers_of g.F.BackpressureFn.allows g.G.DegradationFn.allows c.args.domain.now.boxes.publishers) _ c.args.domain.now c.send.new.domain c.args.table.now.items c.take.new.table.items c.args.of c.in-Written.sample c.send.result (sym c.take.ensures.made ∙ c.in-Written.is)
     (shown_free {T = g.row.T.Denot} {U = g.row.U.Denot} c.args.domain.now (written_key c.in-Written.sample) (c.is_blocked.ensures.0 c.if-is_blocked.false)) c.send.ensures.sent c.send.ensures.blocked
     (either-failure c.args.domain.now (written_key c.in-Written.sample) c.send.result c.send.ensures.errors) c.take.ensures.items)
 

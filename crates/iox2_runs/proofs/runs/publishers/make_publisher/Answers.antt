@@ -1,11 +1,13 @@
 use Rattle.std.proofs.Common.{◌≡◌, sym, ap, subst, ◌∙◌, None, Some}
 use Rattle.std.specs.Prelude.{MatchResult}
 use Rattle.std.proofs.lemmas.Result.{err_from_is_err_and}
-use Rattle.iox2_store.specs.machine.Environments.{fixed_handlers}
+use Rattle.iox2_domain.specs.Boxes.{answers_of}
 use Rattle.iox2_store.specs.machine.Ports.{CreatePublisher}
 use Rattle.iox2_store.specs.machine.Records.{PublisherSettings}
 use Rattle.iox2_pubsub.specs.declared.publisher.Publisher.{Publisher}
-use Rattle.iox2_runs.proofs.CarriedPorts.{fixed-settings, slice-settings}
+use Rattle.iox2_runs.proofs.CarriedPorts.{fixed-settings, settings_of, slice-settings}
+use Rattle.iox2_runs.proofs.FixedCalls.{creation_told, publisher_created}
+use Rattle.iox2_runs.proofs.FixedSends.{always_unboxed}
 use Rattle.iox2_runs.proofs.runs.publishers.make_publisher.Goals as goal
 
 pub returns-in-FixedSize-clause-creates : goal.returns-in-FixedSize-clause-creates
@@ -13,10 +15,12 @@ returns-in-FixedSize-clause-creates g c = λ m s shown.
     let made = c.create_values.ensures.creates m s shown in (
       made.0,
       made.1,
-      subst (λ (given : PublisherSettings). MatchResult c.create_values.result
-          (λ publisher. (publisher.id ≡ s.next_port) × CreatePublisher fixed_handlers s given made.0 None) (λ e. CreatePublisher fixed_handlers s given made.0 (Some e)))
+      creation_told (answers_of g.F.BackpressureFn.allows g.G.DegradationFn.allows c.create_values.new.domain.boxes.publishers) s (settings_of c.args.loans c.args.strategy c.args.len c.args.asked_slots c.args.degradation c.args.backpressure s) (always_unboxed c.args.degradation)
+          (λ (publisher : Publisher). publisher.id ≡ s.next_port) made.0 c.create_values.result
+          (subst (λ (given : PublisherSettings). MatchResult c.create_values.result
+          (λ publisher. (publisher.id ≡ s.next_port) × CreatePublisher (answers_of g.F.BackpressureFn.allows g.G.DegradationFn.allows c.create_values.new.domain.boxes.publishers) s given made.0 None) (λ e. CreatePublisher (answers_of g.F.BackpressureFn.allows g.G.DegradationFn.allows c.create_values.new.domain.boxes.publishers) s given made.0 (Some e)))
           (fixed-settings {T = g.row.T.Denot} {U = g.row.U.Denot} c.args.domain.now c.args.loans c.args.strategy c.args.len c.args.asked_slots c.args.degradation c.args.backpressure _ c.value_factory-factory.ensures
-          (sym c.variant.ensures ∙ c.in-FixedSize.is) m s shown) made.2,
+          (sym c.variant.ensures ∙ c.in-FixedSize.is) m s shown) made.2),
     )
 
 pub returns-in_ok-publisher-in-Dynamic-clause-creates : goal.returns-in_ok-publisher-in-Dynamic-clause-creates
@@ -28,7 +32,8 @@ returns-in_ok-publisher-in-Dynamic-clause-creates g c = λ m s shown.
       made.1,
       (
         ap (λ (publisher : Publisher). publisher.id) c.into_inner.ensures ∙ (made.2).0,
-        subst (λ (given : PublisherSettings). CreatePublisher fixed_handlers s given made.0 None) is (made.2).1,
+        publisher_created (answers_of g.F.BackpressureFn.allows g.G.DegradationFn.allows c.create_slices-publisher.new.domain.boxes.publishers) s (settings_of c.args.loans c.args.strategy c.args.len c.args.asked_slots c.args.degradation c.args.backpressure s) (always_unboxed c.args.degradation) made.0 None
+            (subst (λ (given : PublisherSettings). CreatePublisher (answers_of g.F.BackpressureFn.allows g.G.DegradationFn.allows c.create_slices-publisher.new.domain.boxes.publishers) s given made.0 None) is (made.2).1),
       ),
     )
 
@@ -38,4 +43,9 @@ returns-in_err-publisher-in-Dynamic-clause-creates g c = λ m s shown.
     (sym c.variant.ensures ∙ c.in-Dynamic.is) m s shown in
     let refused = err_from_is_err_and c.from_residual.result c.from_residual.ensures.1 in
     let made = c.in_err-publisher-in-Dynamic.ensures.creates m s shown in
-    rw (refused.1, refused.2) (made.0, made.1, subst (λ (given : PublisherSettings). CreatePublisher fixed_handlers s given made.0 (Some c.in_err-publisher-in-Dynamic.field-0.0)) is made.2)
+    rw (refused.1, refused.2) (
+      made.0,
+      made.1,
+      publisher_created (answers_of g.F.BackpressureFn.allows g.G.DegradationFn.allows c.create_slices-publisher.new.domain.boxes.publishers) s (settings_of c.args.loans c.args.strategy c.args.len c.args.asked_slots c.args.degradation c.args.backpressure s) (always_unboxed c.args.degradation) made.0 (Some c.in_err-publisher-in-Dynamic.field-0.0)
+          (subst (λ (given : PublisherSettings). CreatePublisher (answers_of g.F.BackpressureFn.allows g.G.DegradationFn.allows c.create_slices-publisher.new.domain.boxes.publishers) s given made.0 (Some c.in_err-publisher-in-Dynamic.field-0.0)) is made.2),
+    )

@@ -1,6 +1,6 @@
 use Rattle.std.proofs.Common.{◌≡◌, refl, sym, ap, subst, ◌∙◌, Option, None, Some}
 use Rattle.std.specs.Prelude.{Result, IfOk, IfSome}
-use Rattle.std.specs.declared.result.Result.TheVariants.{Ok}
+use Rattle.std.specs.declared.result.Result.TheVariants.{Ok, Err}
 use Rattle.iox2_store.specs.machine.Environments.{fixed_handlers}
 use Rattle.iox2_store.specs.machine.Receives.{Receive}
 use Rattle.iox2_store.specs.declared.service_config.ServiceConfig.{ServiceConfig}
@@ -13,7 +13,9 @@ use Rattle.iox2_runs.specs.Carries.{entry_for}
 use Rattle.iox2_runs.specs.declared.runs.made.Made.{Made}
 use Rattle.iox2_runs.proofs.TableLooks.{is_subscriber_entry}
 use Rattle.iox2_runs.proofs.TableEntries.{looked, looked_past, not_subscriber}
-use Rattle.iox2_runs.proofs.LiveEntries.{live_subscriber}
+use Rattle.iox2_runs.proofs.LiveEntries.{live_subscriber, unboxed_subscriber}
+use Rattle.iox2_domain.specs.Boxes.{answers_of}
+use Rattle.iox2_runs.proofs.FixedCalls.{received}
 use Rattle.iox2_runs.proofs.CarriedSamples.{receive_passed, receive_of_other, receive_carried, receive_none, receive_denied}
 use Rattle.iox2_runs.proofs.LeavingSteps.{leaves-all, leaves-making}
 use Rattle.iox2_pubsub.specs.Live.{IsNewIn, received_sample}
@@ -42,7 +44,10 @@ returns-in-Ok-Some-clause-carries g c =
     refl
     c.in-Subscriber.subscriber c.in-Ok-Some.sample c.origin.result (looked c.args.table.now c.args.of c.get.result c.in-Some.made _ c.get.ensures.lookup c.in-Some.is c.in-Subscriber.is)
     (ap (λ (k : ServiceConfig). k.units_per_element) (sym c.config.ensures.value) ∙ c.if-config-ne1.false)
-    (λ m s shown. let got = c.receive.ensures.receives m s shown in (got.0, got.1, subst (λ r. Receive fixed_handlers s c.in-Subscriber.subscriber.id got.0 (received_result r)) result got.2))
+    (received {T = g.row.T.Denot} {U = g.row.U.Denot} (answers_of g.F.BackpressureFn.allows g.G.DegradationFn.allows c.args.domain.now.boxes.subscribers) c.args.domain.now c.receive.new.domain c.in-Subscriber.subscriber.id
+    (unboxed_subscriber {T = g.row.T.Denot} {U = g.row.U.Denot} c.args.domain.now c.args.table.now c.requires c.args.of c.in-Subscriber.subscriber (looked c.args.table.now c.args.of c.get.result c.in-Some.made _ c.get.ensures.lookup c.in-Some.is c.in-Subscriber.is))
+    (received_result (Ok (Some c.in-Ok-Some.sample)))
+    (λ m s shown. let got = c.receive.ensures.receives m s shown in (got.0, got.1, subst (λ r. Receive (answers_of g.F.BackpressureFn.allows g.G.DegradationFn.allows c.args.domain.now.boxes.subscribers) s c.in-Subscriber.subscriber.id got.0 (received_result r)) result got.2)))
     (sample-parts {T = g.row.T.Denot} {U = g.row.U.Denot} c.receive.new.domain _ live).0 whose c.origin.ensures
 
 pub returns-in-Ok-None-clause-carries : goal.returns-in-Ok-None-clause-carries
@@ -52,7 +57,10 @@ returns-in-Ok-None-clause-carries g c =
     refl
     c.in-Subscriber.subscriber (looked c.args.table.now c.args.of c.get.result c.in-Some.made _ c.get.ensures.lookup c.in-Some.is c.in-Subscriber.is)
     (ap (λ (k : ServiceConfig). k.units_per_element) (sym c.config.ensures.value) ∙ c.if-config-ne1.false)
-    (λ m s shown. let got = c.receive.ensures.receives m s shown in (got.0, got.1, subst (λ r. Receive fixed_handlers s c.in-Subscriber.subscriber.id got.0 (received_result r)) result got.2))
+    (received {T = g.row.T.Denot} {U = g.row.U.Denot} (answers_of g.F.BackpressureFn.allows g.G.DegradationFn.allows c.args.domain.now.boxes.subscribers) c.args.domain.now c.receive.new.domain c.in-Subscriber.subscriber.id
+    (unboxed_subscriber {T = g.row.T.Denot} {U = g.row.U.Denot} c.args.domain.now c.args.table.now c.requires c.args.of c.in-Subscriber.subscriber (looked c.args.table.now c.args.of c.get.result c.in-Some.made _ c.get.ensures.lookup c.in-Some.is c.in-Subscriber.is))
+    (received_result (Ok None))
+    (λ m s shown. let got = c.receive.ensures.receives m s shown in (got.0, got.1, subst (λ r. Receive (answers_of g.F.BackpressureFn.allows g.G.DegradationFn.allows c.args.domain.now.boxes.subscribers) s c.in-Subscriber.subscriber.id got.0 (received_result r)) result got.2)))
 
 pub returns-in-Err-clause-carries : goal.returns-in-Err-clause-carries
 returns-in-Err-clause-carries g c =
@@ -60,7 +68,10 @@ returns-in-Err-clause-carries g c =
     refl
     c.in-Subscriber.subscriber c.in-Err.error (looked c.args.table.now c.args.of c.get.result c.in-Some.made _ c.get.ensures.lookup c.in-Some.is c.in-Subscriber.is)
     (ap (λ (k : ServiceConfig). k.units_per_element) (sym c.config.ensures.value) ∙ c.if-config-ne1.false)
-    (λ m s shown. let got = c.receive.ensures.receives m s shown in (got.0, got.1, subst (λ r. Receive fixed_handlers s c.in-Subscriber.subscriber.id got.0 (received_result r)) c.in-Err.is got.2))
+    (received {T = g.row.T.Denot} {U = g.row.U.Denot} (answers_of g.F.BackpressureFn.allows g.G.DegradationFn.allows c.args.domain.now.boxes.subscribers) c.args.domain.now c.receive.new.domain c.in-Subscriber.subscriber.id
+    (unboxed_subscriber {T = g.row.T.Denot} {U = g.row.U.Denot} c.args.domain.now c.args.table.now c.requires c.args.of c.in-Subscriber.subscriber (looked c.args.table.now c.args.of c.get.result c.in-Some.made _ c.get.ensures.lookup c.in-Some.is c.in-Subscriber.is))
+    (received_result (Err c.in-Err.error))
+    (λ m s shown. let got = c.receive.ensures.receives m s shown in (got.0, got.1, subst (λ r. Receive (answers_of g.F.BackpressureFn.allows g.G.DegradationFn.allows c.args.domain.now.boxes.subscribers) s c.in-Subscriber.subscriber.id got.0 (received_result r)) c.in-Err.is got.2)))
 
 pub returns-in_default-made-clause-carries : goal.returns-in_default-made-clause-carries
 returns-in_default-made-clause-carries g c =

@@ -6,7 +6,9 @@ use Rattle.iox2_pubsub.specs.UpdateCalls.{failure_of}
 use Rattle.iox2_runs.proofs.TableLooks.{is_publisher_entry, is_subscriber_entry}
 use Rattle.iox2_runs.proofs.TableEntries.{looked, looked_past, not_publisher, not_subscriber}
 use Rattle.iox2_pubsub.specs.Live.{publisher_key}
-use Rattle.iox2_runs.proofs.LiveEntries.{live_publisher, live_subscriber, known_publisher, ready_publisher, shown_free, shown_waits}
+use Rattle.iox2_runs.proofs.LiveEntries.{live_publisher, live_subscriber, known_publisher, ready_publisher, shown_free, shown_waits, unboxed_publisher, unboxed_subscriber}
+use Rattle.iox2_domain.specs.Boxes.{answers_of}
+use Rattle.iox2_runs.proofs.FixedCalls.{publisher_updated, subscriber_updated}
 use Rattle.iox2_runs.proofs.CarriedUpdates.{update_passed, update_held_up, update_of_publisher, update_of_subscriber}
 use Rattle.iox2_runs.proofs.LeavingSteps.{leaves-all, leaves-making}
 use Rattle.iox2_pubsub.proofs.StaysBut.{nothing-is-new}
@@ -24,7 +26,9 @@ returns-in-Subscriber-clause-carries g c =
     update_of_subscriber {T = g.row.T.Denot} {U = g.row.U.Denot} fixed_handlers _ c.args.domain.now c.update_connections-in-Subscriber.new.domain c.args.table.now c.args.of
     c.in-Subscriber.subscriber (failure_of c.update_connections-in-Subscriber.result) c.update_reply-in-Subscriber.result
     (looked c.args.table.now c.args.of c.get.result c.in-Some.made _ c.get.ensures.lookup c.in-Some.is c.in-Subscriber.is)
-    c.update_connections-in-Subscriber.ensures.updates c.update_reply-in-Subscriber.ensures
+    (subscriber_updated {T = g.row.T.Denot} {U = g.row.U.Denot} (answers_of g.F.BackpressureFn.allows g.G.DegradationFn.allows c.args.domain.now.boxes.subscribers) c.args.domain.now c.update_connections-in-Subscriber.new.domain c.in-Subscriber.subscriber.id
+    (unboxed_subscriber {T = g.row.T.Denot} {U = g.row.U.Denot} c.args.domain.now c.args.table.now c.requires c.args.of c.in-Subscriber.subscriber (looked c.args.table.now c.args.of c.get.result c.in-Some.made _ c.get.ensures.lookup c.in-Some.is c.in-Subscriber.is))
+    (failure_of c.update_connections-in-Subscriber.result) c.update_connections-in-Subscriber.ensures.updates) c.update_reply-in-Subscriber.ensures
 
 pub returns-in_default-made-clause-carries : goal.returns-in_default-made-clause-carries
 returns-in_default-made-clause-carries g c =
@@ -78,7 +82,9 @@ returns-else-is_blocked-clause-carries g c =
     c.in-Publisher.publisher (failure_of c.update_connections.result) c.update_reply.result
     (looked c.args.table.now c.args.of c.get.result c.in-Some.made _ c.get.ensures.lookup c.in-Some.is c.in-Publisher.is)
     (shown_free {T = g.row.T.Denot} {U = g.row.U.Denot} c.args.domain.now (publisher_key c.in-Publisher.publisher) (c.is_blocked.ensures.0 c.if-is_blocked.false))
-    c.update_connections.ensures.updates c.update_reply.ensures
+    (publisher_updated {T = g.row.T.Denot} {U = g.row.U.Denot} (answers_of g.F.BackpressureFn.allows g.G.DegradationFn.allows c.args.domain.now.boxes.publishers) c.args.domain.now c.update_connections.new.domain c.in-Publisher.publisher.id
+    (unboxed_publisher {T = g.row.T.Denot} {U = g.row.U.Denot} c.args.domain.now c.args.table.now c.requires c.args.of c.in-Publisher.publisher (looked c.args.table.now c.args.of c.get.result c.in-Some.made _ c.get.ensures.lookup c.in-Some.is c.in-Publisher.is))
+    (failure_of c.update_connections.result) c.update_connections.ensures.updates) c.update_reply.ensures
 
 pub returns-else-is_blocked-clause-leaves : goal.returns-else-is_blocked-clause-leaves
 returns-else-is_blocked-clause-leaves g c =

@@ -6,7 +6,8 @@ use Rattle.iox2_domain.proofs.lemmas.fields.ConnectionEnds.{free-of}
 use Rattle.iox2_laws.proofs.Waits.{update_publisher_waits}
 use Rattle.iox2_pubsub.proofs.LiveParts.{unblocked-test}
 use Rattle.iox2_pubsub.proofs.StaysBut.{same-boxes, IsSpared}
-use Rattle.iox2_store.specs.machine.Environments.{fixed_handlers}
+use Rattle.iox2_domain.specs.Boxes.{answers_of}
+use Rattle.iox2_pubsub.proofs.KeptAnswers.{publisher-updated}
 use Rattle.iox2_laws.proofs.LoanKeeping.{update_publisher_loans}
 use Rattle.iox2_laws.proofs.PortsStay.{update_publisher_stays}
 use Rattle.iox2_laws.proofs.Waits.{update_publisher_waits}
@@ -34,17 +35,18 @@ invariant_of-domain g c = (c.update_publisher.ensures c.in-Some.ensures.0 c.in-S
 
 pub returns-clause-updates : goal.returns-clause-updates
 returns-clause-updates g c = λ m s shown.
-    publisher-update-shows {T = g.row.T.Denot} {U = g.row.U.Denot} fixed_handlers c.args.domain.now c.domain.inside.state c.update_publisher.new.state c.domain.view_is
+    publisher-update-shows {T = g.row.T.Denot} {U = g.row.U.Denot} (answers_of g.F.BackpressureFn.allows g.G.DegradationFn.allows c.args.domain.now.boxes.publishers) c.args.domain.now c.domain.inside.state c.update_publisher.new.state c.domain.view_is
     c.in-Some.place c.args.self.now.id m s shown (failure_of c.outcome_of.result) c.in-Some.ensures
-    (λ x at. subst (UpdatesPublisher fixed_handlers c.domain.inside.state c.in-Some.place x c.update_publisher.new.state) (sym c.outcome_of.ensures) (c.update_publisher.ensures x at))
+    (λ x at. subst (UpdatesPublisher (answers_of g.F.BackpressureFn.allows g.G.DegradationFn.allows c.args.domain.now.boxes.publishers) c.domain.inside.state c.in-Some.place x c.update_publisher.new.state) (sym c.outcome_of.ensures) 
+    (publisher-updated g.F.BackpressureFn.allows g.G.DegradationFn.allows c.domain.inside.state c.update_publisher.new.state c.args.domain.now c.domain.view_is c.in-Some.place c.update_publisher.result c.update_publisher.ensures x at))
 
 pub returns-clause-stays : goal.returns-clause-stays
 returns-clause-stays g c =
     let it = always-shown {T = g.row.T.Denot} {U = g.row.U.Denot} c.domain.inside.state c.args.domain.now c.domain.invariant c.domain.view_is in
     let step = returns-clause-updates g c it.0 it.1 it.2 in
     updates-stay {T = g.row.T.Denot} {U = g.row.U.Denot} c.args.domain.now (keeping _ c.update_publisher.new.state) it.0 it.1 step.0 it.2 step.1
-    (update_publisher_stays fixed_handlers it.1 c.args.self.now.id step.0 (failure_of c.outcome_of.result) step.2) (update_publisher_loans fixed_handlers it.1 c.args.self.now.id step.0 (failure_of c.outcome_of.result) step.2)
-    (update_publisher_waits (IsSpared No_item) fixed_handlers it.1 c.args.self.now.id step.0 (failure_of c.outcome_of.result) step.2) (same-boxes c.domain.inside.state c.update_publisher.new.state c.args.domain.now c.domain.view_is)
+    (update_publisher_stays (answers_of g.F.BackpressureFn.allows g.G.DegradationFn.allows c.args.domain.now.boxes.publishers) it.1 c.args.self.now.id step.0 (failure_of c.outcome_of.result) step.2) (update_publisher_loans (answers_of g.F.BackpressureFn.allows g.G.DegradationFn.allows c.args.domain.now.boxes.publishers) it.1 c.args.self.now.id step.0 (failure_of c.outcome_of.result) step.2)
+    (update_publisher_waits (IsSpared No_item) (answers_of g.F.BackpressureFn.allows g.G.DegradationFn.allows c.args.domain.now.boxes.publishers) it.1 c.args.self.now.id step.0 (failure_of c.outcome_of.result) step.2) (same-boxes c.domain.inside.state c.update_publisher.new.state c.args.domain.now c.domain.view_is)
 
 pub update_publisher-requires-clause-stands : goal.update_publisher-requires-clause-stands
 update_publisher-requires-clause-stands g c = (c.in-Some.ensures.0, c.in-Some.ensures.1)
@@ -59,19 +61,19 @@ pub returns-clause-adds : goal.returns-clause-adds
 returns-clause-adds g c =
     let it = always-shown {T = g.row.T.Denot} {U = g.row.U.Denot} c.domain.inside.state c.args.domain.now c.domain.invariant c.domain.view_is in
     let step = returns-clause-updates g c it.0 it.1 it.2 in
-    publisher-update-adds {T = g.row.T.Denot} {U = g.row.U.Denot} c.args.domain.now (keeping _ c.update_publisher.new.state) it.0 it.0 it.1 step.0 it.2 step.1 fixed_handlers c.args.self.now.id (failure_of c.outcome_of.result) step.2
+    publisher-update-adds {T = g.row.T.Denot} {U = g.row.U.Denot} c.args.domain.now (keeping _ c.update_publisher.new.state) it.0 it.0 it.1 step.0 it.2 step.1 (answers_of g.F.BackpressureFn.allows g.G.DegradationFn.allows c.args.domain.now.boxes.publishers) c.args.self.now.id (failure_of c.outcome_of.result) step.2
 
 pub returns-clause-up_to_date : goal.returns-clause-up_to_date
 returns-clause-up_to_date g c =
     let it = always-shown {T = g.row.T.Denot} {U = g.row.U.Denot} c.domain.inside.state c.args.domain.now c.domain.invariant c.domain.view_is in
     let step = returns-clause-updates g c it.0 it.1 it.2 in
-    publisher-update-leaves {T = g.row.T.Denot} {U = g.row.U.Denot} c.args.domain.now (keeping _ c.update_publisher.new.state) it.0 it.0 it.1 step.0 it.2 step.1 fixed_handlers c.args.self.now.id (failure_of c.outcome_of.result) step.2
+    publisher-update-leaves {T = g.row.T.Denot} {U = g.row.U.Denot} c.args.domain.now (keeping _ c.update_publisher.new.state) it.0 it.0 it.1 step.0 it.2 step.1 (answers_of g.F.BackpressureFn.allows g.G.DegradationFn.allows c.args.domain.now.boxes.publishers) c.args.self.now.id (failure_of c.outcome_of.result) step.2
 
 pub returns-clause-loans_left : goal.returns-clause-loans_left
 returns-clause-loans_left g c =
     let it = always-shown {T = g.row.T.Denot} {U = g.row.U.Denot} c.domain.inside.state c.args.domain.now c.domain.invariant c.domain.view_is in
     let step = returns-clause-updates g c it.0 it.1 it.2 in
-    update-publisher-left {T = g.row.T.Denot} {U = g.row.U.Denot} c.args.domain.now (keeping _ c.update_publisher.new.state) it.0 it.0 it.1 step.0 it.2 step.1 fixed_handlers c.args.self.now.id (failure_of c.outcome_of.result) step.2
+    update-publisher-left {T = g.row.T.Denot} {U = g.row.U.Denot} c.args.domain.now (keeping _ c.update_publisher.new.state) it.0 it.0 it.1 step.0 it.2 step.1 (answers_of g.F.BackpressureFn.allows g.G.DegradationFn.allows c.args.domain.now.boxes.publishers) c.args.self.now.id (failure_of c.outcome_of.result) step.2
 
 pub update_publisher-requires-clause-unblocked : goal.update_publisher-requires-clause-unblocked
 update_publisher-requires-clause-unblocked g c = λ z at_z.
@@ -80,4 +82,4 @@ update_publisher-requires-clause-unblocked g c = λ z at_z.
     let is : z ≡ found.0 = cc in
     ap (λ (w : PublisherFields). w.blocked) is
     ∙ free-of c.domain.inside.state c.domain.invariant.parts c.args.self.now.id c.in-Some.place found.0 found.1 found.2
-    (subst (λ (k : Kept g.row.T.Denot g.row.U.Denot g.row.F.Denot). is_blocked (state_of k) c.args.self.now.id ≡ false) (sym c.domain.view_is) (unblocked-test c.args.domain.now (publisher_key c.args.self.now) c.requires.live.unblocked))
+    (subst (λ (k : Kept g.row.T.Denot g.row.U.Denot g.row.F.Denot g.row.G.Denot). is_blocked (state_of k) c.args.self.now.id ≡ false) (sym c.domain.view_is) (unblocked-test c.args.domain.now (publisher_key c.args.self.now) c.requires.live.unblocked))

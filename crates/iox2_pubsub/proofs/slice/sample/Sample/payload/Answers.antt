@@ -9,17 +9,17 @@ use Rattle.iox2_pubsub.proofs.slice.sample.Sample.payload.Goals as goal
 
 pub sample_payloads-requires-clause-live : goal.sample_payloads-requires-clause-live
 sample_payloads-requires-clause-live g c =
-    subst (λ (k : Kept g.row.T.Denot g.row.U.Denot g.row.F.Denot). HoldsSample (state_of k) c.args.self.now.sample.sample.subscriber c.args.self.now.sample.sample.number) (sym c.domain.view_is) (sample-parts c.args.domain.now _ c.requires.live).1
+    subst (λ (k : Kept g.row.T.Denot g.row.U.Denot g.row.F.Denot g.row.G.Denot). HoldsSample (state_of k) c.args.self.now.sample.sample.subscriber c.args.self.now.sample.sample.number) (sym c.domain.view_is) (sample-parts c.args.domain.now _ c.requires.live).1
 
 pub sample_payloads-requires-clause-several : goal.sample_payloads-requires-clause-several
 sample_payloads-requires-clause-several g c =
-    subst (λ (k : Kept g.row.T.Denot g.row.U.Denot g.row.F.Denot). is_single_valued k.config ≡ false) (sym c.domain.view_is) (sliced-parts c.args.domain.now c.requires.sliced)
+    subst (λ (k : Kept g.row.T.Denot g.row.U.Denot g.row.F.Denot g.row.G.Denot). is_single_valued k.config ≡ false) (sym c.domain.view_is) (sliced-parts c.args.domain.now c.requires.sliced)
 
 pub returns-clause-reads : goal.returns-clause-reads
 returns-clause-reads g c =
     let read = c.sample_payloads.ensures in
     sample-values c.args.domain.now (sample_key c.args.self.now.sample) c.sample_payloads.result.now
-    (read.0, ap (λ (k : Kept g.row.T.Denot g.row.U.Denot g.row.F.Denot). entries_of k c.args.self.now.sample.sample.number) (sym c.domain.view_is) ∙ read.1, read.2)
+    (read.0, ap (λ (k : Kept g.row.T.Denot g.row.U.Denot g.row.F.Denot g.row.G.Denot). entries_of k c.args.self.now.sample.sample.number) (sym c.domain.view_is) ∙ read.1, read.2)
 
 pub returns-clause-same : goal.returns-clause-same
 returns-clause-same g c = λ values has. sample-values-one c.args.domain.now (sample_key c.args.self.now.sample) c.sample_payloads.result.now values (returns-clause-reads g c) has

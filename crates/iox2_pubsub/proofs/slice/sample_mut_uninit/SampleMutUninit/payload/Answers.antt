@@ -10,10 +10,10 @@ pub loan_cells-requires-clause-live : goal.loan_cells-requires-clause-live
 loan_cells-requires-clause-live g c = unwritten-out {T = g.row.T.Denot} {U = g.row.U.Denot} _ c.args.domain.now c.domain.view_is c.args.self.now.sample c.requires.live
 
 pub loan_cells-requires-clause-several : goal.loan_cells-requires-clause-several
-loan_cells-requires-clause-several g c = (subst (λ (k : Kept g.row.T.Denot g.row.U.Denot g.row.F.Denot). is_single_valued k.config ≡ false) (sym c.domain.view_is) (sliced-parts c.args.domain.now c.requires.sliced))
+loan_cells-requires-clause-several g c = (subst (λ (k : Kept g.row.T.Denot g.row.U.Denot g.row.F.Denot g.row.G.Denot). is_single_valued k.config ≡ false) (sym c.domain.view_is) (sliced-parts c.args.domain.now c.requires.sliced))
 
 pub returns-clause-reads : goal.returns-clause-reads
-returns-clause-reads g c = has-cells c.args.domain.now c.args.self.now.sample.loan.number c.loan_cells.result.now (subst (λ (k : Kept g.row.T.Denot g.row.U.Denot g.row.F.Denot). HasCells (state_of k) c.args.self.now.sample.loan.number c.loan_cells.result.now) c.domain.view_is c.loan_cells.ensures)
+returns-clause-reads g c = has-cells c.args.domain.now c.args.self.now.sample.loan.number c.loan_cells.result.now (subst (λ (k : Kept g.row.T.Denot g.row.U.Denot g.row.F.Denot g.row.G.Denot). HasCells (state_of k) c.args.self.now.sample.loan.number c.loan_cells.result.now) c.domain.view_is c.loan_cells.ensures)
 
 pub returns-clause-same : goal.returns-clause-same
 returns-clause-same g c = λ cells has. cells-one c.args.domain.now c.args.self.now.sample.loan.number c.loan_cells.result.now cells (returns-clause-reads g c) has

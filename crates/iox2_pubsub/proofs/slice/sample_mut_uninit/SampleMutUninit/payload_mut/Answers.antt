@@ -14,7 +14,7 @@ pub find_live_loan-at-requires-clause-live : goal.find_live_loan-at-requires-cla
 find_live_loan-at-requires-clause-live g c = loan-out {T = g.row.T.Denot} {U = g.row.U.Denot} _ c.args.domain.now c.domain.view_is _ c.requires.live.live
 
 pub cells_at_mut-requires : goal.cells_at_mut-requires
-cells_at_mut-requires g c = cells-there {T = g.row.T.Denot} {U = g.row.U.Denot} c.domain.inside.state c.domain.invariant c.args.sample.now.sample.loan.publisher c.args.sample.now.sample.loan.number c.find_live_loan-at.result.book c.find_live_loan-at.result.slot c.find_live_loan-at.ensures (unwritten-out {T = g.row.T.Denot} {U = g.row.U.Denot} _ c.args.domain.now c.domain.view_is c.args.sample.now.sample c.requires.live) (subst (λ (k : Kept g.row.T.Denot g.row.U.Denot g.row.F.Denot). is_single_valued k.config ≡ false) (sym c.domain.view_is) (sliced-parts c.args.domain.now c.requires.sliced))
+cells_at_mut-requires g c = cells-there {T = g.row.T.Denot} {U = g.row.U.Denot} c.domain.inside.state c.domain.invariant c.args.sample.now.sample.loan.publisher c.args.sample.now.sample.loan.number c.find_live_loan-at.result.book c.find_live_loan-at.result.slot c.find_live_loan-at.ensures (unwritten-out {T = g.row.T.Denot} {U = g.row.U.Denot} _ c.args.domain.now c.domain.view_is c.args.sample.now.sample c.requires.live) (subst (λ (k : Kept g.row.T.Denot g.row.U.Denot g.row.F.Denot g.row.G.Denot). is_single_valued k.config ≡ false) (sym c.domain.view_is) (sliced-parts c.args.domain.now c.requires.sliced))
 
 pub invariant_of-domain-lent : goal.invariant_of-domain-lent
 invariant_of-domain-lent g c = λ w. (cells-lends {T = g.row.T.Denot} {U = g.row.U.Denot} c.domain.inside.state c.domain.invariant c.args.sample.now.sample.loan.publisher c.args.sample.now.sample.loan.number c.find_live_loan-at.result.book c.find_live_loan-at.result.slot c.find_live_loan-at.ensures (unwritten-out {T = g.row.T.Denot} {U = g.row.U.Denot} _ c.args.domain.now c.domain.view_is c.args.sample.now.sample c.requires.live) w).agrees
@@ -26,7 +26,7 @@ returns g c =
       record {
         writes_back = tt;
         same = refl;
-        payload = has-cells c.args.domain.now c.args.sample.now.sample.loan.number c.cells_at_mut.result.now (subst (λ (k : Kept g.row.T.Denot g.row.U.Denot g.row.F.Denot). HasCells (state_of k) c.args.sample.now.sample.loan.number c.cells_at_mut.result.now) c.domain.view_is known);
+        payload = has-cells c.args.domain.now c.args.sample.now.sample.loan.number c.cells_at_mut.result.now (subst (λ (k : Kept g.row.T.Denot g.row.U.Denot g.row.F.Denot g.row.G.Denot). HasCells (state_of k) c.args.sample.now.sample.loan.number c.cells_at_mut.result.now) c.domain.view_is known);
         changes = λ m s w shown. lent-shown {T = g.row.T.Denot} {U = g.row.U.Denot} c.domain.inside.state _ c.domain.invariant c.args.domain.now c.domain.view_is c.args.sample.now.sample.loan.number (c.find_live_loan-at.ensures).loan (c.find_live_loan-at.ensures).is_out (cells_changed w) (cells-lends {T = g.row.T.Denot} {U = g.row.U.Denot} c.domain.inside.state c.domain.invariant c.args.sample.now.sample.loan.publisher c.args.sample.now.sample.loan.number c.find_live_loan-at.result.book c.find_live_loan-at.result.slot c.find_live_loan-at.ensures (unwritten-out {T = g.row.T.Denot} {U = g.row.U.Denot} _ c.args.domain.now c.domain.view_is c.args.sample.now.sample c.requires.live) w) (with_cells c.args.domain.now c.args.sample.now.sample.loan.number w) (cells-word c.args.domain.now c.args.sample.now.sample.loan.number w) m s shown;
         out = λ w. lent-unwritten {T = g.row.T.Denot} {U = g.row.U.Denot} c.domain.inside.state _ c.domain.invariant c.args.domain.now c.domain.view_is c.args.sample.now.sample.loan.number (c.find_live_loan-at.ensures).loan (c.find_live_loan-at.ensures).is_out (cells_changed w) (cells-lends {T = g.row.T.Denot} {U = g.row.U.Denot} c.domain.inside.state c.domain.invariant c.args.sample.now.sample.loan.publisher c.args.sample.now.sample.loan.number c.find_live_loan-at.result.book c.find_live_loan-at.result.slot c.find_live_loan-at.ensures (unwritten-out {T = g.row.T.Denot} {U = g.row.U.Denot} _ c.args.domain.now c.domain.view_is c.args.sample.now.sample c.requires.live) w) (with_cells c.args.domain.now c.args.sample.now.sample.loan.number w) (cells-word c.args.domain.now c.args.sample.now.sample.loan.number w) refl refl c.args.sample.now.sample refl c.requires.live;
         live = λ never w. lent-unwritten-loan {T = g.row.T.Denot} {U = g.row.U.Denot} c.domain.inside.state _ c.domain.invariant c.args.domain.now c.domain.view_is c.args.sample.now.sample.loan.number (c.find_live_loan-at.ensures).loan (c.find_live_loan-at.ensures).is_out (cells_changed w) (cells-lends {T = g.row.T.Denot} {U = g.row.U.Denot} c.domain.inside.state c.domain.invariant c.args.sample.now.sample.loan.publisher c.args.sample.now.sample.loan.number c.find_live_loan-at.result.book c.find_live_loan-at.result.slot c.find_live_loan-at.ensures (unwritten-out {T = g.row.T.Denot} {U = g.row.U.Denot} _ c.args.domain.now c.domain.view_is c.args.sample.now.sample c.requires.live) w) (with_cells c.args.domain.now c.args.sample.now.sample.loan.number w) (cells-word c.args.domain.now c.args.sample.now.sample.loan.number w) refl refl c.args.sample.now.sample refl c.requires.live never;

@@ -15,7 +15,7 @@ pub write_loan_from_fn-loan-requires-clause-live : goal.write_loan_from_fn-loan-
 write_loan_from_fn-loan-requires-clause-live g c = unwritten-out {T = g.row.T.Denot} {U = g.row.U.Denot} _ c.args.domain.now c.domain.view_is c.args.self.sample c.requires.live
 
 pub write_loan_from_fn-loan-requires-clause-several : goal.write_loan_from_fn-loan-requires-clause-several
-write_loan_from_fn-loan-requires-clause-several g c = (subst (λ (k : Kept g.row.T.Denot g.row.U.Denot g.row.F.Denot). is_single_valued k.config ≡ false) (sym c.domain.view_is) (sliced-parts c.args.domain.now c.requires.sliced))
+write_loan_from_fn-loan-requires-clause-several g c = (subst (λ (k : Kept g.row.T.Denot g.row.U.Denot g.row.F.Denot g.row.G.Denot). is_single_valued k.config ≡ false) (sym c.domain.view_is) (sliced-parts c.args.domain.now c.requires.sliced))
 
 pub returns-clause-written : goal.returns-clause-written
 returns-clause-written g c = (c.write_loan_from_fn-loan.ensures.writes.0, c.write_loan_from_fn-loan.ensures.writes.1, filled-values {T = g.row.T.Denot} {U = g.row.U.Denot} c.domain.inside.state c.write_loan_from_fn-loan.new.state c.domain.invariant c.args.domain.now c.domain.view_is c.args.self.sample.loan.number c.write_loan_from_fn-loan.ensures.writes.0 c.write_loan_from_fn-loan.ensures.writes.2 _ (ap (λ (at : LoanAt). at.number) c.write_loan_from_fn-loan.ensures.same), filled-shown {T = g.row.T.Denot} {U = g.row.U.Denot} c.domain.inside.state c.write_loan_from_fn-loan.new.state c.domain.invariant c.args.domain.now c.domain.view_is c.args.self.sample.loan.number c.write_loan_from_fn-loan.ensures.writes.0 c.write_loan_from_fn-loan.ensures.writes.2)
@@ -29,13 +29,13 @@ returns-clause-stays g c = filled-stays {T = g.row.T.Denot} {U = g.row.U.Denot} 
 pub returns-clause-live : goal.returns-clause-live
 returns-clause-live g c = λ never. record {
   out = returns-clause-out g c;
-  never_waits = never-waits-alike (keeping (c.domain.inside.boxes).boxes c.write_loan_from_fn-loan.new.state) (unwritten_key c.args.self.sample) (written_key (record { service_id = c.args.self.sample.service_id; loan = c.write_loan_from_fn-loan.result }))
+  never_waits = never-waits-alike (keeping (record { publishers = (c.domain.inside.boxes).boxes; subscribers = (c.domain.inside.subscriber_boxes).boxes }) c.write_loan_from_fn-loan.new.state) (unwritten_key c.args.self.sample) (written_key (record { service_id = c.args.self.sample.service_id; loan = c.write_loan_from_fn-loan.result }))
       (ap (λ (at : LoanAt). at.publisher) c.write_loan_from_fn-loan.ensures.same) ((returns-clause-stays g c).never_wait (unwritten_key c.args.self.sample) never);
 }
 
 pub returns-clause-unblocked : goal.returns-clause-unblocked
 returns-clause-unblocked g c = λ free.
-    unblocked-alike (keeping (c.domain.inside.boxes).boxes c.write_loan_from_fn-loan.new.state) (unwritten_key c.args.self.sample) (written_key (record { service_id = c.args.self.sample.service_id; loan = c.write_loan_from_fn-loan.result }))
+    unblocked-alike (keeping (record { publishers = (c.domain.inside.boxes).boxes; subscribers = (c.domain.inside.subscriber_boxes).boxes }) c.write_loan_from_fn-loan.new.state) (unwritten_key c.args.self.sample) (written_key (record { service_id = c.args.self.sample.service_id; loan = c.write_loan_from_fn-loan.result }))
     (ap (λ (at : LoanAt). at.publisher) c.write_loan_from_fn-loan.ensures.same) ((returns-clause-stays g c).unblocked (unwritten_key c.args.self.sample) free tt)
 
 pub returns-clause-loans_left : goal.returns-clause-loans_left
@@ -48,7 +48,7 @@ returns-clause-lengths g c = λ cells values has reads.
 
 pub returns-clause-lent : goal.returns-clause-lent
 returns-clause-lent g c = λ lent.
-    subst (λ (p : ℕ). IsPublisherKey (keeping (c.domain.inside.boxes).boxes c.write_loan_from_fn-loan.new.state) (record { service_id = c.args.self.sample.service_id; port = p; message = 0 })) (sym (ap (λ (at : LoanAt). at.publisher) c.write_loan_from_fn-loan.ensures.same))
+    subst (λ (p : ℕ). IsPublisherKey (keeping (record { publishers = (c.domain.inside.boxes).boxes; subscribers = (c.domain.inside.subscriber_boxes).boxes }) c.write_loan_from_fn-loan.new.state) (record { service_id = c.args.self.sample.service_id; port = p; message = 0 })) (sym (ap (λ (at : LoanAt). at.publisher) c.write_loan_from_fn-loan.ensures.same))
     ((returns-clause-stays g c).publishers (lender_key (unwritten_key c.args.self.sample)) lent tt)
 
 pub returns-clause-header : goal.returns-clause-header

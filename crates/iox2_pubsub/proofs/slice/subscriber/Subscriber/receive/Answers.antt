@@ -1,5 +1,5 @@
 use Rattle.std.proofs.Common.{ap, subst, ◌∙◌, Option, Result, Ok}
-use Rattle.iox2_store.specs.machine.Environments.{fixed_handlers}
+use Rattle.iox2_domain.specs.Boxes.{answers_of}
 use Rattle.iox2_store.specs.machine.Receives.{Receive}
 use Rattle.iox2_store.specs.declared.errors.ReceiveError.{ReceiveError}
 use Rattle.iox2_pubsub.specs.ReceivedSamples.{received_result}
@@ -11,7 +11,7 @@ returns-in-Ok-Some-clause-receives g c = λ m s shown.
     let received = c.receive.ensures.receives m s shown in (
       received.0,
       received.1,
-      subst (λ (result : Result (Option Sample) ReceiveError). Receive fixed_handlers s c.args.self.now.subscriber.id received.0 (received_result result))
+      subst (λ (result : Result (Option Sample) ReceiveError). Receive (answers_of g.F.BackpressureFn.allows g.G.DegradationFn.allows c.args.domain.now.boxes.subscribers) s c.args.self.now.subscriber.id received.0 (received_result result))
           (c.in-Ok-Some.is ∙ ap Ok c.in-Ok-Some.field-0-is) received.2,
     )
 
@@ -20,6 +20,6 @@ returns-in-Ok-None-clause-receives g c = λ m s shown.
     let received = c.receive.ensures.receives m s shown in (
       received.0,
       received.1,
-      subst (λ (result : Result (Option Sample) ReceiveError). Receive fixed_handlers s c.args.self.now.subscriber.id received.0 (received_result result))
+      subst (λ (result : Result (Option Sample) ReceiveError). Receive (answers_of g.F.BackpressureFn.allows g.G.DegradationFn.allows c.args.domain.now.boxes.subscribers) s c.args.self.now.subscriber.id received.0 (received_result result))
           (c.in-Ok-None.is ∙ ap Ok c.in-Ok-None.field-0-is) received.2,
     )

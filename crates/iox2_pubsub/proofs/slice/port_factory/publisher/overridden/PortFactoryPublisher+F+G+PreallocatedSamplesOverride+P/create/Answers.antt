@@ -1,6 +1,6 @@
 use Rattle.std.proofs.Common.{◌≡◌, ◌∙◌, ℕ, ap, subst, Option}
 use Rattle.std.specs.declared.option.Option.TheVariants.{None, Some}
-use Rattle.iox2_store.specs.machine.Environments.{fixed_handlers}
+use Rattle.iox2_domain.specs.Boxes.{answers_of}
 use Rattle.iox2_store.specs.machine.Limits.{worst_case}
 use Rattle.iox2_store.specs.machine.Ports.{CreatePublisher}
 use Rattle.iox2_store.specs.machine.Records.{PublisherSettings}
@@ -14,18 +14,18 @@ use Rattle.iox2_ports.specs.Settings.{static_with}
 use Rattle.iox2_pubsub.specs.Factories.{AsksFor, PublisherFactory, callback_of, with_slots}
 use Rattle.iox2_pubsub.specs.Handles.{publisher_id}
 use Rattle.iox2_pubsub.specs.declared.port_factory.preallocation.PreallocatedSamplesOverride.{PreallocatedSamplesOverride}
-use Rattle.iox2_pubsub.proofs.slice.port_factory.publisher.overridden.PortFactoryPublisher+F+PreallocatedSamplesOverride+P.create.Goals as goal
+use Rattle.iox2_pubsub.proofs.slice.port_factory.publisher.overridden.PortFactoryPublisher+F+G+PreallocatedSamplesOverride+P.create.Goals as goal
 
 pub returns-in-Ok-clause-creates : goal.returns-in-Ok-clause-creates
 returns-in-Ok-clause-creates g c =
     let asked : Option ℕ = c.ask-segments.result.asked_slots in
     let Makes : PublisherSettings → Type 0 = λ given. (m : Messages g.row.T.Denot g.row.U.Denot) (s : State g.row.T.Denot g.row.U.Denot) → Shows c.args.domain.now m s
     → (s' : State g.row.T.Denot g.row.U.Denot) × Shows c.create_plain.new.domain m s'
-    × ((publisher_id c.in-Ok.publisher ≡ s.next_port) × CreatePublisher fixed_handlers s given s' None) in
+    × ((publisher_id c.in-Ok.publisher ≡ s.next_port) × CreatePublisher (answers_of g.F.BackpressureFn.allows g.G.DegradationFn.allows c.create_plain.new.domain.boxes.publishers) s given s' None) in
     let made = subst (λ (a : AllocationStrategy). Makes (record (static_with c.self.inside.options (marks_of c.self.inside.backpressure_handler) asked) { allocation_strategy = a })) c.ask-segments.ensures.allocation c.in-Ok.ensures.creates in
     let asks = subst (λ (config : ServiceConfig). AsksFor (goal.P-post g c.self.inside.slots.preallocated.callback) (worst_case config c.self.inside.options.max_loaned_samples) asked)
-    (c.config.ensures ∙ ap (λ (k : Kept g.row.T.Denot g.row.U.Denot g.row.F.Denot). k.config) c.domain.view_is) c.ask-segments.ensures.asked in
-    subst (λ (given : PublisherFactory g.row.F.Denot (PreallocatedSamplesOverride g.row.P.Denot)). (x : Option ℕ)
+    (c.config.ensures ∙ ap (λ (k : Kept g.row.T.Denot g.row.U.Denot g.row.F.Denot g.row.G.Denot). k.config) c.domain.view_is) c.ask-segments.ensures.asked in
+    subst (λ (given : PublisherFactory g.row.F.Denot g.row.G.Denot (PreallocatedSamplesOverride g.row.P.Denot)). (x : Option ℕ)
     × AsksFor (goal.P-post g (callback_of given)) (worst_case (c.args.domain.now.config) given.settings.max_loaned_samples) x × Makes (with_slots given.settings x)) c.self.view_is
     (asked, asks, made)
 
@@ -33,10 +33,10 @@ pub returns-clause-creates : goal.returns-clause-creates
 returns-clause-creates g c =
     let asked : Option ℕ = c.ask-segments.result.asked_slots in
     let Refuses : PublisherSettings → Type 0 = λ given. (m : Messages g.row.T.Denot g.row.U.Denot) (s : State g.row.T.Denot g.row.U.Denot) → Shows c.args.domain.now m s
-    → (s' : State g.row.T.Denot g.row.U.Denot) × Shows c.create_plain.new.domain m s' × CreatePublisher fixed_handlers s given s' (Some c.in-Err.error) in
+    → (s' : State g.row.T.Denot g.row.U.Denot) × Shows c.create_plain.new.domain m s' × CreatePublisher (answers_of g.F.BackpressureFn.allows g.G.DegradationFn.allows c.create_plain.new.domain.boxes.publishers) s given s' (Some c.in-Err.error) in
     let refused = subst (λ (a : AllocationStrategy). Refuses (record (static_with c.self.inside.options (marks_of c.self.inside.backpressure_handler) asked) { allocation_strategy = a })) c.ask-segments.ensures.allocation c.in-Err.ensures.creates in
     let asks = subst (λ (config : ServiceConfig). AsksFor (goal.P-post g c.self.inside.slots.preallocated.callback) (worst_case config c.self.inside.options.max_loaned_samples) asked)
-    (c.config.ensures ∙ ap (λ (k : Kept g.row.T.Denot g.row.U.Denot g.row.F.Denot). k.config) c.domain.view_is) c.ask-segments.ensures.asked in
-    subst (λ (given : PublisherFactory g.row.F.Denot (PreallocatedSamplesOverride g.row.P.Denot)). (x : Option ℕ)
+    (c.config.ensures ∙ ap (λ (k : Kept g.row.T.Denot g.row.U.Denot g.row.F.Denot g.row.G.Denot). k.config) c.domain.view_is) c.ask-segments.ensures.asked in
+    subst (λ (given : PublisherFactory g.row.F.Denot g.row.G.Denot (PreallocatedSamplesOverride g.row.P.Denot)). (x : Option ℕ)
     × AsksFor (goal.P-post g (callback_of given)) (worst_case (c.args.domain.now.config) given.settings.max_loaned_samples) x × Refuses (with_slots given.settings x)) c.self.view_is
     (asked, asks, refused)

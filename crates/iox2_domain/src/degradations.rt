@@ -1,0 +1,31 @@
+//! What a port answers where it can't make a connection.
+ghost use Rattle.iox2_store.specs.machine.Connections.{DegradationAnswers};
+ghost use Rattle.iox2_domain.specs.Boxes.{answers_of};
+ghost use Rattle.iox2_domain.specs.Handlers.{handler_of};
+
+use crate::boxes::Boxes;
+use crate::handlers::HandlerMark;
+use iox2_store::{
+    BackpressureFn, DegradationAction, DegradationCause, DegradationFn, DegradationInfo,
+};
+
+/// What a port with an id and this mark answers where memory for a connection is refused. A box is
+/// looked for now; where there is none it is warned.
+pub fn degradation_answer<F: BackpressureFn, G: DegradationFn>(
+    mark: HandlerMark<DegradationAction>,
+    boxes: &Boxes<F, G>,
+    id: u128,
+    info: &DegradationInfo,
+) -> DegradationAction
+    ensures { DegradationAnswers (answers_of F.allows G.allows (boxes.now).boxes) id (handler_of mark) info.now result }
+{
+    match mark {
+        HandlerMark::Fixed(action) => action,
+        HandlerMark::Custom => match boxes.degradation_of(id) {
+            Some(function) => {
+                function.call(DegradationCause::FailedToEstablishConnection, info)
+            }
+            None => DegradationAction::Warn,
+        },
+    }
+}

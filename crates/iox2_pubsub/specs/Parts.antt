@@ -1,0 +1,78 @@
+-- Handles that are plain numbers.
+use Rattle.iox2_store.specs.declared.key.Key.{Key}
+use Rattle.iox2_pubsub.specs.declared.parts.PublisherParts.{PublisherParts}
+use Rattle.iox2_pubsub.specs.declared.parts.SubscriberParts.{SubscriberParts}
+use Rattle.iox2_pubsub.specs.declared.parts.LoanParts.{LoanParts}
+use Rattle.iox2_pubsub.specs.declared.parts.SampleParts.{SampleParts}
+use Rattle.std.specs.Prelude.{Bool, true, false}
+use Rattle.iox2_slots.specs.declared.slots.mark.SlotMark.{SlotMark}
+use Rattle.iox2_slots.specs.declared.slots.mark.SlotMark.TheVariants.{Written}
+use Rattle.iox2_pubsub.specs.declared.blocked_send.BlockedSend.{BlockedSend}
+use Rattle.iox2_pubsub.specs.declared.publisher.Publisher.{Publisher}
+use Rattle.iox2_pubsub.specs.declared.subscriber.Subscriber.{Subscriber}
+use Rattle.iox2_pubsub.specs.declared.sample_mut_uninit.SampleMutUninit.{SampleMutUninit}
+use Rattle.iox2_pubsub.specs.declared.sample_mut.SampleMut.{SampleMut}
+use Rattle.iox2_pubsub.specs.declared.sample.Sample.{Sample}
+
+-- ---- what numbers name
+
+-- The key of the publisher with these numbers.
+abbrev pub publisher_named : PublisherParts → Key
+publisher_named parts = record { service_id = parts.service_id; port = parts.id; message = 0 }
+
+-- The key of the subscriber with these numbers.
+abbrev pub subscriber_named : SubscriberParts → Key
+subscriber_named parts = record { service_id = parts.service_id; port = parts.id; message = 0 }
+
+-- The key of the loan or the blocked send with these numbers.
+abbrev pub loan_named : LoanParts → Key
+loan_named parts = record { service_id = parts.service_id; port = parts.publisher; message = parts.number }
+
+-- The key of the sample with these numbers.
+abbrev pub sample_named : SampleParts → Key
+sample_named parts = record { service_id = parts.service_id; port = parts.subscriber; message = parts.number }
+
+-- ---- the numbers of handles
+
+-- The publisher's numbers.
+abbrev pub publisher_parts : Publisher → PublisherParts
+publisher_parts it = record { service_id = it.service_id; id = it.id; place = it.place; strategy = it.strategy; initial_max_slice_len = it.initial_max_slice_len }
+
+-- The subscriber's numbers.
+abbrev pub subscriber_parts : Subscriber → SubscriberParts
+subscriber_parts it = record { service_id = it.service_id; id = it.id; place = it.place; buffer_size = it.buffer_size }
+
+-- The numbers of a loan that isn't written.
+abbrev pub unwritten_parts : SampleMutUninit → LoanParts
+unwritten_parts it =
+    record { service_id = it.service_id; publisher = it.loan.publisher; number = it.loan.number; place = it.loan.place; book = it.loan.book; slot = it.loan.slot }
+
+-- The numbers of a written loan.
+abbrev pub written_parts : SampleMut → LoanParts
+written_parts it =
+    record { service_id = it.service_id; publisher = it.loan.publisher; number = it.loan.number; place = it.loan.place; book = it.loan.book; slot = it.loan.slot }
+
+-- The numbers of a blocked send.
+abbrev pub blocked_parts : BlockedSend → LoanParts
+blocked_parts it =
+    record { service_id = it.service_id; publisher = it.loan.publisher; number = it.loan.number; place = it.loan.place; book = it.loan.book; slot = it.loan.slot }
+
+-- The sample's numbers.
+abbrev pub sample_parts : Sample → SampleParts
+sample_parts it =
+    record {
+      service_id = it.service_id;
+      origin = it.origin;
+      subscriber = it.sample.subscriber;
+      number = it.sample.number;
+      connection = it.sample.connection;
+      book = it.sample.book;
+      slot = it.sample.slot;
+    }
+
+-- ---- marks
+
+-- Whether a slot's mark is that of a written loan.
+abbrev pub written_mark : SlotMark → Bool
+written_mark Written = true
+written_mark _ = false

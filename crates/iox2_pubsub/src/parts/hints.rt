@@ -1,0 +1,136 @@
+//! What a handle made of numbers names is looked for first where the numbers say.
+ghost use Rattle.std.specs.Prelude.{◌≡◌, ◌↔◌, true, IsTrue, MatchOption};
+ghost use Rattle.iox2_store.specs.machine.SingleCalls.{HoldsLoan, HoldsPublisher, HoldsSample, HoldsSubscriber};
+ghost use Rattle.iox2_domain.specs.Kept.{state_of};
+ghost use Rattle.iox2_domain.specs.Fields.{kept_of};
+ghost use Rattle.iox2_domain.specs.Invariant.{IsDomain, is_lent};
+ghost use Rattle.iox2_domain.specs.LoanCalls.{HoldsUnwritten, HoldsWritten};
+ghost use Rattle.iox2_domain.specs.LoanSlots.{IsLoanSlot, LiesInSlot};
+ghost use Rattle.iox2_pubsub.specs.Parts.{written_mark};
+
+use iox2_domain::{DomainState, LoanAt, MessageSlot, SampleAt};
+use iox2_slots::{SlotBook, SlotMark};
+use iox2_store::{UniquePublisherId, UniqueSubscriberId};
+
+/// Whether a publisher has this id and wasn't closed.
+pub(crate) fn has_publisher<T: Drop, U: Default + Drop>(
+    state: &DomainState<T, U>,
+    id: UniquePublisherId,
+    place: usize,
+) -> bool
+    requires { IsDomain state.now }
+    ensures { IsTrue result ↔ HoldsPublisher (state_of (kept_of state.now)) id }
+{
+    state.find_publisher(id, place).is_some()
+}
+
+/// Whether a subscriber has this id and wasn't closed.
+pub(crate) fn has_subscriber<T: Drop, U: Default + Drop>(
+    state: &DomainState<T, U>,
+    id: UniqueSubscriberId,
+    place: usize,
+) -> bool
+    requires { IsDomain state.now }
+    ensures { IsTrue result ↔ HoldsSubscriber (state_of (kept_of state.now)) id }
+{
+    let Some(place) = state.find_subscriber(id, place) else {
+        return false;
+    };
+    match &state.subscribers[place] {
+        Some(subscriber) => subscriber.is_open,
+        None => false,
+    }
+}
+
+// A loan with this number lies in the slot.
+fn is_lent_there(book: &SlotBook, slot: usize, number: u128) -> bool
+    ensures { IsTrue result → IsLoanSlot book.now slot number }
+{
+    if slot >= book.len() {
+        return false;
+    }
+    book.holders(slot) > 0 && is_lent(book.mark(slot)) && book.number(slot) == number
+}
+
+fn is_lent(mark: SlotMark) -> bool
+    ensures { result ≡ is_lent mark }
+{
+    matches!(mark, SlotMark::Unwritten | SlotMark::Written)
+}
+
+// Whether the publisher's loan is out, and lies in the slot that is named.
+fn is_lent_at_hint<T: Drop, U: Default + Drop>(state: &DomainState<T, U>, loan: &LoanAt) -> bool
+    requires { IsDomain state.now }
+    ensures { IsTrue result → LiesInSlot state.now loan.now.publisher loan.now.number loan.now.book loan.now.slot }
+{
+    match state.books.get(loan.book) {
+        Some(book) => {
+            book.publisher().value() == loan.publisher.value()
+                && is_lent_there(book, loan.slot, loan.number)
+        }
+        None => false,
+    }
+}
+
+/// Where a publisher's loan lies, and `None` where it isn't out.
+pub(crate) fn find_loan<T: Drop, U: Default + Drop>(
+    state: &DomainState<T, U>,
+    loan: &LoanAt,
+) -> Option<MessageSlot>
+    requires { IsDomain state.now }
+    ensures { MatchOption result (HoldsLoan (state_of (kept_of state.now)) loan.now.publisher loan.now.number → ⊥)
+        (λ at. LiesInSlot state.now loan.now.publisher loan.now.number at.book at.slot) }
+{
+    if is_lent_at_hint(state, loan) {
+        return Some(MessageSlot {
+            book: loan.book,
+            slot: loan.slot,
+        });
+    }
+    state.find_loan(loan.publisher, loan.number)
+}
+
+fn is_written(mark: SlotMark) -> bool
+    ensures { result ≡ written_mark mark }
+{
+    matches!(mark, SlotMark::Written)
+}
+
+/// Whether the publisher's loan is out and written.
+pub(crate) fn has_written<T: Drop, U: Default + Drop>(
+    state: &DomainState<T, U>,
+    loan: &LoanAt,
+) -> bool
+    requires { IsDomain state.now }
+    ensures { IsTrue result ↔ HoldsWritten (state_of (kept_of state.now)) loan.now.publisher loan.now.number }
+{
+    let Some(at) = find_loan(state, loan) else {
+        return false;
+    };
+    is_written(state.books[at.book].mark(at.slot))
+}
+
+/// Whether the publisher's loan is out and isn't written.
+pub(crate) fn has_unwritten<T: Drop, U: Default + Drop>(
+    state: &DomainState<T, U>,
+    loan: &LoanAt,
+) -> bool
+    requires { IsDomain state.now }
+    ensures { IsTrue result ↔ HoldsUnwritten (state_of (kept_of state.now)) loan.now.publisher loan.now.number }
+{
+    let Some(at) = find_loan(state, loan) else {
+        return false;
+    };
+    !is_written(state.books[at.book].mark(at.slot))
+}
+
+/// Whether the subscriber has borrowed the message.
+pub(crate) fn has_sample<T: Drop, U: Default + Drop>(
+    state: &DomainState<T, U>,
+    sample: &SampleAt,
+) -> bool
+    requires { IsDomain state.now }
+    ensures { IsTrue result ↔ HoldsSample (state_of (kept_of state.now)) sample.now.subscriber sample.now.number }
+{
+    state.is_last_at_hint(sample) || state.has_sample(sample.subscriber, sample.number)
+}

@@ -1,0 +1,68 @@
+//! A publisher as numbers.
+ghost use Rattle.std.specs.Prelude.{◌≡◌, ◌↔◌, IfNone, IfSome, IsTrue};
+
+use crate::domain::Domain;
+use crate::parts::PublisherParts;
+use crate::parts::hints::has_publisher;
+use crate::publisher::Publisher;
+use iox2_store::{BackpressureFn, DegradationFn, UniquePublisherId};
+
+impl Publisher {
+    ghost use Rattle.iox2_pubsub.specs.Parts.{publisher_parts};
+
+    /// The publisher's numbers. Its handle is spent, and the domain keeps the publisher. This
+    /// library's own.
+    pub fn into_parts(self) -> PublisherParts
+        ensures { result ≡ publisher_parts self }
+    {
+        let Publisher {
+            service_id,
+            id,
+            place,
+            strategy,
+            initial_max_slice_len,
+        } = self;
+        PublisherParts {
+            service_id,
+            id: id.value(),
+            place,
+            strategy,
+            initial_max_slice_len,
+        }
+    }
+}
+
+impl<T: Drop, U: Default + Drop, F: BackpressureFn, G: DegradationFn> Domain<T, U, F, G> {
+    ghost use Rattle.iox2_pubsub.specs.Live.{IsPublisherKey, publisher_key};
+    ghost use Rattle.iox2_pubsub.specs.Parts.{publisher_named, publisher_parts};
+
+    // Whether the numbers are those of a publisher of this domain that wasn't closed.
+    #[tactic(auto, unfolding(crate::specs::Live::IsPublisherKey))]
+    fn has_publisher_of(&self, parts: &PublisherParts) -> bool
+        ensures { IsTrue result ↔ IsPublisherKey self.now (publisher_named parts.now) }
+    {
+        if parts.service_id != self.state.config().service_id {
+            return false;
+        }
+        has_publisher(&self.state, UniquePublisherId::new(parts.id), parts.place)
+    }
+
+    /// A handle of the publisher with these numbers, and `None` where this domain has none that
+    /// wasn't closed. This library's own.
+    pub fn publisher_of(&self, parts: &PublisherParts) -> Option<Publisher>
+        ensures live { IfSome result (λ publisher. IsPublisherKey self.now (publisher_key publisher)) }
+        ensures named { IfSome result (λ publisher. publisher_parts publisher ≡ parts.now) }
+        ensures none { IfNone result (IsPublisherKey self.now (publisher_named parts.now) → ⊥) }
+    {
+        if !self.has_publisher_of(parts) {
+            return None;
+        }
+        Some(Publisher {
+            service_id: parts.service_id,
+            id: UniquePublisherId::new(parts.id),
+            place: parts.place,
+            strategy: parts.strategy,
+            initial_max_slice_len: parts.initial_max_slice_len,
+        })
+    }
+}

@@ -1,0 +1,65 @@
+//! A subscriber as numbers.
+ghost use Rattle.std.specs.Prelude.{◌≡◌, ◌↔◌, IfNone, IfSome, IsTrue};
+
+use crate::domain::Domain;
+use crate::parts::SubscriberParts;
+use crate::parts::hints::has_subscriber;
+use crate::subscriber::Subscriber;
+use iox2_store::{BackpressureFn, DegradationFn, UniqueSubscriberId};
+
+impl Subscriber {
+    ghost use Rattle.iox2_pubsub.specs.Parts.{subscriber_parts};
+
+    /// The subscriber's numbers. Its handle is spent, and the domain keeps the subscriber. This
+    /// library's own.
+    pub fn into_parts(self) -> SubscriberParts
+        ensures { result ≡ subscriber_parts self }
+    {
+        let Subscriber {
+            service_id,
+            id,
+            place,
+            buffer_size,
+        } = self;
+        SubscriberParts {
+            service_id,
+            id: id.value(),
+            place,
+            buffer_size,
+        }
+    }
+}
+
+impl<T: Drop, U: Default + Drop, F: BackpressureFn, G: DegradationFn> Domain<T, U, F, G> {
+    ghost use Rattle.iox2_pubsub.specs.Live.{IsLiveSubscriber, IsSubscriberKey};
+    ghost use Rattle.iox2_pubsub.specs.Parts.{subscriber_named, subscriber_parts};
+
+    // Whether the numbers are those of a subscriber of this domain that wasn't closed.
+    #[tactic(auto, unfolding(crate::specs::Live::IsSubscriberKey))]
+    fn has_subscriber_of(&self, parts: &SubscriberParts) -> bool
+        ensures { IsTrue result ↔ IsSubscriberKey self.now (subscriber_named parts.now) }
+    {
+        if parts.service_id != self.state.config().service_id {
+            return false;
+        }
+        has_subscriber(&self.state, UniqueSubscriberId::new(parts.id), parts.place)
+    }
+
+    /// A handle of the subscriber with these numbers, and `None` where this domain has none that
+    /// wasn't closed. This library's own.
+    pub fn subscriber_of(&self, parts: &SubscriberParts) -> Option<Subscriber>
+        ensures live { IfSome result (λ subscriber. IsLiveSubscriber self.now subscriber) }
+        ensures named { IfSome result (λ subscriber. subscriber_parts subscriber ≡ parts.now) }
+        ensures none { IfNone result (IsSubscriberKey self.now (subscriber_named parts.now) → ⊥) }
+    {
+        if !self.has_subscriber_of(parts) {
+            return None;
+        }
+        Some(Subscriber {
+            service_id: parts.service_id,
+            id: UniqueSubscriberId::new(parts.id),
+            place: parts.place,
+            buffer_size: parts.buffer_size,
+        })
+    }
+}
