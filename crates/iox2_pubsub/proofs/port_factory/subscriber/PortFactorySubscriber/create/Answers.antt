@@ -8,6 +8,7 @@ use Rattle.iox2_pubsub.proofs.SubscribersShown.{made-shown, made-live, refused-s
 use Rattle.iox2_pubsub.proofs.CallsStay.{always-shown, subscriber-creation-stays, subscriber-is-new}
 use Rattle.iox2_pubsub.proofs.WaitingShown.{created-none, creation-waits}
 use Rattle.iox2_pubsub.proofs.UpToDateShown.{creation-leaves}
+use Rattle.iox2_pubsub.proofs.AwaitedShown.{made-awaits}
 use Rattle.iox2_pubsub.proofs.LoansLeftShown.{subscriber-creation-left}
 use Rattle.iox2_pubsub.proofs.StaysBut.{same-boxes}
 use Rattle.iox2_pubsub.proofs.port_factory.subscriber.PortFactorySubscriber.create.Goals as goal
@@ -98,3 +99,10 @@ returns-clause-loans_left g c =
     let it = always-shown {T = g.row.T.Denot} {U = g.row.U.Denot} c.domain.inside.state c.args.domain.now c.domain.invariant c.domain.view_is in
     let step = returns-clause-creates g c it.0 it.1 it.2 in
     subscriber-creation-left {T = g.row.T.Denot} {U = g.row.U.Denot} c.args.domain.now _ it.0 it.0 it.1 step.0 it.2 step.1 fixed_handlers c.args.self None (step.2).0
+
+pub returns-clause-awaits : goal.returns-clause-awaits
+returns-clause-awaits g c = λ none publisher ready.
+    let it = always-shown {T = g.row.T.Denot} {U = g.row.U.Denot} c.domain.inside.state c.args.domain.now c.domain.invariant c.domain.view_is in
+    let step = returns-clause-creates g c it.0 it.1 it.2 in
+    made-awaits {T = g.row.T.Denot} {U = g.row.U.Denot} c.args.domain.now _ it.0 it.0 it.1 step.0 it.2 step.1 fixed_handlers c.args.self (step.2).0
+    (record { service_id = c.config.result.now.service_id; id = c.in_ok-port.port.id; place = c.in_ok-port.port.place; buffer_size = c.max.result }) (step.2).1 none publisher ready.there
