@@ -1,14 +1,35 @@
-use iox2_pubsub::{PublisherCreateError, ReceiveError, SendError};
+use iox2_pubsub::{
+    ConnectionFailure, DomainCreateError, PublisherCreateError, ReceiveError, SendError,
+    SubscriberCreateError,
+};
 
 /// Why a function of this crate ends early.
 #[derive(Debug, Drop)]
 pub enum Failure {
+    /// There is no domain.
+    Domain(DomainCreateError),
     /// There is no publisher.
     Publisher(PublisherCreateError),
+    /// There is no subscriber.
+    Subscriber(SubscriberCreateError),
     /// A reading isn't sent.
     Send(SendError),
     /// Nothing is received.
     Receive(ReceiveError),
+    /// A port's connections aren't updated.
+    Update(ConnectionFailure),
+}
+
+impl From<DomainCreateError> for Failure {
+    fn from(error: DomainCreateError) -> Self {
+        Failure::Domain(error)
+    }
+}
+
+impl From<SubscriberCreateError> for Failure {
+    fn from(error: SubscriberCreateError) -> Self {
+        Failure::Subscriber(error)
+    }
 }
 
 impl From<PublisherCreateError> for Failure {
@@ -26,5 +47,11 @@ impl From<SendError> for Failure {
 impl From<ReceiveError> for Failure {
     fn from(error: ReceiveError) -> Self {
         Failure::Receive(error)
+    }
+}
+
+impl From<ConnectionFailure> for Failure {
+    fn from(failure: ConnectionFailure) -> Self {
+        Failure::Update(failure)
     }
 }

@@ -2,6 +2,7 @@
 //! clause is for.
 #![tactic(auto)]
 
+mod arrivals;
 mod closing;
 mod failure;
 mod generic;
@@ -9,6 +10,7 @@ mod pairs;
 mod passing;
 mod station;
 
+pub use arrivals::{echo, echo_once, join};
 pub use closing::pass_once;
 pub use failure::Failure;
 pub use generic::pass_value;

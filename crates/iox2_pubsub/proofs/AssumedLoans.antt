@@ -17,7 +17,7 @@ use Rattle.iox2_domain.specs.Reaches.{Reaches}
 use Rattle.iox2_domain.specs.Shows.{Shows}
 use Rattle.iox2_store.specs.declared.header.Header.{Header}
 use Rattle.iox2_store.specs.declared.key.Key.{Key}
-use Rattle.iox2_pubsub.specs.Live.{IsUnwritten, IsWritten, LoanReads, LoanHasHeader, LoanHasUserHeader, UnwrittenReads, A_loan, StaysBut, UpToDateStay, payloads}
+use Rattle.iox2_pubsub.specs.Live.{IsUnwritten, IsWritten, LoanReads, LoanHasHeader, LoanHasUserHeader, UnwrittenReads, A_loan, StaysBut, UpToDateStay, WaitingStays}
 use Rattle.iox2_pubsub.specs.Slices.{HasUnwrittenCells, HasValues}
 use Rattle.iox2_pubsub.specs.declared.sample_mut_uninit.SampleMutUninit.{SampleMutUninit}
 use Rattle.iox2_pubsub.proofs.CallsStay.{always-shown, change-stays}
@@ -114,7 +114,7 @@ module _ {T U F G : Type 0} {boxes : DomainBoxes F G} (f g : Fields T U) (sound 
         set-left kept (keeping boxes g) it.0 it.0 it.1 (initialized it.1 n step.0) it.2 step.3 n (Some (record (step.0) { is_written = true })) refl
 
     -- the same messages wait, and who was up to date is
-    pub taken-waits : payloads (keeping boxes g) ≡ payloads kept
+    pub taken-waits : WaitingStays kept (keeping boxes g)
     taken-waits =
         let it = always-shown f kept sound view in
         let step = taken-shown it.0 it.1 it.2 in

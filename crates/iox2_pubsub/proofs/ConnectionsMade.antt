@@ -31,16 +31,16 @@ use Rattle.iox2_pubsub.proofs.ConnectionsStay.{ConnectsStay, walk-reaches, stays
 abbrev refused : SenderSide → ℕ
 refused side = (side.warnings).refused_connections
 
-refusal-counts : (p q : ℕ) (action : DegradationAction) (ws : Warnings) → (warnings_after p q action ws).refused_connections ≡ min (ws.refused_connections + 1) refusal_limit
+pub refusal-counts : (p q : ℕ) (action : DegradationAction) (ws : Warnings) → (warnings_after p q action ws).refused_connections ≡ min (ws.refused_connections + 1) refusal_limit
 refusal-counts p q Ignore ws = refl
 refusal-counts p q Warn ws = refl
 refusal-counts p q DegradeAndFail ws = refl
 
 -- one refusal more is one more, or the limit
-refusal-grows : (n n' limit : ℕ) → n' ≡ min (n + 1) limit → n ≤ limit → (n ≤ n') × (n' ≤ limit)
+pub refusal-grows : (n n' limit : ℕ) → n' ≡ min (n + 1) limit → n ≤ limit → (n ≤ n') × (n' ≤ limit)
 refusal-grows n n' limit is most = (omega (arith, is, most), omega (arith, is, most))
 
-refusal-is-new : (n n' first limit : ℕ) → n' ≡ min (n + 1) limit → first ≤ n → first < limit → n' ≡ first → ⊥
+pub refusal-is-new : (n n' first limit : ℕ) → n' ≡ min (n + 1) limit → first ≤ n → first < limit → n' ≡ first → ⊥
 refusal-is-new n n' first limit is more low same = omega (arith, is, more, low, same)
 
 disconnected-warnings : (side : SenderSide) (j : ℕ) (end : Option ℕ) → (disconnected side j end).warnings ≡ side.warnings

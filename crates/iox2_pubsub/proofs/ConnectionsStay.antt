@@ -75,7 +75,7 @@ module _ {Side : Type 0} (AtPlace : ℕ → Option ℕ → Side → Side → Opt
 
 module _ (environment : Environment) (service_id q : ℕ) (handler : Handler DegradationAction) (limit : ℕ) (has_end : ℕ → Bool) (p place : ℕ) where
   -- The subscriber is due, or its end to p stands at the place.
-  abbrev Knows : ReceiverSide → Type 0
+  abbrev pub Knows : ReceiverSide → Type 0
   Knows side = (side.is_due ≡ true) ⊎ (occupant side.ends place ≡ Some p)
 
   knows-retired : (side : ReceiverSide) (old : ℕ) (how : Retirement) → Knows side → Knows (after_retirement q side old how)
@@ -84,7 +84,7 @@ module _ (environment : Environment) (service_id q : ℕ) (handler : Handler Deg
   knows-retired side old Discard_data is = is
   knows-retired side old Refuse is = inl refl
 
-  refused-due : (side : ReceiverSide) (old : ℕ) (how : Retirement) → is_refused how ≡ true → Knows (after_retirement q side old how)
+  pub refused-due : (side : ReceiverSide) (old : ℕ) (how : Retirement) → is_refused how ≡ true → Knows (after_retirement q side old how)
   refused-due side old Keep_expired is = absurd (true≢false (sym is))
   refused-due side old (Evict first) is = absurd (true≢false (sym is))
   refused-due side old Discard_data is = absurd (true≢false (sym is))
@@ -108,7 +108,7 @@ module _ (environment : Environment) (service_id q : ℕ) (handler : Handler Deg
       (λ refused k. subst Knows (sym k.0) (refused-due side old how refused))
       (λ _ k. go (with_end (after_retirement q side old how) j None) (knows-end (after_retirement q side old how) j None away (knows-retired side old how is)) k)
 
-  connect-keeps : (j : ℕ) (at : Option ℕ) (side side' : ReceiverSide) (failure : Option ConnectionFailure) → j ≢ place → Knows side
+  pub connect-keeps : (j : ℕ) (at : Option ℕ) (side side' : ReceiverSide) (failure : Option ConnectionFailure) → j ≢ place → Knows side
       → ConnectAtPlace environment service_id q handler limit has_end j at side side' failure → Knows side'
   connect-keeps j at side side' failure away is h =
       by_option (Knows side') at _ _ h (λ _ k. subst Knows (sym k.0) is) (λ r _ k.
@@ -135,7 +135,7 @@ module _ (environment : Environment) (service_id q : ℕ) (handler : Handler Deg
       (λ refused k. subst Knows (sym k.0) (refused-due side old how refused))
       (λ _ k. connected-at has _ side' failure k)))
 
-  disconnect-keeps : (j : ℕ) (at : Option ℕ) (side side' : ReceiverSide) (failure : Option ConnectionFailure) → (j ≡ place → at ≡ Some p) → Knows side
+  pub disconnect-keeps : (j : ℕ) (at : Option ℕ) (side side' : ReceiverSide) (failure : Option ConnectionFailure) → (j ≡ place → at ≡ Some p) → Knows side
       → DisconnectAtPlace environment service_id q handler limit has_end j at side side' failure → Knows side'
   disconnect-keeps j at side side' failure here is h =
       by_option (Knows side') at _ _ h

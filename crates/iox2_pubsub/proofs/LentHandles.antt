@@ -21,7 +21,7 @@ use Rattle.iox2_domain.specs.Shows.{Shows}
 use Rattle.iox2_domain.proofs.lemmas.loans.LentLoans.{IsLent, header-lent, cell-lent, cells-lent, value-lent, values-lent}
 use Rattle.iox2_domain.proofs.lemmas.loans.LoanCalls.{contents-there, some-at, is-unwritten, is-written, user_header-read, in-lists, cell-some, cell-read, cells-read, value-some, value-read, values-read}
 use Rattle.iox2_pubsub.specs.ChangedLoans.{with_cell, with_cells, with_payload, with_payloads, with_user_header}
-use Rattle.iox2_pubsub.specs.Live.{IsUnwritten, IsUnwrittenLoan, IsWritten, IsWrittenLoan, LoanHasHeader, LoanHasUserHeader, NeverWaits, A_loan, StaysBut, UpToDateStay, payloads, unwritten_key, written_key}
+use Rattle.iox2_pubsub.specs.Live.{IsUnwritten, IsUnwrittenLoan, IsWritten, IsWrittenLoan, LoanHasHeader, LoanHasUserHeader, NeverWaits, A_loan, StaysBut, UpToDateStay, unwritten_key, written_key, WaitingStays}
 use Rattle.iox2_pubsub.specs.Slices.{HasUnwrittenCells, HasValues}
 use Rattle.iox2_pubsub.specs.declared.sample_mut.SampleMut.{SampleMut}
 use Rattle.iox2_pubsub.specs.declared.sample_mut_uninit.SampleMutUninit.{SampleMutUninit}
@@ -38,7 +38,7 @@ use Rattle.iox2_pubsub.proofs.LoansLeftShown.{set-left}
 -- ---- the words
 
 -- what is kept, beside other boxes
-abbrev with-boxes : {T U F G F' G' : Type 0} → DomainBoxes F' G' → Kept T U F G → Kept T U F' G'
+abbrev with-boxes : {T U F G F' G' : Type 0} → DomainBoxes F' G' → Kept T U F G → Kept T U F G' G'
 with-boxes boxes kept = record {
   config = kept.config;
   next_port = kept.next_port;
@@ -111,7 +111,7 @@ module _ {T U F G : Type 0} {boxes : DomainBoxes F G} (f g : Fields T U) (sound 
       set-left kept after it.0 it.0 it.1 (with_loan it.1 n (Some (h step.0))) it.2 step.2 n (Some (h step.0)) refl
 
   -- the same messages wait, and who was up to date is
-  pub lent-waits : payloads after ≡ payloads kept
+  pub lent-waits : WaitingStays kept after
   lent-waits =
       let it = always-shown f kept sound view in
       let step = lent-shown it.0 it.1 it.2 in

@@ -39,6 +39,11 @@ pub mod ConnectedCounts
 pub mod ServedLists
 pub mod WaitingShown
 pub mod UpToDateShown
+pub mod UndueReceives
+pub mod PublisherParts
+pub mod CopiesServe
+pub mod SubscribersMade
+pub mod AwaitedShown
 pub mod ConnectionsShown
 pub mod ClosesWait
 pub mod LoansLeftShown

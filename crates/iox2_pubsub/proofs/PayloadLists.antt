@@ -1,20 +1,20 @@
 -- Lists of payloads: how long they are, when they stay, and what holds of each.
-use Rattle.std.proofs.Common.{◌≡◌, ℕ, zero, suc, ◌+◌, ◌<◌, true, false, Option, subst, List, [], ◌∷◌, ◌++◌, map, length, refl, sym, ap, ◌∙◌, arith, inl, inr}
+use Rattle.std.proofs.Common.{◌≡◌, ℕ, zero, suc, ◌+◌, ◌<◌, ◌≤◌, true, false, Option, subst, List, [], ◌∷◌, ◌++◌, map, length, refl, sym, ap, ◌∙◌, arith, inl, inr}
 use Rattle.std.specs.List.{AllByRecursion}
 use Rattle.std.specs.Option.{option_map_or}
 use Rattle.iox2_store.specs.machine.Records.{Entry}
 use Rattle.std.proofs.lemmas.Bool.{cases_eq}
-use Rattle.std.proofs.lemmas.List.{length-append, length-map}
+use Rattle.std.proofs.lemmas.List.{append-nil, length-append, length-map}
 use Rattle.iox2_store.specs.machine.Numbers.{contains}
 use Rattle.iox2_store.specs.machine.State.{State, Messages}
 use Rattle.iox2_store.specs.machine.Waiting.{sum_below, waiting_from, waiting_for}
 use Rattle.iox2_laws.proofs.NumberLemmas.{contains_first, contains_later, contains_in_cons}
-use Rattle.iox2_laws.proofs.WaitingCounts.{sum_same}
+use Rattle.iox2_laws.proofs.WaitingCounts.{sum_same, sum_part}
 use Rattle.iox2_pubsub.specs.Payloads.{all_below, payload_of, payloads_for}
 
 -- ---- lists one after the other
 
-length-all_below : {X : Type 0} (f : ℕ → List X) (n : ℕ) → length (all_below f n) ≡ sum_below (λ p. length (f p)) n
+pub length-all_below : {X : Type 0} (f : ℕ → List X) (n : ℕ) → length (all_below f n) ≡ sum_below (λ p. length (f p)) n
 length-all_below f zero = refl
 length-all_below f (suc n) = length-append (all_below f n) (f n) ∙ ap (λ k. k + length (f n)) (length-all_below f n)
 
@@ -25,6 +25,55 @@ all_same f g (suc n) each = ap (λ xs. xs ++ f n) (all_same f g n each) ∙ ap (
 pub map_same : {X : Type 0} (f g : ℕ → X) (ns : List ℕ) → ((n : ℕ) → contains ns n ≡ true → f n ≡ g n) → map f ns ≡ map g ns
 map_same f g [] each = refl
 map_same f g (n ∷ ns) each = ap (λ x. x ∷ map f ns) (each n (contains_first n ns)) ∙ ap (λ xs. g n ∷ xs) (map_same f g ns (λ m at. each m (contains_later n m ns at)))
+
+-- ---- a part of all
+
+no_length : {X : Type 0} (xs : List X) → length xs ≡ 0 → xs ≡ []
+no_length [] none = refl
+no_length (x ∷ xs) none = absurd (omega arith)
+
+-- two parts of a sum are at most the sum
+pub two_parts : (f : ℕ → ℕ) (p o n : ℕ) → p < n → o < n → (p ≡ o → ⊥) → f p + f o ≤ sum_below f n
+two_parts f p o zero low less apart = absurd (omega arith)
+two_parts f p o (suc n) low less apart = elim (cases_eq n p) [
+  | inl here ↦
+      let last : f n ≡ f p = ap f here in
+      let other : f o ≤ sum_below f n = sum_part f o n (below o (λ same. apart (sym here ∙ same)) less) in
+      omega arith
+  | inr away ↦ elim (cases_eq n o) [
+    | inl here ↦
+        let last : f n ≡ f o = ap f here in
+        let other : f p ≤ sum_below f n = sum_part f p n (below p away low) in
+        omega arith
+    | inr far ↦ let both : f p + f o ≤ sum_below f n = two_parts f p o n (below p away low) (below o far less) apart in omega arith
+  ]
+]
+  where
+    below : (i : ℕ) → (n ≡ i → ⊥) → i < suc n → i < n
+    below i other low = elim (cases_eq n i) [ inl same ↦ absurd (other same) | inr differs ↦ omega arith ]
+
+-- where there is nothing there are no lists
+pub none_below : {X : Type 0} (f : ℕ → List X) (n : ℕ) → sum_below (λ p. length (f p)) n ≡ 0 → all_below f n ≡ []
+none_below f zero none = refl
+none_below f (suc n) none =
+    let before : sum_below (λ p. length (f p)) n ≡ 0 = omega arith in
+    let last : length (f n) ≡ 0 = omega arith in
+    ap (λ xs. xs ++ f n) (none_below f n before) ∙ no_length (f n) last
+
+-- where all are as many as one list has, they are that list
+pub only_below : {X : Type 0} (f : ℕ → List X) (p n : ℕ) → p < n → sum_below (λ i. length (f i)) n ≡ length (f p) → all_below f n ≡ f p
+only_below f p zero low same = absurd (omega arith)
+only_below f p (suc n) low same = elim (cases_eq n p) [
+  | inl here ↦
+      let last : length (f n) ≡ length (f p) = ap (λ i. length (f i)) here in
+      let before : sum_below (λ i. length (f i)) n ≡ 0 = omega arith in
+      ap (λ xs. xs ++ f n) (none_below f n before) ∙ ap f here
+  | inr away ↦
+      let part : length (f p) ≤ sum_below (λ i. length (f i)) n = sum_part (λ i. length (f i)) p n (omega arith) in
+      let last : length (f n) ≡ 0 = omega arith in
+      let before : sum_below (λ i. length (f i)) n ≡ length (f p) = omega arith in
+      ap (λ xs. all_below f n ++ xs) (no_length (f n) last) ∙ append-nil (all_below f n) ∙ only_below f p n (omega arith) before
+]
 
 -- ---- what holds of each
 

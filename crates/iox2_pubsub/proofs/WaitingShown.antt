@@ -38,7 +38,7 @@ use Rattle.iox2_laws.proofs.WaitingReceives.{UpdateWaits, update_subscriber_wait
 use Rattle.iox2_laws.proofs.WaitingPorts.{NewWaits, create_subscriber_waits}
 use Rattle.iox2_laws.proofs.WaitingPublishers.{create_publisher_waits}
 use Rattle.iox2_laws.proofs.WaitingSends.{update_publisher_waits, send_waits, send_among, retry_adds, give_up_adds}
-use Rattle.iox2_pubsub.specs.Live.{IsLiveSubscriber, AddAtMost, AreAllSlices, OthersWait, TakesOldest, payloads, payloads_from, waiting, sample_key, subscriber_key}
+use Rattle.iox2_pubsub.specs.Live.{IsLiveSubscriber, AddAtMost, AreAllSlices, OthersWait, TakesOldest, WaitingStays, payloads, payloads_from, waiting, sample_key, subscriber_key}
 use Rattle.iox2_pubsub.specs.Slices.{HasValues, SampleHasValues}
 use Rattle.iox2_pubsub.specs.Payloads.{all_below, payload_of, payloads_for}
 use Rattle.iox2_pubsub.specs.declared.sample.Sample.{Sample}
@@ -49,7 +49,7 @@ use Rattle.iox2_pubsub.proofs.PayloadLists.{all_same, parts_same, payloads_same,
 use Rattle.iox2_pubsub.proofs.OldestFirst.{receive-first}
 
 -- the payloads are what the domain keeps
-payloads-are : {T U F G : Type 0} (kept : Kept T U F G) (subscriber : Subscriber) → payloads kept subscriber ≡ payloads_for (state_of kept) (entries_of kept) subscriber.id
+pub payloads-are : {T U F G : Type 0} (kept : Kept T U F G) (subscriber : Subscriber) → payloads kept subscriber ≡ payloads_for (state_of kept) (entries_of kept) subscriber.id
 unfolding payloads
 payloads-are kept subscriber = refl
 
@@ -57,6 +57,10 @@ pub payloads-from-are : {T U F G : Type 0} (kept : Kept T U F G) (p : ℕ) (subs
     → payloads_from kept p subscriber ≡ map (payload_of (entries_of kept)) (waiting_from (state_of kept) p subscriber.id)
 unfolding payloads_from
 payloads-from-are kept p subscriber = refl
+
+-- where nothing changed
+pub waiting-same : {T U F G : Type 0} (old new : Kept T U F G) → new ≡ old → WaitingStays old new
+waiting-same {T} {U} {F} {G} old new same = record { all = ap (λ (k : Kept T U F G). payloads k) same; from = ap (λ (k : Kept T U F G). payloads_from k) same }
 
 -- as many wait as the machine counts
 pub waiting-is : {T U F G : Type 0} (kept : Kept T U F G) (m : Messages T U) (s : State T U) → Shows kept m s → (subscriber : Subscriber) → waiting kept subscriber ≡ waiting_for s subscriber.id
@@ -121,24 +125,37 @@ module _ {T U F G : Type 0} (old new : Kept T U F G) (m m' : Messages T U) (s s'
   between : (P : State T U → State T U → Type 0) → P s s' → P (state_of old) (state_of new)
   between P h = subst (λ (t : State T U). P t (state_of new)) shown.state (subst (P s) shown'.state h)
 
+  -- the entry of what waits from p for q both before and after is the same
+  entries-stay-from : AreKept → (p q : ℕ) → waiting_from s' p q ≡ waiting_from s p q → (n : ℕ) → contains (waiting_from (state_of old) p q) n ≡ true → entries_of new n ≡ entries_of old n
+  entries-stay-from sent p q from n at =
+      let here : contains (waiting_from s p q) n ≡ true = ap (λ (t : State T U). contains (waiting_from t p q) n) shown.state ∙ at in
+      let there : contains (waiting_from s' p q) n ≡ true = ap (λ ns. contains ns n) from ∙ here in
+      same-entry sent p q p q n (waits-in-mailbox s p q n here) (waits-in-mailbox s' p q n there)
+
+  -- the payloads of a publisher stay where the same messages of it wait
+  pub payloads-stay-from : AreKept → (p : ℕ) (subscriber : Subscriber) → waiting_from s' p subscriber.id ≡ waiting_from s p subscriber.id → payloads_from new p subscriber ≡ payloads_from old p subscriber
+  payloads-stay-from sent p subscriber from =
+      payloads-from-are new p subscriber
+      ∙ ap (map (payload_of (entries_of new))) (between (λ a b. waiting_from b p subscriber.id ≡ waiting_from a p subscriber.id) from)
+      ∙ map_same (payload_of (entries_of new)) (payload_of (entries_of old)) (waiting_from (state_of old) p subscriber.id)
+      (λ n at. ap (λ (o : Option (Entry T U)). option_map_or (λ (e : Entry T U). e.values) o []) (entries-stay-from sent p subscriber.id from n at))
+      ∙ sym (payloads-from-are old p subscriber)
+
   -- the payloads of a subscriber stay where the same messages wait for it
   payloads-stay-for : AreKept → (subscriber : Subscriber) → s'.next_port ≡ s.next_port → ((p : ℕ) → waiting_from s' p subscriber.id ≡ waiting_from s p subscriber.id)
       → payloads new subscriber ≡ payloads old subscriber
   payloads-stay-for sent subscriber ports from =
       payloads-are new subscriber
       ∙ payloads_same (state_of old) (state_of new) (entries_of old) (entries_of new) subscriber.id (between (λ a b. b.next_port ≡ a.next_port) ports)
-      (between (λ a b. (p : ℕ) → waiting_from b p subscriber.id ≡ waiting_from a p subscriber.id) from) kept
+      (between (λ a b. (p : ℕ) → waiting_from b p subscriber.id ≡ waiting_from a p subscriber.id) from) (λ p. entries-stay-from sent p subscriber.id (from p))
       ∙ sym (payloads-are old subscriber)
-    where
-      kept : (p n : ℕ) → contains (waiting_from (state_of old) p subscriber.id) n ≡ true → entries_of new n ≡ entries_of old n
-      kept p n at =
-          let here : contains (waiting_from s p subscriber.id) n ≡ true = ap (λ (t : State T U). contains (waiting_from t p subscriber.id) n) shown.state ∙ at in
-          let there : contains (waiting_from s' p subscriber.id) n ≡ true = ap (λ ns. contains ns n) (from p) ∙ here in
-          same-entry sent p subscriber.id p subscriber.id n (waits-in-mailbox s p subscriber.id n here) (waits-in-mailbox s' p subscriber.id n there)
 
   -- the same payloads wait for everyone where the machine says so
-  pub payloads-stay : AreKept → SameWaits s s' → payloads new ≡ payloads old
-  payloads-stay sent same = fun_ext (λ subscriber. payloads-stay-for sent subscriber same.ports (λ p. same.from p subscriber.id))
+  pub payloads-stay : AreKept → SameWaits s s' → WaitingStays old new
+  payloads-stay sent same = record {
+    all = fun_ext (λ subscriber. payloads-stay-for sent subscriber same.ports (λ p. same.from p subscriber.id));
+    from = fun_ext (λ p. fun_ext (λ subscriber. payloads-stay-from sent p subscriber (same.from p subscriber.id)));
+  }
 
   -- and where it says so of each but one
   pub others-wait : AreKept → (subscriber : Subscriber) → s'.next_port ≡ s.next_port → ((p q : ℕ) → q ≢ subscriber.id → waiting_from s' p q ≡ waiting_from s p q) → OthersWait subscriber old new
@@ -151,36 +168,37 @@ module _ {T U F G : Type 0} (old new : Kept T U F G) (m m' : Messages T U) (s s'
       (has.0, ap (λ (t : State T U). t.subscribers subscriber.id) shown.state ∙ has.1, has.2)
 
   -- a loan is granted, or refused
-  pub loan-waits : AreKept → {A : Type 0} (is_default : U → Type 0) (checks : Bool) (len p : ℕ) (answer : Result A LoanError) → LoanCall is_default checks len s p answer s' → payloads new ≡ payloads old
+  pub loan-waits : AreKept → {A : Type 0} (is_default : U → Type 0) (checks : Bool) (len p : ℕ) (answer : Result A LoanError) → LoanCall is_default checks len s p answer s' → WaitingStays old new
   loan-waits sent is_default checks len p (Ok a) h = payloads-stay sent (grant_loan_waits ample_memory h.0 checks len s p s' None h.2)
   loan-waits sent is_default checks len p (Err e) h = payloads-stay sent (subst (SameWaits s) (sym h.0) (same_itself s))
 
   -- a sample is released
-  pub release-waits : AreKept → (p q n : ℕ) → s' ≡ released s p q n → payloads new ≡ payloads old
+  pub release-waits : AreKept → (p q n : ℕ) → s' ≡ released s p q n → WaitingStays old new
   release-waits sent p q n is = payloads-stay sent (subst (SameWaits s) (sym is) (released_waits s p q n))
 
   -- a subscriber is made, or refused
   module _ (sent : AreKept) (environment : Environment) (given : SubscriberSettings) where
-    made-waits : NewWaits s shown.well_formed s' → payloads new ≡ payloads old
-    made-waits made = fun_ext (λ subscriber.
-        let q = subscriber.id in
-        let there : payloads new subscriber ≡ payloads_for (state_of new) (entries_of new) q = payloads-are new subscriber in
-        there
-        ∙ ap (all_below (λ p. map (payload_of (entries_of new)) (waiting_from (state_of new) p q))) (between (λ a b. b.next_port ≡ suc a.next_port) made.ports)
-        ∙ ap (λ ns. all_below (λ p. map (payload_of (entries_of new)) (waiting_from (state_of new) p q)) (state_of old).next_port ++ map (payload_of (entries_of new)) ns)
-        (between (λ a b. waiting_from b a.next_port q ≡ []) (made.none s.next_port q (λ low _. omega arith)))
-        ∙ append-nil (all_below (λ p. map (payload_of (entries_of new)) (waiting_from (state_of new) p q)) (state_of old).next_port)
-        ∙ all_same (λ p. map (payload_of (entries_of new)) (waiting_from (state_of new) p q)) (λ p. map (payload_of (entries_of old)) (waiting_from (state_of old) p q)) (state_of old).next_port
-        (parts_same (state_of old) (state_of new) (entries_of old) (entries_of new) q (between (λ a b. (p : ℕ) → waiting_from b p q ≡ waiting_from a p q) (λ p. made.from p q)) (kept q))
-        ∙ sym (payloads-are old subscriber))
+    made-waits : NewWaits s shown.well_formed s' → WaitingStays old new
+    made-waits made = record {
+      all = fun_ext all_waits;
+      from = fun_ext (λ p. fun_ext (λ subscriber. payloads-stay-from sent p subscriber (made.from p subscriber.id)));
+    }
       where
-        kept : (q p n : ℕ) → contains (waiting_from (state_of old) p q) n ≡ true → entries_of new n ≡ entries_of old n
-        kept q p n at =
-            let here : contains (waiting_from s p q) n ≡ true = ap (λ (t : State T U). contains (waiting_from t p q) n) shown.state ∙ at in
-            let there : contains (waiting_from s' p q) n ≡ true = ap (λ ns. contains ns n) (made.from p q) ∙ here in
-            same-entry sent p q p q n (waits-in-mailbox s p q n here) (waits-in-mailbox s' p q n there)
+        all_waits : (subscriber : Subscriber) → payloads new subscriber ≡ payloads old subscriber
+        all_waits subscriber =
+            let q = subscriber.id in
+            let there : payloads new subscriber ≡ payloads_for (state_of new) (entries_of new) q = payloads-are new subscriber in
+            there
+            ∙ ap (all_below (λ p. map (payload_of (entries_of new)) (waiting_from (state_of new) p q))) (between (λ a b. b.next_port ≡ suc a.next_port) made.ports)
+            ∙ ap (λ ns. all_below (λ p. map (payload_of (entries_of new)) (waiting_from (state_of new) p q)) (state_of old).next_port ++ map (payload_of (entries_of new)) ns)
+            (between (λ a b. waiting_from b a.next_port q ≡ []) (made.none s.next_port q (λ low _. omega arith)))
+            ∙ append-nil (all_below (λ p. map (payload_of (entries_of new)) (waiting_from (state_of new) p q)) (state_of old).next_port)
+            ∙ all_same (λ p. map (payload_of (entries_of new)) (waiting_from (state_of new) p q)) (λ p. map (payload_of (entries_of old)) (waiting_from (state_of old) p q)) (state_of old).next_port
+            (parts_same (state_of old) (state_of new) (entries_of old) (entries_of new) q (between (λ a b. (p : ℕ) → waiting_from b p q ≡ waiting_from a p q) (λ p. made.from p q))
+            (λ p. entries-stay-from sent p q (made.from p q)))
+            ∙ sym (payloads-are old subscriber)
 
-    pub creation-waits : (refusal : Option SubscriberCreateError) → CreateSubscriber environment s given s' refusal → payloads new ≡ payloads old
+    pub creation-waits : (refusal : Option SubscriberCreateError) → CreateSubscriber environment s given s' refusal → WaitingStays old new
     creation-waits None h = made-waits ((create_subscriber_waits s shown.well_formed environment given s' None h).0 refl)
     creation-waits (Some e) h = payloads-stay sent ((create_subscriber_waits s shown.well_formed environment given s' (Some e) h).1 e refl)
 
@@ -192,7 +210,7 @@ module _ {T U F G : Type 0} (old new : Kept T U F G) (m m' : Messages T U) (s s'
 
   -- a publisher is made, or refused
   module _ (environment : Environment) (given : PublisherSettings) (refusal : Option PublisherCreateError) (h : CreatePublisher environment s given s' refusal) where
-    pub publisher-refused : AreKept → (e : PublisherCreateError) → refusal ≡ Some e → payloads new ≡ payloads old
+    pub publisher-refused : AreKept → (e : PublisherCreateError) → refusal ≡ Some e → WaitingStays old new
     publisher-refused sent e is = payloads-stay sent ((create_publisher_waits environment s given s' refusal h).1 e is)
 
     pub publisher-no-fewer : (subscriber : Subscriber) → waiting old subscriber ≤ waiting new subscriber
@@ -398,9 +416,9 @@ module _ {T U F G : Type 0} (old new : Kept T U F G) (m m' : Messages T U) (s s'
 
 module _ {T U F G : Type 0} (old new : Kept T U F G) (m : Messages T U) (s : State T U) (shown : Shows old m s) (n : ℕ) where
   -- a loan is set
-  pub set-waits : (l : Option (Loan T U)) → Shows new m (with_loan s n l) → payloads new ≡ payloads old
+  pub set-waits : (l : Option (Loan T U)) → Shows new m (with_loan s n l) → WaitingStays old new
   set-waits l shown' = payloads-stay old new m m s (with_loan s n l) shown shown' (λ k entry at. at) (loan_set_waits s n l)
 
   -- a loan is given back
-  pub discard-waits : (l : Loan T U) → Shows new m (loan_discarded s n l) → payloads new ≡ payloads old
+  pub discard-waits : (l : Loan T U) → Shows new m (loan_discarded s n l) → WaitingStays old new
   discard-waits l shown' = payloads-stay old new m m s (loan_discarded s n l) shown shown' (λ k entry at. at) (loan_discarded_waits s n l)

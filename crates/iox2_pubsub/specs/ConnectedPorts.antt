@@ -1,4 +1,4 @@
--- Which publisher is connected with which subscriber.
+-- Which publisher is connected with which subscriber, and which is with its next update.
 use Rattle.std.specs.Prelude.{ℕ, true, ◌≡◌}
 use Rattle.std.specs.declared.option.Option.TheVariants.{Some}
 use Rattle.iox2_store.specs.machine.Records.{Publisher, Subscriber}
@@ -11,6 +11,16 @@ pub record Connects {T U : Type 0} (s : State T U) (p q : ℕ) : Type 0 where
   pub publisher : Publisher
   pub stands : s.publishers p ≡ Some publisher
   pub sends : LeadsTo publisher.ends q
+  pub subscriber : Subscriber
+  pub there : s.subscribers q ≡ Some subscriber
+  pub receives : receives_from subscriber p ≡ true
+
+-- The publisher p is due, and q, which is open, has its end of the mailbox with it or is due too. So p's next update connects the two,
+-- where memory isn't refused.
+pub record Awaits {T U : Type 0} (s : State T U) (p q : ℕ) : Type 0 where
+  pub publisher : Publisher
+  pub stands : s.publishers p ≡ Some publisher
+  pub due : publisher.is_due ≡ true
   pub subscriber : Subscriber
   pub there : s.subscribers q ≡ Some subscriber
   pub receives : receives_from subscriber p ≡ true

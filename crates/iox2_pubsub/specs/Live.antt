@@ -16,7 +16,7 @@ use Rattle.iox2_domain.specs.Boxes.{box_of, degradation_box_of}
 use Rattle.iox2_domain.specs.Handlers.{may_fail, may_fail_update}
 use Rattle.iox2_domain.specs.Kept.{Kept, state_of, entries_of}
 use Rattle.iox2_domain.specs.LoanCalls.{HasLoanHeader, HasLoanUserHeader}
-use Rattle.iox2_pubsub.specs.ConnectedPorts.{Connects}
+use Rattle.iox2_pubsub.specs.ConnectedPorts.{Awaits, Connects}
 use Rattle.iox2_pubsub.specs.Handlers.{may_wait}
 use Rattle.iox2_pubsub.specs.Payloads.{payload_of, payloads_for}
 use Rattle.iox2_pubsub.specs.Slices.{IsSliced, HasUnwrittenCells, HasValues, SampleHasValues}
@@ -236,10 +236,28 @@ module _ {T U F G : Type 0} (domain : Kept T U F G) where
   unfoldable pub IsConnected : (publisher : ℕ) → Subscriber → Type 0
   IsConnected publisher subscriber = Connects (state_of domain) publisher subscriber.id
 
+  -- The publisher with this id is due for an update, and connected with the subscriber by it, where memory isn't refused.
+  unfoldable pub IsAwaited : (publisher : ℕ) → Subscriber → Type 0
+  IsAwaited publisher subscriber = Awaits (state_of domain) publisher subscriber.id
+
 -- Each subscriber that was up to date is, and each publisher that was connected with a subscriber is.
 pub record UpToDateStay {T U F G : Type 0} (old new : Kept T U F G) : Type 0 where
   pub subscribers : (subscriber : Subscriber) → IsUpToDate old subscriber → IsUpToDate new subscriber
   pub connections : (publisher : ℕ) (subscriber : Subscriber) → IsConnected old publisher subscriber → IsConnected new publisher subscriber
+
+-- For each subscriber the same messages wait as before, and so from each publisher.
+pub record WaitingStays {T U F G : Type 0} (old new : Kept T U F G) : Type 0 where
+  pub all : payloads new ≡ payloads old
+  pub from : payloads_from new ≡ payloads_from old
+
+-- All that waits for the subscriber is of the publisher with this id, and these are its payloads, the oldest first.
+pub record AllFrom {T U F G : Type 0} (domain : Kept T U F G) (publisher : ℕ) (subscriber : Subscriber) (values : List (List T)) : Type 0 where
+  pub all : payloads domain subscriber ≡ values
+  pub from : payloads_from domain publisher subscriber ≡ values
+
+-- From each other publisher the same messages wait as before, for each subscriber.
+abbrev pub OthersSend : {T U F G : Type 0} → (publisher : ℕ) → (old new : Kept T U F G) → Type 0
+OthersSend publisher old new = (other : ℕ) → other ≢ publisher → payloads_from new other ≡ payloads_from old other
 
 -- Each publisher that was connected with a subscriber is.
 abbrev pub ConnectionsStay : {T U F G : Type 0} → (old new : Kept T U F G) → Type 0
@@ -248,6 +266,12 @@ ConnectionsStay old new = (publisher : ℕ) (subscriber : Subscriber) → IsConn
 -- No port was refused memory for a connection meanwhile, as the domain's count says while it isn't at its end.
 abbrev pub NoneRefused : {T U F G : Type 0} → (old new : Kept T U F G) → Type 0
 NoneRefused old new = ((new.warnings).refused_connections ≡ (old.warnings).refused_connections) × ((old.warnings).refused_connections < refusal_limit)
+
+-- An update of the publisher with this id connects it with each subscriber that awaits it, where no port is refused memory for a
+-- connection, and who awaits another publisher still does.
+pub record Connected {T U F G : Type 0} (publisher : ℕ) (old new : Kept T U F G) : Type 0 where
+  pub awaited : (subscriber : Subscriber) → IsAwaited old publisher subscriber → NoneRefused old new → IsConnected new publisher subscriber
+  pub others : (other : ℕ) (subscriber : Subscriber) → other ≢ publisher → IsAwaited old other subscriber → IsAwaited new other subscriber
 
 -- The publisher's message with these values waits for the subscriber, behind all others of that publisher. Where the buffer was
 -- full, the oldest of them went in its place, with overflow; without overflow this message did, and they wait still.
@@ -272,6 +296,15 @@ OthersWait subscriber old new = (other : Subscriber) → other.id ≢ subscriber
 abbrev pub TakesOldest : {T U F G : Type 0} → Subscriber → Sample → (old new : Kept T U F G) → Type 0
 TakesOldest {T} subscriber sample old new =
     (values : List T) × (payloads_from old sample.origin subscriber ≡ values ∷ payloads_from new sample.origin subscriber) × SampleHasValues new (sample_key sample) values
+
+-- Where all that waits for the subscriber is of one publisher, the sample is the first of it, and the rest waits still.
+pub record TakesFirst {T U F G : Type 0} (subscriber : Subscriber) (sample : Sample) (old new : Kept T U F G) : Type 0 where
+  pub first : (publisher : ℕ) (payload : List T) (later : List (List T)) → AllFrom old publisher subscriber (payload ∷ later) → SampleHasValues new (sample_key sample) payload
+  pub rest : (publisher : ℕ) (payload : List T) (later : List (List T)) → AllFrom old publisher subscriber (payload ∷ later) → AllFrom new publisher subscriber later
+
+-- From each other publisher than the sample's the same messages wait for the subscriber as before.
+abbrev pub LeavesOthers : {T U F G : Type 0} → Subscriber → Sample → (old new : Kept T U F G) → Type 0
+LeavesOthers subscriber sample old new = (publisher : ℕ) → publisher ≢ sample.origin → payloads_from new publisher subscriber ≡ payloads_from old publisher subscriber
 
 -- For no subscriber more than so many messages are added to what waits.
 abbrev pub AddAtMost : {T U F G : Type 0} → (more : ℕ) → (old new : Kept T U F G) → Type 0

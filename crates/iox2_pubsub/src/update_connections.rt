@@ -29,6 +29,9 @@ pub trait UpdateConnections<T: Drop, U: Default + Drop, F: BackpressureFn, G: De
     // What an update that didn't fail leaves true of the port.
     ghost is_updated: { Kept T U F G → Self → Type 0 };
 
+    // What else its update leaves of what the domain was before.
+    ghost leaves: { Kept T U F G → Kept T U F G → Self → Type 0 };
+
     // How many messages more may wait for a subscriber afterwards.
     ghost adds: { Kept T U F G → ℕ };
 
@@ -47,6 +50,7 @@ pub trait UpdateConnections<T: Drop, U: Default + Drop, F: BackpressureFn, G: De
             → (s' : State T U) × Shows domain.new m s' × updates domain.old s self.now s' (failure_of result) }
         ensures adds { AddAtMost (adds domain.old) domain.old domain.new }
         ensures updated { OnOk result (is_updated domain.new self.now) }
+        ensures leaves { leaves domain.old domain.new self.now }
         ensures up_to_date { UpToDateStay domain.old domain.new }
         ensures loans_left { LoansLeftStay domain.old domain.new }
         ensures stays { Stays domain.old domain.new };

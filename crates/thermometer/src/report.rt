@@ -1,7 +1,8 @@
 //! Readings go from the thermometer to the display.
-ghost use Rattle.iox2_pubsub.specs.Live.{AreApart, Both, IsLivePublisher, IsLiveSubscriber, IsSingleValued, IsUnwrittenLoan, Stays, StaysBut, unwritten_loan, AreAll, payloads, waiting};
+ghost use Rattle.iox2_pubsub.specs.Handles.{publisher_id, unwritten_lender};
+ghost use Rattle.iox2_pubsub.specs.Live.{AllFrom, AreApart, Both, IsConnected, IsLivePublisher, IsLiveSubscriber, IsSingleValued, IsUnwrittenLoan, IsUpToDate, Stays, StaysBut, UpToDateStay, unwritten_loan, AreAll, payloads, waiting};
 ghost use Rattle.iox2_pubsub.specs.LoansLeft.{HasLoansLeft, HasNumbersLeft};
-ghost use Rattle.std.specs.Prelude.{◌≡◌, ℕ, IfOk, IfSome, OnOk};
+ghost use Rattle.std.specs.Prelude.{◌≡◌, ℕ, [], ◌∷◌, IfOk, IfSome, OnOk, Some};
 ghost use Rattle.iox2_pubsub.specs.declared.subscriber.Subscriber.{Subscriber as SubscriberHandle};
 
 use crate::correction::send_at_once;
@@ -74,7 +75,7 @@ pub fn compare(
 }
 
 // Sends one reading, and shows the next that waits: the same one, where none waited and no history
-// is kept. Returns what it showed.
+// is kept, or the two ports are connected. Returns what it showed.
 fn report(
     rt: &HostRuntime,
     domain: &mut Domain<Reading, ()>,
@@ -86,6 +87,8 @@ fn report(
     requires publisher { IsLivePublisher domain.old publisher.now }
     requires subscriber { IsLiveSubscriber domain.old subscriber.now }
     ensures same { (domain.old.config).history_size ≡ 0 → waiting domain.old subscriber.now ≡ 0 → IfOk result (λ shown. IfSome shown (λ it. it ≡ celsius)) }
+    ensures shows { IsConnected domain.old (publisher_id publisher.now) subscriber.now → IsUpToDate domain.old subscriber.now → waiting domain.old subscriber.now ≡ 0
+        → IfOk result (λ shown. shown ≡ Some celsius) }
     ensures stays { Stays domain.old domain.new }
 {
     let loan = publisher.loan_uninit(domain)?;
@@ -175,6 +178,9 @@ fn send(
     requires loan { IsUnwrittenLoan domain.old loan }
     ensures brings { (subscriber : SubscriberHandle) → (domain.old.config).history_size ≡ 0 → waiting domain.old subscriber ≡ 0
         → AreAll (payloads domain.new subscriber) (record { celsius = celsius }) }
+    ensures arrives { (subscriber : SubscriberHandle) → waiting domain.old subscriber ≡ 0 → IsConnected domain.old (unwritten_lender loan) subscriber
+        → OnOk result (AllFrom domain.new (unwritten_lender loan) subscriber ((record { celsius = celsius } ∷ []) ∷ [])) }
+    ensures up_to_date { UpToDateStay domain.old domain.new }
     ensures stays { StaysBut (unwritten_loan loan) domain.old domain.new }
 {
     let message = loan.write_payload(domain, Reading { celsius });
@@ -191,6 +197,8 @@ fn show(
     requires single_valued { IsSingleValued domain.old }
     requires subscriber { IsLiveSubscriber domain.old subscriber.now }
     ensures waited { (celsius : ℕ) → AreAll (payloads domain.old subscriber.now) (record { celsius = celsius }) → IfOk result (λ shown. IfSome shown (λ it. it ≡ celsius)) }
+    ensures shows { (publisher celsius : ℕ) → IsUpToDate domain.old subscriber.now → AllFrom domain.old publisher subscriber.now ((record { celsius = celsius } ∷ []) ∷ [])
+        → IfOk result (λ shown. shown ≡ Some celsius) }
     ensures stays { Stays domain.old domain.new }
 {
     let Some(sample) = subscriber.receive(domain)? else {

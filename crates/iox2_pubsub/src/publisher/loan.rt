@@ -10,7 +10,7 @@ use iox2_store::{BackpressureFn, DegradationFn, Key, LoanError, UniquePublisherI
 impl Publisher {
     ghost use Rattle.iox2_store.specs.machine.State.{State, Messages};
     ghost use Rattle.iox2_store.specs.declared.service_config.TypeVariant.TheVariants.{FixedSize};
-    ghost use Rattle.iox2_pubsub.specs.Live.{HasLender, IsReadyPublisher, IsSingleValued, IsUnblocked, IsUnwritten, IsUnwrittenLoan, IsNewIn, LoanHasHeader, NeverWaits, Stays, lender_key, publisher_key, unwritten_key, unwritten_loan, UpToDateStay, payloads};
+    ghost use Rattle.iox2_pubsub.specs.Live.{HasLender, IsReadyPublisher, IsSingleValued, IsUnblocked, IsUnwritten, IsUnwrittenLoan, IsNewIn, LoanHasHeader, NeverWaits, Stays, lender_key, publisher_key, unwritten_key, unwritten_loan, UpToDateStay, WaitingStays};
     ghost use Rattle.iox2_pubsub.specs.LoansLeft.{HasLoansLeft, HasNumbersLeft, LoansLeftStay, TakesOneLeft};
     ghost use Rattle.iox2_pubsub.specs.Slices.{HasUnwrittenCells};
     ghost use Rattle.iox2_domain.specs.Lending.{LoanCall, header_for};
@@ -49,7 +49,7 @@ impl Publisher {
         ensures publisher { IfOk result (λ loan. unwritten_lender loan ≡ publisher_id self.now) }
         ensures lent { IfOk result (λ loan. HasLender domain.new (unwritten_key loan)) }
         ensures lender { IfOk result (λ loan. lender_key (unwritten_key loan) ≡ publisher_key self.now) }
-        ensures waits { payloads domain.new ≡ payloads domain.old }
+        ensures waits { WaitingStays domain.old domain.new }
         ensures up_to_date { UpToDateStay domain.old domain.new }
         ensures loans_left { TakesOneLeft self.now domain.old domain.new }
         ensures refused { OnErr result (LoansLeftStay domain.old domain.new) }
@@ -84,7 +84,7 @@ impl Publisher {
         ensures publisher { IfOk result (λ loan. unwritten_lender loan ≡ publisher_id self.now) }
         ensures lent { IfOk result (λ loan. HasLender domain.new (unwritten_key loan)) }
         ensures lender { IfOk result (λ loan. lender_key (unwritten_key loan) ≡ publisher_key self.now) }
-        ensures waits { payloads domain.new ≡ payloads domain.old }
+        ensures waits { WaitingStays domain.old domain.new }
         ensures up_to_date { UpToDateStay domain.old domain.new }
         ensures loans_left { TakesOneLeft self.now domain.old domain.new }
         ensures refused { OnErr result (LoansLeftStay domain.old domain.new) }

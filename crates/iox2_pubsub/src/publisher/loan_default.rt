@@ -9,7 +9,7 @@ use iox2_store::{BackpressureFn, DegradationFn, LoanError};
 impl Publisher {
     ghost use Rattle.iox2_store.specs.machine.State.{State, Messages};
     ghost use Rattle.iox2_domain.specs.Shows.{Shows};
-    ghost use Rattle.iox2_pubsub.specs.Live.{HasLender, IsNewIn, IsReadyPublisher, IsSingleValued, IsUnblocked, IsWritten, IsWrittenLoan, LoanReads, NeverWaits, Stays, UpToDateStay, lender_key, payloads, publisher_key, written_key, written_loan};
+    ghost use Rattle.iox2_pubsub.specs.Live.{HasLender, IsNewIn, IsReadyPublisher, IsSingleValued, IsUnblocked, IsWritten, IsWrittenLoan, LoanReads, NeverWaits, Stays, UpToDateStay, lender_key, publisher_key, written_key, written_loan, WaitingStays};
     ghost use Rattle.iox2_pubsub.specs.LoansLeft.{HasLoansLeft, HasNumbersLeft, LoansLeftStay, TakesOneLeft};
     ghost use Rattle.iox2_pubsub.specs.WrittenLoans.{WrittenLoanCall};
     ghost use Rattle.iox2_pubsub.specs.Handles.{publisher_id, written_lender, written_number};
@@ -34,7 +34,7 @@ impl Publisher {
         ensures publisher { IfOk result (λ loan. written_lender loan ≡ publisher_id self.now) }
         ensures lent { IfOk result (λ loan. HasLender domain.new (written_key loan)) }
         ensures lender { IfOk result (λ loan. lender_key (written_key loan) ≡ publisher_key self.now) }
-        ensures waits { payloads domain.new ≡ payloads domain.old }
+        ensures waits { WaitingStays domain.old domain.new }
         ensures up_to_date { UpToDateStay domain.old domain.new }
         ensures granted { (loans numbers : ℕ) → HasLoansLeft domain.old self.now (loans + 1) → HasNumbersLeft domain.old (numbers + 1) → IsOk result }
         ensures loans_left { TakesOneLeft self.now domain.old domain.new }

@@ -13,7 +13,7 @@ impl<T: Drop, U: Default + Drop, F: BackpressureFn, G: DegradationFn> UpdateConn
     for Publisher {
     ghost use Rattle.iox2_domain.specs.Boxes.{answers_of};
     ghost use Rattle.iox2_store.specs.machine.PublisherUpdate.{UpdatePublisher};
-    ghost use Rattle.iox2_pubsub.specs.Live.{IsReadyPublisher, publisher_key};
+    ghost use Rattle.iox2_pubsub.specs.Live.{IsReadyPublisher, publisher_key, Connected};
     ghost use Rattle.iox2_pubsub.specs.Handles.{publisher_id};
 
     ghost is_live = { IsReadyPublisher };
@@ -26,6 +26,8 @@ impl<T: Drop, U: Default + Drop, F: BackpressureFn, G: DegradationFn> UpdateConn
     ghost updates = { λ old s publisher s' failure. UpdatePublisher (answers_of F.allows G.allows (old.boxes).publishers) s (publisher_id publisher) s' failure };
 
     ghost is_updated = { λ domain publisher. Unit {0} };
+
+    ghost leaves = { λ old new publisher. Connected (publisher_id publisher) old new };
 
     ghost adds = { λ domain. (domain.config).history_size };
 

@@ -13,10 +13,10 @@ use iox2_messages::send_loan;
 use iox2_store::{BackpressureFn, DegradationFn, SendError};
 
 impl SampleMut {
-    ghost use Rattle.std.specs.Prelude.{List, Some};
+    ghost use Rattle.std.specs.Prelude.{List, Some, [], ◌∷◌};
     ghost use Rattle.iox2_store.specs.machine.Records.{Loan};
     ghost use Rattle.iox2_store.specs.machine.State.{State, Messages};
-    ghost use Rattle.iox2_pubsub.specs.Live.{HasLender, IsBlockedSend, IsConnected, IsLoanKey, IsServed, IsUnblocked, IsWritten, NeverFails, NeverWaits, StaysBut, blocked_key, written_key, AddAtMost, AreAllSlices, UpToDateStay, payloads, waiting};
+    ghost use Rattle.iox2_pubsub.specs.Live.{AllFrom, HasLender, IsBlockedSend, IsConnected, IsLoanKey, IsServed, IsUnblocked, IsWritten, NeverFails, NeverWaits, OthersSend, StaysBut, blocked_key, written_key, AddAtMost, AreAllSlices, UpToDateStay, payloads, waiting};
     ghost use Rattle.iox2_pubsub.specs.LoansLeft.{HasOneMoreLeft, LoansLeftStay};
     ghost use Rattle.iox2_pubsub.specs.Slices.{HasValues};
     ghost use Rattle.iox2_pubsub.specs.SendCalls.{FailsSend, IsDelivered, Sends, messages_after, spent_by_send};
@@ -61,6 +61,9 @@ impl SampleMut {
             → HasValues domain.old (written_number self) values → AreAllSlices (payloads domain.new subscriber) values }
         ensures serves { (subscriber : Subscriber) (values : List T) → IsConnected domain.old (written_lender self) subscriber → HasValues domain.old (written_number self) values
             → IfOk result (λ outcome. IsDelivered outcome → IsServed domain.old domain.new (written_lender self) subscriber values) }
+        ensures arrives { (subscriber : Subscriber) (values : List T) → waiting domain.old subscriber ≡ 0 → IsConnected domain.old (written_lender self) subscriber
+            → HasValues domain.old (written_number self) values → IfOk result (λ outcome. IsDelivered outcome → AllFrom domain.new (written_lender self) subscriber (values ∷ [])) }
+        ensures others { OthersSend (written_lender self) domain.old domain.new }
         ensures up_to_date { UpToDateStay domain.old domain.new }
         ensures loans_left { LoansLeftStay domain.old domain.new }
         ensures given_back { IfOk result IsDelivered → HasOneMoreLeft (written_lender self) domain.old domain.new }

@@ -15,7 +15,7 @@ impl SampleMutUninit {
     ghost use Rattle.iox2_domain.specs.LoanCalls.{first_cell_changed};
     ghost use Rattle.iox2_domain.specs.Shows.{Shows};
     ghost use Rattle.iox2_pubsub.specs.ChangedLoans.{with_cell};
-    ghost use Rattle.iox2_pubsub.specs.Live.{IsSingleValued, IsUnwritten, IsUnwrittenLoan, LoanHasHeader, LoanHasUserHeader, NeverWaits, UnwrittenReads, StaysBut, UpToDateStay, payloads, unwritten_key, unwritten_loan};
+    ghost use Rattle.iox2_pubsub.specs.Live.{IsSingleValued, IsUnwritten, IsUnwrittenLoan, LoanHasHeader, LoanHasUserHeader, NeverWaits, UnwrittenReads, StaysBut, UpToDateStay, unwritten_key, unwritten_loan, WaitingStays};
     ghost use Rattle.iox2_pubsub.specs.LoanLends.{LendsCell};
     ghost use Rattle.iox2_pubsub.specs.LoansLeft.{LoansLeftStay};
     ghost use Rattle.iox2_pubsub.specs.Handles.{unwritten_number};
@@ -45,7 +45,7 @@ impl SampleMutUninit {
             → LoanHasHeader (with_cell domain.old (unwritten_number sample.old) cell) (unwritten_key sample.new) header }
         ensures user_header { (cell : Option T) (header : U) → LoanHasUserHeader domain.old (unwritten_key sample.old) header
             → LoanHasUserHeader (with_cell domain.old (unwritten_number sample.old) cell) (unwritten_key sample.new) header }
-        ensures waits { (cell : Option T) → payloads (with_cell domain.old (unwritten_number sample.old) cell) ≡ payloads domain.old }
+        ensures waits { (cell : Option T) → WaitingStays domain.old (with_cell domain.old (unwritten_number sample.old) cell) }
         ensures up_to_date { (cell : Option T) → UpToDateStay domain.old (with_cell domain.old (unwritten_number sample.old) cell) }
         ensures loans_left { (cell : Option T) → LoansLeftStay domain.old (with_cell domain.old (unwritten_number sample.old) cell) }
         ensures stays { (cell : Option T) → StaysBut (unwritten_loan sample.old) domain.old (with_cell domain.old (unwritten_number sample.old) cell) }

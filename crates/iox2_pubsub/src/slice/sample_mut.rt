@@ -18,13 +18,13 @@ pub struct SampleMut {
 }
 
 impl SampleMut {
-    ghost use Rattle.std.specs.Prelude.{IfErr, IfOk, IsOk, List, Some, false, ◌+◌, ◌⊎◌, ◌↔◌};
+    ghost use Rattle.std.specs.Prelude.{IfErr, IfOk, IsOk, List, Some, [], false, ◌∷◌, ◌+◌, ◌⊎◌, ◌↔◌};
     ghost use Rattle.iox2_store.specs.machine.Loans.{loan_discarded};
     ghost use Rattle.iox2_store.specs.machine.Records.{Loan};
     ghost use Rattle.iox2_store.specs.machine.State.{State, Messages};
     ghost use Rattle.iox2_domain.specs.Boxes.{answers_of};
     ghost use Rattle.iox2_domain.specs.Shows.{Shows};
-    ghost use Rattle.iox2_pubsub.specs.Live.{AddAtMost, AreAllSlices, HasLender, IsBlockedSend, IsConnected, IsLoanKey, IsServed, IsUnblocked, IsWritten, LoanHasHeader, LoanHasUserHeader, NeverFails, NeverWaits, StaysBut, blocked_key, UpToDateStay, payloads, waiting, written_key, written_loan};
+    ghost use Rattle.iox2_pubsub.specs.Live.{AddAtMost, AllFrom, AreAllSlices, HasLender, IsBlockedSend, IsConnected, IsLoanKey, IsServed, IsUnblocked, IsWritten, LoanHasHeader, LoanHasUserHeader, NeverFails, NeverWaits, OthersSend, StaysBut, blocked_key, UpToDateStay, payloads, waiting, written_key, written_loan, WaitingStays};
     ghost use Rattle.iox2_pubsub.specs.declared.subscriber.Subscriber.{Subscriber};
     ghost use Rattle.iox2_pubsub.specs.LoansLeft.{HasOneMoreLeft, LoansLeftStay};
     ghost use Rattle.iox2_pubsub.specs.SendCalls.{FailsSend, IfBlocked, IsDelivered, Sends, messages_after, spent_by_send};
@@ -65,6 +65,9 @@ impl SampleMut {
             → HasValues domain.old (written_number (as_written self)) values → AreAllSlices (payloads domain.new subscriber) values }
         ensures serves { (subscriber : Subscriber) (values : List T) → IsConnected domain.old (written_lender (as_written self)) subscriber → HasValues domain.old (written_number (as_written self)) values
             → IfOk result (λ outcome. IsDelivered outcome → IsServed domain.old domain.new (written_lender (as_written self)) subscriber values) }
+        ensures arrives { (subscriber : Subscriber) (values : List T) → waiting domain.old subscriber ≡ 0 → IsConnected domain.old (written_lender (as_written self)) subscriber
+            → HasValues domain.old (written_number (as_written self)) values → IfOk result (λ outcome. IsDelivered outcome → AllFrom domain.new (written_lender (as_written self)) subscriber (values ∷ [])) }
+        ensures others { OthersSend (written_lender (as_written self)) domain.old domain.new }
         ensures up_to_date { UpToDateStay domain.old domain.new }
         ensures loans_left { LoansLeftStay domain.old domain.new }
         ensures given_back { IfOk result IsDelivered → HasOneMoreLeft (written_lender (as_written self)) domain.old domain.new }
@@ -82,7 +85,7 @@ impl SampleMut {
         requires live { IsLoanKey domain.old (written_key (as_written self)) }
         ensures discarded { (m : Messages T U) (s : State T U) (l : Loan T U) → Shows domain.old m s → s.loans (written_number (as_written self)) ≡ Some l
             → Shows domain.new m (loan_discarded s (written_number (as_written self)) l) }
-        ensures waits { payloads domain.new ≡ payloads domain.old }
+        ensures waits { WaitingStays domain.old domain.new }
         ensures up_to_date { UpToDateStay domain.old domain.new }
         ensures spent { IsLoanKey domain.new (written_key (as_written self)) → ⊥ }
         ensures loans_left { LoansLeftStay domain.old domain.new }

@@ -13,7 +13,7 @@ impl<T: Drop, U: Default + Drop, F: BackpressureFn, G: DegradationFn> UpdateConn
     for Subscriber {
     ghost use Rattle.iox2_domain.specs.Boxes.{answers_of};
     ghost use Rattle.iox2_store.specs.machine.SubscriberUpdate.{UpdateSubscriber};
-    ghost use Rattle.iox2_pubsub.specs.Live.{IsLiveSubscriber, IsUpToDate, subscriber_key};
+    ghost use Rattle.iox2_pubsub.specs.Live.{IsLiveSubscriber, IsUpToDate, subscriber_key, WaitingStays};
     ghost use Rattle.iox2_pubsub.specs.Handles.{subscriber_id};
 
     ghost is_live = { IsLiveSubscriber };
@@ -23,6 +23,8 @@ impl<T: Drop, U: Default + Drop, F: BackpressureFn, G: DegradationFn> UpdateConn
     ghost updates = { λ old s subscriber s' failure. UpdateSubscriber (answers_of F.allows G.allows (old.boxes).subscribers) s (subscriber_id subscriber) s' failure };
 
     ghost is_updated = { IsUpToDate };
+
+    ghost leaves = { λ old new subscriber. IsUpToDate old subscriber → WaitingStays old new };
 
     ghost adds = { λ domain. 0 };
 

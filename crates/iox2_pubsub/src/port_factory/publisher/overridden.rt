@@ -10,7 +10,7 @@ ghost use Rattle.iox2_domain.specs.Shows.{Shows};
 ghost use Rattle.iox2_pubsub.specs.Factories.{AsksFor, AsksForAll, callback_of, with_slots};
 ghost use Rattle.iox2_pubsub.specs.Handlers.{may_wait};
 ghost use Rattle.iox2_pubsub.specs.Handles.{publisher_id, strategy_of};
-ghost use Rattle.iox2_pubsub.specs.Live.{ConnectionsStay, IsConnected, IsLiveSubscriber, IsNewIn, IsReadyPublisher, NeverFails, NeverWaits, NoneRefused, Stays, degradation_box, handler_box, publisher_key, publisher_port, payloads, waiting};
+ghost use Rattle.iox2_pubsub.specs.Live.{ConnectionsStay, IsConnected, IsLiveSubscriber, IsNewIn, IsReadyPublisher, NeverFails, NeverWaits, NoneRefused, Stays, degradation_box, handler_box, publisher_key, publisher_port, payloads, waiting, WaitingStays};
 ghost use Rattle.iox2_pubsub.specs.LoansLeft.{HasLoansLeft, LoansLeftStay};
 ghost use Rattle.iox2_pubsub.specs.declared.subscriber.Subscriber.{Subscriber};
 
@@ -57,7 +57,7 @@ impl<F: BackpressureFn, P: Fn(usize) -> usize + Drop> PortFactoryPublisher<
         ensures degrades { IfOk result (λ publisher. degradation_box domain.new (publisher_id publisher) ≡ self.degradation_box) }
         ensures strategy { IfOk result (λ publisher. strategy_of publisher ≡ self.settings.backpressure_strategy) }
         ensures new { IfOk result (λ publisher. IsNewIn domain.old (publisher_port publisher)) }
-        ensures refused { OnErr result (payloads domain.new ≡ payloads domain.old) }
+        ensures refused { OnErr result (WaitingStays domain.old domain.new) }
         ensures no_fewer { (subscriber : Subscriber) → waiting domain.old subscriber ≤ waiting domain.new subscriber }
         ensures connections { ConnectionsStay domain.old domain.new }
         ensures connects { IfOk result (λ publisher. NoneRefused domain.old domain.new → (subscriber : Subscriber) → IsLiveSubscriber domain.old subscriber → IsConnected domain.new (publisher_id publisher) subscriber) }

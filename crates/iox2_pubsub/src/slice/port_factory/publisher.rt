@@ -5,7 +5,7 @@ ghost use Rattle.iox2_domain.specs.Boxes.{answers_of};
 ghost use Rattle.iox2_store.specs.machine.Records.{Fixed};
 ghost use Rattle.iox2_store.specs.machine.Ports.{CreatePublisher};
 ghost use Rattle.iox2_store.specs.machine.State.{State, Messages};
-ghost use Rattle.iox2_pubsub.specs.Live.{ConnectionsStay, IsConnected, IsLiveSubscriber, IsNewIn, IsReadyPublisher, NeverFails, NeverWaits, NoneRefused, Stays, degradation_box, handler_box, publisher_key, publisher_port, payloads, waiting};
+ghost use Rattle.iox2_pubsub.specs.Live.{ConnectionsStay, IsConnected, IsLiveSubscriber, IsNewIn, IsReadyPublisher, NeverFails, NeverWaits, NoneRefused, Stays, degradation_box, handler_box, publisher_key, publisher_port, payloads, waiting, WaitingStays};
 ghost use Rattle.iox2_pubsub.specs.LoansLeft.{HasLoansLeft, LoansLeftStay};
 ghost use Rattle.iox2_domain.specs.NewPublisher.{plain_publisher};
 ghost use Rattle.iox2_domain.specs.Handlers.{may_fail, may_fail_update};
@@ -282,7 +282,7 @@ impl<F: BackpressureFn, G: DegradationFn> PortFactoryPublisher<F, G> {
         ensures strategy { IfOk result (λ publisher. strategy_of (as_publisher publisher) ≡ self.settings.backpressure_strategy) }
         ensures longest { IfOk result (λ publisher. max_slice_len_of (as_publisher publisher) ≡ self.settings.initial_max_slice_len) }
         ensures new { IfOk result (λ publisher. IsNewIn domain.old (publisher_port (as_publisher publisher))) }
-        ensures refused { OnErr result (payloads domain.new ≡ payloads domain.old) }
+        ensures refused { OnErr result (WaitingStays domain.old domain.new) }
         ensures no_fewer { (subscriber : Subscriber) → waiting domain.old subscriber ≤ waiting domain.new subscriber }
         ensures connections { ConnectionsStay domain.old domain.new }
         ensures connects { IfOk result (λ publisher. NoneRefused domain.old domain.new → (subscriber : Subscriber) → IsLiveSubscriber domain.old subscriber → IsConnected domain.new (publisher_id (as_publisher publisher)) subscriber) }

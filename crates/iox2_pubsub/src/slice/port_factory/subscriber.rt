@@ -5,7 +5,7 @@ ghost use Rattle.iox2_domain.specs.Boxes.{answers_of};
 ghost use Rattle.iox2_store.specs.machine.Records.{Fixed};
 ghost use Rattle.iox2_store.specs.machine.Ports.{default_subscriber_settings, buffer_for, CreateSubscriber};
 ghost use Rattle.iox2_store.specs.machine.State.{State, Messages};
-ghost use Rattle.iox2_pubsub.specs.Live.{IsLiveSubscriber, IsNewIn, Stays, subscriber_box, subscriber_port, UpToDateStay, payloads, waiting};
+ghost use Rattle.iox2_pubsub.specs.Live.{IsLiveSubscriber, IsNewIn, Stays, subscriber_box, subscriber_port, UpToDateStay, payloads, waiting, WaitingStays, IsAwaited, IsReadyPublisher, NoneRefused};
 ghost use Rattle.iox2_pubsub.specs.LoansLeft.{LoansLeftStay};
 ghost use Rattle.iox2_pubsub.specs.Factories.{receiver_with_degradation};
 ghost use Rattle.iox2_domain.specs.Shows.{Shows};
@@ -32,7 +32,8 @@ impl<G> Model for PortFactorySubscriber<G> {
 }
 
 impl<G: DegradationFn> PortFactorySubscriber<G> {
-    ghost use Rattle.iox2_pubsub.specs.Handles.{as_subscriber, buffer_size_of, subscriber_id};
+    ghost use Rattle.iox2_pubsub.specs.Handles.{as_subscriber, buffer_size_of, publisher_id, subscriber_id};
+    ghost use Rattle.iox2_pubsub.specs.declared.publisher.Publisher.{Publisher};
     /// Sets how many messages of one publisher may wait for the subscriber. Here 0 counts as 1.
     ///
     /// iceoryx2's `PortFactorySubscriber::buffer_size` (`src/service/port_factory/subscriber.rs`).
@@ -88,7 +89,8 @@ impl<G: DegradationFn> PortFactorySubscriber<G> {
         ensures boxed { IfOk result (λ subscriber. subscriber_box domain.new (subscriber_id (as_subscriber subscriber)) ≡ self.box) }
         ensures new { IfOk result (λ subscriber. IsNewIn domain.old (subscriber_port (as_subscriber subscriber))) }
         ensures none { IfOk result (λ subscriber. waiting domain.new (as_subscriber subscriber) ≡ 0) }
-        ensures waits { payloads domain.new ≡ payloads domain.old }
+        ensures awaits { IfOk result (λ subscriber. NoneRefused domain.old domain.new → (publisher : Publisher) → IsReadyPublisher domain.old publisher → IsAwaited domain.new (publisher_id publisher) (as_subscriber subscriber)) }
+        ensures waits { WaitingStays domain.old domain.new }
         ensures up_to_date { UpToDateStay domain.old domain.new }
         ensures loans_left { LoansLeftStay domain.old domain.new }
         ensures stays { Stays domain.old domain.new }

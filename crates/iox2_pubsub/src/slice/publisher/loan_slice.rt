@@ -10,7 +10,7 @@ impl Publisher {
     ghost use Rattle.iox2_store.specs.machine.State.{State, Messages};
     ghost use Rattle.iox2_store.specs.declared.service_config.TypeVariant.TheVariants.{Dynamic};
     ghost use Rattle.iox2_domain.specs.Shows.{Shows};
-    ghost use Rattle.iox2_pubsub.specs.Live.{HasLender, IsNewIn, IsReadyPublisher, IsUnblocked, IsWritten, IsWrittenLoan, NeverWaits, Stays, UpToDateStay, lender_key, payloads, publisher_key, written_key, written_loan};
+    ghost use Rattle.iox2_pubsub.specs.Live.{HasLender, IsNewIn, IsReadyPublisher, IsUnblocked, IsWritten, IsWrittenLoan, NeverWaits, Stays, UpToDateStay, lender_key, publisher_key, written_key, written_loan, WaitingStays};
     ghost use Rattle.iox2_pubsub.specs.LoansLeft.{HasLoansLeft, HasNumbersLeft, LoansLeftStay, TakesOneLeft};
     ghost use Rattle.iox2_pubsub.specs.Slices.{HasValues};
     ghost use Rattle.iox2_pubsub.specs.WrittenLoans.{DefaultSliceCall};
@@ -42,7 +42,7 @@ impl Publisher {
         ensures publisher { IfOk result (λ loan. written_lender (as_written loan) ≡ publisher_id (as_publisher self.now)) }
         ensures lender { IfOk result (λ loan. lender_key (written_key (as_written loan)) ≡ publisher_key (as_publisher self.now)) }
         ensures lent { IfOk result (λ loan. HasLender domain.new (written_key (as_written loan))) }
-        ensures waits { payloads domain.new ≡ payloads domain.old }
+        ensures waits { WaitingStays domain.old domain.new }
         ensures up_to_date { UpToDateStay domain.old domain.new }
         ensures loans_left { TakesOneLeft (as_publisher self.now) domain.old domain.new }
         ensures refused { OnErr result (LoansLeftStay domain.old domain.new) }

@@ -10,7 +10,7 @@ impl Publisher {
     ghost use Rattle.iox2_store.specs.declared.service_config.TypeVariant.TheVariants.{Dynamic};
     ghost use Rattle.iox2_domain.specs.Lending.{LoanCall, header_for};
     ghost use Rattle.iox2_domain.specs.Shows.{Shows};
-    ghost use Rattle.iox2_pubsub.specs.Live.{HasLender, IsNewIn, IsReadyPublisher, IsUnblocked, IsUnwritten, IsUnwrittenLoan, LoanHasHeader, NeverWaits, Stays, UpToDateStay, lender_key, payloads, publisher_key, unwritten_key, unwritten_loan};
+    ghost use Rattle.iox2_pubsub.specs.Live.{HasLender, IsNewIn, IsReadyPublisher, IsUnblocked, IsUnwritten, IsUnwrittenLoan, LoanHasHeader, NeverWaits, Stays, UpToDateStay, lender_key, publisher_key, unwritten_key, unwritten_loan, WaitingStays};
     ghost use Rattle.iox2_pubsub.specs.LoansLeft.{HasLoansLeft, HasNumbersLeft, LoansLeftStay, TakesOneLeft};
     ghost use Rattle.iox2_pubsub.specs.Slices.{HasUnwrittenCells};
     ghost use Rattle.iox2_pubsub.specs.Handles.{as_publisher, as_unwritten, max_slice_len_of, publisher_id, unwritten_lender, unwritten_number};
@@ -55,7 +55,7 @@ impl Publisher {
         ensures publisher { IfOk result (λ loan. unwritten_lender (as_unwritten loan) ≡ publisher_id (as_publisher self.now)) }
         ensures lent { IfOk result (λ loan. HasLender domain.new (unwritten_key (as_unwritten loan))) }
         ensures lender { IfOk result (λ loan. lender_key (unwritten_key (as_unwritten loan)) ≡ publisher_key (as_publisher self.now)) }
-        ensures waits { payloads domain.new ≡ payloads domain.old }
+        ensures waits { WaitingStays domain.old domain.new }
         ensures up_to_date { UpToDateStay domain.old domain.new }
         ensures loans_left { TakesOneLeft (as_publisher self.now) domain.old domain.new }
         ensures refused { OnErr result (LoansLeftStay domain.old domain.new) }

@@ -12,7 +12,7 @@ impl<T: Drop, U: Default + Drop, F: BackpressureFn, G: DegradationFn> UpdateConn
     for Publisher {
     ghost use Rattle.iox2_domain.specs.Boxes.{answers_of};
     ghost use Rattle.iox2_store.specs.machine.PublisherUpdate.{UpdatePublisher};
-    ghost use Rattle.iox2_pubsub.specs.Live.{IsReadyPublisher, publisher_key};
+    ghost use Rattle.iox2_pubsub.specs.Live.{IsReadyPublisher, publisher_key, Connected};
     ghost use Rattle.iox2_pubsub.specs.Handles.{as_publisher, publisher_id};
 
     ghost is_live = { λ domain publisher. IsReadyPublisher domain (as_publisher publisher) };
@@ -25,6 +25,8 @@ impl<T: Drop, U: Default + Drop, F: BackpressureFn, G: DegradationFn> UpdateConn
     ghost updates = { λ old s publisher s' failure. UpdatePublisher (answers_of F.allows G.allows (old.boxes).publishers) s (publisher_id (as_publisher publisher)) s' failure };
 
     ghost is_updated = { λ domain publisher. Unit {0} };
+
+    ghost leaves = { λ old new publisher. Connected (publisher_id (as_publisher publisher)) old new };
 
     ghost adds = { λ domain. (domain.config).history_size };
 

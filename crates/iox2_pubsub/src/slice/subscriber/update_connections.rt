@@ -12,7 +12,7 @@ impl<T: Drop, U: Default + Drop, F: BackpressureFn, G: DegradationFn> UpdateConn
     for Subscriber {
     ghost use Rattle.iox2_domain.specs.Boxes.{answers_of};
     ghost use Rattle.iox2_store.specs.machine.SubscriberUpdate.{UpdateSubscriber};
-    ghost use Rattle.iox2_pubsub.specs.Live.{IsLiveSubscriber, IsUpToDate, subscriber_key};
+    ghost use Rattle.iox2_pubsub.specs.Live.{IsLiveSubscriber, IsUpToDate, subscriber_key, WaitingStays};
     ghost use Rattle.iox2_pubsub.specs.Handles.{as_subscriber, subscriber_id};
 
     ghost is_live = { λ domain subscriber. IsLiveSubscriber domain (as_subscriber subscriber) };
@@ -22,6 +22,8 @@ impl<T: Drop, U: Default + Drop, F: BackpressureFn, G: DegradationFn> UpdateConn
     ghost updates = { λ old s subscriber s' failure. UpdateSubscriber (answers_of F.allows G.allows (old.boxes).subscribers) s (subscriber_id (as_subscriber subscriber)) s' failure };
 
     ghost is_updated = { λ domain subscriber. IsUpToDate domain (as_subscriber subscriber) };
+
+    ghost leaves = { λ old new subscriber. IsUpToDate old (as_subscriber subscriber) → WaitingStays old new };
 
     ghost adds = { λ domain. 0 };
 

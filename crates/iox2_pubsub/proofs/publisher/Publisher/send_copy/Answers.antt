@@ -1,4 +1,4 @@
-use Rattle.std.proofs.Common.{ap, inl, inr, refl, sym, ◌∙◌}
+use Rattle.std.proofs.Common.{ap, inl, inr, refl, sym, ◌∙◌, List, [], ◌∷◌, ℕ}
 use Rattle.std.proofs.lemmas.Result.{err_from_is_err_and}
 use Rattle.iox2_store.specs.declared.key.Key.{Key}
 use Rattle.iox2_store.specs.machine.Loans.{written}
@@ -9,6 +9,9 @@ use Rattle.iox2_pubsub.proofs.BoxesAlike.{sends-kept, written-lender}
 use Rattle.iox2_pubsub.proofs.SendShown.{fails-copy, fails-there, whose-blocked}
 use Rattle.iox2_pubsub.specs.SendCalls.{FailsCopy}
 use Rattle.iox2_pubsub.proofs.WrittenLoanCalls.{with_value, written-out, copy-sent, written-refused}
+use Rattle.iox2_store.specs.declared.service_config.ServiceConfig.{ServiceConfig}
+use Rattle.iox2_pubsub.proofs.CopiesServe.{connected-as, copy-arrives, copy-others, copy-serves, none-are-all, none-still, waits-both}
+use Rattle.iox2_pubsub.specs.declared.subscriber.Subscriber.{Subscriber}
 use Rattle.iox2_pubsub.proofs.publisher.Publisher.send_copy.Goals as goal
 
 pub returns-in_err-loan-clause-sends : goal.returns-in_err-loan-clause-sends
@@ -71,3 +74,38 @@ pub returns-clause-errors : goal.returns-clause-errors
 returns-clause-errors g c =
     fails-copy c.args.domain.now _ c.args.self.now (written_key c.write_payload.result) (ap (λ (k : Key). k.port) c.write_payload.ensures.key ∙ c.in_ok-loan.ensures.publisher)
     (c.write_payload.ensures.lent c.in_ok-loan.ensures.lent) (λ never. c.write_payload.ensures.stays.never_fail _ (c.in_ok-loan.ensures.stays.never_fail _ never)) c.send.result c.send.ensures.errors
+
+pub returns-in_err-loan-clause-brings : goal.returns-in_err-loan-clause-brings
+returns-in_err-loan-clause-brings g c = λ subscriber no_history none. none-are-all _ _ (none-still c.in_err-loan.ensures.waits subscriber none)
+
+pub returns-clause-brings : goal.returns-clause-brings
+returns-clause-brings g c = λ subscriber no_history none.
+    let waits = waits-both c.in_ok-loan.ensures.waits c.write_payload.ensures.waits in
+    let settings = c.write_payload.ensures.stays.settings ∙ c.in_ok-loan.ensures.stays.settings in
+    c.send.ensures.brings subscriber (c.args.value ∷ []) (ap (λ (config : ServiceConfig). config.history_size) settings ∙ no_history) (none-still waits subscriber none) c.write_payload.ensures.reads
+
+pub returns-clause-serves : goal.returns-clause-serves
+returns-clause-serves g c = λ subscriber connected.
+    let waits = waits-both c.in_ok-loan.ensures.waits c.write_payload.ensures.waits in
+    let settings = c.write_payload.ensures.stays.settings ∙ c.in_ok-loan.ensures.stays.settings in
+    let lender = ap (λ (k : Key). k.port) c.write_payload.ensures.key ∙ c.in_ok-loan.ensures.publisher in
+    let still = c.in_ok-loan.ensures.up_to_date.connections c.args.self.now.id subscriber connected in
+    copy-serves c.args.domain.now _ _ waits settings c.args.self.now.id c.write_payload.result.loan.publisher lender subscriber (c.args.value ∷ []) c.send.result
+    (c.send.ensures.serves subscriber (c.args.value ∷ []) (connected-as c.write_payload.ensures.up_to_date c.args.self.now.id c.write_payload.result.loan.publisher lender subscriber still) c.write_payload.ensures.reads)
+
+pub returns-clause-arrives : goal.returns-clause-arrives
+returns-clause-arrives g c = λ subscriber none connected.
+    let waits = waits-both c.in_ok-loan.ensures.waits c.write_payload.ensures.waits in
+    let lender = ap (λ (k : Key). k.port) c.write_payload.ensures.key ∙ c.in_ok-loan.ensures.publisher in
+    let still = c.in_ok-loan.ensures.up_to_date.connections c.args.self.now.id subscriber connected in
+    copy-arrives _ c.args.self.now.id c.write_payload.result.loan.publisher lender subscriber ((c.args.value ∷ []) ∷ []) c.send.result
+    (c.send.ensures.arrives subscriber (c.args.value ∷ []) (none-still waits subscriber none) (connected-as c.write_payload.ensures.up_to_date c.args.self.now.id c.write_payload.result.loan.publisher lender subscriber still) c.write_payload.ensures.reads)
+
+pub returns-in_err-loan-clause-others : goal.returns-in_err-loan-clause-others
+returns-in_err-loan-clause-others g c = λ other away. ap (λ (f : ℕ → Subscriber → List (List g.row.T.Denot)). f other) c.in_err-loan.ensures.waits.from
+
+pub returns-clause-others : goal.returns-clause-others
+returns-clause-others g c =
+    let waits = waits-both c.in_ok-loan.ensures.waits c.write_payload.ensures.waits in
+    let lender = ap (λ (k : Key). k.port) c.write_payload.ensures.key ∙ c.in_ok-loan.ensures.publisher in
+    copy-others c.args.domain.now _ _ waits c.args.self.now.id c.write_payload.result.loan.publisher lender c.send.ensures.others

@@ -24,6 +24,8 @@ use Rattle.iox2_pubsub.proofs.WaitingShown.{send-adds, send-brings}
 use Rattle.iox2_pubsub.proofs.UpToDateShown.{send-leaves}
 use Rattle.iox2_pubsub.proofs.ConnectionsShown.{serves}
 use Rattle.iox2_pubsub.proofs.LoansLeftShown.{send-left, send-gives, sent-free}
+use Rattle.iox2_pubsub.proofs.PublisherParts.{send-arrives}
+use Rattle.iox2_pubsub.proofs.UndueReceives.{others-send}
 use Rattle.iox2_pubsub.proofs.StaysBut.{same-boxes}
 use Rattle.iox2_pubsub.proofs.sample_mut.SampleMut.send.Goals as goal
 
@@ -180,3 +182,21 @@ returns-clause-serves g c = λ subscriber values connected reads.
     let step = returns-clause-sent g c it.0 it.1 has.0 it.2 out in
     serves {T = g.row.T.Denot} {U = g.row.U.Denot} c.args.domain.now _ it.0 it.1 (answers_of g.F.BackpressureFn.allows g.G.DegradationFn.allows c.args.domain.now.boxes.publishers) it.2 c.args.self.loan.number has.0 c.args.self.loan.publisher c.outcome_of.result step.0 step.1 step.2
     ((it.2).unsent c.args.self.loan.number has.0 out) out has.2 (unblocked-test c.args.domain.now (written_key c.args.self) c.requires.unblocked) subscriber values connected reads
+
+pub returns-clause-arrives : goal.returns-clause-arrives
+returns-clause-arrives g c = λ subscriber values none connected reads.
+    let it = always-shown {T = g.row.T.Denot} {U = g.row.U.Denot} c.domain.inside.state c.args.domain.now c.domain.invariant c.domain.view_is in
+    let has = (written-parts c.args.domain.now c.args.self c.requires.live).1 in
+    let out = ap (λ (t : State g.row.T.Denot g.row.U.Denot). t.loans c.args.self.loan.number) (it.2).state ∙ has.1 in
+    let step = returns-clause-sent g c it.0 it.1 has.0 it.2 out in
+    send-arrives {T = g.row.T.Denot} {U = g.row.U.Denot} c.args.domain.now _ it.0 _ it.1 step.0 it.2 step.1
+    subscriber c.args.self.loan.publisher values none c.outcome_of.result (returns-clause-serves g c subscriber values connected reads)
+
+pub returns-clause-others : goal.returns-clause-others
+returns-clause-others g c =
+    let it = always-shown {T = g.row.T.Denot} {U = g.row.U.Denot} c.domain.inside.state c.args.domain.now c.domain.invariant c.domain.view_is in
+    let has = (written-parts c.args.domain.now c.args.self c.requires.live).1 in
+    let out = ap (λ (t : State g.row.T.Denot g.row.U.Denot). t.loans c.args.self.loan.number) (it.2).state ∙ has.1 in
+    let step = returns-clause-sent g c it.0 it.1 has.0 it.2 out in
+    others-send {T = g.row.T.Denot} {U = g.row.U.Denot} c.args.domain.now _ it.0 it.1 it.2 (answers_of g.F.BackpressureFn.allows c.args.domain.now.boxes) c.args.self.loan.number has.0 c.args.self.loan.publisher
+    c.outcome_of.result step.0 step.1 step.2 ((it.2).unsent c.args.self.loan.number has.0 out) has.2

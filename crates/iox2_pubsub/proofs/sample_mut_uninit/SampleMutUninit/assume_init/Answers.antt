@@ -1,8 +1,9 @@
 use Rattle.std.proofs.Common.{refl, ap, sym, ◌∙◌}
 use Rattle.std.proofs.lemmas.Bool.{true≢false}
-use Rattle.iox2_pubsub.specs.Live.{lender_key, payloads, unwritten_key, written_key}
+use Rattle.iox2_pubsub.specs.Live.{lender_key, unwritten_key, written_key}
 use Rattle.iox2_pubsub.proofs.LoanHandles.{unwritten-out}
 use Rattle.iox2_pubsub.proofs.AssumedLoans.{all-taken, some-left, taken-values, taken-header, taken-user-header, taken-waits, taken-leaves, left-leaves, written-taken, unwritten-left, taken-shown, taken-live, taken-reads, taken-stays, left-same, left-shown, left-stays, taken-left, left-loans}
+use Rattle.iox2_pubsub.proofs.WaitingShown.{waiting-same}
 use Rattle.iox2_pubsub.proofs.sample_mut_uninit.SampleMutUninit.assume_init.Goals as goal
 
 pub assume_loan-requires-clause-live : goal.assume_loan-requires-clause-live
@@ -23,7 +24,7 @@ returns-then-not-assume_loan g c = record {
   header = λ header has. tt;
   user_header = λ header has. tt;
   handed_back = (refl, left-same {T = g.row.T.Denot} {U = g.row.U.Denot} c.domain.inside.state c.assume_loan.new.state c.domain.invariant c.args.domain.now c.domain.view_is c.args.self.loan.number c.assume_loan.result c.assume_loan.ensures c.if-not-assume_loan.true);
-  waits = ap payloads (left-same {T = g.row.T.Denot} {U = g.row.U.Denot} c.domain.inside.state c.assume_loan.new.state c.domain.invariant c.args.domain.now c.domain.view_is c.args.self.loan.number c.assume_loan.result c.assume_loan.ensures c.if-not-assume_loan.true);
+  waits = waiting-same c.args.domain.now _ (left-same {T = g.row.T.Denot} {U = g.row.U.Denot} c.domain.inside.state c.assume_loan.new.state c.domain.invariant c.args.domain.now c.domain.view_is c.args.self.loan.number c.assume_loan.result c.assume_loan.ensures c.if-not-assume_loan.true);
   up_to_date = left-leaves {T = g.row.T.Denot} {U = g.row.U.Denot} c.domain.inside.state c.assume_loan.new.state c.domain.invariant c.args.domain.now c.domain.view_is c.args.self.loan.number c.assume_loan.result c.assume_loan.ensures c.if-not-assume_loan.true;
   loans_left = left-loans {T = g.row.T.Denot} {U = g.row.U.Denot} c.domain.inside.state c.assume_loan.new.state c.domain.invariant c.args.domain.now c.domain.view_is c.args.self.loan.number c.assume_loan.result c.assume_loan.ensures c.if-not-assume_loan.true;
   stays = left-stays {T = g.row.T.Denot} {U = g.row.U.Denot} c.domain.inside.state c.assume_loan.new.state c.domain.invariant c.args.domain.now c.domain.view_is c.args.self.loan.number c.assume_loan.result c.assume_loan.ensures c.if-not-assume_loan.true;

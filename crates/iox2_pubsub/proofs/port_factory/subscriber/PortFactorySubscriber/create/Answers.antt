@@ -8,6 +8,7 @@ use Rattle.iox2_pubsub.proofs.SubscribersShown.{made-shown, made-live, refused-s
 use Rattle.iox2_pubsub.proofs.CallsStay.{always-shown, subscriber-apart-from-next, subscriber-creation-stays, subscriber-is-new}
 use Rattle.iox2_pubsub.proofs.WaitingShown.{created-none, creation-waits}
 use Rattle.iox2_pubsub.proofs.UpToDateShown.{creation-leaves}
+use Rattle.iox2_pubsub.proofs.AwaitedShown.{made-awaits}
 use Rattle.iox2_pubsub.proofs.LoansLeftShown.{subscriber-creation-left}
 use Rattle.iox2_pubsub.proofs.StaysBut.{live-subscriber-boxes, subscriber-box-is}
 use Rattle.iox2_pubsub.specs.Factories.{SubscriberFactory}
@@ -106,3 +107,10 @@ pub returns-clause-boxed : goal.returns-clause-boxed
 returns-clause-boxed g c =
     subscriber-box-is (record { publishers = (c.domain.inside.boxes).boxes; subscribers = (c.create_subscriber.new.boxes).boxes }) c.create_subscriber.new.state c.in_ok-port.port.id c.args.self.box
     (c.in_ok-port.ensures.degrades ∙ ap (λ (f : SubscriberFactory g.row.G.Denot). f.box) c.self.view_is)
+
+pub returns-clause-awaits : goal.returns-clause-awaits
+returns-clause-awaits g c = λ none publisher ready.
+    let it = always-shown {T = g.row.T.Denot} {U = g.row.U.Denot} c.domain.inside.state c.args.domain.now c.domain.invariant c.domain.view_is in
+    let step = returns-clause-creates g c it.0 it.1 it.2 in
+    made-awaits {T = g.row.T.Denot} {U = g.row.U.Denot} c.args.domain.now _ it.0 it.0 it.1 step.0 it.2 step.1 (answers_of g.F.BackpressureFn.allows g.G.DegradationFn.allows (c.create_subscriber.new.boxes).boxes) c.args.self.settings (step.2).0
+    (record { service_id = c.config.result.now.service_id; id = c.in_ok-port.port.id; place = c.in_ok-port.port.place; buffer_size = c.max.result }) (step.2).1 none publisher ready.there

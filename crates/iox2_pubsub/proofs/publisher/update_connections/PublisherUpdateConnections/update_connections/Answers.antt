@@ -23,6 +23,7 @@ use Rattle.iox2_pubsub.proofs.UpdatesStay.{updates-stay}
 use Rattle.iox2_pubsub.proofs.WaitingShown.{publisher-update-adds}
 use Rattle.iox2_pubsub.proofs.UpToDateShown.{publisher-update-leaves}
 use Rattle.iox2_pubsub.proofs.LoansLeftShown.{update-publisher-left}
+use Rattle.iox2_pubsub.proofs.AwaitedShown.{update-connected}
 use Rattle.iox2_pubsub.proofs.publisher.update_connections.PublisherUpdateConnections.update_connections.Goals as goal
 
 pub unreachable-requires : goal.unreachable-requires
@@ -83,3 +84,9 @@ update_publisher-requires-clause-unblocked g c = λ z at_z.
     ap (λ (w : PublisherFields). w.blocked) is
     ∙ free-of c.domain.inside.state c.domain.invariant.parts c.args.self.now.id c.in-Some.place found.0 found.1 found.2
     (subst (λ (k : Kept g.row.T.Denot g.row.U.Denot g.row.F.Denot g.row.G.Denot). is_blocked (state_of k) c.args.self.now.id ≡ false) (sym c.domain.view_is) (unblocked-test c.args.domain.now (publisher_key c.args.self.now) c.requires.live.unblocked))
+
+pub returns-clause-leaves : goal.returns-clause-leaves
+returns-clause-leaves g c =
+    let it = always-shown {T = g.row.T.Denot} {U = g.row.U.Denot} c.domain.inside.state c.args.domain.now c.domain.invariant c.domain.view_is in
+    let step = returns-clause-updates g c it.0 it.1 it.2 in
+    update-connected {T = g.row.T.Denot} {U = g.row.U.Denot} c.args.domain.now (keeping _ c.update_publisher.new.state) it.0 it.0 it.1 step.0 it.2 step.1 (answers_of g.F.BackpressureFn.allows g.G.DegradationFn.allows c.args.domain.now.boxes.publishers) c.args.self.now.id (failure_of c.outcome_of.result) step.2

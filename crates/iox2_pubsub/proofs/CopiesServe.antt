@@ -1,0 +1,66 @@
+-- What a copy that is lent, written and sent leaves waiting, from what its send leaves.
+use Rattle.std.proofs.Common.{◌≡◌, ℕ, suc, Bool, ◌<◌, List, [], ◌∷◌, ◌++◌, drop, length, sym, ap, subst, ◌∙◌, arith, ◌⊎◌, Result, Ok, Err}
+use Rattle.std.specs.Prelude.{◌≢◌, IfOk}
+use Rattle.std.specs.Bool.{MatchBool}
+use Rattle.std.specs.List.{AllByRecursion}
+use Rattle.iox2_store.specs.declared.errors.SendError.{SendError}
+use Rattle.iox2_store.specs.declared.service_config.ServiceConfig.{ServiceConfig}
+use Rattle.iox2_domain.specs.Kept.{Kept}
+use Rattle.iox2_pubsub.specs.Live.{AllFrom, AreAllSlices, IsConnected, IsServed, OthersSend, UpToDateStay, WaitingStays, payloads, payloads_from, waiting}
+use Rattle.iox2_pubsub.specs.SendCalls.{IsDelivered}
+use Rattle.iox2_pubsub.specs.declared.send_outcome.SendOutcome.{SendOutcome}
+use Rattle.iox2_pubsub.specs.declared.subscriber.Subscriber.{Subscriber}
+
+-- What `IsServed` says of lists and numbers: what waited from the publisher and how many in all, and the same afterwards.
+abbrev Serves : {T : Type 0} → (before : List (List T)) → (count : ℕ) → (overflow : Bool) → (after : List (List T)) → (next : ℕ) → List T → Type 0
+Serves before count overflow after next values =
+    ((after ≡ before ++ values ∷ []) × (next ≡ suc count))
+    ⊎ ((0 < length before) × MatchBool overflow (after ≡ drop 1 before ++ values ∷ []) (after ≡ before) × (next ≡ count))
+
+-- one call after another
+pub waits-both : {T U F G : Type 0} {old mid new : Kept T U F G} → WaitingStays old mid → WaitingStays mid new → WaitingStays old new
+waits-both first second = record { all = second.all ∙ first.all; from = second.from ∙ first.from }
+
+-- as many wait
+same-count : {T U F G : Type 0} {old mid : Kept T U F G} → WaitingStays old mid → (subscriber : Subscriber) → waiting mid subscriber ≡ waiting old subscriber
+same-count {T} waits subscriber = ap (λ (f : Subscriber → List (List T)). length (f subscriber)) waits.all
+
+pub none-still : {T U F G : Type 0} {old mid : Kept T U F G} → WaitingStays old mid → (subscriber : Subscriber) → waiting old subscriber ≡ 0 → waiting mid subscriber ≡ 0
+none-still waits subscriber none = same-count waits subscriber ∙ none
+
+-- a publisher that was connected is so, also as the one that lent a loan
+pub connected-as : {T U F G : Type 0} {old new : Kept T U F G} → UpToDateStay old new → (p lender : ℕ) → lender ≡ p → (subscriber : Subscriber) → IsConnected old p subscriber
+    → IsConnected new lender subscriber
+connected-as {T} {U} {F} {G} {old} {new} stay p lender its subscriber is = subst (λ i. IsConnected new i subscriber) (sym its) (stay.connections p subscriber is)
+
+module _ {T U F G : Type 0} (old mid new : Kept T U F G) (waits : WaitingStays old mid) where
+  served-since : (settings : mid.config ≡ old.config) (p : ℕ) (subscriber : Subscriber) (values : List T) → IsServed mid new p subscriber values → IsServed old new p subscriber values
+  unfolding IsServed
+  served-since settings p subscriber values served =
+      subst (λ (before : List (List T)). Serves before (waiting old subscriber) (old.config).enable_safe_overflow (payloads_from new p subscriber) (waiting new subscriber) values)
+      (ap (λ (f : ℕ → Subscriber → List (List T)). f p subscriber) waits.from)
+      (subst (λ (count : ℕ). Serves (payloads_from mid p subscriber) count (old.config).enable_safe_overflow (payloads_from new p subscriber) (waiting new subscriber) values) (same-count waits subscriber)
+      (subst (λ (overflow : Bool). Serves (payloads_from mid p subscriber) (waiting mid subscriber) overflow (payloads_from new p subscriber) (waiting new subscriber) values)
+      (ap (λ (c : ServiceConfig). c.enable_safe_overflow) settings) served))
+
+  -- whom the send serves, seen from before
+  pub copy-serves : (settings : mid.config ≡ old.config) (p lender : ℕ) → lender ≡ p → (subscriber : Subscriber) (values : List T) (result : Result SendOutcome SendError)
+      → IfOk result (λ outcome. IsDelivered outcome → IsServed mid new lender subscriber values) → IfOk result (λ outcome. IsDelivered outcome → IsServed old new p subscriber values)
+  copy-serves settings p lender its subscriber values (Ok outcome) serves = λ delivered.
+      served-since settings p subscriber values (subst (λ i. IsServed mid new i subscriber values) its (serves delivered))
+  copy-serves settings p lender its subscriber values (Err error) serves = tt
+
+  pub copy-others : (p lender : ℕ) → lender ≡ p → OthersSend lender mid new → OthersSend p old new
+  copy-others p lender its others = λ other away. others other (λ same. away (same ∙ its)) ∙ ap (λ (f : ℕ → Subscriber → List (List T)). f other) waits.from
+
+-- what arrives, by the publisher's id
+pub copy-arrives : {T U F G : Type 0} (new : Kept T U F G) (p lender : ℕ) → lender ≡ p → (subscriber : Subscriber) (values : List (List T)) (result : Result SendOutcome SendError)
+    → IfOk result (λ outcome. IsDelivered outcome → AllFrom new lender subscriber values) → IfOk result (λ outcome. IsDelivered outcome → AllFrom new p subscriber values)
+copy-arrives new p lender its subscriber values result arrives =
+    subst (λ i. IfOk result (λ outcome. IsDelivered outcome → AllFrom new i subscriber values)) its arrives
+
+-- of nothing all are such a message
+pub none-are-all : {T : Type 0} (lists : List (List T)) (values : List T) → length lists ≡ 0 → AreAllSlices lists values
+unfolding AreAllSlices
+none-are-all [] values none = tt
+none-are-all (list ∷ lists) values none = absurd (omega arith)
