@@ -164,10 +164,16 @@ module _ {T U : Type 0} (environment : Environment) (defaults : Defaults T U) (S
       let stay : PortsStay s s' = create_subscriber_stays environment s (subscriber_settings buffer degradation) s' None h in
       let made = subscriber_made environment s (subscriber_settings buffer degradation) s' h in
       port_comes (SubscriberCommand buffer degradation) (SubscriberMade s.next_port) (Subscriber_handle s.next_port) (Subscriber_entry service s.next_port) s' (s', None, h, refl) shown stay
-      (create_subscriber_comes environment s (subscriber_settings buffer degradation) s' None h) (create_subscriber_waits Nobody environment s (subscriber_settings buffer degradation) s' None h) (create_subscriber_loans environment s (subscriber_settings buffer degradation) s' None h) rises
-      (ours, refl, (made.0).0, (made.0).1, (made.0).2, λ y at boxed.
-      let same : y ≡ (made.0).0 = same_Some y (made.0).0 (sym at ∙ (made.0).1) in
-      let clash : Fixed degradation ≡ Custom = sym (made.0).3 ∙ ap (λ (z : Subscriber). z.degradation_handler) (sym same) ∙ boxed in absurd cc) refl made.1
+      (create_subscriber_comes environment s (subscriber_settings buffer degradation) s' None h) (create_subscriber_waits Nobody environment s (subscriber_settings buffer degradation) s' None h) (create_subscriber_loans environment s (subscriber_settings buffer degradation) s' None h) rises (
+        ours,
+        refl,
+        (made.0).0,
+        (made.0).1,
+        (made.0).2,
+        λ y at boxed.
+            let same : y ≡ (made.0).0 = same_Some y (made.0).0 (sym at ∙ (made.0).1) in
+            let clash : Fixed degradation ≡ Custom = sym (made.0).3 ∙ ap (λ (z : Subscriber). z.degradation_handler) (sym same) ∙ boxed in absurd cc,
+      ) refl made.1
       (λ n e. let clash : Subscriber_handle s.next_port ≡ Loan_handle n = e in absurd (cc)) (λ p q n e. let clash : Subscriber_handle s.next_port ≡ Sample_handle p q n = e in absurd (cc)) (λ p n e. let clash : Subscriber_handle s.next_port ≡ Blocked_handle p n = e in absurd (cc))
 
   pub subscriber_refused_comes : (buffer : Option ℕ) (degradation : DegradationAction) (s' : State T U) (e : SubscriberCreateError)

@@ -28,8 +28,8 @@ use crate::publisher::Publisher;
 use iox2_domain::{HandlerMark, PublisherOptions};
 use iox2_ports::{SegmentOptions, create_publisher};
 use iox2_store::{
-    AllocationStrategy, BackpressureFn, BackpressureHandler, BackpressureStrategy, DegradationAction, DegradationFn,
-    DegradationHandler, PublisherCreateError,
+    AllocationStrategy, BackpressureFn, BackpressureHandler, BackpressureStrategy,
+    DegradationAction, DegradationFn, DegradationHandler, PublisherCreateError,
 };
 use std::marker::Model;
 

@@ -17,8 +17,8 @@ ghost use Rattle.iox2_commands.specs.Step.{publisher_settings};
 
 use iox2_pubsub::{DegradationHandler, Domain, PortFactoryPublisher, Publisher, slice};
 use iox2_store::{
-    AllocationStrategy, BackpressureAction, BackpressureFn, BackpressureHandler, BackpressureStrategy,
-    DegradationAction, DegradationFn, PublisherCreateError, TypeVariant,
+    AllocationStrategy, BackpressureAction, BackpressureFn, BackpressureHandler,
+    BackpressureStrategy, DegradationAction, DegradationFn, PublisherCreateError, TypeVariant,
 };
 
 // A factory of publishers of single values, with so many loans and that answer to a refused

@@ -24,8 +24,8 @@ use crate::slice::Publisher;
 use iox2_domain::{HandlerMark, PublisherOptions};
 use iox2_ports::SegmentOptions;
 use iox2_store::{
-    AllocationStrategy, BackpressureFn, BackpressureHandler, BackpressureStrategy, DegradationAction, DegradationFn,
-    DegradationHandler, PublisherCreateError,
+    AllocationStrategy, BackpressureFn, BackpressureHandler, BackpressureStrategy,
+    DegradationAction, DegradationFn, DegradationHandler, PublisherCreateError,
 };
 use std::marker::Model;
 

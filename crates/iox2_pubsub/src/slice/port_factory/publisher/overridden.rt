@@ -10,7 +10,7 @@ ghost use Rattle.iox2_domain.specs.Shows.{Shows};
 ghost use Rattle.iox2_pubsub.specs.Factories.{AsksFor, AsksForAll, callback_of, with_slots};
 ghost use Rattle.iox2_pubsub.specs.Handlers.{may_wait};
 ghost use Rattle.iox2_pubsub.specs.Handles.{as_publisher, max_slice_len_of, publisher_id, strategy_of};
-ghost use Rattle.iox2_pubsub.specs.Live.{ConnectionsStay, IsConnected, IsLiveSubscriber, IsNewIn, IsReadyPublisher, NeverFails, NeverWaits, NoneRefused, Stays, degradation_box, handler_box, publisher_key, publisher_port, payloads, waiting, WaitingStays};
+ghost use Rattle.iox2_pubsub.specs.Live.{ConnectionsStay, IsConnected, IsLiveSubscriber, IsNewIn, IsReadyPublisher, NeverFails, NeverWaits, NoneRefused, Stays, degradation_box, handler_box, publisher_key, publisher_port, waiting, WaitingStays};
 ghost use Rattle.iox2_pubsub.specs.LoansLeft.{HasLoansLeft, LoansLeftStay};
 ghost use Rattle.iox2_pubsub.specs.declared.subscriber.Subscriber.{Subscriber};
 
@@ -23,8 +23,9 @@ use iox2_store::{
     AllocationStrategy, BackpressureFn, BackpressureStrategy, DegradationFn, PublisherCreateError,
 };
 
-impl<F: BackpressureFn, P: Fn(usize) -> usize + Drop> PortFactoryPublisher<
+impl<F: BackpressureFn, G: DegradationFn, P: Fn(usize) -> usize + Drop> PortFactoryPublisher<
     F,
+    G,
     PreallocatedSamplesOverride<P>,
 > {
     /// Makes the publisher, as a factory without an override does, but with as many slots as the
