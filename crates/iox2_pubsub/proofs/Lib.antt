@@ -40,7 +40,7 @@ pub mod ServedLists
 pub mod WaitingShown
 pub mod UpToDateShown
 pub mod UndueReceives
-pub mod PublisherParts
+pub mod PublisherWaits
 pub mod CopiesServe
 pub mod SubscribersMade
 pub mod AwaitedShown

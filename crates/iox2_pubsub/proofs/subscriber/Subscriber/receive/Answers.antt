@@ -11,7 +11,7 @@ use Rattle.iox2_pubsub.proofs.CallsStay.{always-shown, receive-stays, received-i
 use Rattle.iox2_pubsub.proofs.WaitingShown.{received-fewer, received-none, received-no-more, received-others, received-reads, received-oldest}
 use Rattle.iox2_pubsub.proofs.UpToDateShown.{receive-leaves, received-updated, received-one-fewer}
 use Rattle.iox2_pubsub.proofs.LoansLeftShown.{receive-left}
-use Rattle.iox2_pubsub.proofs.PublisherParts.{receive-takes-first}
+use Rattle.iox2_pubsub.proofs.PublisherWaits.{receive-takes-first}
 use Rattle.iox2_pubsub.proofs.UndueReceives.{nothing-waited, others-wait-still}
 use Rattle.iox2_pubsub.proofs.StaysBut.{same-boxes}
 use Rattle.iox2_pubsub.proofs.subscriber.Subscriber.receive.Goals as goal
