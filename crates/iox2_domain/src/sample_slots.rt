@@ -88,8 +88,9 @@ impl<T: Drop, U: Default + Drop> DomainState<T, U> {
     ghost use Rattle.iox2_domain.specs.Invariant.{HasNumber, IsDomain};
     ghost use Rattle.iox2_domain.specs.SampleSlots.{BorrowsAt, LiesAtHint, LiesBorrowed, LiesBorrowedInSlot};
 
-    // Where the message lies that the subscriber has borrowed in the connection at the key.
-    fn find_sample_at(
+    /// Where the message lies that the subscriber has borrowed in the connection at the key, and `None`
+    /// where it hasn't borrowed it there. Any key will do.
+    pub fn find_sample_at(
         &self,
         key: usize,
         subscriber: UniqueSubscriberId,
