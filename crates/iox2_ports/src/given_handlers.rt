@@ -55,11 +55,7 @@ pub(crate) fn reserve_for<F: Drop, G: Drop>(
 }
 
 /// Keeps the boxes for the port with this id, if there are any. It takes no memory.
-pub(crate) fn keep_boxes<F: Drop, G: Drop>(
-    kept: &mut Boxes<F, G>,
-    id: u128,
-    boxes: PortBoxes<F, G>,
-)
+pub(crate) fn keep_boxes<F: Drop, G: Drop>(kept: &mut Boxes<F, G>, id: u128, boxes: PortBoxes<F, G>)
     requires { HasRoomFor boxes kept.old }
     ensures backpressure { box_of id (kept.new).boxes ≡ boxes.backpressure }
     ensures degradation { degradation_box_of id (kept.new).boxes ≡ boxes.degradation }

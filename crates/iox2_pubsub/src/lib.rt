@@ -22,10 +22,10 @@ pub use domain::Domain;
 pub use iox2_store::{
     AllocationStrategy, BackpressureAction, BackpressureFn, BackpressureHandler, BackpressureInfo,
     BackpressureStrategy, ConnectionFailure, DegradationAction, DegradationCause, DegradationFn,
-    DegradationHandler, DegradationInfo, DomainCreateError, Header, Key, LoanError, PublisherCreateError, ReceiveError,
-    SendError, ServiceConfig, SharedMemoryOpenError, SubscriberCreateError, TypeVariant,
-    UniqueNodeId, UniquePublisherId, UniqueSubscriberId, Warning, ZeroCopyCreationError,
-    worst_case_slots,
+    DegradationHandler, DegradationInfo, DomainCreateError, Header, Key, LoanError,
+    PublisherCreateError, ReceiveError, SendError, ServiceConfig, SharedMemoryOpenError,
+    SubscriberCreateError, TypeVariant, UniqueNodeId, UniquePublisherId, UniqueSubscriberId,
+    Warning, ZeroCopyCreationError, worst_case_slots,
 };
 pub use parts::{LoanParts, PublisherParts, SampleParts, SubscriberParts};
 pub use port_factory::publisher::PortFactoryPublisher;

@@ -1,12 +1,12 @@
 -- Ports and loans are made, with what the run keeps.
-use Rattle.std.proofs.Common.{◌≡◌, ℕ, ◌≤◌, ◌<◌, Bool, true, false, List, [], ◌∷◌, ◌++◌, refl, sym, ap, subst, ◌∙◌, Option, None, Some, arith, ⊎_elim, inl, inr}
+use Rattle.std.proofs.Common.{◌≡◌, ℕ, ◌+◌, ◌≤◌, ◌<◌, Bool, true, false, List, [], ◌∷◌, ◌++◌, refl, sym, ap, subst, ◌∙◌, Option, None, Some, arith, ⊎_elim, inl, inr}
 use Rattle.std.specs.Bool.{MatchBool}
 use Rattle.std.specs.Prelude.{MatchOption, ◌==◌, nat_lt, slice_get}
 use Rattle.std.proofs.lemmas.Option.{none-some, same_Some}
 use Rattle.iox2_store.specs.SingleValues.{is_single_valued}
 use Rattle.iox2_store.specs.machine.Limits.{last_number, buffer_limit}
 use Rattle.iox2_store.specs.machine.Places.{free_place}
-use Rattle.iox2_store.specs.machine.Records.{Loan, Publisher, Subscriber, Environment, PublisherSettings, SubscriberSettings, Fixed}
+use Rattle.iox2_store.specs.machine.Records.{Custom, Loan, Publisher, Subscriber, Environment, PublisherSettings, SubscriberSettings, Fixed}
 use Rattle.iox2_store.specs.machine.State.{State, Messages}
 use Rattle.iox2_store.specs.machine.Environments.{ample_memory}
 use Rattle.iox2_store.specs.machine.Loans.{GrantLoan, StaticLoan, DynamicLoan, limit_error, is_static}
@@ -164,10 +164,16 @@ module _ {T U : Type 0} (environment : Environment) (defaults : Defaults T U) (S
       let stay : PortsStay s s' = create_subscriber_stays environment s (subscriber_settings buffer degradation) s' None h in
       let made = subscriber_made environment s (subscriber_settings buffer degradation) s' h in
       port_comes (SubscriberCommand buffer degradation) (SubscriberMade s.next_port) (Subscriber_handle s.next_port) (Subscriber_entry service s.next_port) s' (s', None, h, refl) shown stay
-      (create_subscriber_comes environment s (subscriber_settings buffer degradation) s' None h) (create_subscriber_waits Nobody environment s (subscriber_settings buffer degradation) s' None h) (create_subscriber_loans environment s (subscriber_settings buffer degradation) s' None h) rises
-      (ours, refl, (made.0).0, (made.0).1, (made.0).2, λ y at boxed.
-      let same : y ≡ (made.0).0 = same_Some y (made.0).0 (sym at ∙ (made.0).1) in
-      let clash : Fixed degradation ≡ Custom = sym (made.0).3 ∙ ap (λ (z : Subscriber). z.degradation_handler) (sym same) ∙ boxed in absurd cc) refl made.1
+      (create_subscriber_comes environment s (subscriber_settings buffer degradation) s' None h) (create_subscriber_waits Nobody environment s (subscriber_settings buffer degradation) s' None h) (create_subscriber_loans environment s (subscriber_settings buffer degradation) s' None h) rises (
+        ours,
+        refl,
+        (made.0).0,
+        (made.0).1,
+        (made.0).2,
+        λ y at boxed.
+            let same : y ≡ (made.0).0 = same_Some y (made.0).0 (sym at ∙ (made.0).1) in
+            let clash : Fixed degradation ≡ Custom = sym (made.0).3 ∙ ap (λ (z : Subscriber). z.degradation_handler) (sym same) ∙ boxed in absurd cc,
+      ) refl made.1
       (λ n e. let clash : Subscriber_handle s.next_port ≡ Loan_handle n = e in absurd (cc)) (λ p q n e. let clash : Subscriber_handle s.next_port ≡ Sample_handle p q n = e in absurd (cc)) (λ p n e. let clash : Subscriber_handle s.next_port ≡ Blocked_handle p n = e in absurd (cc))
 
   pub subscriber_refused_comes : (buffer : Option ℕ) (degradation : DegradationAction) (s' : State T U) (e : SubscriberCreateError)

@@ -208,7 +208,12 @@ impl<F: BackpressureFn, G: DegradationFn> PortFactoryPublisher<F, G> {
         ensures stays { Stays domain.old domain.new }
     {
         let options = self.options;
-        create_plain(domain, &options, self.backpressure_handler, self.degradation_box)
+        create_plain(
+            domain,
+            &options,
+            self.backpressure_handler,
+            self.degradation_box,
+        )
     }
 }
 
@@ -243,7 +248,13 @@ pub(crate) fn create_plain<T: Drop, U: Default + Drop, F: BackpressureFn, G: Deg
     ensures stays { Stays domain.old domain.new }
 {
     let service_id = domain.state.config().service_id;
-    let port = create_publisher(&mut domain.state, &mut domain.boxes, given, handler, degradation)?;
+    let port = create_publisher(
+        &mut domain.state,
+        &mut domain.boxes,
+        given,
+        handler,
+        degradation,
+    )?;
     Ok(Publisher {
         service_id,
         id: port.id,

@@ -222,7 +222,12 @@ impl<F: BackpressureFn, G: DegradationFn> PortFactoryPublisher<F, G> {
         ensures stays { Stays domain.old domain.new }
     {
         let options = self.options;
-        match create_plain(domain, &options, self.backpressure_handler, self.degradation_box) {
+        match create_plain(
+            domain,
+            &options,
+            self.backpressure_handler,
+            self.degradation_box,
+        ) {
             Ok(publisher) => Ok(Publisher { publisher }),
             Err(error) => Err(error),
         }

@@ -24,19 +24,33 @@ pub returns-in-Ok-clause-carries : goal.returns-in-Ok-clause-carries
 returns-in-Ok-clause-carries g c =
     question_carried {T = g.row.T.Denot} {U = g.row.U.Denot} fixed_handlers _ c.args.domain.now c.has_samples.new.domain c.args.table.now c.args.of
     c.in-Subscriber.subscriber None (Has c.in-Ok.waits) (looked c.args.table.now c.args.of c.get.result c.in-Some.made _ c.get.ensures.lookup c.in-Some.is c.in-Subscriber.is)
-    (λ m s shown. let got = c.in-Ok.ensures.answers m s shown in
-    (got.0, got.1, (c.in-Ok.waits, asked {T = g.row.T.Denot} {U = g.row.U.Denot} (answers_of g.F.BackpressureFn.allows g.G.DegradationFn.allows c.args.domain.now.boxes.subscribers) c.args.domain.now c.has_samples.new.domain c.in-Subscriber.subscriber.id
-    (unboxed_subscriber {T = g.row.T.Denot} {U = g.row.U.Denot} c.args.domain.now c.args.table.now c.requires c.args.of c.in-Subscriber.subscriber (looked c.args.table.now c.args.of c.get.result c.in-Some.made _ c.get.ensures.lookup c.in-Some.is c.in-Subscriber.is))
-    m s shown got.0 None c.in-Ok.waits got.2, refl)))
+    (λ m s shown. let got = c.in-Ok.ensures.answers m s shown in (
+      got.0,
+      got.1,
+      (
+        c.in-Ok.waits,
+        asked {T = g.row.T.Denot} {U = g.row.U.Denot} (answers_of g.F.BackpressureFn.allows g.G.DegradationFn.allows c.args.domain.now.boxes.subscribers) c.args.domain.now c.has_samples.new.domain c.in-Subscriber.subscriber.id
+            (unboxed_subscriber {T = g.row.T.Denot} {U = g.row.U.Denot} c.args.domain.now c.args.table.now c.requires c.args.of c.in-Subscriber.subscriber (looked c.args.table.now c.args.of c.get.result c.in-Some.made _ c.get.ensures.lookup c.in-Some.is c.in-Subscriber.is))
+            m s shown got.0 None c.in-Ok.waits got.2,
+        refl,
+      ),
+    ))
 
 pub returns-in-Err-clause-carries : goal.returns-in-Err-clause-carries
 returns-in-Err-clause-carries g c =
     question_carried {T = g.row.T.Denot} {U = g.row.U.Denot} fixed_handlers _ c.args.domain.now c.has_samples.new.domain c.args.table.now c.args.of
     c.in-Subscriber.subscriber (Some c.in-Err.failure) (UpdateRefused c.in-Err.failure) (looked c.args.table.now c.args.of c.get.result c.in-Some.made _ c.get.ensures.lookup c.in-Some.is c.in-Subscriber.is)
-    (λ m s shown. let got = c.in-Err.ensures.answers m s shown in
-    (got.0, got.1, (got.2.0, asked {T = g.row.T.Denot} {U = g.row.U.Denot} (answers_of g.F.BackpressureFn.allows g.G.DegradationFn.allows c.args.domain.now.boxes.subscribers) c.args.domain.now c.has_samples.new.domain c.in-Subscriber.subscriber.id
-    (unboxed_subscriber {T = g.row.T.Denot} {U = g.row.U.Denot} c.args.domain.now c.args.table.now c.requires c.args.of c.in-Subscriber.subscriber (looked c.args.table.now c.args.of c.get.result c.in-Some.made _ c.get.ensures.lookup c.in-Some.is c.in-Subscriber.is))
-    m s shown got.0 (Some c.in-Err.failure) got.2.0 got.2.1, refl)))
+    (λ m s shown. let got = c.in-Err.ensures.answers m s shown in (
+      got.0,
+      got.1,
+      (
+        got.2.0,
+        asked {T = g.row.T.Denot} {U = g.row.U.Denot} (answers_of g.F.BackpressureFn.allows g.G.DegradationFn.allows c.args.domain.now.boxes.subscribers) c.args.domain.now c.has_samples.new.domain c.in-Subscriber.subscriber.id
+            (unboxed_subscriber {T = g.row.T.Denot} {U = g.row.U.Denot} c.args.domain.now c.args.table.now c.requires c.args.of c.in-Subscriber.subscriber (looked c.args.table.now c.args.of c.get.result c.in-Some.made _ c.get.ensures.lookup c.in-Some.is c.in-Subscriber.is))
+            m s shown got.0 (Some c.in-Err.failure) got.2.0 got.2.1,
+        refl,
+      ),
+    ))
 
 pub returns-in_default-made-clause-carries : goal.returns-in_default-made-clause-carries
 returns-in_default-made-clause-carries g c =

@@ -38,7 +38,7 @@ pub returns-clause-updates : goal.returns-clause-updates
 returns-clause-updates g c = λ m s shown.
     publisher-update-shows {T = g.row.T.Denot} {U = g.row.U.Denot} (answers_of g.F.BackpressureFn.allows g.G.DegradationFn.allows c.args.domain.now.boxes.publishers) c.args.domain.now c.domain.inside.state c.update_publisher.new.state c.domain.view_is
     c.in-Some.place c.args.self.now.id m s shown (failure_of c.outcome_of.result) c.in-Some.ensures
-    (λ x at. subst (UpdatesPublisher (answers_of g.F.BackpressureFn.allows g.G.DegradationFn.allows c.args.domain.now.boxes.publishers) c.domain.inside.state c.in-Some.place x c.update_publisher.new.state) (sym c.outcome_of.ensures) 
+    (λ x at. subst (UpdatesPublisher (answers_of g.F.BackpressureFn.allows g.G.DegradationFn.allows c.args.domain.now.boxes.publishers) c.domain.inside.state c.in-Some.place x c.update_publisher.new.state) (sym c.outcome_of.ensures)
     (publisher-updated g.F.BackpressureFn.allows g.G.DegradationFn.allows c.domain.inside.state c.update_publisher.new.state c.args.domain.now c.domain.view_is c.in-Some.place c.update_publisher.result c.update_publisher.ensures x at))
 
 pub returns-clause-stays : goal.returns-clause-stays

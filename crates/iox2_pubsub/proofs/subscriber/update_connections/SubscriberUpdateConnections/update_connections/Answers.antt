@@ -31,7 +31,7 @@ pub returns-clause-updates : goal.returns-clause-updates
 returns-clause-updates g c = λ m s shown.
     subscriber-update-shows {T = g.row.T.Denot} {U = g.row.U.Denot} (answers_of g.F.BackpressureFn.allows g.G.DegradationFn.allows c.args.domain.now.boxes.subscribers) c.args.domain.now c.domain.inside.state c.update_subscriber.new.state c.domain.view_is
     c.in-Some.place c.args.self.now.id m s shown (failure_of c.outcome_of.result) c.in-Some.ensures
-    (λ y at. subst (UpdatesReceiver (answers_of g.F.BackpressureFn.allows g.G.DegradationFn.allows c.args.domain.now.boxes.subscribers) c.domain.inside.state c.in-Some.place y c.update_subscriber.new.state) (sym c.outcome_of.ensures) 
+    (λ y at. subst (UpdatesReceiver (answers_of g.F.BackpressureFn.allows g.G.DegradationFn.allows c.args.domain.now.boxes.subscribers) c.domain.inside.state c.in-Some.place y c.update_subscriber.new.state) (sym c.outcome_of.ensures)
     (subscriber-updated g.F.BackpressureFn.allows g.G.DegradationFn.allows c.domain.inside.state c.update_subscriber.new.state c.args.domain.now c.domain.view_is c.in-Some.place c.update_subscriber.result c.update_subscriber.ensures y at))
 
 pub returns-clause-stays : goal.returns-clause-stays
