@@ -1,1 +1,2 @@
+mod FullBooks
 pub mod SentEnds

@@ -8,7 +8,7 @@ ghost use Rattle.iox2_domain.specs.LoanSlots.{LiesInSlot};
 ghost use Rattle.iox2_domain.specs.Ports.{PublisherFields};
 ghost use Rattle.iox2_domain.specs.Invariant.{IsDomain};
 
-use crate::reclaims::reclaim_if_full;
+use crate::reclaims::{is_full_at, reclaim_if_full};
 use iox2_contents::Contents;
 use iox2_domain::{DomainState, LoanAt, PublisherState, units_of};
 use iox2_store::{AllocationStrategy, Header, LoanError, UniqueNodeId};
@@ -65,17 +65,18 @@ fn is_too_long(publisher: &PublisherState, checks_length: bool, len: usize) -> b
     }
 }
 
-// Why the publisher at a place may lend no slot, if it may not.
+// Why the publisher at a place may lend no slot, if it may not. Nothing is written.
 fn loan_refusal<T: Drop, U: Default + Drop>(
-    state: &DomainState<T, U>,
+    state: &mut DomainState<T, U>,
     place: usize,
     checks_length: bool,
     len: usize,
 ) -> Option<LoanError>
-    requires agrees { IsDomain state.now }
-    requires stands { (x : PublisherFields) × (slice_index_or state.now.publishers place None ≡ Some x) }
-    requires reclaimed { IsReclaimedIfFull state.now place }
-    ensures { LoanDecided state.now checks_length len place result }
+    requires agrees { IsDomain state.old }
+    requires stands { (x : PublisherFields) × (slice_index_or state.old.publishers place None ≡ Some x) }
+    requires reclaimed { IsReclaimedIfFull state.old place }
+    ensures decided { LoanDecided state.old checks_length len place result }
+    ensures same { state.new ≡ state.old }
 {
     let Some(publisher) = &state.publishers[place] else {
         unreachable!();
@@ -86,7 +87,7 @@ fn loan_refusal<T: Drop, U: Default + Drop>(
     if publisher.loans.len() >= publisher.max_loaned_samples {
         return Some(LoanError::ExceedsMaxLoans);
     }
-    if state.books[publisher.book].is_full() {
+    if is_full_at(state, place) {
         return Some(LoanError::OutOfMemory);
     }
     if state.next_message == u128::MAX {

@@ -1,5 +1,8 @@
 //! A publisher reclaims the slots that its subscribers gave back.
-ghost use Rattle.std.specs.Prelude.{◌≡◌, None, Some, slice_index_or, IsSomeAnd};
+ghost use Rattle.std.specs.Prelude.{◌≡◌, ◌<◌, ◌↔◌, None, Some, slice_index_or, IsSomeAnd, IsTrue};
+ghost use Rattle.std.specs.List.{All};
+ghost use Rattle.slab.specs.Slab.{get};
+ghost use Rattle.iox2_slots.specs.SlotBook.{Book};
 ghost use Rattle.iox2_ends.specs.Receivers.{HasReclaimed};
 ghost use Rattle.iox2_domain.specs.Ports.{PublisherFields};
 ghost use Rattle.iox2_domain.specs.Kept.{state_of};
@@ -23,12 +26,29 @@ pub(crate) fn reclaim_if_full<T: Drop, U: Default + Drop>(
     ensures only { state.new ≡ record state.old { connections = state.new.connections; books = state.new.books } }
     ensures reclaimed { IsReclaimedIfFull state.new place }
 {
+    if is_full_at(state, place) {
+        reclaim(state, place);
+    }
+}
+
+/// Whether each slot of the publisher at a place is in use. A look-up in books that may be written
+/// tests less, and nothing is written.
+#[inline(always)]
+pub(crate) fn is_full_at<T: Drop, U: Default + Drop>(
+    state: &mut DomainState<T, U>,
+    place: usize,
+) -> bool
+    requires agrees { IsDomain state.old }
+    requires stands { (x : PublisherFields) × (slice_index_or state.old.publishers place None ≡ Some x) }
+    ensures full { (x : PublisherFields) (b : Book) → slice_index_or state.old.publishers place None ≡ Some x → get state.old.books x.book ≡ Some b
+        → (IsTrue result ↔ All (λ n. 0 < n) b.holders) }
+    ensures same { state.new ≡ state.old }
+{
     let Some(publisher) = &state.publishers[place] else {
         unreachable!();
     };
-    if state.books[publisher.book].is_full() {
-        reclaim(state, place);
-    }
+    let book = &mut state.books[publisher.book];
+    book.is_full()
 }
 
 #[inline(never)]

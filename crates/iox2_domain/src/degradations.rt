@@ -22,9 +22,7 @@ pub fn degradation_answer<F: BackpressureFn, G: DegradationFn>(
     match mark {
         HandlerMark::Fixed(action) => action,
         HandlerMark::Custom => match boxes.degradation_of(id) {
-            Some(function) => {
-                function.call(DegradationCause::FailedToEstablishConnection, info)
-            }
+            Some(function) => { function.call(DegradationCause::FailedToEstablishConnection, info) }
             None => DegradationAction::Warn,
         },
     }

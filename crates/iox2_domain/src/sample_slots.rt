@@ -88,8 +88,9 @@ impl<T: Drop, U: Default + Drop> DomainState<T, U> {
     ghost use Rattle.iox2_domain.specs.Invariant.{HasNumber, IsDomain};
     ghost use Rattle.iox2_domain.specs.SampleSlots.{BorrowsAt, LiesAtHint, LiesBorrowed, LiesBorrowedInSlot};
 
-    // Where the message lies that the subscriber has borrowed in the connection at the key.
-    fn find_sample_at(
+    /// Where the message lies that the subscriber has borrowed in the connection at the key, and `None`
+    /// where it hasn't borrowed it there. Any key will do.
+    pub fn find_sample_at(
         &self,
         key: usize,
         subscriber: UniqueSubscriberId,
@@ -170,17 +171,19 @@ impl<T: Drop, U: Default + Drop> DomainState<T, U> {
     }
 
     /// Whether a sample lies in the connection and the slot that it names, and was borrowed last
-    /// there. No holders are counted for that.
-    pub fn is_last_at_hint(&self, sample: &SampleAt) -> bool
-        requires { IsDomain self.now }
-        ensures { IsTrue result → LiesAtHint self.now sample.now }
+    /// there. No holders are counted for that. A look-up in books that may be written tests less, and
+    /// nothing is written.
+    pub fn is_last_at_hint(&mut self, sample: &SampleAt) -> bool
+        requires { IsDomain self.old }
+        ensures lies { IsTrue result → LiesAtHint self.old sample.now }
+        ensures same { self.new ≡ self.old }
     {
         match self.connections.get(sample.connection) {
             Some(connection) => {
                 is_named(connection, sample)
                     && is_last_numbered(
                         connection,
-                        &self.books[sample.book],
+                        &mut self.books[sample.book],
                         sample.slot,
                         sample.number,
                     )

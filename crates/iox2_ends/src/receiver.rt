@@ -8,7 +8,7 @@ ghost use Rattle.iox2_slots.specs.SlotBook.{IsInUse};
 ghost use Rattle.iox2_ends.specs.Counters.{one_holder_less, with_counters};
 ghost use Rattle.iox2_ends.specs.Recounts.{Recounts};
 ghost use Rattle.iox2_ends.specs.Homes.{IsApart, SameHomes};
-ghost use Rattle.iox2_ends.specs.Finds.{offer_at, search, is_something, Finds, HasConnections};
+ghost use Rattle.iox2_ends.specs.Finds.{offer_at, offer_of, search, is_something, Finds, HasConnections};
 ghost use Rattle.iox2_ends.specs.declared.receiver.Found.{Found};
 ghost use Rattle.iox2_ends.specs.Takes.{KeepsOtherKeys, KeepsReturned, SameStands, BorrowsSlot, ReceivesSlot, ReleasesSlot};
 
@@ -47,21 +47,39 @@ impl Found {
     }
 }
 
-// What the connection at a key offers, if there is a key.
-fn look(connections: &Slab<Connection>, key: Option<usize>) -> Found
-    requires { ForSome key (ContainsKey connections.now) }
-    ensures { result ≡ offer_at connections.now key }
+// What the connection offers, which stands at a key.
+fn offer(connection: &Connection, key: usize) -> Found
+    ensures { result ≡ offer_of key (Some connection.now) }
 {
-    let Some(key) = key else {
-        return Found::Nothing;
-    };
-    let connection = &connections[key];
     if connection.can_receive() {
         Found::Ready(key)
     } else if connection.has_data() {
         Found::AtLimit
     } else {
         Found::Nothing
+    }
+}
+
+// What the connection at a key offers, if there is a key.
+fn look(connections: &Slab<Connection>, key: Option<usize>) -> Found
+    requires { ForSome key (ContainsKey connections.now) }
+    ensures { result ≡ offer_at connections.now key }
+{
+    match key {
+        Some(key) => offer(&connections[key], key),
+        None => Found::Nothing,
+    }
+}
+
+// The same. A look-up in connections that may be written tests less, and nothing is written.
+fn look_to_take(connections: &mut Slab<Connection>, key: Option<usize>) -> Found
+    requires { ForSome key (ContainsKey connections.old) }
+    ensures offers { result ≡ offer_at connections.old key }
+    ensures same { connections.new ≡ connections.old }
+{
+    match key {
+        Some(key) => offer(&mut connections[key], key),
+        None => Found::Nothing,
     }
 }
 
@@ -137,7 +155,7 @@ pub fn receive(
     if let Found::Ready(key) = found {
         return Ok(Some(take(connections, key)));
     }
-    if let Found::Ready(key) = look(connections, key_in(keys, *last_place)) {
+    if let Found::Ready(key) = look_to_take(connections, key_in(keys, *last_place)) {
         return Ok(Some(take(connections, key)));
     }
     for place in 0..keys.len() {

@@ -104,10 +104,13 @@ fn both_stay<T: Drop, U: Default + Drop>(state: &DomainState<T, U>, sample: &Sam
 // Whether a live sample is the one that was borrowed last of the connection that it names, both ports
 // of which stay. It is mostly so.
 #[inline(always)]
-fn is_returnable<T: Drop, U: Default + Drop>(state: &DomainState<T, U>, sample: &SampleAt) -> bool
-    requires agrees { IsDomain state.now }
-    requires live { HoldsSample (state_of (kept_of state.now)) sample.now.subscriber sample.now.number }
-    ensures { IsTrue result → IsReturnable state.now sample.now }
+fn is_returnable<T: Drop, U: Default + Drop>(
+    state: &mut DomainState<T, U>,
+    sample: &SampleAt,
+) -> bool
+    requires agrees { IsDomain state.old }
+    ensures returnable { IsTrue result → IsReturnable state.old sample.now }
+    ensures same { state.new ≡ state.old }
 {
     state.is_last_at_hint(sample) && both_stay(state, sample)
 }

@@ -40,6 +40,11 @@ module _ {T U : Type 0} where
       let was = waits.publishers p x low there in
       let had = none was.0 was.1 in (λ boxed. had.0 (sym (was.2).handler ∙ boxed), λ boxed. had.1 (sym (was.2).degradation ∙ boxed))
 
+-- a port without a box answers as it does where no port has one, and as much memory may be refused
+pub calm : (environment : Environment) (port : ℕ) (handler : Handler DegradationAction) → (handler ≡ Custom → ⊥) → AllowsUpdates environment fixed_handlers port handler
+calm environment port (Fixed action) other = record { memory = λ may. tt; answers = tt }
+calm environment port Custom other = absurd (other refl)
+
 module _ {T U : Type 0} (environment : Environment) where
   -- where there is no box there is nothing to answer
   may_answer : (s : State T U) (p : ℕ) → HasNoBox s p → MayAnswerAsMuch environment fixed_handlers s p
@@ -49,17 +54,12 @@ module _ {T U : Type 0} (environment : Environment) where
     by (Some (Fixed action)) other = tt
     by (Some Custom) other = absurd (other refl)
 
-  -- neither at full buffers nor where connections are refused
-  pub calm : (port : ℕ) (handler : Handler DegradationAction) → (handler ≡ Custom → ⊥) → AllowsUpdates environment fixed_handlers port handler
-  calm port (Fixed action) other = record { memory = λ may. tt; answers = tt }
-  calm port Custom other = absurd (other refl)
-
   -- what a publisher without a box sends is sent where no port has one
   pub sends_fixed : (s : State T U) (n : ℕ) (l : Loan T U) (s' : State T U) (result : SendResult)
       → l.publisher < s.next_port → HasNoBox s l.publisher → Send environment s n l s' result → Send fixed_handlers s n l s' result
   sends_fixed s n l s' result low none =
       sends-alike environment fixed_handlers s n l s' result
-      (λ x there. calm l.publisher x.degradation_handler (none x there).1)
+      (λ x there. calm environment l.publisher x.degradation_handler (none x there).1)
       (λ mid updated. may_answer mid l.publisher (unboxed_still Nobody s mid (update_publisher_waits Nobody environment s l.publisher mid None updated) l.publisher low none))
 
   -- so is what it tries again

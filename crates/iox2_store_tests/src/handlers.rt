@@ -80,7 +80,9 @@ fn a_handler_of_refused_connections_answers(rt: HostRuntime) {
     let strict = DegradationHandler::new_with(DegradationAction::DegradeAndFail);
     let first = strict.call(DegradationCause::FailedToEstablishConnection, &info);
     drop(strict);
-    let box_of_it: Box<dyn DegradationFn> = Box::new(rt.alloc(), Indifference).expect(&rt, "memory");
+    let box_of_it: Box<dyn DegradationFn> = Box::new(rt.alloc(), Indifference).expect(
+        &rt, "memory",
+    );
     let indifferent: DegradationHandler = DegradationHandler::Custom(box_of_it);
     let second = indifferent.call(DegradationCause::FailedToEstablishConnection, &info);
     drop(indifferent);

@@ -132,5 +132,8 @@ pub(crate) fn has_sample<T: Drop, U: Default + Drop>(
     requires { IsDomain state.now }
     ensures { IsTrue result ↔ HoldsSample (state_of (kept_of state.now)) sample.now.subscriber sample.now.number }
 {
-    state.is_last_at_hint(sample) || state.has_sample(sample.subscriber, sample.number)
+    match state.find_sample_at(sample.connection, sample.subscriber, sample.number) {
+        Some(_) => true,
+        None => state.has_sample(sample.subscriber, sample.number),
+    }
 }

@@ -109,9 +109,14 @@ module _ (e e' : Environment) where
         unless _ _ _ (matched _ _ _ (λ place. where-so _ _ _ (makes place refusal) (first_segment_fits s.config given)) (free_place (s.config).max_publishers s.publisher_places)) (s.next_port == last_number) h
       where
         makes : (place : ℕ) (refusal : Option PublisherCreateError) → MakePublisher e s given place s' refusal → MakePublisher e' s given place s' refusal
-        makes place None h = (h.0, h.1, update-alike e e' (with_new_publisher s given place) s.next_port h.0 h.1 (λ x there.
-            let its : Some x ≡ Some (new_publisher s given place) = sym there ∙ put_at-same s.publishers s.next_port (Some (new_publisher s given place)) in
-            allowed-as x (ap (λ (z : Publisher). z.degradation_handler) (same_Some x (new_publisher s given place) its))) h.2, h.3)
+        makes place None h = (
+          h.0,
+          h.1,
+          update-alike e e' (with_new_publisher s given place) s.next_port h.0 h.1 (λ x there.
+              let its : Some x ≡ Some (new_publisher s given place) = sym there ∙ put_at-same s.publishers s.next_port (Some (new_publisher s given place)) in
+              allowed-as x (ap (λ (z : Publisher). z.degradation_handler) (same_Some x (new_publisher s given place) its))) h.2,
+          h.3,
+        )
           where
             allowed-as : (x : Publisher) → x.degradation_handler ≡ given.degradation_handler → AllowsUpdates e e' s.next_port x.degradation_handler
             allowed-as x is = rw is allows
@@ -124,9 +129,14 @@ module _ (e e' : Environment) where
         unless _ _ _ (unless _ _ _ (matched _ _ _ (λ place. makes place refusal) (free_place (s.config).max_subscribers s.subscriber_places)) (nat_lt (buffer_limit s.config) (buffer_for given))) (s.next_port == last_number) h
       where
         makes : (place : ℕ) (refusal : Option SubscriberCreateError) → MakeSubscriber e s given place s' refusal → MakeSubscriber e' s given place s' refusal
-        makes place None h = (h.0, h.1, update-subscriber-alike (with_new_subscriber s given place) s.next_port h.0 h.1 (λ y there.
-            let its : Some y ≡ Some (new_subscriber given place) = sym there ∙ put_at-same s.subscribers s.next_port (Some (new_subscriber given place)) in
-            allowed-as y (ap (λ (z : Subscriber). z.degradation_handler) (same_Some y (new_subscriber given place) its))) h.2, h.3)
+        makes place None h = (
+          h.0,
+          h.1,
+          update-subscriber-alike (with_new_subscriber s given place) s.next_port h.0 h.1 (λ y there.
+              let its : Some y ≡ Some (new_subscriber given place) = sym there ∙ put_at-same s.subscribers s.next_port (Some (new_subscriber given place)) in
+              allowed-as y (ap (λ (z : Subscriber). z.degradation_handler) (same_Some y (new_subscriber given place) its))) h.2,
+          h.3,
+        )
           where
             allowed-as : (y : Subscriber) → y.degradation_handler ≡ given.degradation_handler → AllowsUpdates e e' s.next_port y.degradation_handler
             allowed-as y is = rw is allows

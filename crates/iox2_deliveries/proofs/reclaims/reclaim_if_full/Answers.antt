@@ -1,17 +1,21 @@
-use Rattle.std.proofs.Common.{◌≡◌, None, Some, slice_index_or, false, true, sym, ◌∙◌, ap, subst}
-use Rattle.iox2_domain.specs.Fields.{Fields}
-use Rattle.iox2_domain.specs.Invariant.{IsDomain}
-use Rattle.iox2_domain.proofs.lemmas.slots.PublisherBooks.{read-there, book-there}
-use Rattle.iox2_domain.proofs.lemmas.loans.Lent.{not-full}
+use Rattle.std.proofs.Common.{◌≡◌, false, true, refl, sym, subst}
+use Rattle.iox2_domain.specs.Fields.{Fields, kept_of}
+use Rattle.iox2_domain.specs.Kept.{state_of}
+use Rattle.iox2_domain.specs.Reaches.{Reaches}
+use Rattle.iox2_domain.specs.Lending.{IsReclaimedIfFull}
 use Rattle.iox2_deliveries.proofs.reclaims.reclaim_if_full.Goals as goal
 
-pub index-requires-2 : goal.index-requires-2
-index-requires-2 g c =
-    book-there _ (subst (IsDomain {T = g.row.T.Denot} {U = g.row.U.Denot}) (sym c.state.view_is) c.requires.agrees).parts c.args.place _
-    (read-there _ c.args.place _ _ (ap (λ (f : Fields g.row.T.Denot g.row.U.Denot). slice_index_or f.publishers c.args.place None) c.state.view_is ∙ c.requires.stands.1) c.index.ensures ∙ c.in-Some.is ∙ ap Some (sym c.publisher.view_is))
+pub returns-then-is_full_at-clause-reaches : goal.returns-then-is_full_at-clause-reaches
+returns-then-is_full_at-clause-reaches g c =
+    subst (λ (f : Fields g.row.T.Denot g.row.U.Denot). Reaches f c.reclaim.new.state (state_of (kept_of f))) c.is_full_at.ensures.same c.reclaim.ensures.reaches
 
-pub returns-else-is_full-clause-reclaimed : goal.returns-else-is_full-clause-reclaimed
-returns-else-is_full-clause-reclaimed g c =
-    not-full _ c.args.state.now c.state.view_is c.args.place _
-    (read-there _ c.args.place _ _ (ap (λ (f : Fields g.row.T.Denot g.row.U.Denot). slice_index_or f.publishers c.args.place None) c.state.view_is ∙ c.requires.stands.1) c.index.ensures ∙ c.in-Some.is ∙ ap Some (sym c.publisher.view_is))
-    _ c.index-2.ensures (λ all. let no : false ≡ true = c.if-is_full.ensures.1 all in cc)
+pub returns-else-is_full_at-clause-reaches : goal.returns-else-is_full_at-clause-reaches
+returns-else-is_full_at-clause-reaches g c =
+    subst (λ (f : Fields g.row.T.Denot g.row.U.Denot). Reaches c.args.state.now f (state_of (kept_of c.args.state.now))) (sym c.is_full_at.ensures.same)
+    (record { agrees = c.requires.agrees; state = refl; entries = λ n entry kept. kept })
+
+pub returns-else-is_full_at-clause-reclaimed : goal.returns-else-is_full_at-clause-reclaimed
+returns-else-is_full_at-clause-reclaimed g c =
+    subst (λ (f : Fields g.row.T.Denot g.row.U.Denot). IsReclaimedIfFull f c.args.place) (sym c.is_full_at.ensures.same) (record {
+      at = λ x b there has all. let no : false ≡ true = (c.if-is_full_at.ensures.full x b there has).1 all in absurd cc;
+    })

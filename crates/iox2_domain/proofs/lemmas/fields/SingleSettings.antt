@@ -1,5 +1,5 @@
 -- The settings of a service whose messages are single values.
-use Rattle.std.proofs.Common.{◌≡◌, true, false, ◌==◌, ◌&&◌, refl, ap, sym, ◌∙◌}
+use Rattle.std.proofs.Common.{◌≡◌, true, false, ◌==◌, ◌&&◌, refl, ap}
 use Rattle.std.proofs.lemmas.Bool.{eqb-true}
 use Rattle.iox2_store.specs.SingleValues.{is_fixed_size, is_single_valued}
 use Rattle.iox2_store.specs.declared.service_config.ServiceConfig.{ServiceConfig}

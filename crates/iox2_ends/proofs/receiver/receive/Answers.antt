@@ -20,26 +20,27 @@ returns-in-Ready c = (
       c.take.ensures.waited c.take.ensures.takes c.take.ensures.homes c.take.ensures.others c.take.ensures.returned c.take.ensures.stands,
 )
 
-pub look-requires : goal.look-requires
-look-requires c = λ key at. c.requires.keys.at c.args.last_place.now key (sym c.key_in.ensures ∙ at)
+pub look_to_take-requires : goal.look_to_take-requires
+look_to_take-requires c = λ key at. c.requires.keys.at c.args.last_place.now key (sym c.key_in.ensures ∙ at)
+
+pub returns-in-Ready-look_to_take : goal.returns-in-Ready-look_to_take
+returns-in-Ready-look_to_take c = (
+  subst (λ (key : ℕ). Finds c.args.connections.now c.args.expired.now c.args.keys.now (Found.Ready key)) (sym c.take-in-Ready-look_to_take.ensures.from)
+      (offer-ready c.args.connections.now c.args.expired.now c.args.keys.now c.search_expired-found.result c.look_to_take.result c.key_in.result c.in-Ready-look_to_take.key
+      c.search_expired-found.ensures c.in_default.not-Ready (λ key at. (c.args.last_place.now, sym c.key_in.ensures ∙ at)) c.look_to_take.ensures.offers c.in-Ready-look_to_take.is),
+  subst (λ (s : Slab Link). TakesSlot s c.take-in-Ready-look_to_take.result c.take-in-Ready-look_to_take.new.connections) c.look_to_take.ensures.same
+      (takes-slot c.look_to_take.new.connections c.take-in-Ready-look_to_take.new.connections c.take-in-Ready-look_to_take.result c.in-Ready-look_to_take.key c.take-in-Ready-look_to_take.ensures.from c.take-in-Ready-look_to_take.ensures.home
+      c.take-in-Ready-look_to_take.ensures.waited c.take-in-Ready-look_to_take.ensures.takes c.take-in-Ready-look_to_take.ensures.homes c.take-in-Ready-look_to_take.ensures.others c.take-in-Ready-look_to_take.ensures.returned c.take-in-Ready-look_to_take.ensures.stands),
+)
 
 pub returns-in-Ready-look : goal.returns-in-Ready-look
 returns-in-Ready-look c = (
   subst (λ (key : ℕ). Finds c.args.connections.now c.args.expired.now c.args.keys.now (Found.Ready key)) (sym c.take-in-Ready-look.ensures.from)
-      (offer-ready c.args.connections.now c.args.expired.now c.args.keys.now c.search_expired-found.result c.look.result c.key_in.result c.in-Ready-look.key
-      c.search_expired-found.ensures c.in_default.not-Ready (λ key at. (c.args.last_place.now, sym c.key_in.ensures ∙ at)) c.look.ensures c.in-Ready-look.is),
-  takes-slot c.args.connections.now c.take-in-Ready-look.new.connections c.take-in-Ready-look.result c.in-Ready-look.key c.take-in-Ready-look.ensures.from c.take-in-Ready-look.ensures.home
-      c.take-in-Ready-look.ensures.waited c.take-in-Ready-look.ensures.takes c.take-in-Ready-look.ensures.homes c.take-in-Ready-look.ensures.others c.take-in-Ready-look.ensures.returned c.take-in-Ready-look.ensures.stands,
-)
-
-pub returns-in-Ready-look-2 : goal.returns-in-Ready-look-2
-returns-in-Ready-look-2 c = (
-  subst (λ (key : ℕ). Finds c.args.connections.now c.args.expired.now c.args.keys.now (Found.Ready key)) (sym c.take-in-Ready-look-2.ensures.from)
-      (place-ready c.args.connections.now c.args.expired.now c.args.keys.now c.loop-place.found c.look-in-loop-place.result c.loop-place.place c.in-Ready-look-2.key (omega arith)
-      c.loop-place.invariant.none c.loop-place.invariant.whole (c.look-in-loop-place.ensures ∙ ap (λ (s : Slab Link). offer_at s (get_or c.args.keys.now c.loop-place.place None)) c.loop-place.invariant.same) c.in-Ready-look-2.is).1,
-  subst (λ (s : Slab Link). TakesSlot s c.take-in-Ready-look-2.result c.take-in-Ready-look-2.new.connections) c.loop-place.invariant.same
-      (takes-slot c.loop-place.connections c.take-in-Ready-look-2.new.connections c.take-in-Ready-look-2.result c.in-Ready-look-2.key c.take-in-Ready-look-2.ensures.from c.take-in-Ready-look-2.ensures.home
-      c.take-in-Ready-look-2.ensures.waited c.take-in-Ready-look-2.ensures.takes c.take-in-Ready-look-2.ensures.homes c.take-in-Ready-look-2.ensures.others c.take-in-Ready-look-2.ensures.returned c.take-in-Ready-look-2.ensures.stands),
+      (place-ready c.args.connections.now c.args.expired.now c.args.keys.now c.loop-place.found c.look.result c.loop-place.place c.in-Ready-look.key (omega arith)
+      c.loop-place.invariant.none c.loop-place.invariant.whole (c.look.ensures ∙ ap (λ (s : Slab Link). offer_at s (get_or c.args.keys.now c.loop-place.place None)) c.loop-place.invariant.same) c.in-Ready-look.is).1,
+  subst (λ (s : Slab Link). TakesSlot s c.take-in-Ready-look.result c.take-in-Ready-look.new.connections) c.loop-place.invariant.same
+      (takes-slot c.loop-place.connections c.take-in-Ready-look.new.connections c.take-in-Ready-look.result c.in-Ready-look.key c.take-in-Ready-look.ensures.from c.take-in-Ready-look.ensures.home
+      c.take-in-Ready-look.ensures.waited c.take-in-Ready-look.ensures.takes c.take-in-Ready-look.ensures.homes c.take-in-Ready-look.ensures.others c.take-in-Ready-look.ensures.returned c.take-in-Ready-look.ensures.stands),
 )
 
 pub returns-in-AtLimit-found : goal.returns-in-AtLimit-found
