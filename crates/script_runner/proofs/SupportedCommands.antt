@@ -10,7 +10,7 @@ use Rattle.script_text.specs.ScriptText.{NamesCommands}
 
 -- What words name, `run` carries out.
 pub IsSupported-named : (words : Words) (c : Command ℕ ℕ) → IsCommandLine words c → IsSupportedCommand c
-IsSupported-named words (command.CreatePublisher a b d e f h k) names = (names.3, names.5)
+IsSupported-named words (command.CreatePublisher a b d e f h k) names = names.3
 IsSupported-named words _ names = tt
 
 -- What lines name, `run` carries out.
