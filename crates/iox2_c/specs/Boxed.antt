@@ -1,0 +1,24 @@
+-- What C knows of the domain that it owns, if it has one.
+use Rattle.std.specs.Prelude.{◌≡◌, IfSome}
+use Rattle.std.specs.declared.option.Option.{Option}
+use Rattle.std.specs.declared.option.Option.TheVariants.{None, Some}
+use Rattle.iox2_pubsub.specs.Live.{Item}
+use Rattle.iox2_c.specs.Serving.{KeptBytes, Serving, ServesBut}
+
+-- This is so of the domain, which is there.
+abbrev pub Knows : (KeptBytes → Type 0) → Option Serving → Type 0
+Knows P service = IfSome service (λ it. P it.domain)
+
+-- There is no domain, or this is false of it.
+abbrev pub KnowsNo : (KeptBytes → Type 0) → Option Serving → Type 0
+KnowsNo P service = IfSome service (λ it. P it.domain → ⊥)
+
+-- This is so of the domain as it was and as it is. Where there was none, there is none.
+abbrev pub Steps : (KeptBytes → KeptBytes → Type 0) → (old new : Option Serving) → Type 0
+Steps P None new = new ≡ None
+Steps P (Some old) new = (it : Serving) × (new ≡ Some it) × P old.domain it.domain
+
+-- Where there was a domain there is one, and all that was live in it stays but for the item.
+abbrev pub HoldsOn : Item → (old new : Option Serving) → Type 0
+HoldsOn item None new = new ≡ None
+HoldsOn item (Some old) new = (it : Serving) × (new ≡ Some it) × ServesBut item old it

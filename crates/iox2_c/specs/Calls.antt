@@ -1,0 +1,31 @@
+-- What each call comes to, by its code.
+use Rattle.std.specs.Prelude.{ℕ, true, ◌≡◌, ◌⊎◌}
+use Rattle.iox2_store.specs.declared.key.Key.{Key}
+use Rattle.iox2_pubsub.specs.Live.{HasMark, IsLoanKey, IsPublisherKey, IsUnblocked}
+use Rattle.iox2_c.specs.Serving.{KeptBytes}
+
+-- ---- refusals, which change nothing: 2 where nothing live is named, and 7 where an earlier send of the publisher waits
+
+module _ (domain : KeptBytes) (key : Key) where
+  -- The publisher is there, and no send of it waits.
+  pub record IsReady : Type 0 where
+    pub there : IsPublisherKey domain key
+    pub unblocked : IsUnblocked domain key
+
+  -- Why a call of a publisher is refused with this code.
+  abbrev pub RefusesPublisher : (code : ℕ) → Type 0
+  RefusesPublisher code =
+      ((code ≡ 2) × (IsPublisherKey domain key → ⊥)) ⊎ ((code ≡ 7) × IsPublisherKey domain key × (IsUnblocked domain key → ⊥))
+
+  -- The loan is out and written, as each one is that was lent by these calls.
+  pub record IsOut : Type 0 where
+    pub out : IsLoanKey domain key
+    pub written : HasMark domain key.message true
+
+  -- Why a call of a loan is refused with this code.
+  abbrev pub RefusesLoan : (code : ℕ) → Type 0
+  RefusesLoan code = (code ≡ 2) × (IsOut → ⊥)
+
+  -- Why a send of a loan is refused with this code.
+  abbrev pub RefusesSend : (code : ℕ) → Type 0
+  RefusesSend code = ((code ≡ 2) × (IsOut → ⊥)) ⊎ ((code ≡ 7) × IsOut × (IsUnblocked domain key → ⊥))

@@ -1,0 +1,94 @@
+-- The numbers by which C reads errors and settings.
+use Rattle.std.specs.Prelude.{ℕ, ◌+◌, cond, nat_eq}
+use Rattle.std.specs.declared.result.Result.{Result}
+use Rattle.std.specs.declared.result.Result.TheVariants.{Ok, Err}
+use Rattle.iox2_store.specs.declared.backpressure.BackpressureStrategy.{BackpressureStrategy}
+use Rattle.iox2_store.specs.declared.backpressure.BackpressureStrategy.TheVariants.{RetryUntilDelivered, DiscardData}
+use Rattle.iox2_store.specs.declared.errors.LoanError.{LoanError}
+use Rattle.iox2_store.specs.declared.errors.LoanError.TheVariants.{OutOfMemory, ExceedsMaxLoans, ExceedsMaxLoanSize, InternalFailure}
+use Rattle.iox2_store.specs.declared.errors.ZeroCopyCreationError.{ZeroCopyCreationError}
+use Rattle.iox2_store.specs.declared.errors.ZeroCopyCreationError.TheVariants.{IncompatibleBufferSize, OutOfMemory as No_memory, ExpiredConnectionBufferFull}
+use Rattle.iox2_store.specs.declared.errors.ConnectionFailure.{ConnectionFailure}
+use Rattle.iox2_store.specs.declared.errors.ConnectionFailure.TheVariants.{FailedToEstablishConnection, UnableToMapSendersDataSegment}
+use Rattle.iox2_store.specs.declared.errors.SendError.{SendError}
+use Rattle.iox2_store.specs.declared.errors.SendError.TheVariants.{ConnectionBrokenSinceSenderNoLongerExists, ConnectionCorrupted, LoanError as Not_lent, ConnectionError, UnableToDeliver, InternalError}
+use Rattle.iox2_store.specs.declared.errors.ReceiveError.{ReceiveError}
+use Rattle.iox2_store.specs.declared.errors.ReceiveError.TheVariants.{ExceedsMaxBorrows, ConnectionFailure as Not_connected}
+use Rattle.iox2_store.specs.declared.errors.PublisherCreateError.{PublisherCreateError}
+use Rattle.iox2_store.specs.declared.errors.PublisherCreateError.TheVariants as publisher
+use Rattle.iox2_store.specs.declared.errors.SubscriberCreateError.{SubscriberCreateError}
+use Rattle.iox2_store.specs.declared.errors.SubscriberCreateError.TheVariants as subscriber
+use Rattle.iox2_pubsub.specs.declared.send_outcome.SendOutcome.{SendOutcome}
+use Rattle.iox2_pubsub.specs.declared.send_outcome.SendOutcome.TheVariants.{Delivered, Blocked}
+
+-- ---- errors
+
+-- The code of a loan's error.
+abbrev pub loan_code : LoanError → ℕ
+loan_code OutOfMemory = 10
+loan_code ExceedsMaxLoans = 11
+loan_code ExceedsMaxLoanSize = 12
+loan_code InternalFailure = 13
+
+-- Which failure of a connection it is.
+abbrev pub failure_index : ConnectionFailure → ℕ
+failure_index (FailedToEstablishConnection IncompatibleBufferSize) = 0
+failure_index (FailedToEstablishConnection No_memory) = 1
+failure_index (FailedToEstablishConnection ExpiredConnectionBufferFull) = 2
+failure_index (UnableToMapSendersDataSegment cause) = 3
+
+-- The code of a send's error.
+abbrev pub send_code : SendError → ℕ
+send_code ConnectionBrokenSinceSenderNoLongerExists = 20
+send_code ConnectionCorrupted = 21
+send_code UnableToDeliver = 22
+send_code InternalError = 23
+send_code (ConnectionError failure) = 24 + failure_index failure
+send_code (Not_lent error) = loan_code error
+
+-- The code of a receive's error.
+abbrev pub receive_code : ReceiveError → ℕ
+receive_code ExceedsMaxBorrows = 30
+receive_code (Not_connected failure) = 34 + failure_index failure
+
+-- The code of an update's error.
+abbrev pub failure_code : ConnectionFailure → ℕ
+failure_code failure = 44 + failure_index failure
+
+-- The code of a publisher's refusal.
+abbrev pub publisher_code : PublisherCreateError → ℕ
+publisher_code publisher.ExceedsMaxSupportedPublishers = 50
+publisher_code publisher.UnableToCreateDataSegment = 51
+publisher_code publisher.FailedToDeployThreadsafetyPolicy = 52
+publisher_code publisher.UnableToCreatePortTag = 53
+
+-- The code of a subscriber's refusal.
+abbrev pub subscriber_code : SubscriberCreateError → ℕ
+subscriber_code subscriber.ExceedsMaxSupportedSubscribers = 60
+subscriber_code subscriber.BufferSizeExceedsMaxSupportedBufferSizeOfService = 61
+subscriber_code subscriber.FailedToDeployThreadsafetyPolicy = 62
+subscriber_code subscriber.UnableToCreatePortTag = 63
+
+-- 0 where the call did what it is to do, and else the error's code.
+abbrev pub code_of : {A E : Type 0} → (E → ℕ) → Result A E → ℕ
+code_of code (Ok value) = 0
+code_of code (Err error) = code error
+
+-- ---- settings
+
+-- The strategy with this number: 1 stands for one that discards.
+abbrev pub strategy_numbered : ℕ → BackpressureStrategy
+strategy_numbered n = cond (nat_eq n 1) DiscardData RetryUntilDelivered
+
+-- ---- sends
+
+-- 0 where every receiver had the message, 6 where the send waits, and else the error's code.
+abbrev pub sent_code : Result SendOutcome SendError → ℕ
+sent_code (Ok (Delivered count)) = 0
+sent_code (Ok (Blocked blocked)) = 6
+sent_code (Err error) = send_code error
+
+-- How many subscribers took the message, where the send has ended well, and else what was there.
+abbrev pub receivers_of : (before : ℕ) → Result SendOutcome SendError → ℕ
+receivers_of before (Ok (Delivered count)) = count
+receivers_of before _ = before

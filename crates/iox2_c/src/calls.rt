@@ -1,0 +1,9 @@
+//! The calls on a domain, by numbers: each tests what the numbers name, and changes nothing where
+//! that isn't live.
+
+pub mod loans;
+pub mod publishers;
+pub mod questions;
+pub mod samples;
+pub mod sends;
+pub mod subscribers;

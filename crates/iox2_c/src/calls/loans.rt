@@ -1,0 +1,54 @@
+//! The calls of loans.
+ghost use Rattle.std.specs.Prelude.{◌≡◌, ◌<◌, ◌⊎◌, IfNone, IfSome};
+ghost use Rattle.iox2_pubsub.specs.Handles.{as_written};
+ghost use Rattle.iox2_pubsub.specs.Live.{A_loan, IsLoanKey, IsWritten, written_key};
+ghost use Rattle.iox2_c.specs.Calls.{IsOut, RefusesLoan};
+ghost use Rattle.iox2_c.specs.Numbers.{named_loan, wide};
+ghost use Rattle.iox2_c.specs.Serving.{ServesBut};
+
+use crate::numbers::LoanNumbers;
+use crate::service::{BytesDomain, Service};
+use crate::starts::start_to_write;
+use crate::status::{NOT_LIVE, OK};
+use iox2_pubsub::slice::SampleMut;
+
+/// A handle of a loan that is out.
+pub fn written_loan(domain: &BytesDomain, numbers: &LoanNumbers) -> Option<SampleMut>
+    ensures out { IfSome result (λ it. IsWritten domain.now (as_written it)) }
+    ensures named { IfSome result (λ it. written_key (as_written it) ≡ named_loan numbers.now) }
+    ensures none { IfNone result (IsOut domain.now (named_loan numbers.now) → ⊥) }
+{
+    let handle = domain.written_of(&numbers.parts())?;
+    Some(SampleMut::new(handle))
+}
+
+/// Gives a loan back unsent.
+pub fn discard(service: &mut Service, numbers: &LoanNumbers) -> u32
+    ensures code { (result ≡ 0) ⊎ RefusesLoan service.old.domain (named_loan numbers.now) result }
+    ensures out { result ≡ 0 → IsOut service.old.domain (named_loan numbers.now) }
+    ensures spent { result ≡ 0 → IsLoanKey service.new.domain (named_loan numbers.now) → ⊥ }
+    ensures refused { 0 < result → service.new ≡ service.old }
+    ensures stays { ServesBut (A_loan (wide (numbers.now).number)) service.old service.new }
+{
+    let Some(loan) = written_loan(&service.domain, numbers) else {
+        return NOT_LIVE;
+    };
+    loan.discard(&mut service.domain);
+    OK
+}
+
+/// Where the bytes of a loan lie.
+pub fn payload(service: &Service, numbers: &LoanNumbers, out: &mut *mut u8, len: &mut usize) -> u32
+    ensures code { (result ≡ 0) ⊎ RefusesLoan service.now.domain (named_loan numbers.now) result }
+    ensures out { result ≡ 0 → IsOut service.now.domain (named_loan numbers.now) }
+    ensures same { 0 < result → len.new ≡ len.old }
+{
+    let Some(loan) = written_loan(&service.domain, numbers) else {
+        return NOT_LIVE;
+    };
+    let bytes = loan.payload(&service.domain);
+    *out = start_to_write(bytes);
+    *len = bytes.len();
+    loan.disown();
+    OK
+}

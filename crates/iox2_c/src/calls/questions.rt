@@ -1,0 +1,147 @@
+//! What a domain is asked that changes nothing but connections.
+ghost use Rattle.std.specs.Prelude.{length, ◌≡◌, ◌<◌, ◌⊎◌};
+ghost use Rattle.std.specs.List.{count_by};
+ghost use Rattle.std.specs.Option.{is_some};
+ghost use Rattle.circular_buffer.specs.Buffer.{buffer};
+ghost use Rattle.iox2_store.specs.machine.Limits.{warning_limit};
+ghost use Rattle.iox2_pubsub.specs.Live.{IsPublisherKey, IsSubscriberKey, IsUnblocked, No_item, waiting};
+ghost use Rattle.iox2_c.specs.Calls.{RefusesPublisher};
+ghost use Rattle.iox2_c.specs.Numbers.{named_publisher, named_subscriber};
+ghost use Rattle.iox2_c.specs.Serving.{ServesBut};
+
+use crate::calls::publishers::ready_publisher;
+use crate::calls::subscribers::live_subscriber;
+use crate::config::Config;
+use crate::numbers::{PublisherNumbers, SubscriberNumbers};
+use crate::service::Service;
+use crate::status::{NOT_LIVE, OK, failure_status};
+use crate::warning::{WarningNumbers, numbers_of};
+use iox2_pubsub::UpdateConnections;
+
+/// Makes and removes a publisher's connections.
+pub fn update_publisher(service: &mut Service, numbers: &PublisherNumbers) -> u32
+    ensures code { result ≡ 1 → ⊥ }
+    ensures stays { ServesBut No_item service.old service.new }
+{
+    let publisher = match ready_publisher(&service.domain, numbers) {
+        Ok(publisher) => publisher,
+        Err(code) => return code,
+    };
+    let updated = publisher.update_connections(&mut service.domain);
+    publisher.disown();
+    match updated {
+        Ok(()) => OK,
+        Err(failure) => failure_status(failure),
+    }
+}
+
+/// Makes and removes a subscriber's connections.
+pub fn update_subscriber(service: &mut Service, numbers: &SubscriberNumbers) -> u32
+    ensures code { result ≡ 1 → ⊥ }
+    ensures stays { ServesBut No_item service.old service.new }
+{
+    let Some(subscriber) = live_subscriber(&service.domain, numbers) else {
+        return NOT_LIVE;
+    };
+    let updated = subscriber.update_connections(&mut service.domain);
+    subscriber.disown();
+    match updated {
+        Ok(()) => OK,
+        Err(failure) => failure_status(failure),
+    }
+}
+
+/// Whether a message waits for a subscriber, after an update.
+pub fn has_samples(service: &mut Service, numbers: &SubscriberNumbers, waits: &mut u32) -> u32
+    ensures code { result ≡ 1 → ⊥ }
+    ensures same { 0 < result → waits.new ≡ waits.old }
+    ensures stays { ServesBut No_item service.old service.new }
+{
+    let Some(subscriber) = live_subscriber(&service.domain, numbers) else {
+        return NOT_LIVE;
+    };
+    let answer = subscriber.has_samples(&mut service.domain);
+    subscriber.disown();
+    match answer {
+        Ok(some_wait) => {
+            *waits = some_wait as u32;
+            OK
+        }
+        Err(failure) => failure_status(failure),
+    }
+}
+
+/// Whether a send of a publisher waits.
+pub fn is_blocked(service: &Service, numbers: &PublisherNumbers, out: &mut u32) -> u32
+    ensures code { (result ≡ 0) ⊎ ((result ≡ 2) × (IsPublisherKey service.now.domain (named_publisher numbers.now) → ⊥)) }
+    ensures same { 0 < result → out.new ≡ out.old }
+{
+    let Some(publisher) = service.domain.publisher_of(&numbers.parts()) else {
+        return NOT_LIVE;
+    };
+    *out = publisher.is_blocked(&service.domain) as u32;
+    publisher.disown();
+    OK
+}
+
+/// One of the domain's last warnings, the oldest first.
+pub fn warning(service: &Service, index: usize, out: &mut WarningNumbers) -> u32
+    ensures code { result ≡ 1 → ⊥ }
+    ensures same { 0 < result → out.new ≡ out.old }
+{
+    match service.domain.warnings().get(index) {
+        Some(warning) => {
+            *out = numbers_of(*warning);
+            OK
+        }
+        None => NOT_LIVE,
+    }
+}
+
+/// How many of its last warnings the domain has.
+pub fn warning_count(service: &Service, count: &mut usize) -> u32
+    ensures code { result ≡ 0 }
+    ensures counts { count.new ≡ length (buffer (service.now.domain.warnings).latest warning_limit).items }
+{
+    *count = service.domain.warnings().len();
+    OK
+}
+
+/// How often memory for a connection was refused.
+pub fn refused_connections(service: &Service, count: &mut u64) -> u32
+    ensures code { result ≡ 0 }
+    ensures counts { count.new ≡ (service.now.domain.warnings).refused_connections }
+{
+    *count = service.domain.refused_connections();
+    OK
+}
+
+/// How many connections the domain keeps.
+pub fn connection_count(service: &Service, count: &mut usize) -> u32
+    ensures code { result ≡ 0 }
+    ensures counts { count.new ≡ count_by is_some service.now.domain.connections }
+{
+    *count = service.domain.connection_count();
+    OK
+}
+
+/// How many books of slots the domain keeps.
+pub fn book_count(service: &Service, count: &mut usize) -> u32
+    ensures code { result ≡ 0 }
+    ensures counts { count.new ≡ count_by is_some service.now.domain.books }
+{
+    *count = service.domain.book_count();
+    OK
+}
+
+/// The domain's settings.
+pub fn config(service: &Service, out: &mut Config) -> u32
+    ensures code { result ≡ 0 }
+{
+    *out = Config::of(
+        service.domain.config(),
+        service.payload_size,
+        service.payload_alignment,
+    );
+    OK
+}

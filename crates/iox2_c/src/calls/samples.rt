@@ -1,0 +1,134 @@
+//! The calls of samples.
+ghost use Rattle.std.specs.Prelude.{ℕ, List, length, take, ◌≡◌, ◌≢◌, ◌<◌, ◌⊎◌, IfNone, IfSome};
+ghost use Rattle.iox2_store.specs.declared.header.Header.{Header};
+ghost use Rattle.iox2_pubsub.specs.Handles.{as_sample};
+ghost use Rattle.iox2_pubsub.specs.Live.{A_sample, IsLiveSample, IsSampleKey, SampleHasHeader, received_sample, sample_key};
+ghost use Rattle.iox2_pubsub.specs.Slices.{SampleHasValues};
+ghost use Rattle.iox2_c.specs.Numbers.{IsHeader, named_sample, wide};
+ghost use Rattle.iox2_c.specs.Serving.{ServesBut};
+
+use crate::numbers::{HeaderNumbers, SampleNumbers};
+use crate::service::{BytesDomain, Service};
+use crate::starts::start_of;
+use crate::status::{NOT_LIVE, OK, TOO_SMALL};
+use iox2_pubsub::slice::Sample;
+
+/// A handle of a sample that wasn't released.
+pub fn live_sample(domain: &BytesDomain, numbers: &SampleNumbers) -> Option<Sample>
+    ensures live { IfSome result (λ it. IsLiveSample domain.now (as_sample it)) }
+    ensures named { IfSome result (λ it. sample_key (as_sample it) ≡ named_sample numbers.now) }
+    ensures none { IfNone result (IsSampleKey domain.now (named_sample numbers.now) → ⊥) }
+{
+    let handle = domain.sample_of(&numbers.parts())?;
+    Some(Sample::new(handle))
+}
+
+/// Where the bytes of a sample lie.
+pub fn payload(
+    service: &Service,
+    numbers: &SampleNumbers,
+    out: &mut *const u8,
+    len: &mut usize,
+) -> u32
+    ensures code { (result ≡ 0) ⊎ ((result ≡ 2) × (IsSampleKey service.now.domain (named_sample numbers.now) → ⊥)) }
+    ensures live { result ≡ 0 → IsSampleKey service.now.domain (named_sample numbers.now) }
+    ensures length { result ≡ 0 → (values : List ℕ) → SampleHasValues service.now.domain (named_sample numbers.now) values → len.new ≡ length values }
+    ensures same { 0 < result → len.new ≡ len.old }
+{
+    let Some(sample) = live_sample(&service.domain, numbers) else {
+        return NOT_LIVE;
+    };
+    let bytes = sample.payload(&service.domain);
+    *out = start_of(bytes);
+    *len = bytes.len();
+    sample.disown();
+    OK
+}
+
+/// Copies the bytes of a sample. Where there are more than there is room for, says how many there are.
+pub fn copy(service: &Service, numbers: &SampleNumbers, bytes: &mut [u8], len: &mut usize) -> u32
+    ensures code { (result ≡ 0) ⊎ (result ≡ 9) ⊎ ((result ≡ 2) × (IsSampleKey service.now.domain (named_sample numbers.now) → ⊥)) }
+    ensures live { result ≢ 2 → IsSampleKey service.now.domain (named_sample numbers.now) }
+    ensures copied { result ≡ 0 → (values : List ℕ) → SampleHasValues service.now.domain (named_sample numbers.now) values → take len.new bytes.new ≡ values }
+    ensures length { result ≢ 2 → (values : List ℕ) → SampleHasValues service.now.domain (named_sample numbers.now) values → len.new ≡ length values }
+    ensures small { (result ≡ 9) → length bytes.old < len.new }
+    ensures same { 0 < result → bytes.new ≡ bytes.old }
+{
+    let Some(sample) = live_sample(&service.domain, numbers) else {
+        return NOT_LIVE;
+    };
+    let from = sample.payload(&service.domain);
+    sample.disown();
+    *len = from.len();
+    copy_bytes(from, bytes)
+}
+
+// Copies the bytes where there is room for them.
+fn copy_bytes(from: &[u8], bytes: &mut [u8]) -> u32
+    ensures copied { result ≡ 0 → take (length from.now) bytes.new ≡ from.now }
+    ensures small { (result ≡ 9) → length bytes.old < length from.now }
+    ensures same { 0 < result → bytes.new ≡ bytes.old }
+    ensures code { (result ≡ 0) ⊎ (result ≡ 9) }
+{
+    if from.len() > bytes.len() {
+        return TOO_SMALL;
+    }
+    bytes[..from.len()].copy_from_slice(from);
+    OK
+}
+
+/// Copies the bytes of a live sample and releases it. Where there are more than there is room for, it
+/// stays, and its numbers are handed out.
+pub fn copy_out(
+    service: &mut Service,
+    sample: Sample,
+    bytes: &mut [u8],
+    len: &mut usize,
+    out: &mut SampleNumbers,
+) -> u32
+    requires { IsLiveSample service.old.domain (as_sample sample) }
+    ensures code { (result ≡ 0) ⊎ (result ≡ 9) }
+    ensures live { result ≡ 9 → IsSampleKey service.new.domain (named_sample out.new) }
+    ensures same { 0 < result → bytes.new ≡ bytes.old }
+    ensures stays { ServesBut (received_sample (as_sample sample)) service.old service.new }
+{
+    let from = sample.payload(&service.domain);
+    *len = from.len();
+    let code = copy_bytes(from, bytes);
+    if code == OK {
+        sample.release(&mut service.domain);
+    } else {
+        *out = SampleNumbers::of(sample.into_inner().into_parts());
+    }
+    code
+}
+
+/// Where the message of a sample comes from.
+pub fn header(service: &Service, numbers: &SampleNumbers, out: &mut HeaderNumbers) -> u32
+    ensures code { (result ≡ 0) ⊎ ((result ≡ 2) × (IsSampleKey service.now.domain (named_sample numbers.now) → ⊥)) }
+    ensures live { result ≡ 0 → IsSampleKey service.now.domain (named_sample numbers.now) }
+    ensures reads { result ≡ 0 → (header : Header) → SampleHasHeader service.now.domain (named_sample numbers.now) header → IsHeader header out.new }
+    ensures same { 0 < result → out.new ≡ out.old }
+{
+    let Some(sample) = live_sample(&service.domain, numbers) else {
+        return NOT_LIVE;
+    };
+    *out = HeaderNumbers::of(sample.header(&service.domain));
+    sample.disown();
+    OK
+}
+
+/// Gives a message back.
+pub fn release(service: &mut Service, numbers: &SampleNumbers) -> u32
+    ensures code { (result ≡ 0) ⊎ ((result ≡ 2) × (IsSampleKey service.old.domain (named_sample numbers.now) → ⊥)) }
+    ensures live { result ≡ 0 → IsSampleKey service.old.domain (named_sample numbers.now) }
+    ensures spent { IsSampleKey service.new.domain (named_sample numbers.now) → ⊥ }
+    ensures refused { 0 < result → service.new ≡ service.old }
+    ensures stays { ServesBut (A_sample (wide (numbers.now).subscriber) (wide (numbers.now).number)) service.old service.new }
+{
+    let Some(sample) = live_sample(&service.domain, numbers) else {
+        return NOT_LIVE;
+    };
+    sample.release(&mut service.domain);
+    OK
+}

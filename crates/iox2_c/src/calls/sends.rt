@@ -1,0 +1,119 @@
+//! Sends, and those that wait.
+ghost use Rattle.std.specs.Prelude.{◌≡◌, ◌<◌, ◌⊎◌, nat_eq, IfOk};
+ghost use Rattle.iox2_pubsub.specs.Live.{A_blocked_send, A_sent_copy, A_sent_loan, IsBlockedKey, IsLoanKey, blocked_key};
+ghost use Rattle.iox2_pubsub.specs.SendCalls.{IfBlocked};
+ghost use Rattle.iox2_c.specs.Calls.{IsOut, IsReady, RefusesPublisher, RefusesSend};
+ghost use Rattle.iox2_c.specs.Codes.{receivers_of, sent_code};
+ghost use Rattle.iox2_c.specs.Numbers.{named_loan, named_publisher, wide};
+ghost use Rattle.iox2_c.specs.Serving.{ServesBut};
+
+use crate::calls::loans::written_loan;
+use crate::calls::publishers::ready_publisher;
+use crate::numbers::{LoanNumbers, PublisherNumbers};
+use crate::service::Service;
+use crate::status::{BLOCKED, NOT_LIVE, OK, PUBLISHER_IS_BLOCKED, loan_status, send_status};
+use iox2_pubsub::{SendError, SendOutcome};
+use std::time::Duration;
+
+// What came of a send: its code, and how many took the message or the numbers of the send that waits.
+fn tell(
+    sent: Result<SendOutcome, SendError>,
+    receivers: &mut usize,
+    blocked: &mut LoanNumbers,
+) -> u32
+    ensures code { result ≡ sent_code sent }
+    ensures receivers { receivers.new ≡ receivers_of receivers.old sent }
+    ensures blocked { IfOk sent (λ outcome. IfBlocked outcome (λ it. named_loan blocked.new ≡ blocked_key it)) }
+{
+    match sent {
+        Ok(SendOutcome::Delivered(count)) => {
+            *receivers = count;
+            OK
+        }
+        Ok(SendOutcome::Blocked(waiting)) => {
+            *blocked = LoanNumbers::of(waiting.into_parts());
+            BLOCKED
+        }
+        Err(error) => send_status(error),
+    }
+}
+
+/// Sends a loan, and says how many subscribers took it.
+pub fn send(
+    service: &mut Service,
+    numbers: &LoanNumbers,
+    receivers: &mut usize,
+    blocked: &mut LoanNumbers,
+) -> u32
+    ensures code { result ≡ 1 → ⊥ }
+    ensures waits { result ≡ 6 → IsBlockedKey service.new.domain (named_loan blocked.new) × (named_loan blocked.new ≡ named_loan numbers.now) }
+    ensures stays { ServesBut (A_sent_loan (wide (numbers.now).number) (wide (numbers.now).publisher) (nat_eq result 6)) service.old service.new }
+{
+    let Some(loan) = written_loan(&service.domain, numbers) else {
+        return NOT_LIVE;
+    };
+    if loan.is_blocked(&service.domain) {
+        loan.disown();
+        return PUBLISHER_IS_BLOCKED;
+    }
+    tell(loan.send(&mut service.domain), receivers, blocked)
+}
+
+/// Sends a copy of the bytes, and says how many subscribers took it.
+pub fn send_copy(
+    service: &mut Service,
+    numbers: &PublisherNumbers,
+    bytes: &[u8],
+    receivers: &mut usize,
+    blocked: &mut LoanNumbers,
+) -> u32
+    ensures code { result ≡ 1 → ⊥ }
+    ensures stays { ServesBut (A_sent_copy (wide (numbers.now).id) (nat_eq result 6)) service.old service.new }
+{
+    let publisher = match ready_publisher(&service.domain, numbers) {
+        Ok(publisher) => publisher,
+        Err(code) => return code,
+    };
+    let lent = publisher.loan_slice_uninit(&mut service.domain, bytes.len());
+    publisher.disown();
+    match lent {
+        Ok(loan) => {
+            let message = loan.write_from_slice(&mut service.domain, bytes);
+            tell(message.send(&mut service.domain), receivers, blocked)
+        }
+        Err(error) => loan_status(error),
+    }
+}
+
+/// Tries a send again that waits.
+pub fn retry(
+    service: &mut Service,
+    numbers: &LoanNumbers,
+    elapsed: u64,
+    receivers: &mut usize,
+) -> u32
+    ensures code { result ≡ 1 → ⊥ }
+    ensures not_live { result ≡ 2 → (IsBlockedKey service.old.domain (named_loan numbers.now) → ⊥) × (service.new ≡ service.old) }
+    ensures stays { ServesBut (A_blocked_send (wide (numbers.now).publisher)) service.old service.new }
+{
+    let Some(waiting) = service.domain.blocked_of(&numbers.parts()) else {
+        return NOT_LIVE;
+    };
+    let mut still = *numbers;
+    let end = waiting.retry(&mut service.domain, Duration::from_nanos(elapsed));
+    tell(end, receivers, &mut still)
+}
+
+/// Gives up the subscriber for which a send waits.
+pub fn give_up(service: &mut Service, numbers: &LoanNumbers, receivers: &mut usize) -> u32
+    ensures code { result ≡ 1 → ⊥ }
+    ensures not_live { result ≡ 2 → (IsBlockedKey service.old.domain (named_loan numbers.now) → ⊥) × (service.new ≡ service.old) }
+    ensures stays { ServesBut (A_blocked_send (wide (numbers.now).publisher)) service.old service.new }
+{
+    let Some(waiting) = service.domain.blocked_of(&numbers.parts()) else {
+        return NOT_LIVE;
+    };
+    let mut still = *numbers;
+    let end = waiting.give_up(&mut service.domain);
+    tell(end, receivers, &mut still)
+}

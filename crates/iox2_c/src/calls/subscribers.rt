@@ -1,0 +1,150 @@
+//! The calls of subscribers.
+ghost use Rattle.std.specs.Prelude.{◌≡◌, ◌<◌, ◌⊎◌, IfErr, IfNone, IfOk, IfSome};
+ghost use Rattle.iox2_pubsub.specs.Handles.{as_subscriber};
+ghost use Rattle.iox2_pubsub.specs.Live.{A_sample, A_subscriber, IsLiveSubscriber, IsNewIn, IsSampleKey, IsSubscriberKey, No_item, subscriber_key};
+ghost use Rattle.iox2_c.specs.Codes.{code_of, subscriber_code};
+ghost use Rattle.iox2_c.specs.Numbers.{named_sample, named_subscriber, wide};
+ghost use Rattle.iox2_c.specs.Serving.{ServesBut};
+
+use crate::calls::samples::copy_out;
+use crate::numbers::{SampleNumbers, SubscriberNumbers};
+use crate::options::{SubscriberOptions, degradation_of};
+use crate::service::{BytesDomain, Service};
+use crate::starts::start_of;
+use crate::status::{INVALID_SETTINGS, NO_SAMPLE, NOT_LIVE, OK, receive_status, subscriber_status};
+use iox2_pubsub::SubscriberCreateError;
+use iox2_pubsub::slice::Subscriber;
+
+/// Makes a subscriber, as the settings say.
+pub fn create(service: &mut Service, out: &mut SubscriberNumbers) -> u32
+    ensures code { result ≡ 1 → ⊥ }
+    ensures live { result ≡ 0 → IsSubscriberKey service.new.domain (named_subscriber out.new) }
+    ensures new { result ≡ 0 → IsNewIn service.old.domain (A_subscriber (wide (out.new).id)) }
+    ensures same { 0 < result → out.new ≡ out.old }
+    ensures stays { ServesBut No_item service.old service.new }
+{
+    let factory = service.domain.slice_subscriber_builder();
+    tell(factory.create(&mut service.domain), out)
+}
+
+// What came of a subscriber: its code, and its numbers where it was made.
+fn tell(made: Result<Subscriber, SubscriberCreateError>, out: &mut SubscriberNumbers) -> u32
+    ensures code { result ≡ code_of subscriber_code made }
+    ensures named { IfOk made (λ it. named_subscriber out.new ≡ subscriber_key (as_subscriber it)) }
+    ensures same { IfErr made (λ _. out.new ≡ out.old) }
+{
+    match made {
+        Ok(subscriber) => {
+            *out = SubscriberNumbers::of(subscriber.into_inner().into_parts());
+            OK
+        }
+        Err(error) => subscriber_status(error),
+    }
+}
+
+/// Makes a subscriber with these options.
+pub fn create_with(
+    service: &mut Service,
+    options: &SubscriberOptions,
+    out: &mut SubscriberNumbers,
+) -> u32
+    ensures code { result ≡ 1 → ⊥ }
+    ensures live { result ≡ 0 → IsSubscriberKey service.new.domain (named_subscriber out.new) }
+    ensures new { result ≡ 0 → IsNewIn service.old.domain (A_subscriber (wide (out.new).id)) }
+    ensures same { 0 < result → out.new ≡ out.old }
+    ensures invalid { result ≡ 8 → service.new ≡ service.old }
+    ensures stays { ServesBut No_item service.old service.new }
+{
+    if options.degradation >= 3 {
+        return INVALID_SETTINGS;
+    }
+    let factory = service
+        .domain
+        .slice_subscriber_builder()
+        .buffer_size(options.buffer_size)
+        .set_degradation_handler(degradation_of(options.degradation));
+    tell(factory.create(&mut service.domain), out)
+}
+
+/// A handle of a subscriber that wasn't closed.
+pub fn live_subscriber(domain: &BytesDomain, numbers: &SubscriberNumbers) -> Option<Subscriber>
+    ensures live { IfSome result (λ it. IsLiveSubscriber domain.now (as_subscriber it)) }
+    ensures named { IfSome result (λ it. subscriber_key (as_subscriber it) ≡ named_subscriber numbers.now) }
+    ensures none { IfNone result (IsSubscriberKey domain.now (named_subscriber numbers.now) → ⊥) }
+{
+    let handle = domain.subscriber_of(&numbers.parts())?;
+    Some(Subscriber::new(handle))
+}
+
+/// Closes a subscriber.
+pub fn close(service: &mut Service, numbers: &SubscriberNumbers) -> u32
+    ensures code { (result ≡ 0) ⊎ ((result ≡ 2) × (IsSubscriberKey service.old.domain (named_subscriber numbers.now) → ⊥)) }
+    ensures live { result ≡ 0 → IsSubscriberKey service.old.domain (named_subscriber numbers.now) }
+    ensures spent { IsSubscriberKey service.new.domain (named_subscriber numbers.now) → ⊥ }
+    ensures refused { 0 < result → service.new ≡ service.old }
+    ensures stays { ServesBut (A_subscriber (wide (numbers.now).id)) service.old service.new }
+{
+    let Some(subscriber) = live_subscriber(&service.domain, numbers) else {
+        return NOT_LIVE;
+    };
+    subscriber.close(&mut service.domain);
+    OK
+}
+
+/// Receives a message, and says where its bytes lie.
+pub fn receive(
+    service: &mut Service,
+    numbers: &SubscriberNumbers,
+    out: &mut SampleNumbers,
+    payload: &mut *const u8,
+    len: &mut usize,
+) -> u32
+    ensures code { result ≡ 1 → ⊥ }
+    ensures live { result ≡ 0 → IsSampleKey service.new.domain (named_sample out.new) }
+    ensures new { result ≡ 0 → IsNewIn service.old.domain (A_sample (wide (out.new).subscriber) (wide (out.new).number)) }
+    ensures same { 0 < result → out.new ≡ out.old }
+    ensures stays { ServesBut No_item service.old service.new }
+{
+    let Some(subscriber) = live_subscriber(&service.domain, numbers) else {
+        return NOT_LIVE;
+    };
+    let received = subscriber.receive(&mut service.domain);
+    subscriber.disown();
+    match received {
+        Ok(Some(sample)) => {
+            let bytes = sample.payload(&service.domain);
+            *payload = start_of(bytes);
+            *len = bytes.len();
+            *out = SampleNumbers::of(sample.into_inner().into_parts());
+            OK
+        }
+        Ok(None) => NO_SAMPLE,
+        Err(error) => receive_status(error),
+    }
+}
+
+/// Receives a message, copies its bytes and releases it. Where there are more bytes than there is room
+/// for, the message stays borrowed, and its numbers are handed out.
+pub fn receive_copy(
+    service: &mut Service,
+    numbers: &SubscriberNumbers,
+    bytes: &mut [u8],
+    len: &mut usize,
+    out: &mut SampleNumbers,
+) -> u32
+    ensures code { result ≡ 1 → ⊥ }
+    ensures live { result ≡ 9 → IsSampleKey service.new.domain (named_sample out.new) }
+    ensures same { 0 < result → bytes.new ≡ bytes.old }
+    ensures stays { ServesBut No_item service.old service.new }
+{
+    let Some(subscriber) = live_subscriber(&service.domain, numbers) else {
+        return NOT_LIVE;
+    };
+    let received = subscriber.receive(&mut service.domain);
+    subscriber.disown();
+    match received {
+        Ok(Some(sample)) => copy_out(service, sample, bytes, len, out),
+        Ok(None) => NO_SAMPLE,
+        Err(error) => receive_status(error),
+    }
+}

@@ -1,0 +1,129 @@
+//! The settings of a domain.
+ghost use Rattle.std.specs.Prelude.{◌≡◌, ◌<◌, ◌↔◌, IsTrue};
+ghost use Rattle.iox2_c.specs.Codes.{strategy_numbered};
+ghost use Rattle.iox2_c.specs.Settings.{AreValid, IsAlignment, settings_of};
+
+use crate::numbers::Wide;
+use iox2_pubsub::{AllocationStrategy, BackpressureStrategy, ServiceConfig, TypeVariant};
+
+/// The settings that C may choose.
+#[repr(C)]
+#[derive(Clone, Copy)]
+pub struct Config {
+    /// Names the domain.
+    pub service_id: Wide,
+    /// What the header of each message names.
+    pub node_id: Wide,
+    /// How many bytes a message of a publisher may have, where its options say nothing else.
+    pub payload_size: usize,
+    /// To what each payload is aligned.
+    pub payload_alignment: usize,
+    /// How many publishers may be open at a time.
+    pub max_publishers: usize,
+    /// How many subscribers there may be at a time.
+    pub max_subscribers: usize,
+    /// How many messages of one publisher may wait for one subscriber.
+    pub subscriber_max_buffer_size: usize,
+    /// How many samples of one publisher a subscriber may hold.
+    pub subscriber_max_borrowed_samples: usize,
+    /// How many of its last messages a publisher keeps for later subscribers.
+    pub history_size: usize,
+    /// How many connections to closed publishers a subscriber keeps.
+    pub subscriber_expired_connection_buffer: usize,
+    /// How many loans of a publisher may be out at a time.
+    pub publisher_max_loaned_samples: usize,
+    /// Whether a message that finds a full buffer pushes the oldest waiting one out: not if 0.
+    pub enable_safe_overflow: u32,
+    /// What a publisher does at a full buffer, as a number.
+    pub backpressure_strategy: u32,
+}
+
+impl Config {
+    /// The defaults of a domain with this id, for messages of so many bytes.
+    pub fn defaults(service_id: u128, payload_size: usize, payload_alignment: usize) -> Config {
+        Config::of(
+            &ServiceConfig::new(service_id),
+            payload_size,
+            payload_alignment,
+        )
+    }
+
+    /// The settings of a domain for messages of so many bytes.
+    pub fn of(config: &ServiceConfig, payload_size: usize, payload_alignment: usize) -> Config {
+        Config {
+            service_id: Wide::of(config.service_id),
+            node_id: Wide::of(config.node_id),
+            payload_size,
+            payload_alignment,
+            max_publishers: config.max_publishers,
+            max_subscribers: config.max_subscribers,
+            subscriber_max_buffer_size: config.subscriber_max_buffer_size,
+            subscriber_max_borrowed_samples: config.subscriber_max_borrowed_samples,
+            history_size: config.history_size,
+            subscriber_expired_connection_buffer: config.subscriber_expired_connection_buffer,
+            publisher_max_loaned_samples: config.publisher_max_loaned_samples,
+            enable_safe_overflow: config.enable_safe_overflow as u32,
+            backpressure_strategy: strategy_number(config.backpressure_strategy),
+        }
+    }
+
+    /// The settings as the library takes them.
+    pub fn service_config(&self) -> ServiceConfig
+        ensures { result ≡ settings_of self.now }
+    {
+        ServiceConfig {
+            service_id: self.service_id.get(),
+            node_id: self.node_id.get(),
+            variant: TypeVariant::Dynamic,
+            units_per_element: 1,
+            max_publishers: self.max_publishers,
+            max_subscribers: self.max_subscribers,
+            subscriber_max_buffer_size: self.subscriber_max_buffer_size,
+            subscriber_max_borrowed_samples: self.subscriber_max_borrowed_samples,
+            history_size: self.history_size,
+            enable_safe_overflow: self.enable_safe_overflow != 0,
+            subscriber_expired_connection_buffer: self.subscriber_expired_connection_buffer,
+            publisher_max_loaned_samples: self.publisher_max_loaned_samples,
+            backpressure_strategy: strategy_of(self.backpressure_strategy),
+            publisher_allocation_strategy: AllocationStrategy::Static,
+        }
+    }
+
+    /// Whether a domain can have the settings.
+    pub fn are_valid(&self) -> bool
+        ensures { IsTrue result ↔ AreValid self.now }
+    {
+        is_alignment(self.payload_alignment)
+            && self.payload_size % self.payload_alignment == 0
+            && self.backpressure_strategy < 2
+    }
+}
+
+/// Whether payloads can be aligned so.
+pub fn is_alignment(value: usize) -> bool
+    ensures { IsTrue result ↔ IsAlignment value }
+{
+    matches!(value, 1 | 2 | 4 | 8 | 16)
+}
+
+/// The strategy with this number.
+pub fn strategy_of(number: u32) -> BackpressureStrategy
+    ensures { result ≡ strategy_numbered number }
+{
+    if number == 1 {
+        BackpressureStrategy::DiscardData
+    } else {
+        BackpressureStrategy::RetryUntilDelivered
+    }
+}
+
+/// The strategy's number.
+pub fn strategy_number(strategy: BackpressureStrategy) -> u32
+    ensures named { strategy_numbered result ≡ strategy }
+    ensures valid { result < 2 }
+{
+    match strategy {
+        BackpressureStrategy::RetryUntilDelivered => 0,
+        BackpressureStrategy::DiscardData => 1,
+    }
+}

@@ -1,0 +1,93 @@
+//! The exports of domains.
+ghost use Rattle.std.specs.Prelude.{◌≡◌, ◌≢◌, ◌<◌, ◌↔◌, IsTrue, None, Some};
+ghost use Rattle.iox2_store.specs.machine.Limits.{fits, worst_case};
+ghost use Rattle.iox2_store.specs.machine.State.{fresh, no_messages};
+ghost use Rattle.iox2_domain.specs.Shows.{Shows};
+ghost use Rattle.iox2_c.specs.Boxed.{Knows};
+ghost use Rattle.iox2_c.specs.Settings.{AreValid, settings_of};
+
+use crate::config::Config;
+use crate::domain_box::DomainBox;
+use crate::options::{PublisherOptions, SubscriberOptions};
+use crate::service::Service;
+use crate::status::{HAS_DOMAIN, INVALID_SETTINGS, NO_DOMAIN, OK, OUT_OF_MEMORY};
+use iox2_pubsub::worst_case_slots;
+use std::alloc::Global;
+
+/// Writes the defaults of a domain with this id, for messages of so many bytes.
+#[unsafe(no_mangle)]
+pub extern "C" fn iox2_config_defaults(
+    config: &mut Config,
+    service_id: u64,
+    payload_size: usize,
+    payload_alignment: usize,
+) {
+    *config = Config::defaults(service_id as u128, payload_size, payload_alignment);
+}
+
+/// Writes what a publisher has that is made without options.
+#[unsafe(no_mangle)]
+pub extern "C" fn iox2_publisher_options_of(config: &Config, options: &mut PublisherOptions) {
+    *options = PublisherOptions::of(config);
+}
+
+/// Writes what a subscriber has that is made without options.
+#[unsafe(no_mangle)]
+pub extern "C" fn iox2_subscriber_options_of(config: &Config, options: &mut SubscriberOptions) {
+    *options = SubscriberOptions::of(config);
+}
+
+/// How many slots a publisher with so many loans has.
+#[unsafe(no_mangle)]
+pub extern "C" fn iox2_worst_case_slots(config: &Config, loans: usize, slots: &mut usize) -> u32
+    ensures slots { result ≡ 0 → slots.new ≡ worst_case (settings_of config.now) loans }
+    ensures fits { (result ≡ 0) ↔ IsTrue (fits (worst_case (settings_of config.now) loans)) }
+    ensures same { 0 < result → slots.new ≡ slots.old }
+{
+    match worst_case_slots(&config.service_config(), loans) {
+        Some(count) => {
+            *slots = count;
+            OK
+        }
+        None => INVALID_SETTINGS,
+    }
+}
+
+/// Makes a domain where there is none.
+#[unsafe(no_mangle)]
+pub extern "C" fn iox2_domain_create(alloc: Global, domain: &mut DomainBox, config: &Config) -> u32
+    ensures fresh { result ≡ 0 → Knows (λ kept. Shows kept no_messages (fresh (settings_of config.now))) domain.new.service }
+    ensures valid { result ≡ 0 → AreValid config.now }
+    ensures was_none { result ≡ 0 → domain.old.service ≡ None }
+    ensures there { (result ≡ 5) ↔ (domain.old.service ≢ None) }
+    ensures invalid { result ≡ 8 → AreValid config.now → ⊥ }
+    ensures refused { 0 < result → domain.new.service ≡ domain.old.service }
+{
+    if let Some(boxed) = domain.take(alloc) {
+        domain.put(boxed);
+        return HAS_DOMAIN;
+    }
+    if !config.are_valid() {
+        return INVALID_SETTINGS;
+    }
+    let Some(service) = Service::new(alloc, config) else {
+        return OUT_OF_MEMORY;
+    };
+    let Ok(boxed) = Box::new(alloc, service) else {
+        return OUT_OF_MEMORY;
+    };
+    domain.put(boxed);
+    OK
+}
+
+/// Frees the domain, with all that is in it.
+#[unsafe(no_mangle)]
+pub extern "C" fn iox2_domain_destroy(alloc: Global, domain: &mut DomainBox) -> u32
+    ensures gone { domain.new.service ≡ None }
+    ensures no_domain { (result ≡ 1) ↔ (domain.old.service ≡ None) }
+{
+    match domain.take(alloc) {
+        Some(_) => OK,
+        None => NO_DOMAIN,
+    }
+}

@@ -1,0 +1,57 @@
+//! The exports of loans.
+ghost use Rattle.std.specs.Prelude.{◌≡◌, ◌<◌, ◌↔◌, None};
+ghost use Rattle.iox2_pubsub.specs.Live.{A_loan, IsLoanKey};
+ghost use Rattle.iox2_c.specs.Boxed.{HoldsOn, Knows, KnowsNo};
+ghost use Rattle.iox2_c.specs.Calls.{IsOut, RefusesLoan};
+ghost use Rattle.iox2_c.specs.Numbers.{named_loan, wide};
+
+use crate::calls::loans;
+use crate::domain_box::DomainBox;
+use crate::numbers::LoanNumbers;
+use crate::status::NO_DOMAIN;
+use std::alloc::Global;
+
+/// Gives a loan back unsent.
+#[unsafe(no_mangle)]
+pub extern "C" fn iox2_loan_discard(
+    alloc: Global,
+    domain: &mut DomainBox,
+    loan: &LoanNumbers,
+) -> u32
+    ensures no_domain { (result ≡ 1) ↔ (domain.old.service ≡ None) }
+    ensures out { result ≡ 0 → Knows (λ kept. IsOut kept (named_loan loan.now)) domain.old.service }
+    ensures spent { result ≡ 0 → KnowsNo (λ kept. IsLoanKey kept (named_loan loan.now)) domain.new.service }
+    ensures why { 1 < result → Knows (λ kept. RefusesLoan kept (named_loan loan.now) result) domain.old.service }
+    ensures refused { 0 < result → domain.new.service ≡ domain.old.service }
+    ensures stays { HoldsOn (A_loan (wide (loan.now).number)) domain.old.service domain.new.service }
+{
+    let Some(mut boxed) = domain.take(alloc) else {
+        return NO_DOMAIN;
+    };
+    let code = loans::discard(&mut boxed, loan);
+    domain.put(boxed);
+    code
+}
+
+/// Where the bytes of a loan lie, until it is sent or given back.
+#[unsafe(no_mangle)]
+pub extern "C" fn iox2_loan_payload(
+    alloc: Global,
+    domain: &mut DomainBox,
+    loan: &LoanNumbers,
+    payload: &mut *mut u8,
+    len: &mut usize,
+) -> u32
+    ensures no_domain { (result ≡ 1) ↔ (domain.old.service ≡ None) }
+    ensures out { result ≡ 0 → Knows (λ kept. IsOut kept (named_loan loan.now)) domain.old.service }
+    ensures why { 1 < result → Knows (λ kept. RefusesLoan kept (named_loan loan.now) result) domain.old.service }
+    ensures same { 0 < result → len.new ≡ len.old }
+    ensures unchanged { domain.new.service ≡ domain.old.service }
+{
+    let Some(boxed) = domain.take(alloc) else {
+        return NO_DOMAIN;
+    };
+    let code = loans::payload(&boxed, loan, payload, len);
+    domain.put(boxed);
+    code
+}

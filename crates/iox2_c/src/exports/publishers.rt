@@ -1,0 +1,100 @@
+//! The exports of publishers.
+ghost use Rattle.std.specs.Prelude.{◌≡◌, ◌<◌, ◌↔◌, None};
+ghost use Rattle.iox2_pubsub.specs.Live.{A_publisher, IsPublisherKey, No_item};
+ghost use Rattle.iox2_c.specs.Boxed.{HoldsOn, Knows, KnowsNo};
+ghost use Rattle.iox2_c.specs.Calls.{IsOut, IsReady, RefusesPublisher};
+ghost use Rattle.iox2_c.specs.Numbers.{named_loan, named_publisher, wide};
+
+use crate::calls::publishers;
+use crate::domain_box::DomainBox;
+use crate::numbers::{LoanNumbers, PublisherNumbers};
+use crate::options::PublisherOptions;
+use crate::status::NO_DOMAIN;
+use std::alloc::Global;
+
+/// Makes a publisher, as the settings say.
+#[unsafe(no_mangle)]
+pub extern "C" fn iox2_publisher_create(
+    alloc: Global,
+    domain: &mut DomainBox,
+    publisher: &mut PublisherNumbers,
+) -> u32
+    ensures no_domain { (result ≡ 1) ↔ (domain.old.service ≡ None) }
+    ensures ready { result ≡ 0 → Knows (λ kept. IsReady kept (named_publisher publisher.new)) domain.new.service }
+    ensures same { 0 < result → publisher.new ≡ publisher.old }
+    ensures stays { HoldsOn No_item domain.old.service domain.new.service }
+{
+    let Some(mut boxed) = domain.take(alloc) else {
+        return NO_DOMAIN;
+    };
+    let code = publishers::create(&mut boxed, publisher);
+    domain.put(boxed);
+    code
+}
+
+/// Makes a publisher with these options.
+#[unsafe(no_mangle)]
+pub extern "C" fn iox2_publisher_create_with(
+    alloc: Global,
+    domain: &mut DomainBox,
+    options: &PublisherOptions,
+    publisher: &mut PublisherNumbers,
+) -> u32
+    ensures no_domain { (result ≡ 1) ↔ (domain.old.service ≡ None) }
+    ensures ready { result ≡ 0 → Knows (λ kept. IsReady kept (named_publisher publisher.new)) domain.new.service }
+    ensures same { 0 < result → publisher.new ≡ publisher.old }
+    ensures invalid { result ≡ 8 → domain.new.service ≡ domain.old.service }
+    ensures stays { HoldsOn No_item domain.old.service domain.new.service }
+{
+    let Some(mut boxed) = domain.take(alloc) else {
+        return NO_DOMAIN;
+    };
+    let code = publishers::create_with(&mut boxed, options, publisher);
+    domain.put(boxed);
+    code
+}
+
+/// Closes a publisher.
+#[unsafe(no_mangle)]
+pub extern "C" fn iox2_publisher_close(
+    alloc: Global,
+    domain: &mut DomainBox,
+    publisher: &PublisherNumbers,
+) -> u32
+    ensures no_domain { (result ≡ 1) ↔ (domain.old.service ≡ None) }
+    ensures ready { result ≡ 0 → Knows (λ kept. IsReady kept (named_publisher publisher.now)) domain.old.service }
+    ensures spent { result ≡ 0 → KnowsNo (λ kept. IsPublisherKey kept (named_publisher publisher.now)) domain.new.service }
+    ensures why { 1 < result → Knows (λ kept. RefusesPublisher kept (named_publisher publisher.now) result) domain.old.service }
+    ensures refused { 0 < result → domain.new.service ≡ domain.old.service }
+    ensures stays { HoldsOn (A_publisher (wide (publisher.now).id)) domain.old.service domain.new.service }
+{
+    let Some(mut boxed) = domain.take(alloc) else {
+        return NO_DOMAIN;
+    };
+    let code = publishers::close(&mut boxed, publisher);
+    domain.put(boxed);
+    code
+}
+
+/// Lends a message of so many bytes, each of which is 0, and says where they lie.
+#[unsafe(no_mangle)]
+pub extern "C" fn iox2_publisher_loan(
+    alloc: Global,
+    domain: &mut DomainBox,
+    publisher: &PublisherNumbers,
+    len: usize,
+    loan: &mut LoanNumbers,
+    payload: &mut *mut u8,
+) -> u32
+    ensures no_domain { (result ≡ 1) ↔ (domain.old.service ≡ None) }
+    ensures out { result ≡ 0 → Knows (λ kept. IsOut kept (named_loan loan.new)) domain.new.service }
+    ensures same { 0 < result → loan.new ≡ loan.old }
+    ensures stays { HoldsOn No_item domain.old.service domain.new.service }
+{
+    let Some(mut boxed) = domain.take(alloc) else {
+        return NO_DOMAIN;
+    };
+    let code = publishers::loan(&mut boxed, publisher, len, loan, payload);
+    domain.put(boxed);
+    code
+}

@@ -1,0 +1,209 @@
+//! The exports of questions.
+ghost use Rattle.std.specs.Prelude.{◌≡◌, ◌<◌, ◌↔◌, None};
+ghost use Rattle.iox2_pubsub.specs.Live.{IsPublisherKey, No_item};
+ghost use Rattle.iox2_c.specs.Boxed.{HoldsOn, Knows};
+ghost use Rattle.iox2_c.specs.Numbers.{named_publisher};
+
+use crate::calls::questions;
+use crate::config::Config;
+use crate::domain_box::DomainBox;
+use crate::numbers::{PublisherNumbers, SubscriberNumbers};
+use crate::status::NO_DOMAIN;
+use crate::texts::text_of;
+use crate::warning::WarningNumbers;
+use std::alloc::Global;
+use std::ptr;
+
+/// The text of a code or of a warning's kind, which ends in a zero byte, and its length without that.
+#[unsafe(no_mangle)]
+pub extern "C" fn iox2_error_text_at(code: u32, text: &mut *const u8, len: &mut usize) {
+    let bytes = text_of(code);
+    *text = ptr::from_ref(&bytes[0]);
+    *len = bytes.len() - 1;
+}
+
+/// Makes and removes a publisher's connections.
+#[unsafe(no_mangle)]
+pub extern "C" fn iox2_publisher_update_connections(
+    alloc: Global,
+    domain: &mut DomainBox,
+    publisher: &PublisherNumbers,
+) -> u32
+    ensures no_domain { (result ≡ 1) ↔ (domain.old.service ≡ None) }
+    ensures stays { HoldsOn No_item domain.old.service domain.new.service }
+{
+    let Some(mut boxed) = domain.take(alloc) else {
+        return NO_DOMAIN;
+    };
+    let code = questions::update_publisher(&mut boxed, publisher);
+    domain.put(boxed);
+    code
+}
+
+/// Makes and removes a subscriber's connections.
+#[unsafe(no_mangle)]
+pub extern "C" fn iox2_subscriber_update_connections(
+    alloc: Global,
+    domain: &mut DomainBox,
+    subscriber: &SubscriberNumbers,
+) -> u32
+    ensures no_domain { (result ≡ 1) ↔ (domain.old.service ≡ None) }
+    ensures stays { HoldsOn No_item domain.old.service domain.new.service }
+{
+    let Some(mut boxed) = domain.take(alloc) else {
+        return NO_DOMAIN;
+    };
+    let code = questions::update_subscriber(&mut boxed, subscriber);
+    domain.put(boxed);
+    code
+}
+
+/// Whether a message waits for a subscriber, after an update of its connections.
+#[unsafe(no_mangle)]
+pub extern "C" fn iox2_subscriber_has_samples(
+    alloc: Global,
+    domain: &mut DomainBox,
+    subscriber: &SubscriberNumbers,
+    waits: &mut u32,
+) -> u32
+    ensures no_domain { (result ≡ 1) ↔ (domain.old.service ≡ None) }
+    ensures same { 0 < result → waits.new ≡ waits.old }
+    ensures stays { HoldsOn No_item domain.old.service domain.new.service }
+{
+    let Some(mut boxed) = domain.take(alloc) else {
+        return NO_DOMAIN;
+    };
+    let code = questions::has_samples(&mut boxed, subscriber, waits);
+    domain.put(boxed);
+    code
+}
+
+/// Whether a send of a publisher waits.
+#[unsafe(no_mangle)]
+pub extern "C" fn iox2_publisher_is_blocked(
+    alloc: Global,
+    domain: &mut DomainBox,
+    publisher: &PublisherNumbers,
+    is_blocked: &mut u32,
+) -> u32
+    ensures no_domain { (result ≡ 1) ↔ (domain.old.service ≡ None) }
+    ensures same { 0 < result → is_blocked.new ≡ is_blocked.old }
+    ensures unchanged { domain.new.service ≡ domain.old.service }
+{
+    let Some(boxed) = domain.take(alloc) else {
+        return NO_DOMAIN;
+    };
+    let code = questions::is_blocked(&boxed, publisher, is_blocked);
+    domain.put(boxed);
+    code
+}
+
+/// One of the domain's last warnings, the oldest first.
+#[unsafe(no_mangle)]
+pub extern "C" fn iox2_domain_warning(
+    alloc: Global,
+    domain: &mut DomainBox,
+    index: usize,
+    warning: &mut WarningNumbers,
+) -> u32
+    ensures no_domain { (result ≡ 1) ↔ (domain.old.service ≡ None) }
+    ensures same { 0 < result → warning.new ≡ warning.old }
+    ensures unchanged { domain.new.service ≡ domain.old.service }
+{
+    let Some(boxed) = domain.take(alloc) else {
+        return NO_DOMAIN;
+    };
+    let code = questions::warning(&boxed, index, warning);
+    domain.put(boxed);
+    code
+}
+
+/// How many of its last warnings the domain has.
+#[unsafe(no_mangle)]
+pub extern "C" fn iox2_domain_warning_count(
+    alloc: Global,
+    domain: &mut DomainBox,
+    count: &mut usize,
+) -> u32
+    ensures no_domain { (result ≡ 1) ↔ (domain.old.service ≡ None) }
+    ensures unchanged { domain.new.service ≡ domain.old.service }
+{
+    let Some(boxed) = domain.take(alloc) else {
+        return NO_DOMAIN;
+    };
+    let code = questions::warning_count(&boxed, count);
+    domain.put(boxed);
+    code
+}
+
+/// How often memory for a connection was refused.
+#[unsafe(no_mangle)]
+pub extern "C" fn iox2_domain_refused_connections(
+    alloc: Global,
+    domain: &mut DomainBox,
+    count: &mut u64,
+) -> u32
+    ensures no_domain { (result ≡ 1) ↔ (domain.old.service ≡ None) }
+    ensures unchanged { domain.new.service ≡ domain.old.service }
+{
+    let Some(boxed) = domain.take(alloc) else {
+        return NO_DOMAIN;
+    };
+    let code = questions::refused_connections(&boxed, count);
+    domain.put(boxed);
+    code
+}
+
+/// How many connections the domain keeps.
+#[unsafe(no_mangle)]
+pub extern "C" fn iox2_domain_connection_count(
+    alloc: Global,
+    domain: &mut DomainBox,
+    count: &mut usize,
+) -> u32
+    ensures no_domain { (result ≡ 1) ↔ (domain.old.service ≡ None) }
+    ensures unchanged { domain.new.service ≡ domain.old.service }
+{
+    let Some(boxed) = domain.take(alloc) else {
+        return NO_DOMAIN;
+    };
+    let code = questions::connection_count(&boxed, count);
+    domain.put(boxed);
+    code
+}
+
+/// Reads the domain's settings back.
+#[unsafe(no_mangle)]
+pub extern "C" fn iox2_domain_config(
+    alloc: Global,
+    domain: &mut DomainBox,
+    config: &mut Config,
+) -> u32
+    ensures no_domain { (result ≡ 1) ↔ (domain.old.service ≡ None) }
+    ensures unchanged { domain.new.service ≡ domain.old.service }
+{
+    let Some(boxed) = domain.take(alloc) else {
+        return NO_DOMAIN;
+    };
+    let code = questions::config(&boxed, config);
+    domain.put(boxed);
+    code
+}
+
+/// How many books of slots the domain keeps.
+#[unsafe(no_mangle)]
+pub extern "C" fn iox2_domain_book_count(
+    alloc: Global,
+    domain: &mut DomainBox,
+    count: &mut usize,
+) -> u32
+    ensures no_domain { (result ≡ 1) ↔ (domain.old.service ≡ None) }
+    ensures unchanged { domain.new.service ≡ domain.old.service }
+{
+    let Some(boxed) = domain.take(alloc) else {
+        return NO_DOMAIN;
+    };
+    let code = questions::book_count(&boxed, count);
+    domain.put(boxed);
+    code
+}

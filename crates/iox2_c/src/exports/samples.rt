@@ -1,0 +1,100 @@
+//! The exports of samples.
+ghost use Rattle.std.specs.Prelude.{◌≡◌, ◌<◌, ◌↔◌, None};
+ghost use Rattle.std.specs.Prelude.{ℕ, List, take};
+ghost use Rattle.iox2_store.specs.declared.header.Header.{Header};
+ghost use Rattle.iox2_pubsub.specs.Live.{A_sample, IsSampleKey, SampleHasHeader};
+ghost use Rattle.iox2_pubsub.specs.Slices.{SampleHasValues};
+ghost use Rattle.iox2_c.specs.Boxed.{HoldsOn, Knows, KnowsNo};
+ghost use Rattle.iox2_c.specs.Numbers.{IsHeader, named_sample, wide};
+
+use crate::calls::samples;
+use crate::domain_box::DomainBox;
+use crate::numbers::{HeaderNumbers, SampleNumbers};
+use crate::status::NO_DOMAIN;
+use std::alloc::Global;
+
+/// Where the bytes of a message lie, until it is given back.
+#[unsafe(no_mangle)]
+pub extern "C" fn iox2_sample_payload(
+    alloc: Global,
+    domain: &mut DomainBox,
+    sample: &SampleNumbers,
+    payload: &mut *const u8,
+    len: &mut usize,
+) -> u32
+    ensures no_domain { (result ≡ 1) ↔ (domain.old.service ≡ None) }
+    ensures live { result ≡ 0 → Knows (λ kept. IsSampleKey kept (named_sample sample.now)) domain.old.service }
+    ensures same { 0 < result → len.new ≡ len.old }
+    ensures unchanged { domain.new.service ≡ domain.old.service }
+{
+    let Some(boxed) = domain.take(alloc) else {
+        return NO_DOMAIN;
+    };
+    let code = samples::payload(&boxed, sample, payload, len);
+    domain.put(boxed);
+    code
+}
+
+/// Copies the bytes of a message.
+#[unsafe(no_mangle)]
+pub extern "C" fn iox2_sample_copy(
+    alloc: Global,
+    domain: &mut DomainBox,
+    sample: &SampleNumbers,
+    bytes: &mut [u8],
+    len: &mut usize,
+) -> u32
+    ensures no_domain { (result ≡ 1) ↔ (domain.old.service ≡ None) }
+    ensures copied { result ≡ 0 → Knows (λ kept. (values : List ℕ) → SampleHasValues kept (named_sample sample.now) values → take len.new bytes.new ≡ values) domain.old.service }
+    ensures same { 0 < result → bytes.new ≡ bytes.old }
+    ensures unchanged { domain.new.service ≡ domain.old.service }
+{
+    let Some(boxed) = domain.take(alloc) else {
+        return NO_DOMAIN;
+    };
+    let code = samples::copy(&boxed, sample, bytes, len);
+    domain.put(boxed);
+    code
+}
+
+/// Where a message comes from.
+#[unsafe(no_mangle)]
+pub extern "C" fn iox2_sample_header(
+    alloc: Global,
+    domain: &mut DomainBox,
+    sample: &SampleNumbers,
+    header: &mut HeaderNumbers,
+) -> u32
+    ensures no_domain { (result ≡ 1) ↔ (domain.old.service ≡ None) }
+    ensures reads { result ≡ 0 → Knows (λ kept. (it : Header) → SampleHasHeader kept (named_sample sample.now) it → IsHeader it header.new) domain.old.service }
+    ensures same { 0 < result → header.new ≡ header.old }
+    ensures unchanged { domain.new.service ≡ domain.old.service }
+{
+    let Some(boxed) = domain.take(alloc) else {
+        return NO_DOMAIN;
+    };
+    let code = samples::header(&boxed, sample, header);
+    domain.put(boxed);
+    code
+}
+
+/// Gives a message back.
+#[unsafe(no_mangle)]
+pub extern "C" fn iox2_sample_release(
+    alloc: Global,
+    domain: &mut DomainBox,
+    sample: &SampleNumbers,
+) -> u32
+    ensures no_domain { (result ≡ 1) ↔ (domain.old.service ≡ None) }
+    ensures live { result ≡ 0 → Knows (λ kept. IsSampleKey kept (named_sample sample.now)) domain.old.service }
+    ensures spent { KnowsNo (λ kept. IsSampleKey kept (named_sample sample.now)) domain.new.service }
+    ensures refused { 0 < result → domain.new.service ≡ domain.old.service }
+    ensures stays { HoldsOn (A_sample (wide (sample.now).subscriber) (wide (sample.now).number)) domain.old.service domain.new.service }
+{
+    let Some(mut boxed) = domain.take(alloc) else {
+        return NO_DOMAIN;
+    };
+    let code = samples::release(&mut boxed, sample);
+    domain.put(boxed);
+    code
+}

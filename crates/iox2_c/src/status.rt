@@ -1,0 +1,118 @@
+//! What a call returns.
+ghost use Rattle.std.specs.Prelude.{◌≡◌, ◌<◌, ◌+◌};
+ghost use Rattle.iox2_c.specs.Codes.{failure_code, failure_index, loan_code, publisher_code, receive_code, send_code, subscriber_code};
+
+use iox2_pubsub::{
+    ConnectionFailure, LoanError, PublisherCreateError, ReceiveError, SendError,
+    SubscriberCreateError, ZeroCopyCreationError,
+};
+
+/// The call did what it is to do.
+pub const OK: u32 = 0;
+/// There is no domain at the pointer: none was made, or it was freed.
+pub const NO_DOMAIN: u32 = 1;
+/// The numbers name nothing that is live in the domain.
+pub const NOT_LIVE: u32 = 2;
+/// No message waits.
+pub const NO_SAMPLE: u32 = 3;
+/// Memory for the domain was refused.
+pub const OUT_OF_MEMORY: u32 = 4;
+/// There is a domain already.
+pub const HAS_DOMAIN: u32 = 5;
+/// The send waits for a subscriber whose buffer is full.
+pub const BLOCKED: u32 = 6;
+/// An earlier send of the publisher waits.
+pub const PUBLISHER_IS_BLOCKED: u32 = 7;
+/// A field of the settings has none of its values.
+pub const INVALID_SETTINGS: u32 = 8;
+/// The message is longer than the room for it.
+pub const TOO_SMALL: u32 = 9;
+
+/// The code of a refused loan.
+pub fn loan_status(error: LoanError) -> u32
+    ensures { result ≡ loan_code error }
+{
+    match error {
+        LoanError::OutOfMemory => 10,
+        LoanError::ExceedsMaxLoans => 11,
+        LoanError::ExceedsMaxLoanSize => 12,
+        LoanError::InternalFailure => 13,
+    }
+}
+
+// Which failure it is.
+fn failure_index(failure: ConnectionFailure) -> u32
+    ensures { result ≡ failure_index failure }
+{
+    match failure {
+        ConnectionFailure::FailedToEstablishConnection(cause) => match cause {
+            ZeroCopyCreationError::IncompatibleBufferSize => 0,
+            ZeroCopyCreationError::OutOfMemory => 1,
+            ZeroCopyCreationError::ExpiredConnectionBufferFull => 2,
+        },
+        ConnectionFailure::UnableToMapSendersDataSegment(_) => 3,
+    }
+}
+
+/// The code of a send that failed.
+pub fn send_status(error: SendError) -> u32
+    ensures { result ≡ send_code error }
+{
+    match error {
+        SendError::ConnectionBrokenSinceSenderNoLongerExists => 20,
+        SendError::ConnectionCorrupted => 21,
+        SendError::UnableToDeliver => 22,
+        SendError::InternalError => 23,
+        SendError::ConnectionError(failure) => connection_status(24, failure),
+        SendError::LoanError(refusal) => loan_status(refusal),
+    }
+}
+
+// The code of a connection's failure, among those that start here.
+fn connection_status(first: u32, failure: ConnectionFailure) -> u32
+    requires { first < 100 }
+    ensures { result ≡ first + failure_index failure }
+{
+    first + failure_index(failure)
+}
+
+/// The code of a receive that failed.
+pub fn receive_status(error: ReceiveError) -> u32
+    ensures { result ≡ receive_code error }
+{
+    match error {
+        ReceiveError::ExceedsMaxBorrows => 30,
+        ReceiveError::ConnectionFailure(failure) => connection_status(34, failure),
+    }
+}
+
+/// The code of an update that failed.
+pub fn failure_status(failure: ConnectionFailure) -> u32
+    ensures { result ≡ failure_code failure }
+{
+    connection_status(44, failure)
+}
+
+/// The code of a refused publisher.
+pub fn publisher_status(error: PublisherCreateError) -> u32
+    ensures { result ≡ publisher_code error }
+{
+    match error {
+        PublisherCreateError::ExceedsMaxSupportedPublishers => 50,
+        PublisherCreateError::UnableToCreateDataSegment => 51,
+        PublisherCreateError::FailedToDeployThreadsafetyPolicy => 52,
+        PublisherCreateError::UnableToCreatePortTag => 53,
+    }
+}
+
+/// The code of a refused subscriber.
+pub fn subscriber_status(error: SubscriberCreateError) -> u32
+    ensures { result ≡ subscriber_code error }
+{
+    match error {
+        SubscriberCreateError::ExceedsMaxSupportedSubscribers => 60,
+        SubscriberCreateError::BufferSizeExceedsMaxSupportedBufferSizeOfService => 61,
+        SubscriberCreateError::FailedToDeployThreadsafetyPolicy => 62,
+        SubscriberCreateError::UnableToCreatePortTag => 63,
+    }
+}
