@@ -1,0 +1,354 @@
+/* Each function of the header where all is well: messages in place and copied, blocked sends, options,
+ * warnings, texts. It compiles as C and as C++. */
+#include "checks.h"
+
+#ifdef __cplusplus
+#define SAME_SIZE(type, size) static_assert(sizeof(type) == size, "the size of " #type)
+#else
+#define SAME_SIZE(type, size) _Static_assert(sizeof(type) == size, "the size of " #type)
+#endif
+
+/* No struct has room between its fields; the Rust crate's tests have the same numbers. */
+SAME_SIZE(iox2_domain_t, 8);
+SAME_SIZE(iox2_config_t, 112);
+SAME_SIZE(iox2_publisher_options_t, 32);
+SAME_SIZE(iox2_subscriber_options_t, 16);
+SAME_SIZE(iox2_publisher_t, 56);
+SAME_SIZE(iox2_subscriber_t, 48);
+SAME_SIZE(iox2_loan_t, 72);
+SAME_SIZE(iox2_blocked_t, 72);
+SAME_SIZE(iox2_sample_t, 88);
+SAME_SIZE(iox2_header_t, 40);
+SAME_SIZE(iox2_warning_t, 40);
+
+static void create(iox2_domain_t *domain, iox2_config_t *config) {
+  domain->domain_ = NULL;
+  IS(iox2_domain_create(domain, config), IOX2_OK);
+}
+
+static void settings_are_read_back(void) {
+  iox2_domain_t domain = IOX2_DOMAIN_INIT;
+  iox2_config_t config, read;
+  iox2_config_defaults(&config, 7, 24, 8);
+  CHECK(config.service_id.low == 7 && config.service_id.high == 0);
+  CHECK(config.payload_size == 24 && config.payload_alignment == 8);
+  CHECK(config.max_publishers == 2 && config.publisher_max_loaned_samples == 2 && config.max_subscribers == 8);
+  CHECK(config.subscriber_max_buffer_size == 2 && config.subscriber_max_borrowed_samples == 2);
+  CHECK(config.history_size == 0 && config.enable_safe_overflow);
+  config.service_id.high = 9;
+  config.node_id.high = 3;
+  create(&domain, &config);
+  memset(&read, 0xff, sizeof read);
+  IS(iox2_domain_config(&domain, &read), IOX2_OK);
+  CHECK(memcmp(&read, &config, sizeof read) == 0);
+  IS(iox2_domain_destroy(&domain), IOX2_OK);
+  CHECK(domain.domain_ == NULL);
+}
+
+static void a_message_is_written_and_read_where_it_lies(void) {
+  iox2_domain_t domain;
+  iox2_config_t config;
+  iox2_publisher_t publisher;
+  iox2_subscriber_t subscriber;
+  iox2_loan_t loan;
+  iox2_sample_t sample;
+  iox2_blocked_t blocked;
+  iox2_header_t header;
+  uint8_t *written, *again;
+  const uint8_t *read, *read_again;
+  size_t receivers = 99, len = 99;
+  uint32_t waits = 9;
+  iox2_config_defaults(&config, 7, 24, 8);
+  config.node_id.low = 12;
+  create(&domain, &config);
+  IS(iox2_publisher_create(&domain, &publisher), IOX2_OK);
+  IS(iox2_subscriber_create(&domain, &subscriber), IOX2_OK);
+  CHECK(publisher.initial_max_slice_len == 24 && subscriber.buffer_size == 2);
+  CHECK(publisher.id.low != subscriber.id.low && publisher.service_id.low == 7);
+
+  IS(iox2_publisher_loan(&domain, &publisher, 24, &loan, &written), IOX2_OK);
+  CHECK((uintptr_t)written % 8 == 0 && loan.publisher.low == publisher.id.low);
+  for (int i = 0; i < 24; i++) CHECK(written[i] == 0);
+  IS(iox2_loan_payload(&domain, &loan, &again, &len), IOX2_OK);
+  CHECK(again == written && len == 24);
+  memcpy(written, "where it lies, 24 bytes", 24);
+  IS(iox2_subscriber_has_samples(&domain, &subscriber, &waits), IOX2_OK);
+  CHECK(waits == 0);
+  IS(iox2_loan_send(&domain, &loan, &receivers, &blocked), IOX2_OK);
+  CHECK(receivers == 1);
+  IS(iox2_subscriber_has_samples(&domain, &subscriber, &waits), IOX2_OK);
+  CHECK(waits == 1);
+
+  IS(iox2_subscriber_receive(&domain, &subscriber, &sample, &read, &len), IOX2_OK);
+  CHECK(read == written && len == 24 && memcmp(read, "where it lies, 24 bytes", 24) == 0);
+  CHECK(sample.origin.low == publisher.id.low && sample.subscriber.low == subscriber.id.low);
+  CHECK(sample.number.low == loan.number.low && sample.number.high == loan.number.high);
+  IS(iox2_sample_payload(&domain, &sample, &read_again, &len), IOX2_OK);
+  CHECK(read_again == read && len == 24);
+  IS(iox2_sample_header(&domain, &sample, &header), IOX2_OK);
+  CHECK(header.node_id.low == 12 && header.publisher.low == publisher.id.low && header.number_of_elements == 24);
+  IS(iox2_sample_release(&domain, &sample), IOX2_OK);
+  IS(iox2_subscriber_receive(&domain, &subscriber, &sample, &read, &len), IOX2_NO_SAMPLE);
+  IS(iox2_domain_destroy(&domain), IOX2_OK);
+}
+
+static void a_message_is_copied(void) {
+  iox2_domain_t domain;
+  iox2_config_t config;
+  iox2_publisher_t publisher;
+  iox2_subscriber_t subscriber;
+  iox2_sample_t sample;
+  iox2_blocked_t blocked;
+  uint8_t bytes[16];
+  const uint8_t *read;
+  size_t receivers = 99, len = 99;
+  iox2_config_defaults(&config, 7, 16, 1);
+  create(&domain, &config);
+  IS(iox2_publisher_create(&domain, &publisher), IOX2_OK);
+  IS(iox2_subscriber_create(&domain, &subscriber), IOX2_OK);
+  IS(iox2_publisher_send_copy(&domain, &publisher, (const uint8_t *)"hello", 5, &receivers, &blocked), IOX2_OK);
+  CHECK(receivers == 1);
+  IS(iox2_publisher_send_copy(&domain, &publisher, (const uint8_t *)"sixteen bytes ..", 16, &receivers, &blocked), IOX2_OK);
+  memset(bytes, 'x', sizeof bytes);
+  IS(iox2_subscriber_receive_copy(&domain, &subscriber, bytes, sizeof bytes, &len, &sample), IOX2_OK);
+  CHECK(len == 5 && memcmp(bytes, "helloxxx", 8) == 0);
+  IS(iox2_subscriber_receive(&domain, &subscriber, &sample, &read, &len), IOX2_OK);
+  CHECK(len == 16 && memcmp(read, "sixteen bytes ..", 16) == 0);
+  memset(bytes, 'x', sizeof bytes);
+  IS(iox2_sample_copy(&domain, &sample, bytes, sizeof bytes, &len), IOX2_OK);
+  CHECK(len == 16 && memcmp(bytes, "sixteen bytes ..", 16) == 0);
+  IS(iox2_sample_release(&domain, &sample), IOX2_OK);
+  IS(iox2_subscriber_receive_copy(&domain, &subscriber, bytes, sizeof bytes, &len, &sample), IOX2_NO_SAMPLE);
+  IS(iox2_domain_destroy(&domain), IOX2_OK);
+}
+
+/* The bytes of a sample and of a loan stay while messages, samples, ports and loans come and go. */
+static void bytes_stay_where_they_are(void) {
+  iox2_domain_t domain;
+  iox2_config_t config;
+  iox2_publisher_t publisher, other;
+  iox2_subscriber_t subscriber, late;
+  iox2_sample_t kept, sample;
+  iox2_loan_t loan;
+  iox2_blocked_t blocked;
+  uint8_t *written, noise[32];
+  const uint8_t *at, *read;
+  size_t receivers, len;
+  iox2_config_defaults(&config, 7, 32, 16);
+  config.subscriber_max_borrowed_samples = 2;
+  create(&domain, &config);
+  IS(iox2_publisher_create(&domain, &publisher), IOX2_OK);
+  IS(iox2_subscriber_create(&domain, &subscriber), IOX2_OK);
+  memset(noise, 'n', sizeof noise);
+  IS(iox2_publisher_send_copy(&domain, &publisher, (const uint8_t *)"kept", 4, &receivers, &blocked), IOX2_OK);
+  IS(iox2_subscriber_receive(&domain, &subscriber, &kept, &at, &len), IOX2_OK);
+  IS(iox2_publisher_loan(&domain, &publisher, 32, &loan, &written), IOX2_OK);
+  memset(written, 'w', 32);
+  for (int round = 0; round < 100; round++) {
+    IS(iox2_publisher_create(&domain, &other), IOX2_OK);
+    IS(iox2_subscriber_create(&domain, &late), IOX2_OK);
+    IS(iox2_publisher_send_copy(&domain, &publisher, noise, 32, &receivers, &blocked), IOX2_OK);
+    IS(iox2_publisher_send_copy(&domain, &other, noise, 32, &receivers, &blocked), IOX2_OK);
+    IS(iox2_subscriber_receive(&domain, &subscriber, &sample, &read, &len), IOX2_OK);
+    IS(iox2_sample_release(&domain, &sample), IOX2_OK);
+    IS(iox2_publisher_close(&domain, &other), IOX2_OK);
+    IS(iox2_subscriber_close(&domain, &late), IOX2_OK);
+  }
+  CHECK(len == 32 && memcmp(at, "kept", 4) == 0);
+  for (int i = 0; i < 32; i++) CHECK(written[i] == 'w');
+  IS(iox2_loan_send(&domain, &loan, &receivers, &blocked), IOX2_OK);
+  IS(iox2_publisher_close(&domain, &publisher), IOX2_OK);
+  IS(iox2_subscriber_close(&domain, &subscriber), IOX2_OK);
+  CHECK(memcmp(at, "kept", 4) == 0);
+  IS(iox2_sample_payload(&domain, &kept, &read, &len), IOX2_OK);
+  CHECK(read == at && len == 4);
+  IS(iox2_domain_destroy(&domain), IOX2_OK);
+}
+
+static void a_blocked_send_is_tried_again_and_given_up(void) {
+  iox2_domain_t domain;
+  iox2_config_t config;
+  iox2_publisher_t publisher;
+  iox2_subscriber_t subscriber;
+  iox2_sample_t sample;
+  iox2_loan_t loan;
+  iox2_blocked_t blocked;
+  uint8_t *written, byte = 1;
+  size_t receivers, len;
+  uint32_t is_blocked;
+  iox2_config_defaults(&config, 7, 1, 1);
+  config.enable_safe_overflow = 0;
+  config.subscriber_max_buffer_size = 1;
+  create(&domain, &config);
+  IS(iox2_publisher_create(&domain, &publisher), IOX2_OK);
+  IS(iox2_subscriber_create(&domain, &subscriber), IOX2_OK);
+  CHECK(publisher.backpressure_strategy == IOX2_RETRY_UNTIL_DELIVERED);
+  IS(iox2_publisher_send_copy(&domain, &publisher, &byte, 1, &receivers, &blocked), IOX2_OK);
+  IS(iox2_publisher_is_blocked(&domain, &publisher, &is_blocked), IOX2_OK);
+  CHECK(is_blocked == 0);
+  IS(iox2_publisher_loan(&domain, &publisher, 1, &loan, &written), IOX2_OK);
+  *written = 2;
+  IS(iox2_loan_send(&domain, &loan, &receivers, &blocked), IOX2_BLOCKED);
+  CHECK(blocked.publisher.low == publisher.id.low);
+  IS(iox2_publisher_is_blocked(&domain, &publisher, &is_blocked), IOX2_OK);
+  CHECK(is_blocked == 1);
+  IS(iox2_blocked_retry(&domain, &blocked, 1000, &receivers), IOX2_BLOCKED);
+  IS(iox2_subscriber_receive_copy(&domain, &subscriber, &byte, 1, &len, &sample), IOX2_OK);
+  CHECK(byte == 1);
+  IS(iox2_blocked_retry(&domain, &blocked, UINT64_MAX, &receivers), IOX2_OK);
+  CHECK(receivers == 1);
+  IS(iox2_blocked_retry(&domain, &blocked, 0, &receivers), IOX2_NOT_LIVE);
+  byte = 3;
+  IS(iox2_publisher_send_copy(&domain, &publisher, &byte, 1, &receivers, &blocked), IOX2_BLOCKED);
+  IS(iox2_blocked_give_up(&domain, &blocked, &receivers), IOX2_OK);
+  CHECK(receivers == 0);
+  IS(iox2_blocked_give_up(&domain, &blocked, &receivers), IOX2_NOT_LIVE);
+  IS(iox2_subscriber_receive_copy(&domain, &subscriber, &byte, 1, &len, &sample), IOX2_OK);
+  CHECK(byte == 2);
+  IS(iox2_subscriber_receive_copy(&domain, &subscriber, &byte, 1, &len, &sample), IOX2_NO_SAMPLE);
+  IS(iox2_domain_destroy(&domain), IOX2_OK);
+}
+
+static void ports_are_made_with_options(void) {
+  iox2_domain_t domain;
+  iox2_config_t config;
+  iox2_publisher_options_t publisher_options;
+  iox2_subscriber_options_t subscriber_options;
+  iox2_publisher_t discards, fails;
+  iox2_subscriber_t subscriber;
+  iox2_loan_t loan;
+  iox2_blocked_t blocked;
+  uint8_t *written, byte = 1;
+  size_t receivers, count;
+  iox2_config_defaults(&config, 7, 4, 4);
+  config.enable_safe_overflow = 0;
+  create(&domain, &config);
+  iox2_publisher_options_of(&config, &publisher_options);
+  CHECK(publisher_options.max_loaned_samples == 2 && publisher_options.initial_max_slice_len == 4);
+  CHECK(publisher_options.backpressure_strategy == IOX2_RETRY_UNTIL_DELIVERED);
+  CHECK(publisher_options.backpressure_handler == IOX2_BACKPRESSURE_NONE);
+  publisher_options.max_loaned_samples = 1;
+  publisher_options.initial_max_slice_len = 8;
+  publisher_options.backpressure_strategy = IOX2_DISCARD_DATA;
+  IS(iox2_publisher_create_with(&domain, &publisher_options, &discards), IOX2_OK);
+  CHECK(discards.initial_max_slice_len == 8 && discards.backpressure_strategy == IOX2_DISCARD_DATA);
+  publisher_options.backpressure_handler = IOX2_BACKPRESSURE_DISCARD_DATA_AND_FAIL;
+  IS(iox2_publisher_create_with(&domain, &publisher_options, &fails), IOX2_OK);
+  iox2_subscriber_options_of(&config, &subscriber_options);
+  CHECK(subscriber_options.buffer_size == 2);
+  subscriber_options.buffer_size = 1;
+  IS(iox2_subscriber_create_with(&domain, &subscriber_options, &subscriber), IOX2_OK);
+  CHECK(subscriber.buffer_size == 1);
+  IS(iox2_publisher_update_connections(&domain, &discards), IOX2_OK);
+  IS(iox2_subscriber_update_connections(&domain, &subscriber), IOX2_OK);
+  IS(iox2_domain_connection_count(&domain, &count), IOX2_OK);
+  CHECK(count >= 1 && count <= 2);
+  IS(iox2_domain_book_count(&domain, &count), IOX2_OK);
+  CHECK(count == 2);
+
+  IS(iox2_publisher_loan(&domain, &discards, 8, &loan, &written), IOX2_OK);
+  CHECK((uintptr_t)written % 4 == 0);
+  IS(iox2_publisher_send_copy(&domain, &discards, &byte, 1, &receivers, &blocked), IOX2_LOAN_ERROR_EXCEEDS_MAX_LOANS);
+  IS(iox2_loan_send(&domain, &loan, &receivers, &blocked), IOX2_OK);
+  CHECK(receivers == 1);
+  IS(iox2_publisher_send_copy(&domain, &discards, &byte, 1, &receivers, &blocked), IOX2_OK);
+  CHECK(receivers == 0);
+  IS(iox2_publisher_send_copy(&domain, &fails, &byte, 1, &receivers, &blocked), IOX2_OK);
+  IS(iox2_publisher_send_copy(&domain, &fails, &byte, 1, &receivers, &blocked), IOX2_SEND_ERROR_UNABLE_TO_DELIVER);
+  IS(iox2_domain_destroy(&domain), IOX2_OK);
+}
+
+static void a_late_subscriber_gets_the_history(void) {
+  iox2_domain_t domain;
+  iox2_config_t config;
+  iox2_publisher_t publisher;
+  iox2_subscriber_t subscriber;
+  iox2_sample_t sample;
+  iox2_blocked_t blocked;
+  uint8_t byte;
+  size_t receivers, len;
+  iox2_config_defaults(&config, 7, 1, 1);
+  config.history_size = 2;
+  create(&domain, &config);
+  IS(iox2_publisher_create(&domain, &publisher), IOX2_OK);
+  for (byte = 1; byte <= 3; byte++) IS(iox2_publisher_send_copy(&domain, &publisher, &byte, 1, &receivers, &blocked), IOX2_OK);
+  IS(iox2_subscriber_create(&domain, &subscriber), IOX2_OK);
+  IS(iox2_publisher_update_connections(&domain, &publisher), IOX2_OK);
+  for (uint8_t wanted = 2; wanted <= 3; wanted++) {
+    IS(iox2_subscriber_receive_copy(&domain, &subscriber, &byte, 1, &len, &sample), IOX2_OK);
+    CHECK(byte == wanted && len == 1);
+  }
+  IS(iox2_subscriber_receive_copy(&domain, &subscriber, &byte, 1, &len, &sample), IOX2_NO_SAMPLE);
+  IS(iox2_domain_destroy(&domain), IOX2_OK);
+}
+
+static void warnings_are_read(void) {
+  iox2_domain_t domain;
+  iox2_config_t config;
+  iox2_subscriber_t subscriber;
+  iox2_warning_t warning;
+  size_t count = 99;
+  uint64_t refused = 99;
+  iox2_config_defaults(&config, 7, 1, 1);
+  create(&domain, &config);
+  IS(iox2_domain_warning_count(&domain, &count), IOX2_OK);
+  CHECK(count == 0);
+  IS(iox2_domain_warning(&domain, 0, &warning), IOX2_NOT_LIVE);
+  IS(iox2_domain_refused_connections(&domain, &refused), IOX2_OK);
+  CHECK(refused == 0);
+  IS(iox2_domain_destroy(&domain), IOX2_OK);
+
+  config.subscriber_expired_connection_buffer = 1;
+  create(&domain, &config);
+  IS(iox2_subscriber_create(&domain, &subscriber), IOX2_OK);
+  IS(iox2_domain_warning_count(&domain, &count), IOX2_OK);
+  CHECK(count == 1);
+  IS(iox2_domain_warning(&domain, 0, &warning), IOX2_OK);
+  CHECK(warning.kind == IOX2_WARNING_EXPIRED_BUFFER_RAISED && warning.subscriber.low == subscriber.id.low);
+  CHECK(warning.publisher.low == 0 && warning.failure == 0);
+  CHECK(strstr(iox2_error_text(warning.kind), "ExpiredBufferRaised") != NULL);
+  IS(iox2_domain_warning(&domain, 1, &warning), IOX2_NOT_LIVE);
+  IS(iox2_domain_destroy(&domain), IOX2_OK);
+}
+
+static void texts_are_iceoryx2s(void) {
+  const uint8_t *text;
+  size_t len;
+  CHECK(strcmp(iox2_error_text(IOX2_LOAN_ERROR_EXCEEDS_MAX_LOANS), "LoanError::ExceedsMaxLoans") == 0);
+  CHECK(strcmp(iox2_error_text(IOX2_RECEIVE_ERROR_EXCEEDS_MAX_BORROWS), "ReceiveError::ExceedsMaxBorrows") == 0);
+  CHECK(strcmp(iox2_error_text(IOX2_SEND_ERROR_UNABLE_TO_DELIVER), "SendError::UnableToDeliver") == 0);
+  for (uint32_t code = 0; code < 200; code++) {
+    iox2_error_text_at(code, &text, &len);
+    CHECK(len > 0 && text[len] == 0 && strlen((const char *)text) == len);
+  }
+  CHECK(iox2_error_text(UINT32_MAX)[0] != 0);
+}
+
+static void slots_are_counted(void) {
+  iox2_config_t config;
+  size_t slots = 99;
+  iox2_config_defaults(&config, 7, 1, 1);
+  config.max_subscribers = 2;
+  config.subscriber_max_buffer_size = 3;
+  config.subscriber_max_borrowed_samples = 4;
+  config.history_size = 5;
+  IS(iox2_worst_case_slots(&config, 6, &slots), IOX2_OK);
+  CHECK(slots == 2 * (3 + 4) + 5 + 6);
+  config.max_subscribers = SIZE_MAX;
+  IS(iox2_worst_case_slots(&config, 6, &slots), IOX2_INVALID_SETTINGS);
+  CHECK(slots == 2 * (3 + 4) + 5 + 6);
+}
+
+int main(void) {
+  settings_are_read_back();
+  a_message_is_written_and_read_where_it_lies();
+  a_message_is_copied();
+  bytes_stay_where_they_are();
+  a_blocked_send_is_tried_again_and_given_up();
+  ports_are_made_with_options();
+  a_late_subscriber_gets_the_history();
+  warnings_are_read();
+  texts_are_iceoryx2s();
+  slots_are_counted();
+  return checked();
+}

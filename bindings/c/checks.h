@@ -1,0 +1,38 @@
+/* For the programs of checks: CHECK counts what holds and prints what doesn't; `checked` prints the counts. */
+#ifndef IOX2_CHECKS_H
+#define IOX2_CHECKS_H
+
+#include "iox2_pubsub.h"
+#include <stdio.h>
+#include <string.h>
+
+static int passed = 0, failed = 0;
+
+#define CHECK(is)                                         \
+  do {                                                    \
+    if (is) {                                             \
+      passed++;                                           \
+    } else {                                              \
+      failed++;                                           \
+      printf("%s:%d: %s\n", __FILE__, __LINE__, #is);     \
+    }                                                     \
+  } while (0)
+
+/* The call returns this code, which has a text of its own. */
+#define IS(call, code)                                                                          \
+  do {                                                                                          \
+    uint32_t got_ = (call);                                                                     \
+    if (got_ == (code)) {                                                                       \
+      passed++;                                                                                 \
+    } else {                                                                                    \
+      failed++;                                                                                 \
+      printf("%s:%d: %s: %u (%s)\n", __FILE__, __LINE__, #call, (unsigned)got_, iox2_error_text(got_)); \
+    }                                                                                           \
+  } while (0)
+
+static int checked(void) {
+  printf("%d passed, %d failed\n", passed, failed);
+  return failed != 0;
+}
+
+#endif
