@@ -1,0 +1,639 @@
+/* Publish-subscribe inside one program, for C++17: the calls of iox2_pubsub.h with types, and with handles
+ * that give back what they have.
+ *
+ * A Domain<P> has messages of the type P alone: a trivially copyable T, or T[] for slices of such values.
+ * So what is received was written as a P. Its ports, loans and samples keep it alive. Handles are moved and
+ * not copied; one that was moved from, or whose loan was sent, is empty: its calls return Error::NotLive,
+ * and it isn't read.
+ *
+ * Nothing is thrown but std::bad_alloc, where a domain is made. No two threads may be in calls of one domain, and
+ * a domain stays on its thread. */
+#ifndef IOX2_PUBSUB_HPP
+#define IOX2_PUBSUB_HPP
+
+#include "iox2_pubsub.h"
+
+#include <chrono>
+#include <cstddef>
+#include <cstdint>
+#include <cstdio>
+#include <cstdlib>
+#include <limits>
+#include <new>
+#include <optional>
+#include <type_traits>
+#include <utility>
+#include <variant>
+#include <vector>
+
+namespace iox2 {
+
+/* Why a call was refused. Each has the number that iox2_pubsub.h says, and text() says it in words. */
+enum class Error : std::uint32_t {
+  NotLive = IOX2_NOT_LIVE,
+  OutOfMemory = IOX2_OUT_OF_MEMORY,
+  PublisherIsBlocked = IOX2_PUBLISHER_IS_BLOCKED,
+  InvalidSettings = IOX2_INVALID_SETTINGS,
+  LoanOutOfMemory = IOX2_LOAN_ERROR_OUT_OF_MEMORY,
+  LoanExceedsMaxLoans = IOX2_LOAN_ERROR_EXCEEDS_MAX_LOANS,
+  LoanExceedsMaxLoanSize = IOX2_LOAN_ERROR_EXCEEDS_MAX_LOAN_SIZE,
+  LoanInternalFailure = IOX2_LOAN_ERROR_INTERNAL_FAILURE,
+  SendConnectionBrokenSinceSenderNoLongerExists = IOX2_SEND_ERROR_CONNECTION_BROKEN_SINCE_SENDER_NO_LONGER_EXISTS,
+  SendConnectionCorrupted = IOX2_SEND_ERROR_CONNECTION_CORRUPTED,
+  SendUnableToDeliver = IOX2_SEND_ERROR_UNABLE_TO_DELIVER,
+  SendInternalError = IOX2_SEND_ERROR_INTERNAL_ERROR,
+  SendConnectionIncompatibleBufferSize = IOX2_SEND_ERROR_CONNECTION_INCOMPATIBLE_BUFFER_SIZE,
+  SendConnectionOutOfMemory = IOX2_SEND_ERROR_CONNECTION_OUT_OF_MEMORY,
+  SendConnectionExpiredBufferFull = IOX2_SEND_ERROR_CONNECTION_EXPIRED_BUFFER_FULL,
+  SendConnectionUnableToMap = IOX2_SEND_ERROR_CONNECTION_UNABLE_TO_MAP,
+  ReceiveExceedsMaxBorrows = IOX2_RECEIVE_ERROR_EXCEEDS_MAX_BORROWS,
+  ReceiveConnectionIncompatibleBufferSize = IOX2_RECEIVE_ERROR_CONNECTION_INCOMPATIBLE_BUFFER_SIZE,
+  ReceiveConnectionOutOfMemory = IOX2_RECEIVE_ERROR_CONNECTION_OUT_OF_MEMORY,
+  ReceiveConnectionExpiredBufferFull = IOX2_RECEIVE_ERROR_CONNECTION_EXPIRED_BUFFER_FULL,
+  ReceiveConnectionUnableToMap = IOX2_RECEIVE_ERROR_CONNECTION_UNABLE_TO_MAP,
+  ConnectionIncompatibleBufferSize = IOX2_CONNECTION_FAILURE_INCOMPATIBLE_BUFFER_SIZE,
+  ConnectionOutOfMemory = IOX2_CONNECTION_FAILURE_OUT_OF_MEMORY,
+  ConnectionExpiredBufferFull = IOX2_CONNECTION_FAILURE_EXPIRED_BUFFER_FULL,
+  ConnectionUnableToMap = IOX2_CONNECTION_FAILURE_UNABLE_TO_MAP,
+  PublisherExceedsMaxSupportedPublishers = IOX2_PUBLISHER_CREATE_ERROR_EXCEEDS_MAX_SUPPORTED_PUBLISHERS,
+  PublisherUnableToCreateDataSegment = IOX2_PUBLISHER_CREATE_ERROR_UNABLE_TO_CREATE_DATA_SEGMENT,
+  PublisherFailedToDeployThreadsafetyPolicy = IOX2_PUBLISHER_CREATE_ERROR_FAILED_TO_DEPLOY_THREADSAFETY_POLICY,
+  PublisherUnableToCreatePortTag = IOX2_PUBLISHER_CREATE_ERROR_UNABLE_TO_CREATE_PORT_TAG,
+  SubscriberExceedsMaxSupportedSubscribers = IOX2_SUBSCRIBER_CREATE_ERROR_EXCEEDS_MAX_SUPPORTED_SUBSCRIBERS,
+  SubscriberBufferSizeExceedsMax = IOX2_SUBSCRIBER_CREATE_ERROR_BUFFER_SIZE_EXCEEDS_MAX,
+  SubscriberFailedToDeployThreadsafetyPolicy = IOX2_SUBSCRIBER_CREATE_ERROR_FAILED_TO_DEPLOY_THREADSAFETY_POLICY,
+  SubscriberUnableToCreatePortTag = IOX2_SUBSCRIBER_CREATE_ERROR_UNABLE_TO_CREATE_PORT_TAG
+};
+
+inline const char *text(Error error) { return iox2_error_text(static_cast<std::uint32_t>(error)); }
+
+/* A value, or why there is none. */
+template <typename V> class [[nodiscard]] Result {
+public:
+  Result(V value) : held_(std::in_place_index<0>, std::move(value)) {}
+  Result(Error error) : held_(std::in_place_index<1>, error) {}
+
+  bool has_value() const { return held_.index() == 0; }
+  explicit operator bool() const { return has_value(); }
+
+  /* Asks that there is a value; else the program ends. */
+  V &operator*() & { return value(); }
+  const V &operator*() const & { return const_cast<Result *>(this)->value(); }
+  V &&operator*() && { return std::move(value()); }
+  V *operator->() { return &value(); }
+  const V *operator->() const { return &const_cast<Result *>(this)->value(); }
+
+  /* Asks that there is none; else the program ends. */
+  Error error() const {
+    if (has_value()) end("error() of a value");
+    return std::get<1>(held_);
+  }
+
+  /* The value; where there is none the program ends, and says these words and the error's. */
+  V expect(const char *words) && {
+    if (!has_value()) end(words);
+    return std::move(std::get<0>(held_));
+  }
+
+private:
+  V &value() {
+    if (!has_value()) end("no value");
+    return std::get<0>(held_);
+  }
+  [[noreturn]] void end(const char *words) const {
+    std::fprintf(stderr, "iox2: %s: %s\n", words, has_value() ? "there is a value" : text(std::get<1>(held_)));
+    std::abort();
+  }
+
+  std::variant<V, Error> held_;
+};
+
+/* Nothing, or why a call was refused. */
+using Done = Result<std::monostate>;
+
+/* A port's or a message's number, which no other of its domain has. */
+struct Id {
+  std::uint64_t low, high;
+  friend bool operator==(Id a, Id b) { return a.low == b.low && a.high == b.high; }
+  friend bool operator!=(Id a, Id b) { return !(a == b); }
+};
+
+template <typename P> class Domain;
+template <typename P> class Publisher;
+template <typename P> class Subscriber;
+template <typename P> class Loan;
+template <typename P> class Sample;
+template <typename P> class BlockedSend;
+
+namespace detail {
+
+template <typename P> using Element = std::remove_extent_t<P>;
+
+template <typename P> constexpr bool is_slice = std::is_array_v<P>;
+
+template <typename P> constexpr void check() {
+  using T = Element<P>;
+  static_assert(!is_slice<P> || std::extent_v<P> == 0, "a slice is T[], without a number");
+  static_assert(std::is_object_v<T> && !std::is_const_v<T> && !std::is_volatile_v<T>, "a message is of a plain type");
+  static_assert(std::is_trivially_copyable_v<T>, "a message is trivially copyable: nothing of it is ever destroyed");
+  static_assert(alignof(T) <= 16, "the alignment of a message is at most 16");
+}
+
+inline Id id_of(iox2_wide_t wide) { return Id{wide.low, wide.high}; }
+
+inline Error error_of(std::uint32_t code) { return static_cast<Error>(code); }
+
+inline Done done(std::uint32_t code) {
+  if (code == IOX2_OK) return std::monostate{};
+  return error_of(code);
+}
+
+/* The domain that its handles share, and the publishers that went while a send of theirs was blocked. */
+struct Shared {
+  iox2_domain_t domain = IOX2_DOMAIN_INIT;
+  std::size_t holders = 1;
+  std::vector<iox2_publisher_t> orphans;
+
+  Shared() = default;
+  Shared(const Shared &) = delete;
+  Shared &operator=(const Shared &) = delete;
+  ~Shared() { iox2_domain_destroy(&domain); }
+
+  void close_publisher(const iox2_publisher_t &publisher) {
+    if (iox2_publisher_close(&domain, &publisher) == IOX2_PUBLISHER_IS_BLOCKED) orphans.push_back(publisher);
+  }
+
+  void close_orphan(iox2_wide_t id) {
+    for (std::size_t at = 0; at < orphans.size(); at++) {
+      if (id_of(orphans[at].id) != id_of(id)) continue;
+      iox2_publisher_close(&domain, &orphans[at]);
+      orphans.erase(orphans.begin() + static_cast<std::ptrdiff_t>(at));
+      return;
+    }
+  }
+};
+
+/* A part in a domain, or none. Counted without atomics, since a domain stays on its thread. */
+class Hold {
+public:
+  Hold() = default;
+  explicit Hold(Shared *shared) : shared_(shared) {}
+  Hold(const Hold &other) : shared_(other.shared_) {
+    if (shared_) shared_->holders++;
+  }
+  Hold(Hold &&other) noexcept : shared_(std::exchange(other.shared_, nullptr)) {}
+  Hold &operator=(Hold other) noexcept {
+    std::swap(shared_, other.shared_);
+    return *this;
+  }
+  ~Hold() {
+    if (shared_ && --shared_->holders == 0) delete shared_;
+  }
+
+  explicit operator bool() const { return shared_ != nullptr; }
+  Shared *operator->() const { return shared_; }
+  iox2_domain_t *domain() const { return &shared_->domain; }
+
+private:
+  Shared *shared_ = nullptr;
+};
+
+/* The value at these bytes, or the first of a slice. */
+template <typename T> const T *at(const std::uint8_t *bytes) { return std::launder(reinterpret_cast<const T *>(bytes)); }
+
+/* How a message is read: as a value, or as a slice of values. */
+template <typename P, typename T> class View {
+public:
+  T &operator*() const { return *data_; }
+  T *operator->() const { return data_; }
+
+protected:
+  void see(T *data, std::size_t) { data_ = data; }
+  T *data_ = nullptr;
+};
+
+template <typename E, typename T> class View<E[], T> {
+public:
+  T &operator[](std::size_t index) const { return data_[index]; }
+  T *data() const { return data_; }
+  std::size_t size() const { return size_; }
+  bool empty() const { return size_ == 0; }
+  T *begin() const { return data_; }
+  T *end() const { return data_ + size_; }
+
+protected:
+  void see(T *data, std::size_t size) {
+    data_ = data;
+    size_ = size;
+  }
+  T *data_ = nullptr;
+  std::size_t size_ = 0;
+};
+
+} // namespace detail
+
+/* The settings of a domain, which begin as its defaults and are set field by field, as iox2_config_t says.
+ * For slices the second number is how many values a message may have. */
+template <typename P> struct Config : iox2_config_t {
+  using Element = detail::Element<P>;
+
+  explicit Config(std::uint64_t id, std::size_t max_slice_len = 1) : iox2_config_t{} {
+    detail::check<P>();
+    iox2_config_defaults(this, id, bytes(max_slice_len), alignof(Element));
+  }
+
+  /* How many bytes so many values have, or as many as there can be. */
+  static constexpr std::size_t bytes(std::size_t values) {
+    constexpr std::size_t greatest = std::numeric_limits<std::size_t>::max();
+    return values > greatest / sizeof(Element) ? greatest - greatest % alignof(Element) : values * sizeof(Element);
+  }
+};
+
+/* What came of a message that was sent: how many subscribers took it, or the send that waits. */
+template <typename P> class Sent {
+public:
+  explicit Sent(std::size_t count) : count_(count) {}
+  explicit Sent(BlockedSend<P> blocked) : blocked_(std::move(blocked)) {}
+
+  /* How many subscribers took it, or none where it waits. */
+  std::optional<std::size_t> delivered() const {
+    if (blocked_) return std::nullopt;
+    return count_;
+  }
+
+  /* The send that waits for a subscriber whose buffer is full. Where it isn't taken it is given up. */
+  std::optional<BlockedSend<P>> &blocked() { return blocked_; }
+
+private:
+  std::size_t count_ = 0;
+  std::optional<BlockedSend<P>> blocked_;
+};
+
+/* A send that waits. Its publisher lends and sends nothing meanwhile. When it is destroyed, it is given up at
+ * every full subscriber. */
+template <typename P> class BlockedSend {
+public:
+  BlockedSend(detail::Hold hold, const iox2_blocked_t &blocked) : hold_(std::move(hold)), blocked_(blocked) {}
+  BlockedSend(BlockedSend &&) noexcept = default;
+  BlockedSend &operator=(BlockedSend &&other) noexcept {
+    if (this != &other) {
+      end();
+      hold_ = std::move(other.hold_);
+      blocked_ = other.blocked_;
+    }
+    return *this;
+  }
+  ~BlockedSend() { end(); }
+
+  /* Whether it still waits. */
+  explicit operator bool() const { return static_cast<bool>(hold_); }
+  Id publisher() const { return detail::id_of(blocked_.publisher); }
+
+  /* Tries the subscriber again that it waits for, and goes on to the others: how many took the message, or none
+   * where it waits on. The time is since it was first blocked there. */
+  Result<std::optional<std::size_t>> retry(std::chrono::nanoseconds elapsed = {}) {
+    if (!hold_) return Error::NotLive;
+    std::size_t count = 0;
+    auto nanoseconds = static_cast<std::uint64_t>(elapsed.count());
+    std::uint32_t code = iox2_blocked_retry(hold_.domain(), &blocked_, nanoseconds, &count);
+    return ended(code, count);
+  }
+
+  /* Gives up the subscriber that it waits for, and goes on to the others. Answers as retry. */
+  Result<std::optional<std::size_t>> give_up() {
+    if (!hold_) return Error::NotLive;
+    std::size_t count = 0;
+    std::uint32_t code = iox2_blocked_give_up(hold_.domain(), &blocked_, &count);
+    return ended(code, count);
+  }
+
+private:
+  Result<std::optional<std::size_t>> ended(std::uint32_t code, std::size_t count) {
+    if (code == IOX2_BLOCKED) return std::optional<std::size_t>();
+    hold_->close_orphan(blocked_.publisher);
+    hold_ = detail::Hold();
+    if (code != IOX2_OK) return detail::error_of(code);
+    return std::optional<std::size_t>(count);
+  }
+
+  void end() {
+    while (hold_) static_cast<void>(give_up());
+  }
+
+  detail::Hold hold_;
+  iox2_blocked_t blocked_;
+};
+
+/* A message that was lent: it is written where it lies, by *, -> or as a slice, and sent. It is given back when
+ * it is destroyed. */
+template <typename P> class Loan : public detail::View<P, detail::Element<P>> {
+public:
+  using Element = detail::Element<P>;
+
+  Loan(detail::Hold hold, const iox2_loan_t &loan, Element *data, std::size_t size) : hold_(std::move(hold)), loan_(loan) {
+    this->see(data, size);
+  }
+  Loan(Loan &&) noexcept = default;
+  Loan &operator=(Loan &&other) noexcept {
+    if (this != &other) {
+      discard();
+      detail::View<P, Element>::operator=(other);
+      hold_ = std::move(other.hold_);
+      loan_ = other.loan_;
+    }
+    return *this;
+  }
+  ~Loan() { discard(); }
+
+  explicit operator bool() const { return static_cast<bool>(hold_); }
+  Id publisher() const { return detail::id_of(loan_.publisher); }
+  Id number() const { return detail::id_of(loan_.number); }
+
+  /* Sends the message, and leaves this empty; with Error::PublisherIsBlocked it stays. */
+  Result<Sent<P>> send() {
+    if (!hold_) return Error::NotLive;
+    std::size_t count = 0;
+    iox2_blocked_t blocked;
+    std::uint32_t code = iox2_loan_send(hold_.domain(), &loan_, &count, &blocked);
+    if (code == IOX2_PUBLISHER_IS_BLOCKED) return Error::PublisherIsBlocked;
+    detail::Hold hold = std::move(hold_);
+    if (code == IOX2_OK) return Sent<P>(count);
+    if (code == IOX2_BLOCKED) return Sent<P>(BlockedSend<P>(std::move(hold), blocked));
+    return detail::error_of(code);
+  }
+
+  /* Gives the loan back unsent. */
+  void discard() {
+    if (!hold_) return;
+    iox2_loan_discard(hold_.domain(), &loan_);
+    hold_ = detail::Hold();
+  }
+
+private:
+  detail::Hold hold_;
+  iox2_loan_t loan_;
+};
+
+/* A message that was received: it is read where it lies, by *, -> or as a slice. It is given back when it is
+ * destroyed, and until then counts against what its subscriber may borrow. */
+template <typename P> class Sample : public detail::View<P, const detail::Element<P>> {
+public:
+  using Element = detail::Element<P>;
+
+  Sample(detail::Hold hold, const iox2_sample_t &sample, const Element *data, std::size_t size)
+      : hold_(std::move(hold)), sample_(sample) {
+    this->see(data, size);
+  }
+  Sample(Sample &&) noexcept = default;
+  Sample &operator=(Sample &&other) noexcept {
+    if (this != &other) {
+      release();
+      detail::View<P, const Element>::operator=(other);
+      hold_ = std::move(other.hold_);
+      sample_ = other.sample_;
+    }
+    return *this;
+  }
+  ~Sample() { release(); }
+
+  explicit operator bool() const { return static_cast<bool>(hold_); }
+  Id origin() const { return detail::id_of(sample_.origin); }
+  Id subscriber() const { return detail::id_of(sample_.subscriber); }
+  Id number() const { return detail::id_of(sample_.number); }
+
+  /* Gives the message back. */
+  void release() {
+    if (!hold_) return;
+    iox2_sample_release(hold_.domain(), &sample_);
+    hold_ = detail::Hold();
+  }
+
+private:
+  detail::Hold hold_;
+  iox2_sample_t sample_;
+};
+
+/* Sends messages to every subscriber of its domain, until it is destroyed. One that goes while a send of it is
+ * blocked closes when that send has ended. */
+template <typename P> class Publisher {
+public:
+  using Element = detail::Element<P>;
+
+  Publisher(detail::Hold hold, const iox2_publisher_t &port) : hold_(std::move(hold)), port_(port) {}
+  Publisher(Publisher &&) noexcept = default;
+  Publisher &operator=(Publisher &&other) noexcept {
+    if (this != &other) {
+      close();
+      hold_ = std::move(other.hold_);
+      port_ = other.port_;
+    }
+    return *this;
+  }
+  ~Publisher() { close(); }
+
+  explicit operator bool() const { return static_cast<bool>(hold_); }
+  Id id() const { return detail::id_of(port_.id); }
+
+  /* Lends a message with its default value. */
+  template <typename Q = P, std::enable_if_t<!detail::is_slice<Q>, int> = 0> Result<Loan<P>> loan() {
+    return loan(Element());
+  }
+
+  /* Lends a message with this value. */
+  template <typename Q = P, std::enable_if_t<!detail::is_slice<Q>, int> = 0> Result<Loan<P>> loan(const Element &value) {
+    return lend(1, [&](std::uint8_t *bytes) { return new (bytes) Element(value); });
+  }
+
+  /* Lends a message of so many values, each with its default. */
+  template <typename Q = P, std::enable_if_t<detail::is_slice<Q>, int> = 0> Result<Loan<P>> loan_slice(std::size_t len) {
+    return lend(len, [&](std::uint8_t *bytes) {
+      for (std::size_t at = 0; at < len; at++) new (bytes + at * sizeof(Element)) Element();
+      return reinterpret_cast<Element *>(bytes);
+    });
+  }
+
+  /* Sends a copy of the value. */
+  template <typename Q = P, std::enable_if_t<!detail::is_slice<Q>, int> = 0> Result<Sent<P>> send_copy(const Element &value) {
+    return send(loan(value));
+  }
+
+  /* Sends a copy of the values. */
+  template <typename Q = P, std::enable_if_t<detail::is_slice<Q>, int> = 0>
+  Result<Sent<P>> send_copy(const Element *values, std::size_t len) {
+    return send(lend(len, [&](std::uint8_t *bytes) {
+      for (std::size_t at = 0; at < len; at++) new (bytes + at * sizeof(Element)) Element(values[at]);
+      return reinterpret_cast<Element *>(bytes);
+    }));
+  }
+
+  /* Whether a send waits for a subscriber whose buffer is full. */
+  bool is_blocked() const {
+    std::uint32_t answer = 0;
+    return hold_ && iox2_publisher_is_blocked(hold_.domain(), &port_, &answer) == IOX2_OK && answer;
+  }
+
+  /* Makes the connections with subscribers that came, as each send does first. */
+  Done update_connections() {
+    if (!hold_) return Error::NotLive;
+    return detail::done(iox2_publisher_update_connections(hold_.domain(), &port_));
+  }
+
+  void close() {
+    if (!hold_) return;
+    hold_->close_publisher(port_);
+    hold_ = detail::Hold();
+  }
+
+private:
+  template <typename Begin> Result<Loan<P>> lend(std::size_t len, Begin begin) {
+    if (!hold_) return Error::NotLive;
+    iox2_loan_t loan;
+    std::uint8_t *bytes = nullptr;
+    std::uint32_t code = iox2_publisher_loan(hold_.domain(), &port_, Config<P>::bytes(len), &loan, &bytes);
+    if (code != IOX2_OK) return detail::error_of(code);
+    return Loan<P>(hold_, loan, begin(bytes), len);
+  }
+
+  static Result<Sent<P>> send(Result<Loan<P>> loan) {
+    if (!loan) return loan.error();
+    return loan->send();
+  }
+
+  detail::Hold hold_;
+  iox2_publisher_t port_;
+};
+
+/* Receives the messages of every publisher of its domain, until it is destroyed. */
+template <typename P> class Subscriber {
+public:
+  using Element = detail::Element<P>;
+
+  Subscriber(detail::Hold hold, const iox2_subscriber_t &port) : hold_(std::move(hold)), port_(port) {}
+  Subscriber(Subscriber &&) noexcept = default;
+  Subscriber &operator=(Subscriber &&other) noexcept {
+    if (this != &other) {
+      close();
+      hold_ = std::move(other.hold_);
+      port_ = other.port_;
+    }
+    return *this;
+  }
+  ~Subscriber() { close(); }
+
+  explicit operator bool() const { return static_cast<bool>(hold_); }
+  Id id() const { return detail::id_of(port_.id); }
+  std::size_t buffer_size() const { return port_.buffer_size; }
+
+  /* The next message of some publisher, or none where none waits. Those of one publisher come in the order in
+   * which they were sent. */
+  Result<std::optional<Sample<P>>> receive() {
+    if (!hold_) return Error::NotLive;
+    iox2_sample_t sample;
+    const std::uint8_t *bytes = nullptr;
+    std::size_t len = 0;
+    std::uint32_t code = iox2_subscriber_receive(hold_.domain(), &port_, &sample, &bytes, &len);
+    if (code == IOX2_NO_SAMPLE) return std::optional<Sample<P>>();
+    if (code != IOX2_OK) return detail::error_of(code);
+    const Element *first = len == 0 ? nullptr : detail::at<Element>(bytes);
+    return std::optional<Sample<P>>(Sample<P>(hold_, sample, first, len / sizeof(Element)));
+  }
+
+  /* Whether a message waits, also one that can't be received yet. */
+  Result<bool> has_samples() {
+    if (!hold_) return Error::NotLive;
+    std::uint32_t waits = 0;
+    std::uint32_t code = iox2_subscriber_has_samples(hold_.domain(), &port_, &waits);
+    if (code != IOX2_OK) return detail::error_of(code);
+    return waits != 0;
+  }
+
+  /* Makes the connections with publishers that came, as each receive does first. */
+  Done update_connections() {
+    if (!hold_) return Error::NotLive;
+    return detail::done(iox2_subscriber_update_connections(hold_.domain(), &port_));
+  }
+
+  void close() {
+    if (!hold_) return;
+    iox2_subscriber_close(hold_.domain(), &port_);
+    hold_ = detail::Hold();
+  }
+
+private:
+  detail::Hold hold_;
+  iox2_subscriber_t port_;
+};
+
+/* A service whose messages are of the type P. Copies are the same domain. */
+template <typename P> class Domain {
+public:
+  static Result<Domain> create(const Config<P> &config) {
+    detail::Hold hold(new detail::Shared);
+    std::uint32_t code = iox2_domain_create(hold.domain(), &config);
+    if (code != IOX2_OK) return detail::error_of(code);
+    return Domain(std::move(hold));
+  }
+
+  Result<Publisher<P>> publisher() { return publisher(publisher_options()); }
+  Result<Subscriber<P>> subscriber() { return subscriber(subscriber_options()); }
+
+  /* What a port has that is made without options. */
+  iox2_publisher_options_t publisher_options() const {
+    iox2_config_t settings = config();
+    iox2_publisher_options_t options;
+    iox2_publisher_options_of(&settings, &options);
+    return options;
+  }
+  iox2_subscriber_options_t subscriber_options() const {
+    iox2_config_t settings = config();
+    iox2_subscriber_options_t options;
+    iox2_subscriber_options_of(&settings, &options);
+    return options;
+  }
+
+  /* initial_max_slice_len of the options is in bytes, as Config<P>::bytes gives them, and for a single value
+   * counts for nothing. */
+  Result<Publisher<P>> publisher(iox2_publisher_options_t options) {
+    if (!detail::is_slice<P>) options.initial_max_slice_len = Config<P>::bytes(1);
+    iox2_publisher_t port;
+    std::uint32_t code = iox2_publisher_create_with(hold_.domain(), &options, &port);
+    if (code != IOX2_OK) return detail::error_of(code);
+    return Publisher<P>(hold_, port);
+  }
+  Result<Subscriber<P>> subscriber(const iox2_subscriber_options_t &options) {
+    iox2_subscriber_t port;
+    std::uint32_t code = iox2_subscriber_create_with(hold_.domain(), &options, &port);
+    if (code != IOX2_OK) return detail::error_of(code);
+    return Subscriber<P>(hold_, port);
+  }
+
+  iox2_config_t config() const {
+    iox2_config_t settings = {};
+    iox2_domain_config(hold_.domain(), &settings);
+    return settings;
+  }
+
+  /* The last warnings, 32 at most, the oldest first. */
+  std::vector<iox2_warning_t> warnings() const {
+    std::vector<iox2_warning_t> all;
+    iox2_warning_t warning;
+    while (iox2_domain_warning(hold_.domain(), all.size(), &warning) == IOX2_OK) all.push_back(warning);
+    return all;
+  }
+
+  /* How often memory for a connection was refused. */
+  std::uint64_t refused_connections() const {
+    std::uint64_t count = 0;
+    iox2_domain_refused_connections(hold_.domain(), &count);
+    return count;
+  }
+
+private:
+  explicit Domain(detail::Hold hold) : hold_(std::move(hold)) {}
+
+  detail::Hold hold_;
+};
+
+} // namespace iox2
+
+#endif
