@@ -1,0 +1,216 @@
+//! A domain: a service and what stands in it.
+
+use crate::errors::{unexpected, DomainCreateError};
+use crate::numbers::{number, wide};
+use crate::payload::Payload;
+use crate::port_factory::{PortFactoryPublisher, PortFactorySubscriber};
+use crate::publisher::{BackpressureStrategy, Publisher};
+use crate::shared::Shared;
+use crate::subscriber::Subscriber;
+use crate::sys;
+use crate::warning::Warning;
+use crate::{PublisherCreateError, SubscriberCreateError};
+use std::marker::PhantomData;
+use std::rc::Rc;
+
+/// A service whose messages are of the type `P`: a value, or a slice of values.
+///
+/// Clones are the same domain, and its ports, loans and samples keep it alive. It isn't `Send`: the
+/// library has no threads.
+pub struct Domain<P: Payload + ?Sized> {
+    pub(crate) shared: Rc<Shared>,
+    messages: PhantomData<P>,
+}
+
+impl<P: Payload + ?Sized> Clone for Domain<P> {
+    fn clone(&self) -> Self {
+        Domain {
+            shared: self.shared.clone(),
+            messages: PhantomData,
+        }
+    }
+}
+
+impl<T: Copy + 'static> Domain<T> {
+    /// The settings of a domain of single values. The number names it: two domains with one number
+    /// are the same to whoever compares ids.
+    pub fn builder(service_id: u128) -> DomainBuilder<T> {
+        DomainBuilder::new(service_id)
+    }
+}
+
+impl<T: Copy + 'static> Domain<[T]> {
+    /// The settings of a domain of slices, of one value at most until `max_slice_len` says more.
+    pub fn slice_builder(service_id: u128) -> DomainBuilder<[T]> {
+        DomainBuilder::new(service_id)
+    }
+}
+
+impl<P: Payload + ?Sized> Domain<P> {
+    /// Makes a publisher as the settings of the domain say.
+    pub fn publisher(&self) -> Result<Publisher<P>, PublisherCreateError> {
+        self.publisher_builder().create()
+    }
+
+    /// Makes a subscriber as the settings of the domain say.
+    pub fn subscriber(&self) -> Result<Subscriber<P>, SubscriberCreateError> {
+        self.subscriber_builder().create()
+    }
+
+    /// The settings of a publisher, which begin as those of the domain.
+    pub fn publisher_builder(&self) -> PortFactoryPublisher<'_, P> {
+        PortFactoryPublisher::new(self)
+    }
+
+    /// The settings of a subscriber, which begin as those of the domain.
+    pub fn subscriber_builder(&self) -> PortFactorySubscriber<'_, P> {
+        PortFactorySubscriber::new(self)
+    }
+
+    /// The number that names the domain.
+    pub fn service_id(&self) -> u128 {
+        number(self.config().service_id)
+    }
+
+    /// The last warnings, 32 at most, the oldest first. Reading forgets none.
+    pub fn warnings(&self) -> Vec<Warning> {
+        (0..)
+            .map_while(|index| Warning::read(&self.shared, index))
+            .collect()
+    }
+
+    /// How many connections of a publisher and a subscriber the domain has.
+    pub fn connection_count(&self) -> usize {
+        let mut count = 0;
+        // SAFETY: see `Shared::at`.
+        expect(unsafe { sys::iox2_domain_connection_count(self.shared.at(), &mut count) });
+        count
+    }
+
+    /// How often memory for a connection was refused since the domain was made.
+    pub fn refused_connections(&self) -> u64 {
+        let mut count = 0;
+        // SAFETY: see `Shared::at`.
+        expect(unsafe { sys::iox2_domain_refused_connections(self.shared.at(), &mut count) });
+        count
+    }
+
+    pub(crate) fn config(&self) -> sys::Config {
+        let mut config = sys::Config::default();
+        // SAFETY: see `Shared::at`.
+        expect(unsafe { sys::iox2_domain_config(self.shared.at(), &mut config) });
+        config
+    }
+}
+
+pub(crate) fn expect(code: u32) {
+    if code != sys::OK {
+        unexpected(code);
+    }
+}
+
+/// The settings of a domain. Unless they are set: 2 publishers with 2 loans each, 8 subscribers with a
+/// buffer of 2 and 2 borrowed samples, no history, overflow.
+pub struct DomainBuilder<P: Payload + ?Sized> {
+    config: sys::Config,
+    messages: PhantomData<P>,
+}
+
+impl<P: Payload + ?Sized> DomainBuilder<P> {
+    fn new(service_id: u128) -> Self {
+        let () = P::FITS;
+        let mut config = sys::Config::default();
+        // SAFETY: the pointer is of a local.
+        unsafe { sys::iox2_config_defaults(&mut config, 0, P::SIZE, P::ALIGNMENT) };
+        config.service_id = wide(service_id);
+        DomainBuilder {
+            config,
+            messages: PhantomData,
+        }
+    }
+
+    /// How many publishers may be open at a time.
+    pub fn max_publishers(mut self, value: usize) -> Self {
+        self.config.max_publishers = value;
+        self
+    }
+
+    /// How many subscribers there may be at a time. A closed one counts until its last sample is
+    /// dropped.
+    pub fn max_subscribers(mut self, value: usize) -> Self {
+        self.config.max_subscribers = value;
+        self
+    }
+
+    /// How many messages of one publisher may wait for one subscriber; 0 counts as 1.
+    pub fn subscriber_max_buffer_size(mut self, value: usize) -> Self {
+        self.config.subscriber_max_buffer_size = value;
+        self
+    }
+
+    /// How many samples of one publisher a subscriber may have.
+    pub fn subscriber_max_borrowed_samples(mut self, value: usize) -> Self {
+        self.config.subscriber_max_borrowed_samples = value;
+        self
+    }
+
+    /// How many of its last messages a publisher keeps for subscribers that come later.
+    pub fn history_size(mut self, value: usize) -> Self {
+        self.config.history_size = value;
+        self
+    }
+
+    /// For how many closed publishers, of which it has samples, a subscriber has room.
+    pub fn subscriber_expired_connection_buffer(mut self, value: usize) -> Self {
+        self.config.subscriber_expired_connection_buffer = value;
+        self
+    }
+
+    /// How many loans of a publisher may be out at a time.
+    pub fn publisher_max_loaned_samples(mut self, value: usize) -> Self {
+        self.config.publisher_max_loaned_samples = value;
+        self
+    }
+
+    /// Whether a message that finds a full buffer pushes the oldest waiting one out.
+    pub fn enable_safe_overflow(mut self, value: bool) -> Self {
+        self.config.enable_safe_overflow = u32::from(value);
+        self
+    }
+
+    /// What a publisher does at a full buffer where there is no overflow.
+    pub fn backpressure_strategy(mut self, value: BackpressureStrategy) -> Self {
+        self.config.backpressure_strategy = value as u32;
+        self
+    }
+
+    /// How many slots a publisher of the domain has. `None` where the number doesn't fit.
+    pub fn worst_case_slots(&self) -> Option<usize> {
+        let mut slots = 0;
+        let loans = self.config.publisher_max_loaned_samples;
+        // SAFETY: the pointers are of locals.
+        match unsafe { sys::iox2_worst_case_slots(&self.config, loans, &mut slots) } {
+            sys::OK => Some(slots),
+            _ => None,
+        }
+    }
+
+    /// Makes the domain.
+    pub fn create(self) -> Result<Domain<P>, DomainCreateError> {
+        match Shared::new(&self.config) {
+            Ok(shared) => Ok(Domain {
+                shared: Rc::new(shared),
+                messages: PhantomData,
+            }),
+            Err(code) => Err(DomainCreateError::of(code)),
+        }
+    }
+}
+
+impl<T: Copy + 'static> DomainBuilder<[T]> {
+    /// How many values a message may have.
+    pub fn max_slice_len(mut self, value: usize) -> Self {
+        self.config.payload_size = <[T]>::greatest_size(value);
+        self
+    }
+}

@@ -1,0 +1,250 @@
+//! Why a call was refused. The names are iceoryx2's, but for those that say otherwise.
+
+use crate::sys;
+use std::error::Error;
+use std::fmt;
+use std::ptr;
+use std::slice;
+use std::str;
+
+/// The text of a code of the C header.
+pub(crate) fn text(code: u32) -> &'static str {
+    let mut start = ptr::null();
+    let mut len = 0;
+    // SAFETY: both pointers are of locals. The text lies in the archive for good.
+    let bytes = unsafe {
+        sys::iox2_error_text_at(code, &mut start, &mut len);
+        slice::from_raw_parts(start, len)
+    };
+    str::from_utf8(bytes).unwrap_or("a text that isn't UTF-8")
+}
+
+/// For a code that no call of this crate gets, since its handles are live while they exist.
+#[cold]
+pub(crate) fn unexpected(code: u32) -> ! {
+    panic!("the library answered {code}: {}", text(code))
+}
+
+macro_rules! errors {
+    ($(#[$meta:meta])* $name:ident { $($(#[$of:meta])* $variant:ident = $code:ident,)* }) => {
+        $(#[$meta])*
+        #[derive(Clone, Copy, Debug, PartialEq, Eq, Hash)]
+        pub enum $name {
+            $($(#[$of])* $variant,)*
+        }
+
+        impl $name {
+            pub(crate) fn of(code: u32) -> $name {
+                match code {
+                    $(sys::$code => $name::$variant,)*
+                    _ => unexpected(code),
+                }
+            }
+
+            /// The code of the C header.
+            pub fn code(self) -> u32 {
+                match self {
+                    $($name::$variant => sys::$code,)*
+                }
+            }
+        }
+
+        impl fmt::Display for $name {
+            fn fmt(&self, f: &mut fmt::Formatter<'_>) -> fmt::Result {
+                f.write_str(text(self.code()))
+            }
+        }
+
+        impl Error for $name {}
+    };
+}
+
+errors! {
+    /// Why a domain wasn't made. This library's own.
+    DomainCreateError {
+        /// Memory was refused.
+        OutOfMemory = OUT_OF_MEMORY,
+    }
+}
+
+errors! {
+    /// Why a publisher wasn't made.
+    PublisherCreateError {
+        /// As many publishers are open as the domain allows.
+        ExceedsMaxSupportedPublishers = PUBLISHER_CREATE_ERROR_EXCEEDS_MAX_SUPPORTED_PUBLISHERS,
+        /// Memory for the messages was refused, or there can't be as much.
+        UnableToCreateDataSegment = PUBLISHER_CREATE_ERROR_UNABLE_TO_CREATE_DATA_SEGMENT,
+        /// Memory for the publisher's own state was refused.
+        FailedToDeployThreadsafetyPolicy = PUBLISHER_CREATE_ERROR_FAILED_TO_DEPLOY_THREADSAFETY_POLICY,
+        /// The domain has no port ids left.
+        UnableToCreatePortTag = PUBLISHER_CREATE_ERROR_UNABLE_TO_CREATE_PORT_TAG,
+    }
+}
+
+errors! {
+    /// Why a subscriber wasn't made.
+    SubscriberCreateError {
+        /// There are as many subscribers as the domain allows. A closed one counts until its last
+        /// sample is released.
+        ExceedsMaxSupportedSubscribers = SUBSCRIBER_CREATE_ERROR_EXCEEDS_MAX_SUPPORTED_SUBSCRIBERS,
+        /// The buffer that was asked for is larger than the domain allows.
+        BufferSizeExceedsMaxSupportedBufferSizeOfService = SUBSCRIBER_CREATE_ERROR_BUFFER_SIZE_EXCEEDS_MAX,
+        /// Memory for the subscriber's own state was refused.
+        FailedToDeployThreadsafetyPolicy = SUBSCRIBER_CREATE_ERROR_FAILED_TO_DEPLOY_THREADSAFETY_POLICY,
+        /// The domain has no port ids left.
+        UnableToCreatePortTag = SUBSCRIBER_CREATE_ERROR_UNABLE_TO_CREATE_PORT_TAG,
+    }
+}
+
+errors! {
+    /// Why a publisher lends no message.
+    LoanError {
+        /// Every slot is taken.
+        OutOfMemory = LOAN_ERROR_OUT_OF_MEMORY,
+        /// As many loans are out as the publisher may have at a time.
+        ExceedsMaxLoans = LOAN_ERROR_EXCEEDS_MAX_LOANS,
+        /// The message is longer than the publisher's greatest.
+        ExceedsMaxLoanSize = LOAN_ERROR_EXCEEDS_MAX_LOAN_SIZE,
+        /// The domain has no message numbers left.
+        InternalFailure = LOAN_ERROR_INTERNAL_FAILURE,
+        /// An earlier send of the publisher waits. This library's own.
+        PublisherIsBlocked = PUBLISHER_IS_BLOCKED,
+    }
+}
+
+errors! {
+    /// Why an update of the connections failed.
+    ConnectionFailure {
+        /// Never returned.
+        IncompatibleBufferSize = CONNECTION_FAILURE_INCOMPATIBLE_BUFFER_SIZE,
+        /// Memory for the connection was refused, and the port was made to fail then.
+        OutOfMemory = CONNECTION_FAILURE_OUT_OF_MEMORY,
+        /// The subscriber has samples of more closed publishers than it has room for.
+        ExpiredConnectionBufferFull = CONNECTION_FAILURE_EXPIRED_BUFFER_FULL,
+        /// Never returned.
+        UnableToMapSendersDataSegment = CONNECTION_FAILURE_UNABLE_TO_MAP,
+        /// An earlier send of the publisher waits. This library's own.
+        PublisherIsBlocked = PUBLISHER_IS_BLOCKED,
+    }
+}
+
+/// Why a message wasn't sent, or not to everybody.
+#[derive(Clone, Copy, Debug, PartialEq, Eq, Hash)]
+pub enum SendError {
+    /// The publisher of the loan is closed.
+    ConnectionBrokenSinceSenderNoLongerExists,
+    /// Never returned.
+    ConnectionCorrupted,
+    /// A call that lends and sends in one got no loan, for this reason.
+    LoanError(LoanError),
+    /// The update of the connections before the delivery failed. Nobody got the message.
+    ConnectionError(ConnectionFailure),
+    /// The publisher's handler failed the send at a full buffer. The others may have got the message.
+    UnableToDeliver,
+    /// Never returned.
+    InternalError,
+}
+
+impl SendError {
+    pub(crate) fn of(code: u32) -> SendError {
+        match code {
+            sys::SEND_ERROR_CONNECTION_BROKEN_SINCE_SENDER_NO_LONGER_EXISTS => {
+                SendError::ConnectionBrokenSinceSenderNoLongerExists
+            }
+            sys::SEND_ERROR_CONNECTION_CORRUPTED => SendError::ConnectionCorrupted,
+            sys::SEND_ERROR_UNABLE_TO_DELIVER => SendError::UnableToDeliver,
+            sys::SEND_ERROR_INTERNAL_ERROR => SendError::InternalError,
+            sys::SEND_ERROR_CONNECTION_INCOMPATIBLE_BUFFER_SIZE
+            | sys::SEND_ERROR_CONNECTION_OUT_OF_MEMORY
+            | sys::SEND_ERROR_CONNECTION_EXPIRED_BUFFER_FULL
+            | sys::SEND_ERROR_CONNECTION_UNABLE_TO_MAP => {
+                SendError::ConnectionError(ConnectionFailure::of(code + FROM_SEND))
+            }
+            _ => SendError::LoanError(LoanError::of(code)),
+        }
+    }
+
+    /// The code of the C header.
+    pub fn code(self) -> u32 {
+        match self {
+            SendError::ConnectionBrokenSinceSenderNoLongerExists => {
+                sys::SEND_ERROR_CONNECTION_BROKEN_SINCE_SENDER_NO_LONGER_EXISTS
+            }
+            SendError::ConnectionCorrupted => sys::SEND_ERROR_CONNECTION_CORRUPTED,
+            SendError::LoanError(error) => error.code(),
+            SendError::ConnectionError(failure) => failure.code() - FROM_SEND,
+            SendError::UnableToDeliver => sys::SEND_ERROR_UNABLE_TO_DELIVER,
+            SendError::InternalError => sys::SEND_ERROR_INTERNAL_ERROR,
+        }
+    }
+}
+
+impl fmt::Display for SendError {
+    fn fmt(&self, f: &mut fmt::Formatter<'_>) -> fmt::Result {
+        f.write_str(text(self.code()))
+    }
+}
+
+impl Error for SendError {
+    fn source(&self) -> Option<&(dyn Error + 'static)> {
+        match self {
+            SendError::LoanError(error) => Some(error),
+            SendError::ConnectionError(failure) => Some(failure),
+            _ => None,
+        }
+    }
+}
+
+impl From<LoanError> for SendError {
+    fn from(error: LoanError) -> SendError {
+        SendError::LoanError(error)
+    }
+}
+
+/// Why a subscriber receives nothing though something may wait.
+#[derive(Clone, Copy, Debug, PartialEq, Eq, Hash)]
+pub enum ReceiveError {
+    /// Messages wait, but of each publisher that they come from the subscriber has as many samples
+    /// as it may. A sample that is dropped helps.
+    ExceedsMaxBorrows,
+    /// The update of the connections before the receive failed.
+    ConnectionFailure(ConnectionFailure),
+}
+
+impl ReceiveError {
+    pub(crate) fn of(code: u32) -> ReceiveError {
+        match code {
+            sys::RECEIVE_ERROR_EXCEEDS_MAX_BORROWS => ReceiveError::ExceedsMaxBorrows,
+            _ => ReceiveError::ConnectionFailure(ConnectionFailure::of(code + FROM_RECEIVE)),
+        }
+    }
+
+    /// The code of the C header.
+    pub fn code(self) -> u32 {
+        match self {
+            ReceiveError::ExceedsMaxBorrows => sys::RECEIVE_ERROR_EXCEEDS_MAX_BORROWS,
+            ReceiveError::ConnectionFailure(failure) => failure.code() - FROM_RECEIVE,
+        }
+    }
+}
+
+impl fmt::Display for ReceiveError {
+    fn fmt(&self, f: &mut fmt::Formatter<'_>) -> fmt::Result {
+        f.write_str(text(self.code()))
+    }
+}
+
+impl Error for ReceiveError {
+    fn source(&self) -> Option<&(dyn Error + 'static)> {
+        match self {
+            ReceiveError::ExceedsMaxBorrows => None,
+            ReceiveError::ConnectionFailure(failure) => Some(failure),
+        }
+    }
+}
+
+// A failed connection has a code of its own for each call that it fails; they differ by so much.
+const FROM_SEND: u32 =
+    sys::CONNECTION_FAILURE_OUT_OF_MEMORY - sys::SEND_ERROR_CONNECTION_OUT_OF_MEMORY;
+const FROM_RECEIVE: u32 =
+    sys::CONNECTION_FAILURE_OUT_OF_MEMORY - sys::RECEIVE_ERROR_CONNECTION_OUT_OF_MEMORY;

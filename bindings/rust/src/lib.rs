@@ -1,0 +1,78 @@
+//! Publish-subscribe messaging inside one program, in the style of iceoryx2: safe Rust over a static
+//! library that is proved.
+//!
+//! A publisher lends a slot, which is written in place and sent; each subscriber reads the message
+//! where it lies and gives it back. What is lent, received or opened is given back when it is dropped.
+//!
+//! ```
+//! use iox2_pubsub::Domain;
+//!
+//! #[derive(Clone, Copy)]
+//! struct Reading {
+//!     celsius: f64,
+//! }
+//!
+//! # fn main() -> Result<(), Box<dyn std::error::Error>> {
+//! let domain = Domain::<Reading>::builder(7).create()?;
+//! let publisher = domain.publisher()?;
+//! let subscriber = domain.subscriber()?;
+//!
+//! let mut loan = publisher.loan_uninit()?.write_payload(Reading { celsius: 20.0 });
+//! loan.celsius += 1.5;
+//! loan.send()?;
+//!
+//! for sample in &subscriber {
+//!     println!("{} °C", sample?.celsius);
+//! }
+//! # Ok(())
+//! # }
+//! ```
+//!
+//! # What is safe, and why
+//!
+//! No call of this crate is unsafe but `LoanUninit::assume_init`. It rests on this:
+//!
+//! - A `Domain<P>` has messages of the type `P` alone, which is `Copy + 'static` or a slice of such
+//!   values. So what is received was written as a `P`, and no further promise of its bits is needed.
+//!   That its length is that of a `P` and its place is aligned is looked at again for each message.
+//! - The bytes of a loan or a sample stay where they are until it is dropped. The library's contracts
+//!   don't say so; the tests of the library do.
+//! - Nothing here is `Send` or `Sync`. Each handle has a part in the domain, which goes with the last of
+//!   them, so that none outlives it.
+//!
+//!   ```compile_fail
+//!   fn to_a_thread<T: Send>(_: T) {}
+//!   to_a_thread(iox2_pubsub::Domain::<u8>::builder(1).create().unwrap());
+//!   ```
+//! - A handle is live in the domain while it exists, and the library tests that too: a wrong one would
+//!   be a panic of this crate.
+#![warn(missing_docs)]
+
+mod domain;
+mod errors;
+mod loan;
+mod numbers;
+mod payload;
+mod port_factory;
+mod publisher;
+mod sample;
+mod send_outcome;
+mod shared;
+mod subscriber;
+#[doc(hidden)]
+pub mod sys;
+mod warning;
+
+pub use domain::{Domain, DomainBuilder};
+pub use errors::{
+    ConnectionFailure, DomainCreateError, LoanError, PublisherCreateError, ReceiveError, SendError,
+    SubscriberCreateError,
+};
+pub use loan::{Loan, LoanUninit};
+pub use payload::Payload;
+pub use port_factory::{DegradationAction, PortFactoryPublisher, PortFactorySubscriber};
+pub use publisher::{BackpressureAction, BackpressureStrategy, Publisher};
+pub use sample::Sample;
+pub use send_outcome::{BlockedSend, SendOutcome};
+pub use subscriber::{Received, Subscriber};
+pub use warning::{Warning, WarningKind};

@@ -1,0 +1,175 @@
+//! A message that a publisher has lent.
+
+use crate::domain::expect;
+use crate::errors::SendError;
+use crate::numbers::number;
+use crate::payload::Payload;
+use crate::send_outcome::{BlockedSend, SendOutcome};
+use crate::shared::Shared;
+use crate::sys;
+use std::fmt;
+use std::mem::{ManuallyDrop, MaybeUninit};
+use std::ops::{Deref, DerefMut};
+use std::ptr;
+use std::rc::Rc;
+
+// A loan in its domain, which gets it back when this is dropped.
+struct Lent {
+    shared: Rc<Shared>,
+    loan: sys::Loan,
+}
+
+impl Drop for Lent {
+    fn drop(&mut self) {
+        // SAFETY: see `Shared::at`.
+        expect(unsafe { sys::iox2_loan_discard(self.shared.at(), &self.loan) });
+    }
+}
+
+impl Lent {
+    // Leaves the loan in the domain.
+    fn into_parts(self) -> (Rc<Shared>, sys::Loan) {
+        let this = ManuallyDrop::new(self);
+        // SAFETY: the fields of `this` are never dropped, and each is moved out once.
+        (unsafe { ptr::read(&this.shared) }, this.loan)
+    }
+}
+
+/// A message that was lent and isn't written yet. It is given back when it is dropped.
+pub struct LoanUninit<P: Payload + ?Sized> {
+    lent: Lent,
+    payload: *mut P,
+}
+
+impl<P: Payload + ?Sized> LoanUninit<P> {
+    pub(crate) fn new(shared: Rc<Shared>, loan: sys::Loan, start: *mut u8, bytes: usize) -> Self {
+        let lent = Lent { shared, loan };
+        let payload = P::at(start, bytes).expect("a loan has room for its type");
+        LoanUninit { lent, payload }
+    }
+
+    /// Where the message is to be written.
+    pub fn payload_mut(&mut self) -> &mut P::Uninit {
+        // SAFETY: the bytes stay where they are, and are this loan's alone until it is spent.
+        unsafe { &mut *P::uninit(self.payload) }
+    }
+
+    /// Takes the message as written.
+    ///
+    /// # Safety
+    ///
+    /// It is written.
+    pub unsafe fn assume_init(self) -> Loan<P> {
+        Loan {
+            lent: self.lent,
+            payload: self.payload,
+        }
+    }
+}
+
+impl<T: Copy + 'static> LoanUninit<T> {
+    /// Writes the message.
+    pub fn write_payload(mut self, value: T) -> Loan<T> {
+        self.payload_mut().write(value);
+        // SAFETY: it is written.
+        unsafe { self.assume_init() }
+    }
+}
+
+impl<T: Copy + 'static> LoanUninit<[T]> {
+    /// Writes into each place what the function returns for its index.
+    pub fn write_from_fn(mut self, mut f: impl FnMut(usize) -> T) -> Loan<[T]> {
+        for (index, place) in self.payload_mut().iter_mut().enumerate() {
+            place.write(f(index));
+        }
+        // SAFETY: each place is written.
+        unsafe { self.assume_init() }
+    }
+
+    /// Writes copies of the values.
+    ///
+    /// # Panics
+    ///
+    /// Where there are more or fewer values than the loan has places.
+    pub fn write_from_slice(mut self, values: &[T]) -> Loan<[T]> {
+        // SAFETY: a value is also one that may be unwritten.
+        let values = unsafe { &*(values as *const [T] as *const [MaybeUninit<T>]) };
+        self.payload_mut().copy_from_slice(values);
+        // SAFETY: each place is written, since the lengths are equal.
+        unsafe { self.assume_init() }
+    }
+}
+
+/// A message that was lent and is written: it reads as its payload where that lies, and can be changed
+/// there until it is sent. It is given back when it is dropped.
+pub struct Loan<P: Payload + ?Sized> {
+    lent: Lent,
+    payload: *mut P,
+}
+
+impl<P: Payload + ?Sized> Loan<P> {
+    /// The id of the publisher that lent it.
+    pub fn publisher(&self) -> u128 {
+        number(self.lent.loan.publisher)
+    }
+
+    /// The number that the message has: no other message of the domain has it.
+    pub fn number(&self) -> u128 {
+        number(self.lent.loan.number)
+    }
+
+    /// The message itself.
+    pub fn payload(&self) -> &P {
+        self
+    }
+
+    /// The message itself, to be changed.
+    pub fn payload_mut(&mut self) -> &mut P {
+        self
+    }
+
+    /// Sends the message. Where that is refused the loan is spent.
+    pub fn send(self) -> Result<SendOutcome<P>, SendError> {
+        let (mut receivers, mut blocked) = (0, sys::Blocked::default());
+        let Loan { lent, payload } = self;
+        // SAFETY: see `Shared::at`.
+        let code = unsafe {
+            sys::iox2_loan_send(lent.shared.at(), &lent.loan, &mut receivers, &mut blocked)
+        };
+        if code == sys::PUBLISHER_IS_BLOCKED {
+            return Ok(SendOutcome::PublisherIsBlocked(Loan { lent, payload }));
+        }
+        let (shared, _spent) = lent.into_parts();
+        match code {
+            sys::OK => Ok(SendOutcome::Delivered(receivers)),
+            sys::BLOCKED => Ok(SendOutcome::Blocked(BlockedSend::new(shared, blocked))),
+            _ => Err(SendError::of(code)),
+        }
+    }
+}
+
+impl<P: Payload + ?Sized> Deref for Loan<P> {
+    type Target = P;
+
+    fn deref(&self) -> &P {
+        // SAFETY: the bytes stay where they are and are this loan's alone until it is spent, its domain
+        // is there, and they are written.
+        unsafe { &*self.payload }
+    }
+}
+
+impl<P: Payload + ?Sized> DerefMut for Loan<P> {
+    fn deref_mut(&mut self) -> &mut P {
+        // SAFETY: as above.
+        unsafe { &mut *self.payload }
+    }
+}
+
+impl<P: Payload + ?Sized + fmt::Debug> fmt::Debug for Loan<P> {
+    fn fmt(&self, f: &mut fmt::Formatter<'_>) -> fmt::Result {
+        f.debug_struct("Loan")
+            .field("number", &self.number())
+            .field("payload", &self.payload())
+            .finish()
+    }
+}

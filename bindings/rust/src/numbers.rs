@@ -1,0 +1,12 @@
+use crate::sys::Wide;
+
+pub(crate) fn number(wide: Wide) -> u128 {
+    u128::from(wide.high) << 64 | u128::from(wide.low)
+}
+
+pub(crate) fn wide(number: u128) -> Wide {
+    Wide {
+        low: number as u64,
+        high: (number >> 64) as u64,
+    }
+}

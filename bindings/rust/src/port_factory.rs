@@ -1,0 +1,120 @@
+//! The settings of ports.
+
+use crate::domain::Domain;
+use crate::errors::{PublisherCreateError, SubscriberCreateError};
+use crate::payload::Payload;
+use crate::publisher::{BackpressureAction, BackpressureStrategy, Publisher};
+use crate::subscriber::Subscriber;
+use crate::sys;
+
+/// What a port does where memory for a connection is refused.
+#[derive(Clone, Copy, Debug, PartialEq, Eq, Hash)]
+#[repr(u32)]
+pub enum DegradationAction {
+    /// Goes on without the connection.
+    Ignore = 0,
+    /// Goes on without the connection, and the domain warns of it.
+    Warn = 1,
+    /// Lets the call fail.
+    DegradeAndFail = 2,
+}
+
+/// The settings of a publisher.
+pub struct PortFactoryPublisher<'d, P: Payload + ?Sized> {
+    domain: &'d Domain<P>,
+    options: sys::PublisherOptions,
+}
+
+impl<'d, P: Payload + ?Sized> PortFactoryPublisher<'d, P> {
+    pub(crate) fn new(domain: &'d Domain<P>) -> Self {
+        let mut options = sys::PublisherOptions::default();
+        // SAFETY: the pointers are of locals.
+        unsafe { sys::iox2_publisher_options_of(&domain.config(), &mut options) };
+        PortFactoryPublisher { domain, options }
+    }
+
+    /// How many loans may be out at a time.
+    pub fn max_loaned_samples(mut self, value: usize) -> Self {
+        self.options.max_loaned_samples = value;
+        self
+    }
+
+    /// What comes of a full buffer where there is no overflow.
+    pub fn backpressure_strategy(mut self, value: BackpressureStrategy) -> Self {
+        self.options.backpressure_strategy = value as u32;
+        self
+    }
+
+    /// What always answers in place of the strategy.
+    pub fn set_backpressure_handler(mut self, value: BackpressureAction) -> Self {
+        self.options.backpressure_handler = value as u32;
+        self
+    }
+
+    /// What comes of a connection for which memory is refused.
+    pub fn set_degradation_handler(mut self, value: DegradationAction) -> Self {
+        self.options.degradation = value as u32;
+        self
+    }
+
+    /// Makes the publisher.
+    pub fn create(self) -> Result<Publisher<P>, PublisherCreateError> {
+        let mut port = sys::Publisher::default();
+        let shared = &self.domain.shared;
+        // SAFETY: see `Shared::at`.
+        let code =
+            unsafe { sys::iox2_publisher_create_with(shared.at(), &self.options, &mut port) };
+        match code {
+            sys::OK => Ok(Publisher::new(shared.clone(), port)),
+            _ => Err(PublisherCreateError::of(code)),
+        }
+    }
+}
+
+impl<'d, T: Copy + 'static> PortFactoryPublisher<'d, [T]> {
+    /// How many values a message may have.
+    pub fn initial_max_slice_len(mut self, value: usize) -> Self {
+        self.options.initial_max_slice_len = <[T]>::greatest_size(value);
+        self
+    }
+}
+
+/// The settings of a subscriber.
+pub struct PortFactorySubscriber<'d, P: Payload + ?Sized> {
+    domain: &'d Domain<P>,
+    options: sys::SubscriberOptions,
+}
+
+impl<'d, P: Payload + ?Sized> PortFactorySubscriber<'d, P> {
+    pub(crate) fn new(domain: &'d Domain<P>) -> Self {
+        let mut options = sys::SubscriberOptions::default();
+        // SAFETY: the pointers are of locals.
+        unsafe { sys::iox2_subscriber_options_of(&domain.config(), &mut options) };
+        PortFactorySubscriber { domain, options }
+    }
+
+    /// How many messages of one publisher may wait; 0 counts as 1.
+    pub fn buffer_size(mut self, value: usize) -> Self {
+        self.options.buffer_size = value;
+        self
+    }
+
+    /// What comes of a connection for which memory is refused.
+    pub fn set_degradation_handler(mut self, value: DegradationAction) -> Self {
+        self.options.degradation = value as u32;
+        self
+    }
+
+    /// Makes the subscriber.
+    pub fn create(self) -> Result<Subscriber<P>, SubscriberCreateError> {
+        let mut port = sys::Subscriber::default();
+        let shared = &self.domain.shared;
+        // SAFETY: see `Shared::at`.
+        let code =
+            unsafe { sys::iox2_subscriber_create_with(shared.at(), &self.options, &mut port) };
+        match code {
+            sys::OK => Ok(Subscriber::new(shared.clone(), port)),
+            _ => Err(SubscriberCreateError::of(code)),
+        }
+    }
+}

@@ -1,0 +1,87 @@
+//! What a domain did or left undone without failing a call.
+
+use crate::errors::{text, ConnectionFailure};
+use crate::numbers::number;
+use crate::shared::Shared;
+use crate::sys;
+use std::fmt;
+
+/// What a warning is of.
+#[derive(Clone, Copy, Debug, PartialEq, Eq, Hash)]
+pub enum WarningKind {
+    /// A subscriber was made in a domain whose room for closed publishers is below the number of
+    /// samples that it may borrow, which is taken in its place.
+    ExpiredBufferRaised,
+    /// A publisher was made, and its first update of connections failed.
+    PublisherPartlyConnected,
+    /// A subscriber was made, and its first update of connections failed.
+    SubscriberPartlyConnected,
+    /// Memory for a connection was refused.
+    ConnectionNotMade,
+    /// Messages of a closed publisher were lost before they were received, since there was no room
+    /// to keep its connection.
+    ExpiredDataDiscarded,
+}
+
+/// Something that a domain did or left undone without failing the call.
+#[derive(Clone, Copy, Debug, PartialEq, Eq, Hash)]
+pub struct Warning {
+    /// What it is of.
+    pub kind: WarningKind,
+    /// The id of the publisher that it names.
+    pub publisher: Option<u128>,
+    /// The id of the subscriber that it names.
+    pub subscriber: Option<u128>,
+    /// How the update of connections failed.
+    pub failure: Option<ConnectionFailure>,
+}
+
+impl Warning {
+    // `None` past the last one.
+    pub(crate) fn read(shared: &Shared, index: usize) -> Option<Warning> {
+        let mut warning = sys::Warning::default();
+        // SAFETY: see `Shared::at`.
+        let code = unsafe { sys::iox2_domain_warning(shared.at(), index, &mut warning) };
+        if code != sys::OK {
+            return None;
+        }
+        let named = |id| Some(number(id)).filter(|id| *id != 0);
+        Some(Warning {
+            kind: WarningKind::of(warning.kind)?,
+            publisher: named(warning.publisher),
+            subscriber: named(warning.subscriber),
+            failure: Some(warning.failure)
+                .filter(|code| *code != 0)
+                .map(ConnectionFailure::of),
+        })
+    }
+}
+
+impl WarningKind {
+    fn of(kind: u32) -> Option<WarningKind> {
+        Some(match kind {
+            sys::WARNING_EXPIRED_BUFFER_RAISED => WarningKind::ExpiredBufferRaised,
+            sys::WARNING_PUBLISHER_PARTLY_CONNECTED => WarningKind::PublisherPartlyConnected,
+            sys::WARNING_SUBSCRIBER_PARTLY_CONNECTED => WarningKind::SubscriberPartlyConnected,
+            sys::WARNING_CONNECTION_NOT_MADE => WarningKind::ConnectionNotMade,
+            sys::WARNING_EXPIRED_DATA_DISCARDED => WarningKind::ExpiredDataDiscarded,
+            _ => return None,
+        })
+    }
+
+    fn code(self) -> u32 {
+        match self {
+            WarningKind::ExpiredBufferRaised => sys::WARNING_EXPIRED_BUFFER_RAISED,
+            WarningKind::PublisherPartlyConnected => sys::WARNING_PUBLISHER_PARTLY_CONNECTED,
+            WarningKind::SubscriberPartlyConnected => sys::WARNING_SUBSCRIBER_PARTLY_CONNECTED,
+            WarningKind::ConnectionNotMade => sys::WARNING_CONNECTION_NOT_MADE,
+            WarningKind::ExpiredDataDiscarded => sys::WARNING_EXPIRED_DATA_DISCARDED,
+        }
+    }
+}
+
+impl fmt::Display for WarningKind {
+    fn fmt(&self, f: &mut fmt::Formatter<'_>) -> fmt::Result {
+        f.write_str(text(self.code()))
+    }
+}
