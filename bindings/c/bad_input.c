@@ -14,8 +14,8 @@ typedef struct outs_t {
   iox2_header_t header;
   iox2_config_t config;
   iox2_warning_t warning;
-  uint8_t *written;
-  const uint8_t *read;
+  void *written;
+  const void *read;
   size_t count, len;
   uint64_t number;
   uint32_t answer;
@@ -83,8 +83,8 @@ typedef struct world_t {
   iox2_loan_t loan;
   iox2_blocked_t blocked;
   iox2_sample_t sample;
-  const uint8_t *read;
-  uint8_t *written;
+  const void *read;
+  void *written;
 } world_t;
 
 static void begin(world_t *world, uint64_t service_id) {
@@ -103,17 +103,16 @@ static void begin(world_t *world, uint64_t service_id) {
   options.backpressure_strategy = IOX2_RETRY_UNTIL_DELIVERED;
   IS(iox2_publisher_create_with(&world->domain, &options, &world->waiting), IOX2_OK);
   IS(iox2_subscriber_create(&world->domain, &world->subscriber), IOX2_OK);
-  const uint8_t *bytes = (const uint8_t *)&value;
-  IS(iox2_publisher_send_copy(&world->domain, &world->publisher, bytes, 8, &count, &world->blocked), IOX2_OK);
+  IS(iox2_publisher_send_copy(&world->domain, &world->publisher, &value, 8, &count, &world->blocked), IOX2_OK);
   IS(iox2_subscriber_receive(&world->domain, &world->subscriber, &world->sample, &world->read, &count), IOX2_OK);
   IS(iox2_publisher_loan(&world->domain, &world->publisher, 8, &world->loan, &world->written), IOX2_OK);
   value = 12;
-  IS(iox2_publisher_send_copy(&world->domain, &world->waiting, bytes, 8, &count, &world->blocked), IOX2_OK);
+  IS(iox2_publisher_send_copy(&world->domain, &world->waiting, &value, 8, &count, &world->blocked), IOX2_OK);
   value = 13;
-  IS(iox2_publisher_send_copy(&world->domain, &world->waiting, bytes, 8, &count, &world->blocked), IOX2_BLOCKED);
+  IS(iox2_publisher_send_copy(&world->domain, &world->waiting, &value, 8, &count, &world->blocked), IOX2_BLOCKED);
 }
 
-static uint64_t value_at(const uint8_t *bytes) {
+static uint64_t value_at(const void *bytes) {
   uint64_t value;
   memcpy(&value, bytes, sizeof value);
   return value;
@@ -124,7 +123,7 @@ static void end(world_t *world) {
   iox2_domain_t *domain = &world->domain;
   iox2_sample_t sample;
   iox2_blocked_t blocked;
-  const uint8_t *read;
+  const void *read;
   size_t count = 0, len = 0;
   uint32_t answer = 0;
   uint64_t value = 14;
@@ -198,8 +197,8 @@ static void hints_are_hints(void) {
   const size_t wrong[] = {0, 1, 77, SIZE_MAX / 2, SIZE_MAX};
   world_t world;
   size_t len;
-  const uint8_t *read;
-  uint8_t *written;
+  const void *read;
+  void *written;
   uint32_t answer;
   begin(&world, 1);
   for (int i = 0; i < 5; i++) {
@@ -262,8 +261,7 @@ static void numbers_are_used_twice_and_kept_too_long(void) {
   IS(iox2_publisher_create(domain, &world.publisher), IOX2_OK);
   IS(iox2_subscriber_create(domain, &world.subscriber), IOX2_OK);
   for (uint64_t value = 0; value < 50; value++) {
-    const uint8_t *bytes = (const uint8_t *)&value;
-    IS(iox2_publisher_send_copy(domain, &world.publisher, bytes, 8, &count, &blocked), IOX2_OK);
+    IS(iox2_publisher_send_copy(domain, &world.publisher, &value, 8, &count, &blocked), IOX2_OK);
     IS(iox2_subscriber_receive(domain, &world.subscriber, &world.sample, &world.read, &count), IOX2_OK);
     sample_is_refused(domain, &kept.sample, IOX2_NOT_LIVE);
     IS(iox2_sample_release(domain, &world.sample), IOX2_OK);
@@ -369,8 +367,9 @@ static void lengths_are_at_their_limits(void) {
   iox2_blocked_t blocked;
   iox2_sample_t sample;
   const size_t limit = 24, too_long[] = {25, 32, SIZE_MAX / 2, SIZE_MAX - 7, SIZE_MAX};
-  uint8_t bytes[24], *written;
-  const uint8_t *read;
+  uint8_t bytes[24];
+  void *written;
+  const void *read;
   size_t receivers = 0, len = 99;
   memset(bytes, 'b', sizeof bytes);
   iox2_config_defaults(&config, 1, limit, 8);
@@ -382,7 +381,7 @@ static void lengths_are_at_their_limits(void) {
     REFUSED(iox2_publisher_loan(&domain, &publisher, too_long[i], &outs.loan, &outs.written),
             IOX2_LOAN_ERROR_EXCEEDS_MAX_LOAN_SIZE);
   }
-  uint8_t *longer = (uint8_t *)calloc(1, limit + 1);
+  void *longer = calloc(1, limit + 1);
   REFUSED(iox2_publisher_send_copy(&domain, &publisher, longer, limit + 1, &outs.count, &outs.blocked),
           IOX2_LOAN_ERROR_EXCEEDS_MAX_LOAN_SIZE);
   free(longer);

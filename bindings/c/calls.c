@@ -21,6 +21,13 @@ SAME_SIZE(iox2_sample_t, 88);
 SAME_SIZE(iox2_header_t, 40);
 SAME_SIZE(iox2_warning_t, 40);
 
+static int are_all(const void *bytes, size_t len, uint8_t value) {
+  for (size_t i = 0; i < len; i++) {
+    if (((const uint8_t *)bytes)[i] != value) return 0;
+  }
+  return 1;
+}
+
 static void create(iox2_domain_t *domain, iox2_config_t *config) {
   domain->domain_ = NULL;
   IS(iox2_domain_create(domain, config), IOX2_OK);
@@ -54,8 +61,8 @@ static void a_message_is_written_and_read_where_it_lies(void) {
   iox2_sample_t sample;
   iox2_blocked_t blocked;
   iox2_header_t header;
-  uint8_t *written, *again;
-  const uint8_t *read, *read_again;
+  void *written, *again;
+  const void *read, *read_again;
   size_t receivers = 99, len = 99;
   uint32_t waits = 9;
   iox2_config_defaults(&config, 7, 24, 8);
@@ -68,7 +75,7 @@ static void a_message_is_written_and_read_where_it_lies(void) {
 
   IS(iox2_publisher_loan(&domain, &publisher, 24, &loan, &written), IOX2_OK);
   CHECK((uintptr_t)written % 8 == 0 && loan.publisher.low == publisher.id.low);
-  for (int i = 0; i < 24; i++) CHECK(written[i] == 0);
+  CHECK(are_all(written, 24, 0));
   IS(iox2_loan_payload(&domain, &loan, &again, &len), IOX2_OK);
   CHECK(again == written && len == 24);
   memcpy(written, "where it lies, 24 bytes", 24);
@@ -100,15 +107,15 @@ static void a_message_is_copied(void) {
   iox2_sample_t sample;
   iox2_blocked_t blocked;
   uint8_t bytes[16];
-  const uint8_t *read;
+  const void *read;
   size_t receivers = 99, len = 99;
   iox2_config_defaults(&config, 7, 16, 1);
   create(&domain, &config);
   IS(iox2_publisher_create(&domain, &publisher), IOX2_OK);
   IS(iox2_subscriber_create(&domain, &subscriber), IOX2_OK);
-  IS(iox2_publisher_send_copy(&domain, &publisher, (const uint8_t *)"hello", 5, &receivers, &blocked), IOX2_OK);
+  IS(iox2_publisher_send_copy(&domain, &publisher, "hello", 5, &receivers, &blocked), IOX2_OK);
   CHECK(receivers == 1);
-  IS(iox2_publisher_send_copy(&domain, &publisher, (const uint8_t *)"sixteen bytes ..", 16, &receivers, &blocked), IOX2_OK);
+  IS(iox2_publisher_send_copy(&domain, &publisher, "sixteen bytes ..", 16, &receivers, &blocked), IOX2_OK);
   memset(bytes, 'x', sizeof bytes);
   IS(iox2_subscriber_receive_copy(&domain, &subscriber, bytes, sizeof bytes, &len, &sample), IOX2_OK);
   CHECK(len == 5 && memcmp(bytes, "helloxxx", 8) == 0);
@@ -131,8 +138,9 @@ static void bytes_stay_where_they_are(void) {
   iox2_sample_t kept, sample;
   iox2_loan_t loan;
   iox2_blocked_t blocked;
-  uint8_t *written, noise[32];
-  const uint8_t *at, *read;
+  uint8_t noise[32];
+  void *written;
+  const void *at, *read;
   size_t receivers, len;
   iox2_config_defaults(&config, 7, 32, 16);
   config.subscriber_max_borrowed_samples = 2;
@@ -140,7 +148,7 @@ static void bytes_stay_where_they_are(void) {
   IS(iox2_publisher_create(&domain, &publisher), IOX2_OK);
   IS(iox2_subscriber_create(&domain, &subscriber), IOX2_OK);
   memset(noise, 'n', sizeof noise);
-  IS(iox2_publisher_send_copy(&domain, &publisher, (const uint8_t *)"kept", 4, &receivers, &blocked), IOX2_OK);
+  IS(iox2_publisher_send_copy(&domain, &publisher, "kept", 4, &receivers, &blocked), IOX2_OK);
   IS(iox2_subscriber_receive(&domain, &subscriber, &kept, &at, &len), IOX2_OK);
   IS(iox2_publisher_loan(&domain, &publisher, 32, &loan, &written), IOX2_OK);
   memset(written, 'w', 32);
@@ -155,7 +163,7 @@ static void bytes_stay_where_they_are(void) {
     IS(iox2_subscriber_close(&domain, &late), IOX2_OK);
   }
   CHECK(len == 32 && memcmp(at, "kept", 4) == 0);
-  for (int i = 0; i < 32; i++) CHECK(written[i] == 'w');
+  CHECK(are_all(written, 32, 'w'));
   IS(iox2_loan_send(&domain, &loan, &receivers, &blocked), IOX2_OK);
   IS(iox2_publisher_close(&domain, &publisher), IOX2_OK);
   IS(iox2_subscriber_close(&domain, &subscriber), IOX2_OK);
@@ -173,7 +181,8 @@ static void a_blocked_send_is_tried_again_and_given_up(void) {
   iox2_sample_t sample;
   iox2_loan_t loan;
   iox2_blocked_t blocked;
-  uint8_t *written, byte = 1;
+  uint8_t byte = 1;
+  void *written;
   size_t receivers, len;
   uint32_t is_blocked;
   iox2_config_defaults(&config, 7, 1, 1);
@@ -187,7 +196,7 @@ static void a_blocked_send_is_tried_again_and_given_up(void) {
   IS(iox2_publisher_is_blocked(&domain, &publisher, &is_blocked), IOX2_OK);
   CHECK(is_blocked == 0);
   IS(iox2_publisher_loan(&domain, &publisher, 1, &loan, &written), IOX2_OK);
-  *written = 2;
+  memset(written, 2, 1);
   IS(iox2_loan_send(&domain, &loan, &receivers, &blocked), IOX2_BLOCKED);
   CHECK(blocked.publisher.low == publisher.id.low);
   IS(iox2_publisher_is_blocked(&domain, &publisher, &is_blocked), IOX2_OK);
@@ -218,7 +227,8 @@ static void ports_are_made_with_options(void) {
   iox2_subscriber_t subscriber;
   iox2_loan_t loan;
   iox2_blocked_t blocked;
-  uint8_t *written, byte = 1;
+  uint8_t byte = 1;
+  void *written;
   size_t receivers, count;
   iox2_config_defaults(&config, 7, 4, 4);
   config.enable_safe_overflow = 0;
@@ -312,14 +322,14 @@ static void warnings_are_read(void) {
 }
 
 static void texts_are_iceoryx2s(void) {
-  const uint8_t *text;
+  const char *text;
   size_t len;
   CHECK(strcmp(iox2_error_text(IOX2_LOAN_ERROR_EXCEEDS_MAX_LOANS), "LoanError::ExceedsMaxLoans") == 0);
   CHECK(strcmp(iox2_error_text(IOX2_RECEIVE_ERROR_EXCEEDS_MAX_BORROWS), "ReceiveError::ExceedsMaxBorrows") == 0);
   CHECK(strcmp(iox2_error_text(IOX2_SEND_ERROR_UNABLE_TO_DELIVER), "SendError::UnableToDeliver") == 0);
   for (uint32_t code = 0; code < 200; code++) {
     iox2_error_text_at(code, &text, &len);
-    CHECK(len > 0 && text[len] == 0 && strlen((const char *)text) == len);
+    CHECK(len > 0 && text[len] == 0 && strlen(text) == len);
   }
   CHECK(iox2_error_text(UINT32_MAX)[0] != 0);
 }

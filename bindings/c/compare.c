@@ -28,17 +28,17 @@ static int begin(size_t count) {
 static int send(uint64_t number) {
   iox2_loan_t loan;
   iox2_blocked_t blocked;
-  uint8_t *payload;
+  void *payload;
   size_t receivers;
   if (iox2_publisher_loan(&domain, &publisher, 64, &loan, &payload)) return 0;
-  for (int i = 0; i < 8; i++) memcpy(payload + 8 * i, &number, sizeof number);
+  for (int i = 0; i < 8; i++) memcpy((uint8_t *)payload + 8 * i, &number, sizeof number);
   return iox2_loan_send(&domain, &loan, &receivers, &blocked) == IOX2_OK;
 }
 
 /* Adds what waits to the sum. */
 static int receive_all(const iox2_subscriber_t *subscriber, uint64_t *sum) {
   iox2_sample_t sample;
-  const uint8_t *payload;
+  const void *payload;
   size_t len;
   uint32_t code;
   while ((code = iox2_subscriber_receive(&domain, subscriber, &sample, &payload, &len)) == IOX2_OK) {

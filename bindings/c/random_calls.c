@@ -50,7 +50,7 @@ static const size_t words[KINDS] = {7, 6, 9, 9, 11};
 typedef struct thing_t {
   numbers_t numbers;
   size_t command;       /* that made it */
-  const uint8_t *bytes; /* of a loan or a sample */
+  const void *bytes;    /* of a loan or a sample */
   uint64_t value;       /* of the message there */
 } thing_t;
 
@@ -63,7 +63,7 @@ static void fail(const char *words_) {
   exit(1);
 }
 
-static void add(enum kind kind, numbers_t numbers, size_t command, const uint8_t *bytes, uint64_t value) {
+static void add(enum kind kind, numbers_t numbers, size_t command, const void *bytes, uint64_t value) {
   if (live_count[kind] == ROOM) fail("more is live than the settings allow");
   live[kind][live_count[kind]++] = (thing_t){numbers, command, bytes, value};
 }
@@ -126,7 +126,7 @@ static int is_live(const thing_t *thing, uint32_t code) {
   return thing != NULL;
 }
 
-static uint64_t number_at(const uint8_t *bytes) {
+static uint64_t number_at(const void *bytes) {
   uint64_t number;
   memcpy(&number, bytes, sizeof number);
   return number;
@@ -169,7 +169,7 @@ static void create_subscriber(iox2_domain_t *domain, const iox2_config_t *config
 static void lend(iox2_domain_t *domain) {
   numbers_t of = choose(PUBLISHER), numbers = {{0}};
   thing_t *publisher = named(PUBLISHER, &of);
-  uint8_t *bytes;
+  void *bytes;
   size_t len = one_in(20) ? 9 + below(SIZE_MAX - 9) : 8;
   uint32_t code = iox2_publisher_loan(domain, &of.publisher, len, &numbers.loan, &bytes);
   if (!is_live(publisher, code)) return;
@@ -221,11 +221,9 @@ static void send_loan(iox2_domain_t *domain) {
 static void send_copy(iox2_domain_t *domain) {
   numbers_t of = choose(PUBLISHER), blocked = {{0}};
   thing_t *publisher = named(PUBLISHER, &of);
-  uint8_t bytes[8];
   size_t receivers = 0;
   value++;
-  memcpy(bytes, &value, sizeof value);
-  uint32_t code = iox2_publisher_send_copy(domain, &of.publisher, bytes, 8, &receivers, &blocked.blocked);
+  uint32_t code = iox2_publisher_send_copy(domain, &of.publisher, &value, 8, &receivers, &blocked.blocked);
   if (!is_live(publisher, code)) return;
   fprintf(script, "copy %zu %" PRIu64 "\n", publisher->command, value);
   sent(code, receivers, blocked);
@@ -262,7 +260,7 @@ static void end_blocked(iox2_domain_t *domain) {
 static void receive(iox2_domain_t *domain) {
   numbers_t of = choose(SUBSCRIBER), numbers = {{0}};
   thing_t *subscriber = named(SUBSCRIBER, &of);
-  const uint8_t *bytes;
+  const void *bytes;
   size_t len;
   uint32_t code = iox2_subscriber_receive(domain, &of.subscriber, &numbers.sample, &bytes, &len);
   if (!is_live(subscriber, code)) return;
@@ -306,8 +304,8 @@ static void read_message(iox2_domain_t *domain) {
   enum kind kind = one_in(3) ? LOAN : SAMPLE;
   numbers_t of = choose(kind);
   thing_t *thing = named(kind, &of);
-  uint8_t *lent = NULL;
-  const uint8_t *received = NULL;
+  void *lent = NULL;
+  const void *received = NULL;
   size_t len = 0;
   uint32_t code = kind == LOAN ? iox2_loan_payload(domain, &of.loan, &lent, &len)
                                : iox2_sample_payload(domain, &of.sample, &received, &len);
@@ -368,8 +366,9 @@ static void call(iox2_domain_t *domain, const iox2_config_t *config) {
 
 static void make_foreign(iox2_domain_t *domain) {
   iox2_config_t config;
-  uint8_t bytes[8] = {1}, *lent;
-  const uint8_t *received;
+  uint8_t bytes[8] = {1};
+  void *lent;
+  const void *received;
   size_t count;
   iox2_config_defaults(&config, 2, 8, 8);
   config.enable_safe_overflow = 0;

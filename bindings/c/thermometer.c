@@ -20,10 +20,10 @@ struct reading {
 static int send(iox2_domain_t *domain, const iox2_publisher_t *publisher, unsigned number) {
   iox2_loan_t loan;
   iox2_blocked_t blocked;
-  uint8_t *payload;
+  void *payload;
   size_t receivers;
   TRY(iox2_publisher_loan(domain, publisher, sizeof(struct reading), &loan, &payload));
-  struct reading *reading = (struct reading *)payload;
+  struct reading *reading = payload;
   reading->number = number;
   reading->celsius = 20 + number / 2.0;
   TRY(iox2_loan_send(domain, &loan, &receivers, &blocked));
@@ -33,11 +33,11 @@ static int send(iox2_domain_t *domain, const iox2_publisher_t *publisher, unsign
 
 static int show(iox2_domain_t *domain, const iox2_subscriber_t *subscriber, int index) {
   iox2_sample_t sample;
-  const uint8_t *payload;
+  const void *payload;
   size_t len;
   uint32_t code;
   while ((code = iox2_subscriber_receive(domain, subscriber, &sample, &payload, &len)) == IOX2_OK) {
-    const struct reading *reading = (const struct reading *)payload;
+    const struct reading *reading = payload;
     printf("subscriber %d read %u: %.1f °C\n", index, reading->number, reading->celsius);
     TRY(iox2_sample_release(domain, &sample));
   }

@@ -199,7 +199,7 @@ private:
 };
 
 /* The value at these bytes, or the first of a slice. */
-template <typename T> const T *at(const std::uint8_t *bytes) { return std::launder(reinterpret_cast<const T *>(bytes)); }
+template <typename T> const T *at(const void *bytes) { return std::launder(static_cast<const T *>(bytes)); }
 
 /* How a message is read: as a value, or as a slice of values. */
 template <typename P, typename T> class View {
@@ -488,10 +488,10 @@ private:
   template <typename Begin> Result<Loan<P>> lend(std::size_t len, Begin begin) {
     if (!hold_) return Error::NotLive;
     iox2_loan_t loan;
-    std::uint8_t *bytes = nullptr;
+    void *bytes = nullptr;
     std::uint32_t code = iox2_publisher_loan(hold_.domain(), &port_, Config<P>::bytes(len), &loan, &bytes);
     if (code != IOX2_OK) return detail::error_of(code);
-    return Loan<P>(hold_, loan, begin(bytes), len);
+    return Loan<P>(hold_, loan, begin(static_cast<std::uint8_t *>(bytes)), len);
   }
 
   static Result<Sent<P>> send(Result<Loan<P>> loan) {
@@ -529,7 +529,7 @@ public:
   Result<std::optional<Sample<P>>> receive() {
     if (!hold_) return Error::NotLive;
     iox2_sample_t sample;
-    const std::uint8_t *bytes = nullptr;
+    const void *bytes = nullptr;
     std::size_t len = 0;
     std::uint32_t code = iox2_subscriber_receive(hold_.domain(), &port_, &sample, &bytes, &len);
     if (code == IOX2_NO_SAMPLE) return std::optional<Sample<P>>();

@@ -1,4 +1,4 @@
-//! The declarations of `include/iox2_pubsub.h`.
+//! The declarations of `include/iox2_pubsub.h`, with bytes where it has `void` and `char`.
 #![allow(missing_docs)]
 
 use std::ffi::c_void;
