@@ -154,8 +154,9 @@ static void end(world_t *world) {
 /* ---- numbers that name nothing */
 
 /* Each handle with all bits set, with all bits clear, and with one bit of its first words turned, which have its
- * service, its ids and its number. What comes behind are hints. */
-#define MADE_UP(type, handle, words, refused)                                     \
+ * service, its ids and its number; all but the words from `told` on, where a sample says its origin. What comes behind
+ * are hints. */
+#define MADE_UP(type, handle, words, told, refused)                               \
   do {                                                                            \
     type other;                                                                   \
     memset(&other, 0xff, sizeof other);                                           \
@@ -163,6 +164,7 @@ static void end(world_t *world) {
     memset(&other, 0, sizeof other);                                              \
     refused(&world.domain, &other, IOX2_NOT_LIVE);                                \
     for (int bit = 0; bit < 64 * (words); bit += 7) {                             \
+      if (bit / 128 == (told) / 2) continue;                                      \
       other = (handle);                                                           \
       ((uint8_t *)&other)[bit / 8] ^= (uint8_t)(1u << bit % 8);                   \
       refused(&world.domain, &other, IOX2_NOT_LIVE);                              \
@@ -172,10 +174,10 @@ static void end(world_t *world) {
 static void numbers_are_made_up(void) {
   world_t world;
   begin(&world, 1);
-  MADE_UP(iox2_subscriber_t, world.subscriber, 4, subscriber_is_refused);
-  MADE_UP(iox2_loan_t, world.loan, 6, loan_is_refused);
-  MADE_UP(iox2_blocked_t, world.blocked, 6, blocked_is_refused);
-  MADE_UP(iox2_sample_t, world.sample, 8, sample_is_refused);
+  MADE_UP(iox2_subscriber_t, world.subscriber, 4, -2, subscriber_is_refused);
+  MADE_UP(iox2_loan_t, world.loan, 6, -2, loan_is_refused);
+  MADE_UP(iox2_blocked_t, world.blocked, 6, -2, blocked_is_refused);
+  MADE_UP(iox2_sample_t, world.sample, 8, 2, sample_is_refused);
   iox2_publisher_t other = world.publisher;
   other.id.low ^= UINT64_C(1) << 40;
   publisher_is_refused(&world.domain, &other, IOX2_NOT_LIVE);
@@ -205,7 +207,7 @@ static void hints_are_hints(void) {
     world.publisher.place_ = world.waiting.place_ = world.subscriber.place_ = wrong[i];
     world.loan.place_ = world.loan.book_ = world.loan.slot_ = wrong[i];
     world.blocked.place_ = world.blocked.book_ = world.blocked.slot_ = wrong[i];
-    world.sample.connection_ = world.sample.book_ = world.sample.slot_ = wrong[i];
+    world.sample.connection_ = world.sample.book_ = world.sample.slot_ = world.sample.origin.low = wrong[i];
     IS(iox2_publisher_update_connections(&world.domain, &world.publisher), IOX2_OK);
     IS(iox2_subscriber_has_samples(&world.domain, &world.subscriber, &answer), IOX2_OK);
     IS(iox2_loan_payload(&world.domain, &world.loan, &written, &len), IOX2_OK);

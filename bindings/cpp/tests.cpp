@@ -143,12 +143,12 @@ static void handles_outlive_their_domain_and_make_room() {
       auto moved = std::move(publisher);
       CHECK(publisher.send_copy(1).error() == Error::NotLive);
       CHECK(moved.send_copy(4)->delivered() == std::size_t(1));
+      kept = subscriber.receive().expect("a receive");
       auto loan = moved.loan(8).expect("a loan");
       moved.close();
       CHECK(loan.send().error() == Error::SendConnectionBrokenSinceSenderNoLongerExists && !loan);
     }
     CHECK(domain.publisher().has_value());
-    kept = subscriber.receive().expect("a receive");
   }
   CHECK(kept && **kept == 4);
 }

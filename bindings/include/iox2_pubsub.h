@@ -211,13 +211,13 @@ uint32_t iox2_worst_case_slots(const iox2_config_t *config, size_t loans, size_t
 
 /* The text of a code or of the kind of a warning, which ends in a zero byte and lies there for good; len
  * is without that byte. Each number has one. */
-void iox2_error_text_at(uint32_t code, const uint8_t **text, size_t *len);
+void iox2_error_text_at(uint32_t code, const char **text, size_t *len);
 
 static inline const char *iox2_error_text(uint32_t code) {
-  const uint8_t *text = 0;
-  size_t len = 0;
+  const char *text;
+  size_t len;
   iox2_error_text_at(code, &text, &len);
-  return (const char *)text;
+  return text;
 }
 
 /* ---- domains */
@@ -267,12 +267,12 @@ uint32_t iox2_publisher_update_connections(iox2_domain_t *domain, const iox2_pub
  * written there until the loan is sent or discarded or the domain is destroyed, whatever else is called in
  * between. IOX2_NOT_LIVE, IOX2_PUBLISHER_IS_BLOCKED, IOX2_LOAN_ERROR_... */
 uint32_t iox2_publisher_loan(iox2_domain_t *domain, const iox2_publisher_t *publisher, size_t len,
-                             iox2_loan_t *loan, uint8_t **payload);
+                             iox2_loan_t *loan, void **payload);
 
 /* Sends a copy of the bytes: a loan and its send in one call, which returns what either returns, and has
  * no loan left. */
 uint32_t iox2_publisher_send_copy(iox2_domain_t *domain, const iox2_publisher_t *publisher,
-                                  const uint8_t *bytes, size_t len, size_t *receivers, iox2_blocked_t *blocked);
+                                  const void *bytes, size_t len, size_t *receivers, iox2_blocked_t *blocked);
 
 /* ---- loans */
 
@@ -285,7 +285,7 @@ uint32_t iox2_loan_send(iox2_domain_t *domain, const iox2_loan_t *loan, size_t *
 uint32_t iox2_loan_discard(iox2_domain_t *domain, const iox2_loan_t *loan);
 
 /* Where the bytes of a loan lie, as iox2_publisher_loan says it. IOX2_NOT_LIVE. */
-uint32_t iox2_loan_payload(iox2_domain_t *domain, const iox2_loan_t *loan, uint8_t **payload, size_t *len);
+uint32_t iox2_loan_payload(iox2_domain_t *domain, const iox2_loan_t *loan, void **payload, size_t *len);
 
 /* ---- sends that wait */
 
@@ -321,23 +321,23 @@ uint32_t iox2_subscriber_update_connections(iox2_domain_t *domain, const iox2_su
  * are never written. With IOX2_NO_SAMPLE and IOX2_RECEIVE_ERROR_... connections may have changed.
  * IOX2_NOT_LIVE. */
 uint32_t iox2_subscriber_receive(iox2_domain_t *domain, const iox2_subscriber_t *subscriber, iox2_sample_t *sample,
-                                 const uint8_t **payload, size_t *len);
+                                 const void **payload, size_t *len);
 
 /* Receives a message, copies it to bytes, and releases it: a receive, a copy and a release in one call, and
  * len is how many bytes were written. With IOX2_TOO_SMALL, which says that the message has more than room
  * bytes, nothing is lost: sample names the message, which is to be copied or read and released, len says how
  * long it is, and bytes are as they were. sample is changed with IOX2_TOO_SMALL alone. */
 uint32_t iox2_subscriber_receive_copy(iox2_domain_t *domain, const iox2_subscriber_t *subscriber,
-                                      uint8_t *bytes, size_t room, size_t *len, iox2_sample_t *sample);
+                                      void *bytes, size_t room, size_t *len, iox2_sample_t *sample);
 
 /* ---- samples */
 
 /* Where the bytes of a sample lie, as iox2_subscriber_receive says it. IOX2_NOT_LIVE. */
-uint32_t iox2_sample_payload(iox2_domain_t *domain, const iox2_sample_t *sample, const uint8_t **payload, size_t *len);
+uint32_t iox2_sample_payload(iox2_domain_t *domain, const iox2_sample_t *sample, const void **payload, size_t *len);
 
 /* Copies the bytes of a sample. With IOX2_TOO_SMALL, which says that there are more than room, len says how
  * many there are, and bytes are as they were. IOX2_NOT_LIVE. */
-uint32_t iox2_sample_copy(iox2_domain_t *domain, const iox2_sample_t *sample, uint8_t *bytes, size_t room, size_t *len);
+uint32_t iox2_sample_copy(iox2_domain_t *domain, const iox2_sample_t *sample, void *bytes, size_t room, size_t *len);
 
 /* Where the message comes from. IOX2_NOT_LIVE. */
 uint32_t iox2_sample_header(iox2_domain_t *domain, const iox2_sample_t *sample, iox2_header_t *header);
