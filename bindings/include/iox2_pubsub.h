@@ -176,7 +176,8 @@ typedef struct iox2_blocked_t {
   size_t place_, book_, slot_;
 } iox2_blocked_t;
 
-/* A message that a subscriber has borrowed. */
+/* A message that a subscriber has borrowed. Its origin is the id of the publisher that sent it, which no call asks
+ * for. */
 typedef struct iox2_sample_t {
   iox2_wide_t service_id, origin, subscriber, number;
   size_t connection_, book_, slot_;
