@@ -38,7 +38,7 @@ use Rattle.iox2_pubsub.proofs.LoansLeftShown.{set-left}
 -- ---- the words
 
 -- what is kept, beside other boxes
-abbrev with-boxes : {T U F G F' G' : Type 0} → DomainBoxes F' G' → Kept T U F G → Kept T U F G' G'
+abbrev with-boxes : {T U F G F' G' : Type 0} → DomainBoxes F' G' → Kept T U F G → Kept T U F' G'
 with-boxes boxes kept = record {
   config = kept.config;
   next_port = kept.next_port;

@@ -198,5 +198,5 @@ returns-clause-others g c =
     let has = (written-parts c.args.domain.now c.args.self c.requires.live).1 in
     let out = ap (λ (t : State g.row.T.Denot g.row.U.Denot). t.loans c.args.self.loan.number) (it.2).state ∙ has.1 in
     let step = returns-clause-sent g c it.0 it.1 has.0 it.2 out in
-    others-send {T = g.row.T.Denot} {U = g.row.U.Denot} c.args.domain.now _ it.0 it.1 it.2 (answers_of g.F.BackpressureFn.allows c.args.domain.now.boxes) c.args.self.loan.number has.0 c.args.self.loan.publisher
+    others-send {T = g.row.T.Denot} {U = g.row.U.Denot} c.args.domain.now _ it.0 it.1 it.2 (answers_of g.F.BackpressureFn.allows g.G.DegradationFn.allows c.args.domain.now.boxes.publishers) c.args.self.loan.number has.0 c.args.self.loan.publisher
     c.outcome_of.result step.0 step.1 step.2 ((it.2).unsent c.args.self.loan.number has.0 out) has.2
