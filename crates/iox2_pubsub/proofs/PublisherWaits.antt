@@ -1,6 +1,7 @@
 -- What waits from one publisher is a part of what waits, and where it is all of it, a receive takes its first.
 use Rattle.std.proofs.Common.{◌≡◌, ℕ, suc, ◌+◌, ◌<◌, ◌≤◌, true, List, [], ◌∷◌, ◌++◌, map, length, refl, sym, ap, subst, ◌∙◌, arith, ◌⊎◌, inl, inr, ⊎_elim, Result, Ok, Err}
 use Rattle.std.specs.Prelude.{◌≢◌, IfOk}
+use Rattle.std.specs.List.{AllByRecursion}
 use Rattle.std.proofs.lemmas.Bool.{cases_eq}
 use Rattle.std.proofs.lemmas.List.{length-map}
 use Rattle.iox2_store.specs.machine.Mailbox.{numbers_in}
@@ -14,7 +15,7 @@ use Rattle.iox2_domain.specs.Shows.{Shows}
 use Rattle.iox2_laws.proofs.MailboxLemmas.{has_numbers-contains}
 use Rattle.iox2_laws.proofs.NumberLemmas.{contains_first, contains_left}
 use Rattle.iox2_laws.proofs.WaitingCounts.{cond_among, sum_part}
-use Rattle.iox2_pubsub.specs.Live.{AllFrom, IsServed, TakesFirst, TakesOldest, payloads, payloads_from, waiting, sample_key}
+use Rattle.iox2_pubsub.specs.Live.{AllFrom, AreAllSlices, IsServed, LeavesLater, TakesFirst, TakesOldest, payloads, payloads_from, waiting, sample_key}
 use Rattle.iox2_pubsub.specs.Payloads.{all_below, payload_of}
 use Rattle.iox2_pubsub.specs.SendCalls.{IsDelivered}
 use Rattle.iox2_pubsub.specs.Slices.{SampleHasValues}
@@ -151,6 +152,11 @@ module _ {T U F G : Type 0} (old new : Kept T U F G) (before : IsWellFormed (sta
         let less : waiting new subscriber < waiting old subscriber = fewer in
         omega arith
 
+-- a list of one has that one alone
+pub one-is-all : {T : Type 0} (lists : List (List T)) (values : List T) → lists ≡ values ∷ [] → AreAllSlices lists values
+unfolding AreAllSlices
+one-is-all lists values is = subst (AllByRecursion (λ payload. payload ≡ values)) (sym is) (refl, tt)
+
 -- seen from states that are shown
 module _ {T U F G : Type 0} (old new : Kept T U F G) (m m' : Messages T U) (s s' : State T U) (shown : Shows old m s) (shown' : Shows new m' s') (subscriber : Subscriber) where
   before-well : IsWellFormed (state_of old)
@@ -167,7 +173,7 @@ module _ {T U F G : Type 0} (old new : Kept T U F G) (m m' : Messages T U) (s s'
 
   -- and a receive takes the first
   pub receive-takes-first : (sample : Sample) → TakesOldest subscriber sample old new → waiting new subscriber < waiting old subscriber → TakesFirst subscriber sample old new
-  receive-takes-first sample oldest fewer = record {
-    first = λ p payload later all. (received-first old new before-well after-well p subscriber sample oldest fewer payload later all).0;
-    rest = λ p payload later all. (received-first old new before-well after-well p subscriber sample oldest fewer payload later all).1;
-  }
+  receive-takes-first sample oldest fewer = λ p payload later all. (received-first old new before-well after-well p subscriber sample oldest fewer payload later all).0
+
+  pub receive-leaves-later : (sample : Sample) → TakesOldest subscriber sample old new → waiting new subscriber < waiting old subscriber → LeavesLater subscriber old new
+  receive-leaves-later sample oldest fewer = λ p payload later all. (received-first old new before-well after-well p subscriber sample oldest fewer payload later all).1

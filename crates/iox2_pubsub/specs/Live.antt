@@ -297,10 +297,14 @@ abbrev pub TakesOldest : {T U F G : Type 0} → Subscriber → Sample → (old n
 TakesOldest {T} subscriber sample old new =
     (values : List T) × (payloads_from old sample.origin subscriber ≡ values ∷ payloads_from new sample.origin subscriber) × SampleHasValues new (sample_key sample) values
 
--- Where all that waits for the subscriber is of one publisher, the sample is the first of it, and the rest waits still.
-pub record TakesFirst {T U F G : Type 0} (subscriber : Subscriber) (sample : Sample) (old new : Kept T U F G) : Type 0 where
-  pub first : (publisher : ℕ) (payload : List T) (later : List (List T)) → AllFrom old publisher subscriber (payload ∷ later) → SampleHasValues new (sample_key sample) payload
-  pub rest : (publisher : ℕ) (payload : List T) (later : List (List T)) → AllFrom old publisher subscriber (payload ∷ later) → AllFrom new publisher subscriber later
+-- Where all that waits for the subscriber is of one publisher, the sample is the first of it.
+abbrev pub TakesFirst : {T U F G : Type 0} → Subscriber → Sample → (old new : Kept T U F G) → Type 0
+TakesFirst {T} subscriber sample old new =
+    (publisher : ℕ) (payload : List T) (later : List (List T)) → AllFrom old publisher subscriber (payload ∷ later) → SampleHasValues new (sample_key sample) payload
+
+-- And what waited behind the first waits still.
+abbrev pub LeavesLater : {T U F G : Type 0} → Subscriber → (old new : Kept T U F G) → Type 0
+LeavesLater {T} subscriber old new = (publisher : ℕ) (payload : List T) (later : List (List T)) → AllFrom old publisher subscriber (payload ∷ later) → AllFrom new publisher subscriber later
 
 -- From each other publisher than the sample's the same messages wait for the subscriber as before.
 abbrev pub LeavesOthers : {T U F G : Type 0} → Subscriber → Sample → (old new : Kept T U F G) → Type 0

@@ -2,7 +2,7 @@
 ghost use Rattle.iox2_pubsub.specs.Handles.{publisher_id, unwritten_lender};
 ghost use Rattle.iox2_pubsub.specs.Live.{AllFrom, AreApart, Both, IsConnected, IsLivePublisher, IsLiveSubscriber, IsSingleValued, IsUnwrittenLoan, IsUpToDate, Stays, StaysBut, UpToDateStay, unwritten_loan, AreAll, payloads, waiting};
 ghost use Rattle.iox2_pubsub.specs.LoansLeft.{HasLoansLeft, HasNumbersLeft};
-ghost use Rattle.std.specs.Prelude.{◌≡◌, ℕ, [], ◌∷◌, IfOk, IfSome, OnOk, Some};
+ghost use Rattle.std.specs.Prelude.{◌≡◌, ℕ, [], ◌∷◌, IfOk, IfSome, IsSomeAnd, OnOk};
 ghost use Rattle.iox2_pubsub.specs.declared.subscriber.Subscriber.{Subscriber as SubscriberHandle};
 
 use crate::correction::send_at_once;
@@ -88,7 +88,7 @@ fn report(
     requires subscriber { IsLiveSubscriber domain.old subscriber.now }
     ensures same { (domain.old.config).history_size ≡ 0 → waiting domain.old subscriber.now ≡ 0 → IfOk result (λ shown. IfSome shown (λ it. it ≡ celsius)) }
     ensures shows { IsConnected domain.old (publisher_id publisher.now) subscriber.now → IsUpToDate domain.old subscriber.now → waiting domain.old subscriber.now ≡ 0
-        → IfOk result (λ shown. shown ≡ Some celsius) }
+        → IfOk result (λ shown. IsSomeAnd shown (λ it. it ≡ celsius)) }
     ensures stays { Stays domain.old domain.new }
 {
     let loan = publisher.loan_uninit(domain)?;
@@ -198,7 +198,7 @@ fn show(
     requires subscriber { IsLiveSubscriber domain.old subscriber.now }
     ensures waited { (celsius : ℕ) → AreAll (payloads domain.old subscriber.now) (record { celsius = celsius }) → IfOk result (λ shown. IfSome shown (λ it. it ≡ celsius)) }
     ensures shows { (publisher celsius : ℕ) → IsUpToDate domain.old subscriber.now → AllFrom domain.old publisher subscriber.now ((record { celsius = celsius } ∷ []) ∷ [])
-        → IfOk result (λ shown. shown ≡ Some celsius) }
+        → IfOk result (λ shown. IsSomeAnd shown (λ it. it ≡ celsius)) }
     ensures stays { Stays domain.old domain.new }
 {
     let Some(sample) = subscriber.receive(domain)? else {

@@ -11,7 +11,7 @@ use Rattle.iox2_pubsub.proofs.CallsStay.{always-shown, receive-stays, received-i
 use Rattle.iox2_pubsub.proofs.WaitingShown.{received-fewer, received-none, received-no-more, received-others, received-reads, received-oldest}
 use Rattle.iox2_pubsub.proofs.UpToDateShown.{receive-leaves, received-updated, received-one-fewer}
 use Rattle.iox2_pubsub.proofs.LoansLeftShown.{receive-left}
-use Rattle.iox2_pubsub.proofs.PublisherWaits.{receive-takes-first}
+use Rattle.iox2_pubsub.proofs.PublisherWaits.{one-is-all, receive-leaves-later, receive-takes-first}
 use Rattle.iox2_pubsub.proofs.UndueReceives.{nothing-waited, others-wait-still}
 use Rattle.iox2_pubsub.proofs.StaysBut.{same-boxes}
 use Rattle.iox2_pubsub.proofs.subscriber.Subscriber.receive.Goals as goal
@@ -219,9 +219,19 @@ returns-clause-first g c =
     receive-takes-first {T = g.row.T.Denot} {U = g.row.U.Denot} c.args.domain.now (keeping (record { publishers = (c.domain.inside.boxes).boxes; subscribers = (c.domain.inside.subscriber_boxes).boxes }) c.receive_at.new.state) it.0 it.0 it.1 step.0 it.2 step.1 c.args.self.now
     (record { service_id = c.args.self.now.service_id; origin = c.in-Some.receipt.publisher; sample = c.in-Some.receipt.sample }) (returns-clause-oldest g c) (returns-clause-fewer g c)
 
+pub returns-clause-later : goal.returns-clause-later
+returns-clause-later g c =
+    let it = always-shown {T = g.row.T.Denot} {U = g.row.U.Denot} c.domain.inside.state c.args.domain.now c.domain.invariant c.domain.view_is in
+    let step = returns-clause-receives g c it.0 it.1 it.2 in
+    receive-leaves-later {T = g.row.T.Denot} {U = g.row.U.Denot} c.args.domain.now (keeping (record { publishers = (c.domain.inside.boxes).boxes; subscribers = (c.domain.inside.subscriber_boxes).boxes }) c.receive_at.new.state) it.0 it.0 it.1 step.0 it.2 step.1 c.args.self.now
+    (record { service_id = c.args.self.now.service_id; origin = c.in-Some.receipt.publisher; sample = c.in-Some.receipt.sample }) (returns-clause-oldest g c) (returns-clause-fewer g c)
+
 pub returns-clause-rest : goal.returns-clause-rest
 returns-clause-rest g c = λ updated other away.
     let it = always-shown {T = g.row.T.Denot} {U = g.row.U.Denot} c.domain.inside.state c.args.domain.now c.domain.invariant c.domain.view_is in
     let step = returns-clause-receives g c it.0 it.1 it.2 in
     others-wait-still {T = g.row.T.Denot} {U = g.row.U.Denot} c.args.domain.now (keeping (record { publishers = (c.domain.inside.boxes).boxes; subscribers = (c.domain.inside.subscriber_boxes).boxes }) c.receive_at.new.state) it.0 it.0 it.1 step.0 it.2 step.1 (answers_of g.F.BackpressureFn.allows g.G.DegradationFn.allows c.args.domain.now.boxes.subscribers) c.args.self.now updated (λ n entry at. at)
     c.in-Some.receipt.publisher c.in-Some.receipt.sample.number step.2 other away
+
+pub returns-clause-only : goal.returns-clause-only
+returns-clause-only g c = λ values is. returns-clause-reads g c values (one-is-all _ values is)
