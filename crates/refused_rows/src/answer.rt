@@ -1,13 +1,17 @@
 //! What the ports of a row answer where a connection is refused memory.
-ghost use Rattle.std.specs.Prelude.{Unit};
+ghost use Rattle.std.specs.Prelude.{◌≡◌};
+ghost use Rattle.iox2_pubsub.specs.declared.BackpressureAction.TheVariants.{DiscardData};
 
-use crate::failure::Failure;
 use iox2_pubsub::{
-    DegradationAction, DegradationCause, DegradationFn, DegradationHandler, DegradationInfo,
+    BackpressureAction, BackpressureFn, BackpressureInfo, DegradationAction, DegradationCause,
+    DegradationFn, DegradationHandler, DegradationInfo, Domain,
 };
-use std::alloc::Global;
 
-pub(crate) type Handler = DegradationHandler<Box<dyn DegradationFn>>;
+/// The domain of a row.
+pub(crate) type Service = Domain<u64, (), Hasty, Told>;
+
+/// What one of its ports does where a connection is refused memory.
+pub(crate) type Handler = DegradationHandler<Told>;
 
 /// One answer, given by a box or not.
 #[derive(Clone, Copy)]
@@ -32,27 +36,33 @@ impl Answer {
     }
 
     /// A handler that gives it, in a row in which the port with the id 2 is a publisher or a subscriber.
-    pub(crate) fn handler(
-        self,
-        alloc: Global,
-        is_publisher_second: bool,
-    ) -> Result<Handler, Failure> {
+    pub(crate) fn handler(self, is_publisher_second: bool) -> Handler {
         if !self.is_boxed {
-            return Ok(DegradationHandler::Fixed(self.action));
+            return DegradationHandler::Fixed(self.action);
         }
-        let told = Told {
+        DegradationHandler::Custom(Told {
             action: self.action,
             is_publisher_second,
-        };
-        let function: Box<dyn DegradationFn> = Box::new(alloc, told)?;
-        Ok(DegradationHandler::Custom(function))
+        })
     }
 }
 
-// Gives the answer where it is told of the row's service and its port with the id 2, and another one
-// elsewhere.
+/// Passes a full subscriber over. No port of a row has it.
 #[derive(Drop)]
-struct Told {
+pub(crate) struct Hasty;
+
+impl BackpressureFn for Hasty {
+    ghost allows = { λ _ _ action. action ≡ DiscardData };
+
+    fn call(&self, _: &BackpressureInfo) -> BackpressureAction {
+        BackpressureAction::DiscardData
+    }
+}
+
+/// Gives the answer where it is told of the row's service and its port with the id 2, and another one
+/// elsewhere.
+#[derive(Drop)]
+pub(crate) struct Told {
     action: DegradationAction,
     is_publisher_second: bool,
 }

@@ -2,7 +2,7 @@
 use iox2_pubsub::{
     DomainCreateError, PublisherCreateError, ReceiveError, SendError, SubscriberCreateError,
 };
-use std::alloc::{AllocError, AllocFailed};
+use std::alloc::AllocError;
 use std::io;
 
 /// Why a row isn't carried out, or not to its end.
@@ -10,7 +10,7 @@ use std::io;
 pub(crate) enum Failure {
     /// The arguments name no row, no answer or no number.
     Usage,
-    /// Memory for the domain, a box or the arguments is refused.
+    /// Memory for the domain or the arguments is refused.
     OutOfMemory,
     /// A port is refused twice, or a call fails.
     Refused,
@@ -48,12 +48,6 @@ impl From<io::Error> for Failure {
 
 impl From<AllocError> for Failure {
     fn from(_error: AllocError) -> Self {
-        Failure::OutOfMemory
-    }
-}
-
-impl<T: Drop> From<AllocFailed<T>> for Failure {
-    fn from(_error: AllocFailed<T>) -> Self {
         Failure::OutOfMemory
     }
 }

@@ -13,7 +13,7 @@ mod ports;
 mod rows;
 mod warnings;
 
-use answer::{Answer, Handler};
+use answer::{Answer, Handler, Service};
 use failure::Failure;
 use iox2_pubsub::{Domain, DomainCreateError, ServiceConfig};
 use rows::{later_publisher, later_subscriber};
@@ -57,36 +57,31 @@ fn allocate(alloc: Global, count: usize) -> Result<(), Failure> {
 }
 
 fn meet_subscriber(rt: &HostRuntime, answer: Answer) -> Result<(), Failure> {
-    let handlers = handlers(rt.alloc(), answer, false)?;
+    let handlers = handlers(answer, false);
     let mut domain = domain_of(rt.alloc(), 2, 1)?;
     later_subscriber(rt, &mut domain, handlers)?;
     print_warnings(rt, &domain)
 }
 
 fn meet_publisher(rt: &HostRuntime, answer: Answer) -> Result<(), Failure> {
-    let handlers = handlers(rt.alloc(), answer, true)?;
+    let handlers = handlers(answer, true);
     let mut domain = domain_of(rt.alloc(), 1, 2)?;
     later_publisher(rt, &mut domain, handlers)?;
     print_warnings(rt, &domain)
 }
 
 // The handlers of the three ports of a row. In each the second port has the id 2.
-fn handlers(
-    alloc: Global,
-    answer: Answer,
-    is_publisher_second: bool,
-) -> Result<(Handler, Handler, Handler), Failure> {
-    let first = answer.handler(alloc, is_publisher_second)?;
-    let second = answer.handler(alloc, is_publisher_second)?;
-    let third = answer.handler(alloc, is_publisher_second)?;
-    Ok((first, second, third))
+fn handlers(answer: Answer, is_publisher_second: bool) -> (Handler, Handler, Handler) {
+    let first = answer.handler(is_publisher_second);
+    let second = answer.handler(is_publisher_second);
+    (first, second, answer.handler(is_publisher_second))
 }
 
 fn domain_of(
     alloc: Global,
     max_publishers: usize,
     max_subscribers: usize,
-) -> Result<Domain<u64, ()>, DomainCreateError>
+) -> Result<Service, DomainCreateError>
     ensures { IfOk result (λ domain. IsSingleValued domain) }
 {
     let config = ServiceConfig {
@@ -97,5 +92,5 @@ fn domain_of(
         enable_safe_overflow: false,
         ..ServiceConfig::new(7)
     };
-    Domain::new(alloc, config)
+    Domain::with_handlers(alloc, config)
 }

@@ -1,22 +1,22 @@
 //! Ports are made, and messages go from one to another.
 ghost use Rattle.std.specs.Prelude.{IfOk};
-ghost use Rattle.iox2_pubsub.specs.Live.{IsLivePublisher, IsLiveSubscriber, IsSingleValued, Stays};
+ghost use Rattle.iox2_pubsub.specs.Live.{IsLiveSubscriber, IsReadyPublisher, IsSingleValued, Stays};
 
-use crate::answer::Handler;
+use crate::answer::{Handler, Service};
 use crate::failure::Failure;
 use iox2_pubsub::{
-    BackpressureStrategy, DegradationAction, DegradationHandler, Domain, Publisher,
-    PublisherCreateError, SendOutcome, Subscriber, SubscriberCreateError,
+    BackpressureStrategy, DegradationAction, DegradationHandler, Publisher, PublisherCreateError,
+    SendOutcome, Subscriber, SubscriberCreateError,
 };
 
 /// A publisher with this handler. Where it is refused, that is printed, and it is made once more with
 /// a handler that fails each call.
 pub(crate) fn made_publisher(
     rt: &HostRuntime,
-    domain: &mut Domain<u64, ()>,
+    domain: &mut Service,
     handler: Handler,
 ) -> Result<Publisher, Failure>
-    ensures live { IfOk result (λ publisher. IsLivePublisher domain.new publisher) }
+    ensures ready { IfOk result (λ publisher. IsReadyPublisher domain.new publisher) }
     ensures stays { Stays domain.old domain.new }
 {
     match create_publisher(domain, handler) {
@@ -30,10 +30,10 @@ pub(crate) fn made_publisher(
 }
 
 fn create_publisher(
-    domain: &mut Domain<u64, ()>,
+    domain: &mut Service,
     handler: Handler,
 ) -> Result<Publisher, PublisherCreateError>
-    ensures live { IfOk result (λ publisher. IsLivePublisher domain.new publisher) }
+    ensures ready { IfOk result (λ publisher. IsReadyPublisher domain.new publisher) }
     ensures stays { Stays domain.old domain.new }
 {
     domain
@@ -48,7 +48,7 @@ fn create_publisher(
 /// a handler that fails each call.
 pub(crate) fn made_subscriber(
     rt: &HostRuntime,
-    domain: &mut Domain<u64, ()>,
+    domain: &mut Service,
     handler: Handler,
 ) -> Result<Subscriber, Failure>
     ensures live { IfOk result (λ subscriber. IsLiveSubscriber domain.new subscriber) }
@@ -65,7 +65,7 @@ pub(crate) fn made_subscriber(
 }
 
 fn create_subscriber(
-    domain: &mut Domain<u64, ()>,
+    domain: &mut Service,
     handler: Handler,
 ) -> Result<Subscriber, SubscriberCreateError>
     ensures live { IfOk result (λ subscriber. IsLiveSubscriber domain.new subscriber) }
@@ -80,12 +80,12 @@ fn create_subscriber(
 /// Sends a value, and prints how many subscribers took it.
 pub(crate) fn send(
     rt: &HostRuntime,
-    domain: &mut Domain<u64, ()>,
+    domain: &mut Service,
     publisher: &Publisher,
     value: u64,
 ) -> Result<(), Failure>
     requires single_valued { IsSingleValued domain.old }
-    requires publisher { IsLivePublisher domain.old publisher.now }
+    requires publisher { IsReadyPublisher domain.old publisher.now }
     ensures { IfOk result (λ _. Stays domain.old domain.new) }
 {
     match publisher.send_copy(domain, value)? {
@@ -101,7 +101,7 @@ pub(crate) fn send(
 /// Receives a value and prints it, or that none waits.
 pub(crate) fn receive(
     rt: &HostRuntime,
-    domain: &mut Domain<u64, ()>,
+    domain: &mut Service,
     subscriber: &Subscriber,
 ) -> Result<(), Failure>
     requires single_valued { IsSingleValued domain.old }

@@ -1,16 +1,16 @@
 //! The two rows.
-ghost use Rattle.iox2_pubsub.specs.Live.{IsLivePublisher, IsLiveSubscriber, IsSingleValued};
+ghost use Rattle.iox2_pubsub.specs.Live.{IsLiveSubscriber, IsReadyPublisher, IsSingleValued};
 
-use crate::answer::Handler;
+use crate::answer::{Handler, Service};
 use crate::failure::Failure;
 use crate::ports::{made_publisher, made_subscriber, receive, send};
-use iox2_pubsub::{Domain, Publisher, Subscriber};
+use iox2_pubsub::{Publisher, Subscriber};
 
 /// A publisher meets a subscriber that comes later. A value is sent and received, and after another
 /// publisher came it is received again.
 pub(crate) fn later_subscriber(
     rt: &HostRuntime,
-    domain: &mut Domain<u64, ()>,
+    domain: &mut Service,
     handlers: (Handler, Handler, Handler),
 ) -> Result<(), Failure>
     requires { IsSingleValued domain.old }
@@ -24,13 +24,13 @@ pub(crate) fn later_subscriber(
 
 fn meet_subscriber(
     rt: &HostRuntime,
-    domain: &mut Domain<u64, ()>,
+    domain: &mut Service,
     publisher: &Publisher,
     handler: Handler,
     last: Handler,
 ) -> Result<(), Failure>
     requires single_valued { IsSingleValued domain.old }
-    requires publisher { IsLivePublisher domain.old publisher.now }
+    requires publisher { IsReadyPublisher domain.old publisher.now }
 {
     println!(rt; "publisher {}", publisher.id().value())?;
     let subscriber = made_subscriber(rt, domain, handler)?;
@@ -41,13 +41,13 @@ fn meet_subscriber(
 
 fn send_one(
     rt: &HostRuntime,
-    domain: &mut Domain<u64, ()>,
+    domain: &mut Service,
     publisher: &Publisher,
     subscriber: &Subscriber,
     last: Handler,
 ) -> Result<(), Failure>
     requires single_valued { IsSingleValued domain.old }
-    requires publisher { IsLivePublisher domain.old publisher.now }
+    requires publisher { IsReadyPublisher domain.old publisher.now }
     requires subscriber { IsLiveSubscriber domain.old subscriber.now }
 {
     println!(rt; "subscriber {}", subscriber.id().value())?;
@@ -64,7 +64,7 @@ fn send_one(
 /// subscriber came another value.
 pub(crate) fn later_publisher(
     rt: &HostRuntime,
-    domain: &mut Domain<u64, ()>,
+    domain: &mut Service,
     handlers: (Handler, Handler, Handler),
 ) -> Result<(), Failure>
     requires { IsSingleValued domain.old }
@@ -78,7 +78,7 @@ pub(crate) fn later_publisher(
 
 fn meet_publisher(
     rt: &HostRuntime,
-    domain: &mut Domain<u64, ()>,
+    domain: &mut Service,
     subscriber: &Subscriber,
     handler: Handler,
     last: Handler,
@@ -95,13 +95,13 @@ fn meet_publisher(
 
 fn send_two(
     rt: &HostRuntime,
-    domain: &mut Domain<u64, ()>,
+    domain: &mut Service,
     publisher: &Publisher,
     subscriber: &Subscriber,
     last: Handler,
 ) -> Result<(), Failure>
     requires single_valued { IsSingleValued domain.old }
-    requires publisher { IsLivePublisher domain.old publisher.now }
+    requires publisher { IsReadyPublisher domain.old publisher.now }
     requires subscriber { IsLiveSubscriber domain.old subscriber.now }
 {
     println!(rt; "publisher {}", publisher.id().value())?;

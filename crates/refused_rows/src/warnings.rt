@@ -1,9 +1,10 @@
 //! What a domain tells of connections that were refused memory.
+use crate::answer::Service;
 use crate::failure::Failure;
-use iox2_pubsub::{Domain, Warning};
+use iox2_pubsub::Warning;
 
 /// Prints the domain's warnings, and how many connections were refused memory.
-pub(crate) fn print_warnings(rt: &HostRuntime, domain: &Domain<u64, ()>) -> Result<(), Failure> {
+pub(crate) fn print_warnings(rt: &HostRuntime, domain: &Service) -> Result<(), Failure> {
     for at in 0..domain.warnings().len() {
         if let Some(&warning) = domain.warnings().get(at) {
             print_warning(rt, warning)?;
