@@ -32,8 +32,8 @@ returns-in_ok-publisher-in-Dynamic-clause-creates g c = λ m s shown.
       made.1,
       (
         ap (λ (publisher : Publisher). publisher.id) c.into_inner.ensures ∙ (made.2).0,
-        publisher_created (answers_of g.F.BackpressureFn.allows g.G.DegradationFn.allows c.create_slices-publisher.new.domain.boxes.publishers) s (settings_of c.args.loans c.args.strategy c.args.len c.args.asked_slots c.args.degradation c.args.backpressure s) (always_unboxed c.args.degradation) made.0 None
-            (subst (λ (given : PublisherSettings). CreatePublisher (answers_of g.F.BackpressureFn.allows g.G.DegradationFn.allows c.create_slices-publisher.new.domain.boxes.publishers) s given made.0 None) is (made.2).1),
+        publisher_created (answers_of g.F.BackpressureFn.allows g.G.DegradationFn.allows c.create_slices.new.domain.boxes.publishers) s (settings_of c.args.loans c.args.strategy c.args.len c.args.asked_slots c.args.degradation c.args.backpressure s) (always_unboxed c.args.degradation) made.0 None
+            (subst (λ (given : PublisherSettings). CreatePublisher (answers_of g.F.BackpressureFn.allows g.G.DegradationFn.allows c.create_slices.new.domain.boxes.publishers) s given made.0 None) is (made.2).1),
       ),
     )
 
@@ -46,6 +46,6 @@ returns-in_err-publisher-in-Dynamic-clause-creates g c = λ m s shown.
     rw (refused.1, refused.2) (
       made.0,
       made.1,
-      publisher_created (answers_of g.F.BackpressureFn.allows g.G.DegradationFn.allows c.create_slices-publisher.new.domain.boxes.publishers) s (settings_of c.args.loans c.args.strategy c.args.len c.args.asked_slots c.args.degradation c.args.backpressure s) (always_unboxed c.args.degradation) made.0 (Some c.in_err-publisher-in-Dynamic.field-0.0)
-          (subst (λ (given : PublisherSettings). CreatePublisher (answers_of g.F.BackpressureFn.allows g.G.DegradationFn.allows c.create_slices-publisher.new.domain.boxes.publishers) s given made.0 (Some c.in_err-publisher-in-Dynamic.field-0.0)) is made.2),
+      publisher_created (answers_of g.F.BackpressureFn.allows g.G.DegradationFn.allows c.create_slices.new.domain.boxes.publishers) s (settings_of c.args.loans c.args.strategy c.args.len c.args.asked_slots c.args.degradation c.args.backpressure s) (always_unboxed c.args.degradation) made.0 (Some c.in_err-publisher-in-Dynamic.field-0.0)
+          (subst (λ (given : PublisherSettings). CreatePublisher (answers_of g.F.BackpressureFn.allows g.G.DegradationFn.allows c.create_slices.new.domain.boxes.publishers) s given made.0 (Some c.in_err-publisher-in-Dynamic.field-0.0)) is made.2),
     )
