@@ -14,9 +14,9 @@ abbrev pub KnowsNo : (KeptBytes → Type 0) → Option Serving → Type 0
 KnowsNo P service = IfSome service (λ it. P it.domain → ⊥)
 
 -- This is so of the domain as it was and as it is. Where there was none, there is none.
-abbrev pub Steps : (KeptBytes → KeptBytes → Type 0) → (old new : Option Serving) → Type 0
-Steps P None new = new ≡ None
-Steps P (Some old) new = (it : Serving) × (new ≡ Some it) × P old.domain it.domain
+abbrev pub Becomes : (KeptBytes → KeptBytes → Type 0) → (old new : Option Serving) → Type 0
+Becomes P None new = new ≡ None
+Becomes P (Some old) new = (it : Serving) × (new ≡ Some it) × P old.domain it.domain
 
 -- Where there was a domain there is one, and all that was live in it stays but for the item.
 abbrev pub HoldsOn : Item → (old new : Option Serving) → Type 0

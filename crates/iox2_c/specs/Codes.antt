@@ -6,7 +6,6 @@ use Rattle.iox2_store.specs.declared.backpressure.BackpressureStrategy.{Backpres
 use Rattle.iox2_store.specs.declared.backpressure.BackpressureStrategy.TheVariants.{RetryUntilDelivered, DiscardData}
 use Rattle.iox2_store.specs.declared.errors.LoanError.{LoanError}
 use Rattle.iox2_store.specs.declared.errors.LoanError.TheVariants.{OutOfMemory, ExceedsMaxLoans, ExceedsMaxLoanSize, InternalFailure}
-use Rattle.iox2_store.specs.declared.errors.ZeroCopyCreationError.{ZeroCopyCreationError}
 use Rattle.iox2_store.specs.declared.errors.ZeroCopyCreationError.TheVariants.{IncompatibleBufferSize, OutOfMemory as No_memory, ExpiredConnectionBufferFull}
 use Rattle.iox2_store.specs.declared.errors.ConnectionFailure.{ConnectionFailure}
 use Rattle.iox2_store.specs.declared.errors.ConnectionFailure.TheVariants.{FailedToEstablishConnection, UnableToMapSendersDataSegment}

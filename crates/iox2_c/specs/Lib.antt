@@ -5,3 +5,4 @@ pub mod Numbers
 pub mod Codes
 pub mod Settings
 pub mod Calls
+pub mod Steps

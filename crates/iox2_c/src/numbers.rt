@@ -196,7 +196,8 @@ pub struct SampleNumbers {
 impl SampleNumbers {
     /// The numbers of a handle.
     pub fn of(parts: SampleParts) -> SampleNumbers
-        ensures { named_sample result ≡ sample_named parts }
+        ensures named { named_sample result ≡ sample_named parts }
+        ensures origin { wide result.origin ≡ parts.origin }
     {
         SampleNumbers {
             service_id: Wide::of(parts.service_id),

@@ -1,10 +1,11 @@
 //! The calls of loans.
 ghost use Rattle.std.specs.Prelude.{◌≡◌, ◌<◌, ◌⊎◌, IfNone, IfSome};
-ghost use Rattle.iox2_pubsub.specs.Handles.{as_written};
+ghost use Rattle.iox2_pubsub.specs.Handles.{as_written, written_number};
 ghost use Rattle.iox2_pubsub.specs.Live.{A_loan, IsLoanKey, IsWritten, written_key};
 ghost use Rattle.iox2_c.specs.Calls.{IsOut, RefusesLoan};
 ghost use Rattle.iox2_c.specs.Numbers.{named_loan, wide};
 ghost use Rattle.iox2_c.specs.Serving.{ServesBut};
+ghost use Rattle.iox2_c.specs.Steps.{Discards};
 
 use crate::numbers::LoanNumbers;
 use crate::service::{BytesDomain, Service};
@@ -16,6 +17,7 @@ use iox2_pubsub::slice::SampleMut;
 pub fn written_loan(domain: &BytesDomain, numbers: &LoanNumbers) -> Option<SampleMut>
     ensures out { IfSome result (λ it. IsWritten domain.now (as_written it)) }
     ensures named { IfSome result (λ it. written_key (as_written it) ≡ named_loan numbers.now) }
+    ensures number { IfSome result (λ it. written_number (as_written it) ≡ wide (numbers.now).number) }
     ensures none { IfNone result (IsOut domain.now (named_loan numbers.now) → ⊥) }
 {
     let handle = domain.written_of(&numbers.parts())?;
@@ -26,6 +28,7 @@ pub fn written_loan(domain: &BytesDomain, numbers: &LoanNumbers) -> Option<Sampl
 pub fn discard(service: &mut Service, numbers: &LoanNumbers) -> u32
     ensures code { (result ≡ 0) ⊎ RefusesLoan service.old.domain (named_loan numbers.now) result }
     ensures out { result ≡ 0 → IsOut service.old.domain (named_loan numbers.now) }
+    ensures discards { result ≡ 0 → Discards service.old.domain service.new.domain (wide (numbers.now).number) }
     ensures spent { result ≡ 0 → IsLoanKey service.new.domain (named_loan numbers.now) → ⊥ }
     ensures refused { 0 < result → service.new ≡ service.old }
     ensures stays { ServesBut (A_loan (wide (numbers.now).number)) service.old service.new }

@@ -1,11 +1,13 @@
 //! The calls of publishers.
-ghost use Rattle.std.specs.Prelude.{◌≡◌, ◌<◌, ◌⊎◌, IfErr, IfOk};
-ghost use Rattle.iox2_pubsub.specs.Handles.{as_publisher};
+ghost use Rattle.std.specs.Prelude.{◌≡◌, ◌<◌, ◌≤◌, ◌⊎◌, Err, IfErr, IfOk, Ok};
+ghost use Rattle.iox2_store.specs.declared.errors.LoanError.{LoanError};
+ghost use Rattle.iox2_pubsub.specs.Handles.{as_publisher, publisher_id};
 ghost use Rattle.iox2_pubsub.specs.Live.{A_loan, A_publisher, IsLoanKey, IsNewIn, IsPublisherKey, IsReadyPublisher, No_item, publisher_key};
 ghost use Rattle.iox2_c.specs.Calls.{IsOut, IsReady, RefusesPublisher};
-ghost use Rattle.iox2_c.specs.Codes.{code_of, publisher_code};
+ghost use Rattle.iox2_c.specs.Codes.{code_of, loan_code, publisher_code};
 ghost use Rattle.iox2_c.specs.Numbers.{named_loan, named_publisher, wide};
 ghost use Rattle.iox2_c.specs.Serving.{ServesBut};
+ghost use Rattle.iox2_c.specs.Steps.{ClosesPublisher, Lends};
 
 use crate::config::strategy_of;
 use crate::numbers::{LoanNumbers, PublisherNumbers};
@@ -85,6 +87,7 @@ pub fn create_with(
 pub fn ready_publisher(domain: &BytesDomain, numbers: &PublisherNumbers) -> Result<Publisher, u32>
     ensures ready { IfOk result (λ it. IsReadyPublisher domain.now (as_publisher it)) }
     ensures named { IfOk result (λ it. publisher_key (as_publisher it) ≡ named_publisher numbers.now) }
+    ensures id { IfOk result (λ it. publisher_id (as_publisher it) ≡ wide (numbers.now).id) }
     ensures refused { IfErr result (RefusesPublisher domain.now (named_publisher numbers.now)) }
 {
     let Some(handle) = domain.publisher_of(&numbers.parts()) else {
@@ -102,6 +105,7 @@ pub fn ready_publisher(domain: &BytesDomain, numbers: &PublisherNumbers) -> Resu
 pub fn close(service: &mut Service, numbers: &PublisherNumbers) -> u32
     ensures code { (result ≡ 0) ⊎ RefusesPublisher service.old.domain (named_publisher numbers.now) result }
     ensures ready { result ≡ 0 → IsReady service.old.domain (named_publisher numbers.now) }
+    ensures closed { result ≡ 0 → ClosesPublisher service.old.domain service.new.domain (wide (numbers.now).id) }
     ensures spent { result ≡ 0 → IsPublisherKey service.new.domain (named_publisher numbers.now) → ⊥ }
     ensures refused { 0 < result → service.new ≡ service.old }
     ensures stays { ServesBut (A_publisher (wide (numbers.now).id)) service.old service.new }
@@ -124,6 +128,9 @@ pub fn loan(
     payload: &mut *mut u8,
 ) -> u32
     ensures code { result ≡ 1 → ⊥ }
+    ensures lends { result ≡ 0 → Lends service.old.domain service.new.domain (wide (numbers.now).id) len (Ok tt) }
+    ensures errors { 10 ≤ result → (error : LoanError) × (result ≡ loan_code error) × Lends service.old.domain service.new.domain (wide (numbers.now).id) len (Err error) }
+    ensures why { 1 < result → result < 10 → RefusesPublisher service.old.domain (named_publisher numbers.now) result × (service.new ≡ service.old) }
     ensures out { result ≡ 0 → IsOut service.new.domain (named_loan out.new) }
     ensures new { result ≡ 0 → IsNewIn service.old.domain (A_loan (wide (out.new).number)) }
     ensures same { 0 < result → out.new ≡ out.old }

@@ -1,11 +1,12 @@
 //! The calls of samples.
 ghost use Rattle.std.specs.Prelude.{ℕ, List, length, take, ◌≡◌, ◌≢◌, ◌<◌, ◌⊎◌, IfNone, IfSome};
 ghost use Rattle.iox2_store.specs.declared.header.Header.{Header};
-ghost use Rattle.iox2_pubsub.specs.Handles.{as_sample};
+ghost use Rattle.iox2_pubsub.specs.Handles.{as_sample, receiver_of, sample_number};
 ghost use Rattle.iox2_pubsub.specs.Live.{A_sample, IsLiveSample, IsSampleKey, SampleHasHeader, received_sample, sample_key};
 ghost use Rattle.iox2_pubsub.specs.Slices.{SampleHasValues};
 ghost use Rattle.iox2_c.specs.Numbers.{IsHeader, named_sample, wide};
 ghost use Rattle.iox2_c.specs.Serving.{ServesBut};
+ghost use Rattle.iox2_c.specs.Steps.{Releases};
 
 use crate::numbers::{HeaderNumbers, SampleNumbers};
 use crate::service::{BytesDomain, Service};
@@ -17,6 +18,8 @@ use iox2_pubsub::slice::Sample;
 pub fn live_sample(domain: &BytesDomain, numbers: &SampleNumbers) -> Option<Sample>
     ensures live { IfSome result (λ it. IsLiveSample domain.now (as_sample it)) }
     ensures named { IfSome result (λ it. sample_key (as_sample it) ≡ named_sample numbers.now) }
+    ensures number { IfSome result (λ it. sample_number (as_sample it) ≡ wide (numbers.now).number) }
+    ensures receiver { IfSome result (λ it. receiver_of (as_sample it) ≡ wide (numbers.now).subscriber) }
     ensures none { IfNone result (IsSampleKey domain.now (named_sample numbers.now) → ⊥) }
 {
     let handle = domain.sample_of(&numbers.parts())?;
@@ -122,6 +125,7 @@ pub fn header(service: &Service, numbers: &SampleNumbers, out: &mut HeaderNumber
 pub fn release(service: &mut Service, numbers: &SampleNumbers) -> u32
     ensures code { (result ≡ 0) ⊎ ((result ≡ 2) × (IsSampleKey service.old.domain (named_sample numbers.now) → ⊥)) }
     ensures live { result ≡ 0 → IsSampleKey service.old.domain (named_sample numbers.now) }
+    ensures releases { result ≡ 0 → Releases service.old.domain service.new.domain (wide (numbers.now).subscriber) (wide (numbers.now).number) }
     ensures spent { IsSampleKey service.new.domain (named_sample numbers.now) → ⊥ }
     ensures refused { 0 < result → service.new ≡ service.old }
     ensures stays { ServesBut (A_sample (wide (numbers.now).subscriber) (wide (numbers.now).number)) service.old service.new }

@@ -1,11 +1,15 @@
 //! Sends, and those that wait.
 ghost use Rattle.std.specs.Prelude.{◌≡◌, ◌<◌, ◌⊎◌, nat_eq, IfOk};
+ghost use Rattle.std.specs.declared.result.Result.{Result};
+ghost use Rattle.iox2_store.specs.declared.errors.SendError.{SendError};
+ghost use Rattle.iox2_pubsub.specs.declared.send_outcome.SendOutcome.{SendOutcome};
 ghost use Rattle.iox2_pubsub.specs.Live.{A_blocked_send, A_sent_copy, A_sent_loan, IsBlockedKey, IsLoanKey, blocked_key};
 ghost use Rattle.iox2_pubsub.specs.SendCalls.{IfBlocked};
 ghost use Rattle.iox2_c.specs.Calls.{IsOut, IsReady, RefusesPublisher, RefusesSend};
 ghost use Rattle.iox2_c.specs.Codes.{receivers_of, sent_code};
 ghost use Rattle.iox2_c.specs.Numbers.{named_loan, named_publisher, wide};
 ghost use Rattle.iox2_c.specs.Serving.{ServesBut};
+ghost use Rattle.iox2_c.specs.Steps.{SendsLoan};
 
 use crate::calls::loans::written_loan;
 use crate::calls::publishers::ready_publisher;
@@ -46,6 +50,8 @@ pub fn send(
     blocked: &mut LoanNumbers,
 ) -> u32
     ensures code { result ≡ 1 → ⊥ }
+    ensures sent { (result ≡ 0) ⊎ ((5 < result) × (result ≡ 7 → ⊥)) → (outcome : Result SendOutcome SendError) × (result ≡ sent_code outcome) × (receivers.new ≡ receivers_of receivers.old outcome) × SendsLoan service.old.domain service.new.domain (wide (numbers.now).number) outcome }
+    ensures why { (result ≡ 2) ⊎ (result ≡ 7) → RefusesSend service.old.domain (named_loan numbers.now) result × (service.new ≡ service.old) }
     ensures waits { result ≡ 6 → IsBlockedKey service.new.domain (named_loan blocked.new) × (named_loan blocked.new ≡ named_loan numbers.now) }
     ensures stays { ServesBut (A_sent_loan (wide (numbers.now).number) (wide (numbers.now).publisher) (nat_eq result 6)) service.old service.new }
 {

@@ -1,10 +1,13 @@
 //! The calls of subscribers.
-ghost use Rattle.std.specs.Prelude.{◌≡◌, ◌<◌, ◌⊎◌, IfErr, IfNone, IfOk, IfSome};
-ghost use Rattle.iox2_pubsub.specs.Handles.{as_subscriber};
+ghost use Rattle.std.specs.Prelude.{◌≡◌, ◌<◌, ◌≤◌, ◌⊎◌, IfErr, IfNone, IfOk, IfSome};
+ghost use Rattle.iox2_store.specs.declared.errors.ReceiveError.{ReceiveError};
+ghost use Rattle.iox2_store.specs.machine.Receives.{Got_sample, No_sample, Receive_error};
+ghost use Rattle.iox2_pubsub.specs.Handles.{as_subscriber, subscriber_id};
 ghost use Rattle.iox2_pubsub.specs.Live.{A_sample, A_subscriber, IsLiveSubscriber, IsNewIn, IsSampleKey, IsSubscriberKey, No_item, subscriber_key};
-ghost use Rattle.iox2_c.specs.Codes.{code_of, subscriber_code};
+ghost use Rattle.iox2_c.specs.Codes.{code_of, receive_code, subscriber_code};
 ghost use Rattle.iox2_c.specs.Numbers.{named_sample, named_subscriber, wide};
 ghost use Rattle.iox2_c.specs.Serving.{ServesBut};
+ghost use Rattle.iox2_c.specs.Steps.{ClosesSubscriber, Receives};
 
 use crate::calls::samples::copy_out;
 use crate::numbers::{SampleNumbers, SubscriberNumbers};
@@ -70,6 +73,7 @@ pub fn create_with(
 pub fn live_subscriber(domain: &BytesDomain, numbers: &SubscriberNumbers) -> Option<Subscriber>
     ensures live { IfSome result (λ it. IsLiveSubscriber domain.now (as_subscriber it)) }
     ensures named { IfSome result (λ it. subscriber_key (as_subscriber it) ≡ named_subscriber numbers.now) }
+    ensures id { IfSome result (λ it. subscriber_id (as_subscriber it) ≡ wide (numbers.now).id) }
     ensures none { IfNone result (IsSubscriberKey domain.now (named_subscriber numbers.now) → ⊥) }
 {
     let handle = domain.subscriber_of(&numbers.parts())?;
@@ -80,6 +84,7 @@ pub fn live_subscriber(domain: &BytesDomain, numbers: &SubscriberNumbers) -> Opt
 pub fn close(service: &mut Service, numbers: &SubscriberNumbers) -> u32
     ensures code { (result ≡ 0) ⊎ ((result ≡ 2) × (IsSubscriberKey service.old.domain (named_subscriber numbers.now) → ⊥)) }
     ensures live { result ≡ 0 → IsSubscriberKey service.old.domain (named_subscriber numbers.now) }
+    ensures closed { result ≡ 0 → ClosesSubscriber service.old.domain service.new.domain (wide (numbers.now).id) }
     ensures spent { IsSubscriberKey service.new.domain (named_subscriber numbers.now) → ⊥ }
     ensures refused { 0 < result → service.new ≡ service.old }
     ensures stays { ServesBut (A_subscriber (wide (numbers.now).id)) service.old service.new }
@@ -100,6 +105,10 @@ pub fn receive(
     len: &mut usize,
 ) -> u32
     ensures code { result ≡ 1 → ⊥ }
+    ensures received { result ≡ 0 → Receives service.old.domain service.new.domain (wide (numbers.now).id) (Got_sample (wide (out.new).origin) (wide (out.new).number)) }
+    ensures nothing { result ≡ 3 → Receives service.old.domain service.new.domain (wide (numbers.now).id) No_sample }
+    ensures errors { 30 ≤ result → (error : ReceiveError) × (result ≡ receive_code error) × Receives service.old.domain service.new.domain (wide (numbers.now).id) (Receive_error error) }
+    ensures not_live { result ≡ 2 → (IsSubscriberKey service.old.domain (named_subscriber numbers.now) → ⊥) × (service.new ≡ service.old) }
     ensures live { result ≡ 0 → IsSampleKey service.new.domain (named_sample out.new) }
     ensures new { result ≡ 0 → IsNewIn service.old.domain (A_sample (wide (out.new).subscriber) (wide (out.new).number)) }
     ensures same { 0 < result → out.new ≡ out.old }

@@ -1,9 +1,10 @@
 //! The exports of loans.
 ghost use Rattle.std.specs.Prelude.{◌≡◌, ◌<◌, ◌↔◌, None};
 ghost use Rattle.iox2_pubsub.specs.Live.{A_loan, IsLoanKey};
-ghost use Rattle.iox2_c.specs.Boxed.{HoldsOn, Knows, KnowsNo};
+ghost use Rattle.iox2_c.specs.Boxed.{Becomes, HoldsOn, Knows, KnowsNo};
 ghost use Rattle.iox2_c.specs.Calls.{IsOut, RefusesLoan};
 ghost use Rattle.iox2_c.specs.Numbers.{named_loan, wide};
+ghost use Rattle.iox2_c.specs.Steps.{Discards};
 
 use crate::calls::loans;
 use crate::domain_box::DomainBox;
@@ -20,6 +21,7 @@ pub extern "C" fn iox2_loan_discard(
 ) -> u32
     ensures no_domain { (result ≡ 1) ↔ (domain.old.service ≡ None) }
     ensures out { result ≡ 0 → Knows (λ kept. IsOut kept (named_loan loan.now)) domain.old.service }
+    ensures discards { result ≡ 0 → Becomes (λ old new. Discards old new (wide (loan.now).number)) domain.old.service domain.new.service }
     ensures spent { result ≡ 0 → KnowsNo (λ kept. IsLoanKey kept (named_loan loan.now)) domain.new.service }
     ensures why { 1 < result → Knows (λ kept. RefusesLoan kept (named_loan loan.now) result) domain.old.service }
     ensures refused { 0 < result → domain.new.service ≡ domain.old.service }

@@ -1,9 +1,13 @@
 //! The exports of publishers.
 ghost use Rattle.std.specs.Prelude.{◌≡◌, ◌<◌, ◌↔◌, None};
+ghost use Rattle.std.specs.Prelude.{◌≤◌, Err, Ok};
+ghost use Rattle.iox2_store.specs.declared.errors.LoanError.{LoanError};
 ghost use Rattle.iox2_pubsub.specs.Live.{A_publisher, IsPublisherKey, No_item};
-ghost use Rattle.iox2_c.specs.Boxed.{HoldsOn, Knows, KnowsNo};
+ghost use Rattle.iox2_c.specs.Boxed.{Becomes, HoldsOn, Knows, KnowsNo};
 ghost use Rattle.iox2_c.specs.Calls.{IsOut, IsReady, RefusesPublisher};
+ghost use Rattle.iox2_c.specs.Codes.{loan_code};
 ghost use Rattle.iox2_c.specs.Numbers.{named_loan, named_publisher, wide};
+ghost use Rattle.iox2_c.specs.Steps.{ClosesPublisher, Lends};
 
 use crate::calls::publishers;
 use crate::domain_box::DomainBox;
@@ -63,6 +67,7 @@ pub extern "C" fn iox2_publisher_close(
 ) -> u32
     ensures no_domain { (result ≡ 1) ↔ (domain.old.service ≡ None) }
     ensures ready { result ≡ 0 → Knows (λ kept. IsReady kept (named_publisher publisher.now)) domain.old.service }
+    ensures closed { result ≡ 0 → Becomes (λ old new. ClosesPublisher old new (wide (publisher.now).id)) domain.old.service domain.new.service }
     ensures spent { result ≡ 0 → KnowsNo (λ kept. IsPublisherKey kept (named_publisher publisher.now)) domain.new.service }
     ensures why { 1 < result → Knows (λ kept. RefusesPublisher kept (named_publisher publisher.now) result) domain.old.service }
     ensures refused { 0 < result → domain.new.service ≡ domain.old.service }
@@ -87,6 +92,10 @@ pub extern "C" fn iox2_publisher_loan(
     payload: &mut *mut u8,
 ) -> u32
     ensures no_domain { (result ≡ 1) ↔ (domain.old.service ≡ None) }
+    ensures lends { result ≡ 0 → Becomes (λ old new. Lends old new (wide (publisher.now).id) len (Ok tt)) domain.old.service domain.new.service }
+    ensures errors { 10 ≤ result → (error : LoanError) × (result ≡ loan_code error) × Becomes (λ old new. Lends old new (wide (publisher.now).id) len (Err error)) domain.old.service domain.new.service }
+    ensures why { 1 < result → result < 10 → Knows (λ kept. RefusesPublisher kept (named_publisher publisher.now) result) domain.old.service }
+    ensures refused { 0 < result → result < 10 → domain.new.service ≡ domain.old.service }
     ensures out { result ≡ 0 → Knows (λ kept. IsOut kept (named_loan loan.new)) domain.new.service }
     ensures same { 0 < result → loan.new ≡ loan.old }
     ensures stays { HoldsOn No_item domain.old.service domain.new.service }

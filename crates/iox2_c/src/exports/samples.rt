@@ -4,8 +4,9 @@ ghost use Rattle.std.specs.Prelude.{ℕ, List, take};
 ghost use Rattle.iox2_store.specs.declared.header.Header.{Header};
 ghost use Rattle.iox2_pubsub.specs.Live.{A_sample, IsSampleKey, SampleHasHeader};
 ghost use Rattle.iox2_pubsub.specs.Slices.{SampleHasValues};
-ghost use Rattle.iox2_c.specs.Boxed.{HoldsOn, Knows, KnowsNo};
+ghost use Rattle.iox2_c.specs.Boxed.{Becomes, HoldsOn, Knows, KnowsNo};
 ghost use Rattle.iox2_c.specs.Numbers.{IsHeader, named_sample, wide};
+ghost use Rattle.iox2_c.specs.Steps.{Releases};
 
 use crate::calls::samples;
 use crate::domain_box::DomainBox;
@@ -87,6 +88,7 @@ pub extern "C" fn iox2_sample_release(
 ) -> u32
     ensures no_domain { (result ≡ 1) ↔ (domain.old.service ≡ None) }
     ensures live { result ≡ 0 → Knows (λ kept. IsSampleKey kept (named_sample sample.now)) domain.old.service }
+    ensures releases { result ≡ 0 → Becomes (λ old new. Releases old new (wide (sample.now).subscriber) (wide (sample.now).number)) domain.old.service domain.new.service }
     ensures spent { KnowsNo (λ kept. IsSampleKey kept (named_sample sample.now)) domain.new.service }
     ensures refused { 0 < result → domain.new.service ≡ domain.old.service }
     ensures stays { HoldsOn (A_sample (wide (sample.now).subscriber) (wide (sample.now).number)) domain.old.service domain.new.service }

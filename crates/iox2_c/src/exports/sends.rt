@@ -1,9 +1,15 @@
 //! The exports of sends.
 ghost use Rattle.std.specs.Prelude.{◌≡◌, ◌<◌, ◌↔◌, None};
-ghost use Rattle.std.specs.Prelude.{nat_eq};
-ghost use Rattle.iox2_pubsub.specs.Live.{A_blocked_send, A_sent_copy, A_sent_loan, IsBlockedKey, IsLoanKey};
-ghost use Rattle.iox2_c.specs.Boxed.{HoldsOn, Knows, KnowsNo};
+ghost use Rattle.std.specs.Prelude.{nat_eq, ◌⊎◌};
+ghost use Rattle.std.specs.declared.result.Result.{Result};
+ghost use Rattle.iox2_store.specs.declared.errors.SendError.{SendError};
+ghost use Rattle.iox2_pubsub.specs.declared.send_outcome.SendOutcome.{SendOutcome};
+ghost use Rattle.iox2_pubsub.specs.Live.{A_blocked_send, A_sent_copy, A_sent_loan, IsBlockedKey};
+ghost use Rattle.iox2_c.specs.Boxed.{Becomes, HoldsOn, Knows};
+ghost use Rattle.iox2_c.specs.Calls.{RefusesSend};
+ghost use Rattle.iox2_c.specs.Codes.{receivers_of, sent_code};
 ghost use Rattle.iox2_c.specs.Numbers.{named_loan, wide};
+ghost use Rattle.iox2_c.specs.Steps.{SendsLoan};
 
 use crate::calls::sends;
 use crate::domain_box::DomainBox;
@@ -21,6 +27,10 @@ pub extern "C" fn iox2_loan_send(
     blocked: &mut LoanNumbers,
 ) -> u32
     ensures no_domain { (result ≡ 1) ↔ (domain.old.service ≡ None) }
+    ensures sent { (result ≡ 0) ⊎ ((5 < result) × (result ≡ 7 → ⊥)) → (outcome : Result SendOutcome SendError) × (result ≡ sent_code outcome) × (receivers.new ≡ receivers_of receivers.old outcome)
+        × Becomes (λ old new. SendsLoan old new (wide (loan.now).number) outcome) domain.old.service domain.new.service }
+    ensures why { (result ≡ 2) ⊎ (result ≡ 7) → Knows (λ kept. RefusesSend kept (named_loan loan.now) result) domain.old.service }
+    ensures refused { (result ≡ 2) ⊎ (result ≡ 7) → domain.new.service ≡ domain.old.service }
     ensures waits { result ≡ 6 → Knows (λ kept. IsBlockedKey kept (named_loan blocked.new)) domain.new.service }
     ensures stays { HoldsOn (A_sent_loan (wide (loan.now).number) (wide (loan.now).publisher) (nat_eq result 6)) domain.old.service domain.new.service }
 {

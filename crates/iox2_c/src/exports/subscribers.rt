@@ -1,8 +1,13 @@
 //! The exports of subscribers.
 ghost use Rattle.std.specs.Prelude.{◌≡◌, ◌<◌, ◌↔◌, None};
+ghost use Rattle.std.specs.Prelude.{◌≤◌};
+ghost use Rattle.iox2_store.specs.declared.errors.ReceiveError.{ReceiveError};
+ghost use Rattle.iox2_store.specs.machine.Receives.{Got_sample, No_sample, Receive_error};
 ghost use Rattle.iox2_pubsub.specs.Live.{A_subscriber, IsSampleKey, IsSubscriberKey, No_item};
-ghost use Rattle.iox2_c.specs.Boxed.{HoldsOn, Knows, KnowsNo};
+ghost use Rattle.iox2_c.specs.Boxed.{Becomes, HoldsOn, Knows, KnowsNo};
+ghost use Rattle.iox2_c.specs.Codes.{receive_code};
 ghost use Rattle.iox2_c.specs.Numbers.{named_sample, named_subscriber, wide};
+ghost use Rattle.iox2_c.specs.Steps.{ClosesSubscriber, Receives};
 
 use crate::calls::subscribers;
 use crate::domain_box::DomainBox;
@@ -62,6 +67,7 @@ pub extern "C" fn iox2_subscriber_close(
 ) -> u32
     ensures no_domain { (result ≡ 1) ↔ (domain.old.service ≡ None) }
     ensures live { result ≡ 0 → Knows (λ kept. IsSubscriberKey kept (named_subscriber subscriber.now)) domain.old.service }
+    ensures closed { result ≡ 0 → Becomes (λ old new. ClosesSubscriber old new (wide (subscriber.now).id)) domain.old.service domain.new.service }
     ensures spent { KnowsNo (λ kept. IsSubscriberKey kept (named_subscriber subscriber.now)) domain.new.service }
     ensures refused { 0 < result → domain.new.service ≡ domain.old.service }
     ensures stays { HoldsOn (A_subscriber (wide (subscriber.now).id)) domain.old.service domain.new.service }
@@ -85,6 +91,11 @@ pub extern "C" fn iox2_subscriber_receive(
     len: &mut usize,
 ) -> u32
     ensures no_domain { (result ≡ 1) ↔ (domain.old.service ≡ None) }
+    ensures received { result ≡ 0 → Becomes (λ old new. Receives old new (wide (subscriber.now).id) (Got_sample (wide (sample.new).origin) (wide (sample.new).number))) domain.old.service domain.new.service }
+    ensures nothing { result ≡ 3 → Becomes (λ old new. Receives old new (wide (subscriber.now).id) No_sample) domain.old.service domain.new.service }
+    ensures errors { 30 ≤ result → (error : ReceiveError) × (result ≡ receive_code error) × Becomes (λ old new. Receives old new (wide (subscriber.now).id) (Receive_error error)) domain.old.service domain.new.service }
+    ensures not_live { result ≡ 2 → KnowsNo (λ kept. IsSubscriberKey kept (named_subscriber subscriber.now)) domain.old.service }
+    ensures refused { 0 < result → result < 3 → domain.new.service ≡ domain.old.service }
     ensures live { result ≡ 0 → Knows (λ kept. IsSampleKey kept (named_sample sample.new)) domain.new.service }
     ensures same { 0 < result → sample.new ≡ sample.old }
     ensures stays { HoldsOn No_item domain.old.service domain.new.service }

@@ -1,0 +1,63 @@
+use Rattle.std.proofs.Common.{◌≡◌, ℕ, ◌≤◌, refl, ap, sym, subst, ◌∙◌, arith}
+use Rattle.std.specs.declared.option.Option.{Option}
+use Rattle.std.specs.declared.result.Result.TheVariants.{Ok}
+use Rattle.iox2_store.specs.declared.key.Key.{Key}
+use Rattle.iox2_store.specs.machine.Receives.{Got_sample, No_sample, ReceiveResult, Receive_error}
+use Rattle.iox2_pubsub.specs.ReceivedSamples.{received_slice}
+use Rattle.iox2_pubsub.specs.declared.parts.SampleParts.{SampleParts}
+use Rattle.iox2_pubsub.specs.declared.sample.Sample.{Sample}
+use Rattle.iox2_pubsub.specs.declared.slice.sample.Sample.{Sample as SliceSample}
+use Rattle.iox2_c.specs.Numbers.{wide}
+use Rattle.iox2_c.specs.declared.numbers.SampleNumbers.{SampleNumbers}
+use Rattle.iox2_c.specs.Serving.{KeptBytes, Serving}
+use Rattle.iox2_c.specs.Steps.{Receives}
+use Rattle.iox2_c.proofs.BecomesSteps.{receive-code-high}
+use Rattle.iox2_c.proofs.calls.subscribers.receive.Goals as goal
+use Rattle.iox2_c.proofs.calls.subscribers.receive.Goals.{in-Ok-Some, in-Ok-None, in-Err}
+
+-- a step of the subscriber is one of the numbers
+named : (inside old new : KeptBytes) (q p : ℕ) (was is : ReceiveResult) → inside ≡ old → q ≡ p → was ≡ is → Receives inside new q was → Receives old new p is
+named inside old new q p was is same id result step =
+    subst (λ (k : KeptBytes). Receives k new p is) same (subst (λ (r : ℕ). Receives inside new r is) id (subst (Receives inside new q) result step))
+
+pub returns-clause-received : goal.returns-clause-received
+returns-clause-received c = elim c.match-received.branch [
+  | in-Ok-Some w ↦ λ ok.
+      let origin = ap (λ (n : SampleNumbers). wide n.origin) w.out-is ∙ w.of.ensures.origin ∙ ap (λ (p : SampleParts). p.origin) w.into_parts.ensures ∙ ap (λ (s : Sample). s.origin) w.into_inner.ensures in
+      let number =
+      ap (λ (n : SampleNumbers). wide n.number) w.out-is ∙ ap (λ (k : Key). k.message) w.of.ensures.named ∙ ap (λ (p : SampleParts). p.number) w.into_parts.ensures
+      ∙ ap (λ (s : Sample). s.sample.number) w.into_inner.ensures in
+      named c.service.inside.domain c.args.service.now.domain c.receive-received.new.domain _ (wide c.args.numbers.now.id) _ _
+      (ap (λ (s : Serving). s.domain) c.service.view_is) c.in-Some.ensures.id
+      (ap (λ (o : Option SliceSample). received_slice (Ok o)) w.in-Ok-Some.field-0-is
+      ∙ ap (λ (o : ℕ). Got_sample o w.in-Ok-Some.sample.sample.sample.number) (sym origin) ∙ ap (Got_sample (wide (c.match-received.out).origin)) (sym number))
+      w.in-Ok-Some.ensures.receives
+  | in-Ok-None w ↦ λ ok. absurd (omega (arith, ok, w.result-is))
+  | in-Err w ↦ λ ok.
+      let high : 30 ≤ c.match-received.result = subst (λ (n : ℕ). 30 ≤ n) (sym (w.result-is ∙ w.receive_status.ensures)) (receive-code-high w.in-Err.error) in
+      absurd (omega (arith, ok, high))
+]
+
+pub returns-clause-nothing : goal.returns-clause-nothing
+returns-clause-nothing c = elim c.match-received.branch [
+  | in-Ok-Some w ↦ λ none. absurd (omega (arith, none, w.result-is))
+  | in-Ok-None w ↦ λ none.
+      named c.service.inside.domain c.args.service.now.domain c.receive-received.new.domain _ (wide c.args.numbers.now.id) _ No_sample
+      (ap (λ (s : Serving). s.domain) c.service.view_is) c.in-Some.ensures.id (ap (λ (o : Option SliceSample). received_slice (Ok o)) w.in-Ok-None.field-0-is)
+      w.in-Ok-None.ensures.receives
+  | in-Err w ↦ λ none.
+      let high : 30 ≤ c.match-received.result = subst (λ (n : ℕ). 30 ≤ n) (sym (w.result-is ∙ w.receive_status.ensures)) (receive-code-high w.in-Err.error) in
+      absurd (omega (arith, none, high))
+]
+
+pub returns-clause-errors : goal.returns-clause-errors
+returns-clause-errors c = elim c.match-received.branch [
+  | in-Ok-Some w ↦ λ high. absurd (omega (arith, high, w.result-is))
+  | in-Ok-None w ↦ λ high. absurd (omega (arith, high, w.result-is))
+  | in-Err w ↦ λ high. (
+    w.in-Err.error,
+    w.result-is ∙ w.receive_status.ensures,
+    named c.service.inside.domain c.args.service.now.domain c.receive-received.new.domain _ (wide c.args.numbers.now.id) _ (Receive_error w.in-Err.error)
+        (ap (λ (s : Serving). s.domain) c.service.view_is) c.in-Some.ensures.id refl w.in-Err.ensures.receives,
+  )
+]

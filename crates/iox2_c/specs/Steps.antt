@@ -1,0 +1,87 @@
+-- Which step of the machine a call made.
+use Rattle.std.specs.Prelude.{ℕ, ◌≡◌, IsTrue}
+use Rattle.std.specs.declared.option.Option.TheVariants.{Some}
+use Rattle.std.specs.declared.result.Result.{Result}
+use Rattle.std.specs.declared.time.Duration.{Duration}
+use Rattle.iox2_store.specs.declared.backpressure.BackpressureAction.TheVariants.{DiscardData}
+use Rattle.iox2_store.specs.declared.errors.LoanError.{LoanError}
+use Rattle.iox2_store.specs.declared.errors.SendError.{SendError}
+use Rattle.iox2_store.specs.machine.Environments.{fixed_handlers}
+use Rattle.iox2_store.specs.machine.Loans.{loan_discarded}
+use Rattle.iox2_store.specs.machine.Mailbox.{is_borrowed}
+use Rattle.iox2_store.specs.machine.Ports.{publisher_closed, subscriber_closed}
+use Rattle.iox2_store.specs.machine.Receives.{Receive, ReceiveResult}
+use Rattle.iox2_store.specs.machine.Records.{BlockedSend, Environment, Loan, Publisher, Subscriber}
+use Rattle.iox2_store.specs.machine.Releases.{released}
+use Rattle.iox2_store.specs.machine.Sends.{GiveUp, Retry}
+use Rattle.iox2_store.specs.machine.State.{Messages, State}
+use Rattle.iox2_domain.specs.Boxes.{answers_of}
+use Rattle.iox2_domain.specs.Shows.{Shows}
+use Rattle.iox2_pubsub.specs.SendCalls.{Sends, messages_after, result_of_send}
+use Rattle.iox2_pubsub.specs.WrittenLoans.{DefaultSliceCall}
+use Rattle.iox2_pubsub.specs.declared.send_outcome.SendOutcome.{SendOutcome}
+use Rattle.iox2_c.specs.Serving.{KeptBytes}
+
+-- A state of a service of bytes.
+abbrev pub BytesState : Type 0
+BytesState = State ℕ (Unit {0})
+
+-- What the boxes of a domain's publishers answer, of which there are none.
+abbrev pub publishers_answer : KeptBytes → Environment
+publishers_answer domain = answers_of (λ handler info action. action ≡ DiscardData) domain.boxes
+
+-- The same of its subscribers.
+abbrev pub subscribers_answer : KeptBytes → Environment
+subscribers_answer domain = fixed_handlers
+
+module _ (old new : KeptBytes) where
+  -- From each state that the domain showed there is such a step to one that it shows now, and the messages are the same.
+  abbrev pub StepsTo : (BytesState → BytesState → Type 0) → Type 0
+  StepsTo Step = (m : Messages ℕ (Unit {0})) (s : BytesState) → Shows old m s → (s' : BytesState) × Shows new m s' × Step s s'
+
+  -- The publisher with this id was asked for so many bytes, each of which is 0, with this answer.
+  abbrev pub Lends : (publisher len : ℕ) → Result (Unit {0}) LoanError → Type 0
+  Lends publisher len answer = StepsTo (λ s s'. DefaultSliceCall (λ byte. byte ≡ 0) (λ header. Unit {0}) len s publisher answer s')
+
+  -- The loan with this number was given back unsent.
+  abbrev pub Discards : (number : ℕ) → Type 0
+  Discards number =
+      (m : Messages ℕ (Unit {0})) (s : BytesState) (l : Loan ℕ (Unit {0})) → Shows old m s → s.loans number ≡ Some l → Shows new m (loan_discarded s number l)
+
+  -- The loan with this number was sent, with this outcome or error.
+  abbrev pub SendsLoan : (number : ℕ) → Result SendOutcome SendError → Type 0
+  SendsLoan number sent =
+      (m : Messages ℕ (Unit {0})) (s : BytesState) (l : Loan ℕ (Unit {0})) → Shows old m s → s.loans number ≡ Some l
+      → (s' : BytesState) × Shows new (messages_after m number l sent) s' × Sends (publishers_answer old) s number l sent s'
+
+  -- The blocked send of the publisher with this id was tried again after this time, with this outcome or error.
+  abbrev pub Retries : (publisher : ℕ) → Duration → Result SendOutcome SendError → Type 0
+  Retries publisher elapsed sent =
+      (m : Messages ℕ (Unit {0})) (s : BytesState) (x : Publisher) (b : BlockedSend) → Shows old m s → s.publishers publisher ≡ Some x → x.blocked ≡ Some b
+      → (s' : BytesState) × Shows new m s' × Retry (publishers_answer old) s publisher b elapsed s' (result_of_send sent)
+
+  -- The subscriber for which it waited was given up.
+  abbrev pub GivesUp : (publisher : ℕ) → Result SendOutcome SendError → Type 0
+  GivesUp publisher sent =
+      (m : Messages ℕ (Unit {0})) (s : BytesState) (x : Publisher) (b : BlockedSend) → Shows old m s → s.publishers publisher ≡ Some x → x.blocked ≡ Some b
+      → (s' : BytesState) × Shows new m s' × GiveUp (publishers_answer old) s publisher b s' (result_of_send sent)
+
+  -- The subscriber with this id received, with this result.
+  abbrev pub Receives : (subscriber : ℕ) → ReceiveResult → Type 0
+  Receives subscriber result = StepsTo (λ s s'. Receive (subscribers_answer old) s subscriber s' result)
+
+  -- The message with this number was given back by the subscriber with this id, whomever it was borrowed from.
+  abbrev pub Releases : (subscriber number : ℕ) → Type 0
+  Releases subscriber number =
+      (m : Messages ℕ (Unit {0})) (s : BytesState) → Shows old m s → (publisher : ℕ) → IsTrue (is_borrowed number (s.mailboxes publisher subscriber))
+      → (s' : BytesState) × Shows new m s' × (s' ≡ released s publisher subscriber number)
+
+  -- The publisher with this id was closed.
+  abbrev pub ClosesPublisher : (publisher : ℕ) → Type 0
+  ClosesPublisher publisher =
+      (m : Messages ℕ (Unit {0})) (s : BytesState) (x : Publisher) → Shows old m s → s.publishers publisher ≡ Some x → Shows new m (publisher_closed s publisher x)
+
+  -- The subscriber with this id was closed.
+  abbrev pub ClosesSubscriber : (subscriber : ℕ) → Type 0
+  ClosesSubscriber subscriber =
+      (m : Messages ℕ (Unit {0})) (s : BytesState) (y : Subscriber) → Shows old m s → s.subscribers subscriber ≡ Some y → Shows new m (subscriber_closed s subscriber y)
