@@ -1,23 +1,29 @@
 -- Which step of the machine a call made.
-use Rattle.std.specs.Prelude.{ℕ, ◌≡◌, IsTrue}
+use Rattle.std.specs.Prelude.{ℕ, Bool, ◌≡◌, IsTrue}
 use Rattle.std.specs.declared.option.Option.TheVariants.{Some}
 use Rattle.std.specs.declared.result.Result.{Result}
 use Rattle.std.specs.declared.time.Duration.{Duration}
+use Rattle.core.specs.Duration.{as_nanos}
 use Rattle.iox2_store.specs.declared.backpressure.BackpressureAction.TheVariants.{DiscardData}
+use Rattle.iox2_store.specs.declared.errors.ConnectionFailure.{ConnectionFailure}
 use Rattle.iox2_store.specs.declared.errors.LoanError.{LoanError}
 use Rattle.iox2_store.specs.declared.errors.SendError.{SendError}
 use Rattle.iox2_store.specs.machine.Environments.{fixed_handlers}
 use Rattle.iox2_store.specs.machine.Loans.{loan_discarded}
 use Rattle.iox2_store.specs.machine.Mailbox.{is_borrowed}
 use Rattle.iox2_store.specs.machine.Ports.{publisher_closed, subscriber_closed}
+use Rattle.iox2_store.specs.machine.PublisherUpdate.{UpdatePublisher}
 use Rattle.iox2_store.specs.machine.Receives.{Receive, ReceiveResult}
 use Rattle.iox2_store.specs.machine.Records.{BlockedSend, Environment, Loan, Publisher, Subscriber}
 use Rattle.iox2_store.specs.machine.Releases.{released}
 use Rattle.iox2_store.specs.machine.Sends.{GiveUp, Retry}
+use Rattle.iox2_store.specs.machine.SubscriberUpdate.{UpdateSubscriber}
 use Rattle.iox2_store.specs.machine.State.{Messages, State}
 use Rattle.iox2_domain.specs.Boxes.{answers_of}
 use Rattle.iox2_domain.specs.Shows.{Shows}
+use Rattle.iox2_pubsub.specs.QuestionCalls.{Answers}
 use Rattle.iox2_pubsub.specs.SendCalls.{Sends, messages_after, result_of_send}
+use Rattle.iox2_pubsub.specs.UpdateCalls.{failure_of}
 use Rattle.iox2_pubsub.specs.WrittenLoans.{DefaultSliceCall}
 use Rattle.iox2_pubsub.specs.declared.send_outcome.SendOutcome.{SendOutcome}
 use Rattle.iox2_c.specs.Serving.{KeptBytes}
@@ -54,11 +60,12 @@ module _ (old new : KeptBytes) where
       (m : Messages ℕ (Unit {0})) (s : BytesState) (l : Loan ℕ (Unit {0})) → Shows old m s → s.loans number ≡ Some l
       → (s' : BytesState) × Shows new (messages_after m number l sent) s' × Sends (publishers_answer old) s number l sent s'
 
-  -- The blocked send of the publisher with this id was tried again after this time, with this outcome or error.
-  abbrev pub Retries : (publisher : ℕ) → Duration → Result SendOutcome SendError → Type 0
-  Retries publisher elapsed sent =
-      (m : Messages ℕ (Unit {0})) (s : BytesState) (x : Publisher) (b : BlockedSend) → Shows old m s → s.publishers publisher ≡ Some x → x.blocked ≡ Some b
-      → (s' : BytesState) × Shows new m s' × Retry (publishers_answer old) s publisher b elapsed s' (result_of_send sent)
+  -- The blocked send of the publisher with this id was tried again so many nanoseconds after it was blocked, with this outcome or error.
+  pub record Retries (publisher nanoseconds : ℕ) (sent : Result SendOutcome SendError) : Type 0 where
+    pub elapsed : Duration
+    pub time : as_nanos elapsed ≡ nanoseconds
+    pub step : (m : Messages ℕ (Unit {0})) (s : BytesState) (x : Publisher) (b : BlockedSend) → Shows old m s → s.publishers publisher ≡ Some x → x.blocked ≡ Some b
+        → (s' : BytesState) × Shows new m s' × Retry (publishers_answer old) s publisher b elapsed s' (result_of_send sent)
 
   -- The subscriber for which it waited was given up.
   abbrev pub GivesUp : (publisher : ℕ) → Result SendOutcome SendError → Type 0
@@ -85,3 +92,15 @@ module _ (old new : KeptBytes) where
   abbrev pub ClosesSubscriber : (subscriber : ℕ) → Type 0
   ClosesSubscriber subscriber =
       (m : Messages ℕ (Unit {0})) (s : BytesState) (y : Subscriber) → Shows old m s → s.subscribers subscriber ≡ Some y → Shows new m (subscriber_closed s subscriber y)
+
+  -- The subscriber with this id was asked whether a message waits, with this answer or the failure of its update.
+  abbrev pub Asks : (subscriber : ℕ) → Result Bool ConnectionFailure → Type 0
+  Asks subscriber answer = StepsTo (λ s s'. Answers s subscriber answer s')
+
+  -- The publisher with this id was updated, with this failure if any.
+  abbrev pub UpdatesPublisher : (publisher : ℕ) → Result (Unit {0}) ConnectionFailure → Type 0
+  UpdatesPublisher publisher updated = StepsTo (λ s s'. UpdatePublisher (subscribers_answer old) s publisher s' (failure_of updated))
+
+  -- The subscriber with this id was.
+  abbrev pub UpdatesSubscriber : (subscriber : ℕ) → Result (Unit {0}) ConnectionFailure → Type 0
+  UpdatesSubscriber subscriber updated = StepsTo (λ s s'. UpdateSubscriber (subscribers_answer old) s subscriber s' (failure_of updated))

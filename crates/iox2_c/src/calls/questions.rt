@@ -1,13 +1,17 @@
 //! What a domain is asked that changes nothing but connections.
-ghost use Rattle.std.specs.Prelude.{length, ◌≡◌, ◌<◌, ◌⊎◌};
+ghost use Rattle.std.specs.Prelude.{Bool, cond, length, ◌≡◌, ◌<◌, ◌≤◌, ◌⊎◌, IfOk};
+ghost use Rattle.std.specs.declared.result.Result.{Result};
 ghost use Rattle.std.specs.List.{count_by};
 ghost use Rattle.std.specs.Option.{is_some};
 ghost use Rattle.circular_buffer.specs.Buffer.{buffer};
 ghost use Rattle.iox2_store.specs.machine.Limits.{warning_limit};
-ghost use Rattle.iox2_pubsub.specs.Live.{IsPublisherKey, IsSubscriberKey, IsUnblocked, No_item, waiting};
+ghost use Rattle.iox2_store.specs.declared.errors.ConnectionFailure.{ConnectionFailure};
+ghost use Rattle.iox2_pubsub.specs.Live.{IsPublisherKey, IsSubscriberKey, No_item};
 ghost use Rattle.iox2_c.specs.Calls.{RefusesPublisher};
-ghost use Rattle.iox2_c.specs.Numbers.{named_publisher, named_subscriber};
+ghost use Rattle.iox2_c.specs.Codes.{code_of, failure_code};
+ghost use Rattle.iox2_c.specs.Numbers.{named_publisher, named_subscriber, wide};
 ghost use Rattle.iox2_c.specs.Serving.{ServesBut};
+ghost use Rattle.iox2_c.specs.Steps.{Asks, UpdatesPublisher, UpdatesSubscriber};
 
 use crate::calls::publishers::ready_publisher;
 use crate::calls::subscribers::live_subscriber;
@@ -21,6 +25,8 @@ use iox2_pubsub::UpdateConnections;
 /// Makes and removes a publisher's connections.
 pub fn update_publisher(service: &mut Service, numbers: &PublisherNumbers) -> u32
     ensures code { result ≡ 1 → ⊥ }
+    ensures updates { (result ≡ 0) ⊎ (10 ≤ result) → (updated : Result (Unit {0}) ConnectionFailure) × (result ≡ code_of failure_code updated) × UpdatesPublisher service.old.domain service.new.domain (wide (numbers.now).id) updated }
+    ensures why { 1 < result → result < 10 → RefusesPublisher service.old.domain (named_publisher numbers.now) result × (service.new ≡ service.old) }
     ensures stays { ServesBut No_item service.old service.new }
 {
     let publisher = match ready_publisher(&service.domain, numbers) {
@@ -38,6 +44,8 @@ pub fn update_publisher(service: &mut Service, numbers: &PublisherNumbers) -> u3
 /// Makes and removes a subscriber's connections.
 pub fn update_subscriber(service: &mut Service, numbers: &SubscriberNumbers) -> u32
     ensures code { result ≡ 1 → ⊥ }
+    ensures updates { (result ≡ 2 → ⊥) → (updated : Result (Unit {0}) ConnectionFailure) × (result ≡ code_of failure_code updated) × UpdatesSubscriber service.old.domain service.new.domain (wide (numbers.now).id) updated }
+    ensures not_live { result ≡ 2 → (IsSubscriberKey service.old.domain (named_subscriber numbers.now) → ⊥) × (service.new ≡ service.old) }
     ensures stays { ServesBut No_item service.old service.new }
 {
     let Some(subscriber) = live_subscriber(&service.domain, numbers) else {
@@ -54,6 +62,8 @@ pub fn update_subscriber(service: &mut Service, numbers: &SubscriberNumbers) -> 
 /// Whether a message waits for a subscriber, after an update.
 pub fn has_samples(service: &mut Service, numbers: &SubscriberNumbers, waits: &mut u32) -> u32
     ensures code { result ≡ 1 → ⊥ }
+    ensures answers { (result ≡ 2 → ⊥) → (answer : Result Bool ConnectionFailure) × (result ≡ code_of failure_code answer) × IfOk answer (λ some_wait. waits.new ≡ cond some_wait 1 0) × Asks service.old.domain service.new.domain (wide (numbers.now).id) answer }
+    ensures not_live { result ≡ 2 → (IsSubscriberKey service.old.domain (named_subscriber numbers.now) → ⊥) × (service.new ≡ service.old) }
     ensures same { 0 < result → waits.new ≡ waits.old }
     ensures stays { ServesBut No_item service.old service.new }
 {
@@ -64,11 +74,18 @@ pub fn has_samples(service: &mut Service, numbers: &SubscriberNumbers, waits: &m
     subscriber.disown();
     match answer {
         Ok(some_wait) => {
-            *waits = some_wait as u32;
+            *waits = number_of(some_wait);
             OK
         }
         Err(failure) => failure_status(failure),
     }
+}
+
+// 1 for what is so, and else 0.
+fn number_of(is_so: bool) -> u32
+    ensures { result ≡ cond is_so 1 0 }
+{
+    if is_so { 1 } else { 0 }
 }
 
 /// Whether a send of a publisher waits.
@@ -79,7 +96,7 @@ pub fn is_blocked(service: &Service, numbers: &PublisherNumbers, out: &mut u32) 
     let Some(publisher) = service.domain.publisher_of(&numbers.parts()) else {
         return NOT_LIVE;
     };
-    *out = publisher.is_blocked(&service.domain) as u32;
+    *out = number_of(publisher.is_blocked(&service.domain));
     publisher.disown();
     OK
 }

@@ -9,7 +9,7 @@ ghost use Rattle.iox2_c.specs.Calls.{IsOut, IsReady, RefusesPublisher, RefusesSe
 ghost use Rattle.iox2_c.specs.Codes.{receivers_of, sent_code};
 ghost use Rattle.iox2_c.specs.Numbers.{named_loan, named_publisher, wide};
 ghost use Rattle.iox2_c.specs.Serving.{ServesBut};
-ghost use Rattle.iox2_c.specs.Steps.{SendsLoan};
+ghost use Rattle.iox2_c.specs.Steps.{GivesUp, Retries, SendsLoan};
 
 use crate::calls::loans::written_loan;
 use crate::calls::publishers::ready_publisher;
@@ -99,6 +99,8 @@ pub fn retry(
     receivers: &mut usize,
 ) -> u32
     ensures code { result ≡ 1 → ⊥ }
+    ensures ends { (result ≡ 2 → ⊥) → (outcome : Result SendOutcome SendError) × (result ≡ sent_code outcome) × (receivers.new ≡ receivers_of receivers.old outcome)
+        × Retries service.old.domain service.new.domain (wide (numbers.now).publisher) elapsed outcome }
     ensures not_live { result ≡ 2 → (IsBlockedKey service.old.domain (named_loan numbers.now) → ⊥) × (service.new ≡ service.old) }
     ensures stays { ServesBut (A_blocked_send (wide (numbers.now).publisher)) service.old service.new }
 {
@@ -113,6 +115,8 @@ pub fn retry(
 /// Gives up the subscriber for which a send waits.
 pub fn give_up(service: &mut Service, numbers: &LoanNumbers, receivers: &mut usize) -> u32
     ensures code { result ≡ 1 → ⊥ }
+    ensures ends { (result ≡ 2 → ⊥) → (outcome : Result SendOutcome SendError) × (result ≡ sent_code outcome) × (receivers.new ≡ receivers_of receivers.old outcome)
+        × GivesUp service.old.domain service.new.domain (wide (numbers.now).publisher) outcome }
     ensures not_live { result ≡ 2 → (IsBlockedKey service.old.domain (named_loan numbers.now) → ⊥) × (service.new ≡ service.old) }
     ensures stays { ServesBut (A_blocked_send (wide (numbers.now).publisher)) service.old service.new }
 {

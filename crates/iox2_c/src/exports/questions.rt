@@ -1,8 +1,14 @@
 //! The exports of questions.
 ghost use Rattle.std.specs.Prelude.{◌≡◌, ◌<◌, ◌↔◌, None};
-ghost use Rattle.iox2_pubsub.specs.Live.{IsPublisherKey, No_item};
-ghost use Rattle.iox2_c.specs.Boxed.{HoldsOn, Knows};
-ghost use Rattle.iox2_c.specs.Numbers.{named_publisher};
+ghost use Rattle.std.specs.Prelude.{Bool, cond, ◌≤◌, ◌⊎◌, IfOk};
+ghost use Rattle.std.specs.declared.result.Result.{Result};
+ghost use Rattle.iox2_store.specs.declared.errors.ConnectionFailure.{ConnectionFailure};
+ghost use Rattle.iox2_pubsub.specs.Live.{IsSubscriberKey, No_item};
+ghost use Rattle.iox2_c.specs.Boxed.{Becomes, HoldsOn, Knows, KnowsNo};
+ghost use Rattle.iox2_c.specs.Calls.{RefusesPublisher};
+ghost use Rattle.iox2_c.specs.Codes.{code_of, failure_code};
+ghost use Rattle.iox2_c.specs.Numbers.{named_publisher, named_subscriber, wide};
+ghost use Rattle.iox2_c.specs.Steps.{Asks, UpdatesPublisher, UpdatesSubscriber};
 
 use crate::calls::questions;
 use crate::config::Config;
@@ -30,6 +36,9 @@ pub extern "C" fn iox2_publisher_update_connections(
     publisher: &PublisherNumbers,
 ) -> u32
     ensures no_domain { (result ≡ 1) ↔ (domain.old.service ≡ None) }
+    ensures updates { (result ≡ 0) ⊎ (10 ≤ result) → (updated : Result (Unit {0}) ConnectionFailure) × (result ≡ code_of failure_code updated) × Becomes (λ old new. UpdatesPublisher old new (wide (publisher.now).id) updated) domain.old.service domain.new.service }
+    ensures why { 1 < result → result < 10 → Knows (λ kept. RefusesPublisher kept (named_publisher publisher.now) result) domain.old.service }
+    ensures refused { 0 < result → result < 10 → domain.new.service ≡ domain.old.service }
     ensures stays { HoldsOn No_item domain.old.service domain.new.service }
 {
     let Some(mut boxed) = domain.take(alloc) else {
@@ -48,6 +57,9 @@ pub extern "C" fn iox2_subscriber_update_connections(
     subscriber: &SubscriberNumbers,
 ) -> u32
     ensures no_domain { (result ≡ 1) ↔ (domain.old.service ≡ None) }
+    ensures updates { (result ≡ 0) ⊎ (2 < result) → (updated : Result (Unit {0}) ConnectionFailure) × (result ≡ code_of failure_code updated) × Becomes (λ old new. UpdatesSubscriber old new (wide (subscriber.now).id) updated) domain.old.service domain.new.service }
+    ensures not_live { result ≡ 2 → KnowsNo (λ kept. IsSubscriberKey kept (named_subscriber subscriber.now)) domain.old.service }
+    ensures refused { result ≡ 2 → domain.new.service ≡ domain.old.service }
     ensures stays { HoldsOn No_item domain.old.service domain.new.service }
 {
     let Some(mut boxed) = domain.take(alloc) else {
@@ -67,6 +79,10 @@ pub extern "C" fn iox2_subscriber_has_samples(
     waits: &mut u32,
 ) -> u32
     ensures no_domain { (result ≡ 1) ↔ (domain.old.service ≡ None) }
+    ensures answers { (result ≡ 0) ⊎ (2 < result) → (answer : Result Bool ConnectionFailure) × (result ≡ code_of failure_code answer) × IfOk answer (λ some_wait. waits.new ≡ cond some_wait 1 0)
+        × Becomes (λ old new. Asks old new (wide (subscriber.now).id) answer) domain.old.service domain.new.service }
+    ensures not_live { result ≡ 2 → KnowsNo (λ kept. IsSubscriberKey kept (named_subscriber subscriber.now)) domain.old.service }
+    ensures refused { result ≡ 2 → domain.new.service ≡ domain.old.service }
     ensures same { 0 < result → waits.new ≡ waits.old }
     ensures stays { HoldsOn No_item domain.old.service domain.new.service }
 {

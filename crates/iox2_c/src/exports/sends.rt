@@ -5,11 +5,11 @@ ghost use Rattle.std.specs.declared.result.Result.{Result};
 ghost use Rattle.iox2_store.specs.declared.errors.SendError.{SendError};
 ghost use Rattle.iox2_pubsub.specs.declared.send_outcome.SendOutcome.{SendOutcome};
 ghost use Rattle.iox2_pubsub.specs.Live.{A_blocked_send, A_sent_copy, A_sent_loan, IsBlockedKey};
-ghost use Rattle.iox2_c.specs.Boxed.{Becomes, HoldsOn, Knows};
+ghost use Rattle.iox2_c.specs.Boxed.{Becomes, HoldsOn, Knows, KnowsNo};
 ghost use Rattle.iox2_c.specs.Calls.{RefusesSend};
 ghost use Rattle.iox2_c.specs.Codes.{receivers_of, sent_code};
 ghost use Rattle.iox2_c.specs.Numbers.{named_loan, wide};
-ghost use Rattle.iox2_c.specs.Steps.{SendsLoan};
+ghost use Rattle.iox2_c.specs.Steps.{GivesUp, Retries, SendsLoan};
 
 use crate::calls::sends;
 use crate::domain_box::DomainBox;
@@ -73,6 +73,10 @@ pub extern "C" fn iox2_blocked_retry(
     receivers: &mut usize,
 ) -> u32
     ensures no_domain { (result ≡ 1) ↔ (domain.old.service ≡ None) }
+    ensures ends { (result ≡ 0) ⊎ (5 < result) → (outcome : Result SendOutcome SendError) × (result ≡ sent_code outcome) × (receivers.new ≡ receivers_of receivers.old outcome)
+        × Becomes (λ old new. Retries old new (wide (blocked.now).publisher) elapsed outcome) domain.old.service domain.new.service }
+    ensures not_live { result ≡ 2 → KnowsNo (λ kept. IsBlockedKey kept (named_loan blocked.now)) domain.old.service }
+    ensures refused { result ≡ 2 → domain.new.service ≡ domain.old.service }
     ensures stays { HoldsOn (A_blocked_send (wide (blocked.now).publisher)) domain.old.service domain.new.service }
 {
     let Some(mut boxed) = domain.take(alloc) else {
@@ -92,6 +96,10 @@ pub extern "C" fn iox2_blocked_give_up(
     receivers: &mut usize,
 ) -> u32
     ensures no_domain { (result ≡ 1) ↔ (domain.old.service ≡ None) }
+    ensures ends { (result ≡ 0) ⊎ (5 < result) → (outcome : Result SendOutcome SendError) × (result ≡ sent_code outcome) × (receivers.new ≡ receivers_of receivers.old outcome)
+        × Becomes (λ old new. GivesUp old new (wide (blocked.now).publisher) outcome) domain.old.service domain.new.service }
+    ensures not_live { result ≡ 2 → KnowsNo (λ kept. IsBlockedKey kept (named_loan blocked.now)) domain.old.service }
+    ensures refused { result ≡ 2 → domain.new.service ≡ domain.old.service }
     ensures stays { HoldsOn (A_blocked_send (wide (blocked.now).publisher)) domain.old.service domain.new.service }
 {
     let Some(mut boxed) = domain.take(alloc) else {
