@@ -8,7 +8,7 @@ use Rattle.iox2_c.specs.declared.handlers.NoHandler.{NoHandler}
 
 -- What a domain of bytes keeps: no user headers, and no boxes of handlers.
 abbrev pub KeptBytes : Type 0
-KeptBytes = Kept ℕ (Unit {0}) NoHandler
+KeptBytes = Kept ℕ (Unit {0}) NoHandler NoHandler
 
 -- A domain of bytes, with how long a publisher's messages are where nothing else is said, and how they are aligned.
 pub record Serving : Type 0 where

@@ -8,7 +8,6 @@ use Rattle.iox2_store.specs.declared.backpressure.BackpressureAction.TheVariants
 use Rattle.iox2_store.specs.declared.errors.ConnectionFailure.{ConnectionFailure}
 use Rattle.iox2_store.specs.declared.errors.LoanError.{LoanError}
 use Rattle.iox2_store.specs.declared.errors.SendError.{SendError}
-use Rattle.iox2_store.specs.machine.Environments.{fixed_handlers}
 use Rattle.iox2_store.specs.machine.Loans.{loan_discarded}
 use Rattle.iox2_store.specs.machine.Mailbox.{is_borrowed}
 use Rattle.iox2_store.specs.machine.Ports.{publisher_closed, subscriber_closed}
@@ -34,11 +33,11 @@ BytesState = State ℕ (Unit {0})
 
 -- What the boxes of a domain's publishers answer, of which there are none.
 abbrev pub publishers_answer : KeptBytes → Environment
-publishers_answer domain = answers_of (λ handler info action. action ≡ DiscardData) domain.boxes
+publishers_answer domain = answers_of (λ handler info action. action ≡ DiscardData) (λ handler cause info action. Unit {0}) (domain.boxes).publishers
 
 -- The same of its subscribers.
 abbrev pub subscribers_answer : KeptBytes → Environment
-subscribers_answer domain = fixed_handlers
+subscribers_answer domain = answers_of (λ handler info action. action ≡ DiscardData) (λ handler cause info action. Unit {0}) (domain.boxes).subscribers
 
 module _ (old new : KeptBytes) where
   -- From each state that the domain showed there is such a step to one that it shows now, and the messages are the same.
@@ -95,11 +94,11 @@ module _ (old new : KeptBytes) where
 
   -- The subscriber with this id was asked whether a message waits, with this answer or the failure of its update.
   abbrev pub Asks : (subscriber : ℕ) → Result Bool ConnectionFailure → Type 0
-  Asks subscriber answer = StepsTo (λ s s'. Answers s subscriber answer s')
+  Asks subscriber answer = StepsTo (λ s s'. Answers (subscribers_answer old) s subscriber answer s')
 
   -- The publisher with this id was updated, with this failure if any.
   abbrev pub UpdatesPublisher : (publisher : ℕ) → Result (Unit {0}) ConnectionFailure → Type 0
-  UpdatesPublisher publisher updated = StepsTo (λ s s'. UpdatePublisher (subscribers_answer old) s publisher s' (failure_of updated))
+  UpdatesPublisher publisher updated = StepsTo (λ s s'. UpdatePublisher (publishers_answer old) s publisher s' (failure_of updated))
 
   -- The subscriber with this id was.
   abbrev pub UpdatesSubscriber : (subscriber : ℕ) → Result (Unit {0}) ConnectionFailure → Type 0

@@ -80,10 +80,11 @@ impl SubscriberOptions {
 }
 
 /// What answers where memory for a connection is refused: it warns, but for the numbers of others.
-pub fn degradation_of(number: u32) -> DegradationHandler {
-    DegradationHandler::new_with(match number {
+pub fn degradation_of(number: u32) -> DegradationHandler<NoHandler> {
+    let action = match number {
         0 => DegradationAction::Ignore,
         2 => DegradationAction::DegradeAndFail,
         _ => DegradationAction::Warn,
-    })
+    };
+    DegradationHandler::Fixed(action)
 }
