@@ -153,12 +153,13 @@ fn carry_out<
 /// (`units_per_element`); on any other every loan, every value sent at once and every receive is skipped.
 ///
 /// What the commands made is spent at the end: ports stay in the domain, loans stay out, blocked
-/// sends stay so and messages stay borrowed. The memory for the replies and for what the commands make is taken
-/// first. Where it is refused the commands are handed back, and none was carried out.
+/// sends stay so and messages stay borrowed. The memory for the replies and for what the commands make
+/// is taken first. Where it is refused the commands are handed back, and none was carried out.
 ///
 /// A publisher follows its strategy at a full buffer, or the backpressure handler that its command
-/// names. So far a publisher has one segment and as many slots as it needs. The domain may have
-/// messages of either variant: those of `FixedSize` are single values, those of `Dynamic` slices.
+/// names. So far a publisher has one segment, with as many slots as it needs or as its command asks
+/// for. The domain may have messages of either variant: those of `FixedSize` are single values, those
+/// of `Dynamic` slices.
 pub fn run<T: Copy + Default + Drop, U: Copy + Default + Drop, F: BackpressureFn, G: DegradationFn>(
     alloc: Global,
     domain: &mut Domain<T, U, F, G>,
