@@ -1,13 +1,10 @@
 use iox2_pubsub::{
-    ConnectionFailure, DomainCreateError, PublisherCreateError, ReceiveError, SendError,
-    SubscriberCreateError,
+    ConnectionFailure, PublisherCreateError, ReceiveError, SendError, SubscriberCreateError,
 };
 
 /// Why a function of this crate ends early.
 #[derive(Debug, Drop)]
 pub enum Failure {
-    /// There is no domain.
-    Domain(DomainCreateError),
     /// There is no publisher.
     Publisher(PublisherCreateError),
     /// There is no subscriber.
@@ -18,12 +15,6 @@ pub enum Failure {
     Receive(ReceiveError),
     /// A port's connections aren't updated.
     Update(ConnectionFailure),
-}
-
-impl From<DomainCreateError> for Failure {
-    fn from(error: DomainCreateError) -> Self {
-        Failure::Domain(error)
-    }
 }
 
 impl From<SubscriberCreateError> for Failure {

@@ -73,14 +73,23 @@ fn create_senders(alloc: Global, domain: &mut Domain<u64, ()>, count: usize) -> 
 {
     let mut senders = Vec::new(alloc);
     for _ in 0..count {
-        let publisher = domain
-            .publisher_builder()
-            .backpressure_strategy(BackpressureStrategy::DiscardData)
-            .create(domain)
-            .ok()?;
-        senders.push(Sender { publisher }).ok()?;
+        let sender = create_sender(domain)?;
+        senders.push(sender).ok()?;
     }
     Some(senders)
+}
+
+// Makes a publisher that discards. `None` where it is refused.
+fn create_sender(domain: &mut Domain<u64, ()>) -> Option<Sender>
+    ensures live { IfSome result (λ sender. IsLivePublisher domain.new sender.publisher) }
+    ensures stays { Stays domain.old domain.new }
+{
+    let publisher = domain
+        .publisher_builder()
+        .backpressure_strategy(BackpressureStrategy::DiscardData)
+        .create(domain)
+        .ok()?;
+    Some(Sender { publisher })
 }
 
 // Each subscriber gets to know the publishers. `None` where an update is refused.
