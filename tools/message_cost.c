@@ -11,6 +11,8 @@ struct load {
   size_t loans;
   size_t samples;
   size_t buffer_size;
+  size_t history_size;
+  size_t idle_subscribers;
 };
 
 uint64_t pass_messages(const struct load *load, uint64_t messages);
@@ -18,8 +20,10 @@ uint64_t pass_messages(const struct load *load, uint64_t messages);
 static size_t number(const char *word) { return strtoull(word, NULL, 10); }
 
 int main(int count, char **words) {
-  if (count != 7) {
-    fputs("usage: message_cost MESSAGES SUBSCRIBERS IDLE_PUBLISHERS LOANS SAMPLES BUFFER_SIZE\n", stderr);
+  if (count != 9) {
+    fputs("usage: message_cost MESSAGES SUBSCRIBERS IDLE_PUBLISHERS LOANS SAMPLES BUFFER_SIZE HISTORY_SIZE"
+          " IDLE_SUBSCRIBERS\n",
+          stderr);
     return 2;
   }
   struct load load = {
@@ -28,6 +32,8 @@ int main(int count, char **words) {
       .loans = number(words[4]),
       .samples = number(words[5]),
       .buffer_size = number(words[6]),
+      .history_size = number(words[7]),
+      .idle_subscribers = number(words[8]),
   };
   uint64_t messages = number(words[1]);
   uint64_t arrived = pass_messages(&load, messages);

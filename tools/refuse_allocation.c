@@ -1,8 +1,12 @@
-/* Refuses the allocation with the number in REFUSED, counted from 1, of a program that it is preloaded to. */
+/* Refuses the allocation with the number in REFUSED, counted from 1, of a program that it is preloaded to. Where COUNTED names a
+   file, the number of allocations that were asked for is written there as the program ends. */
 #define _GNU_SOURCE
 #include <dlfcn.h>
 #include <errno.h>
+#include <fcntl.h>
+#include <stdio.h>
 #include <stdlib.h>
+#include <unistd.h>
 
 static long refused = -1, count = 0;
 
@@ -10,6 +14,16 @@ __attribute__((constructor)) static void start(void) {
   const char *number = getenv("REFUSED");
   refused = number ? atol(number) : -1;
   count = 0;
+}
+
+__attribute__((destructor)) static void end(void) {
+  const char *file = getenv("COUNTED");
+  char text[32];
+  int length = snprintf(text, sizeof text, "%ld\n", count);
+  int to = file ? open(file, O_WRONLY | O_CREAT | O_TRUNC, 0600) : -1;
+  if (to < 0) return;
+  if (write(to, text, length) != length) abort();
+  close(to);
 }
 
 static int is_refused(void) {

@@ -16,7 +16,7 @@ use closing::{Closing, close_all};
 use iox2_pubsub::{BackpressureStrategy, Domain, Publisher};
 use load::Load;
 use passing::pass_all;
-use ports::{create_receivers, keep_loans, keep_publishers, keep_samples};
+use ports::{create_receivers, keep_loans, keep_publishers, keep_samples, keep_subscribers};
 use receiver::Receiver;
 use std::alloc::Global;
 
@@ -50,6 +50,7 @@ fn pass_in(alloc: Global, domain: &mut Domain<u64, ()>, load: &Load, messages: u
     ensures { IfSome result (λ arrived. arrived ≤ messages) }
 {
     keep_publishers(domain, load.idle_publishers)?;
+    keep_subscribers(domain, load.idle_subscribers)?;
     let receivers = create_receivers(alloc, domain, load.subscribers)?;
     let publisher = domain
         .publisher_builder()

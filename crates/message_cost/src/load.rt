@@ -16,6 +16,10 @@ pub struct Load {
     pub samples: usize,
     /// How many messages of a publisher may wait for a subscriber.
     pub buffer_size: usize,
+    /// How many of its last messages the publisher keeps for late subscribers.
+    pub history_size: usize,
+    /// How many subscribers never receive. Each message that is sent displaces their oldest one.
+    pub idle_subscribers: usize,
 }
 
 impl Load {
@@ -27,10 +31,12 @@ impl Load {
     {
         Some(ServiceConfig {
             max_publishers: self.idle_publishers.checked_add(1)?,
-            max_subscribers: self.subscribers,
+            max_subscribers: self.subscribers.checked_add(self.idle_subscribers)?,
             subscriber_max_buffer_size: self.buffer_size,
             subscriber_max_borrowed_samples: self.samples.checked_add(1)?,
             publisher_max_loaned_samples: self.loans.checked_add(1)?,
+            history_size: self.history_size,
+            enable_safe_overflow: self.idle_subscribers != 0,
             ..ServiceConfig::new(1)
         })
     }

@@ -40,6 +40,18 @@ pub fn keep_publishers(domain: &mut Domain<u64, ()>, count: usize) -> Option<()>
     Some(())
 }
 
+/// Makes so many subscribers that never receive, and lets go of their handles. `None` where one is
+/// refused.
+pub fn keep_subscribers(domain: &mut Domain<u64, ()>, count: usize) -> Option<()>
+    ensures { Stays domain.old domain.new }
+{
+    for _ in 0..count {
+        let subscriber = domain.subscriber_builder().create(domain).ok()?;
+        subscriber.disown();
+    }
+    Some(())
+}
+
 /// Takes so many loans, and lets go of their handles, so that they stay out. `None` where one is
 /// refused.
 pub fn keep_loans(domain: &mut Domain<u64, ()>, publisher: &Publisher, count: usize) -> Option<()>
