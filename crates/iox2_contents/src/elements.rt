@@ -7,6 +7,7 @@ ghost use Rattle.iox2_contents.specs.SlotElements.{unwritten_elements, written_e
 
 use std::alloc::{AllocError, Global};
 use std::marker::Model;
+use std::mem;
 
 /// The cells of an unwritten loan, or the values of a written loan or a sent message. What isn't
 /// used of the two is empty.
@@ -50,8 +51,7 @@ impl<T: Drop> Elements<T> {
         ensures { self.new ≡ unwritten_elements len self.old }
     {
         self.values.clear();
-        self.cells.clear();
-        push_unwritten(&mut self.cells, len);
+        self.cells = push_unwritten(take_empty(&mut self.cells), len);
     }
 
     /// Writes the value of a single cell.
@@ -74,8 +74,7 @@ impl<T: Drop> Elements<T> {
     {
         let count = self.cells.len();
         self.cells.clear();
-        self.values.clear();
-        push_calls(&mut self.values, count, f);
+        self.values = push_calls(take_empty(&mut self.values), count, f);
     }
 
     /// Takes the cells as written. Nothing changes where some cell isn't.
@@ -88,8 +87,8 @@ impl<T: Drop> Elements<T> {
         if !are_written(self.cells.as_slice()) {
             return false;
         }
-        self.values.clear();
-        move_values(self.cells.as_mut_slice(), &mut self.values);
+        let values = take_empty(&mut self.values);
+        self.values = move_values(self.cells.as_mut_slice(), values);
         self.cells.clear();
         true
     }
@@ -102,8 +101,7 @@ impl<T: Copy + Drop> Elements<T> {
         ensures { self.new ≡ written_elements values.now self.old }
     {
         self.cells.clear();
-        self.values.clear();
-        push_copies(&mut self.values, values);
+        self.values = push_copies(take_empty(&mut self.values), values);
     }
 }
 
@@ -159,16 +157,29 @@ impl<T> Elements<T> {
     }
 }
 
+// The list with its room, which is emptied first. One without room stays in its place. Loops push to
+// a list that they own, so that its length needn't be stored at each push.
+fn take_empty<T: Drop>(list: &mut Vec<T>) -> Vec<T>
+    ensures empty { result.items ≡ [] }
+    ensures room { vec_capacity result ≡ vec_capacity list.old }
+    ensures left { list.new.items ≡ [] }
+{
+    list.clear();
+    let alloc = *list.allocator();
+    mem::replace(list, Vec::new(alloc))
+}
+
 // Appends so many unwritten cells.
-fn push_unwritten<T>(cells: &mut Vec<Option<T>>, len: usize)
-    requires empty { cells.old.items ≡ [] }
-    requires room { len ≤ vec_capacity cells.old }
-    ensures cells { cells.new.items ≡ replicate len None }
-    ensures room { vec_capacity cells.new ≡ vec_capacity cells.old }
+fn push_unwritten<T>(mut cells: Vec<Option<T>>, len: usize) -> Vec<Option<T>>
+    requires empty { cells.items ≡ [] }
+    requires room { len ≤ vec_capacity cells }
+    ensures cells { result.items ≡ replicate len None }
+    ensures room { vec_capacity result ≡ vec_capacity cells }
 {
     for _ in 0..len {
         cells.push_reserved(None);
     }
+    cells
 }
 
 // Whether each cell is written.
@@ -179,40 +190,43 @@ fn are_written<T>(cells: &[Option<T>]) -> bool
 }
 
 // Moves the values out of written cells.
-fn move_values<T>(cells: &mut [Option<T>], values: &mut Vec<T>)
+fn move_values<T>(cells: &mut [Option<T>], mut values: Vec<T>) -> Vec<T>
     requires written { All IsSome cells.old }
-    requires empty { values.old.items ≡ [] }
-    requires room { length cells.old ≤ vec_capacity values.old }
-    ensures values { map Some values.new.items ≡ cells.old }
-    ensures capacity { vec_capacity values.new ≡ vec_capacity values.old }
+    requires empty { values.items ≡ [] }
+    requires room { length cells.old ≤ vec_capacity values }
+    ensures values { map Some result.items ≡ cells.old }
+    ensures capacity { vec_capacity result ≡ vec_capacity values }
 {
     for cell in cells.iter_mut() {
         values.push_reserved(cell.take().unwrap());
     }
+    values
 }
 
 // Appends what the calls of the function return for 0, 1 and so on.
-fn push_calls<T, F: FnMut(usize) -> T + Drop>(values: &mut Vec<T>, count: usize, mut f: F)
+fn push_calls<T, F: FnMut(usize) -> T + Drop>(mut values: Vec<T>, count: usize, mut f: F) -> Vec<T>
     requires callable { F.IsAlwaysCallable f }
-    requires empty { values.old.items ≡ [] }
-    requires room { count ≤ vec_capacity values.old }
-    ensures answers { AnswersInOrder F.step f values.new.items }
-    ensures count { length values.new.items ≡ count }
-    ensures capacity { vec_capacity values.new ≡ vec_capacity values.old }
+    requires empty { values.items ≡ [] }
+    requires room { count ≤ vec_capacity values }
+    ensures answers { AnswersInOrder F.step f result.items }
+    ensures count { length result.items ≡ count }
+    ensures capacity { vec_capacity result ≡ vec_capacity values }
 {
     for index in 0..count {
         values.push_reserved(f(index));
     }
+    values
 }
 
 // Appends copies of the items.
-fn push_copies<T: Copy>(values: &mut Vec<T>, items: &[T])
-    requires empty { values.old.items ≡ [] }
-    requires room { length items.now ≤ vec_capacity values.old }
-    ensures values { values.new.items ≡ items.now }
-    ensures capacity { vec_capacity values.new ≡ vec_capacity values.old }
+fn push_copies<T: Copy>(mut values: Vec<T>, items: &[T]) -> Vec<T>
+    requires empty { values.items ≡ [] }
+    requires room { length items.now ≤ vec_capacity values }
+    ensures values { result.items ≡ items.now }
+    ensures capacity { vec_capacity result ≡ vec_capacity values }
 {
     for item in items {
         values.push_reserved(*item);
     }
+    values
 }
