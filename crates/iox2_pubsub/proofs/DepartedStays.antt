@@ -1,12 +1,11 @@
 -- No operation but a publisher's close adds to a subscriber's connections with closed publishers, and that adds at most one.
-use Rattle.std.proofs.Common.{◌≡◌, ℕ, suc, ◌+◌, ◌≤◌, ◌<◌, Bool, true, false, cond, not, List, [], length, refl, sym, ap, subst, ◌∙◌, arith, Option, None, Some, ◌⊎◌, inl, inr, ⊎_elim}
-use Rattle.std.specs.Prelude.{◌==◌, ◌≢◌, nat_lt}
+use Rattle.std.proofs.Common.{◌≡◌, ℕ, suc, ◌+◌, ◌≤◌, ◌<◌, Bool, true, false, cond, not, length, refl, sym, ap, subst, ◌∙◌, arith, Option, None, Some, ◌⊎◌, inl, inr}
+use Rattle.std.specs.Prelude.{◌==◌, nat_lt}
 use Rattle.std.specs.List.{filter}
 use Rattle.std.specs.Option.{is_some, option_map, option_map_or}
 use Rattle.std.specs.declared.time.Duration.{Duration}
 use Rattle.std.proofs.lemmas.Bool.{true≢false, cond_both, cases_eq, ltb-false}
 use Rattle.iox2_store.specs.machine.Limits.{last_number, buffer_limit, expired_limit}
-use Rattle.iox2_store.specs.machine.Numbers.{put_at}
 use Rattle.iox2_store.specs.machine.Places.{occupant, occupants, places_kept, free_place}
 use Rattle.iox2_store.specs.machine.Loans.{GrantLoan, loan_discarded}
 use Rattle.iox2_store.specs.machine.Ports.{CreatePublisher, MakePublisher, CreateSubscriber, MakeSubscriber, with_new_publisher, with_new_subscriber, new_subscriber, with_failure_warning, buffer_for, first_segment_fits, publisher_gone, publisher_closed, subscriber_shut, subscriber_closed}

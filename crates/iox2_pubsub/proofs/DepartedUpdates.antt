@@ -1,8 +1,7 @@
 -- What a subscriber's update does to its connections with closed publishers, and that it loses nothing where there is room for them.
 use Rattle.std.proofs.Common.{◌≡◌, ℕ, suc, ◌+◌, ◌≤◌, ◌<◌, Bool, true, false, cond, not, ◌&&◌, ◌||◌, List, [], ◌∷◌, ◌++◌, length, refl, sym, ap, subst, ◌∙◌, arith, eqb, Option, None, Some, ◌⊎◌, inl, inr, ⊎_elim}
-use Rattle.std.specs.Prelude.{nat_lt, ◌≢◌, MatchOption}
+use Rattle.std.specs.Prelude.{nat_lt, MatchOption}
 use Rattle.std.specs.Bool.{MatchBool}
-use Rattle.std.specs.List.{filter}
 use Rattle.std.specs.Option.{is_some, option_map, option_map_or}
 use Rattle.std.proofs.lemmas.Bool.{true≢false, cond_both, ltb-true, ltb-false, eqb-false, eq-eqb, ne_eqb, cases_eq}
 use Rattle.std.proofs.lemmas.List.{length-append}
@@ -16,7 +15,7 @@ use Rattle.iox2_store.specs.machine.State.{State, connected_publishers, has_send
 use Rattle.iox2_store.specs.machine.Connections.{expired_buffer_full}
 use Rattle.iox2_store.specs.machine.SubscriberUpdate.{ReceiverSide, Retirement, Keep_expired, Evict, Discard_data, Refuse, first_without_borrows, evict_or_refuse, retirement_of, is_refused, after_retirement, with_end, ConnectReceiver, Retire, ConnectAtPlace, DisconnectAtPlace, UpdateReceiverSide, receiver_side, with_receiver_side, UpdateSubscriber}
 use Rattle.iox2_store.specs.machine.Waiting.{receives_from, waiting_from}
-use Rattle.iox2_store.specs.machine.WellFormed.{LeadsTo, IsWellFormed, publisher_place}
+use Rattle.iox2_store.specs.machine.WellFormed.{LeadsTo, IsWellFormed}
 use Rattle.iox2_store.specs.declared.degradation.DegradationAction.{DegradationAction}
 use Rattle.iox2_store.specs.declared.errors.ConnectionFailure.{ConnectionFailure}
 use Rattle.iox2_laws.proofs.Cases.{by_option, by_bool}
@@ -25,11 +24,10 @@ use Rattle.iox2_laws.proofs.NumberLemmas.{contains_left, contains_right, length-
 use Rattle.iox2_laws.proofs.PlaceLemmas.{contains-occupants, occupied_within}
 use Rattle.iox2_laws.proofs.Puts.{put_at-same, put_at-other}
 use Rattle.iox2_laws.proofs.ReceiverSides.{ReceiverSideIsWellFormed, receiver_side_begins, first_is, connect_at_place_keeps, disconnect_at_place_keeps}
-use Rattle.iox2_laws.proofs.UpToDate.{IsUpdated}
-use Rattle.iox2_laws.proofs.WaitingCounts.{SameWaits, by_record, cond_same, same_itself}
+use Rattle.iox2_laws.proofs.WaitingCounts.{SameWaits, by_record, cond_same}
 use Rattle.iox2_laws.proofs.WaitingReceives.{UpdateWaits, update_subscriber_waits}
 use Rattle.iox2_pubsub.specs.DepartedPorts.{is_gone, departed_of, departed_at, HasRoom}
-use Rattle.iox2_pubsub.proofs.ConnectionsStay.{Knows, walk-stays, receives-by, update-knows}
+use Rattle.iox2_pubsub.proofs.ConnectionsStay.{walk-stays, receives-by, update-knows}
 use Rattle.iox2_pubsub.proofs.DepartedCounts.{passing, passing-put, passing-removed}
 
 -- what holds of each retirement that may be chosen, where there is room or where there is none, holds of the chosen one

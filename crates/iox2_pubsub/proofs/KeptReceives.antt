@@ -1,5 +1,5 @@
 -- What a receive and a question leave of what waits for a subscriber whose update loses nothing, and a send of what waits from others.
-use Rattle.std.proofs.Common.{◌≡◌, ℕ, suc, true, false, length, refl, sym, ap, subst, ◌∙◌, Option, None, Some, Result, ◌⊎◌, inl, inr, ⊎_elim}
+use Rattle.std.proofs.Common.{◌≡◌, ℕ, suc, true, length, refl, sym, ap, subst, ◌∙◌, Option, None, Some, Result, ◌⊎◌, inl, inr, ⊎_elim}
 use mathlib.Core.Path.{fun_ext}
 use Rattle.std.specs.Prelude.{◌≢◌}
 use Rattle.std.proofs.lemmas.Bool.{true≢false, ne_eqb}

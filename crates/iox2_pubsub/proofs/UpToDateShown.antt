@@ -1,12 +1,12 @@
 -- Which calls leave subscribers up to date, seen from outside.
-use Rattle.std.proofs.Common.{◌≡◌, ℕ, suc, refl, sym, ap, subst, ◌∙◌, Bool, Option, None, Result, Ok, Err}
+use Rattle.std.proofs.Common.{◌≡◌, ℕ, refl, sym, ap, subst, Bool, Option, None, Result, Ok, Err}
 use Rattle.std.specs.Prelude.{OnOk}
 use Rattle.std.specs.declared.time.Duration.{Duration}
 use Rattle.iox2_store.specs.machine.Environments.{ample_memory}
 use Rattle.iox2_store.specs.machine.Loans.{loan_discarded}
 use Rattle.iox2_store.specs.machine.Ports.{CreateSubscriber}
 use Rattle.iox2_store.specs.machine.PublisherUpdate.{UpdatePublisher}
-use Rattle.iox2_store.specs.machine.Receives.{ReceiveResult, Got_sample, Receive_error, Receive}
+use Rattle.iox2_store.specs.machine.Receives.{ReceiveResult, Receive_error, Receive}
 use Rattle.iox2_store.specs.machine.Records.{Environment, Loan, BlockedSend, SubscriberSettings}
 use Rattle.iox2_store.specs.machine.Releases.{released}
 use Rattle.iox2_store.specs.machine.Sends.{SendResult, Send, Retry, GiveUp}
@@ -23,14 +23,14 @@ use Rattle.iox2_domain.specs.Questions.{IsAnswer}
 use Rattle.iox2_domain.specs.Shows.{Shows}
 use Rattle.iox2_pubsub.specs.ConnectedPorts.{Connects}
 use Rattle.iox2_pubsub.specs.DepartedPorts.{HasRoom}
-use Rattle.iox2_pubsub.specs.Live.{HasRoomFor, IsConnected, IsLiveSubscriber, IsUpToDate, RoomStays, UpToDateStay, waiting}
+use Rattle.iox2_pubsub.specs.Live.{HasRoomFor, IsConnected, IsLiveSubscriber, IsUpToDate, RoomStays, UpToDateStay}
 use Rattle.iox2_pubsub.specs.UpdateCalls.{failure_of}
 use Rattle.iox2_pubsub.specs.declared.subscriber.Subscriber.{Subscriber}
 use Rattle.iox2_pubsub.proofs.ConnectedSends.{update-publisher-connected}
 use Rattle.iox2_pubsub.proofs.SendsServe.{send-connections}
 use Rattle.iox2_pubsub.proofs.ConnectionsStay.{ConnectsStay, stays-itself, grant-connections, set-connections, discard-connections, retry-connections, give-up-connections, update-subscriber-connections, receive-connections, released-connections, create-subscriber-connections}
 use Rattle.iox2_pubsub.proofs.DepartedStays.{RoomStays as MachineRoomStays, room-itself, set-room, discard-room, grant-room, update-publisher-room, send-room, retry-room, give-up-room, update-subscriber-room, receive-room, released-room, create-subscriber-room}
-use Rattle.iox2_pubsub.proofs.WaitingShown.{live-open, waiting-is}
+use Rattle.iox2_pubsub.proofs.WaitingShown.{live-open}
 
 module _ {T U F G : Type 0} (kept : Kept T U F G) (m : Messages T U) (s : State T U) (shown : Shows kept m s) (subscriber : Subscriber) where
   pub up-to-date-in : IsUpToDate kept subscriber → IsUpdated s subscriber.id

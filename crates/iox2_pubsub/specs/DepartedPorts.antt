@@ -1,5 +1,5 @@
 -- Closed publishers that a subscriber still has a connection with.
-use Rattle.std.specs.Prelude.{ℕ, Bool, not, List, length, ◌+◌, ◌≤◌}
+use Rattle.std.specs.Prelude.{ℕ, Bool, not, length, ◌+◌, ◌≤◌}
 use Rattle.std.specs.List.{filter}
 use Rattle.std.specs.Option.{option_map_or}
 use Rattle.iox2_store.specs.machine.Limits.{expired_limit}
