@@ -1,6 +1,6 @@
 //! Readings go from a publisher to a subscriber.
 ghost use Rattle.std.specs.Prelude.{◌≡◌, OnOk};
-ghost use Rattle.iox2_pubsub.specs.Live.{IsLivePublisher, IsLiveSubscriber, IsSingleValued, Stays, waiting};
+ghost use Rattle.iox2_pubsub.specs.Live.{IsLivePublisher, IsLiveSubscriber, IsSingleValued, Stays, UpToDateStay, waiting};
 
 use crate::failure::Failure;
 use iox2_pubsub::{Domain, Publisher, Subscriber};
@@ -29,6 +29,7 @@ pub fn send(
 ) -> Result<(), Failure>
     requires single_valued { IsSingleValued domain.old }
     requires publisher { IsLivePublisher domain.old publisher.now }
+    ensures up_to_date { UpToDateStay domain.old domain.new }
     ensures stays { Stays domain.old domain.new }
 {
     publisher.send_copy(domain, celsius)?.delivered();

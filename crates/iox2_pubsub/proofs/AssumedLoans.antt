@@ -150,4 +150,4 @@ module _ {T U F G : Type 0} {boxes : DomainBoxes F G} (f g : Fields T U) (sound 
     left-loans = subst (LoansLeftStay kept) (sym left-same) (record { loans = λ publisher more left. left; numbers = λ more left. left })
 
     pub left-leaves : UpToDateStay kept (keeping boxes g)
-    left-leaves = subst (UpToDateStay kept) (sym left-same) (record { subscribers = λ subscriber is. is; connections = λ publisher subscriber is. is })
+    left-leaves = subst (UpToDateStay kept) (sym left-same) (record { subscribers = λ subscriber is. is; connections = λ publisher subscriber is. is; room = λ subscriber closes has. has })

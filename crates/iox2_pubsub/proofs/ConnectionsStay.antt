@@ -144,7 +144,7 @@ module _ (environment : Environment) (service_id q : ℕ) (handler : Handler Deg
       (λ r _ k. subst Knows (sym k.0) is)
 
   -- after the whole update
-  update-knows : (places : List (Option ℕ)) (side side' : ReceiverSide) (failure : Option ConnectionFailure) → has_end p ≡ true → place < length places → occupant places place ≡ Some p
+  pub update-knows : (places : List (Option ℕ)) (side side' : ReceiverSide) (failure : Option ConnectionFailure) → has_end p ≡ true → place < length places → occupant places place ≡ Some p
       → UpdateReceiverSide environment service_id q handler limit has_end places side side' failure → Knows side'
   update-knows places side side' failure has low stands h =
       walk-stays (DisconnectAtPlace environment service_id q handler limit has_end) Knows 0 places

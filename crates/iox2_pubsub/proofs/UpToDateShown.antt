@@ -1,12 +1,12 @@
 -- Which calls leave subscribers up to date, seen from outside.
-use Rattle.std.proofs.Common.{◌≡◌, ℕ, suc, refl, sym, ap, subst, ◌∙◌, Bool, Option, None, Result, Ok, Err}
+use Rattle.std.proofs.Common.{◌≡◌, ℕ, refl, sym, ap, subst, Bool, Option, None, Result, Ok, Err}
 use Rattle.std.specs.Prelude.{OnOk}
 use Rattle.std.specs.declared.time.Duration.{Duration}
 use Rattle.iox2_store.specs.machine.Environments.{ample_memory}
 use Rattle.iox2_store.specs.machine.Loans.{loan_discarded}
 use Rattle.iox2_store.specs.machine.Ports.{CreateSubscriber}
 use Rattle.iox2_store.specs.machine.PublisherUpdate.{UpdatePublisher}
-use Rattle.iox2_store.specs.machine.Receives.{ReceiveResult, Got_sample, Receive_error, Receive}
+use Rattle.iox2_store.specs.machine.Receives.{ReceiveResult, Receive_error, Receive}
 use Rattle.iox2_store.specs.machine.Records.{Environment, Loan, BlockedSend, SubscriberSettings}
 use Rattle.iox2_store.specs.machine.Releases.{released}
 use Rattle.iox2_store.specs.machine.Sends.{SendResult, Send, Retry, GiveUp}
@@ -16,19 +16,21 @@ use Rattle.iox2_store.specs.declared.errors.ConnectionFailure.{ConnectionFailure
 use Rattle.iox2_store.specs.declared.errors.LoanError.{LoanError}
 use Rattle.iox2_store.specs.declared.errors.ReceiveError.{ReceiveError}
 use Rattle.iox2_store.specs.declared.errors.SubscriberCreateError.{SubscriberCreateError}
-use Rattle.iox2_laws.proofs.UpToDate.{IsUpdated, UpdatedStay, same_subscribers, grant_loan_subscribers, update_publisher_subscribers, send_subscribers, retry_subscribers, give_up_subscribers, update_subscriber_updated, update_leaves_updated, receive_updated, receive_leaves_updated, receive_one_fewer, released_updated, create_subscriber_updated}
+use Rattle.iox2_laws.proofs.UpToDate.{IsUpdated, UpdatedStay, same_subscribers, grant_loan_subscribers, update_publisher_subscribers, send_subscribers, retry_subscribers, give_up_subscribers, update_subscriber_updated, update_leaves_updated, receive_updated, receive_leaves_updated, released_updated, create_subscriber_updated}
 use Rattle.iox2_domain.specs.Kept.{Kept}
 use Rattle.iox2_domain.specs.Lending.{LoanCall}
 use Rattle.iox2_domain.specs.Questions.{IsAnswer}
 use Rattle.iox2_domain.specs.Shows.{Shows}
 use Rattle.iox2_pubsub.specs.ConnectedPorts.{Connects}
-use Rattle.iox2_pubsub.specs.Live.{IsConnected, IsLiveSubscriber, IsUpToDate, UpToDateStay, waiting}
+use Rattle.iox2_pubsub.specs.DepartedPorts.{HasRoom}
+use Rattle.iox2_pubsub.specs.Live.{HasRoomFor, IsConnected, IsLiveSubscriber, IsUpToDate, RoomStays, UpToDateStay}
 use Rattle.iox2_pubsub.specs.UpdateCalls.{failure_of}
 use Rattle.iox2_pubsub.specs.declared.subscriber.Subscriber.{Subscriber}
 use Rattle.iox2_pubsub.proofs.ConnectedSends.{update-publisher-connected}
 use Rattle.iox2_pubsub.proofs.SendsServe.{send-connections}
 use Rattle.iox2_pubsub.proofs.ConnectionsStay.{ConnectsStay, stays-itself, grant-connections, set-connections, discard-connections, retry-connections, give-up-connections, update-subscriber-connections, receive-connections, released-connections, create-subscriber-connections}
-use Rattle.iox2_pubsub.proofs.WaitingShown.{live-open, waiting-is}
+use Rattle.iox2_pubsub.proofs.DepartedStays.{RoomStays as MachineRoomStays, room-itself, set-room, discard-room, grant-room, update-publisher-room, send-room, retry-room, give-up-room, update-subscriber-room, receive-room, released-room, create-subscriber-room}
+use Rattle.iox2_pubsub.proofs.WaitingShown.{live-open}
 
 module _ {T U F G : Type 0} (kept : Kept T U F G) (m : Messages T U) (s : State T U) (shown : Shows kept m s) (subscriber : Subscriber) where
   pub up-to-date-in : IsUpToDate kept subscriber → IsUpdated s subscriber.id
@@ -48,41 +50,55 @@ module _ {T U F G : Type 0} (kept : Kept T U F G) (m : Messages T U) (s : State 
   unfolding IsConnected
   connected is = subst (λ (t : State T U). Connects t p subscriber.id) shown.state is
 
+module _ {T U F G : Type 0} (kept : Kept T U F G) (m : Messages T U) (s : State T U) (shown : Shows kept m s) (subscriber : Subscriber) (closes : ℕ) where
+  pub room-in : HasRoomFor kept subscriber closes → HasRoom s subscriber.id closes
+  unfolding HasRoomFor
+  room-in has = subst (λ (t : State T U). HasRoom t subscriber.id closes) (sym shown.state) has
+
+  pub room : HasRoom s subscriber.id closes → HasRoomFor kept subscriber closes
+  unfolding HasRoomFor
+  room has = subst (λ (t : State T U). HasRoom t subscriber.id closes) shown.state has
+
 module _ {T U F G : Type 0} (old new : Kept T U F G) (m m' : Messages T U) (s s' : State T U) (shown : Shows old m s) (shown' : Shows new m' s') where
-  stay : UpdatedStay s s' → ConnectsStay s s' → UpToDateStay old new
-  stay each connects = record {
+  -- where each subscriber has as much room in the machine
+  pub rooms-stay : MachineRoomStays s s' → RoomStays old new
+  rooms-stay rooms subscriber closes has = room new m' s' shown' subscriber closes (rooms subscriber.id closes (room-in old m s shown subscriber closes has))
+
+  stay : UpdatedStay s s' → ConnectsStay s s' → MachineRoomStays s s' → UpToDateStay old new
+  stay each connects rooms = record {
+    room = rooms-stay rooms;
     subscribers = λ subscriber is. up-to-date new m' s' shown' subscriber (each subscriber.id (up-to-date-in old m s shown subscriber is));
     connections = λ publisher subscriber is. connected new m' s' shown' publisher subscriber (connects publisher subscriber.id (connected-in old m s shown publisher subscriber is));
   }
 
   pub loan-leaves : {A : Type 0} (is_default : U → Type 0) (checks : Bool) (len p : ℕ) (answer : Result A LoanError) → LoanCall is_default checks len s p answer s' → UpToDateStay old new
-  loan-leaves is_default checks len p (Ok a) h = stay (same_subscribers s s' (grant_loan_subscribers ample_memory h.0 checks len s p s' None h.2)) (grant-connections ample_memory h.0 checks len s p s' None h.2)
-  loan-leaves is_default checks len p (Err e) h = stay (same_subscribers s s' (ap (λ (t : State T U). t.subscribers) h.0)) (stays-itself s s' h.0)
+  loan-leaves is_default checks len p (Ok a) h = stay (same_subscribers s s' (grant_loan_subscribers ample_memory h.0 checks len s p s' None h.2)) (grant-connections ample_memory h.0 checks len s p s' None h.2) (grant-room ample_memory h.0 checks len s p s' None h.2)
+  loan-leaves is_default checks len p (Err e) h = stay (same_subscribers s s' (ap (λ (t : State T U). t.subscribers) h.0)) (stays-itself s s' h.0) (room-itself s s' h.0)
 
   pub send-leaves : (environment : Environment) (n : ℕ) (l : Loan T U) (result : SendResult) → Send environment s n l s' result → UpToDateStay old new
-  send-leaves environment n l result h = stay (same_subscribers s s' (send_subscribers environment s n l s' result h)) (send-connections environment s n l s' result shown.well_formed h)
+  send-leaves environment n l result h = stay (same_subscribers s s' (send_subscribers environment s n l s' result h)) (send-connections environment s n l s' result shown.well_formed h) (send-room environment s n l s' result h)
 
   pub retry-leaves : (environment : Environment) (p : ℕ) (b : BlockedSend) (elapsed : Duration) (result : SendResult) → Retry environment s p b elapsed s' result → UpToDateStay old new
-  retry-leaves environment p b elapsed result h = stay (same_subscribers s s' (retry_subscribers environment s p b elapsed s' result h)) (retry-connections environment s p b elapsed s' result h)
+  retry-leaves environment p b elapsed result h = stay (same_subscribers s s' (retry_subscribers environment s p b elapsed s' result h)) (retry-connections environment s p b elapsed s' result h) (retry-room environment s p b elapsed s' result h)
 
   pub give-up-leaves : (environment : Environment) (p : ℕ) (b : BlockedSend) (result : SendResult) → GiveUp environment s p b s' result → UpToDateStay old new
-  give-up-leaves environment p b result h = stay (same_subscribers s s' (give_up_subscribers environment s p b s' result h)) (give-up-connections environment s p b s' result h)
+  give-up-leaves environment p b result h = stay (same_subscribers s s' (give_up_subscribers environment s p b s' result h)) (give-up-connections environment s p b s' result h) (give-up-room environment s p b s' result h)
 
   pub publisher-update-leaves : (environment : Environment) (p : ℕ) (failure : Option ConnectionFailure) → UpdatePublisher environment s p s' failure → UpToDateStay old new
-  publisher-update-leaves environment p failure h = stay (same_subscribers s s' (update_publisher_subscribers environment s p s' failure h)) (λ i q c. (update-publisher-connected environment s shown.well_formed i q c p s' failure h).0)
+  publisher-update-leaves environment p failure h = stay (same_subscribers s s' (update_publisher_subscribers environment s p s' failure h)) (λ i q c. (update-publisher-connected environment s shown.well_formed i q c p s' failure h).0) (update-publisher-room environment s p s' failure h)
 
   pub subscriber-update-leaves : (environment : Environment) (q : ℕ) (failure : Option ConnectionFailure) → UpdateSubscriber environment s q s' failure → UpToDateStay old new
-  subscriber-update-leaves environment q failure h = stay (update_subscriber_updated environment s q s' failure h) (update-subscriber-connections environment s q s' failure shown.well_formed h)
+  subscriber-update-leaves environment q failure h = stay (update_subscriber_updated environment s q s' failure h) (update-subscriber-connections environment s q s' failure shown.well_formed h) (update-subscriber-room environment s q s' failure shown.well_formed h)
 
   pub release-leaves : (p q n : ℕ) → s' ≡ released s p q n → UpToDateStay old new
-  release-leaves p q n is = stay (subst (UpdatedStay s) (sym is) (released_updated s p q n)) (subst (ConnectsStay s) (sym is) (released-connections s p q n))
+  release-leaves p q n is = stay (subst (UpdatedStay s) (sym is) (released_updated s p q n)) (subst (ConnectsStay s) (sym is) (released-connections s p q n)) (subst (MachineRoomStays s) (sym is) (released-room s p q n))
 
   pub creation-leaves : (environment : Environment) (given : SubscriberSettings) (refusal : Option SubscriberCreateError) → CreateSubscriber environment s given s' refusal → UpToDateStay old new
-  creation-leaves environment given refusal h = stay (create_subscriber_updated environment s shown.well_formed given s' refusal h) (create-subscriber-connections environment s shown.well_formed given s' refusal h)
+  creation-leaves environment given refusal h = stay (create_subscriber_updated environment s shown.well_formed given s' refusal h) (create-subscriber-connections environment s shown.well_formed given s' refusal h) (create-subscriber-room environment s shown.well_formed given s' refusal h)
 
   module _ (environment : Environment) (subscriber : Subscriber) where
     pub receive-leaves : (result : ReceiveResult) → Receive environment s subscriber.id s' result → UpToDateStay old new
-    receive-leaves result h = stay (receive_updated environment s subscriber.id s' result h) (receive-connections environment s subscriber.id s' result shown.well_formed h)
+    receive-leaves result h = stay (receive_updated environment s subscriber.id s' result h) (receive-connections environment s subscriber.id s' result shown.well_formed h) (receive-room environment s subscriber.id s' result shown.well_formed h)
 
     pub received-updated : IsLiveSubscriber old subscriber → (result : ReceiveResult) → ((e : ReceiveError) → result ≡ Receive_error e → ⊥) → Receive environment s subscriber.id s' result → IsUpToDate new subscriber
     received-updated live result fine h =
@@ -103,15 +119,9 @@ module _ {T U F G : Type 0} (old new : Kept T U F G) (m m' : Messages T U) (s s'
     update-updated live (Ok answer) h = asked-updated live h
     update-updated live (Err e) h = tt
 
-    pub received-one-fewer : (p n : ℕ) → Receive environment s subscriber.id s' (Got_sample p n) → IsUpToDate old subscriber → suc (waiting new subscriber) ≡ waiting old subscriber
-    received-one-fewer p n h is =
-        ap suc (waiting-is new m' s' shown' subscriber)
-        ∙ receive_one_fewer environment s subscriber.id p n s' shown.well_formed (up-to-date-in old m s shown subscriber is) h
-        ∙ sym (waiting-is old m s shown subscriber)
-
 module _ {T U F G : Type 0} (old new : Kept T U F G) (m : Messages T U) (s : State T U) (shown : Shows old m s) (n : ℕ) where
   pub set-leaves : (l : Option (Loan T U)) → Shows new m (with_loan s n l) → UpToDateStay old new
-  set-leaves l shown' = stay old new m m s (with_loan s n l) shown shown' (same_subscribers s (with_loan s n l) refl) (set-connections s n l)
+  set-leaves l shown' = stay old new m m s (with_loan s n l) shown shown' (same_subscribers s (with_loan s n l) refl) (set-connections s n l) (set-room s n l)
 
   pub discard-leaves : (l : Loan T U) → Shows new m (loan_discarded s n l) → UpToDateStay old new
-  discard-leaves l shown' = stay old new m m s (loan_discarded s n l) shown shown' (same_subscribers s (loan_discarded s n l) refl) (discard-connections s n l)
+  discard-leaves l shown' = stay old new m m s (loan_discarded s n l) shown shown' (same_subscribers s (loan_discarded s n l) refl) (discard-connections s n l) (discard-room s n l)

@@ -1,4 +1,5 @@
 pub mod ConnectedPorts
+pub mod DepartedPorts
 pub mod Live
 pub mod Handles
 pub mod ReceivedSamples

@@ -17,6 +17,7 @@ use Rattle.iox2_domain.specs.Handlers.{may_fail, may_fail_update}
 use Rattle.iox2_domain.specs.Kept.{Kept, state_of, entries_of}
 use Rattle.iox2_domain.specs.LoanCalls.{HasLoanHeader, HasLoanUserHeader}
 use Rattle.iox2_pubsub.specs.ConnectedPorts.{Awaits, Connects}
+use Rattle.iox2_pubsub.specs.DepartedPorts.{HasRoom, departed_at}
 use Rattle.iox2_pubsub.specs.Handlers.{may_wait}
 use Rattle.iox2_pubsub.specs.Payloads.{payload_of, payloads_for}
 use Rattle.iox2_pubsub.specs.Slices.{IsSliced, HasUnwrittenCells, HasValues, SampleHasValues}
@@ -231,6 +232,20 @@ module _ {T U F G : Type 0} (domain : Kept T U F G) where
   unfoldable pub IsUpToDate : Subscriber → Type 0
   IsUpToDate subscriber = (y : MachineSubscriber) × ((state_of domain).subscribers subscriber.id ≡ Some y) × (y.is_open ≡ true) × (y.is_due ≡ false)
 
+  -- How many publishers that were closed the subscriber still has a connection with.
+  unfoldable pub departed : Subscriber → ℕ
+  departed subscriber = departed_at (state_of domain) subscriber.id
+
+  -- So many publishers more can be closed, and the subscriber still has room for the connections with all that were: as many as its
+  -- domain keeps for a subscriber.
+  unfoldable pub HasRoomFor : Subscriber → (closes : ℕ) → Type 0
+  HasRoomFor subscriber closes = HasRoom (state_of domain) subscriber.id closes
+
+  -- The subscriber's next update loses nothing that waits for it: it has nothing to update, or it has room for the connections with
+  -- all publishers that were closed.
+  abbrev pub KeepsAll : Subscriber → Type 0
+  KeepsAll subscriber = IsUpToDate subscriber ⊎ HasRoomFor subscriber 0
+
   -- The publisher with this id has its connection with the subscriber, which is open, and has it too or makes its end in its next
   -- update. So what the publisher sends waits for the subscriber.
   unfoldable pub IsConnected : (publisher : ℕ) → Subscriber → Type 0
@@ -240,10 +255,16 @@ module _ {T U F G : Type 0} (domain : Kept T U F G) where
   unfoldable pub IsAwaited : (publisher : ℕ) → Subscriber → Type 0
   IsAwaited publisher subscriber = Awaits (state_of domain) publisher subscriber.id
 
--- Each subscriber that was up to date is, and each publisher that was connected with a subscriber is.
+-- Each subscriber has room for as many closed publishers as it had.
+abbrev pub RoomStays : {T U F G : Type 0} → (old new : Kept T U F G) → Type 0
+RoomStays old new = (subscriber : Subscriber) (closes : ℕ) → HasRoomFor old subscriber closes → HasRoomFor new subscriber closes
+
+-- Each subscriber that was up to date is, each publisher that was connected with a subscriber is, and each subscriber has room for as
+-- many closed publishers as it had.
 pub record UpToDateStay {T U F G : Type 0} (old new : Kept T U F G) : Type 0 where
   pub subscribers : (subscriber : Subscriber) → IsUpToDate old subscriber → IsUpToDate new subscriber
   pub connections : (publisher : ℕ) (subscriber : Subscriber) → IsConnected old publisher subscriber → IsConnected new publisher subscriber
+  pub room : RoomStays old new
 
 -- For each subscriber the same messages wait as before, and so from each publisher.
 pub record WaitingStays {T U F G : Type 0} (old new : Kept T U F G) : Type 0 where

@@ -1,11 +1,12 @@
 //! The factory of subscribers.
-ghost use Rattle.std.specs.Prelude.{◌≡◌, None, Some, IfOk, MatchResult};
+ghost use Rattle.std.specs.Prelude.{◌≡◌, ◌≤◌, ℕ, None, Some, IfOk, MatchResult};
 ghost use Rattle.iox2_store.specs.declared.degradation.DegradationAction.TheVariants.{Warn};
 ghost use Rattle.iox2_domain.specs.Boxes.{answers_of};
 ghost use Rattle.iox2_store.specs.machine.Records.{Fixed};
 ghost use Rattle.iox2_store.specs.machine.Ports.{default_subscriber_settings, buffer_for, CreateSubscriber};
 ghost use Rattle.iox2_store.specs.machine.State.{State, Messages};
-ghost use Rattle.iox2_pubsub.specs.Live.{IsLiveSubscriber, IsNewIn, Stays, subscriber_box, subscriber_port, UpToDateStay, payloads, waiting, WaitingStays, IsAwaited, IsReadyPublisher, NoneRefused};
+ghost use Rattle.iox2_store.specs.machine.Limits.{expired_limit};
+ghost use Rattle.iox2_pubsub.specs.Live.{HasRoomFor, IsLiveSubscriber, IsNewIn, Stays, subscriber_box, subscriber_port, UpToDateStay, payloads, waiting, WaitingStays, IsAwaited, IsReadyPublisher, NoneRefused};
 ghost use Rattle.iox2_pubsub.specs.LoansLeft.{LoansLeftStay};
 ghost use Rattle.iox2_pubsub.specs.Factories.{receiver_with_degradation};
 ghost use Rattle.iox2_domain.specs.Shows.{Shows};
@@ -119,6 +120,7 @@ impl<G: DegradationFn> PortFactorySubscriber<G> {
         ensures new { IfOk result (λ subscriber. IsNewIn domain.old (subscriber_port subscriber)) }
         ensures none { IfOk result (λ subscriber. waiting domain.new subscriber ≡ 0) }
         ensures awaits { IfOk result (λ subscriber. NoneRefused domain.old domain.new → (publisher : Publisher) → IsReadyPublisher domain.old publisher → IsAwaited domain.new (publisher_id publisher) subscriber) }
+        ensures room { IfOk result (λ subscriber. (closes : ℕ) → closes ≤ expired_limit domain.old.config → HasRoomFor domain.new subscriber closes) }
         ensures waits { WaitingStays domain.old domain.new }
         ensures up_to_date { UpToDateStay domain.old domain.new }
         ensures loans_left { LoansLeftStay domain.old domain.new }

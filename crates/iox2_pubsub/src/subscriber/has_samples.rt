@@ -8,7 +8,7 @@ use iox2_store::{BackpressureFn, ConnectionFailure, DegradationFn};
 
 impl Subscriber {
     ghost use Rattle.iox2_store.specs.machine.State.{State, Messages};
-    ghost use Rattle.iox2_pubsub.specs.Live.{IsLiveSubscriber, IsUpToDate, OthersWait, Stays, UpToDateStay, waiting, WaitingStays};
+    ghost use Rattle.iox2_pubsub.specs.Live.{IsLiveSubscriber, IsUpToDate, KeepsAll, OthersWait, Stays, UpToDateStay, waiting, WaitingStays};
     ghost use Rattle.iox2_pubsub.specs.LoansLeft.{LoansLeftStay};
     ghost use Rattle.iox2_pubsub.specs.QuestionCalls.{Answers};
     ghost use Rattle.iox2_domain.specs.Boxes.{answers_of};
@@ -29,7 +29,7 @@ impl Subscriber {
         ensures answers { (m : Messages T U) (s : State T U) → Shows domain.old m s
             → (s' : State T U) × Shows domain.new m s' × Answers (answers_of F.allows G.allows (domain.old.boxes).subscribers) s (subscriber_id self.now) result s' }
         ensures waits { IfOk result (λ waits. IsTrue waits ↔ (0 < waiting domain.new self.now)) }
-        ensures undisturbed { IsUpToDate domain.old self.now → WaitingStays domain.old domain.new }
+        ensures undisturbed { KeepsAll domain.old self.now → WaitingStays domain.old domain.new }
         ensures no_more { waiting domain.new self.now ≤ waiting domain.old self.now }
         ensures others { OthersWait self.now domain.old domain.new }
         ensures updated { OnOk result (IsUpToDate domain.new self.now) }

@@ -1,5 +1,5 @@
 //! A subscriber receives.
-ghost use Rattle.std.specs.Prelude.{◌≡◌, ◌<◌, ◌≤◌, List, IfOk, suc, IfSome, IfNone, OnOk, OnSome, [], ◌∷◌};
+ghost use Rattle.std.specs.Prelude.{◌≡◌, ◌<◌, ◌≤◌, List, IfOk, suc, IfSome, IfNone, OnOk, OnSome, [], ◌∷◌, ℕ};
 
 use crate::domain::Domain;
 use crate::sample::Sample;
@@ -12,7 +12,7 @@ impl Subscriber {
     ghost use Rattle.iox2_domain.specs.Boxes.{answers_of};
     ghost use Rattle.iox2_store.specs.machine.Receives.{Receive};
     ghost use Rattle.iox2_store.specs.machine.State.{State, Messages};
-    ghost use Rattle.iox2_pubsub.specs.Live.{AreAllSlices, IsFromOrigin, IsLiveSample, IsLiveSubscriber, IsUpToDate, IsNewIn, OthersWait, Stays, TakesOldest, UpToDateStay, payloads, received_sample, sample_key, waiting, LeavesLater, LeavesOthers, TakesFirst};
+    ghost use Rattle.iox2_pubsub.specs.Live.{AllFrom, AreAllSlices, IsFromOrigin, IsLiveSample, IsLiveSubscriber, IsUpToDate, KeepsAll, IsNewIn, OthersWait, Stays, TakesOldest, UpToDateStay, payloads, received_sample, sample_key, waiting, LeavesLater, LeavesOthers, TakesFirst};
     ghost use Rattle.iox2_pubsub.specs.LoansLeft.{LoansLeftStay};
     ghost use Rattle.iox2_pubsub.specs.ReceivedSamples.{received_result};
     ghost use Rattle.iox2_pubsub.specs.Slices.{SampleHasValues};
@@ -41,15 +41,16 @@ impl Subscriber {
         ensures origin { IfOk result (λ sample. IfSome sample (IsFromOrigin domain.new)) }
         ensures subscriber { IfOk result (λ sample. IfSome sample (λ it. receiver_of it ≡ subscriber_id self.now)) }
         ensures fewer { IfOk result (λ sample. OnSome sample (waiting domain.new self.now < waiting domain.old self.now)) }
-        ensures one_fewer { IsUpToDate domain.old self.now → IfOk result (λ sample. OnSome sample (suc (waiting domain.new self.now) ≡ waiting domain.old self.now)) }
+        ensures one_fewer { KeepsAll domain.old self.now → IfOk result (λ sample. OnSome sample (suc (waiting domain.new self.now) ≡ waiting domain.old self.now)) }
         ensures none { IfOk result (λ sample. IfNone sample (waiting domain.new self.now ≡ 0)) }
         ensures reads { IfOk result (λ sample. IfSome sample (λ it. (values : List T) → AreAllSlices (payloads domain.old self.now) values → SampleHasValues domain.new (sample_key it) values)) }
         ensures only { IfOk result (λ sample. IfSome sample (λ it. (values : List T) → payloads domain.old self.now ≡ values ∷ [] → SampleHasValues domain.new (sample_key it) values)) }
+        ensures single { IfOk result (λ sample. IfSome sample (λ it. (publisher : ℕ) (values : List T) → AllFrom domain.old publisher self.now (values ∷ []) → SampleHasValues domain.new (sample_key it) values)) }
         ensures oldest { IfOk result (λ sample. IfSome sample (λ it. TakesOldest self.now it domain.old domain.new)) }
         ensures first { IfOk result (λ sample. IfSome sample (λ it. TakesFirst self.now it domain.old domain.new)) }
         ensures later { IfOk result (λ sample. OnSome sample (LeavesLater self.now domain.old domain.new)) }
-        ensures rest { IsUpToDate domain.old self.now → IfOk result (λ sample. IfSome sample (λ it. LeavesOthers self.now it domain.old domain.new)) }
-        ensures nothing { IsUpToDate domain.old self.now → IfOk result (λ sample. IfNone sample (waiting domain.old self.now ≡ 0)) }
+        ensures rest { KeepsAll domain.old self.now → IfOk result (λ sample. IfSome sample (λ it. LeavesOthers self.now it domain.old domain.new)) }
+        ensures nothing { KeepsAll domain.old self.now → IfOk result (λ sample. IfNone sample (waiting domain.old self.now ≡ 0)) }
         ensures no_more { waiting domain.new self.now ≤ waiting domain.old self.now }
         ensures others { OthersWait self.now domain.old domain.new }
         ensures updated { OnOk result (IsUpToDate domain.new self.now) }

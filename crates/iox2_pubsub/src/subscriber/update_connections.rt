@@ -13,7 +13,7 @@ impl<T: Drop, U: Default + Drop, F: BackpressureFn, G: DegradationFn> UpdateConn
     for Subscriber {
     ghost use Rattle.iox2_domain.specs.Boxes.{answers_of};
     ghost use Rattle.iox2_store.specs.machine.SubscriberUpdate.{UpdateSubscriber};
-    ghost use Rattle.iox2_pubsub.specs.Live.{IsLiveSubscriber, IsUpToDate, subscriber_key, WaitingStays};
+    ghost use Rattle.iox2_pubsub.specs.Live.{IsLiveSubscriber, IsUpToDate, KeepsAll, subscriber_key, WaitingStays};
     ghost use Rattle.iox2_pubsub.specs.Handles.{subscriber_id};
 
     ghost is_live = { IsLiveSubscriber };
@@ -24,7 +24,7 @@ impl<T: Drop, U: Default + Drop, F: BackpressureFn, G: DegradationFn> UpdateConn
 
     ghost is_updated = { IsUpToDate };
 
-    ghost leaves = { λ old new subscriber. IsUpToDate old subscriber → WaitingStays old new };
+    ghost leaves = { λ old new subscriber. KeepsAll old subscriber → WaitingStays old new };
 
     ghost adds = { λ domain. 0 };
 

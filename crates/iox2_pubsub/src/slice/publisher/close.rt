@@ -1,5 +1,5 @@
 //! A publisher of slices is closed.
-ghost use Rattle.std.specs.Prelude.{◌≡◌, ◌≢◌, ◌≤◌, ℕ};
+ghost use Rattle.std.specs.Prelude.{◌≡◌, ◌≢◌, ◌≤◌, suc, ℕ};
 
 use crate::domain::Domain;
 use crate::slice::Publisher;
@@ -10,7 +10,7 @@ impl Publisher {
     ghost use Rattle.iox2_store.specs.machine.Ports.{publisher_closed};
     ghost use Rattle.iox2_store.specs.machine.Records.{Publisher as Record};
     ghost use Rattle.iox2_store.specs.machine.State.{State, Messages};
-    ghost use Rattle.iox2_pubsub.specs.Live.{IsConnected, IsPublisherKey, IsReadyPublisher, IsUpToDate, StaysBut, degradation_box, handler_box, publisher_key, publisher_port, payloads_from, waiting};
+    ghost use Rattle.iox2_pubsub.specs.Live.{HasRoomFor, IsConnected, IsPublisherKey, IsReadyPublisher, IsUpToDate, StaysBut, degradation_box, handler_box, publisher_key, publisher_port, payloads_from, waiting};
     ghost use Rattle.iox2_pubsub.specs.LoansLeft.{NumbersLeftStay, OthersLoansLeftStay};
     ghost use Rattle.iox2_pubsub.specs.declared.subscriber.Subscriber.{Subscriber};
     ghost use Rattle.iox2_domain.specs.Shows.{Shows};
@@ -33,6 +33,7 @@ impl Publisher {
         ensures keeps { (publisher : ℕ) (subscriber : Subscriber) → IsUpToDate domain.old subscriber → IsConnected domain.old publisher subscriber
             → payloads_from domain.new publisher subscriber ≡ payloads_from domain.old publisher subscriber }
         ensures connections { (publisher : ℕ) (subscriber : Subscriber) → publisher ≢ publisher_id (as_publisher self) → IsConnected domain.old publisher subscriber → IsConnected domain.new publisher subscriber }
+        ensures room { (subscriber : Subscriber) (closes : ℕ) → HasRoomFor domain.old subscriber (suc closes) → HasRoomFor domain.new subscriber closes }
         ensures loans_left { OthersLoansLeftStay (as_publisher self) domain.old domain.new }
         ensures numbers_left { NumbersLeftStay domain.old domain.new }
         ensures stays { StaysBut (publisher_port (as_publisher self)) domain.old domain.new }

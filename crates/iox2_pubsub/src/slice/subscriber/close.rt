@@ -10,7 +10,7 @@ impl Subscriber {
     ghost use Rattle.iox2_store.specs.machine.Ports.{subscriber_closed};
     ghost use Rattle.iox2_store.specs.machine.Records.{Subscriber as Record};
     ghost use Rattle.iox2_store.specs.machine.State.{State, Messages};
-    ghost use Rattle.iox2_pubsub.specs.Live.{IsConnected, IsLiveSubscriber, OthersStayUpToDate, OthersWait, StaysBut, subscriber_box, subscriber_key, subscriber_port, waiting};
+    ghost use Rattle.iox2_pubsub.specs.Live.{IsConnected, IsLiveSubscriber, OthersStayUpToDate, OthersWait, RoomStays, StaysBut, subscriber_box, subscriber_key, subscriber_port, waiting};
     ghost use Rattle.iox2_pubsub.specs.LoansLeft.{LoansLeftStay};
     ghost use Rattle.iox2_pubsub.specs.declared.subscriber.Subscriber.{Subscriber as Handle};
     ghost use Rattle.iox2_domain.specs.Shows.{Shows};
@@ -32,6 +32,7 @@ impl Subscriber {
         ensures others { OthersWait (as_subscriber self) domain.old domain.new }
         ensures up_to_date { OthersStayUpToDate (as_subscriber self) domain.old domain.new }
         ensures connections { (publisher : ℕ) (other : Handle) → subscriber_id other ≢ subscriber_id (as_subscriber self) → IsConnected domain.old publisher other → IsConnected domain.new publisher other }
+        ensures room { RoomStays domain.old domain.new }
         ensures loans_left { LoansLeftStay domain.old domain.new }
         ensures stays { StaysBut (subscriber_port (as_subscriber self)) domain.old domain.new }
     {

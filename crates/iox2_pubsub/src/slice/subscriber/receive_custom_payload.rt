@@ -1,5 +1,5 @@
 //! A subscriber receives custom bytes.
-ghost use Rattle.std.specs.Prelude.{◌≡◌, ◌<◌, ◌≤◌, List, IfOk, suc, IfSome, IfNone, OnOk, OnSome, [], ◌∷◌};
+ghost use Rattle.std.specs.Prelude.{◌≡◌, ◌<◌, ◌≤◌, List, IfOk, suc, IfSome, IfNone, OnOk, OnSome, [], ◌∷◌, ℕ};
 
 use crate::custom_markers::CustomPayloadMarker;
 use crate::domain::Domain;
@@ -10,7 +10,7 @@ impl Subscriber {
     ghost use Rattle.iox2_domain.specs.Boxes.{answers_of};
     ghost use Rattle.iox2_store.specs.machine.Receives.{Receive};
     ghost use Rattle.iox2_store.specs.machine.State.{State, Messages};
-    ghost use Rattle.iox2_pubsub.specs.Live.{AreAllSlices, IsFromOrigin, IsLiveSample, IsLiveSubscriber, IsUpToDate, IsNewIn, OthersWait, Stays, TakesOldest, UpToDateStay, payloads, received_sample, sample_key, waiting, LeavesLater, LeavesOthers, TakesFirst};
+    ghost use Rattle.iox2_pubsub.specs.Live.{AllFrom, AreAllSlices, IsFromOrigin, IsLiveSample, IsLiveSubscriber, IsUpToDate, KeepsAll, IsNewIn, OthersWait, Stays, TakesOldest, UpToDateStay, payloads, received_sample, sample_key, waiting, LeavesLater, LeavesOthers, TakesFirst};
     ghost use Rattle.iox2_pubsub.specs.LoansLeft.{LoansLeftStay};
     ghost use Rattle.iox2_pubsub.specs.ReceivedSamples.{received_slice};
     ghost use Rattle.iox2_pubsub.specs.Slices.{SampleHasValues};
@@ -33,15 +33,16 @@ impl Subscriber {
         ensures origin { IfOk result (λ sample. IfSome sample (λ it. IsFromOrigin domain.new (as_sample it))) }
         ensures subscriber { IfOk result (λ sample. IfSome sample (λ it. receiver_of (as_sample it) ≡ subscriber_id (as_subscriber self.now))) }
         ensures fewer { IfOk result (λ sample. OnSome sample (waiting domain.new (as_subscriber self.now) < waiting domain.old (as_subscriber self.now))) }
-        ensures one_fewer { IsUpToDate domain.old (as_subscriber self.now) → IfOk result (λ sample. OnSome sample (suc (waiting domain.new (as_subscriber self.now)) ≡ waiting domain.old (as_subscriber self.now))) }
+        ensures one_fewer { KeepsAll domain.old (as_subscriber self.now) → IfOk result (λ sample. OnSome sample (suc (waiting domain.new (as_subscriber self.now)) ≡ waiting domain.old (as_subscriber self.now))) }
         ensures none { IfOk result (λ sample. IfNone sample (waiting domain.new (as_subscriber self.now) ≡ 0)) }
         ensures reads { IfOk result (λ sample. IfSome sample (λ it. (values : List CustomPayloadMarker) → AreAllSlices (payloads domain.old (as_subscriber self.now)) values → SampleHasValues domain.new (sample_key (as_sample it)) values)) }
         ensures only { IfOk result (λ sample. IfSome sample (λ it. (values : List CustomPayloadMarker) → payloads domain.old (as_subscriber self.now) ≡ values ∷ [] → SampleHasValues domain.new (sample_key (as_sample it)) values)) }
+        ensures single { IfOk result (λ sample. IfSome sample (λ it. (publisher : ℕ) (values : List CustomPayloadMarker) → AllFrom domain.old publisher (as_subscriber self.now) (values ∷ []) → SampleHasValues domain.new (sample_key (as_sample it)) values)) }
         ensures oldest { IfOk result (λ sample. IfSome sample (λ it. TakesOldest (as_subscriber self.now) (as_sample it) domain.old domain.new)) }
         ensures first { IfOk result (λ sample. IfSome sample (λ it. TakesFirst (as_subscriber self.now) (as_sample it) domain.old domain.new)) }
         ensures later { IfOk result (λ sample. OnSome sample (LeavesLater (as_subscriber self.now) domain.old domain.new)) }
-        ensures rest { IsUpToDate domain.old (as_subscriber self.now) → IfOk result (λ sample. IfSome sample (λ it. LeavesOthers (as_subscriber self.now) (as_sample it) domain.old domain.new)) }
-        ensures nothing { IsUpToDate domain.old (as_subscriber self.now) → IfOk result (λ sample. IfNone sample (waiting domain.old (as_subscriber self.now) ≡ 0)) }
+        ensures rest { KeepsAll domain.old (as_subscriber self.now) → IfOk result (λ sample. IfSome sample (λ it. LeavesOthers (as_subscriber self.now) (as_sample it) domain.old domain.new)) }
+        ensures nothing { KeepsAll domain.old (as_subscriber self.now) → IfOk result (λ sample. IfNone sample (waiting domain.old (as_subscriber self.now) ≡ 0)) }
         ensures no_more { waiting domain.new (as_subscriber self.now) ≤ waiting domain.old (as_subscriber self.now) }
         ensures others { OthersWait (as_subscriber self.now) domain.old domain.new }
         ensures updated { OnOk result (IsUpToDate domain.new (as_subscriber self.now)) }

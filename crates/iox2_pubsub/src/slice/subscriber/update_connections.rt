@@ -12,7 +12,7 @@ impl<T: Drop, U: Default + Drop, F: BackpressureFn, G: DegradationFn> UpdateConn
     for Subscriber {
     ghost use Rattle.iox2_domain.specs.Boxes.{answers_of};
     ghost use Rattle.iox2_store.specs.machine.SubscriberUpdate.{UpdateSubscriber};
-    ghost use Rattle.iox2_pubsub.specs.Live.{IsLiveSubscriber, IsUpToDate, subscriber_key, WaitingStays};
+    ghost use Rattle.iox2_pubsub.specs.Live.{IsLiveSubscriber, IsUpToDate, KeepsAll, subscriber_key, WaitingStays};
     ghost use Rattle.iox2_pubsub.specs.Handles.{as_subscriber, subscriber_id};
 
     ghost is_live = { λ domain subscriber. IsLiveSubscriber domain (as_subscriber subscriber) };
@@ -23,7 +23,7 @@ impl<T: Drop, U: Default + Drop, F: BackpressureFn, G: DegradationFn> UpdateConn
 
     ghost is_updated = { λ domain subscriber. IsUpToDate domain (as_subscriber subscriber) };
 
-    ghost leaves = { λ old new subscriber. IsUpToDate old (as_subscriber subscriber) → WaitingStays old new };
+    ghost leaves = { λ old new subscriber. KeepsAll old (as_subscriber subscriber) → WaitingStays old new };
 
     ghost adds = { λ domain. 0 };
 

@@ -13,6 +13,7 @@ use Rattle.iox2_domain.specs.Handlers.{may_fail}
 use Rattle.iox2_ends.specs.Handlers.{marks_of}
 use Rattle.iox2_domain.specs.Shows.{Shows}
 use Rattle.iox2_pubsub.specs.Handlers.{may_wait}
+use Rattle.iox2_pubsub.proofs.DepartedShown.{publisher-creation-room}
 use Rattle.iox2_pubsub.proofs.PublishersShown.{created-shows, created-ready, created-never-fails, created-never-waits, created-overflows}
 use Rattle.iox2_pubsub.proofs.CallsStay.{always-shown, apart-from-next, publisher-creation-stays, publisher-is-new}
 use Rattle.iox2_pubsub.proofs.ConnectionsShown.{made-connections, made-connects}
@@ -177,3 +178,18 @@ returns-clause-connects g c =
     let it = always-shown {T = g.row.T.Denot} {U = g.row.U.Denot} c.domain.inside.state c.args.domain.now c.domain.invariant c.domain.view_is in
     let step = returns-clause-creates g c it.0 it.1 it.2 in
     made-connects {T = g.row.T.Denot} {U = g.row.U.Denot} c.args.domain.now _ it.0 it.0 it.1 step.0 it.2 step.1 (answers_of g.F.BackpressureFn.allows g.G.DegradationFn.allows (c.create_publisher.new.boxes).boxes) (settings_with c.args.given.now (marks_of c.args.handler) c.args.segments) c.in_ok-port.port.id (step.2).0 (step.2).1
+
+pub returns-in_err-port-clause-room : goal.returns-in_err-port-clause-room
+returns-in_err-port-clause-room g c =
+    let it = always-shown {T = g.row.T.Denot} {U = g.row.U.Denot} c.domain.inside.state c.args.domain.now c.domain.invariant c.domain.view_is in
+    let made = c.in_err-port.ensures.step in
+    let why = c.in_err-port.field-0.0 in
+    let shown : Shows (kept_of c.domain.inside.state) it.0 it.1 = subst (λ (kept : Kept g.row.T.Denot g.row.U.Denot g.row.F.Denot g.row.G.Denot). Shows kept it.0 it.1) (sym c.domain.view_is) it.2 in
+    let next = created-shows {T = g.row.T.Denot} {U = g.row.U.Denot} c.domain.inside.state c.create_publisher.new.state (settings_with c.args.given.now (marks_of c.args.handler) c.args.segments) (answers_of g.F.BackpressureFn.allows g.G.DegradationFn.allows (c.create_publisher.new.boxes).boxes) it.0 it.1 _ (Some why) shown made.0 made.1 in
+    publisher-creation-room {T = g.row.T.Denot} {U = g.row.U.Denot} c.args.domain.now _ it.0 it.0 it.1 _ it.2 next.0 (answers_of g.F.BackpressureFn.allows g.G.DegradationFn.allows (c.create_publisher.new.boxes).boxes) (settings_with c.args.given.now (marks_of c.args.handler) c.args.segments) (Some why) next.1
+
+pub returns-clause-room : goal.returns-clause-room
+returns-clause-room g c =
+    let it = always-shown {T = g.row.T.Denot} {U = g.row.U.Denot} c.domain.inside.state c.args.domain.now c.domain.invariant c.domain.view_is in
+    let step = returns-clause-creates g c it.0 it.1 it.2 in
+    publisher-creation-room {T = g.row.T.Denot} {U = g.row.U.Denot} c.args.domain.now _ it.0 it.0 it.1 step.0 it.2 step.1 (answers_of g.F.BackpressureFn.allows g.G.DegradationFn.allows (c.create_publisher.new.boxes).boxes) (settings_with c.args.given.now (marks_of c.args.handler) c.args.segments) None (step.2).1

@@ -5,6 +5,7 @@ use Rattle.iox2_domain.specs.Ports.{PublisherFields}
 use Rattle.iox2_domain.proofs.lemmas.fields.ConnectionEnds.{free-of}
 use Rattle.iox2_domain.specs.Fields.{keeping}
 use Rattle.iox2_pubsub.specs.Live.{publisher_key}
+use Rattle.iox2_pubsub.proofs.DepartedShown.{publisher-close-room}
 use Rattle.iox2_pubsub.proofs.CallsStay.{always-shown}
 use Rattle.iox2_pubsub.proofs.ClosesShown.{publisher-close-shows, publisher-close-stays, publisher-close-spends}
 use Rattle.iox2_pubsub.proofs.ClosesWait.{publisher-close-no-fewer}
@@ -107,3 +108,11 @@ returns-clause-connections g c =
     let there = ap (λ (t : State g.row.T.Denot g.row.U.Denot). t.publishers c.args.self.id) (it.2).state ∙ has.1 in
     publisher-close-connections {T = g.row.T.Denot} {U = g.row.U.Denot} c.args.domain.now (keeping _ c.close_publisher.new.state) it.0 it.1 it.2 c.args.self.id has.0
     (returns-clause-closed g c it.0 it.1 has.0 it.2 there) there
+
+pub returns-clause-room : goal.returns-clause-room
+returns-clause-room g c =
+    let it = always-shown {T = g.row.T.Denot} {U = g.row.U.Denot} c.domain.inside.state c.args.domain.now c.domain.invariant c.domain.view_is in
+    let has = (publisher-parts c.args.domain.now _ c.requires.ready.there).2 in
+    let there = ap (λ (t : State g.row.T.Denot g.row.U.Denot). t.publishers c.args.self.id) (it.2).state ∙ has.1 in
+    publisher-close-room {T = g.row.T.Denot} {U = g.row.U.Denot} c.args.domain.now (keeping _ c.close_publisher.new.state) it.0 it.1 it.2 c.args.self.id has.0
+    (returns-clause-closed g c it.0 it.1 has.0 it.2 there)

@@ -25,7 +25,7 @@ use Rattle.iox2_pubsub.proofs.UpToDateShown.{send-leaves}
 use Rattle.iox2_pubsub.proofs.ConnectionsShown.{serves}
 use Rattle.iox2_pubsub.proofs.LoansLeftShown.{send-left, send-gives, sent-free}
 use Rattle.iox2_pubsub.proofs.PublisherWaits.{send-arrives}
-use Rattle.iox2_pubsub.proofs.UndueReceives.{others-send}
+use Rattle.iox2_pubsub.proofs.KeptReceives.{others-send}
 use Rattle.iox2_pubsub.proofs.StaysBut.{same-boxes}
 use Rattle.iox2_pubsub.proofs.sample_mut.SampleMut.send.Goals as goal
 

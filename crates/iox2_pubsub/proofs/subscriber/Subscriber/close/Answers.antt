@@ -6,6 +6,7 @@ use Rattle.iox2_domain.specs.declared.boxes.PortBoxes.{PortBoxes}
 use Rattle.iox2_store.specs.machine.State.{State}
 use Rattle.iox2_domain.specs.Fields.{keeping}
 use Rattle.iox2_pubsub.specs.Live.{subscriber_key}
+use Rattle.iox2_pubsub.proofs.DepartedShown.{subscriber-close-room}
 use Rattle.iox2_pubsub.proofs.CallsStay.{always-shown}
 use Rattle.iox2_pubsub.proofs.ClosesShown.{subscriber-close-shows, subscriber-close-stays, subscriber-close-spends}
 use Rattle.iox2_pubsub.proofs.ClosesWait.{subscriber-close-none, subscriber-close-others, subscriber-close-leaves}
@@ -92,3 +93,11 @@ returns-clause-connections g c =
     let there = ap (λ (t : State g.row.T.Denot g.row.U.Denot). t.subscribers c.args.self.id) (it.2).state ∙ has.1 in
     subscriber-close-connections {T = g.row.T.Denot} {U = g.row.U.Denot} c.args.domain.now (keeping _ c.close_subscriber.new.state) it.0 it.1 it.2 c.args.self.id has.0
     (returns-clause-closed g c it.0 it.1 has.0 it.2 there)
+
+pub returns-clause-room : goal.returns-clause-room
+returns-clause-room g c =
+    let it = always-shown {T = g.row.T.Denot} {U = g.row.U.Denot} c.domain.inside.state c.args.domain.now c.domain.invariant c.domain.view_is in
+    let has = (subscriber-parts c.args.domain.now _ c.requires.live).2 in
+    let there = ap (λ (t : State g.row.T.Denot g.row.U.Denot). t.subscribers c.args.self.id) (it.2).state ∙ has.1 in
+    subscriber-close-room {T = g.row.T.Denot} {U = g.row.U.Denot} c.args.domain.now (keeping _ c.close_subscriber.new.state) it.0 it.1 it.2 c.args.self.id has.0
+    (returns-clause-closed g c it.0 it.1 has.0 it.2 there) there

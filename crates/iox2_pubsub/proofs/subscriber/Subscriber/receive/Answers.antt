@@ -9,10 +9,10 @@ use Rattle.iox2_domain.specs.declared.sample_slots.Receipt.{Receipt}
 use Rattle.iox2_pubsub.proofs.ReceptionShown.{reception-at, reception-shows, reception-live, reception-origin, subscriber-missing, error-shows}
 use Rattle.iox2_pubsub.proofs.CallsStay.{always-shown, receive-stays, received-is-new}
 use Rattle.iox2_pubsub.proofs.WaitingShown.{received-fewer, received-none, received-no-more, received-others, received-reads, received-oldest}
-use Rattle.iox2_pubsub.proofs.UpToDateShown.{receive-leaves, received-updated, received-one-fewer}
+use Rattle.iox2_pubsub.proofs.UpToDateShown.{receive-leaves, received-updated}
 use Rattle.iox2_pubsub.proofs.LoansLeftShown.{receive-left}
 use Rattle.iox2_pubsub.proofs.PublisherWaits.{one-is-all, receive-leaves-later, receive-takes-first}
-use Rattle.iox2_pubsub.proofs.UndueReceives.{nothing-waited, others-wait-still}
+use Rattle.iox2_pubsub.proofs.KeptReceives.{nothing-waited, one-fewer-waits, others-wait-still}
 use Rattle.iox2_pubsub.proofs.StaysBut.{same-boxes}
 use Rattle.iox2_pubsub.proofs.subscriber.Subscriber.receive.Goals as goal
 
@@ -183,10 +183,10 @@ returns-clause-updated g c =
     received-updated {T = g.row.T.Denot} {U = g.row.U.Denot} c.args.domain.now (keeping (record { publishers = (c.domain.inside.boxes).boxes; subscribers = (c.domain.inside.subscriber_boxes).boxes }) c.receive_at.new.state) it.0 it.0 it.1 step.0 it.2 step.1 (answers_of g.F.BackpressureFn.allows g.G.DegradationFn.allows c.args.domain.now.boxes.subscribers) c.args.self.now c.requires.live (Got_sample c.in-Some.receipt.publisher c.in-Some.receipt.sample.number) (λ e is. let clash : Got_sample c.in-Some.receipt.publisher c.in-Some.receipt.sample.number ≡ Receive_error e = is in absurd cc) step.2
 
 pub returns-clause-one_fewer : goal.returns-clause-one_fewer
-returns-clause-one_fewer g c =
+returns-clause-one_fewer g c = λ keeps.
     let it = always-shown {T = g.row.T.Denot} {U = g.row.U.Denot} c.domain.inside.state c.args.domain.now c.domain.invariant c.domain.view_is in
     let step = returns-clause-receives g c it.0 it.1 it.2 in
-    received-one-fewer {T = g.row.T.Denot} {U = g.row.U.Denot} c.args.domain.now (keeping (record { publishers = (c.domain.inside.boxes).boxes; subscribers = (c.domain.inside.subscriber_boxes).boxes }) c.receive_at.new.state) it.0 it.0 it.1 step.0 it.2 step.1 (answers_of g.F.BackpressureFn.allows g.G.DegradationFn.allows c.args.domain.now.boxes.subscribers) c.args.self.now c.in-Some.receipt.publisher c.in-Some.receipt.sample.number step.2
+    one-fewer-waits {T = g.row.T.Denot} {U = g.row.U.Denot} c.args.domain.now (keeping (record { publishers = (c.domain.inside.boxes).boxes; subscribers = (c.domain.inside.subscriber_boxes).boxes }) c.receive_at.new.state) it.0 it.0 it.1 step.0 it.2 step.1 (answers_of g.F.BackpressureFn.allows g.G.DegradationFn.allows c.args.domain.now.boxes.subscribers) c.args.self.now keeps c.requires.live c.in-Some.receipt.publisher c.in-Some.receipt.sample.number step.2
 
 pub returns-in_err-receipt-clause-loans_left : goal.returns-in_err-receipt-clause-loans_left
 returns-in_err-receipt-clause-loans_left g c =
@@ -207,10 +207,10 @@ returns-clause-loans_left g c =
     receive-left {T = g.row.T.Denot} {U = g.row.U.Denot} c.args.domain.now (keeping (record { publishers = (c.domain.inside.boxes).boxes; subscribers = (c.domain.inside.subscriber_boxes).boxes }) c.receive_at.new.state) it.0 it.0 it.1 step.0 it.2 step.1 (answers_of g.F.BackpressureFn.allows g.G.DegradationFn.allows c.args.domain.now.boxes.subscribers) c.args.self.now.id (Got_sample c.in-Some.receipt.publisher c.in-Some.receipt.sample.number) step.2
 
 pub returns-in_default-clause-nothing : goal.returns-in_default-clause-nothing
-returns-in_default-clause-nothing g c = λ updated.
+returns-in_default-clause-nothing g c = λ keeps.
     let it = always-shown {T = g.row.T.Denot} {U = g.row.U.Denot} c.domain.inside.state c.args.domain.now c.domain.invariant c.domain.view_is in
     let step = returns-in_default-clause-receives g c it.0 it.1 it.2 in
-    nothing-waited {T = g.row.T.Denot} {U = g.row.U.Denot} c.args.domain.now (keeping (record { publishers = (c.domain.inside.boxes).boxes; subscribers = (c.domain.inside.subscriber_boxes).boxes }) c.receive_at.new.state) it.0 it.0 it.1 step.0 it.2 step.1 (answers_of g.F.BackpressureFn.allows g.G.DegradationFn.allows c.args.domain.now.boxes.subscribers) c.args.self.now updated step.2
+    nothing-waited {T = g.row.T.Denot} {U = g.row.U.Denot} c.args.domain.now (keeping (record { publishers = (c.domain.inside.boxes).boxes; subscribers = (c.domain.inside.subscriber_boxes).boxes }) c.receive_at.new.state) it.0 it.0 it.1 step.0 it.2 step.1 (answers_of g.F.BackpressureFn.allows g.G.DegradationFn.allows c.args.domain.now.boxes.subscribers) c.args.self.now keeps step.2
 
 pub returns-clause-first : goal.returns-clause-first
 returns-clause-first g c =
@@ -227,11 +227,14 @@ returns-clause-later g c =
     (record { service_id = c.args.self.now.service_id; origin = c.in-Some.receipt.publisher; sample = c.in-Some.receipt.sample }) (returns-clause-oldest g c) (returns-clause-fewer g c)
 
 pub returns-clause-rest : goal.returns-clause-rest
-returns-clause-rest g c = λ updated other away.
+returns-clause-rest g c = λ keeps other away.
     let it = always-shown {T = g.row.T.Denot} {U = g.row.U.Denot} c.domain.inside.state c.args.domain.now c.domain.invariant c.domain.view_is in
     let step = returns-clause-receives g c it.0 it.1 it.2 in
-    others-wait-still {T = g.row.T.Denot} {U = g.row.U.Denot} c.args.domain.now (keeping (record { publishers = (c.domain.inside.boxes).boxes; subscribers = (c.domain.inside.subscriber_boxes).boxes }) c.receive_at.new.state) it.0 it.0 it.1 step.0 it.2 step.1 (answers_of g.F.BackpressureFn.allows g.G.DegradationFn.allows c.args.domain.now.boxes.subscribers) c.args.self.now updated (λ n entry at. at)
+    others-wait-still {T = g.row.T.Denot} {U = g.row.U.Denot} c.args.domain.now (keeping (record { publishers = (c.domain.inside.boxes).boxes; subscribers = (c.domain.inside.subscriber_boxes).boxes }) c.receive_at.new.state) it.0 it.0 it.1 step.0 it.2 step.1 (answers_of g.F.BackpressureFn.allows g.G.DegradationFn.allows c.args.domain.now.boxes.subscribers) c.args.self.now keeps (λ n entry at. at)
     c.in-Some.receipt.publisher c.in-Some.receipt.sample.number step.2 other away
 
 pub returns-clause-only : goal.returns-clause-only
 returns-clause-only g c = λ values is. returns-clause-reads g c values (one-is-all _ values is)
+
+pub returns-clause-single : goal.returns-clause-single
+returns-clause-single g c = λ publisher values is. returns-clause-only g c values is.all

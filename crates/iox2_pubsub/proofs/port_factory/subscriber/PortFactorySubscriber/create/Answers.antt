@@ -4,6 +4,7 @@ use Rattle.std.specs.declared.option.Option.TheVariants.{None, Some}
 use Rattle.iox2_domain.specs.Boxes.{answers_of}
 use Rattle.iox2_domain.specs.SubscriberEntry.{asked_for}
 use Rattle.iox2_store.specs.declared.service_config.ServiceConfig.{ServiceConfig}
+use Rattle.iox2_pubsub.proofs.DepartedShown.{subscriber-made-room}
 use Rattle.iox2_pubsub.proofs.SubscribersShown.{made-shown, made-live, refused-shown}
 use Rattle.iox2_pubsub.proofs.CallsStay.{always-shown, subscriber-apart-from-next, subscriber-creation-stays, subscriber-is-new}
 use Rattle.iox2_pubsub.proofs.WaitingShown.{created-none, creation-waits}
@@ -114,3 +115,10 @@ returns-clause-awaits g c = λ none publisher ready.
     let step = returns-clause-creates g c it.0 it.1 it.2 in
     made-awaits {T = g.row.T.Denot} {U = g.row.U.Denot} c.args.domain.now _ it.0 it.0 it.1 step.0 it.2 step.1 (answers_of g.F.BackpressureFn.allows g.G.DegradationFn.allows (c.create_subscriber.new.boxes).boxes) c.args.self.settings (step.2).0
     (record { service_id = c.config.result.now.service_id; id = c.in_ok-port.port.id; place = c.in_ok-port.port.place; buffer_size = c.max.result }) (step.2).1 none publisher ready.there
+
+pub returns-clause-room : goal.returns-clause-room
+returns-clause-room g c =
+    let it = always-shown {T = g.row.T.Denot} {U = g.row.U.Denot} c.domain.inside.state c.args.domain.now c.domain.invariant c.domain.view_is in
+    let step = returns-clause-creates g c it.0 it.1 it.2 in
+    subscriber-made-room {T = g.row.T.Denot} {U = g.row.U.Denot} c.args.domain.now _ it.0 it.0 it.1 step.0 it.2 step.1 (answers_of g.F.BackpressureFn.allows g.G.DegradationFn.allows (c.create_subscriber.new.boxes).boxes) c.args.self.settings (step.2).0
+    (record { service_id = c.config.result.now.service_id; id = c.in_ok-port.port.id; place = c.in_ok-port.port.place; buffer_size = c.max.result }) (step.2).1

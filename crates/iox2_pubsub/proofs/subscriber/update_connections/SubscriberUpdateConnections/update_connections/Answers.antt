@@ -16,7 +16,7 @@ use Rattle.iox2_pubsub.proofs.UpdatesStay.{updates-stay}
 use Rattle.iox2_pubsub.proofs.WaitingShown.{subscriber-update-adds}
 use Rattle.iox2_pubsub.proofs.UpToDateShown.{subscriber-update-leaves, update-updated}
 use Rattle.iox2_pubsub.proofs.LoansLeftShown.{update-subscriber-left}
-use Rattle.iox2_pubsub.proofs.UndueReceives.{question-waits}
+use Rattle.iox2_pubsub.proofs.KeptReceives.{question-waits}
 use Rattle.iox2_pubsub.proofs.subscriber.update_connections.SubscriberUpdateConnections.update_connections.Goals as goal
 
 pub unreachable-requires : goal.unreachable-requires
@@ -71,7 +71,7 @@ returns-clause-updated g c =
     update-updated {T = g.row.T.Denot} {U = g.row.U.Denot} c.args.domain.now (keeping _ c.update_subscriber.new.state) it.0 it.0 it.1 step.0 it.2 step.1 (answers_of g.F.BackpressureFn.allows g.G.DegradationFn.allows c.args.domain.now.boxes.subscribers) c.args.self.now c.requires.live c.outcome_of.result step.2
 
 pub returns-clause-leaves : goal.returns-clause-leaves
-returns-clause-leaves g c = λ updated.
+returns-clause-leaves g c = λ keeps.
     let it = always-shown {T = g.row.T.Denot} {U = g.row.U.Denot} c.domain.inside.state c.args.domain.now c.domain.invariant c.domain.view_is in
     let step = returns-clause-updates g c it.0 it.1 it.2 in
-    question-waits {T = g.row.T.Denot} {U = g.row.U.Denot} c.args.domain.now (keeping _ c.update_subscriber.new.state) it.0 it.0 it.1 step.0 it.2 step.1 (answers_of g.F.BackpressureFn.allows g.G.DegradationFn.allows c.args.domain.now.boxes.subscribers) c.args.self.now updated (λ n entry at. at) (failure_of c.outcome_of.result) step.2
+    question-waits {T = g.row.T.Denot} {U = g.row.U.Denot} c.args.domain.now (keeping _ c.update_subscriber.new.state) it.0 it.0 it.1 step.0 it.2 step.1 (answers_of g.F.BackpressureFn.allows g.G.DegradationFn.allows c.args.domain.now.boxes.subscribers) c.args.self.now keeps (λ n entry at. at) (failure_of c.outcome_of.result) step.2
