@@ -45,10 +45,6 @@ pub mod ExistUpdates
 pub mod ExistCalls
 pub mod ExistRuns
 pub mod WorkedRunDomains
-pub mod WorkedRunsOfDepartures
-pub mod WorkedRunsOfReplacedPublishers
-pub mod WorkedRunsOfForgottenPublishers
-pub mod WorkedRunsOfWarnings
 pub mod WorkedRunsOfSlices
 pub mod WorkedRunsOfRefusals
 pub mod RefusalUpdates

@@ -8,186 +8,14 @@ use Rattle.iox2_store.specs.declared.allocation.AllocationStrategy.TheVariants.{
 use Rattle.iox2_store.specs.declared.backpressure.BackpressureStrategy.TheVariants.{DiscardData}
 use Rattle.iox2_store.specs.declared.degradation.DegradationAction.TheVariants.{Warn, DegradeAndFail}
 use Rattle.iox2_store.specs.declared.errors.ConnectionFailure.TheVariants.{FailedToEstablishConnection}
-use Rattle.iox2_store.specs.declared.errors.ZeroCopyCreationError.TheVariants.{OutOfMemory as No_memory}
-use Rattle.iox2_store.specs.declared.errors.LoanError.TheVariants.{OutOfMemory}
-use Rattle.iox2_store.specs.declared.errors.SendError.TheVariants.{LoanError as Not_loaned}
-use Rattle.iox2_store.specs.declared.warning.Warning.TheVariants.{ExpiredBufferRaised, ConnectionNotMade, PublisherPartlyConnected}
+use Rattle.iox2_store.specs.declared.errors.ZeroCopyCreationError.TheVariants.{OutOfMemory}
+use Rattle.iox2_store.specs.declared.warning.Warning.TheVariants.{ConnectionNotMade, PublisherPartlyConnected}
 use Rattle.iox2_commands.specs.Outcomes.{Event}
-use Rattle.iox2_store.specs.machine.Environments.{ample_memory, fixed_handlers}
+use Rattle.iox2_store.specs.machine.Environments.{fixed_handlers}
 use Rattle.iox2_commands.specs.Runs.{Run, only_defaults}
-use Rattle.iox2_commands.specs.declared.command.Command.TheVariants.{CreatePublisher, CreateSubscriber, LoanUninit, SendCopy, Receive, Read, Release}
-use Rattle.iox2_commands.specs.declared.reply.Reply.TheVariants.{Done, PublisherMade, SubscriberMade, Loaned, LoanRefused, Delivered, SendRefused}
-use Rattle.iox2_commands.specs.declared.reply.Reply.TheVariants.{Sample, NoSample, Cell}
+use Rattle.iox2_commands.specs.declared.command.Command.TheVariants.{CreatePublisher, CreateSubscriber, SendCopy, Receive, Read}
+use Rattle.iox2_commands.specs.declared.reply.Reply.TheVariants.{PublisherMade, SubscriberMade, Delivered, Sample, NoSample, Cell}
 use Rattle.iox2_commands.proofs.WorkedRunDomains.{domain}
-
--- A publisher with two slots instead of three has no slot for a third message that is held, though no loan is out. A
--- release makes one free.
-pub fewer_slots_run_out : (events : List (Event ℕ ℕ)) × (m : Messages ℕ ℕ) × (s : State ℕ ℕ)
-    × Run ample_memory (only_defaults 0 0) no_messages (fresh (domain 1 1 1 1 0 0 false))
-    (CreateSubscriber (Some 1) Warn ∷ CreatePublisher 1 DiscardData Static 1 (Some 2) Warn None ∷ SendCopy 1 1 ∷ Receive 0 ∷ SendCopy 1 2 ∷ LoanUninit 1 ∷
-    SendCopy 1 3 ∷ Release 3 ∷ LoanUninit 1 ∷ [])
-    (SubscriberMade 1 ∷ PublisherMade 2 ∷ Delivered 1 ∷ Sample 2 ∷ Delivered 1 ∷ LoanRefused OutOfMemory ∷ SendRefused (Not_loaned OutOfMemory) ∷ Done ∷
-    Loaned ∷ [])
-    events m s
-    × ((s.warnings).latest ≡ ExpiredBufferRaised 1 ∷ [])
-fewer_slots_run_out = (
-  _ ∷ _ ∷ _ ∷ _ ∷ _ ∷ _ ∷ _ ∷ _ ∷ _ ∷ [],
-  _,
-  _,
-  (
-    0,
-    0,
-    refl,
-    refl,
-    _,
-    (_, None, (_, None, (_, (_, None, None, (refl, refl), (refl, refl), refl), refl), refl), refl),
-    refl,
-    refl,
-    (
-      0,
-      0,
-      refl,
-      refl,
-      _,
-      (_, None, (_, None, (_, (_, None, None, inl (refl, refl), (refl, refl), refl), refl), refl), refl),
-      refl,
-      refl,
-      (
-        0,
-        0,
-        refl,
-        refl,
-        _,
-        (
-          _,
-          None,
-          (_, (refl, refl), refl),
-          (
-            _,
-            Delivered_to 1,
-            (
-              _,
-              None,
-              (refl, refl),
-              (
-                Complete 1 false,
-                _,
-                (Accepted, _, (_, (refl, refl), refl), (refl, refl)),
-                (refl, refl),
-              ),
-            ),
-            refl,
-          ),
-        ),
-        refl,
-        refl,
-        (
-          0,
-          0,
-          refl,
-          refl,
-          _,
-          (
-            _,
-            Got_sample 2 1,
-            (
-              _,
-              None,
-              (
-                _,
-                (
-                  _,
-                  None,
-                  None,
-                  (_, None, None, inl (refl, refl), (refl, refl), refl),
-                  (_, None, None, (refl, refl), (refl, refl), refl),
-                  refl,
-                ),
-                refl,
-              ),
-              ((refl, refl), _, ([], refl, refl), refl),
-            ),
-            refl,
-          ),
-          refl,
-          refl,
-          (
-            0,
-            0,
-            refl,
-            refl,
-            _,
-            (
-              _,
-              None,
-              (_, (refl, refl), refl),
-              (
-                _,
-                Delivered_to 1,
-                (
-                  _,
-                  None,
-                  (refl, refl),
-                  (
-                    Complete 1 false,
-                    _,
-                    (Accepted, _, (_, (refl, refl), refl), (refl, refl)),
-                    (refl, refl),
-                  ),
-                ),
-                refl,
-              ),
-            ),
-            refl,
-            refl,
-            (
-              0,
-              0,
-              refl,
-              refl,
-              _,
-              (_, Some OutOfMemory, (refl, refl), refl),
-              refl,
-              refl,
-              (
-                0,
-                0,
-                refl,
-                refl,
-                _,
-                (_, Some OutOfMemory, (_, (refl, refl), refl), refl),
-                refl,
-                refl,
-                (
-                  0,
-                  0,
-                  refl,
-                  refl,
-                  _,
-                  refl,
-                  refl,
-                  refl,
-                  (
-                    0,
-                    0,
-                    refl,
-                    refl,
-                    _,
-                    (_, None, (refl, refl), refl),
-                    refl,
-                    refl,
-                    (refl, refl),
-                  ),
-                ),
-              ),
-            ),
-          ),
-        ),
-      ),
-    ),
-  ),
-  refl,
-)
 
 -- Memory for a connection is refused to a new subscriber, which is made all the same, and that is counted. Its publisher
 -- connects by the next send, and it receives the message after its own next update.
@@ -360,7 +188,7 @@ pub unconnected_publisher_connects_later : (events : List (Event ℕ ℕ)) × (m
     CreateSubscriber (Some 1) DegradeAndFail ∷ SendCopy 1 2 ∷ Receive 0 ∷ Read 6 0 ∷ [])
     (SubscriberMade 1 ∷ PublisherMade 2 ∷ Delivered 0 ∷ NoSample ∷ SubscriberMade 3 ∷ Delivered 2 ∷ Sample 2 ∷ Cell (Some 2) ∷ [])
     events m s
-    × (s.warnings ≡ record { latest = PublisherPartlyConnected 2 (FailedToEstablishConnection No_memory) ∷ []; refused_connections = 1 })
+    × (s.warnings ≡ record { latest = PublisherPartlyConnected 2 (FailedToEstablishConnection OutOfMemory) ∷ []; refused_connections = 1 })
 unconnected_publisher_connects_later = (
   _ ∷ _ ∷ _ ∷ _ ∷ _ ∷ _ ∷ _ ∷ _ ∷ [],
   _,
@@ -385,12 +213,12 @@ unconnected_publisher_connects_later = (
         None,
         (
           _,
-          Some (FailedToEstablishConnection No_memory),
+          Some (FailedToEstablishConnection OutOfMemory),
           (
             _,
             (
               _,
-              Some (FailedToEstablishConnection No_memory),
+              Some (FailedToEstablishConnection OutOfMemory),
               None,
               inr (
                 refl,

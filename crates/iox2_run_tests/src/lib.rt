@@ -13,6 +13,8 @@ mod comparisons;
 #[cfg(test)]
 mod degradations;
 #[cfg(test)]
+mod departures;
+#[cfg(test)]
 mod handlers;
 #[cfg(test)]
 mod laws;
@@ -24,5 +26,9 @@ mod overrides;
 mod runs;
 #[cfg(test)]
 mod slice_commands;
+#[cfg(test)]
+mod steps;
+#[cfg(test)]
+mod warnings;
 #[cfg(test)]
 mod worst_cases;

@@ -1,11 +1,14 @@
 //! Runs in which a publisher's override says how many slots it has.
 ghost use Rattle.iox2_runs.specs.Supported.{IsSupportedCommand};
 
-use crate::blocked_sends::{check, service};
+use crate::blocked_sends::service;
+use crate::runs::CREATE_SUBSCRIBER;
+use crate::steps::{check, publisher_made, sample_of, subscriber_made};
+use crate::warnings::raised;
 use iox2_runs::{Command, Reply};
 use iox2_store::{
-    AllocationStrategy, BackpressureStrategy, DegradationAction, LoanError, ServiceConfig,
-    TypeVariant, UniquePublisherId,
+    AllocationStrategy, BackpressureStrategy, DegradationAction, LoanError, SendError,
+    ServiceConfig, TypeVariant,
 };
 use std::alloc::Global;
 use std::process::Abort;
@@ -45,14 +48,13 @@ fn check_slots(rt: &impl Abort, alloc: Global, variant: TypeVariant, slots: usiz
         TypeVariant::FixedSize => Command::LoanUninit { of: 0 },
         TypeVariant::Dynamic => Command::LoanSlice { of: 0, len: 2 },
     };
-    let commands = [overridden_publisher(slots), loan, loan, loan];
-    let expected = [
-        Reply::PublisherMade(UniquePublisherId::new(1)),
-        lent(found > 0),
-        lent(found > 1),
-        lent(found > 2),
+    let steps = [
+        (overridden_publisher(slots), publisher_made(1)),
+        (loan, lent(found > 0)),
+        (loan, lent(found > 1)),
+        (loan, lent(found > 2)),
     ];
-    check(rt, alloc, config, &commands, &expected);
+    check(rt, alloc, config, &steps);
 }
 
 #[test]
@@ -68,4 +70,34 @@ fn loans_of_slices_find_as_many_slots_as_the_override_says(rt: HostRuntime) {
     check_slots(&rt, rt.alloc(), TypeVariant::Dynamic, usize::MAX, 3);
     check_slots(&rt, rt.alloc(), TypeVariant::Dynamic, 2, 2);
     check_slots(&rt, rt.alloc(), TypeVariant::Dynamic, 0, 1);
+}
+
+// With two slots there is none for a third message that is held, though no loan is out. A release makes
+// one free.
+#[test]
+fn messages_that_are_held_need_slots_too(rt: HostRuntime) {
+    let config = ServiceConfig {
+        subscriber_max_buffer_size: 1,
+        subscriber_expired_connection_buffer: 0,
+        ..service(1, 0)
+    };
+    let steps = [
+        (CREATE_SUBSCRIBER, subscriber_made(1)),
+        (overridden_publisher(2), publisher_made(2)),
+        (Command::SendCopy { of: 1, value: 1 }, Reply::Delivered(1)),
+        (Command::Receive { of: 0 }, sample_of(2)),
+        (Command::SendCopy { of: 1, value: 2 }, Reply::Delivered(1)),
+        (
+            Command::LoanUninit { of: 1 },
+            Reply::LoanRefused(LoanError::OutOfMemory),
+        ),
+        (
+            Command::SendCopy { of: 1, value: 3 },
+            Reply::SendRefused(SendError::LoanError(LoanError::OutOfMemory)),
+        ),
+        (Command::Release { of: 3 }, Reply::Done),
+        (Command::LoanUninit { of: 1 }, Reply::Loaned),
+    ];
+    let ended = check(&rt, rt.alloc(), config, &steps);
+    assert!(rt; ended.warnings.as_slice() == [raised(1)].as_slice());
 }

@@ -6,12 +6,13 @@ ghost use Rattle.iox2_runs.specs.DomainRuns.{RunsOnDomain};
 ghost use Rattle.iox2_runs.specs.Supported.{IsSupportedCommand};
 ghost use Rattle.iox2_store.specs.machine.State.{State, Messages};
 
+use crate::steps::{check, publisher_made, sample_of, subscriber_made};
 use iox2_fixtures::settings;
 use iox2_pubsub::Domain;
 use iox2_runs::{Command, Reply, run};
 use iox2_store::{
     AllocationStrategy, BackpressureStrategy, DegradationAction, PublisherCreateError,
-    UniquePublisherId, UniqueSubscriberId,
+    UniquePublisherId,
 };
 use std::alloc::Global;
 
@@ -63,34 +64,18 @@ fn replies_without_headers(
 
 #[test]
 fn a_message_goes_from_its_loan_to_its_release(rt: HostRuntime) {
-    let mut domain: Domain<u64, u8> = Domain::new(rt.alloc(), settings()).expect(&rt, "a domain");
-    let commands = [
-        CREATE_SUBSCRIBER,
-        create_publisher(1),
-        Command::LoanUninit { of: 1 },
-        Command::WriteAll { of: 2, value: 5 },
-        Command::Send { of: 2 },
-        Command::Send { of: 2 },
-        Command::Receive { of: 0 },
-        Command::Read { of: 6, at: 0 },
-        Command::Release { of: 6 },
+    let steps = [
+        (CREATE_SUBSCRIBER, subscriber_made(1)),
+        (create_publisher(1), publisher_made(2)),
+        (Command::LoanUninit { of: 1 }, Reply::Loaned),
+        (Command::WriteAll { of: 2, value: 5 }, Reply::Done),
+        (Command::Send { of: 2 }, Reply::Delivered(1)),
+        (Command::Send { of: 2 }, Reply::Skipped),
+        (Command::Receive { of: 0 }, sample_of(2)),
+        (Command::Read { of: 6, at: 0 }, Reply::Cell(Some(5))),
+        (Command::Release { of: 6 }, Reply::Done),
     ];
-    let commands = Vec::from_array(rt.alloc(), commands).expect(&rt, "commands");
-    let outcome = replies_to_numbers(rt.alloc(), &mut domain, commands);
-    drop(domain);
-    let replies = outcome.ok().expect(&rt, "replies");
-    let expected: [Reply<u64, u8>; 9] = [
-        Reply::SubscriberMade(UniqueSubscriberId::new(1)),
-        Reply::PublisherMade(UniquePublisherId::new(2)),
-        Reply::Loaned,
-        Reply::Done,
-        Reply::Delivered(1),
-        Reply::Skipped,
-        Reply::Sample(UniquePublisherId::new(2)),
-        Reply::Cell(Some(5)),
-        Reply::Done,
-    ];
-    assert!(rt; replies.as_slice() == expected.as_slice());
+    check(&rt, rt.alloc(), settings(), &steps);
 }
 
 #[test]
@@ -107,40 +92,21 @@ fn a_command_that_names_nothing_is_skipped(rt: HostRuntime) {
 
 #[test]
 fn calls_beside_the_path_of_a_message_are_carried_out(rt: HostRuntime) {
-    let mut domain: Domain<u64, u8> = Domain::new(rt.alloc(), settings()).expect(&rt, "a domain");
-    let commands = [
-        CREATE_SUBSCRIBER,
-        create_publisher(1),
-        Command::Update { of: 0 },
-        Command::Update { of: 1 },
-        Command::LoanUninit { of: 1 },
-        Command::Discard { of: 4 },
-        Command::Discard { of: 4 },
-        Command::LoanUninit { of: 1 },
-        Command::WriteAll { of: 7, value: 5 },
-        Command::Update { of: 7 },
-        Command::Discard { of: 7 },
-        Command::HasSamples { of: 0 },
+    let steps = [
+        (CREATE_SUBSCRIBER, subscriber_made(1)),
+        (create_publisher(1), publisher_made(2)),
+        (Command::Update { of: 0 }, Reply::Done),
+        (Command::Update { of: 1 }, Reply::Done),
+        (Command::LoanUninit { of: 1 }, Reply::Loaned),
+        (Command::Discard { of: 4 }, Reply::Done),
+        (Command::Discard { of: 4 }, Reply::Skipped),
+        (Command::LoanUninit { of: 1 }, Reply::Loaned),
+        (Command::WriteAll { of: 7, value: 5 }, Reply::Done),
+        (Command::Update { of: 7 }, Reply::Skipped),
+        (Command::Discard { of: 7 }, Reply::Done),
+        (Command::HasSamples { of: 0 }, Reply::Has(false)),
     ];
-    let commands = Vec::from_array(rt.alloc(), commands).expect(&rt, "commands");
-    let outcome = replies_to_numbers(rt.alloc(), &mut domain, commands);
-    drop(domain);
-    let replies = outcome.ok().expect(&rt, "replies");
-    let expected: [Reply<u64, u8>; 12] = [
-        Reply::SubscriberMade(UniqueSubscriberId::new(1)),
-        Reply::PublisherMade(UniquePublisherId::new(2)),
-        Reply::Done,
-        Reply::Done,
-        Reply::Loaned,
-        Reply::Done,
-        Reply::Skipped,
-        Reply::Loaned,
-        Reply::Done,
-        Reply::Skipped,
-        Reply::Done,
-        Reply::Has(false),
-    ];
-    assert!(rt; replies.as_slice() == expected.as_slice());
+    check(&rt, rt.alloc(), settings(), &steps);
 }
 
 // What the first run made still counts.
@@ -165,26 +131,20 @@ fn a_second_run_names_nothing_that_the_first_made(rt: HostRuntime) {
 // The number of publishers counts before their size, and a refused one uses up no id.
 #[test]
 fn too_large_a_publisher_is_refused(rt: HostRuntime) {
-    let mut domain: Domain<u64, u8> = Domain::new(rt.alloc(), settings()).expect(&rt, "a domain");
-    let commands = [
-        create_publisher(1),
-        create_publisher(usize::MAX),
-        Command::Close { of: 0 },
-        create_publisher(usize::MAX),
-        create_publisher(1),
-    ];
-    let commands = Vec::from_array(rt.alloc(), commands).expect(&rt, "commands");
-    let outcome = replies_to_numbers(rt.alloc(), &mut domain, commands);
-    drop(domain);
-    let replies = outcome.ok().expect(&rt, "replies");
     let too_many = PublisherCreateError::ExceedsMaxSupportedPublishers;
     let too_large = PublisherCreateError::UnableToCreateDataSegment;
-    let expected: [Reply<u64, u8>; 5] = [
-        Reply::PublisherMade(UniquePublisherId::new(1)),
-        Reply::PublisherRefused(too_many),
-        Reply::Done,
-        Reply::PublisherRefused(too_large),
-        Reply::PublisherMade(UniquePublisherId::new(2)),
+    let steps = [
+        (create_publisher(1), publisher_made(1)),
+        (
+            create_publisher(usize::MAX),
+            Reply::PublisherRefused(too_many),
+        ),
+        (Command::Close { of: 0 }, Reply::Done),
+        (
+            create_publisher(usize::MAX),
+            Reply::PublisherRefused(too_large),
+        ),
+        (create_publisher(1), publisher_made(2)),
     ];
-    assert!(rt; replies.as_slice() == expected.as_slice());
+    check(&rt, rt.alloc(), settings(), &steps);
 }

@@ -1,11 +1,12 @@
 //! Runs in which messages are slices.
 use crate::runs::{CREATE_SUBSCRIBER, create_publisher, replies_to_numbers};
+use crate::steps::{check, publisher_made, sample_of, set_payload, subscriber_made, write_cell};
 use iox2_fixtures::settings;
 use iox2_pubsub::Domain;
 use iox2_runs::{Command, Reply};
 use iox2_store::{
     AllocationStrategy, BackpressureStrategy, DegradationAction, Header, LoanError, ServiceConfig,
-    TypeVariant, UniqueNodeId, UniquePublisherId, UniqueSubscriberId,
+    TypeVariant, UniqueNodeId, UniquePublisherId,
 };
 
 // The command that makes a publisher with one loan, of three elements at most.
@@ -33,112 +34,53 @@ fn a_slice_is_written_cell_by_cell(rt: HostRuntime) {
         node_id: 9,
         ..slice_settings()
     };
-    let mut domain: Domain<u64, u8> = Domain::new(rt.alloc(), config).expect(&rt, "a domain");
-    let commands = [
-        PUBLISHER_OF_THREE,
-        Command::LoanSlice { of: 0, len: 2 },
-        Command::WriteCell {
-            of: 1,
-            at: 1,
-            value: 8,
-        },
-        Command::AssumeInit { of: 1 },
-        Command::WriteCell {
-            of: 1,
-            at: 0,
-            value: 7,
-        },
-        Command::WriteCell {
-            of: 1,
-            at: 2,
-            value: 6,
-        },
-        Command::AssumeInit { of: 1 },
-        Command::Read { of: 1, at: 1 },
-        Command::ReadHeader { of: 1 },
-        Command::LoanSlice { of: 0, len: 4 },
-        Command::Send { of: 1 },
-        Command::Send { of: 1 },
-    ];
-    let commands = Vec::from_array(rt.alloc(), commands).expect(&rt, "commands");
-    let outcome = replies_to_numbers(rt.alloc(), &mut domain, commands);
-    drop(domain);
-    let replies = outcome.ok().expect(&rt, "replies");
     let header = Header {
         node_id: UniqueNodeId::new(9),
         publisher_id: UniquePublisherId::new(1),
         number_of_elements: 2,
     };
-    let expected: [Reply<u64, u8>; 12] = [
-        Reply::PublisherMade(UniquePublisherId::new(1)),
-        Reply::Loaned,
-        Reply::Done,
-        Reply::Unwritten,
-        Reply::Done,
-        Reply::Skipped,
-        Reply::Done,
-        Reply::Cell(Some(8)),
-        Reply::Header(header),
-        Reply::LoanRefused(LoanError::ExceedsMaxLoanSize),
-        Reply::Delivered(0),
-        Reply::Skipped,
+    let steps = [
+        (PUBLISHER_OF_THREE, publisher_made(1)),
+        (Command::LoanSlice { of: 0, len: 2 }, Reply::Loaned),
+        (write_cell(1, 1, 8), Reply::Done),
+        (Command::AssumeInit { of: 1 }, Reply::Unwritten),
+        (write_cell(1, 0, 7), Reply::Done),
+        (write_cell(1, 2, 6), Reply::Skipped),
+        (Command::AssumeInit { of: 1 }, Reply::Done),
+        (Command::Read { of: 1, at: 1 }, Reply::Cell(Some(8))),
+        (Command::ReadHeader { of: 1 }, Reply::Header(header)),
+        (
+            Command::LoanSlice { of: 0, len: 4 },
+            Reply::LoanRefused(LoanError::ExceedsMaxLoanSize),
+        ),
+        (Command::Send { of: 1 }, Reply::Delivered(0)),
+        (Command::Send { of: 1 }, Reply::Skipped),
     ];
-    assert!(rt; replies.as_slice() == expected.as_slice());
+    check(&rt, rt.alloc(), config, &steps);
 }
 
 #[test]
 fn a_slice_is_received_as_it_was_sent(rt: HostRuntime) {
     let config = slice_settings();
-    let mut domain: Domain<u64, u8> = Domain::new(rt.alloc(), config).expect(&rt, "a domain");
-    let commands = [
-        CREATE_SUBSCRIBER,
-        PUBLISHER_OF_THREE,
-        Command::LoanSlice { of: 1, len: 3 },
-        Command::WriteAll { of: 2, value: 6 },
-        Command::SetPayload {
-            of: 2,
-            at: 2,
-            value: 9,
-        },
-        Command::SetPayload {
-            of: 2,
-            at: 3,
-            value: 9,
-        },
-        Command::Send { of: 2 },
-        Command::Receive { of: 0 },
-        Command::Read { of: 7, at: 0 },
-        Command::Read { of: 7, at: 2 },
-        Command::Read { of: 7, at: 3 },
-        Command::Release { of: 7 },
-        Command::LoanSlice { of: 1, len: 0 },
-        Command::Read { of: 12, at: 0 },
-        Command::AssumeInit { of: 12 },
-        Command::Send { of: 12 },
+    let steps = [
+        (CREATE_SUBSCRIBER, subscriber_made(1)),
+        (PUBLISHER_OF_THREE, publisher_made(2)),
+        (Command::LoanSlice { of: 1, len: 3 }, Reply::Loaned),
+        (Command::WriteAll { of: 2, value: 6 }, Reply::Done),
+        (set_payload(2, 2, 9), Reply::Done),
+        (set_payload(2, 3, 9), Reply::Skipped),
+        (Command::Send { of: 2 }, Reply::Delivered(1)),
+        (Command::Receive { of: 0 }, sample_of(2)),
+        (Command::Read { of: 7, at: 0 }, Reply::Cell(Some(6))),
+        (Command::Read { of: 7, at: 2 }, Reply::Cell(Some(9))),
+        (Command::Read { of: 7, at: 3 }, Reply::Skipped),
+        (Command::Release { of: 7 }, Reply::Done),
+        (Command::LoanSlice { of: 1, len: 0 }, Reply::Loaned),
+        (Command::Read { of: 12, at: 0 }, Reply::Skipped),
+        (Command::AssumeInit { of: 12 }, Reply::Done),
+        (Command::Send { of: 12 }, Reply::Delivered(1)),
     ];
-    let commands = Vec::from_array(rt.alloc(), commands).expect(&rt, "commands");
-    let outcome = replies_to_numbers(rt.alloc(), &mut domain, commands);
-    drop(domain);
-    let replies = outcome.ok().expect(&rt, "replies");
-    let expected: [Reply<u64, u8>; 16] = [
-        Reply::SubscriberMade(UniqueSubscriberId::new(1)),
-        Reply::PublisherMade(UniquePublisherId::new(2)),
-        Reply::Loaned,
-        Reply::Done,
-        Reply::Done,
-        Reply::Skipped,
-        Reply::Delivered(1),
-        Reply::Sample(UniquePublisherId::new(2)),
-        Reply::Cell(Some(6)),
-        Reply::Cell(Some(9)),
-        Reply::Skipped,
-        Reply::Done,
-        Reply::Loaned,
-        Reply::Skipped,
-        Reply::Done,
-        Reply::Delivered(1),
-    ];
-    assert!(rt; replies.as_slice() == expected.as_slice());
+    check(&rt, rt.alloc(), config, &steps);
 }
 
 // With all loans out a slice that is too long is refused for its length, and any other for the number of
@@ -146,41 +88,30 @@ fn a_slice_is_received_as_it_was_sent(rt: HostRuntime) {
 #[test]
 fn the_length_counts_before_the_number_of_loans(rt: HostRuntime) {
     let config = slice_settings();
-    let mut domain: Domain<u64, u8> = Domain::new(rt.alloc(), config).expect(&rt, "a domain");
-    let commands = [
-        PUBLISHER_OF_THREE,
-        Command::LoanSlice { of: 0, len: 3 },
-        Command::LoanSlice { of: 0, len: 4 },
-        Command::LoanSlice { of: 0, len: 3 },
-        Command::Discard { of: 1 },
-        Command::LoanSlice { of: 0, len: 0 },
-        Command::ReadHeader { of: 5 },
-        Command::Read { of: 5, at: 0 },
-        Command::AssumeInit { of: 5 },
-        Command::Send { of: 5 },
-    ];
-    let commands = Vec::from_array(rt.alloc(), commands).expect(&rt, "commands");
-    let outcome = replies_to_numbers(rt.alloc(), &mut domain, commands);
-    drop(domain);
-    let replies = outcome.ok().expect(&rt, "replies");
     let header = Header {
         node_id: UniqueNodeId::new(3),
         publisher_id: UniquePublisherId::new(1),
         number_of_elements: 0,
     };
-    let expected: [Reply<u64, u8>; 10] = [
-        Reply::PublisherMade(UniquePublisherId::new(1)),
-        Reply::Loaned,
-        Reply::LoanRefused(LoanError::ExceedsMaxLoanSize),
-        Reply::LoanRefused(LoanError::ExceedsMaxLoans),
-        Reply::Done,
-        Reply::Loaned,
-        Reply::Header(header),
-        Reply::Skipped,
-        Reply::Done,
-        Reply::Delivered(0),
+    let steps = [
+        (PUBLISHER_OF_THREE, publisher_made(1)),
+        (Command::LoanSlice { of: 0, len: 3 }, Reply::Loaned),
+        (
+            Command::LoanSlice { of: 0, len: 4 },
+            Reply::LoanRefused(LoanError::ExceedsMaxLoanSize),
+        ),
+        (
+            Command::LoanSlice { of: 0, len: 3 },
+            Reply::LoanRefused(LoanError::ExceedsMaxLoans),
+        ),
+        (Command::Discard { of: 1 }, Reply::Done),
+        (Command::LoanSlice { of: 0, len: 0 }, Reply::Loaned),
+        (Command::ReadHeader { of: 5 }, Reply::Header(header)),
+        (Command::Read { of: 5, at: 0 }, Reply::Skipped),
+        (Command::AssumeInit { of: 5 }, Reply::Done),
+        (Command::Send { of: 5 }, Reply::Delivered(0)),
     ];
-    assert!(rt; replies.as_slice() == expected.as_slice());
+    check(&rt, rt.alloc(), config, &steps);
 }
 
 #[test]

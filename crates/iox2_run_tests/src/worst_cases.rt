@@ -3,7 +3,7 @@ use iox2_pubsub::Domain;
 use iox2_runs::{Command, Reply, filling_is_supported, run, worst_case_commands};
 use iox2_store::{
     AllocationStrategy, BackpressureStrategy, DegradationAction, LoanError, ServiceConfig,
-    TypeVariant, worst_case_slots,
+    TypeVariant, UniquePublisherId, UniqueSubscriberId, worst_case_slots,
 };
 use std::alloc::Global;
 use std::process::Abort;
@@ -290,4 +290,69 @@ fn the_last_loan_of_a_list_needs_the_last_slot(rt: HostRuntime) {
     assert_slots_are_needed(&rt, rt.alloc(), &two_subscribers, 8);
     assert_slots_are_needed(&rt, rt.alloc(), &nothing_borrowed, 3);
     assert_slots_are_needed(&rt, rt.alloc(), &smallest(), 3);
+}
+
+// One subscriber with a buffer of one, which may borrow one message; a history of one.
+fn smallest_with_history() -> ServiceConfig {
+    ServiceConfig {
+        history_size: 1,
+        ..smallest()
+    }
+}
+
+const NO_SLOT: Reply<u64, u8> = Reply::LoanRefused(LoanError::OutOfMemory);
+
+// What it replies to its list. One message is borrowed, one waits, one stands in the history, and the
+// last loan takes the fourth slot.
+fn replies_with_four_slots() -> [Reply<u64, u8>; 14] {
+    [
+        Reply::PublisherMade(UniquePublisherId::new(1)),
+        Reply::SubscriberMade(UniqueSubscriberId::new(2)),
+        Reply::Done,
+        Reply::Loaned,
+        Reply::Done,
+        Reply::Delivered(1),
+        Reply::Sample(UniquePublisherId::new(1)),
+        Reply::Loaned,
+        Reply::Done,
+        Reply::Delivered(1),
+        Reply::Loaned,
+        Reply::Done,
+        Reply::Delivered(0),
+        Reply::Loaned,
+    ]
+}
+
+#[test]
+fn a_list_is_granted_with_four_slots(rt: HostRuntime) {
+    let config = smallest_with_history();
+    let replies = replies_to_list(rt.alloc(), &config, 1, None).expect(&rt, "replies");
+    assert_eq!(rt; worst_case_slots(&config, 1), Some(4));
+    assert!(rt; replies.as_slice() == replies_with_four_slots().as_slice());
+}
+
+// Though no other loan is out.
+#[test]
+fn with_three_slots_its_last_loan_is_refused(rt: HostRuntime) {
+    let config = smallest_with_history();
+    let replies = replies_to_list(rt.alloc(), &config, 1, Some(3)).expect(&rt, "replies");
+    let mut expected = replies_with_four_slots();
+    expected[13] = NO_SLOT;
+    assert!(rt; replies.as_slice() == expected.as_slice());
+}
+
+// The second loan and each later one is refused, and what was to be done with it is skipped.
+#[test]
+fn an_override_of_zero_gives_a_list_one_slot(rt: HostRuntime) {
+    let config = smallest_with_history();
+    let replies = replies_to_list(rt.alloc(), &config, 1, Some(0)).expect(&rt, "replies");
+    let mut expected = replies_with_four_slots();
+    expected[7] = NO_SLOT;
+    expected[8] = Reply::Skipped;
+    expected[9] = Reply::Skipped;
+    expected[10] = NO_SLOT;
+    expected[11] = Reply::Skipped;
+    expected[12] = Reply::Skipped;
+    expected[13] = NO_SLOT;
+    assert!(rt; replies.as_slice() == expected.as_slice());
 }

@@ -12,4 +12,3 @@ pub mod FillingSteps
 pub mod FillingAll
 pub mod FillingLaws
 pub mod FillingLists
-pub mod WorkedRunsOfFilling

@@ -1,0 +1,93 @@
+//! Runs as lists of steps: each command beside the reply that it has to get.
+ghost use Rattle.std.specs.Prelude.{IfOk};
+ghost use Rattle.std.specs.List.{All};
+ghost use Rattle.iox2_runs.specs.Supported.{IsSupportedCommand};
+
+use crate::runs::replies_to_numbers;
+use iox2_pubsub::{Domain, Warning};
+use iox2_runs::{Command, Reply};
+use iox2_store::{ServiceConfig, UniquePublisherId, UniqueSubscriberId};
+use std::alloc::{AllocError, Global};
+use std::process::Abort;
+use std::time::Duration;
+
+/// A command, and the reply that it has to get.
+pub(crate) type Step = (Command<u64, u8>, Reply<u64, u8>);
+
+/// What a domain tells after a run.
+#[derive(Drop)]
+pub(crate) struct Ended {
+    /// What it warns of, oldest first.
+    pub(crate) warnings: Vec<Warning>,
+    /// How many connections and books it keeps.
+    pub(crate) kept: [usize; 2],
+}
+
+/// The commands of a run on a new domain get their replies.
+pub(crate) fn check(rt: &impl Abort, alloc: Global, config: ServiceConfig, steps: &[Step]) -> Ended
+    requires { All (λ step. IsSupportedCommand step.0) steps.now }
+{
+    let mut domain: Domain<u64, u8> = Domain::new(alloc, config).expect(rt, "a domain");
+    let commands = commands_of(alloc, steps).expect(rt, "commands");
+    let outcome = replies_to_numbers(alloc, &mut domain, commands);
+    let warnings = domain.warnings().to_vec(alloc);
+    let kept = [domain.connection_count(), domain.book_count()];
+    drop(domain);
+    let replies = outcome.ok().expect(rt, "replies");
+    assert_eq!(rt; replies.len(), steps.len());
+    for (reply, (_, expected)) in replies.iter().zip(steps) {
+        assert!(rt; reply == expected, "{replies:?}");
+    }
+    let warnings = warnings.expect(rt, "warnings");
+    Ended { warnings, kept }
+}
+
+fn commands_of(alloc: Global, steps: &[Step]) -> Result<Vec<Command<u64, u8>>, AllocError>
+    requires { All (λ step. IsSupportedCommand step.0) steps.now }
+    ensures { IfOk result (λ commands. All IsSupportedCommand commands.items) }
+{
+    let mut commands = Vec::new(alloc);
+    for (command, _) in steps {
+        commands.push(*command)?;
+    }
+    Ok(commands)
+}
+
+/// The command that tries a blocked send again, so many milliseconds after it was blocked.
+pub(crate) fn retry(of: usize, millis: u64) -> Command<u64, u8>
+    ensures { IsSupportedCommand result }
+{
+    Command::Retry {
+        of,
+        elapsed: Duration::from_millis(millis),
+    }
+}
+
+/// The command that writes a cell of an unwritten loan.
+pub(crate) fn write_cell(of: usize, at: usize, value: u64) -> Command<u64, u8>
+    ensures { IsSupportedCommand result }
+{
+    Command::WriteCell { of, at, value }
+}
+
+/// The command that changes a value of a written loan.
+pub(crate) fn set_payload(of: usize, at: usize, value: u64) -> Command<u64, u8>
+    ensures { IsSupportedCommand result }
+{
+    Command::SetPayload { of, at, value }
+}
+
+/// The reply that a subscriber was made.
+pub(crate) fn subscriber_made(id: u128) -> Reply<u64, u8> {
+    Reply::SubscriberMade(UniqueSubscriberId::new(id))
+}
+
+/// The reply that a publisher was made.
+pub(crate) fn publisher_made(id: u128) -> Reply<u64, u8> {
+    Reply::PublisherMade(UniquePublisherId::new(id))
+}
+
+/// The reply that a sample of this publisher was received.
+pub(crate) fn sample_of(publisher: u128) -> Reply<u64, u8> {
+    Reply::Sample(UniquePublisherId::new(publisher))
+}
