@@ -39,11 +39,7 @@ pub(crate) fn reclaim_if_full(
 // A publisher reclaims every slot of its book that was given back in its connections.
 #[cold]
 #[inline(never)]
-fn reclaim_into(
-    publisher: &PublisherState,
-    connections: &mut Slab<Connection>,
-    book: &mut SlotBook,
-)
+fn reclaim_into(publisher: &PublisherState, connections: &mut Slab<Connection>, book: &mut SlotBook)
     requires linked { IsSenderLinked publisher.now.id connections.old publisher.now.keys }
     requires apart { IsApart connections.old }
     requires covered { IsCovered publisher.now.id book.old.holders connections.old.slots }
