@@ -1,2 +1,2 @@
-mod FullBooks
+mod LoanPass
 pub mod SentEnds

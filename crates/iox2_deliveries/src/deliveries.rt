@@ -9,7 +9,7 @@ ghost use Rattle.iox2_domain.specs.Boxes.{answers_of};
 ghost use Rattle.iox2_domain.specs.Handlers.{AsksFor};
 ghost use Rattle.iox2_domain.specs.Ports.{PublisherFields};
 ghost use Rattle.iox2_domain.specs.Invariant.{IsDomain};
-ghost use Rattle.iox2_domain.specs.Deliveries.{CanSend, SendsSlot, with_delivered, with_history_holder, pushed, leaving, result_of_send, with_left, with_sent};
+ghost use Rattle.iox2_domain.specs.Deliveries.{CanSend, SendsSlot, sender_after, book_after, with_history_holder, pushed, leaving, result_of_send, with_left, with_sent};
 ghost use Rattle.iox2_ends.specs.declared.sender.DeliveryOutcome.{DeliveryOutcome};
 ghost use Rattle.iox2_deliveries.specs.SendEnds.{IsKept, end_result};
 
@@ -19,30 +19,6 @@ use iox2_ends::sender::{Delivery, DeliveryOutcome, Progress, deliver};
 use iox2_slots::{SlotBook, SlotMark};
 use iox2_store::{BackpressureFn, BackpressureHandler, DegradationFn};
 use std::time::Duration;
-
-// The loan in a slot that was delivered is out no more, or its publisher waits for a receiver, and
-// there is one holder more for the history that is to have it.
-#[inline(always)]
-fn conclude(
-    publisher: &mut PublisherState,
-    book: &mut SlotBook,
-    slot: usize,
-    outcome: DeliveryOutcome,
-)
-    requires once { times slot publisher.old.loans ≤ 1 }
-    requires in_use { IsInUse book.old slot }
-    requires fits { holders_at book.old slot + 1 < 2 ^ 64 }
-    ensures publisher { publisher.new ≡ with_delivered outcome slot publisher.old }
-    ensures book { book.new ≡ with_history_holder outcome slot book.old }
-{
-    match outcome {
-        DeliveryOutcome::Complete { .. } => publisher.remove_loan(slot),
-        DeliveryOutcome::Suspended(progress) => {
-            book.hold(slot);
-            publisher.blocked = Some(BlockedDelivery { slot, progress });
-        }
-    }
-}
 
 // The message in a slot is sent, and stands last in the history. What leaves the history for it has
 // one holder less.
@@ -56,6 +32,44 @@ fn remember(publisher: &mut PublisherState, book: &mut SlotBook, slot: usize)
     book.set_mark(slot, SlotMark::Sent);
     if let Some(oldest) = publisher.history.push_back(slot) {
         book.release(oldest);
+    }
+}
+
+// The loan in a slot was delivered, and its message enters the history. Either it is out no more, or its
+// publisher waits for a receiver, and there is one holder more for the history. Each of the two says how
+// the send ended, so that nothing is asked again behind them.
+#[inline(always)]
+fn conclude(
+    publisher: &mut PublisherState,
+    book: &mut SlotBook,
+    slot: usize,
+    outcome: DeliveryOutcome,
+) -> SendEnd
+    requires once { times slot publisher.old.loans ≤ 1 }
+    requires in_use { IsInUse book.old slot }
+    requires fits { holders_at book.old slot + 1 < 2 ^ 64 }
+    requires leaves { (oldest : ℕ) → leaving publisher.old.history slot ≡ Some oldest → IsInUse (with_history_holder outcome slot book.old) oldest }
+    ensures publisher { publisher.new ≡ sender_after outcome slot publisher.old }
+    ensures book { book.new ≡ book_after outcome slot publisher.old book.old }
+    ensures same { end_result result ≡ result_of_send outcome }
+    ensures kept { IsKept result }
+{
+    match outcome {
+        DeliveryOutcome::Complete { count, has_failed } => {
+            publisher.remove_loan(slot);
+            remember(publisher, book, slot);
+            if has_failed {
+                SendEnd::Undelivered
+            } else {
+                SendEnd::Delivered(count)
+            }
+        }
+        DeliveryOutcome::Suspended(progress) => {
+            book.hold(slot);
+            publisher.blocked = Some(BlockedDelivery { slot, progress });
+            remember(publisher, book, slot);
+            SendEnd::Blocked
+        }
     }
 }
 
@@ -95,11 +109,13 @@ fn send_slot<T: Drop, U: Default + Drop, X: BackpressureFn>(
     place: usize,
     slot: usize,
     handler: &Option<BackpressureHandler<X>>,
-) -> DeliveryOutcome
+) -> SendEnd
     requires agrees { IsDomain state.old }
     requires can { (x : PublisherFields) × (slice_index_or state.old.publishers place None ≡ Some x) × CanSend state.old x slot }
     requires handler { (x : PublisherFields) → slice_index_or state.old.publishers place None ≡ Some x → marks_of handler.now ≡ x.backpressure_handler }
-    ensures { (x : PublisherFields) → slice_index_or state.old.publishers place None ≡ Some x → SendsSlot (asked X.allows handler.now) state.old place x slot result state.new }
+    ensures sends { (outcome : DeliveryOutcome) × (end_result result ≡ result_of_send outcome)
+        × ((x : PublisherFields) → slice_index_or state.old.publishers place None ≡ Some x → SendsSlot (asked X.allows handler.now) state.old place x slot outcome state.new) }
+    ensures kept { IsKept result }
 {
     let Some(publisher) = &mut state.publishers[place] else {
         unreachable!();
@@ -121,9 +137,7 @@ fn send_slot<T: Drop, U: Default + Drop, X: BackpressureFn>(
         &publisher.keys,
         &state.subscribers,
     );
-    conclude(publisher, book, slot, outcome);
-    remember(publisher, book, slot);
-    outcome
+    conclude(publisher, book, slot, outcome)
 }
 
 // Sends the loan in a slot of the publisher at a place, whatever answers for it at a full buffer.
@@ -141,7 +155,7 @@ fn send_by_handler<T: Drop, U: Default + Drop, F: BackpressureFn, G: Degradation
     ensures kept { IsKept result }
 {
     let handler = handler_at(state, boxes, place);
-    SendEnd::of(send_slot(state, place, slot, &handler))
+    send_slot(state, place, slot, &handler)
 }
 
 /// Delivers the loan in a slot of the publisher at a place, which has no handler. Where it reached
@@ -160,7 +174,7 @@ pub fn send_unasked<T: Drop, U: Default + Drop>(
         × ((x : PublisherFields) → slice_index_or state.old.publishers place None ≡ Some x → SendsSlot fixed_handlers state.old place x slot outcome state.new) }
     ensures kept { IsKept result }
 {
-    SendEnd::of(send_slot(state, place, slot, &None::<BackpressureHandler>))
+    send_slot(state, place, slot, &None::<BackpressureHandler>)
 }
 
 /// The same, whether the publisher has a handler or not. A box is among these boxes.

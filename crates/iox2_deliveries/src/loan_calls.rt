@@ -16,7 +16,7 @@ use iox2_domain::{DomainState, LoanAt, MessageSlot};
 use iox2_store::{Header, UniquePublisherId};
 
 /// Writes the value of a publisher's unwritten loan of one element, which counts as written from
-/// then on. Returns the loan with its book and the slot in which it lies.
+/// then on. Returns the loan.
 pub fn write_loan<T: Drop, U: Default + Drop>(
     state: &mut DomainState<T, U>,
     loan: LoanAt,
@@ -27,8 +27,7 @@ pub fn write_loan<T: Drop, U: Default + Drop>(
     requires single { (state.old.config).units_per_element ≡ 1 }
     requires live { HoldsUnwritten (state_of (kept_of state.old)) loan.publisher loan.number }
     ensures writes { WritesLoan state.old state.new loan.number (value ∷ []) }
-    ensures same { result ≡ record loan { book = result.book; slot = result.slot } }
-    ensures lies { LiesInSlot state.old loan.publisher loan.number result.book result.slot }
+    ensures same { result ≡ loan }
 {
     if state.is_loan_at_hint(&loan) {
         write_slot(
@@ -39,30 +38,28 @@ pub fn write_loan<T: Drop, U: Default + Drop>(
             loan.slot,
             value,
         );
-        return loan;
+    } else {
+        search_and_write(state, loan.publisher, loan.number, value);
     }
-    let at = search_and_write(state, loan.publisher, loan.number, value);
-    found(loan, at)
+    loan
 }
 
-// The same, wherever the loan lies, of which this says where.
+// The same, wherever the loan lies.
 #[inline(never)]
 fn search_and_write<T: Drop, U: Default + Drop>(
     state: &mut DomainState<T, U>,
     publisher: UniquePublisherId,
     number: u128,
     value: T,
-) -> MessageSlot
+)
     requires agrees { IsDomain state.old }
     requires fixed_size { (state.old.config).variant ≡ FixedSize }
     requires single { (state.old.config).units_per_element ≡ 1 }
     requires live { HoldsUnwritten (state_of (kept_of state.old)) publisher number }
-    ensures writes { WritesLoan state.old state.new number (value ∷ []) }
-    ensures lies { LiesInSlot state.old publisher number result.book result.slot }
+    ensures { WritesLoan state.old state.new number (value ∷ []) }
 {
     let at = state.search_loan(publisher, number);
     write_slot(state, publisher, number, at.book, at.slot, value);
-    at
 }
 
 // The same of a loan that lies in this slot of this book.

@@ -3,15 +3,17 @@ ghost use Rattle.std.specs.Prelude.{◌≡◌, ◌≤◌, ◌&&◌, nat_lt, fals
 ghost use Rattle.iox2_store.specs.machine.Loans.{is_static};
 ghost use Rattle.iox2_store.specs.declared.service_config.TypeVariant.TheVariants.{FixedSize};
 ghost use Rattle.iox2_contents.specs.SlotContents.{SomeAt};
-ghost use Rattle.iox2_domain.specs.Lending.{Starts, CanGrant, IsReclaimedIfFull, LoanDecided, IsNamed, Lends, LoanReaches};
+ghost use Rattle.iox2_domain.specs.Lending.{Starts, IsNamed, LoanReaches, header_for};
 ghost use Rattle.iox2_domain.specs.LoanSlots.{LiesInSlot};
 ghost use Rattle.iox2_domain.specs.Ports.{PublisherFields};
 ghost use Rattle.iox2_domain.specs.Invariant.{IsDomain};
 
-use crate::reclaims::{is_full_at, reclaim_if_full};
+use crate::reclaims::reclaim_if_full;
 use iox2_contents::Contents;
 use iox2_domain::{DomainState, LoanAt, PublisherState, units_of};
-use iox2_store::{AllocationStrategy, Header, LoanError, UniqueNodeId};
+use iox2_store::{
+    AllocationStrategy, Header, LoanError, ServiceConfig, UniqueNodeId, UniquePublisherId,
+};
 
 // In the slot starts a loan of that length.
 fn start<T: Drop, U: Default + Drop>(contents: &mut Option<Contents<T, U>>, slot: usize, len: usize)
@@ -48,82 +50,28 @@ pub fn loan<T: Drop, U: Default + Drop>(
     ensures lies { IfOk result (λ loan. LiesInSlot state.new loan.publisher loan.number loan.book loan.slot) }
     ensures placed { IfOk result (λ loan. loan.place ≡ place) }
 {
-    reclaim_if_full(state, place);
-    if let Some(refusal) = loan_refusal(state, place, checks_length, len) {
-        return Err(refusal);
-    }
-    Ok(grant(state, place, checks_length, len))
-}
-
-// The length counts, and is more than the publisher lends.
-fn is_too_long(publisher: &PublisherState, checks_length: bool, len: usize) -> bool
-    ensures { result ≡ (checks_length && is_static (publisher.now).allocation && nat_lt (publisher.now).initial_max_slice_len len) }
-{
-    match publisher.allocation {
-        AllocationStrategy::Static => checks_length && publisher.initial_max_slice_len < len,
-        _ => false,
-    }
-}
-
-// Why the publisher at a place may lend no slot, if it may not. Nothing is written.
-fn loan_refusal<T: Drop, U: Default + Drop>(
-    state: &mut DomainState<T, U>,
-    place: usize,
-    checks_length: bool,
-    len: usize,
-) -> Option<LoanError>
-    requires agrees { IsDomain state.old }
-    requires stands { (x : PublisherFields) × (slice_index_or state.old.publishers place None ≡ Some x) }
-    requires reclaimed { IsReclaimedIfFull state.old place }
-    ensures decided { LoanDecided state.old checks_length len place result }
-    ensures same { state.new ≡ state.old }
-{
-    let Some(publisher) = &state.publishers[place] else {
-        unreachable!();
-    };
-    if is_too_long(publisher, checks_length, len) {
-        return Some(LoanError::ExceedsMaxLoanSize);
-    }
-    if publisher.loans.len() >= publisher.max_loaned_samples {
-        return Some(LoanError::ExceedsMaxLoans);
-    }
-    if is_full_at(state, place) {
-        return Some(LoanError::OutOfMemory);
-    }
-    if state.next_message == u128::MAX {
-        return Some(LoanError::InternalFailure);
-    }
-    None
-}
-
-// The publisher at a place lends a slot that is free, for the next message.
-#[inline(always)]
-fn grant<T: Drop, U: Default + Drop>(
-    state: &mut DomainState<T, U>,
-    place: usize,
-    checks_length: bool,
-    len: usize,
-) -> LoanAt
-    requires agrees { IsDomain state.old }
-    requires unchecked { checks_length ≡ false → (state.old.config).variant ≡ FixedSize }
-    requires single { (state.old.config).variant ≡ FixedSize → len ≡ 1 }
-    requires can { CanGrant state.old checks_length len place }
-    ensures named { IsSomeAnd (slice_index_or state.old.publishers place None) (λ x. IsNamed state.old x result) }
-    ensures lends { IsSomeAnd (slice_index_or state.old.publishers place None) (λ x. Lends U.is_default state.old place x result.slot len state.new) }
-    ensures placed { result.place ≡ place }
-{
     let Some(publisher) = &mut state.publishers[place] else {
         unreachable!();
     };
-    let publisher_id = publisher.id;
     let key = publisher.book;
+    let book = &mut state.books[key];
+    reclaim_if_full(publisher, &mut state.connections, book);
+    if is_too_long(publisher, checks_length, len) {
+        return Err(LoanError::ExceedsMaxLoanSize);
+    }
+    if publisher.loans.len() >= publisher.max_loaned_samples {
+        return Err(LoanError::ExceedsMaxLoans);
+    }
+    if book.is_full() {
+        return Err(LoanError::OutOfMemory);
+    }
+    if state.next_message == u128::MAX {
+        return Err(LoanError::InternalFailure);
+    }
+    let publisher_id = publisher.id;
     let number = state.next_message;
-    let header = Header {
-        node_id: UniqueNodeId::new(state.config.node_id),
-        publisher_id,
-        number_of_elements: len as u64,
-    };
-    let Some(slot) = state.books[key].take(number, header) else {
+    let header = header_for(&state.config, publisher_id, len);
+    let Some(slot) = book.take(number, header) else {
         unreachable!();
     };
     state.next_message += 1;
@@ -133,11 +81,32 @@ fn grant<T: Drop, U: Default + Drop>(
         units_of(len, state.config.units_per_element),
     );
     publisher.lend(slot, len);
-    LoanAt {
+    Ok(LoanAt {
         publisher: publisher_id,
         number,
         place,
         book: key,
         slot,
+    })
+}
+
+// The header of a publisher's message of so many elements.
+fn header_for(config: &ServiceConfig, publisher_id: UniquePublisherId, len: usize) -> Header
+    ensures { result ≡ header_for config.now publisher_id len }
+{
+    Header {
+        node_id: UniqueNodeId::new(config.node_id),
+        publisher_id,
+        number_of_elements: len as u64,
+    }
+}
+
+// The length counts, and is more than the publisher lends.
+fn is_too_long(publisher: &PublisherState, checks_length: bool, len: usize) -> bool
+    ensures { result ≡ (checks_length && is_static (publisher.now).allocation && nat_lt (publisher.now).initial_max_slice_len len) }
+{
+    match publisher.allocation {
+        AllocationStrategy::Static => checks_length && publisher.initial_max_slice_len < len,
+        _ => false,
     }
 }

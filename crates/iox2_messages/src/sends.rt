@@ -22,12 +22,16 @@ fn is_ready<T: Drop, U: Default + Drop>(state: &DomainState<T, U>, loan: &LoanAt
     requires live { HoldsWritten (state_of (kept_of state.now)) loan.now.publisher loan.now.number }
     ensures { IsTrue result → IsReadyToSend fixed_handlers state.now state.now loan.now.publisher loan.now.number loan.now.place loan.now.slot }
 {
-    match state.publishers.get(loan.place) {
-        Some(Some(publisher)) => {
-            !publisher.is_due && publisher.book == loan.book && state.is_loan_at_hint(loan)
-        }
-        _ => false,
+    let Some(Some(publisher)) = state.publishers.get(loan.place) else {
+        return false;
+    };
+    if publisher.is_due {
+        return false;
     }
+    if publisher.book != loan.book {
+        return false;
+    }
+    state.is_loan_at_hint(loan)
 }
 
 // Where a loan may be sent: the place of its publisher, which is due for no update, and its slot.

@@ -7,11 +7,11 @@ use Rattle.iox2_deliveries.proofs.deliveries.send_by_handler.Goals as goal
 
 pub returns-clause-sends : goal.returns-clause-sends
 returns-clause-sends g c = (
-  c.send_slot.result,
-  c.of.ensures.same,
+  c.send_slot.ensures.sends.0,
+  c.send_slot.ensures.sends.1,
   λ x at.
-      sends-alike (asked (Asked g.F.BackpressureFn.allows) c.handler_at-handler.result) (answers_of g.F.BackpressureFn.allows g.G.DegradationFn.allows c.args.boxes.now.boxes) c.args.state.now c.args.place x c.send_slot.result c.send_slot.new.state
+      sends-alike (asked (Asked g.F.BackpressureFn.allows) c.handler_at-handler.result) (answers_of g.F.BackpressureFn.allows g.G.DegradationFn.allows c.args.boxes.now.boxes) c.args.state.now c.args.place x c.send_slot.ensures.sends.0 c.send_slot.new.state
       (subst (λ h. AllowsAsMuch (asked (Asked g.F.BackpressureFn.allows) c.handler_at-handler.result) (answers_of g.F.BackpressureFn.allows g.G.DegradationFn.allows c.args.boxes.now.boxes) x.id h) (c.handler_at-handler.ensures.marks x at)
       (asks-boxes g.F.BackpressureFn.allows g.G.DegradationFn.allows x.id c.args.boxes.now.boxes c.handler_at-handler.result (c.handler_at-handler.ensures.asks x at)))
-      c.args.slot (c.send_slot.ensures x at),
+      c.args.slot (c.send_slot.ensures.sends.2 x at),
 )

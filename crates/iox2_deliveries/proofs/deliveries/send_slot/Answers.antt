@@ -1,14 +1,13 @@
 use Rattle.std.proofs.Common.{◌<◌, ◌^◌, None, Some, slice_index_or, sym, ◌∙◌, ap, subst, arith, length}
-use Rattle.iox2_slots.specs.SlotBook.{Book}
 use Rattle.iox2_store.specs.machine.Delivery.{no_time}
 use Rattle.iox2_ends.specs.Deliveries.{begun}
-use Rattle.iox2_domain.specs.Deliveries.{with_delivered, pushed, leaving, with_sent, with_left}
+use Rattle.iox2_domain.specs.Deliveries.{leaving, sender_after, book_after}
 use Rattle.iox2_ends.specs.Handlers.{asked, marks_of}
 use Rattle.iox2_domain.specs.Ports.{PublisherFields}
 use Rattle.iox2_domain.specs.Fields.{Fields}
 use Rattle.iox2_domain.specs.Invariant.{IsDomain}
 use Rattle.iox2_domain.proofs.lemmas.slots.PublisherBooks.{read-there, book-covers}
-use Rattle.iox2_steps.proofs.sends.DeliverySteps.{ready-to-deliver, delivers-own, sends-slot, sent-once, sent-alone, sent-own, sent-in_use, leaves-in_use, delivered-history, history-holder-long, history-holder-used}
+use Rattle.iox2_steps.proofs.sends.DeliverySteps.{ready-to-deliver, delivers-own, sends-slot, sent-once, sent-alone, sent-own, sent-in_use, leaves-in_use, history-holder-used}
 use Rattle.iox2_deliveries.proofs.deliveries.send_slot.Goals as goal
 
 pub deliver-outcome-requires-clause-ready : goal.deliver-outcome-requires-clause-ready
@@ -57,36 +56,29 @@ conclude-requires-clause-fits g c =
     let few : length c.deref.result.now < 2 ^ 63 = rw c.deref.ensures.value (omega (arith, c.publisher.inside.keys.ok, c.publisher.inside.keys.small)) in
     omega (arith, one, few, c.deliver-outcome.ensures.grows)
 
-pub remember-requires-clause-below : goal.remember-requires-clause-below
-remember-requires-clause-below g c =
-    let used = sent-in_use _ _ c.state.view_is c.args.place c.args.slot c.requires.can _
-    (read-there _ c.args.place _ _ (ap (λ (f : Fields g.row.T.Denot g.row.U.Denot). slice_index_or f.publishers c.args.place None) c.state.view_is ∙ c.requires.can.1) c.index_mut.ensures.value ∙ c.in-Some.is ∙ ap Some (sym c.publisher.view_is))
-    _ c.index_mut-book.ensures.value _ _ (rw c.value.ensures at c.deliver-outcome.ensures.recounts) in
-    let long = ap (λ (b : Book). length b.holders) c.conclude.ensures.book ∙ history-holder-long c.deliver-outcome.result c.args.slot c.deliver-outcome.new.book in
-    omega (arith, used.0, long)
-
-pub remember-requires-clause-leaves : goal.remember-requires-clause-leaves
-remember-requires-clause-leaves g c = λ oldest leaves.
+pub conclude-requires-clause-leaves : goal.conclude-requires-clause-leaves
+conclude-requires-clause-leaves g c = λ oldest leaves.
     let slot_used = sent-in_use _ _ c.state.view_is c.args.place c.args.slot c.requires.can _
     (read-there _ c.args.place _ _ (ap (λ (f : Fields g.row.T.Denot g.row.U.Denot). slice_index_or f.publishers c.args.place None) c.state.view_is ∙ c.requires.can.1) c.index_mut.ensures.value ∙ c.in-Some.is ∙ ap Some (sym c.publisher.view_is))
     _ c.index_mut-book.ensures.value _ _ (rw c.value.ensures at c.deliver-outcome.ensures.recounts) in
-    let delivered = c.conclude.ensures.publisher ∙ ap (with_delivered c.deliver-outcome.result c.args.slot) (sym c.publisher.view_is) in
-    let history = ap (λ (y : PublisherFields). y.history) delivered ∙ delivered-history c.deliver-outcome.result c.args.slot _ in
     let used = leaves-in_use _ _ c.state.view_is c.args.place c.args.slot c.requires.can _
     (read-there _ c.args.place _ _ (ap (λ (f : Fields g.row.T.Denot g.row.U.Denot). slice_index_or f.publishers c.args.place None) c.state.view_is ∙ c.requires.can.1) c.index_mut.ensures.value ∙ c.in-Some.is ∙ ap Some (sym c.publisher.view_is))
-    _ c.index_mut-book.ensures.value c.requires.agrees _ _ (rw c.value.ensures at c.deliver-outcome.ensures.recounts) oldest (ap (λ h. leaving h c.args.slot) (sym history) ∙ leaves) in
-    rw c.conclude.ensures.book (history-holder-used c.deliver-outcome.result c.args.slot c.deliver-outcome.new.book slot_used.0 oldest used.0 used.1)
+    _ c.index_mut-book.ensures.value c.requires.agrees _ _ (rw c.value.ensures at c.deliver-outcome.ensures.recounts) oldest
+    (ap (λ (y : PublisherFields). leaving y.history c.args.slot) c.publisher.view_is ∙ leaves) in
+    history-holder-used c.deliver-outcome.result c.args.slot c.deliver-outcome.new.book slot_used.0 oldest used.0 used.1
 
-pub returns : goal.returns
-returns g c = λ x at.
-    let delivered = c.conclude.ensures.publisher ∙ ap (with_delivered c.deliver-outcome.result c.args.slot) (sym c.publisher.view_is) in
-    let history = ap (λ (y : PublisherFields). y.history) delivered ∙ delivered-history c.deliver-outcome.result c.args.slot _ in
-    sends-slot (asked g.X.BackpressureFn.allows c.args.handler.now) _ _ c.state.view_is c.args.place _ (read-there _ c.args.place _ _ (ap (λ (f : Fields g.row.T.Denot g.row.U.Denot). slice_index_or f.publishers c.args.place None) c.state.view_is ∙ c.requires.can.1) c.index_mut.ensures.value ∙ c.in-Some.is ∙ ap Some (sym c.publisher.view_is)) _ _ c.index_mut-book.ensures.value _ c.deliver-outcome.ensures.book
-    (rw c.value.ensures at c.deliver-outcome.ensures.recounts) c.args.slot c.deliver-outcome.result c.deliver-outcome.ensures.alone
-    (delivers-own (asked g.X.BackpressureFn.allows c.args.handler.now) _ _ c.state.view_is c.args.place _ (read-there _ c.args.place _ _ (ap (λ (f : Fields g.row.T.Denot g.row.U.Denot). slice_index_or f.publishers c.args.place None) c.state.view_is ∙ c.requires.can.1) c.index_mut.ensures.value ∙ c.in-Some.is ∙ ap Some (sym c.publisher.view_is))
-    c.args.slot begun no_time c.deliver-outcome.result c.deliver-outcome.new.connections (marks_of c.args.handler.now)
-    (c.requires.handler _ (sym (ap (λ (f : Fields g.row.T.Denot g.row.U.Denot). slice_index_or f.publishers c.args.place None) c.state.view_is) ∙ (read-there _ c.args.place _ _ (ap (λ (f : Fields g.row.T.Denot g.row.U.Denot). slice_index_or f.publishers c.args.place None) c.state.view_is ∙ c.requires.can.1) c.index_mut.ensures.value ∙ c.in-Some.is ∙ ap Some (sym c.publisher.view_is))))
-    (rw (c.value.ensures, c.deref.ensures.value, c.begun.ensures) at c.deliver-outcome.ensures.delivers))
-    _ (c.remember.ensures.publisher ∙ (λ t. record (delivered t) { history = pushed (history t) c.args.slot }))
-    _ (c.remember.ensures.book ∙ (λ t. with_left (leaving (history t) c.args.slot) (with_sent c.args.slot (c.conclude.ensures.book t))))
-    x at
+pub returns-clause-sends : goal.returns-clause-sends
+returns-clause-sends g c = (
+  c.deliver-outcome.result,
+  c.conclude.ensures.same,
+  λ x at.
+      sends-slot (asked g.X.BackpressureFn.allows c.args.handler.now) _ _ c.state.view_is c.args.place _ (read-there _ c.args.place _ _ (ap (λ (f : Fields g.row.T.Denot g.row.U.Denot). slice_index_or f.publishers c.args.place None) c.state.view_is ∙ c.requires.can.1) c.index_mut.ensures.value ∙ c.in-Some.is ∙ ap Some (sym c.publisher.view_is)) _ _ c.index_mut-book.ensures.value _ c.deliver-outcome.ensures.book
+      (rw c.value.ensures at c.deliver-outcome.ensures.recounts) c.args.slot c.deliver-outcome.result c.deliver-outcome.ensures.alone
+      (delivers-own (asked g.X.BackpressureFn.allows c.args.handler.now) _ _ c.state.view_is c.args.place _ (read-there _ c.args.place _ _ (ap (λ (f : Fields g.row.T.Denot g.row.U.Denot). slice_index_or f.publishers c.args.place None) c.state.view_is ∙ c.requires.can.1) c.index_mut.ensures.value ∙ c.in-Some.is ∙ ap Some (sym c.publisher.view_is))
+      c.args.slot begun no_time c.deliver-outcome.result c.deliver-outcome.new.connections (marks_of c.args.handler.now)
+      (c.requires.handler _ (sym (ap (λ (f : Fields g.row.T.Denot g.row.U.Denot). slice_index_or f.publishers c.args.place None) c.state.view_is) ∙ (read-there _ c.args.place _ _ (ap (λ (f : Fields g.row.T.Denot g.row.U.Denot). slice_index_or f.publishers c.args.place None) c.state.view_is ∙ c.requires.can.1) c.index_mut.ensures.value ∙ c.in-Some.is ∙ ap Some (sym c.publisher.view_is))))
+      (rw (c.value.ensures, c.deref.ensures.value, c.begun.ensures) at c.deliver-outcome.ensures.delivers))
+      _ (c.conclude.ensures.publisher ∙ ap (sender_after c.deliver-outcome.result c.args.slot) (sym c.publisher.view_is))
+      _ (c.conclude.ensures.book ∙ ap (λ (y : PublisherFields). book_after c.deliver-outcome.result c.args.slot y c.deliver-outcome.new.book) (sym c.publisher.view_is))
+      x at,
+)
