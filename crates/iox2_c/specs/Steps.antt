@@ -22,7 +22,7 @@ use Rattle.iox2_domain.specs.Boxes.{answers_of}
 use Rattle.iox2_domain.specs.Shows.{Shows}
 use Rattle.iox2_pubsub.specs.QuestionCalls.{Answers}
 use Rattle.iox2_pubsub.specs.SendCalls.{Sends, messages_after, result_of_send}
-use Rattle.iox2_pubsub.specs.UpdateCalls.{failure_of}
+use Rattle.iox2_pubsub.specs.UpdateCalls.{returned_failure}
 use Rattle.iox2_pubsub.specs.WrittenLoans.{DefaultSliceCall}
 use Rattle.iox2_pubsub.specs.declared.send_outcome.SendOutcome.{SendOutcome}
 use Rattle.iox2_c.specs.Serving.{KeptBytes}
@@ -98,8 +98,8 @@ module _ (old new : KeptBytes) where
 
   -- The publisher with this id was updated, with this failure if any.
   abbrev pub UpdatesPublisher : (publisher : ℕ) → Result (Unit {0}) ConnectionFailure → Type 0
-  UpdatesPublisher publisher updated = StepsTo (λ s s'. UpdatePublisher (publishers_answer old) s publisher s' (failure_of updated))
+  UpdatesPublisher publisher updated = StepsTo (λ s s'. UpdatePublisher (publishers_answer old) s publisher s' (returned_failure updated))
 
   -- The subscriber with this id was.
   abbrev pub UpdatesSubscriber : (subscriber : ℕ) → Result (Unit {0}) ConnectionFailure → Type 0
-  UpdatesSubscriber subscriber updated = StepsTo (λ s s'. UpdateSubscriber (subscribers_answer old) s subscriber s' (failure_of updated))
+  UpdatesSubscriber subscriber updated = StepsTo (λ s s'. UpdateSubscriber (subscribers_answer old) s subscriber s' (returned_failure updated))

@@ -61,8 +61,8 @@ fn update_first<T: Drop, U: Default + Drop, F: BackpressureFn, G: DegradationFn>
     warn_of_failure(&mut state.warnings, publisher, failure);
 }
 
-/// The place for a new publisher, or why it is refused.
-pub(crate) fn place_for_publisher<T: Drop, U: Default + Drop>(
+// The place for a new publisher, or why it is refused.
+fn place_for_publisher<T: Drop, U: Default + Drop>(
     state: &DomainState<T, U>,
 ) -> Result<usize, PublisherCreateError>
     ensures { result ≡ place_for_publisher state.now }
@@ -76,11 +76,11 @@ pub(crate) fn place_for_publisher<T: Drop, U: Default + Drop>(
     }
 }
 
-/// A publisher with these options and so many slots enters at the place that it has, and every
-/// subscriber is due for an update. Returns its id, which was the next.
-///
-/// Where memory is refused it doesn't enter, and no id is used.
-pub(crate) fn admit_publisher<T: Drop, U: Default + Drop>(
+// A publisher with these options and so many slots enters at the place that it has, and every
+// subscriber is due for an update. Returns its id, which was the next.
+//
+// Where memory is refused it doesn't enter, and no id is used.
+fn admit_publisher<T: Drop, U: Default + Drop>(
     state: &mut DomainState<T, U>,
     place: usize,
     given: &PublisherOptions,

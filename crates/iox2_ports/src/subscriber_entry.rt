@@ -72,8 +72,8 @@ fn update_first<T: Drop, U: Default + Drop, F: BackpressureFn, G: DegradationFn>
     warn_of_failure(&mut state.warnings, subscriber, failure);
 }
 
-/// The place for a subscriber with these options, or why it is refused.
-pub(crate) fn place_for_subscriber<T: Drop, U: Default + Drop>(
+// The place for a subscriber with these options, or why it is refused.
+fn place_for_subscriber<T: Drop, U: Default + Drop>(
     state: &DomainState<T, U>,
     given: &SubscriberOptions,
 ) -> Result<usize, SubscriberCreateError>
@@ -91,11 +91,11 @@ pub(crate) fn place_for_subscriber<T: Drop, U: Default + Drop>(
     }
 }
 
-/// A subscriber with these options enters at the place that it has, and every publisher is due for
-/// an update. Returns its id, which was the next.
-///
-/// Where memory is refused nothing changes.
-pub(crate) fn admit_subscriber<T: Drop, U: Default + Drop>(
+// A subscriber with these options enters at the place that it has, and every publisher is due for
+// an update. Returns its id, which was the next.
+//
+// Where memory is refused nothing changes.
+fn admit_subscriber<T: Drop, U: Default + Drop>(
     state: &mut DomainState<T, U>,
     place: usize,
     given: &SubscriberOptions,

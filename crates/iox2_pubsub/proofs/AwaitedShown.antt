@@ -1,6 +1,5 @@
 -- Who awaits whose update, in the words of `Live`.
 use Rattle.std.proofs.Common.{◌≡◌, ℕ, ◌<◌, sym, ap, subst, ◌∙◌, Option, None}
-use Rattle.std.specs.Prelude.{◌≢◌}
 use Rattle.iox2_store.specs.machine.Limits.{refusal_limit}
 use Rattle.iox2_store.specs.machine.Ports.{CreateSubscriber}
 use Rattle.iox2_store.specs.machine.PublisherUpdate.{UpdatePublisher}

@@ -12,7 +12,7 @@ use Rattle.iox2_store.specs.machine.Records.{Entry, Loan, Publisher, PublisherSe
 use Rattle.iox2_store.specs.machine.Releases.{released}
 use Rattle.iox2_store.specs.machine.Sends.{SendResult, Delivered_to, Blocked_send, Send_error, Send}
 use Rattle.iox2_store.specs.declared.errors.SendError.{SendError}
-use Rattle.iox2_pubsub.specs.SendCalls.{Sends, messages_after, is_blocked_send, spent_by_send, spent_by_copy}
+use Rattle.iox2_pubsub.specs.SendCalls.{Sends, messages_after, spent_by_send}
 use Rattle.iox2_pubsub.specs.declared.send_outcome.SendOutcome.{SendOutcome}
 use Rattle.iox2_pubsub.specs.declared.send_outcome.SendOutcome.TheVariants.{Delivered, Blocked}
 use Rattle.iox2_store.specs.Stored.{In_mailbox}
@@ -37,8 +37,7 @@ use Rattle.iox2_domain.specs.Invariant.{IsDomain}
 use Rattle.iox2_domain.specs.Kept.{Kept, state_of, entries_of}
 use Rattle.iox2_domain.specs.Lending.{LoanCall}
 use Rattle.iox2_domain.specs.Shows.{Shows}
-use Rattle.iox2_pubsub.specs.Live.{Item, IsOtherLoan, IsPublisherKey, IsSubscriberKey, IsLoanKey, IsSampleKey, IsUnblocked, No_item, A_publisher, A_subscriber, A_loan, A_sample, IsOtherSample, IsBlockedKey, A_sent_loan, A_sent_copy, StaysBut, Stays, IsNewIn, unwritten_key, written_key}
-use Rattle.iox2_pubsub.specs.declared.publisher.Publisher.{Publisher as Handle}
+use Rattle.iox2_pubsub.specs.Live.{Item, IsOtherLoan, IsPublisherKey, IsSubscriberKey, IsLoanKey, IsSampleKey, IsUnblocked, No_item, A_publisher, A_subscriber, A_loan, A_sample, IsOtherSample, IsBlockedKey, A_sent_loan, StaysBut, Stays, IsNewIn, unwritten_key, written_key}
 use Rattle.iox2_pubsub.specs.declared.sample_mut.SampleMut.{SampleMut}
 use Rattle.iox2_pubsub.specs.Slices.{HasUnwrittenCells, HasValues}
 use Rattle.iox2_pubsub.proofs.AlwaysShows.{shows_itself}
@@ -46,7 +45,7 @@ use Rattle.iox2_pubsub.proofs.SentMessages.{after-error}
 use Rattle.iox2_pubsub.proofs.SendShown.{never-waits-send}
 use Rattle.iox2_pubsub.proofs.LiveParts.{publisher-parts, subscriber-parts, loan-parts, sample-parts, origin-parts, blocked-parts, unblocked-parts}
 use Rattle.iox2_pubsub.proofs.SliceParts.{cells-parts, values-parts}
-use Rattle.iox2_pubsub.proofs.StaysBut.{BoxesStayBut, IsSpared, PortsRemainBut, SamplesStayBut, ports-remain, stays-between, stays-on-but, stays-but-whole, sent-loan-parts, none-spared, SparedPublishers}
+use Rattle.iox2_pubsub.proofs.StaysBut.{BoxesStayBut, IsSpared, PortsRemainBut, SamplesStayBut, ports-remain, stays-between, none-spared, SparedPublishers}
 use Rattle.iox2_pubsub.proofs.UnfailedSends.{IsMild, HasNotFailed, blocked-unfailed}
 
 -- a domain shows some state

@@ -1,12 +1,11 @@
 -- What a copy that is lent, written and sent leaves waiting, from what its send leaves.
 use Rattle.std.proofs.Common.{◌≡◌, ℕ, suc, Bool, ◌<◌, List, [], ◌∷◌, ◌++◌, drop, length, sym, ap, subst, ◌∙◌, arith, ◌⊎◌, Result, Ok, Err}
-use Rattle.std.specs.Prelude.{◌≢◌, IfOk}
+use Rattle.std.specs.Prelude.{IfOk}
 use Rattle.std.specs.Bool.{MatchBool}
-use Rattle.std.specs.List.{AllByRecursion}
 use Rattle.iox2_store.specs.declared.errors.SendError.{SendError}
 use Rattle.iox2_store.specs.declared.service_config.ServiceConfig.{ServiceConfig}
 use Rattle.iox2_domain.specs.Kept.{Kept}
-use Rattle.iox2_pubsub.specs.Live.{AllFrom, AreAllSlices, IsConnected, IsServed, OthersSend, UpToDateStay, WaitingStays, payloads, payloads_from, waiting}
+use Rattle.iox2_pubsub.specs.Live.{AllFrom, AreAllSlices, IsConnected, IsServed, OthersSend, UpToDateStay, WaitingStays, payloads_from, waiting}
 use Rattle.iox2_pubsub.specs.SendCalls.{IsDelivered}
 use Rattle.iox2_pubsub.specs.declared.send_outcome.SendOutcome.{SendOutcome}
 use Rattle.iox2_pubsub.specs.declared.subscriber.Subscriber.{Subscriber}

@@ -1,5 +1,5 @@
 -- A discard of a loan, seen from outside, and what it leaves.
-use Rattle.std.proofs.Common.{List, ◌≡◌, ℕ, ap, sym, subst, ◌∙◌, le_refl}
+use Rattle.std.proofs.Common.{◌≡◌, ℕ, ap, sym, subst, ◌∙◌, le_refl}
 use Rattle.std.proofs.lemmas.Bool.{ne_eqb}
 use Rattle.std.specs.declared.option.Option.TheVariants.{None, Some}
 use Rattle.iox2_store.specs.machine.Loans.{loan_discarded}

@@ -1,5 +1,5 @@
 -- The handles of loans: what a domain that holds one shows.
-use Rattle.std.proofs.Common.{List, replicate, [], ◌∷◌, true, false, ◌≡◌, ℕ, cond, refl, ap, sym, subst, ◌∙◌, le_refl}
+use Rattle.std.proofs.Common.{replicate, [], ◌∷◌, true, false, ◌≡◌, ℕ, cond, refl, ap, sym, subst, ◌∙◌, le_refl}
 use Rattle.std.proofs.lemmas.Bool.{eq-eqb}
 use Rattle.std.proofs.lemmas.Option.{same_Some}
 use Rattle.std.specs.declared.option.Option.TheVariants.{None, Some}

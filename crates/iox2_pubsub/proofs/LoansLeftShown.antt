@@ -10,7 +10,7 @@ use Rattle.iox2_store.specs.machine.LoansLeft.{CanLend}
 use Rattle.iox2_store.specs.machine.Ports.{CreatePublisher, CreateSubscriber, slots_for, publisher_closed, subscriber_closed}
 use Rattle.iox2_store.specs.machine.PublisherUpdate.{UpdatePublisher}
 use Rattle.iox2_store.specs.machine.Receives.{ReceiveResult, Receive}
-use Rattle.iox2_store.specs.machine.Records.{Environment, Handler, Loan, BlockedSend, Publisher as MachinePublisher, Subscriber as MachineSubscriber, PublisherSettings, SubscriberSettings}
+use Rattle.iox2_store.specs.machine.Records.{Environment, Loan, BlockedSend, Publisher as MachinePublisher, Subscriber as MachineSubscriber, PublisherSettings, SubscriberSettings}
 use Rattle.iox2_store.specs.machine.Releases.{released}
 use Rattle.iox2_store.specs.machine.Sends.{SendResult, Blocked_send, Delivered_to, Send_error, Send, Retry, GiveUp}
 use Rattle.iox2_store.specs.machine.State.{State, Messages, with_loan, fresh, no_messages}
@@ -23,7 +23,6 @@ use Rattle.iox2_store.specs.declared.errors.SubscriberCreateError.{SubscriberCre
 use Rattle.iox2_store.specs.declared.service_config.ServiceConfig.{ServiceConfig}
 use Rattle.iox2_laws.proofs.PortsClose.{publisher_closed_others}
 use Rattle.iox2_laws.proofs.LoansLeft.{KeepsTerms, LoansKept, LoanTaken, LoanEnds, set_kept, update_publisher_kept, update_subscriber_kept, receive_kept, released_kept, subscriber_closed_kept, create_publisher_kept, created_lends, created_longest, create_subscriber_kept, kept_itself, kept_lends, closed_lends, loan_taken, discarded_ends, send_ends, send_blocked_kept, retry_ends, retry_blocked_kept, give_up_ends, give_up_blocked_kept, ended_lends, waited_lends, others_lend, lends_fewer}
-use Rattle.iox2_store.specs.declared.backpressure.BackpressureAction.{BackpressureAction}
 use Rattle.iox2_domain.specs.Kept.{Kept, state_of}
 use Rattle.iox2_domain.specs.Lending.{LoanCall}
 use Rattle.iox2_store.specs.declared.allocation.AllocationStrategy.TheVariants.{Static}

@@ -1,9 +1,7 @@
 -- Whether a loan that lies in a slot is written, by the slot's mark.
-use Rattle.std.proofs.Common.{◌≡◌, ◌↔◌, ℕ, Bool, true, false, List, refl, ap, sym, ◌∙◌, IsTrue, MatchOption}
-use Rattle.std.proofs.lemmas.Bool.{true≢false}
-use Rattle.std.specs.Prelude.{slice_get, slice_index, is_some}
-use Rattle.std.specs.declared.option.Option.{Option}
-use Rattle.std.specs.declared.option.Option.TheVariants.{None, Some}
+use Rattle.std.proofs.Common.{◌≡◌, ◌↔◌, ℕ, Bool, true, false, refl, ap, sym, ◌∙◌}
+use Rattle.std.specs.Prelude.{slice_get, slice_index}
+use Rattle.std.specs.declared.option.Option.TheVariants.{Some}
 use Rattle.slab.specs.Slab.{get}
 use Rattle.iox2_slots.specs.SlotBook.{Book}
 use Rattle.iox2_slots.specs.declared.slots.mark.SlotMark.{SlotMark}
@@ -14,7 +12,6 @@ use Rattle.iox2_domain.specs.Kept.{KeptMessage, Lent_message, Sent_message, stat
 use Rattle.iox2_domain.specs.Fields.{Fields, kept_of, contents_at, message_of}
 use Rattle.iox2_domain.specs.LoanCalls.{HoldsUnwritten, HoldsWritten}
 use Rattle.iox2_domain.specs.LoanSlots.{LiesInSlot}
-use Rattle.iox2_domain.specs.declared.message_slots.MessageSlot.{MessageSlot}
 use Rattle.iox2_domain.proofs.lemmas.slots.Messages.{LiesIn, message_in-parts}
 use Rattle.iox2_domain.proofs.lemmas.loans.LoansOut.{found-out}
 use Rattle.iox2_pubsub.specs.Parts.{written_mark}

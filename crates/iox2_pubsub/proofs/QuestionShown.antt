@@ -1,5 +1,5 @@
 -- Asking for samples, seen from outside.
-use Rattle.std.proofs.Common.{List, ◌≡◌, ℕ, Bool, get_or, ap, sym, subst, ◌∙◌, Option, Some, None, Result, Ok, Err}
+use Rattle.std.proofs.Common.{◌≡◌, ℕ, Bool, get_or, ap, sym, subst, ◌∙◌, Option, Some, None, Result, Ok, Err}
 use Rattle.iox2_store.specs.machine.Records.{Environment}
 use Rattle.iox2_store.specs.machine.Receives.{HasSamples}
 use Rattle.iox2_store.specs.machine.State.{State, Messages}

@@ -1,5 +1,5 @@
 -- A receive, seen from outside.
-use Rattle.std.proofs.Common.{List, ◌≡◌, ℕ, true, get_or, ap, sym, subst, ◌∙◌, Option, Some, None, Result, Ok, Err}
+use Rattle.std.proofs.Common.{◌≡◌, ℕ, true, get_or, ap, sym, subst, ◌∙◌, Option, Some, None, Result, Ok, Err}
 use Rattle.std.specs.Prelude.{IsErrAnd}
 use Rattle.iox2_store.specs.machine.Mailbox.{is_borrowed}
 use Rattle.iox2_store.specs.machine.Receives.{ReceiveResult, Got_sample, Receive_error, Receive}

@@ -1,5 +1,5 @@
 -- A release, seen from outside.
-use Rattle.std.proofs.Common.{List, ◌≡◌, ℕ, Bool, true, false, cond, refl, sym, subst}
+use Rattle.std.proofs.Common.{◌≡◌, ℕ, Bool, true, false, cond, refl, sym, subst}
 use Rattle.iox2_store.specs.machine.Mailbox.{is_borrowed}
 use Rattle.iox2_store.specs.machine.Releases.{is_unused, place_freed, unborrowed, subscriber_pruned, released}
 use Rattle.iox2_store.specs.machine.State.{State, Messages}

@@ -5,7 +5,6 @@ use Rattle.std.specs.Bool.{MatchBool}
 use Rattle.std.specs.declared.option.Option.{Option}
 use Rattle.std.specs.declared.option.Option.TheVariants.{None, Some}
 use Rattle.iox2_store.specs.machine.Connections.{ForEachPlace, DegradationAnswers, failure_of, first_failure}
-use Rattle.iox2_store.specs.machine.Mailbox.{Mailbox}
 use Rattle.iox2_store.specs.machine.Places.{occupant}
 use Rattle.iox2_store.specs.machine.PublisherUpdate.{SenderAction, Keep_end, Drop_waiting, Disconnect, Connect, SenderSide, Performs, UpdatePublisher, UpdateSenderPlace, sender_action, sender_side, with_sender_side}
 use Rattle.iox2_store.specs.machine.Records.{Environment, Fixed, Custom, Handler, Loan, Publisher}

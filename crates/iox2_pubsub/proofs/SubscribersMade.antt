@@ -10,14 +10,12 @@ use Rattle.iox2_store.specs.machine.Numbers.{contains, put_at}
 use Rattle.iox2_store.specs.machine.Places.{occupant, occupants, free_place}
 use Rattle.iox2_store.specs.machine.Records.{Publisher, Subscriber, Handler, Environment, SubscriberSettings}
 use Rattle.iox2_store.specs.machine.State.{State, Warnings, has_sender_end, with_warning}
-use Rattle.iox2_store.specs.machine.Connections.{ForEachPlace}
 use Rattle.iox2_store.specs.machine.Ports.{CreateSubscriber, MakeSubscriber, with_new_subscriber, with_buffer_warning, new_subscriber, with_failure_warning, buffer_for}
 use Rattle.iox2_store.specs.machine.PublisherUpdate.{UpdatePublisher}
-use Rattle.iox2_store.specs.machine.SubscriberUpdate.{ReceiverSide, Retirement, Keep_expired, Evict, Discard_data, Refuse, retirement_of, is_refused, after_retirement, with_end, ConnectReceiver, Retire, ConnectAtPlace, DisconnectAtPlace, UpdateReceiverSide, receiver_side, with_receiver_side, UpdateSubscriber}
-use Rattle.iox2_store.specs.machine.WellFormed.{IsWellFormed, publisher_place}
+use Rattle.iox2_store.specs.machine.SubscriberUpdate.{ReceiverSide, Retirement, Keep_expired, Evict, Discard_data, Refuse, retirement_of, is_refused, after_retirement, with_end, ConnectReceiver, Retire, ConnectAtPlace, DisconnectAtPlace, UpdateReceiverSide, receiver_side, with_receiver_side}
+use Rattle.iox2_store.specs.machine.WellFormed.{IsWellFormed}
 use Rattle.iox2_store.specs.declared.degradation.DegradationAction.{DegradationAction}
 use Rattle.iox2_store.specs.declared.errors.ConnectionFailure.{ConnectionFailure}
-use Rattle.iox2_store.specs.declared.errors.SubscriberCreateError.{SubscriberCreateError}
 use Rattle.iox2_store.specs.declared.warning.Warning.TheVariants.{ExpiredBufferRaised, SubscriberPartlyConnected}
 use Rattle.iox2_laws.proofs.Cases.{by_option, by_bool}
 use Rattle.iox2_laws.proofs.NumberLemmas.{contains_right}

@@ -1,5 +1,5 @@
 -- The creation of a subscriber, seen from outside.
-use Rattle.std.proofs.Common.{List, ◌≡◌, ℕ, refl, ap, sym, subst, ◌∙◌}
+use Rattle.std.proofs.Common.{◌≡◌, ℕ, refl, ap, sym, subst, ◌∙◌}
 use Rattle.std.specs.declared.option.Option.TheVariants.{None, Some}
 use Rattle.iox2_store.specs.machine.Ports.{buffer_for, CreateSubscriber}
 use Rattle.iox2_store.specs.machine.Records.{SubscriberSettings, Environment}

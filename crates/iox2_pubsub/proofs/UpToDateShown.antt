@@ -24,7 +24,7 @@ use Rattle.iox2_domain.specs.Shows.{Shows}
 use Rattle.iox2_pubsub.specs.ConnectedPorts.{Connects}
 use Rattle.iox2_pubsub.specs.DepartedPorts.{HasRoom}
 use Rattle.iox2_pubsub.specs.Live.{HasRoomFor, IsConnected, IsLiveSubscriber, IsUpToDate, RoomStays, UpToDateStay}
-use Rattle.iox2_pubsub.specs.UpdateCalls.{failure_of}
+use Rattle.iox2_pubsub.specs.UpdateCalls.{returned_failure}
 use Rattle.iox2_pubsub.specs.declared.subscriber.Subscriber.{Subscriber}
 use Rattle.iox2_pubsub.proofs.ConnectedSends.{update-publisher-connected}
 use Rattle.iox2_pubsub.proofs.SendsServe.{send-connections}
@@ -115,7 +115,7 @@ module _ {T U F G : Type 0} (old new : Kept T U F G) (m m' : Messages T U) (s s'
     answers-updated live (Err e) h = tt
 
     -- and so is one whose update by call didn't fail
-    pub update-updated : {A : Type 0} → IsLiveSubscriber old subscriber → (result : Result A ConnectionFailure) → UpdateSubscriber environment s subscriber.id s' (failure_of result) → OnOk result (IsUpToDate new subscriber)
+    pub update-updated : {A : Type 0} → IsLiveSubscriber old subscriber → (result : Result A ConnectionFailure) → UpdateSubscriber environment s subscriber.id s' (returned_failure result) → OnOk result (IsUpToDate new subscriber)
     update-updated live (Ok answer) h = asked-updated live h
     update-updated live (Err e) h = tt
 

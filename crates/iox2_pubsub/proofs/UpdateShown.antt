@@ -1,5 +1,5 @@
 -- An update by call, seen from outside.
-use Rattle.std.proofs.Common.{List, ◌≡◌, ℕ, get_or, ap, sym, subst, ◌∙◌, Option, Some, None}
+use Rattle.std.proofs.Common.{◌≡◌, ℕ, get_or, ap, sym, subst, ◌∙◌, Option, Some, None}
 use Rattle.iox2_store.specs.machine.Records.{Environment}
 use Rattle.iox2_store.specs.machine.PublisherUpdate.{UpdatePublisher}
 use Rattle.iox2_store.specs.machine.SubscriberUpdate.{UpdateSubscriber}

@@ -6,6 +6,6 @@ use Rattle.std.specs.declared.result.Result.TheVariants.{Ok, Err}
 use Rattle.iox2_store.specs.declared.errors.ConnectionFailure.{ConnectionFailure}
 
 -- The failure that a call returned, if any.
-abbrev pub failure_of : {A : Type 0} → Result A ConnectionFailure → Option ConnectionFailure
-failure_of (Ok answer) = None
-failure_of (Err failure) = Some failure
+abbrev pub returned_failure : {A : Type 0} → Result A ConnectionFailure → Option ConnectionFailure
+returned_failure (Ok answer) = None
+returned_failure (Err failure) = Some failure

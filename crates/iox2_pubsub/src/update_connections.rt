@@ -1,6 +1,6 @@
 //! Updates of a port's connections, by call.
 ghost use Rattle.std.specs.Prelude.{◌≡◌, ℕ, OnOk};
-ghost use Rattle.iox2_pubsub.specs.UpdateCalls.{failure_of};
+ghost use Rattle.iox2_pubsub.specs.UpdateCalls.{returned_failure};
 
 use crate::domain::Domain;
 use iox2_store::{BackpressureFn, ConnectionFailure, DegradationFn};
@@ -17,7 +17,7 @@ pub trait UpdateConnections<T: Drop, U: Default + Drop, F: BackpressureFn, G: De
     ghost use Rattle.iox2_domain.specs.Shows.{Shows};
     ghost use Rattle.iox2_pubsub.specs.Live.{AddAtMost, Stays, UpToDateStay};
     ghost use Rattle.iox2_pubsub.specs.LoansLeft.{LoansLeftStay};
-    ghost use Rattle.iox2_pubsub.specs.UpdateCalls.{failure_of};
+    ghost use Rattle.iox2_pubsub.specs.UpdateCalls.{returned_failure};
 
     // The port is one of the domain's, wasn't closed, and no send of it is blocked.
     ghost is_live: { Kept T U F G → Self → Type 0 };
@@ -47,7 +47,7 @@ pub trait UpdateConnections<T: Drop, U: Default + Drop, F: BackpressureFn, G: De
         requires live { is_live domain.old self.now }
         ensures live { is_live domain.new self.now }
         ensures updates { (m : Messages T U) (s : State T U) → Shows domain.old m s
-            → (s' : State T U) × Shows domain.new m s' × updates domain.old s self.now s' (failure_of result) }
+            → (s' : State T U) × Shows domain.new m s' × updates domain.old s self.now s' (returned_failure result) }
         ensures adds { AddAtMost (adds domain.old) domain.old domain.new }
         ensures updated { OnOk result (is_updated domain.new self.now) }
         ensures leaves { leaves domain.old domain.new self.now }
@@ -61,7 +61,7 @@ pub trait UpdateConnections<T: Drop, U: Default + Drop, F: BackpressureFn, G: De
 
 /// What an update with this failure, if any, returns.
 pub(crate) fn outcome_of(failure: Option<ConnectionFailure>) -> Result<(), ConnectionFailure>
-    ensures { failure_of result ≡ failure }
+    ensures { returned_failure result ≡ failure }
 {
     match failure {
         Some(failure) => Err(failure),

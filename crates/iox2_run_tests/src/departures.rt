@@ -49,8 +49,8 @@ fn a_departed_publisher_without_borrows_loses_its_messages(rt: HostRuntime) {
         (Command::Read { of: 15, at: 0 }, Reply::Cell(Some(1))),
         (Command::Receive { of: 0 }, Reply::NoSample),
     ];
-    let ended = check(&rt, rt.alloc(), service(1, 1), &steps);
-    assert!(rt; ended.warnings.as_slice() == [discarded(3)].as_slice());
+    let told = check(&rt, rt.alloc(), service(1, 1), &steps);
+    assert!(rt; told.warnings.as_slice() == [discarded(3)].as_slice());
 }
 
 // A departed publisher of which a message is borrowed takes the place of one of which messages only
@@ -80,8 +80,8 @@ fn a_borrowed_message_takes_the_place_of_waiting_ones(rt: HostRuntime) {
         (Command::Receive { of: 0 }, Reply::NoSample),
         (Command::Read { of: 8, at: 0 }, Reply::Cell(Some(3))),
     ];
-    let ended = check(&rt, rt.alloc(), service(1, 2), &steps);
-    assert!(rt; ended.warnings.as_slice() == [discarded(2)].as_slice());
+    let told = check(&rt, rt.alloc(), service(1, 2), &steps);
+    assert!(rt; told.warnings.as_slice() == [discarded(2)].as_slice());
 }
 
 // It keeps none of which it has borrowed nothing, whatever waited: the connection and the book that
@@ -99,9 +99,9 @@ fn a_closed_subscriber_forgets_departed_publishers(rt: HostRuntime) {
         (Command::Update { of: 0 }, Reply::Done),
         (Command::Close { of: 0 }, Reply::Done),
     ];
-    let ended = check(&rt, rt.alloc(), service(2, 1), &steps);
-    assert!(rt; ended.warnings.as_slice().is_empty());
-    assert_eq!(rt; ended.kept, [1, 1]);
+    let told = check(&rt, rt.alloc(), service(2, 1), &steps);
+    assert!(rt; told.warnings.as_slice().is_empty());
+    assert_eq!(rt; told.kept, [1, 1]);
 }
 
 // A publisher of which a closed subscriber has borrowed nothing leaves no connection behind when it
@@ -117,7 +117,7 @@ fn a_closed_subscriber_loses_empty_connections(rt: HostRuntime) {
         (Command::Close { of: 2 }, Reply::Done),
         (Command::Close { of: 1 }, Reply::Done),
     ];
-    let ended = check(&rt, rt.alloc(), service(2, 1), &steps);
-    assert!(rt; ended.warnings.as_slice().is_empty());
-    assert_eq!(rt; ended.kept, [1, 1]);
+    let told = check(&rt, rt.alloc(), service(2, 1), &steps);
+    assert!(rt; told.warnings.as_slice().is_empty());
+    assert_eq!(rt; told.kept, [1, 1]);
 }

@@ -98,6 +98,6 @@ fn messages_that_are_held_need_slots_too(rt: HostRuntime) {
         (Command::Release { of: 3 }, Reply::Done),
         (Command::LoanUninit { of: 1 }, Reply::Loaned),
     ];
-    let ended = check(&rt, rt.alloc(), config, &steps);
-    assert!(rt; ended.warnings.as_slice() == [raised(1)].as_slice());
+    let told = check(&rt, rt.alloc(), config, &steps);
+    assert!(rt; told.warnings.as_slice() == [raised(1)].as_slice());
 }

@@ -16,15 +16,15 @@ pub(crate) type Step = (Command<u64, u8>, Reply<u64, u8>);
 
 /// What a domain tells after a run.
 #[derive(Drop)]
-pub(crate) struct Ended {
+pub(crate) struct Told {
     /// What it warns of, oldest first.
     pub(crate) warnings: Vec<Warning>,
     /// How many connections and books it keeps.
     pub(crate) kept: [usize; 2],
 }
 
-/// The commands of a run on a new domain get their replies.
-pub(crate) fn check(rt: &impl Abort, alloc: Global, config: ServiceConfig, steps: &[Step]) -> Ended
+/// The commands of a run on a new domain get their replies. Returns what the domain tells then.
+pub(crate) fn check(rt: &impl Abort, alloc: Global, config: ServiceConfig, steps: &[Step]) -> Told
     requires { All (λ step. IsSupportedCommand step.0) steps.now }
 {
     let mut domain: Domain<u64, u8> = Domain::new(alloc, config).expect(rt, "a domain");
@@ -39,16 +39,17 @@ pub(crate) fn check(rt: &impl Abort, alloc: Global, config: ServiceConfig, steps
         assert!(rt; reply == expected, "{replies:?}");
     }
     let warnings = warnings.expect(rt, "warnings");
-    Ended { warnings, kept }
+    Told { warnings, kept }
 }
 
+// The commands of the steps.
 fn commands_of(alloc: Global, steps: &[Step]) -> Result<Vec<Command<u64, u8>>, AllocError>
     requires { All (λ step. IsSupportedCommand step.0) steps.now }
     ensures { IfOk result (λ commands. All IsSupportedCommand commands.items) }
 {
     let mut commands = Vec::new(alloc);
-    for (command, _) in steps {
-        commands.push(*command)?;
+    for step in steps {
+        commands.push(step.0)?;
     }
     Ok(commands)
 }

@@ -72,8 +72,8 @@ fn is_lent_at_hint<T: Drop, U: Default + Drop>(state: &DomainState<T, U>, loan: 
     }
 }
 
-/// Where a publisher's loan lies, and `None` where it isn't out.
-pub(crate) fn find_loan<T: Drop, U: Default + Drop>(
+// Where a publisher's loan lies, and `None` where it isn't out.
+fn find_loan<T: Drop, U: Default + Drop>(
     state: &DomainState<T, U>,
     loan: &LoanAt,
 ) -> Option<MessageSlot>

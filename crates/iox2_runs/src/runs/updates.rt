@@ -1,7 +1,7 @@
 //! Updates of ports.
 ghost use Rattle.std.specs.Prelude.{◌≡◌};
 ghost use Rattle.std.specs.Option.{option_map_or};
-ghost use Rattle.iox2_pubsub.specs.UpdateCalls.{failure_of};
+ghost use Rattle.iox2_pubsub.specs.UpdateCalls.{returned_failure};
 ghost use Rattle.iox2_runs.specs.Leaves.{Leaves};
 ghost use Rattle.iox2_store.specs.machine.Environments.{fixed_handlers};
 ghost use Rattle.iox2_runs.specs.Carries.{IsLiveTable, Carries, defaults_of};
@@ -42,7 +42,7 @@ pub(crate) fn update<T: Default + Drop, U: Default + Drop, F: BackpressureFn, G:
 
 // What an update replies.
 fn update_reply<T, U>(outcome: Result<(), ConnectionFailure>) -> Reply<T, U>
-    ensures { result ≡ option_map_or (λ failure. UpdateRefused failure) (failure_of outcome) Done }
+    ensures { result ≡ option_map_or (λ failure. UpdateRefused failure) (returned_failure outcome) Done }
 {
     match outcome {
         Ok(()) => Reply::Done,

@@ -1,4 +1,4 @@
-use Rattle.std.proofs.Common.{◌≡◌, ap, sym, subst, ◌∙◌, ℕ}
+use Rattle.std.proofs.Common.{ap, sym, subst, ◌∙◌, ℕ}
 use Rattle.slab.specs.Slab.{get}
 use Rattle.iox2_domain.specs.Fields.{Fields}
 use Rattle.iox2_domain.specs.LoanSlots.{LiesInSlot}

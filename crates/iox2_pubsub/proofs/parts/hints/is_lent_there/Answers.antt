@@ -1,4 +1,4 @@
-use Rattle.std.proofs.Common.{rules, sym, ◌∙◌}
+use Rattle.std.proofs.Common.{rules, ◌∙◌}
 use Rattle.std.proofs.lemmas.Bool.{eqb-true}
 use Rattle.iox2_domain.proofs.lemmas.slots.ConnectionSlots.{index-got}
 use Rattle.iox2_pubsub.proofs.parts.hints.is_lent_there.Goals as goal

@@ -1,4 +1,4 @@
-use Rattle.std.proofs.Common.{refl, ap, sym, ◌∙◌}
+use Rattle.std.proofs.Common.{refl, sym, ◌∙◌}
 use Rattle.std.proofs.lemmas.Bool.{true≢false}
 use Rattle.iox2_pubsub.specs.Live.{lender_key, unwritten_key, written_key}
 use Rattle.iox2_pubsub.proofs.LoanHandles.{unwritten-out}

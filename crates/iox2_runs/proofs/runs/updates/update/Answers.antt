@@ -2,7 +2,7 @@ use Rattle.iox2_store.specs.machine.Environments.{fixed_handlers}
 use Rattle.std.proofs.Common.{refl, ap, ◌∙◌}
 use Rattle.iox2_runs.specs.Carries.{entry_for}
 use Rattle.iox2_runs.specs.declared.runs.made.Made.{Made}
-use Rattle.iox2_pubsub.specs.UpdateCalls.{failure_of}
+use Rattle.iox2_pubsub.specs.UpdateCalls.{returned_failure}
 use Rattle.iox2_runs.proofs.TableLooks.{is_publisher_entry, is_subscriber_entry}
 use Rattle.iox2_runs.proofs.TableEntries.{looked, looked_past, not_publisher, not_subscriber}
 use Rattle.iox2_pubsub.specs.Live.{publisher_key}
@@ -24,11 +24,11 @@ update_connections-requires-in-Subscriber g c = record {
 pub returns-in-Subscriber-clause-carries : goal.returns-in-Subscriber-clause-carries
 returns-in-Subscriber-clause-carries g c =
     update_of_subscriber {T = g.row.T.Denot} {U = g.row.U.Denot} fixed_handlers _ c.args.domain.now c.update_connections-in-Subscriber.new.domain c.args.table.now c.args.of
-    c.in-Subscriber.subscriber (failure_of c.update_connections-in-Subscriber.result) c.update_reply-in-Subscriber.result
+    c.in-Subscriber.subscriber (returned_failure c.update_connections-in-Subscriber.result) c.update_reply-in-Subscriber.result
     (looked c.args.table.now c.args.of c.get.result c.in-Some.made _ c.get.ensures.lookup c.in-Some.is c.in-Subscriber.is)
     (subscriber_updated {T = g.row.T.Denot} {U = g.row.U.Denot} (answers_of g.F.BackpressureFn.allows g.G.DegradationFn.allows c.args.domain.now.boxes.subscribers) c.args.domain.now c.update_connections-in-Subscriber.new.domain c.in-Subscriber.subscriber.id
     (unboxed_subscriber {T = g.row.T.Denot} {U = g.row.U.Denot} c.args.domain.now c.args.table.now c.requires c.args.of c.in-Subscriber.subscriber (looked c.args.table.now c.args.of c.get.result c.in-Some.made _ c.get.ensures.lookup c.in-Some.is c.in-Subscriber.is))
-    (failure_of c.update_connections-in-Subscriber.result) c.update_connections-in-Subscriber.ensures.updates) c.update_reply-in-Subscriber.ensures
+    (returned_failure c.update_connections-in-Subscriber.result) c.update_connections-in-Subscriber.ensures.updates) c.update_reply-in-Subscriber.ensures
 
 pub returns-in_default-made-clause-carries : goal.returns-in_default-made-clause-carries
 returns-in_default-made-clause-carries g c =
@@ -79,12 +79,12 @@ returns-then-is_blocked-clause-leaves g c =
 pub returns-else-is_blocked-clause-carries : goal.returns-else-is_blocked-clause-carries
 returns-else-is_blocked-clause-carries g c =
     update_of_publisher {T = g.row.T.Denot} {U = g.row.U.Denot} fixed_handlers _ c.args.domain.now c.update_connections.new.domain c.args.table.now c.args.of
-    c.in-Publisher.publisher (failure_of c.update_connections.result) c.update_reply.result
+    c.in-Publisher.publisher (returned_failure c.update_connections.result) c.update_reply.result
     (looked c.args.table.now c.args.of c.get.result c.in-Some.made _ c.get.ensures.lookup c.in-Some.is c.in-Publisher.is)
     (shown_free {T = g.row.T.Denot} {U = g.row.U.Denot} c.args.domain.now (publisher_key c.in-Publisher.publisher) (c.is_blocked.ensures.0 c.if-is_blocked.false))
     (publisher_updated {T = g.row.T.Denot} {U = g.row.U.Denot} (answers_of g.F.BackpressureFn.allows g.G.DegradationFn.allows c.args.domain.now.boxes.publishers) c.args.domain.now c.update_connections.new.domain c.in-Publisher.publisher.id
     (unboxed_publisher {T = g.row.T.Denot} {U = g.row.U.Denot} c.args.domain.now c.args.table.now c.requires c.args.of c.in-Publisher.publisher (looked c.args.table.now c.args.of c.get.result c.in-Some.made _ c.get.ensures.lookup c.in-Some.is c.in-Publisher.is))
-    (failure_of c.update_connections.result) c.update_connections.ensures.updates) c.update_reply.ensures
+    (returned_failure c.update_connections.result) c.update_connections.ensures.updates) c.update_reply.ensures
 
 pub returns-else-is_blocked-clause-leaves : goal.returns-else-is_blocked-clause-leaves
 returns-else-is_blocked-clause-leaves g c =

@@ -1,4 +1,4 @@
-use Rattle.std.proofs.Common.{◌≡◌, ap, sym, subst, ◌∙◌, false, None, Some}
+use Rattle.std.proofs.Common.{◌≡◌, ap, sym, subst, ◌∙◌, false, Some}
 use Rattle.iox2_store.specs.machine.State.{is_blocked}
 use Rattle.iox2_domain.specs.Kept.{Kept, state_of}
 use Rattle.iox2_domain.specs.Ports.{PublisherFields}
@@ -13,7 +13,7 @@ use Rattle.iox2_laws.proofs.PortsStay.{update_publisher_stays}
 use Rattle.iox2_laws.proofs.Waits.{update_publisher_waits}
 use Rattle.iox2_domain.specs.Connects.{UpdatesPublisher}
 use Rattle.iox2_domain.specs.Fields.{keeping}
-use Rattle.iox2_pubsub.specs.UpdateCalls.{failure_of}
+use Rattle.iox2_pubsub.specs.UpdateCalls.{returned_failure}
 use Rattle.iox2_pubsub.specs.Live.{No_item, publisher_key}
 use Rattle.iox2_pubsub.proofs.CallsStay.{always-shown}
 use Rattle.iox2_pubsub.proofs.StaysBut.{IsSpared}
@@ -37,7 +37,7 @@ invariant_of-domain g c = (c.update_publisher.ensures c.in-Some.ensures.0 c.in-S
 pub returns-clause-updates : goal.returns-clause-updates
 returns-clause-updates g c = λ m s shown.
     publisher-update-shows {T = g.row.T.Denot} {U = g.row.U.Denot} (answers_of g.F.BackpressureFn.allows g.G.DegradationFn.allows c.args.domain.now.boxes.publishers) c.args.domain.now c.domain.inside.state c.update_publisher.new.state c.domain.view_is
-    c.in-Some.place c.args.self.now.id m s shown (failure_of c.outcome_of.result) c.in-Some.ensures
+    c.in-Some.place c.args.self.now.id m s shown (returned_failure c.outcome_of.result) c.in-Some.ensures
     (λ x at. subst (UpdatesPublisher (answers_of g.F.BackpressureFn.allows g.G.DegradationFn.allows c.args.domain.now.boxes.publishers) c.domain.inside.state c.in-Some.place x c.update_publisher.new.state) (sym c.outcome_of.ensures)
     (publisher-updated g.F.BackpressureFn.allows g.G.DegradationFn.allows c.domain.inside.state c.update_publisher.new.state c.args.domain.now c.domain.view_is c.in-Some.place c.update_publisher.result c.update_publisher.ensures x at))
 
@@ -46,8 +46,8 @@ returns-clause-stays g c =
     let it = always-shown {T = g.row.T.Denot} {U = g.row.U.Denot} c.domain.inside.state c.args.domain.now c.domain.invariant c.domain.view_is in
     let step = returns-clause-updates g c it.0 it.1 it.2 in
     updates-stay {T = g.row.T.Denot} {U = g.row.U.Denot} c.args.domain.now (keeping _ c.update_publisher.new.state) it.0 it.1 step.0 it.2 step.1
-    (update_publisher_stays (answers_of g.F.BackpressureFn.allows g.G.DegradationFn.allows c.args.domain.now.boxes.publishers) it.1 c.args.self.now.id step.0 (failure_of c.outcome_of.result) step.2) (update_publisher_loans (answers_of g.F.BackpressureFn.allows g.G.DegradationFn.allows c.args.domain.now.boxes.publishers) it.1 c.args.self.now.id step.0 (failure_of c.outcome_of.result) step.2)
-    (update_publisher_waits (IsSpared No_item) (answers_of g.F.BackpressureFn.allows g.G.DegradationFn.allows c.args.domain.now.boxes.publishers) it.1 c.args.self.now.id step.0 (failure_of c.outcome_of.result) step.2) (same-boxes c.domain.inside.state c.update_publisher.new.state c.args.domain.now c.domain.view_is)
+    (update_publisher_stays (answers_of g.F.BackpressureFn.allows g.G.DegradationFn.allows c.args.domain.now.boxes.publishers) it.1 c.args.self.now.id step.0 (returned_failure c.outcome_of.result) step.2) (update_publisher_loans (answers_of g.F.BackpressureFn.allows g.G.DegradationFn.allows c.args.domain.now.boxes.publishers) it.1 c.args.self.now.id step.0 (returned_failure c.outcome_of.result) step.2)
+    (update_publisher_waits (IsSpared No_item) (answers_of g.F.BackpressureFn.allows g.G.DegradationFn.allows c.args.domain.now.boxes.publishers) it.1 c.args.self.now.id step.0 (returned_failure c.outcome_of.result) step.2) (same-boxes c.domain.inside.state c.update_publisher.new.state c.args.domain.now c.domain.view_is)
 
 pub update_publisher-requires-clause-stands : goal.update_publisher-requires-clause-stands
 update_publisher-requires-clause-stands g c = (c.in-Some.ensures.0, c.in-Some.ensures.1)
@@ -62,19 +62,19 @@ pub returns-clause-adds : goal.returns-clause-adds
 returns-clause-adds g c =
     let it = always-shown {T = g.row.T.Denot} {U = g.row.U.Denot} c.domain.inside.state c.args.domain.now c.domain.invariant c.domain.view_is in
     let step = returns-clause-updates g c it.0 it.1 it.2 in
-    publisher-update-adds {T = g.row.T.Denot} {U = g.row.U.Denot} c.args.domain.now (keeping _ c.update_publisher.new.state) it.0 it.0 it.1 step.0 it.2 step.1 (answers_of g.F.BackpressureFn.allows g.G.DegradationFn.allows c.args.domain.now.boxes.publishers) c.args.self.now.id (failure_of c.outcome_of.result) step.2
+    publisher-update-adds {T = g.row.T.Denot} {U = g.row.U.Denot} c.args.domain.now (keeping _ c.update_publisher.new.state) it.0 it.0 it.1 step.0 it.2 step.1 (answers_of g.F.BackpressureFn.allows g.G.DegradationFn.allows c.args.domain.now.boxes.publishers) c.args.self.now.id (returned_failure c.outcome_of.result) step.2
 
 pub returns-clause-up_to_date : goal.returns-clause-up_to_date
 returns-clause-up_to_date g c =
     let it = always-shown {T = g.row.T.Denot} {U = g.row.U.Denot} c.domain.inside.state c.args.domain.now c.domain.invariant c.domain.view_is in
     let step = returns-clause-updates g c it.0 it.1 it.2 in
-    publisher-update-leaves {T = g.row.T.Denot} {U = g.row.U.Denot} c.args.domain.now (keeping _ c.update_publisher.new.state) it.0 it.0 it.1 step.0 it.2 step.1 (answers_of g.F.BackpressureFn.allows g.G.DegradationFn.allows c.args.domain.now.boxes.publishers) c.args.self.now.id (failure_of c.outcome_of.result) step.2
+    publisher-update-leaves {T = g.row.T.Denot} {U = g.row.U.Denot} c.args.domain.now (keeping _ c.update_publisher.new.state) it.0 it.0 it.1 step.0 it.2 step.1 (answers_of g.F.BackpressureFn.allows g.G.DegradationFn.allows c.args.domain.now.boxes.publishers) c.args.self.now.id (returned_failure c.outcome_of.result) step.2
 
 pub returns-clause-loans_left : goal.returns-clause-loans_left
 returns-clause-loans_left g c =
     let it = always-shown {T = g.row.T.Denot} {U = g.row.U.Denot} c.domain.inside.state c.args.domain.now c.domain.invariant c.domain.view_is in
     let step = returns-clause-updates g c it.0 it.1 it.2 in
-    update-publisher-left {T = g.row.T.Denot} {U = g.row.U.Denot} c.args.domain.now (keeping _ c.update_publisher.new.state) it.0 it.0 it.1 step.0 it.2 step.1 (answers_of g.F.BackpressureFn.allows g.G.DegradationFn.allows c.args.domain.now.boxes.publishers) c.args.self.now.id (failure_of c.outcome_of.result) step.2
+    update-publisher-left {T = g.row.T.Denot} {U = g.row.U.Denot} c.args.domain.now (keeping _ c.update_publisher.new.state) it.0 it.0 it.1 step.0 it.2 step.1 (answers_of g.F.BackpressureFn.allows g.G.DegradationFn.allows c.args.domain.now.boxes.publishers) c.args.self.now.id (returned_failure c.outcome_of.result) step.2
 
 pub update_publisher-requires-clause-unblocked : goal.update_publisher-requires-clause-unblocked
 update_publisher-requires-clause-unblocked g c = λ z at_z.
@@ -89,4 +89,4 @@ pub returns-clause-leaves : goal.returns-clause-leaves
 returns-clause-leaves g c =
     let it = always-shown {T = g.row.T.Denot} {U = g.row.U.Denot} c.domain.inside.state c.args.domain.now c.domain.invariant c.domain.view_is in
     let step = returns-clause-updates g c it.0 it.1 it.2 in
-    update-connected {T = g.row.T.Denot} {U = g.row.U.Denot} c.args.domain.now (keeping _ c.update_publisher.new.state) it.0 it.0 it.1 step.0 it.2 step.1 (answers_of g.F.BackpressureFn.allows g.G.DegradationFn.allows c.args.domain.now.boxes.publishers) c.args.self.now.id (failure_of c.outcome_of.result) step.2
+    update-connected {T = g.row.T.Denot} {U = g.row.U.Denot} c.args.domain.now (keeping _ c.update_publisher.new.state) it.0 it.0 it.1 step.0 it.2 step.1 (answers_of g.F.BackpressureFn.allows g.G.DegradationFn.allows c.args.domain.now.boxes.publishers) c.args.self.now.id (returned_failure c.outcome_of.result) step.2
