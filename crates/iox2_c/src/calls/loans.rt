@@ -14,6 +14,7 @@ use crate::status::{NOT_LIVE, OK};
 use iox2_pubsub::slice::SampleMut;
 
 /// A handle of a loan that is out.
+#[inline(always)]
 pub fn written_loan(domain: &BytesDomain, numbers: &LoanNumbers) -> Option<SampleMut>
     ensures out { IfSome result (λ it. IsWritten domain.now (as_written it)) }
     ensures named { IfSome result (λ it. written_key (as_written it) ≡ named_loan numbers.now) }

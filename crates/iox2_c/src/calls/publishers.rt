@@ -84,6 +84,7 @@ pub fn create_with(
 }
 
 /// A handle of a publisher that may be called, or the code that says why there is none.
+#[inline(always)]
 pub fn ready_publisher(domain: &BytesDomain, numbers: &PublisherNumbers) -> Result<Publisher, u32>
     ensures ready { IfOk result (λ it. IsReadyPublisher domain.now (as_publisher it)) }
     ensures named { IfOk result (λ it. publisher_key (as_publisher it) ≡ named_publisher numbers.now) }

@@ -70,6 +70,7 @@ pub fn create_with(
 }
 
 /// A handle of a subscriber that wasn't closed.
+#[inline(always)]
 pub fn live_subscriber(domain: &BytesDomain, numbers: &SubscriberNumbers) -> Option<Subscriber>
     ensures live { IfSome result (λ it. IsLiveSubscriber domain.now (as_subscriber it)) }
     ensures named { IfSome result (λ it. subscriber_key (as_subscriber it) ≡ named_subscriber numbers.now) }

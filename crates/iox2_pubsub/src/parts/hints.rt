@@ -1,6 +1,6 @@
 //! What a handle made of numbers names is looked for first where the numbers say.
-ghost use Rattle.std.specs.Prelude.{◌≡◌, ◌↔◌, true, IsTrue, MatchOption};
-ghost use Rattle.iox2_store.specs.machine.SingleCalls.{HoldsLoan, HoldsPublisher, HoldsSample, HoldsSubscriber};
+ghost use Rattle.std.specs.Prelude.{◌≡◌, ◌↔◌, true, IsTrue};
+ghost use Rattle.iox2_store.specs.machine.SingleCalls.{HoldsPublisher, HoldsSample, HoldsSubscriber};
 ghost use Rattle.iox2_domain.specs.Kept.{state_of};
 ghost use Rattle.iox2_domain.specs.Fields.{kept_of};
 ghost use Rattle.iox2_domain.specs.Invariant.{IsDomain, is_lent};
@@ -8,7 +8,7 @@ ghost use Rattle.iox2_domain.specs.LoanCalls.{HoldsUnwritten, HoldsWritten};
 ghost use Rattle.iox2_domain.specs.LoanSlots.{IsLoanSlot, LiesInSlot};
 ghost use Rattle.iox2_pubsub.specs.Parts.{written_mark};
 
-use iox2_domain::{DomainState, LoanAt, MessageSlot, SampleAt};
+use iox2_domain::{DomainState, LoanAt, SampleAt};
 use iox2_slots::{SlotBook, SlotMark};
 use iox2_store::{UniquePublisherId, UniqueSubscriberId};
 
@@ -72,24 +72,6 @@ fn is_lent_at_hint<T: Drop, U: Default + Drop>(state: &DomainState<T, U>, loan: 
     }
 }
 
-// Where a publisher's loan lies, and `None` where it isn't out.
-fn find_loan<T: Drop, U: Default + Drop>(
-    state: &DomainState<T, U>,
-    loan: &LoanAt,
-) -> Option<MessageSlot>
-    requires { IsDomain state.now }
-    ensures { MatchOption result (HoldsLoan (state_of (kept_of state.now)) loan.now.publisher loan.now.number → ⊥)
-        (λ at. LiesInSlot state.now loan.now.publisher loan.now.number at.book at.slot) }
-{
-    if is_lent_at_hint(state, loan) {
-        return Some(MessageSlot {
-            book: loan.book,
-            slot: loan.slot,
-        });
-    }
-    state.find_loan(loan.publisher, loan.number)
-}
-
 fn is_written(mark: SlotMark) -> bool
     ensures { result ≡ written_mark mark }
 {
@@ -104,7 +86,24 @@ pub(crate) fn has_written<T: Drop, U: Default + Drop>(
     requires { IsDomain state.now }
     ensures { IsTrue result ↔ HoldsWritten (state_of (kept_of state.now)) loan.now.publisher loan.now.number }
 {
-    let Some(at) = find_loan(state, loan) else {
+    if is_lent_at_hint(state, loan) {
+        return is_written(state.books[loan.book].mark(loan.slot));
+    }
+    search_written(state, loan.publisher, loan.number)
+}
+
+// The same, where the loan doesn't lie in the slot that is named. The publisher's loans are gone
+// through.
+#[inline(never)]
+fn search_written<T: Drop, U: Default + Drop>(
+    state: &DomainState<T, U>,
+    publisher: UniquePublisherId,
+    number: u128,
+) -> bool
+    requires { IsDomain state.now }
+    ensures { IsTrue result ↔ HoldsWritten (state_of (kept_of state.now)) publisher number }
+{
+    let Some(at) = state.find_loan(publisher, number) else {
         return false;
     };
     is_written(state.books[at.book].mark(at.slot))
@@ -118,7 +117,24 @@ pub(crate) fn has_unwritten<T: Drop, U: Default + Drop>(
     requires { IsDomain state.now }
     ensures { IsTrue result ↔ HoldsUnwritten (state_of (kept_of state.now)) loan.now.publisher loan.now.number }
 {
-    let Some(at) = find_loan(state, loan) else {
+    if is_lent_at_hint(state, loan) {
+        return !is_written(state.books[loan.book].mark(loan.slot));
+    }
+    search_unwritten(state, loan.publisher, loan.number)
+}
+
+// The same, where the loan doesn't lie in the slot that is named. The publisher's loans are gone
+// through.
+#[inline(never)]
+fn search_unwritten<T: Drop, U: Default + Drop>(
+    state: &DomainState<T, U>,
+    publisher: UniquePublisherId,
+    number: u128,
+) -> bool
+    requires { IsDomain state.now }
+    ensures { IsTrue result ↔ HoldsUnwritten (state_of (kept_of state.now)) publisher number }
+{
+    let Some(at) = state.find_loan(publisher, number) else {
         return false;
     };
     !is_written(state.books[at.book].mark(at.slot))

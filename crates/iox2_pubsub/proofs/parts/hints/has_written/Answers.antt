@@ -1,15 +1,11 @@
 use Rattle.std.proofs.Common.{ap, sym, ◌∙◌}
 use Rattle.slab.specs.Slab.{get}
 use Rattle.iox2_domain.specs.Fields.{Fields}
-use Rattle.iox2_pubsub.proofs.MarkedLoans.{written-tells, no-written}
+use Rattle.iox2_pubsub.proofs.MarkedLoans.{written-tells}
 use Rattle.iox2_pubsub.proofs.parts.hints.has_written.Goals as goal
 
-pub returns : goal.returns
-returns g c =
-    let told = written-tells {T = g.row.T.Denot} {U = g.row.U.Denot} c.args.state.now c.args.loan.now.publisher c.args.loan.now.number c.in-Some.at.book c.in-Some.at.slot c.in-Some.ensures
-    c.index.result.now (sym (ap (λ (f : Fields g.row.T.Denot g.row.U.Denot). get f.books c.in-Some.at.book) c.state.view_is) ∙ c.index.ensures) c.mark.result c.mark.ensures in
+pub returns-then-is_lent_at_hint : goal.returns-then-is_lent_at_hint
+returns-then-is_lent_at_hint g c =
+    let told = written-tells {T = g.row.T.Denot} {U = g.row.U.Denot} c.args.state.now c.args.loan.now.publisher c.args.loan.now.number c.args.loan.now.book c.args.loan.now.slot (c.is_lent_at_hint.ensures c.if-is_lent_at_hint.true)
+    c.index.result.now (sym (ap (λ (f : Fields g.row.T.Denot g.row.U.Denot). get f.books c.args.loan.now.book) c.state.view_is) ∙ c.index.ensures) c.mark.result c.mark.ensures in
     (λ yes. told.0 (sym c.is_written.ensures ∙ yes), λ has. c.is_written.ensures ∙ told.1 has)
-
-pub returns-in_default : goal.returns-in_default
-returns-in_default g c =
-    (λ no. absurd cc, λ held. absurd (no-written {T = g.row.T.Denot} {U = g.row.U.Denot} c.args.state.now c.args.loan.now.publisher c.args.loan.now.number c.in_default.ensures held))

@@ -1,0 +1,20 @@
+use Rattle.std.proofs.Common.{◌≡◌, Bool, true, false, not, refl, ap, sym, ◌∙◌}
+use Rattle.slab.specs.Slab.{get}
+use Rattle.iox2_domain.specs.Fields.{Fields}
+use Rattle.iox2_pubsub.proofs.MarkedLoans.{unwritten-tells, no-unwritten}
+use Rattle.iox2_pubsub.proofs.parts.hints.search_unwritten.Goals as goal
+
+-- what isn't so is false
+untrue : (r : Bool) → not r ≡ true → r ≡ false
+untrue true e = absurd cc
+untrue false e = refl
+
+pub returns : goal.returns
+returns g c =
+    let told = unwritten-tells {T = g.row.T.Denot} {U = g.row.U.Denot} c.args.state.now c.args.publisher c.args.number c.in-Some.at.book c.in-Some.at.slot c.in-Some.ensures
+    c.index.result.now (sym (ap (λ (f : Fields g.row.T.Denot g.row.U.Denot). get f.books c.in-Some.at.book) c.state.view_is) ∙ c.index.ensures) c.mark.result c.mark.ensures in
+    (λ yes. told.0 (sym c.is_written.ensures ∙ untrue c.is_written.result yes), λ has. ap not (c.is_written.ensures ∙ told.1 has))
+
+pub returns-in_default : goal.returns-in_default
+returns-in_default g c =
+    (λ no. absurd cc, λ held. absurd (no-unwritten {T = g.row.T.Denot} {U = g.row.U.Denot} c.args.state.now c.args.publisher c.args.number c.in_default.ensures held))
