@@ -18,8 +18,8 @@ abbrev pub entry_for : Made → TableEntry
 entry_for Nothing = No_entry
 entry_for (Publisher publisher) = Publisher_entry publisher.service_id publisher.id
 entry_for (Subscriber subscriber) = Subscriber_entry subscriber.service_id subscriber.id
-entry_for (Unwritten sample) = Unwritten_entry sample.service_id sample.loan.publisher sample.loan.number
-entry_for (Written sample) = Written_entry sample.service_id sample.loan.publisher sample.loan.number
+entry_for (Unwritten loan) = Unwritten_entry loan.service_id loan.loan.publisher loan.loan.number
+entry_for (Written loan) = Written_entry loan.service_id loan.loan.publisher loan.loan.number
 entry_for (Blocked blocked) = Blocked_entry blocked.service_id blocked.loan.publisher blocked.loan.number
 entry_for (Sample sample) = Sample_entry sample.service_id sample.origin sample.sample.subscriber sample.sample.number
 

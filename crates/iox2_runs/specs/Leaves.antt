@@ -10,8 +10,8 @@ abbrev pub item_of : Made → Item
 item_of Nothing = No_item
 item_of (Publisher publisher) = publisher_port publisher
 item_of (Subscriber subscriber) = subscriber_port subscriber
-item_of (Unwritten sample) = Both (unwritten_loan sample) (A_blocked_send sample.loan.publisher)
-item_of (Written sample) = Both (written_loan sample) (A_blocked_send sample.loan.publisher)
+item_of (Unwritten loan) = Both (unwritten_loan loan) (A_blocked_send loan.loan.publisher)
+item_of (Written loan) = Both (written_loan loan) (A_blocked_send loan.loan.publisher)
 item_of (Blocked blocked) = blocked_send blocked
 item_of (Sample sample) = received_sample sample
 

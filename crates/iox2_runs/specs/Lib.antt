@@ -6,6 +6,7 @@ pub mod SendReplies
 pub mod Carries
 pub mod DomainRuns
 pub mod Leaves
+pub mod CarriesOut
 pub mod Compared
 pub mod Services
 pub mod Cells

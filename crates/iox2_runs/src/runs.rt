@@ -5,9 +5,8 @@ ghost use Rattle.iox2_store.specs.machine.Environments.{fixed_handlers};
 ghost use Rattle.iox2_store.specs.machine.State.{State, Messages};
 ghost use Rattle.iox2_domain.specs.Shows.{Shows};
 ghost use Rattle.iox2_pubsub.specs.Live.{Stays};
-ghost use Rattle.iox2_runs.specs.Leaves.{Leaves};
-ghost use Rattle.iox2_runs.specs.Rooms.{SameRoom};
-ghost use Rattle.iox2_runs.specs.Carries.{IsLiveTable, Carries, defaults_of};
+ghost use Rattle.iox2_runs.specs.Carries.{IsLiveTable, defaults_of};
+ghost use Rattle.iox2_runs.specs.CarriesOut.{CarriesOut};
 ghost use Rattle.iox2_commands.specs.Outcomes.{Event};
 ghost use Rattle.iox2_commands.specs.OneDefault.{HasOneDefault};
 ghost use Rattle.iox2_commands.specs.Points.{GrantsLoans};
@@ -70,9 +69,7 @@ fn carry_out<
 ) -> (Reply<T, U>, Made)
     requires supported { IsSupportedCommand command }
     requires keeps { IsLiveTable domain.old table.old.items }
-    ensures carries { Carries fixed_handlers (defaults_of T.is_default U.is_default) domain.old domain.new table.old.items command result.0 table.new.items result.1 }
-    ensures leaves { Leaves domain.old domain.new table.old.items table.new.items result.1 }
-    ensures room { SameRoom table.old table.new }
+    ensures { CarriesOut fixed_handlers (defaults_of T.is_default U.is_default) domain.old domain.new table.old table.new command result.0 result.1 }
 {
     match command {
         Command::CreatePublisher {

@@ -23,37 +23,37 @@ pub(crate) fn unwritten_cell<
     G: DegradationFn,
 >(
     domain: &Domain<T, U, F, G>,
-    sample: SampleMutUninit,
+    loan: SampleMutUninit,
     at: usize,
 ) -> (Option<Option<T>>, SampleMutUninit)
-    requires { IsUnwritten domain.now sample }
-    ensures reads { LoanHasAt domain.now sample.loan.number at result.0 }
-    ensures same { result.1 ≡ sample }
+    requires { IsUnwritten domain.now loan }
+    ensures reads { LoanHasAt domain.now loan.loan.number at result.0 }
+    ensures same { result.1 ≡ loan }
 {
     if is_single_valued(domain) {
-        return (only_at(at, *sample.payload(domain)), sample);
+        return (only_at(at, *loan.payload(domain)), loan);
     }
-    let sample = slice::SampleMutUninit::new(sample);
-    let cell = sample.payload(domain).get(at).copied();
-    (cell, sample.into_inner())
+    let loan = slice::SampleMutUninit::new(loan);
+    let cell = loan.payload(domain).get(at).copied();
+    (cell, loan.into_inner())
 }
 
 /// Reads the written loan's value at the index, if it has one there.
 pub(crate) fn written_value<T: Copy + Drop, U: Default + Drop, F: BackpressureFn, G: DegradationFn>(
     domain: &Domain<T, U, F, G>,
-    sample: SampleMut,
+    loan: SampleMut,
     at: usize,
 ) -> (Option<T>, SampleMut)
-    requires { IsWritten domain.now sample }
-    ensures reads { LoanHasAt domain.now sample.loan.number at (option_map Some result.0) }
-    ensures same { result.1 ≡ sample }
+    requires { IsWritten domain.now loan }
+    ensures reads { LoanHasAt domain.now loan.loan.number at (option_map Some result.0) }
+    ensures same { result.1 ≡ loan }
 {
     if is_single_valued(domain) {
-        return (only_at(at, *sample.payload(domain)), sample);
+        return (only_at(at, *loan.payload(domain)), loan);
     }
-    let sample = slice::SampleMut::new(sample);
-    let value = sample.payload(domain).get(at).copied();
-    (value, sample.into_inner())
+    let loan = slice::SampleMut::new(loan);
+    let value = loan.payload(domain).get(at).copied();
+    (value, loan.into_inner())
 }
 
 /// Reads the message's value at the index, if it has one there.
@@ -85,79 +85,79 @@ fn only_at<V: Drop>(at: usize, only: V) -> Option<V>
 /// Writes the unwritten loan's cell at the index, and says whether it has one there.
 pub(crate) fn write_cell_at<T: Drop, U: Default + Drop, F: BackpressureFn, G: DegradationFn>(
     domain: &mut Domain<T, U, F, G>,
-    mut sample: SampleMutUninit,
+    mut loan: SampleMutUninit,
     at: usize,
     value: T,
 ) -> (bool, SampleMutUninit)
-    requires { IsUnwritten domain.old sample }
-    ensures writes { WritesAt domain.old domain.new sample.loan.number at value result.0 }
-    ensures same { result.1 ≡ sample }
-    ensures stays { StaysBut (unwritten_loan sample) domain.old domain.new }
+    requires { IsUnwritten domain.old loan }
+    ensures writes { WritesAt domain.old domain.new loan.loan.number at value result.0 }
+    ensures same { result.1 ≡ loan }
+    ensures stays { StaysBut (unwritten_loan loan) domain.old domain.new }
 {
     if is_single_valued(domain) {
         // For the proof alone: the loan has one cell.
-        sample.payload(domain);
+        loan.payload(domain);
         if at != 0 {
-            return (false, sample);
+            return (false, loan);
         }
-        *SampleMutUninit::payload_mut(domain, &mut sample) = Some(value);
-        return (true, sample);
+        *SampleMutUninit::payload_mut(domain, &mut loan) = Some(value);
+        return (true, loan);
     }
-    let mut sample = slice::SampleMutUninit::new(sample);
-    if at >= sample.payload(domain).len() {
-        return (false, sample.into_inner());
+    let mut loan = slice::SampleMutUninit::new(loan);
+    if at >= loan.payload(domain).len() {
+        return (false, loan.into_inner());
     }
-    let cells = slice::SampleMutUninit::payload_mut(domain, &mut sample);
+    let cells = slice::SampleMutUninit::payload_mut(domain, &mut loan);
     cells[at] = Some(value);
-    (true, sample.into_inner())
+    (true, loan.into_inner())
 }
 
 /// Changes the written loan's value at the index, and says whether it has one there.
 pub(crate) fn set_value_at<T: Drop, U: Default + Drop, F: BackpressureFn, G: DegradationFn>(
     domain: &mut Domain<T, U, F, G>,
-    mut sample: SampleMut,
+    mut loan: SampleMut,
     at: usize,
     value: T,
 ) -> (bool, SampleMut)
-    requires { IsWritten domain.old sample }
-    ensures writes { WritesAt domain.old domain.new sample.loan.number at value result.0 }
-    ensures same { result.1 ≡ sample }
-    ensures stays { StaysBut (written_loan sample) domain.old domain.new }
+    requires { IsWritten domain.old loan }
+    ensures writes { WritesAt domain.old domain.new loan.loan.number at value result.0 }
+    ensures same { result.1 ≡ loan }
+    ensures stays { StaysBut (written_loan loan) domain.old domain.new }
 {
     if is_single_valued(domain) {
         // For the proof alone: the loan has one value.
-        sample.payload(domain);
+        loan.payload(domain);
         if at != 0 {
-            return (false, sample);
+            return (false, loan);
         }
-        *SampleMut::payload_mut(domain, &mut sample) = value;
-        return (true, sample);
+        *SampleMut::payload_mut(domain, &mut loan) = value;
+        return (true, loan);
     }
-    let mut sample = slice::SampleMut::new(sample);
-    if at >= sample.payload(domain).len() {
-        return (false, sample.into_inner());
+    let mut loan = slice::SampleMut::new(loan);
+    if at >= loan.payload(domain).len() {
+        return (false, loan.into_inner());
     }
-    let values = slice::SampleMut::payload_mut(domain, &mut sample);
+    let values = slice::SampleMut::payload_mut(domain, &mut loan);
     values[at] = value;
-    (true, sample.into_inner())
+    (true, loan.into_inner())
 }
 
 /// Writes the value into each cell of the loan.
 pub(crate) fn write_cells<T: Copy + Drop, U: Default + Drop, F: BackpressureFn, G: DegradationFn>(
     domain: &mut Domain<T, U, F, G>,
-    sample: SampleMutUninit,
+    loan: SampleMutUninit,
     value: T,
 ) -> SampleMut
-    requires { IsUnwritten domain.old sample }
+    requires { IsUnwritten domain.old loan }
     ensures written { (m : Messages T U) (s : State T U) → Shows domain.old m s
-        → (l : Loan T U) × (s.loans sample.loan.number ≡ Some l) × Shows domain.new m (with_loan s sample.loan.number (Some (written l value))) }
-    ensures key { written_key result ≡ unwritten_key sample }
-    ensures stays { StaysBut (unwritten_loan sample) domain.old domain.new }
+        → (l : Loan T U) × (s.loans loan.loan.number ≡ Some l) × Shows domain.new m (with_loan s loan.loan.number (Some (written l value))) }
+    ensures key { written_key result ≡ unwritten_key loan }
+    ensures stays { StaysBut (unwritten_loan loan) domain.old domain.new }
 {
     if is_single_valued(domain) {
-        return sample.write_payload(domain, value);
+        return loan.write_payload(domain, value);
     }
-    slice::SampleMutUninit::new(sample)
+    slice::SampleMutUninit::new(loan)
         .write_from_fn(domain, |_| value)
         .into_inner()
 }

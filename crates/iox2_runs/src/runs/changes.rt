@@ -28,9 +28,9 @@ pub(crate) fn write_cell<T: Default + Drop, U: Default + Drop, F: BackpressureFn
     ensures room { SameRoom table.old table.new }
 {
     match take(table, of) {
-        Made::Unwritten(sample) => {
-            let (is_there, sample) = write_cell_at(domain, sample, at, value);
-            put(table, of, Made::Unwritten(sample));
+        Made::Unwritten(loan) => {
+            let (is_there, loan) = write_cell_at(domain, loan, at, value);
+            put(table, of, Made::Unwritten(loan));
             done_if(is_there)
         }
         other => {
@@ -59,9 +59,9 @@ pub(crate) fn set_payload<
     ensures room { SameRoom table.old table.new }
 {
     match take(table, of) {
-        Made::Written(sample) => {
-            let (is_there, sample) = set_value_at(domain, sample, at, value);
-            put(table, of, Made::Written(sample));
+        Made::Written(loan) => {
+            let (is_there, loan) = set_value_at(domain, loan, at, value);
+            put(table, of, Made::Written(loan));
             done_if(is_there)
         }
         other => {
@@ -95,14 +95,14 @@ pub(crate) fn write_header<
     ensures room { SameRoom table.old table.new }
 {
     match take(table, of) {
-        Made::Unwritten(mut sample) => {
-            *SampleMutUninit::user_header_mut(domain, &mut sample) = value;
-            put(table, of, Made::Unwritten(sample));
+        Made::Unwritten(mut loan) => {
+            *SampleMutUninit::user_header_mut(domain, &mut loan) = value;
+            put(table, of, Made::Unwritten(loan));
             Reply::Done
         }
-        Made::Written(mut sample) => {
-            *SampleMut::user_header_mut(domain, &mut sample) = value;
-            put(table, of, Made::Written(sample));
+        Made::Written(mut loan) => {
+            *SampleMut::user_header_mut(domain, &mut loan) = value;
+            put(table, of, Made::Written(loan));
             Reply::Done
         }
         other => {
@@ -125,13 +125,13 @@ pub(crate) fn assume_init<
     ensures room { SameRoom table.old table.new }
 {
     match take(table, of) {
-        Made::Unwritten(sample) => match sample.assume_init(domain) {
-            Ok(sample) => {
-                put(table, of, Made::Written(sample));
+        Made::Unwritten(loan) => match loan.assume_init(domain) {
+            Ok(loan) => {
+                put(table, of, Made::Written(loan));
                 Reply::Done
             }
-            Err(sample) => {
-                put(table, of, Made::Unwritten(sample));
+            Err(loan) => {
+                put(table, of, Made::Unwritten(loan));
                 Reply::Unwritten
             }
         },

@@ -34,7 +34,7 @@ pub(crate) fn loan<T: Default + Drop, U: Default + Drop, F: BackpressureFn, G: D
                 return (Reply::Skipped, Made::Nothing);
             }
             match publisher.loan(domain) {
-                Ok(sample) => (Reply::Loaned, Made::Written(sample)),
+                Ok(loan) => (Reply::Loaned, Made::Written(loan)),
                 Err(error) => (Reply::LoanRefused(error), Made::Nothing),
             }
         }

@@ -23,12 +23,12 @@ pub(crate) fn discard<T: Default + Drop, U: Default + Drop, F: BackpressureFn, G
     ensures room { SameRoom table.old table.new }
 {
     match take(table, of) {
-        Made::Unwritten(sample) => {
-            sample.discard(domain);
+        Made::Unwritten(loan) => {
+            loan.discard(domain);
             Reply::Done
         }
-        Made::Written(sample) => {
-            sample.discard(domain);
+        Made::Written(loan) => {
+            loan.discard(domain);
             Reply::Done
         }
         other => {

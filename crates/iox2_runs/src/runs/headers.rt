@@ -23,8 +23,8 @@ pub(crate) fn read_header<
         return Reply::Skipped;
     };
     match made {
-        Made::Unwritten(sample) => Reply::Header(*sample.header(domain)),
-        Made::Written(sample) => Reply::Header(*sample.header(domain)),
+        Made::Unwritten(loan) => Reply::Header(*loan.header(domain)),
+        Made::Written(loan) => Reply::Header(*loan.header(domain)),
         Made::Sample(sample) => Reply::Header(*sample.header(domain)),
         _ => Reply::Skipped,
     }
@@ -44,8 +44,8 @@ pub(crate) fn read_user_header<
         return Reply::Skipped;
     };
     match made {
-        Made::Unwritten(sample) => Reply::UserHeader(*sample.user_header(domain)),
-        Made::Written(sample) => Reply::UserHeader(*sample.user_header(domain)),
+        Made::Unwritten(loan) => Reply::UserHeader(*loan.user_header(domain)),
+        Made::Written(loan) => Reply::UserHeader(*loan.user_header(domain)),
         Made::Sample(sample) => Reply::UserHeader(*sample.user_header(domain)),
         _ => Reply::Skipped,
     }

@@ -38,7 +38,7 @@ pub(crate) fn loan_uninit<
                 return (Reply::Skipped, Made::Nothing);
             }
             match publisher.loan_uninit(domain) {
-                Ok(sample) => (Reply::Loaned, Made::Unwritten(sample)),
+                Ok(loan) => (Reply::Loaned, Made::Unwritten(loan)),
                 Err(error) => (Reply::LoanRefused(error), Made::Nothing),
             }
         }
@@ -59,9 +59,9 @@ pub(crate) fn write_all<
     ensures room { SameRoom table.old table.new }
 {
     match take(table, of) {
-        Made::Unwritten(sample) => {
-            let sample = write_cells(domain, sample, value);
-            put(table, of, Made::Written(sample));
+        Made::Unwritten(loan) => {
+            let loan = write_cells(domain, loan, value);
+            put(table, of, Made::Written(loan));
             Reply::Done
         }
         other => {
@@ -84,12 +84,12 @@ pub(crate) fn send<T: Default + Drop, U: Default + Drop, F: BackpressureFn, G: D
     ensures room { SameRoom table.old table.new }
 {
     match take(table, of) {
-        Made::Written(sample) => {
-            if sample.is_blocked(domain) {
-                put(table, of, Made::Written(sample));
+        Made::Written(loan) => {
+            if loan.is_blocked(domain) {
+                put(table, of, Made::Written(loan));
                 return (Reply::Skipped, Made::Nothing);
             }
-            send_reply(sample.send(domain))
+            send_reply(loan.send(domain))
         }
         other => {
             put(table, of, other);

@@ -25,14 +25,14 @@ pub(crate) enum Made {
 }
 
 impl Made {
-    /// Spends the handle. What it named in the domain stays.
-    pub(crate) fn disown(self) {
+    // Spends the handle. What it named in the domain stays.
+    fn disown(self) {
         match self {
             Made::Nothing => {}
             Made::Publisher(publisher) => publisher.disown(),
             Made::Subscriber(subscriber) => subscriber.disown(),
-            Made::Unwritten(sample) => sample.disown(),
-            Made::Written(sample) => sample.disown(),
+            Made::Unwritten(loan) => loan.disown(),
+            Made::Written(loan) => loan.disown(),
             Made::Blocked(blocked) => blocked.disown(),
             Made::Sample(sample) => sample.disown(),
         }

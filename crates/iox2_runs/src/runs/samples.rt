@@ -51,14 +51,14 @@ pub(crate) fn read<
     ensures room { SameRoom table.old table.new }
 {
     match take(table, of) {
-        Made::Unwritten(sample) => {
-            let (cell, sample) = unwritten_cell(domain, sample, at);
-            put(table, of, Made::Unwritten(sample));
+        Made::Unwritten(loan) => {
+            let (cell, loan) = unwritten_cell(domain, loan, at);
+            put(table, of, Made::Unwritten(loan));
             cell_reply(cell)
         }
-        Made::Written(sample) => {
-            let (value, sample) = written_value(domain, sample, at);
-            put(table, of, Made::Written(sample));
+        Made::Written(loan) => {
+            let (value, loan) = written_value(domain, loan, at);
+            put(table, of, Made::Written(loan));
             value_reply(value)
         }
         Made::Sample(sample) => {

@@ -37,7 +37,7 @@ pub(crate) fn loan_slice<T: Default + Drop, U: Default + Drop, F: BackpressureFn
             let loaned = publisher.loan_slice_uninit(domain, len);
             put(table, of, Made::Publisher(publisher.into_inner()));
             match loaned {
-                Ok(sample) => (Reply::Loaned, Made::Unwritten(sample.into_inner())),
+                Ok(loan) => (Reply::Loaned, Made::Unwritten(loan.into_inner())),
                 Err(error) => (Reply::LoanRefused(error), Made::Nothing),
             }
         }

@@ -12,12 +12,12 @@ use Rattle.iox2_runs.proofs.LeavingSteps.{leaves-all, leaves-spending}
 use Rattle.iox2_runs.proofs.runs.changes.set_payload.Goals as goal
 
 pub set_value_at-is_there-requires : goal.set_value_at-is_there-requires
-set_value_at-is_there-requires g c = live_written {T = g.row.T.Denot} {U = g.row.U.Denot} c.args.domain.now c.args.table.now.items c.requires c.args.of c.in-Written.sample (sym c.take.ensures.made ∙ c.in-Written.is)
+set_value_at-is_there-requires g c = live_written {T = g.row.T.Denot} {U = g.row.U.Denot} c.args.domain.now c.args.table.now.items c.requires c.args.of c.in-Written.loan (sym c.take.ensures.made ∙ c.in-Written.is)
 
 pub returns-in-Written-clause-carries : goal.returns-in-Written-clause-carries
 returns-in-Written-clause-carries g c =
     payload_carried {T = g.row.T.Denot} {U = g.row.U.Denot} _ c.args.domain.now c.set_value_at-is_there.new.domain c.args.table.now.items c.put.new.table.items c.args.of
-    c.in-Written.sample c.set_value_at-is_there.result.1 c.args.at c.args.value c.set_value_at-is_there.result.0 c.done_if.result (sym c.take.ensures.made ∙ c.in-Written.is) c.set_value_at-is_there.ensures.same c.set_value_at-is_there.ensures.writes c.done_if.ensures
+    c.in-Written.loan c.set_value_at-is_there.result.1 c.args.at c.args.value c.set_value_at-is_there.result.0 c.done_if.result (sym c.take.ensures.made ∙ c.in-Written.is) c.set_value_at-is_there.ensures.same c.set_value_at-is_there.ensures.writes c.done_if.ensures
     (c.put.ensures.items ∙ ap (λ (t : List Made). slice_set t c.args.of (Written c.set_value_at-is_there.result.1)) c.take.ensures.items ∙ set_again c.args.table.now.items c.args.of Nothing (Written c.set_value_at-is_there.result.1))
 
 pub returns-in_default-clause-carries : goal.returns-in_default-clause-carries
@@ -29,7 +29,7 @@ returns-in_default-clause-carries g c =
 pub returns-in-Written-clause-leaves : goal.returns-in-Written-clause-leaves
 returns-in-Written-clause-leaves g c =
     leaves-spending {T = g.row.T.Denot} {U = g.row.U.Denot} c.args.domain.now c.set_value_at-is_there.new.domain c.args.table.now.items c.put.new.table.items c.args.of
-    (Written c.in-Written.sample) (Written c.set_value_at-is_there.result.1) (sym c.take.ensures.made ∙ c.in-Written.is) (stays-but-more _ _ _ _ c.set_value_at-is_there.ensures.stays)
+    (Written c.in-Written.loan) (Written c.set_value_at-is_there.result.1) (sym c.take.ensures.made ∙ c.in-Written.is) (stays-but-more _ _ _ _ c.set_value_at-is_there.ensures.stays)
     (λ start fresh. rw c.set_value_at-is_there.ensures.same fresh)
     (c.put.ensures.items ∙ ap (λ (t : List Made). slice_set t c.args.of (Written c.set_value_at-is_there.result.1)) c.take.ensures.items ∙ set_again c.args.table.now.items c.args.of Nothing (Written c.set_value_at-is_there.result.1))
 

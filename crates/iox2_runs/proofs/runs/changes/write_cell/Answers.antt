@@ -12,12 +12,12 @@ use Rattle.iox2_runs.proofs.LeavingSteps.{leaves-all, leaves-spending}
 use Rattle.iox2_runs.proofs.runs.changes.write_cell.Goals as goal
 
 pub write_cell_at-is_there-requires : goal.write_cell_at-is_there-requires
-write_cell_at-is_there-requires g c = live_unwritten {T = g.row.T.Denot} {U = g.row.U.Denot} c.args.domain.now c.args.table.now.items c.requires c.args.of c.in-Unwritten.sample (sym c.take.ensures.made ∙ c.in-Unwritten.is)
+write_cell_at-is_there-requires g c = live_unwritten {T = g.row.T.Denot} {U = g.row.U.Denot} c.args.domain.now c.args.table.now.items c.requires c.args.of c.in-Unwritten.loan (sym c.take.ensures.made ∙ c.in-Unwritten.is)
 
 pub returns-in-Unwritten-clause-carries : goal.returns-in-Unwritten-clause-carries
 returns-in-Unwritten-clause-carries g c =
     cell_carried {T = g.row.T.Denot} {U = g.row.U.Denot} _ c.args.domain.now c.write_cell_at-is_there.new.domain c.args.table.now.items c.put.new.table.items c.args.of
-    c.in-Unwritten.sample c.write_cell_at-is_there.result.1 c.args.at c.args.value c.write_cell_at-is_there.result.0 c.done_if.result (sym c.take.ensures.made ∙ c.in-Unwritten.is) c.write_cell_at-is_there.ensures.same c.write_cell_at-is_there.ensures.writes c.done_if.ensures
+    c.in-Unwritten.loan c.write_cell_at-is_there.result.1 c.args.at c.args.value c.write_cell_at-is_there.result.0 c.done_if.result (sym c.take.ensures.made ∙ c.in-Unwritten.is) c.write_cell_at-is_there.ensures.same c.write_cell_at-is_there.ensures.writes c.done_if.ensures
     (c.put.ensures.items ∙ ap (λ (t : List Made). slice_set t c.args.of (Unwritten c.write_cell_at-is_there.result.1)) c.take.ensures.items ∙ set_again c.args.table.now.items c.args.of Nothing (Unwritten c.write_cell_at-is_there.result.1))
 
 pub returns-in_default-clause-carries : goal.returns-in_default-clause-carries
@@ -29,7 +29,7 @@ returns-in_default-clause-carries g c =
 pub returns-in-Unwritten-clause-leaves : goal.returns-in-Unwritten-clause-leaves
 returns-in-Unwritten-clause-leaves g c =
     leaves-spending {T = g.row.T.Denot} {U = g.row.U.Denot} c.args.domain.now c.write_cell_at-is_there.new.domain c.args.table.now.items c.put.new.table.items c.args.of
-    (Unwritten c.in-Unwritten.sample) (Unwritten c.write_cell_at-is_there.result.1) (sym c.take.ensures.made ∙ c.in-Unwritten.is) (stays-but-more _ _ _ _ c.write_cell_at-is_there.ensures.stays)
+    (Unwritten c.in-Unwritten.loan) (Unwritten c.write_cell_at-is_there.result.1) (sym c.take.ensures.made ∙ c.in-Unwritten.is) (stays-but-more _ _ _ _ c.write_cell_at-is_there.ensures.stays)
     (λ start fresh. rw c.write_cell_at-is_there.ensures.same fresh)
     (c.put.ensures.items ∙ ap (λ (t : List Made). slice_set t c.args.of (Unwritten c.write_cell_at-is_there.result.1)) c.take.ensures.items ∙ set_again c.args.table.now.items c.args.of Nothing (Unwritten c.write_cell_at-is_there.result.1))
 

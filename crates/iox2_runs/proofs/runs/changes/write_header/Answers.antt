@@ -14,39 +14,39 @@ use Rattle.iox2_runs.proofs.runs.changes.write_header.Goals as goal
 
 pub user_header_mut-requires : goal.user_header_mut-requires
 user_header_mut-requires g c = record {
-  live = live_unwritten {T = g.row.T.Denot} {U = g.row.U.Denot} c.args.domain.now c.args.table.now.items c.requires c.args.of c.in-Unwritten.sample (sym c.take.ensures.made ∙ c.in-Unwritten.is);
+  live = live_unwritten {T = g.row.T.Denot} {U = g.row.U.Denot} c.args.domain.now c.args.table.now.items c.requires c.args.of c.in-Unwritten.loan (sym c.take.ensures.made ∙ c.in-Unwritten.is);
 }
 
 pub returns-in-Unwritten-clause-carries : goal.returns-in-Unwritten-clause-carries
 returns-in-Unwritten-clause-carries g c =
-    unwritten_header_carried {T = g.row.T.Denot} {U = g.row.U.Denot} _ c.args.domain.now (with_user_header c.args.domain.now c.in-Unwritten.sample.loan.number c.args.value) c.args.table.now.items c.put.new.table.items c.args.of
-    c.in-Unwritten.sample c.user_header_mut.new.sample c.args.value (sym c.take.ensures.made ∙ c.in-Unwritten.is) c.user_header_mut.ensures.same
+    unwritten_header_carried {T = g.row.T.Denot} {U = g.row.U.Denot} _ c.args.domain.now (with_user_header c.args.domain.now c.in-Unwritten.loan.loan.number c.args.value) c.args.table.now.items c.put.new.table.items c.args.of
+    c.in-Unwritten.loan c.user_header_mut.new.sample c.args.value (sym c.take.ensures.made ∙ c.in-Unwritten.is) c.user_header_mut.ensures.same
     (λ m s shown. c.user_header_mut.ensures.changes m s c.args.value shown)
     (c.put.ensures.items ∙ ap (λ (t : List Made). slice_set t c.args.of (Unwritten c.user_header_mut.new.sample)) c.take.ensures.items ∙ set_again c.args.table.now.items c.args.of Nothing (Unwritten c.user_header_mut.new.sample))
 
 pub returns-in-Unwritten-clause-leaves : goal.returns-in-Unwritten-clause-leaves
 returns-in-Unwritten-clause-leaves g c =
-    leaves-spending {T = g.row.T.Denot} {U = g.row.U.Denot} c.args.domain.now (with_user_header c.args.domain.now c.in-Unwritten.sample.loan.number c.args.value) c.args.table.now.items c.put.new.table.items c.args.of
-    (Unwritten c.in-Unwritten.sample) (Unwritten c.user_header_mut.new.sample) (sym c.take.ensures.made ∙ c.in-Unwritten.is) (stays-but-more _ _ _ _ (c.user_header_mut.ensures.stays c.args.value))
+    leaves-spending {T = g.row.T.Denot} {U = g.row.U.Denot} c.args.domain.now (with_user_header c.args.domain.now c.in-Unwritten.loan.loan.number c.args.value) c.args.table.now.items c.put.new.table.items c.args.of
+    (Unwritten c.in-Unwritten.loan) (Unwritten c.user_header_mut.new.sample) (sym c.take.ensures.made ∙ c.in-Unwritten.is) (stays-but-more _ _ _ _ (c.user_header_mut.ensures.stays c.args.value))
     (λ start fresh. rw c.user_header_mut.ensures.same fresh)
     (c.put.ensures.items ∙ ap (λ (t : List Made). slice_set t c.args.of (Unwritten c.user_header_mut.new.sample)) c.take.ensures.items ∙ set_again c.args.table.now.items c.args.of Nothing (Unwritten c.user_header_mut.new.sample))
 
 pub user_header_mut-requires-in-Written : goal.user_header_mut-requires-in-Written
 user_header_mut-requires-in-Written g c = record {
-  live = live_written {T = g.row.T.Denot} {U = g.row.U.Denot} c.args.domain.now c.args.table.now.items c.requires c.args.of c.in-Written.sample (sym c.take.ensures.made ∙ c.in-Written.is);
+  live = live_written {T = g.row.T.Denot} {U = g.row.U.Denot} c.args.domain.now c.args.table.now.items c.requires c.args.of c.in-Written.loan (sym c.take.ensures.made ∙ c.in-Written.is);
 }
 
 pub returns-in-Written-clause-carries : goal.returns-in-Written-clause-carries
 returns-in-Written-clause-carries g c =
-    written_header_carried {T = g.row.T.Denot} {U = g.row.U.Denot} _ c.args.domain.now (with_user_header c.args.domain.now c.in-Written.sample.loan.number c.args.value) c.args.table.now.items c.put-in-Written.new.table.items c.args.of
-    c.in-Written.sample c.user_header_mut-in-Written.new.sample c.args.value (sym c.take.ensures.made ∙ c.in-Written.is) c.user_header_mut-in-Written.ensures.same
+    written_header_carried {T = g.row.T.Denot} {U = g.row.U.Denot} _ c.args.domain.now (with_user_header c.args.domain.now c.in-Written.loan.loan.number c.args.value) c.args.table.now.items c.put-in-Written.new.table.items c.args.of
+    c.in-Written.loan c.user_header_mut-in-Written.new.sample c.args.value (sym c.take.ensures.made ∙ c.in-Written.is) c.user_header_mut-in-Written.ensures.same
     (λ m s shown. c.user_header_mut-in-Written.ensures.changes m s c.args.value shown)
     (c.put-in-Written.ensures.items ∙ ap (λ (t : List Made). slice_set t c.args.of (Written c.user_header_mut-in-Written.new.sample)) c.take.ensures.items ∙ set_again c.args.table.now.items c.args.of Nothing (Written c.user_header_mut-in-Written.new.sample))
 
 pub returns-in-Written-clause-leaves : goal.returns-in-Written-clause-leaves
 returns-in-Written-clause-leaves g c =
-    leaves-spending {T = g.row.T.Denot} {U = g.row.U.Denot} c.args.domain.now (with_user_header c.args.domain.now c.in-Written.sample.loan.number c.args.value) c.args.table.now.items c.put-in-Written.new.table.items c.args.of
-    (Written c.in-Written.sample) (Written c.user_header_mut-in-Written.new.sample) (sym c.take.ensures.made ∙ c.in-Written.is) (stays-but-more _ _ _ _ (c.user_header_mut-in-Written.ensures.stays c.args.value))
+    leaves-spending {T = g.row.T.Denot} {U = g.row.U.Denot} c.args.domain.now (with_user_header c.args.domain.now c.in-Written.loan.loan.number c.args.value) c.args.table.now.items c.put-in-Written.new.table.items c.args.of
+    (Written c.in-Written.loan) (Written c.user_header_mut-in-Written.new.sample) (sym c.take.ensures.made ∙ c.in-Written.is) (stays-but-more _ _ _ _ (c.user_header_mut-in-Written.ensures.stays c.args.value))
     (λ start fresh. rw c.user_header_mut-in-Written.ensures.same fresh)
     (c.put-in-Written.ensures.items ∙ ap (λ (t : List Made). slice_set t c.args.of (Written c.user_header_mut-in-Written.new.sample)) c.take.ensures.items ∙ set_again c.args.table.now.items c.args.of Nothing (Written c.user_header_mut-in-Written.new.sample))
 

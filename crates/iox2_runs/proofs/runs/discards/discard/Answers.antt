@@ -13,23 +13,23 @@ use Rattle.iox2_runs.proofs.runs.discards.discard.Goals as goal
 
 pub discard-requires : goal.discard-requires
 discard-requires g c = record {
-  live = (live_unwritten {T = g.row.T.Denot} {U = g.row.U.Denot} c.args.domain.now c.args.table.now.items c.requires c.args.of c.in-Unwritten.sample (sym c.take.ensures.made ∙ c.in-Unwritten.is)).live;
+  live = (live_unwritten {T = g.row.T.Denot} {U = g.row.U.Denot} c.args.domain.now c.args.table.now.items c.requires c.args.of c.in-Unwritten.loan (sym c.take.ensures.made ∙ c.in-Unwritten.is)).live;
 }
 
 pub discard-requires-in-Written : goal.discard-requires-in-Written
 discard-requires-in-Written g c = record {
-  live = (live_written {T = g.row.T.Denot} {U = g.row.U.Denot} c.args.domain.now c.args.table.now.items c.requires c.args.of c.in-Written.sample (sym c.take.ensures.made ∙ c.in-Written.is)).live;
+  live = (live_written {T = g.row.T.Denot} {U = g.row.U.Denot} c.args.domain.now c.args.table.now.items c.requires c.args.of c.in-Written.loan (sym c.take.ensures.made ∙ c.in-Written.is)).live;
 }
 
 pub returns-in-Unwritten-clause-carries : goal.returns-in-Unwritten-clause-carries
 returns-in-Unwritten-clause-carries g c =
     discard_unwritten {T = g.row.T.Denot} {U = g.row.U.Denot} fixed_handlers _ c.args.domain.now c.discard.new.domain c.args.table.now.items c.take.new.table.items c.args.of
-    c.in-Unwritten.sample (sym c.take.ensures.made ∙ c.in-Unwritten.is) c.discard.ensures.discarded c.take.ensures.items
+    c.in-Unwritten.loan (sym c.take.ensures.made ∙ c.in-Unwritten.is) c.discard.ensures.discarded c.take.ensures.items
 
 pub returns-in-Written-clause-carries : goal.returns-in-Written-clause-carries
 returns-in-Written-clause-carries g c =
     discard_written {T = g.row.T.Denot} {U = g.row.U.Denot} fixed_handlers _ c.args.domain.now c.discard-in-Written.new.domain c.args.table.now.items c.take.new.table.items c.args.of
-    c.in-Written.sample (sym c.take.ensures.made ∙ c.in-Written.is) c.discard-in-Written.ensures.discarded c.take.ensures.items
+    c.in-Written.loan (sym c.take.ensures.made ∙ c.in-Written.is) c.discard-in-Written.ensures.discarded c.take.ensures.items
 
 pub returns-in_default-clause-carries : goal.returns-in_default-clause-carries
 returns-in_default-clause-carries g c =
@@ -40,12 +40,12 @@ returns-in_default-clause-carries g c =
 pub returns-in-Unwritten-clause-leaves : goal.returns-in-Unwritten-clause-leaves
 returns-in-Unwritten-clause-leaves g c =
     leaves-spending {T = g.row.T.Denot} {U = g.row.U.Denot} c.args.domain.now c.discard.new.domain c.args.table.now.items c.take.new.table.items c.args.of
-    (Unwritten c.in-Unwritten.sample) Nothing (sym c.take.ensures.made ∙ c.in-Unwritten.is) (stays-but-more _ _ _ _ c.discard.ensures.stays) (λ start new. nothing-is-new start) c.take.ensures.items
+    (Unwritten c.in-Unwritten.loan) Nothing (sym c.take.ensures.made ∙ c.in-Unwritten.is) (stays-but-more _ _ _ _ c.discard.ensures.stays) (λ start new. nothing-is-new start) c.take.ensures.items
 
 pub returns-in-Written-clause-leaves : goal.returns-in-Written-clause-leaves
 returns-in-Written-clause-leaves g c =
     leaves-spending {T = g.row.T.Denot} {U = g.row.U.Denot} c.args.domain.now c.discard-in-Written.new.domain c.args.table.now.items c.take.new.table.items c.args.of
-    (Written c.in-Written.sample) Nothing (sym c.take.ensures.made ∙ c.in-Written.is) (stays-but-more _ _ _ _ c.discard-in-Written.ensures.stays) (λ start new. nothing-is-new start) c.take.ensures.items
+    (Written c.in-Written.loan) Nothing (sym c.take.ensures.made ∙ c.in-Written.is) (stays-but-more _ _ _ _ c.discard-in-Written.ensures.stays) (λ start new. nothing-is-new start) c.take.ensures.items
 
 pub returns-in_default-clause-leaves : goal.returns-in_default-clause-leaves
 returns-in_default-clause-leaves g c =

@@ -9,12 +9,12 @@ use Rattle.iox2_runs.proofs.runs.headers.read_header.Goals as goal
 
 pub header-requires : goal.header-requires
 header-requires g c = record {
-  live = (live_unwritten {T = g.row.T.Denot} {U = g.row.U.Denot} c.args.domain.now c.args.table.now c.requires c.args.of c.in-Unwritten.sample (looked c.args.table.now c.args.of c.get.result c.in-Some.made _ c.get.ensures.lookup c.in-Some.is c.in-Unwritten.is)).live;
+  live = (live_unwritten {T = g.row.T.Denot} {U = g.row.U.Denot} c.args.domain.now c.args.table.now c.requires c.args.of c.in-Unwritten.loan (looked c.args.table.now c.args.of c.get.result c.in-Some.made _ c.get.ensures.lookup c.in-Some.is c.in-Unwritten.is)).live;
 }
 
 pub header-requires-in-Written : goal.header-requires-in-Written
 header-requires-in-Written g c = record {
-  live = (live_written {T = g.row.T.Denot} {U = g.row.U.Denot} c.args.domain.now c.args.table.now c.requires c.args.of c.in-Written.sample (looked c.args.table.now c.args.of c.get.result c.in-Some.made _ c.get.ensures.lookup c.in-Some.is c.in-Written.is)).live;
+  live = (live_written {T = g.row.T.Denot} {U = g.row.U.Denot} c.args.domain.now c.args.table.now c.requires c.args.of c.in-Written.loan (looked c.args.table.now c.args.of c.get.result c.in-Some.made _ c.get.ensures.lookup c.in-Some.is c.in-Written.is)).live;
 }
 
 pub header-requires-in-Sample : goal.header-requires-in-Sample
@@ -24,12 +24,12 @@ header-requires-in-Sample g c = record {
 
 pub returns-in-Unwritten : goal.returns-in-Unwritten
 returns-in-Unwritten g c =
-    header_of_unwritten {T = g.row.T.Denot} {U = g.row.U.Denot} _ c.args.domain.now c.args.table.now c.args.of c.in-Unwritten.sample c.header.result.now
+    header_of_unwritten {T = g.row.T.Denot} {U = g.row.U.Denot} _ c.args.domain.now c.args.table.now c.args.of c.in-Unwritten.loan c.header.result.now
     (looked c.args.table.now c.args.of c.get.result c.in-Some.made _ c.get.ensures.lookup c.in-Some.is c.in-Unwritten.is) c.header.ensures.header
 
 pub returns-in-Written : goal.returns-in-Written
 returns-in-Written g c =
-    header_of_written {T = g.row.T.Denot} {U = g.row.U.Denot} _ c.args.domain.now c.args.table.now c.args.of c.in-Written.sample c.header-in-Written.result.now
+    header_of_written {T = g.row.T.Denot} {U = g.row.U.Denot} _ c.args.domain.now c.args.table.now c.args.of c.in-Written.loan c.header-in-Written.result.now
     (looked c.args.table.now c.args.of c.get.result c.in-Some.made _ c.get.ensures.lookup c.in-Some.is c.in-Written.is) c.header-in-Written.ensures.header
 
 pub returns-in-Sample : goal.returns-in-Sample

@@ -25,11 +25,11 @@ loan_uninit-requires-clause-single_valued g c = single-here {T = g.row.T.Denot} 
 pub returns-in-Ok-clause-carries : goal.returns-in-Ok-clause-carries
 returns-in-Ok-clause-carries g c =
     loan_carried {T = g.row.T.Denot} {U = g.row.U.Denot} fixed_handlers _ c.args.domain.now c.loan_uninit.new.domain c.args.table.now c.args.table.now c.args.of
-    refl c.in-Publisher.publisher c.in-Ok.sample
+    refl c.in-Publisher.publisher c.in-Ok.loan
     (looked c.args.table.now c.args.of c.get.result c.in-Some.made _ c.get.ensures.lookup c.in-Some.is c.in-Publisher.is)
     (shown_free {T = g.row.T.Denot} {U = g.row.U.Denot} c.args.domain.now (publisher_key c.in-Publisher.publisher) (c.is_blocked.ensures.0 c.if-is_blocked.false))
     (sym c.is_single_valued.ensures ∙ c.if-not-is_single_valued.false)
-    c.in-Ok.ensures.lends (unwritten-parts {T = g.row.T.Denot} {U = g.row.U.Denot} c.loan_uninit.new.domain c.in-Ok.sample c.in-Ok.ensures.out).0 c.in-Ok.ensures.publisher c.in-Ok.ensures.number
+    c.in-Ok.ensures.lends (unwritten-parts {T = g.row.T.Denot} {U = g.row.U.Denot} c.loan_uninit.new.domain c.in-Ok.loan c.in-Ok.ensures.out).0 c.in-Ok.ensures.publisher c.in-Ok.ensures.number
 
 pub returns-in-Err-clause-carries : goal.returns-in-Err-clause-carries
 returns-in-Err-clause-carries g c =
@@ -56,9 +56,9 @@ returns-then-not-is_single_valued-clause-leaves g c =
 
 pub returns-in-Ok-clause-leaves : goal.returns-in-Ok-clause-leaves
 returns-in-Ok-clause-leaves g c =
-    leaves-lending {T = g.row.T.Denot} {U = g.row.U.Denot} c.args.domain.now c.loan_uninit.new.domain c.args.table.now c.args.table.now refl c.args.of c.in-Publisher.publisher (Unwritten c.in-Ok.sample) (A_loan c.in-Ok.sample.loan.number)
+    leaves-lending {T = g.row.T.Denot} {U = g.row.U.Denot} c.args.domain.now c.loan_uninit.new.domain c.args.table.now c.args.table.now refl c.args.of c.in-Publisher.publisher (Unwritten c.in-Ok.loan) (A_loan c.in-Ok.loan.loan.number)
     (looked c.args.table.now c.args.of c.get.result c.in-Some.made _ c.get.ensures.lookup c.in-Some.is c.in-Publisher.is)
-    c.loan_uninit.ensures.stays c.in-Ok.ensures.new (ap (λ (p : ℕ). Both (A_loan c.in-Ok.sample.loan.number) (A_blocked_send p)) c.in-Ok.ensures.publisher)
+    c.loan_uninit.ensures.stays c.in-Ok.ensures.new (ap (λ (p : ℕ). Both (A_loan c.in-Ok.loan.loan.number) (A_blocked_send p)) c.in-Ok.ensures.publisher)
 
 pub returns-in-Err-clause-leaves : goal.returns-in-Err-clause-leaves
 returns-in-Err-clause-leaves g c =

@@ -16,12 +16,12 @@ use Rattle.iox2_runs.proofs.runs.loans.send.Goals as goal
 
 pub is_blocked-requires : goal.is_blocked-requires
 is_blocked-requires g c = record {
-  live = (live_written {T = g.row.T.Denot} {U = g.row.U.Denot} c.args.domain.now c.args.table.now.items c.requires c.args.of c.in-Written.sample (sym c.take.ensures.made ∙ c.in-Written.is)).live;
+  live = (live_written {T = g.row.T.Denot} {U = g.row.U.Denot} c.args.domain.now c.args.table.now.items c.requires c.args.of c.in-Written.loan (sym c.take.ensures.made ∙ c.in-Written.is)).live;
 }
 
 pub send-requires-clause-live : goal.send-requires-clause-live
 send-requires-clause-live g c =
-    live_written {T = g.row.T.Denot} {U = g.row.U.Denot} c.args.domain.now c.args.table.now.items c.requires c.args.of c.in-Written.sample (sym c.take.ensures.made ∙ c.in-Written.is)
+    live_written {T = g.row.T.Denot} {U = g.row.U.Denot} c.args.domain.now c.args.table.now.items c.requires c.args.of c.in-Written.loan (sym c.take.ensures.made ∙ c.in-Written.is)
 
 pub send-requires-clause-unblocked : goal.send-requires-clause-unblocked
 send-requires-clause-unblocked g c =
@@ -29,26 +29,26 @@ send-requires-clause-unblocked g c =
 
 pub returns-then-is_blocked-clause-carries : goal.returns-then-is_blocked-clause-carries
 returns-then-is_blocked-clause-carries g c =
-    send_held_up {T = g.row.T.Denot} {U = g.row.U.Denot} fixed_handlers _ c.args.domain.now c.args.domain.now c.args.table.now.items c.put.new.table.items c.args.of c.in-Written.sample (sym c.take.ensures.made ∙ c.in-Written.is)
-    (shown_waits {T = g.row.T.Denot} {U = g.row.U.Denot} c.args.domain.now (written_key c.in-Written.sample) (known_lender {T = g.row.T.Denot} {U = g.row.U.Denot} c.args.domain.now c.args.table.now.items c.requires c.args.of c.in-Written.sample (sym c.take.ensures.made ∙ c.in-Written.is)) c.is_blocked.result c.is_blocked.ensures c.if-is_blocked.true) refl
-    (back c.args.table.now.items c.take.new.table.items c.put.new.table.items c.args.of (Written c.in-Written.sample) c.take.ensures.items (sym c.take.ensures.made ∙ c.in-Written.is) c.put.ensures.items)
+    send_held_up {T = g.row.T.Denot} {U = g.row.U.Denot} fixed_handlers _ c.args.domain.now c.args.domain.now c.args.table.now.items c.put.new.table.items c.args.of c.in-Written.loan (sym c.take.ensures.made ∙ c.in-Written.is)
+    (shown_waits {T = g.row.T.Denot} {U = g.row.U.Denot} c.args.domain.now (written_key c.in-Written.loan) (known_lender {T = g.row.T.Denot} {U = g.row.U.Denot} c.args.domain.now c.args.table.now.items c.requires c.args.of c.in-Written.loan (sym c.take.ensures.made ∙ c.in-Written.is)) c.is_blocked.result c.is_blocked.ensures c.if-is_blocked.true) refl
+    (back c.args.table.now.items c.take.new.table.items c.put.new.table.items c.args.of (Written c.in-Written.loan) c.take.ensures.items (sym c.take.ensures.made ∙ c.in-Written.is) c.put.ensures.items)
 
 pub returns-then-is_blocked-clause-leaves : goal.returns-then-is_blocked-clause-leaves
 returns-then-is_blocked-clause-leaves g c =
     leaves-all {T = g.row.T.Denot} {U = g.row.U.Denot} c.args.domain.now c.args.domain.now c.args.table.now.items c.put.new.table.items refl
-    (back c.args.table.now.items c.take.new.table.items c.put.new.table.items c.args.of (Written c.in-Written.sample) c.take.ensures.items (sym c.take.ensures.made ∙ c.in-Written.is) c.put.ensures.items)
+    (back c.args.table.now.items c.take.new.table.items c.put.new.table.items c.args.of (Written c.in-Written.loan) c.take.ensures.items (sym c.take.ensures.made ∙ c.in-Written.is) c.put.ensures.items)
 
 pub returns-else-is_blocked-clause-carries : goal.returns-else-is_blocked-clause-carries
 returns-else-is_blocked-clause-carries g c =
     rw (c.send_reply.ensures.reply, c.send_reply.ensures.made)
-    (send_carried {T = g.row.T.Denot} {U = g.row.U.Denot} (answers_of g.F.BackpressureFn.allows g.G.DegradationFn.allows c.args.domain.now.boxes.publishers) _ c.args.domain.now c.send.new.domain c.args.table.now.items c.take.new.table.items c.args.of c.in-Written.sample c.send.result (sym c.take.ensures.made ∙ c.in-Written.is)
-    (shown_free {T = g.row.T.Denot} {U = g.row.U.Denot} c.args.domain.now (written_key c.in-Written.sample) (c.is_blocked.ensures.0 c.if-is_blocked.false)) c.send.ensures.sent c.send.ensures.blocked
-    (either-failure c.args.domain.now (written_key c.in-Written.sample) c.send.result c.send.ensures.errors) c.take.ensures.items)
+    (send_carried {T = g.row.T.Denot} {U = g.row.U.Denot} (answers_of g.F.BackpressureFn.allows g.G.DegradationFn.allows c.args.domain.now.boxes.publishers) _ c.args.domain.now c.send.new.domain c.args.table.now.items c.take.new.table.items c.args.of c.in-Written.loan c.send.result (sym c.take.ensures.made ∙ c.in-Written.is)
+    (shown_free {T = g.row.T.Denot} {U = g.row.U.Denot} c.args.domain.now (written_key c.in-Written.loan) (c.is_blocked.ensures.0 c.if-is_blocked.false)) c.send.ensures.sent c.send.ensures.blocked
+    (either-failure c.args.domain.now (written_key c.in-Written.loan) c.send.result c.send.ensures.errors) c.take.ensures.items)
 
 pub returns-else-is_blocked-clause-leaves : goal.returns-else-is_blocked-clause-leaves
 returns-else-is_blocked-clause-leaves g c =
     rw c.send_reply.ensures.made
-    (leaves-sending {T = g.row.T.Denot} {U = g.row.U.Denot} c.args.domain.now c.send.new.domain c.args.table.now.items c.take.new.table.items c.args.of c.in-Written.sample c.send.result (sym c.take.ensures.made ∙ c.in-Written.is)
+    (leaves-sending {T = g.row.T.Denot} {U = g.row.U.Denot} c.args.domain.now c.send.new.domain c.args.table.now.items c.take.new.table.items c.args.of c.in-Written.loan c.send.result (sym c.take.ensures.made ∙ c.in-Written.is)
     c.send.ensures.stays (each_blocked _ _ (λ blocked is. ap (λ (k : Key). k.port) is.1) c.send.result c.send.ensures.blocked) c.take.ensures.items)
 
 pub returns-in_default-clause-carries : goal.returns-in_default-clause-carries

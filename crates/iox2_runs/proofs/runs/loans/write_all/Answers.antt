@@ -15,16 +15,16 @@ use Rattle.iox2_pubsub.specs.Live.{A_loan, IsNewIn, Both, A_blocked_send}
 use Rattle.iox2_runs.specs.declared.runs.made.Made.TheVariants.{Unwritten}
 use Rattle.iox2_runs.proofs.runs.loans.write_all.Goals as goal
 
-pub write_cells-sample-requires : goal.write_cells-sample-requires
-write_cells-sample-requires g c =
-    live_unwritten {T = g.row.T.Denot} {U = g.row.U.Denot} c.args.domain.now c.args.table.now.items c.requires c.args.of c.in-Unwritten.sample (sym c.take.ensures.made ∙ c.in-Unwritten.is)
+pub write_cells-loan-requires : goal.write_cells-loan-requires
+write_cells-loan-requires g c =
+    live_unwritten {T = g.row.T.Denot} {U = g.row.U.Denot} c.args.domain.now c.args.table.now.items c.requires c.args.of c.in-Unwritten.loan (sym c.take.ensures.made ∙ c.in-Unwritten.is)
 
 pub returns-in-Unwritten-clause-carries : goal.returns-in-Unwritten-clause-carries
 returns-in-Unwritten-clause-carries g c =
-    write_carried {T = g.row.T.Denot} {U = g.row.U.Denot} fixed_handlers _ c.args.domain.now c.write_cells-sample.new.domain c.args.table.now.items c.put.new.table.items c.args.of
-    c.args.value c.in-Unwritten.sample c.write_cells-sample.result (sym c.take.ensures.made ∙ c.in-Unwritten.is) c.write_cells-sample.ensures.written
-    (ap (λ (k : Key). k.service_id) c.write_cells-sample.ensures.key) (ap (λ (k : Key). k.port) c.write_cells-sample.ensures.key) (ap (λ (k : Key). k.message) c.write_cells-sample.ensures.key)
-    (c.put.ensures.items ∙ ap (λ (t : List Made). slice_set t c.args.of (Written c.write_cells-sample.result)) c.take.ensures.items ∙ set_again c.args.table.now.items c.args.of Nothing (Written c.write_cells-sample.result))
+    write_carried {T = g.row.T.Denot} {U = g.row.U.Denot} fixed_handlers _ c.args.domain.now c.write_cells-loan.new.domain c.args.table.now.items c.put.new.table.items c.args.of
+    c.args.value c.in-Unwritten.loan c.write_cells-loan.result (sym c.take.ensures.made ∙ c.in-Unwritten.is) c.write_cells-loan.ensures.written
+    (ap (λ (k : Key). k.service_id) c.write_cells-loan.ensures.key) (ap (λ (k : Key). k.port) c.write_cells-loan.ensures.key) (ap (λ (k : Key). k.message) c.write_cells-loan.ensures.key)
+    (c.put.ensures.items ∙ ap (λ (t : List Made). slice_set t c.args.of (Written c.write_cells-loan.result)) c.take.ensures.items ∙ set_again c.args.table.now.items c.args.of Nothing (Written c.write_cells-loan.result))
 
 pub returns-in_default-clause-carries : goal.returns-in_default-clause-carries
 returns-in_default-clause-carries g c =
@@ -35,10 +35,10 @@ returns-in_default-clause-carries g c =
 
 pub returns-in-Unwritten-clause-leaves : goal.returns-in-Unwritten-clause-leaves
 returns-in-Unwritten-clause-leaves g c =
-    leaves-spending {T = g.row.T.Denot} {U = g.row.U.Denot} c.args.domain.now c.write_cells-sample.new.domain c.args.table.now.items c.put.new.table.items c.args.of
-    (Unwritten c.in-Unwritten.sample) (Written c.write_cells-sample.result) (sym c.take.ensures.made ∙ c.in-Unwritten.is) (stays-but-more _ _ _ _ c.write_cells-sample.ensures.stays)
-    (λ start new. subst (λ (k : Key). IsNewIn start (Both (A_loan k.message) (A_blocked_send k.port))) (sym c.write_cells-sample.ensures.key) new)
-    (c.put.ensures.items ∙ ap (λ (t : List Made). slice_set t c.args.of (Written c.write_cells-sample.result)) c.take.ensures.items ∙ set_again c.args.table.now.items c.args.of Nothing (Written c.write_cells-sample.result))
+    leaves-spending {T = g.row.T.Denot} {U = g.row.U.Denot} c.args.domain.now c.write_cells-loan.new.domain c.args.table.now.items c.put.new.table.items c.args.of
+    (Unwritten c.in-Unwritten.loan) (Written c.write_cells-loan.result) (sym c.take.ensures.made ∙ c.in-Unwritten.is) (stays-but-more _ _ _ _ c.write_cells-loan.ensures.stays)
+    (λ start new. subst (λ (k : Key). IsNewIn start (Both (A_loan k.message) (A_blocked_send k.port))) (sym c.write_cells-loan.ensures.key) new)
+    (c.put.ensures.items ∙ ap (λ (t : List Made). slice_set t c.args.of (Written c.write_cells-loan.result)) c.take.ensures.items ∙ set_again c.args.table.now.items c.args.of Nothing (Written c.write_cells-loan.result))
 
 pub returns-in_default-clause-leaves : goal.returns-in_default-clause-leaves
 returns-in_default-clause-leaves g c =

@@ -14,14 +14,14 @@ use Rattle.iox2_runs.proofs.CarriedSamples.{read_unwritten, read_written, read_s
 use Rattle.iox2_runs.proofs.runs.samples.read.Goals as goal
 
 pub unwritten_cell-cell-requires : goal.unwritten_cell-cell-requires
-unwritten_cell-cell-requires g c = live_unwritten {T = g.row.T.Denot} {U = g.row.U.Denot} c.args.domain.now c.args.table.now.items c.requires c.args.of c.in-Unwritten.sample (sym c.take.ensures.made ∙ c.in-Unwritten.is)
+unwritten_cell-cell-requires g c = live_unwritten {T = g.row.T.Denot} {U = g.row.U.Denot} c.args.domain.now c.args.table.now.items c.requires c.args.of c.in-Unwritten.loan (sym c.take.ensures.made ∙ c.in-Unwritten.is)
 
 pub returns-in-Unwritten-clause-carries : goal.returns-in-Unwritten-clause-carries
 returns-in-Unwritten-clause-carries g c =
     read_unwritten {T = g.row.T.Denot} {U = g.row.U.Denot} fixed_handlers _ c.args.domain.now c.args.domain.now c.args.table.now.items c.put.new.table.items c.args.of
     (back c.args.table.now.items c.take.new.table.items c.put.new.table.items c.args.of (Unwritten c.unwritten_cell-cell.result.1) c.take.ensures.items
     (sym c.take.ensures.made ∙ c.in-Unwritten.is ∙ ap (λ (it : SampleMutUninit). Unwritten it) (sym c.unwritten_cell-cell.ensures.same)) c.put.ensures.items)
-    c.args.at c.in-Unwritten.sample c.unwritten_cell-cell.result.0 c.cell_reply.result (sym c.take.ensures.made ∙ c.in-Unwritten.is) c.unwritten_cell-cell.ensures.reads c.cell_reply.ensures
+    c.args.at c.in-Unwritten.loan c.unwritten_cell-cell.result.0 c.cell_reply.result (sym c.take.ensures.made ∙ c.in-Unwritten.is) c.unwritten_cell-cell.ensures.reads c.cell_reply.ensures
 
 pub returns-in-Unwritten-clause-leaves : goal.returns-in-Unwritten-clause-leaves
 returns-in-Unwritten-clause-leaves g c =
@@ -30,14 +30,14 @@ returns-in-Unwritten-clause-leaves g c =
     (sym c.take.ensures.made ∙ c.in-Unwritten.is ∙ ap (λ (it : SampleMutUninit). Unwritten it) (sym c.unwritten_cell-cell.ensures.same)) c.put.ensures.items)
 
 pub written_value-value-requires : goal.written_value-value-requires
-written_value-value-requires g c = live_written {T = g.row.T.Denot} {U = g.row.U.Denot} c.args.domain.now c.args.table.now.items c.requires c.args.of c.in-Written.sample (sym c.take.ensures.made ∙ c.in-Written.is)
+written_value-value-requires g c = live_written {T = g.row.T.Denot} {U = g.row.U.Denot} c.args.domain.now c.args.table.now.items c.requires c.args.of c.in-Written.loan (sym c.take.ensures.made ∙ c.in-Written.is)
 
 pub returns-in-Written-clause-carries : goal.returns-in-Written-clause-carries
 returns-in-Written-clause-carries g c =
     read_written {T = g.row.T.Denot} {U = g.row.U.Denot} fixed_handlers _ c.args.domain.now c.args.domain.now c.args.table.now.items c.put-in-Written.new.table.items c.args.of
     (back c.args.table.now.items c.take.new.table.items c.put-in-Written.new.table.items c.args.of (Written c.written_value-value.result.1) c.take.ensures.items
     (sym c.take.ensures.made ∙ c.in-Written.is ∙ ap (λ (it : SampleMut). Written it) (sym c.written_value-value.ensures.same)) c.put-in-Written.ensures.items)
-    c.args.at c.in-Written.sample c.written_value-value.result.0 c.value_reply.result (sym c.take.ensures.made ∙ c.in-Written.is) c.written_value-value.ensures.reads c.value_reply.ensures
+    c.args.at c.in-Written.loan c.written_value-value.result.0 c.value_reply.result (sym c.take.ensures.made ∙ c.in-Written.is) c.written_value-value.ensures.reads c.value_reply.ensures
 
 pub returns-in-Written-clause-leaves : goal.returns-in-Written-clause-leaves
 returns-in-Written-clause-leaves g c =

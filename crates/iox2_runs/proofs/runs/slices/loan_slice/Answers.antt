@@ -51,7 +51,7 @@ returns-in-Ok-clause-carries g c =
     (sym c.take.ensures.made ∙ c.in-Publisher.is ∙ ap (λ (it : PublisherHandle). MadePublisher it) (sym c.new-publisher.ensures))
     (subst (λ (it : PublisherHandle). (m : Messages g.row.T.Denot g.row.U.Denot) (s : State g.row.T.Denot g.row.U.Denot) → Shows c.args.domain.now m s → IsUnblocked s it.id) (sym c.new-publisher.ensures)
     (shown_free {T = g.row.T.Denot} {U = g.row.U.Denot} c.args.domain.now (publisher_key c.in-Publisher.publisher) (c.is_blocked.ensures.0 c.if-is_blocked.false))) (sym c.has_slices.ensures ∙ c.if-not-has_slices.false)
-    c.in-Ok.sample.sample lends (unwritten-parts {T = g.row.T.Denot} {U = g.row.U.Denot} c.loan_slice_uninit-loaned.new.domain c.in-Ok.sample.sample out).0 publisher number)
+    c.in-Ok.loan.sample lends (unwritten-parts {T = g.row.T.Denot} {U = g.row.U.Denot} c.loan_slice_uninit-loaned.new.domain c.in-Ok.loan.sample out).0 publisher number)
 
 pub returns-in-Err-clause-carries : goal.returns-in-Err-clause-carries
 returns-in-Err-clause-carries g c =
@@ -78,8 +78,8 @@ returns-in-Ok-clause-leaves g c =
     (leaves-lending {T = g.row.T.Denot} {U = g.row.U.Denot} c.args.domain.now c.loan_slice_uninit-loaned.new.domain c.args.table.now.items c.put-in-Publisher.new.table.items
     (back c.args.table.now.items c.take.new.table.items c.put-in-Publisher.new.table.items c.args.of (MadePublisher c.into_inner.result) c.take.ensures.items
     (sym c.take.ensures.made ∙ c.in-Publisher.is ∙ ap (λ (it : PublisherHandle). MadePublisher it) (sym (c.into_inner.ensures ∙ c.new-publisher.ensures))) c.put-in-Publisher.ensures.items)
-    c.args.of c.new-publisher.result.publisher (Unwritten c.in-Ok.sample.sample) (unwritten_loan c.in-Ok.sample.sample)
-    (sym c.take.ensures.made ∙ c.in-Publisher.is ∙ ap (λ (it : PublisherHandle). MadePublisher it) (sym c.new-publisher.ensures)) c.loan_slice_uninit-loaned.ensures.stays new (ap (λ (p : ℕ). Both (unwritten_loan c.in-Ok.sample.sample) (A_blocked_send p)) publisher))
+    c.args.of c.new-publisher.result.publisher (Unwritten c.in-Ok.loan.sample) (unwritten_loan c.in-Ok.loan.sample)
+    (sym c.take.ensures.made ∙ c.in-Publisher.is ∙ ap (λ (it : PublisherHandle). MadePublisher it) (sym c.new-publisher.ensures)) c.loan_slice_uninit-loaned.ensures.stays new (ap (λ (p : ℕ). Both (unwritten_loan c.in-Ok.loan.sample) (A_blocked_send p)) publisher))
 
 pub returns-in-Err-clause-leaves : goal.returns-in-Err-clause-leaves
 returns-in-Err-clause-leaves g c =
