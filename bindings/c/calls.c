@@ -11,7 +11,7 @@
 /* No struct has room between its fields; the Rust crate's tests have the same numbers. */
 SAME_SIZE(iox2_domain_t, 8);
 SAME_SIZE(iox2_config_t, 112);
-SAME_SIZE(iox2_publisher_options_t, 32);
+SAME_SIZE(iox2_publisher_options_t, 40);
 SAME_SIZE(iox2_subscriber_options_t, 16);
 SAME_SIZE(iox2_publisher_t, 56);
 SAME_SIZE(iox2_subscriber_t, 48);
@@ -268,6 +268,31 @@ static void ports_are_made_with_options(void) {
   IS(iox2_domain_destroy(&domain), IOX2_OK);
 }
 
+static void a_publisher_asks_for_fewer_slots(void) {
+  iox2_domain_t domain;
+  iox2_config_t config;
+  iox2_publisher_options_t options;
+  iox2_publisher_t one_slot, worst_case;
+  iox2_loan_t first, second, third;
+  void *written;
+  iox2_config_defaults(&config, 7, 1, 1);
+  create(&domain, &config);
+  iox2_publisher_options_of(&config, &options);
+  CHECK(options.preallocated_samples == 0 && options.max_loaned_samples == 2);
+  options.preallocated_samples = 1;
+  IS(iox2_publisher_create_with(&domain, &options, &one_slot), IOX2_OK);
+  IS(iox2_publisher_loan(&domain, &one_slot, 1, &first, &written), IOX2_OK);
+  IS(iox2_publisher_loan(&domain, &one_slot, 1, &second, &written), IOX2_LOAN_ERROR_OUT_OF_MEMORY);
+  IS(iox2_loan_discard(&domain, &first), IOX2_OK);
+  IS(iox2_publisher_loan(&domain, &one_slot, 1, &second, &written), IOX2_OK);
+  options.preallocated_samples = SIZE_MAX;
+  IS(iox2_publisher_create_with(&domain, &options, &worst_case), IOX2_OK);
+  IS(iox2_publisher_loan(&domain, &worst_case, 1, &first, &written), IOX2_OK);
+  IS(iox2_publisher_loan(&domain, &worst_case, 1, &second, &written), IOX2_OK);
+  IS(iox2_publisher_loan(&domain, &worst_case, 1, &third, &written), IOX2_LOAN_ERROR_EXCEEDS_MAX_LOANS);
+  IS(iox2_domain_destroy(&domain), IOX2_OK);
+}
+
 static void a_late_subscriber_gets_the_history(void) {
   iox2_domain_t domain;
   iox2_config_t config;
@@ -356,6 +381,7 @@ int main(void) {
   bytes_stay_where_they_are();
   a_blocked_send_is_tried_again_and_given_up();
   ports_are_made_with_options();
+  a_publisher_asks_for_fewer_slots();
   a_late_subscriber_gets_the_history();
   warnings_are_read();
   texts_are_iceoryx2s();

@@ -227,6 +227,21 @@ static void full_buffers_are_passed_over_or_fail_the_send() {
   CHECK(fails.send_copy(2).error() == Error::SendUnableToDeliver);
 }
 
+static void a_publisher_asks_for_fewer_slots() {
+  auto domain = made(Config<int>(12));
+  auto options = domain.publisher_options();
+  CHECK(options.preallocated_samples == 0);
+  options.preallocated_samples = 1;
+  auto one_slot = domain.publisher(options).expect("a publisher");
+  auto worst_case = domain.publisher().expect("a publisher");
+  {
+    auto first = one_slot.loan().expect("a loan");
+    CHECK(one_slot.loan().error() == Error::LoanOutOfMemory);
+    CHECK(worst_case.loan().has_value());
+  }
+  CHECK(one_slot.loan().has_value());
+}
+
 static void a_late_subscriber_gets_the_history() {
   Config<int> config(11);
   config.history_size = 1;
@@ -254,6 +269,7 @@ int main() {
   a_blocked_send_is_tried_again_or_given_up();
   a_publisher_that_goes_while_it_is_blocked_closes_later();
   full_buffers_are_passed_over_or_fail_the_send();
+  a_publisher_asks_for_fewer_slots();
   a_late_subscriber_gets_the_history();
   errors_have_texts();
   std::printf("%d passed, %d failed\n", passed, failed);

@@ -135,6 +135,9 @@ typedef struct iox2_config_t {
 typedef struct iox2_publisher_options_t {
   size_t max_loaned_samples;      /* loans that may be out at a time */
   size_t initial_max_slice_len;   /* how many bytes a message may have; a multiple of the domain's alignment */
+  size_t preallocated_samples;    /* how many slots it asks for: it has so many, but no more than
+                                     iox2_worst_case_slots; 0 asks for nothing, and it has the worst case. With
+                                     fewer a loan may be refused with IOX2_LOAN_ERROR_OUT_OF_MEMORY */
   uint32_t backpressure_strategy; /* an iox2_backpressure_strategy_e */
   uint32_t backpressure_handler;  /* an iox2_backpressure_handler_e */
   uint32_t degradation;           /* an iox2_degradation_e */
@@ -207,7 +210,7 @@ void iox2_config_defaults(iox2_config_t *config, uint64_t service_id, size_t pay
 void iox2_publisher_options_of(const iox2_config_t *config, iox2_publisher_options_t *options);
 void iox2_subscriber_options_of(const iox2_config_t *config, iox2_subscriber_options_t *options);
 
-/* How many slots a publisher with so many loans has. IOX2_INVALID_SETTINGS where that doesn't fit size_t. */
+/* How many slots a publisher with so many loans has, where its options ask for no fewer. IOX2_INVALID_SETTINGS where that doesn't fit size_t. */
 uint32_t iox2_worst_case_slots(const iox2_config_t *config, size_t loans, size_t *slots);
 
 /* The text of a code or of the kind of a warning, which ends in a zero byte and lies there for good; len

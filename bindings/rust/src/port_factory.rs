@@ -23,6 +23,7 @@ pub enum DegradationAction {
 pub struct PortFactoryPublisher<'d, P: Payload + ?Sized> {
     domain: &'d Domain<P>,
     options: sys::PublisherOptions,
+    preallocated: Option<Box<dyn Fn(usize) -> usize>>,
 }
 
 impl<'d, P: Payload + ?Sized> PortFactoryPublisher<'d, P> {
@@ -30,7 +31,11 @@ impl<'d, P: Payload + ?Sized> PortFactoryPublisher<'d, P> {
         let mut options = sys::PublisherOptions::default();
         // SAFETY: the pointers are of locals.
         unsafe { sys::iox2_publisher_options_of(&domain.config(), &mut options) };
-        PortFactoryPublisher { domain, options }
+        PortFactoryPublisher {
+            domain,
+            options,
+            preallocated: None,
+        }
     }
 
     /// How many loans may be out at a time.
@@ -57,8 +62,35 @@ impl<'d, P: Payload + ?Sized> PortFactoryPublisher<'d, P> {
         self
     }
 
+    /// What says how many slots the publisher has: it is given the worst case, with which no loan is
+    /// refused for want of a slot. The publisher gets as many as it answers, but no more than the
+    /// worst case, and at least one where that isn't none.
+    pub fn override_sample_preallocation(
+        mut self,
+        callback: impl Fn(usize) -> usize + 'static,
+    ) -> Self {
+        self.preallocated = Some(Box::new(callback));
+        self
+    }
+
+    // 0 asks for nothing, and an answer of 0 counts as 1. Where the worst case doesn't fit, the
+    // publisher is refused, and nothing is asked.
+    fn asked_slots(&self) -> usize {
+        let Some(callback) = &self.preallocated else {
+            return 0;
+        };
+        let mut worst = 0;
+        let (config, loans) = (self.domain.config(), self.options.max_loaned_samples);
+        // SAFETY: the pointers are of locals.
+        match unsafe { sys::iox2_worst_case_slots(&config, loans, &mut worst) } {
+            sys::OK => callback(worst).max(1),
+            _ => 0,
+        }
+    }
+
     /// Makes the publisher.
-    pub fn create(self) -> Result<Publisher<P>, PublisherCreateError> {
+    pub fn create(mut self) -> Result<Publisher<P>, PublisherCreateError> {
+        self.options.preallocated_samples = self.asked_slots();
         let mut port = sys::Publisher::default();
         let shared = &self.domain.shared;
         // SAFETY: see `Shared::at`.

@@ -86,6 +86,7 @@ pub struct Config {
 pub struct PublisherOptions {
     pub max_loaned_samples: usize,
     pub initial_max_slice_len: usize,
+    pub preallocated_samples: usize,
     pub backpressure_strategy: u32,
     pub backpressure_handler: u32,
     pub degradation: u32,

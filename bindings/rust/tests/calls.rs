@@ -383,6 +383,32 @@ fn full_buffers_are_passed_over_or_fail_the_send() {
 }
 
 #[test]
+fn a_publisher_asks_for_fewer_slots() {
+    let domain = Domain::<u8>::builder(18).create().unwrap();
+    let builder = domain.publisher_builder().max_loaned_samples(2);
+    let one_slot = builder
+        .override_sample_preallocation(|worst| {
+            assert_eq!(worst, 8 * (2 + 2) + 2);
+            0
+        })
+        .create()
+        .unwrap();
+    let first = one_slot.loan().unwrap();
+    assert_eq!(one_slot.loan().err(), Some(LoanError::OutOfMemory));
+    drop(first);
+    assert!(one_slot.loan().is_ok());
+
+    let builder = domain.publisher_builder();
+    let worst_case = builder
+        .override_sample_preallocation(|worst| worst + 1)
+        .create()
+        .unwrap();
+    let _first = worst_case.loan().unwrap();
+    let _second = worst_case.loan().unwrap();
+    assert_eq!(worst_case.loan().err(), Some(LoanError::ExceedsMaxLoans));
+}
+
+#[test]
 fn errors_have_texts_and_causes() {
     let error = SendError::from(LoanError::ExceedsMaxLoans);
     assert!(!error.to_string().is_empty());

@@ -152,7 +152,7 @@ fn made_up_numbers_name_nothing_and_hints_are_hints() {
 fn the_structs_are_as_large_as_the_headers() {
     assert_eq!(size_of::<Domain>(), 8);
     assert_eq!(size_of::<Config>(), 112);
-    assert_eq!(size_of::<PublisherOptions>(), 32);
+    assert_eq!(size_of::<PublisherOptions>(), 40);
     assert_eq!(size_of::<SubscriberOptions>(), 16);
     assert_eq!(size_of::<Publisher>(), 56);
     assert_eq!(size_of::<Subscriber>(), 48);

@@ -6,13 +6,17 @@ use Rattle.iox2_store.specs.declared.errors.LoanError.{LoanError}
 use Rattle.iox2_store.specs.declared.errors.LoanError.TheVariants.{OutOfMemory, ExceedsMaxLoans, ExceedsMaxLoanSize, InternalFailure}
 use Rattle.iox2_store.specs.declared.errors.ReceiveError.{ReceiveError}
 use Rattle.iox2_store.specs.declared.errors.ReceiveError.TheVariants.{ExceedsMaxBorrows, ConnectionFailure as Not_connected}
-use Rattle.iox2_c.specs.Boxed.{Becomes}
+use Rattle.iox2_c.specs.Boxed.{Becomes, Turns}
 use Rattle.iox2_c.specs.Codes.{loan_code, receive_code}
 use Rattle.iox2_c.specs.Serving.{KeptBytes, Serving}
 
 -- a domain that is taken out, changed and put back
 pub becomes : (P : KeptBytes → KeptBytes → Type 0) (old new : Option Serving) (a b : Serving) → old ≡ Some a → new ≡ Some b → P a.domain b.domain → Becomes P old new
 becomes P old new a b was is step = subst (λ (o : Option Serving). Becomes P o new) (sym was) (b, is, step)
+
+-- the same with its lengths
+pub turns : (P : Serving → Serving → Type 0) (old new : Option Serving) (a b : Serving) → old ≡ Some a → new ≡ Some b → P a b → Turns P old new
+turns P old new a b was is step = subst (λ (o : Option Serving). Turns P o new) (sym was) (b, is, step)
 
 -- codes of errors are high
 pub loan-code-high : (error : LoanError) → 10 ≤ loan_code error

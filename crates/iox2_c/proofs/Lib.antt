@@ -1,3 +1,5 @@
 mod Values
 mod DomainBoxSteps
 mod BecomesSteps
+mod AskedSlots
+mod CreationSteps

@@ -18,6 +18,11 @@ abbrev pub Becomes : (KeptBytes → KeptBytes → Type 0) → (old new : Option 
 Becomes P None new = new ≡ None
 Becomes P (Some old) new = (it : Serving) × (new ≡ Some it) × P old.domain it.domain
 
+-- This is so of the domain as it was and as it is, with its lengths. Where there was none, there is none.
+abbrev pub Turns : (Serving → Serving → Type 0) → (old new : Option Serving) → Type 0
+Turns P None new = new ≡ None
+Turns P (Some old) new = (it : Serving) × (new ≡ Some it) × P old it
+
 -- Where there was a domain there is one, and all that was live in it stays but for the item.
 abbrev pub HoldsOn : Item → (old new : Option Serving) → Type 0
 HoldsOn item None new = new ≡ None

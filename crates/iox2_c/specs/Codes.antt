@@ -1,9 +1,16 @@
 -- The numbers by which C reads errors and settings.
-use Rattle.std.specs.Prelude.{ℕ, ◌+◌, cond, nat_eq}
+use Rattle.std.specs.Prelude.{ℕ, zero, suc, ◌+◌, cond, nat_eq}
+use Rattle.std.specs.declared.option.Option.{Option}
+use Rattle.std.specs.declared.option.Option.TheVariants.{None, Some}
 use Rattle.std.specs.declared.result.Result.{Result}
 use Rattle.std.specs.declared.result.Result.TheVariants.{Ok, Err}
 use Rattle.iox2_store.specs.declared.backpressure.BackpressureStrategy.{BackpressureStrategy}
 use Rattle.iox2_store.specs.declared.backpressure.BackpressureStrategy.TheVariants.{RetryUntilDelivered, DiscardData}
+use Rattle.iox2_store.specs.declared.backpressure.BackpressureAction.{BackpressureAction}
+use Rattle.iox2_store.specs.declared.backpressure.BackpressureAction.TheVariants as action
+use Rattle.iox2_store.specs.declared.degradation.DegradationAction.{DegradationAction}
+use Rattle.iox2_store.specs.declared.degradation.DegradationAction.TheVariants.{DegradeAndFail, Ignore, Warn}
+use Rattle.iox2_store.specs.machine.Records.{Fixed, Handler}
 use Rattle.iox2_store.specs.declared.errors.LoanError.{LoanError}
 use Rattle.iox2_store.specs.declared.errors.LoanError.TheVariants.{OutOfMemory, ExceedsMaxLoans, ExceedsMaxLoanSize, InternalFailure}
 use Rattle.iox2_store.specs.declared.errors.ZeroCopyCreationError.TheVariants.{IncompatibleBufferSize, OutOfMemory as No_memory, ExpiredConnectionBufferFull}
@@ -78,6 +85,23 @@ code_of code (Err error) = code error
 -- The strategy with this number: 1 stands for one that discards.
 abbrev pub strategy_numbered : ℕ → BackpressureStrategy
 strategy_numbered n = cond (nat_eq n 1) DiscardData RetryUntilDelivered
+
+-- The handler of full buffers with this number: 0 stands for none.
+abbrev pub handler_numbered : ℕ → Option (Handler BackpressureAction)
+handler_numbered n =
+    cond (nat_eq n 1) (Some (Fixed action.FollowBackpressureyStrategy))
+    (cond (nat_eq n 2) (Some (Fixed action.Retry))
+    (cond (nat_eq n 3) (Some (Fixed action.DiscardData))
+    (cond (nat_eq n 4) (Some (Fixed action.DiscardDataAndFail)) None)))
+
+-- What is done where memory for a connection is refused, by its number: 0 stands for nothing, and 2 for a failure of the call.
+abbrev pub degradation_numbered : ℕ → DegradationAction
+degradation_numbered n = cond (nat_eq n 0) Ignore (cond (nat_eq n 2) DegradeAndFail Warn)
+
+-- For how many slots a publisher asks: 0 stands for no override, which leaves it the worst case.
+abbrev pub slots_numbered : ℕ → Option ℕ
+slots_numbered zero = None
+slots_numbered (suc n) = Some (suc n)
 
 -- ---- sends
 

@@ -5,4 +5,5 @@ pub mod Numbers
 pub mod Codes
 pub mod Settings
 pub mod Calls
+pub mod Warnings
 pub mod Steps

@@ -3,9 +3,15 @@ use Rattle.std.specs.Prelude.{ℕ, ◌≡◌, ◌<◌, ◌%◌, ◌⊎◌, not, 
 use Rattle.iox2_store.specs.declared.service_config.ServiceConfig.{ServiceConfig}
 use Rattle.iox2_store.specs.declared.service_config.TypeVariant.TheVariants.{Dynamic}
 use Rattle.iox2_store.specs.declared.allocation.AllocationStrategy.TheVariants.{Static}
-use Rattle.iox2_c.specs.Codes.{strategy_numbered}
+use Rattle.iox2_store.specs.machine.Ports.{default_publisher_settings, default_subscriber_settings}
+use Rattle.iox2_store.specs.machine.Records.{Fixed, PublisherSettings, SubscriberSettings}
+use Rattle.iox2_c.specs.Codes.{degradation_numbered, handler_numbered, slots_numbered, strategy_numbered}
 use Rattle.iox2_c.specs.Numbers.{wide}
+use Rattle.iox2_c.specs.Serving.{KeptBytes, Serving}
 use Rattle.iox2_c.specs.declared.config.Config.{Config}
+use Rattle.iox2_c.specs.declared.numbers.PublisherNumbers.{PublisherNumbers}
+use Rattle.iox2_c.specs.declared.options.PublisherOptions.{PublisherOptions}
+use Rattle.iox2_c.specs.declared.options.SubscriberOptions.{SubscriberOptions}
 
 -- Payloads can be aligned so.
 abbrev pub IsAlignment : ℕ → Type 0
@@ -35,3 +41,48 @@ settings_of it = record {
   backpressure_strategy = strategy_numbered it.backpressure_strategy;
   publisher_allocation_strategy = Static;
 }
+
+-- The settings of the domain, but that its publishers have memory that doesn't grow, as C's always have.
+abbrev pub settings_in : KeptBytes → ServiceConfig
+settings_in kept = record (kept.config) { publisher_allocation_strategy = Static }
+
+-- ---- ports
+
+-- The settings of a publisher that is made without options: those of the domain, for messages as long as it says.
+abbrev pub plain_publisher_settings : Serving → PublisherSettings
+plain_publisher_settings it = record (default_publisher_settings (it.domain).config) { initial_max_slice_len = it.payload_size }
+
+-- The settings of a subscriber that is made without options: those of the domain.
+abbrev pub plain_subscriber_settings : Serving → SubscriberSettings
+plain_subscriber_settings it = default_subscriber_settings (it.domain).config
+
+-- The settings of a publisher with these options, but for the slots that it asks for.
+abbrev pub unasked_settings : ServiceConfig → PublisherOptions → PublisherSettings
+unasked_settings config it = record (default_publisher_settings config) {
+  max_loaned_samples = it.max_loaned_samples;
+  backpressure_strategy = strategy_numbered it.backpressure_strategy;
+  initial_max_slice_len = it.initial_max_slice_len;
+  degradation_handler = Fixed (degradation_numbered it.degradation);
+  backpressure_handler = handler_numbered it.backpressure_handler;
+}
+
+-- The settings of a publisher with these options.
+abbrev pub publisher_settings : ServiceConfig → PublisherOptions → PublisherSettings
+publisher_settings config it = record (unasked_settings config it) { asked_slots = slots_numbered it.preallocated_samples }
+
+-- The settings of a subscriber with these options.
+abbrev pub subscriber_settings : SubscriberOptions → SubscriberSettings
+subscriber_settings it = record { buffer_size = it.buffer_size; degradation_handler = Fixed (degradation_numbered it.degradation) }
+
+-- A publisher can have the options where payloads are aligned so: its messages are of whole units, and each number has a meaning.
+pub record AreOptions (alignment : ℕ) (it : PublisherOptions) : Type 0 where
+  pub aligned : 0 < alignment
+  pub whole : it.initial_max_slice_len % alignment ≡ 0
+  pub strategy : it.backpressure_strategy < 2
+  pub handler : it.backpressure_handler < 5
+  pub degradation : it.degradation < 3
+
+-- The numbers of a publisher say what its settings do of its messages' length and of its strategy.
+pub record ReadsSettings (it : PublisherNumbers) (given : PublisherSettings) : Type 0 where
+  pub longest : it.initial_max_slice_len ≡ given.initial_max_slice_len
+  pub strategy : strategy_numbered it.backpressure_strategy ≡ given.backpressure_strategy

@@ -1,31 +1,42 @@
 -- Which step of the machine a call made.
-use Rattle.std.specs.Prelude.{ℕ, Bool, ◌≡◌, IsTrue}
-use Rattle.std.specs.declared.option.Option.TheVariants.{Some}
+use Rattle.std.specs.Prelude.{ℕ, Bool, List, true, length, ◌≡◌, ◌⊎◌, IsTrue, MatchResult}
+use Rattle.std.specs.declared.option.Option.TheVariants.{None, Some}
 use Rattle.std.specs.declared.result.Result.{Result}
+use Rattle.std.specs.declared.result.Result.TheVariants.{Err, Ok}
 use Rattle.std.specs.declared.time.Duration.{Duration}
 use Rattle.core.specs.Duration.{as_nanos}
 use Rattle.iox2_store.specs.declared.backpressure.BackpressureAction.TheVariants.{DiscardData}
 use Rattle.iox2_store.specs.declared.errors.ConnectionFailure.{ConnectionFailure}
 use Rattle.iox2_store.specs.declared.errors.LoanError.{LoanError}
+use Rattle.iox2_store.specs.declared.errors.PublisherCreateError.{PublisherCreateError}
 use Rattle.iox2_store.specs.declared.errors.SendError.{SendError}
+use Rattle.iox2_store.specs.declared.errors.SendError.TheVariants.{LoanError as Not_lent}
+use Rattle.iox2_store.specs.declared.errors.SubscriberCreateError.{SubscriberCreateError}
+use Rattle.iox2_store.specs.declared.key.Key.{Key}
 use Rattle.iox2_store.specs.machine.Loans.{loan_discarded}
 use Rattle.iox2_store.specs.machine.Mailbox.{is_borrowed}
-use Rattle.iox2_store.specs.machine.Ports.{publisher_closed, subscriber_closed}
+use Rattle.iox2_store.specs.machine.Ports.{CreatePublisher, CreateSubscriber, buffer_for, publisher_closed, subscriber_closed}
 use Rattle.iox2_store.specs.machine.PublisherUpdate.{UpdatePublisher}
-use Rattle.iox2_store.specs.machine.Receives.{Receive, ReceiveResult}
-use Rattle.iox2_store.specs.machine.Records.{BlockedSend, Environment, Loan, Publisher, Subscriber}
+use Rattle.iox2_store.specs.machine.Receives.{Got_sample, Receive, ReceiveResult}
+use Rattle.iox2_store.specs.machine.Records.{BlockedSend, Environment, Loan, Publisher, PublisherSettings, Subscriber, SubscriberSettings}
 use Rattle.iox2_store.specs.machine.Releases.{released}
 use Rattle.iox2_store.specs.machine.Sends.{GiveUp, Retry}
+use Rattle.iox2_store.specs.machine.SingleCalls.{WriteAllFrom}
 use Rattle.iox2_store.specs.machine.SubscriberUpdate.{UpdateSubscriber}
 use Rattle.iox2_store.specs.machine.State.{Messages, State}
 use Rattle.iox2_domain.specs.Boxes.{answers_of}
+use Rattle.iox2_domain.specs.Lending.{LoanCall}
 use Rattle.iox2_domain.specs.Shows.{Shows}
+use Rattle.iox2_pubsub.specs.Live.{IsSampleKey}
 use Rattle.iox2_pubsub.specs.QuestionCalls.{Answers}
 use Rattle.iox2_pubsub.specs.SendCalls.{Sends, messages_after, result_of_send}
+use Rattle.iox2_pubsub.specs.Slices.{SampleHasValues}
 use Rattle.iox2_pubsub.specs.UpdateCalls.{returned_failure}
 use Rattle.iox2_pubsub.specs.WrittenLoans.{DefaultSliceCall}
 use Rattle.iox2_pubsub.specs.declared.send_outcome.SendOutcome.{SendOutcome}
+use Rattle.iox2_c.specs.Numbers.{wide}
 use Rattle.iox2_c.specs.Serving.{KeptBytes}
+use Rattle.iox2_c.specs.declared.numbers.SubscriberNumbers.{SubscriberNumbers}
 
 -- A state of a service of bytes.
 abbrev pub BytesState : Type 0
@@ -43,6 +54,28 @@ module _ (old new : KeptBytes) where
   -- From each state that the domain showed there is such a step to one that it shows now, and the messages are the same.
   abbrev pub StepsTo : (BytesState → BytesState → Type 0) → Type 0
   StepsTo Step = (m : Messages ℕ (Unit {0})) (s : BytesState) → Shows old m s → (s' : BytesState) × Shows new m s' × Step s s'
+
+  -- A publisher with these settings was asked for: it has this id, the counter's next, or is refused for this reason.
+  abbrev pub CreatesPublisher : PublisherSettings → Result ℕ PublisherCreateError → Type 0
+  CreatesPublisher given made = StepsTo (λ s s'. MatchResult made
+      (λ id. (id ≡ s.next_port) × CreatePublisher (publishers_answer new) s given s' None)
+      (λ error. CreatePublisher (publishers_answer new) s given s' (Some error)))
+
+  -- A subscriber with these settings was: these are its numbers, with its buffer, or it is refused for this reason.
+  abbrev pub CreatesSubscriber : SubscriberSettings → Result SubscriberNumbers SubscriberCreateError → Type 0
+  CreatesSubscriber given made = StepsTo (λ s s'. MatchResult made
+      (λ it. (wide it.id ≡ s.next_port) × (it.buffer_size ≡ buffer_for given) × CreateSubscriber (subscribers_answer new) s given s' None)
+      (λ error. CreateSubscriber (subscribers_answer new) s given s' (Some error)))
+
+  -- The publisher with this id was asked for so many bytes, none of which is written, with this answer.
+  abbrev pub LendsUnwritten : (publisher len : ℕ) → Result (Unit {0}) LoanError → Type 0
+  LendsUnwritten publisher len answer = StepsTo (λ s s'. LoanCall (λ header. Unit {0}) true len s publisher answer s')
+
+  -- The loan with this number was written: it has these bytes, as many as it is long.
+  abbrev pub Writes : (number : ℕ) → List ℕ → Type 0
+  Writes number bytes =
+      (m : Messages ℕ (Unit {0})) (s : BytesState) → Shows old m s
+      → (l : Loan ℕ (Unit {0})) × (s.loans number ≡ Some l) × (s' : BytesState) × WriteAllFrom s number l bytes s' × Shows new m s'
 
   -- The publisher with this id was asked for so many bytes, each of which is 0, with this answer.
   abbrev pub Lends : (publisher len : ℕ) → Result (Unit {0}) LoanError → Type 0
@@ -103,3 +136,28 @@ module _ (old new : KeptBytes) where
   -- The subscriber with this id was.
   abbrev pub UpdatesSubscriber : (subscriber : ℕ) → Result (Unit {0}) ConnectionFailure → Type 0
   UpdatesSubscriber subscriber updated = StepsTo (λ s s'. UpdateSubscriber (subscribers_answer old) s subscriber s' (returned_failure updated))
+
+module _ (old new : KeptBytes) where
+  -- The publisher with this id lent a loan as long as these bytes, which were written there, and the loan was sent, with this outcome or
+  -- error. After the first of these steps the domain was `lent`, and after the second `written`.
+  pub record SendsWritten (publisher : ℕ) (bytes : List ℕ) (sent : Result SendOutcome SendError) : Type 0 where
+    pub lent : KeptBytes
+    pub written : KeptBytes
+    pub lends : LendsUnwritten old lent publisher (length bytes) (Ok tt)
+    pub writes : Writes lent written old.next_message bytes
+    pub sends : SendsLoan written new old.next_message sent
+
+  -- A copy of these bytes was sent by the publisher with this id, or it lent nothing, for the reason that the error names.
+  abbrev pub SendsCopy : (publisher : ℕ) (bytes : List ℕ) → Result SendOutcome SendError → Type 0
+  SendsCopy publisher bytes sent =
+      SendsWritten publisher bytes sent
+      ⊎ ((reason : LoanError) × (sent ≡ Err (Not_lent reason)) × LendsUnwritten old new publisher (length bytes) (Err reason))
+
+  -- The sample with this key, of this publisher, was received; it has these bytes; and it was given back. Before that the domain was
+  -- `received`.
+  pub record ReceivesCopy (key : Key) (origin : ℕ) (bytes : List ℕ) : Type 0 where
+    pub received : KeptBytes
+    pub receives : Receives old received key.port (Got_sample origin key.message)
+    pub live : IsSampleKey received key
+    pub reads : SampleHasValues received key bytes
+    pub releases : Releases received new key.port key.message

@@ -1,5 +1,8 @@
 //! The settings of a domain.
 ghost use Rattle.std.specs.Prelude.{◌≡◌, ◌<◌, ◌↔◌, IsTrue};
+ghost use Rattle.iox2_store.specs.Defaults.{default_config};
+ghost use Rattle.iox2_store.specs.declared.allocation.AllocationStrategy.TheVariants.{Static};
+ghost use Rattle.iox2_store.specs.declared.service_config.TypeVariant.TheVariants.{Dynamic};
 ghost use Rattle.iox2_c.specs.Codes.{strategy_numbered};
 ghost use Rattle.iox2_c.specs.Settings.{AreValid, IsAlignment, settings_of};
 
@@ -40,7 +43,11 @@ pub struct Config {
 
 impl Config {
     /// The defaults of a domain with this id, for messages of so many bytes.
-    pub fn defaults(service_id: u128, payload_size: usize, payload_alignment: usize) -> Config {
+    pub fn defaults(service_id: u128, payload_size: usize, payload_alignment: usize) -> Config
+        ensures settings { settings_of result ≡ record (default_config service_id) { variant = Dynamic } }
+        ensures size { result.payload_size ≡ payload_size }
+        ensures alignment { result.payload_alignment ≡ payload_alignment }
+    {
         Config::of(
             &ServiceConfig::new(service_id),
             payload_size,
@@ -49,7 +56,11 @@ impl Config {
     }
 
     /// The settings of a domain for messages of so many bytes.
-    pub fn of(config: &ServiceConfig, payload_size: usize, payload_alignment: usize) -> Config {
+    pub fn of(config: &ServiceConfig, payload_size: usize, payload_alignment: usize) -> Config
+        ensures settings { settings_of result ≡ record (config.now) { variant = Dynamic; units_per_element = 1; publisher_allocation_strategy = Static } }
+        ensures size { result.payload_size ≡ payload_size }
+        ensures alignment { result.payload_alignment ≡ payload_alignment }
+    {
         Config {
             service_id: Wide::of(config.service_id),
             node_id: Wide::of(config.node_id),

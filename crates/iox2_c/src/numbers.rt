@@ -1,6 +1,7 @@
 //! The numbers by which C names a port, a loan or a message. Each number of 128 bits is two of 64,
 //! since none of 128 bits crosses to C.
 ghost use Rattle.std.specs.Prelude.{◌≡◌};
+ghost use Rattle.iox2_c.specs.Codes.{strategy_numbered};
 ghost use Rattle.iox2_c.specs.Numbers.{IsHeader, named_loan, named_publisher, named_sample, named_subscriber, wide};
 ghost use Rattle.iox2_pubsub.specs.Parts.{loan_named, publisher_named, sample_named, subscriber_named};
 
@@ -59,7 +60,9 @@ pub struct PublisherNumbers {
 impl PublisherNumbers {
     /// The numbers of a handle.
     pub fn of(parts: PublisherParts) -> PublisherNumbers
-        ensures { named_publisher result ≡ publisher_named parts }
+        ensures named { named_publisher result ≡ publisher_named parts }
+        ensures longest { result.initial_max_slice_len ≡ parts.initial_max_slice_len }
+        ensures strategy { strategy_numbered result.backpressure_strategy ≡ parts.strategy }
     {
         PublisherNumbers {
             service_id: Wide::of(parts.service_id),
@@ -102,7 +105,8 @@ pub struct SubscriberNumbers {
 impl SubscriberNumbers {
     /// The numbers of a handle.
     pub fn of(parts: SubscriberParts) -> SubscriberNumbers
-        ensures { named_subscriber result ≡ subscriber_named parts }
+        ensures named { named_subscriber result ≡ subscriber_named parts }
+        ensures buffer { result.buffer_size ≡ parts.buffer_size }
     {
         SubscriberNumbers {
             service_id: Wide::of(parts.service_id),

@@ -1,5 +1,11 @@
 //! What a port has other than the domain's settings say.
 ghost use Rattle.std.specs.Prelude.{◌≡◌, ◌<◌, ◌↔◌, IsTrue};
+ghost use Rattle.iox2_store.specs.machine.Ports.{default_publisher_settings, default_subscriber_settings};
+ghost use Rattle.iox2_store.specs.machine.Records.{Fixed};
+ghost use Rattle.iox2_ends.specs.Handlers.{marks_of};
+ghost use Rattle.iox2_pubsub.specs.Factories.{answer_of};
+ghost use Rattle.iox2_c.specs.Codes.{degradation_numbered, handler_numbered};
+ghost use Rattle.iox2_c.specs.Settings.{AreOptions, publisher_settings, settings_of, subscriber_settings};
 
 use crate::config::Config;
 use crate::handlers::NoHandler;
@@ -13,6 +19,8 @@ pub struct PublisherOptions {
     pub max_loaned_samples: usize,
     /// How many bytes a message may have.
     pub initial_max_slice_len: usize,
+    /// For how many slots it asks, or 0 for the worst case.
+    pub preallocated_samples: usize,
     /// What it does at a full buffer, as a number.
     pub backpressure_strategy: u32,
     /// What answers in its place, as a number, or 0.
@@ -25,10 +33,13 @@ pub struct PublisherOptions {
 
 impl PublisherOptions {
     /// What a publisher has that is made without options.
-    pub fn of(config: &Config) -> PublisherOptions {
+    pub fn of(config: &Config) -> PublisherOptions
+        ensures { publisher_settings (settings_of config.now) result ≡ record (default_publisher_settings (settings_of config.now)) { initial_max_slice_len = config.now.payload_size } }
+    {
         PublisherOptions {
             max_loaned_samples: config.publisher_max_loaned_samples,
             initial_max_slice_len: config.payload_size,
+            preallocated_samples: 0,
             backpressure_strategy: config.backpressure_strategy,
             backpressure_handler: 0,
             degradation: 1,
@@ -36,15 +47,21 @@ impl PublisherOptions {
         }
     }
 
-    /// Whether each number has a meaning.
-    pub fn are_valid(&self) -> bool
-        ensures { IsTrue result → (self.now.backpressure_strategy < 2) × (self.now.backpressure_handler < 5) × (self.now.degradation < 3) }
+    /// Whether a publisher can have the options where payloads are aligned so.
+    pub fn are_valid(&self, alignment: usize) -> bool
+        ensures { IsTrue result ↔ AreOptions alignment self.now }
     {
-        self.backpressure_strategy < 2 && self.backpressure_handler < 5 && self.degradation < 3
+        alignment > 0
+            && self.initial_max_slice_len % alignment == 0
+            && self.backpressure_strategy < 2
+            && self.backpressure_handler < 5
+            && self.degradation < 3
     }
 
     /// The handler of full buffers, if there is one.
-    pub fn handler(&self) -> Option<BackpressureHandler<NoHandler>> {
+    pub fn handler(&self) -> Option<BackpressureHandler<NoHandler>>
+        ensures { marks_of result ≡ handler_numbered self.now.backpressure_handler }
+    {
         let action = match self.backpressure_handler {
             1 => BackpressureAction::FollowBackpressureyStrategy,
             2 => BackpressureAction::Retry,
@@ -70,9 +87,11 @@ pub struct SubscriberOptions {
 
 impl SubscriberOptions {
     /// What a subscriber has that is made without options.
-    pub fn of(config: &Config) -> SubscriberOptions {
+    pub fn of(config: &Config) -> SubscriberOptions
+        ensures { subscriber_settings result ≡ default_subscriber_settings (settings_of config.now) }
+    {
         SubscriberOptions {
-            buffer_size: config.subscriber_max_buffer_size,
+            buffer_size: config.subscriber_max_buffer_size.max(1),
             degradation: 1,
             reserved: 0,
         }
@@ -80,7 +99,9 @@ impl SubscriberOptions {
 }
 
 /// What answers where memory for a connection is refused: it warns, but for the numbers of others.
-pub fn degradation_of(number: u32) -> DegradationHandler<NoHandler> {
+pub fn degradation_of(number: u32) -> DegradationHandler<NoHandler>
+    ensures { answer_of result ≡ Fixed (degradation_numbered number) }
+{
     let action = match number {
         0 => DegradationAction::Ignore,
         2 => DegradationAction::DegradeAndFail,

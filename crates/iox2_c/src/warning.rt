@@ -1,4 +1,6 @@
 //! A domain's warnings, for C.
+ghost use Rattle.iox2_c.specs.Warnings.{Says, TellsOf};
+
 use crate::numbers::Wide;
 use crate::status::failure_status;
 use iox2_pubsub::Warning;
@@ -18,7 +20,9 @@ pub struct WarningNumbers {
 }
 
 // A warning that names these ports.
-fn of(kind: u32, publisher: u128, subscriber: u128, failure: u32) -> WarningNumbers {
+fn of(kind: u32, publisher: u128, subscriber: u128, failure: u32) -> WarningNumbers
+    ensures { Says kind publisher subscriber failure result }
+{
     WarningNumbers {
         publisher: Wide::of(publisher),
         subscriber: Wide::of(subscriber),
@@ -28,7 +32,9 @@ fn of(kind: u32, publisher: u128, subscriber: u128, failure: u32) -> WarningNumb
 }
 
 /// The warning's numbers.
-pub fn numbers_of(warning: Warning) -> WarningNumbers {
+pub fn numbers_of(warning: Warning) -> WarningNumbers
+    ensures { TellsOf warning result }
+{
     match warning {
         Warning::ExpiredBufferRaised { subscriber } => of(100, 0, subscriber.value(), 0),
         Warning::PublisherPartlyConnected { publisher, failure } => {

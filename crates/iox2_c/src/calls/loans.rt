@@ -1,7 +1,8 @@
 //! The calls of loans.
-ghost use Rattle.std.specs.Prelude.{◌≡◌, ◌<◌, ◌⊎◌, IfNone, IfSome};
+ghost use Rattle.std.specs.Prelude.{ℕ, List, length, ◌≡◌, ◌<◌, ◌⊎◌, IfNone, IfSome};
 ghost use Rattle.iox2_pubsub.specs.Handles.{as_written, written_number};
 ghost use Rattle.iox2_pubsub.specs.Live.{A_loan, IsLoanKey, IsWritten, written_key};
+ghost use Rattle.iox2_pubsub.specs.Slices.{HasValues};
 ghost use Rattle.iox2_c.specs.Calls.{IsOut, RefusesLoan};
 ghost use Rattle.iox2_c.specs.Numbers.{named_loan, wide};
 ghost use Rattle.iox2_c.specs.Serving.{ServesBut};
@@ -45,6 +46,7 @@ pub fn discard(service: &mut Service, numbers: &LoanNumbers) -> u32
 pub fn payload(service: &Service, numbers: &LoanNumbers, out: &mut *mut u8, len: &mut usize) -> u32
     ensures code { (result ≡ 0) ⊎ RefusesLoan service.now.domain (named_loan numbers.now) result }
     ensures out { result ≡ 0 → IsOut service.now.domain (named_loan numbers.now) }
+    ensures length { result ≡ 0 → (values : List ℕ) → HasValues service.now.domain (wide (numbers.now).number) values → len.new ≡ length values }
     ensures same { 0 < result → len.new ≡ len.old }
 {
     let Some(loan) = written_loan(&service.domain, numbers) else {

@@ -1,15 +1,22 @@
 //! The calls of publishers.
-ghost use Rattle.std.specs.Prelude.{◌≡◌, ◌<◌, ◌≤◌, ◌⊎◌, Err, IfErr, IfOk, Ok};
+ghost use Rattle.std.specs.Prelude.{ℕ, ◌≡◌, ◌≢◌, ◌<◌, ◌≤◌, ◌⊎◌, Err, IfErr, IfOk, MatchResult, None, Ok, Some};
 ghost use Rattle.iox2_store.specs.declared.errors.LoanError.{LoanError};
+ghost use Rattle.iox2_store.specs.declared.errors.PublisherCreateError.{PublisherCreateError};
+ghost use Rattle.iox2_store.specs.machine.Ports.{CreatePublisher};
+ghost use Rattle.iox2_domain.specs.Boxes.{answers_of};
+ghost use Rattle.iox2_pubsub.specs.Factories.{with_slots};
+ghost use Rattle.iox2_pubsub.specs.Handles.{max_slice_len_of, strategy_of as handle_strategy};
 ghost use Rattle.iox2_pubsub.specs.Handles.{as_publisher, publisher_id};
-ghost use Rattle.iox2_pubsub.specs.Live.{A_loan, A_publisher, IsLoanKey, IsNewIn, IsPublisherKey, IsReadyPublisher, No_item, publisher_key};
-ghost use Rattle.iox2_c.specs.Calls.{IsOut, IsReady, RefusesPublisher};
-ghost use Rattle.iox2_c.specs.Codes.{code_of, loan_code, publisher_code};
+ghost use Rattle.iox2_pubsub.specs.Live.{A_loan, A_publisher, IsLoanKey, IsNewIn, IsPublisherKey, IsReadyPublisher, No_item, Stays, publisher_key, publisher_port};
+ghost use Rattle.iox2_c.specs.Calls.{IsOut, IsReady, RefusesPublisher, publisher_made};
+ghost use Rattle.iox2_c.specs.Codes.{code_of, loan_code, publisher_code, slots_numbered, strategy_numbered};
 ghost use Rattle.iox2_c.specs.Numbers.{named_loan, named_publisher, wide};
 ghost use Rattle.iox2_c.specs.Serving.{ServesBut};
-ghost use Rattle.iox2_c.specs.Steps.{ClosesPublisher, Lends};
+ghost use Rattle.iox2_c.specs.Settings.{AreOptions, ReadsSettings, plain_publisher_settings, publisher_settings, unasked_settings};
+ghost use Rattle.iox2_c.specs.Steps.{ClosesPublisher, CreatesPublisher, Lends};
 
 use crate::config::strategy_of;
+use crate::handlers::NoHandler;
 use crate::numbers::{LoanNumbers, PublisherNumbers};
 use crate::options::{PublisherOptions, degradation_of};
 use crate::service::{BytesDomain, Service};
@@ -18,27 +25,40 @@ use crate::status::{
     INVALID_SETTINGS, NOT_LIVE, OK, PUBLISHER_IS_BLOCKED, loan_status, publisher_status,
 };
 use iox2_pubsub::PublisherCreateError;
-use iox2_pubsub::slice::Publisher;
+use iox2_pubsub::slice::{PortFactoryPublisher, Publisher};
+
+// A factory of publishers without an override.
+type Factory = PortFactoryPublisher<NoHandler, NoHandler>;
 
 /// Makes a publisher, as the settings say.
 pub fn create(service: &mut Service, out: &mut PublisherNumbers) -> u32
-    ensures code { result ≡ 1 → ⊥ }
+    ensures creates { result ≡ 0 → CreatesPublisher service.old.domain service.new.domain (plain_publisher_settings service.old) (Ok (wide (out.new).id)) }
+    ensures errors { 0 < result → (error : PublisherCreateError) × (result ≡ publisher_code error) × CreatesPublisher service.old.domain service.new.domain (plain_publisher_settings service.old) (Err error) }
     ensures ready { result ≡ 0 → IsReady service.new.domain (named_publisher out.new) }
     ensures new { result ≡ 0 → IsNewIn service.old.domain (A_publisher (wide (out.new).id)) }
+    ensures reads { result ≡ 0 → ReadsSettings out.new (plain_publisher_settings service.old) }
     ensures same { 0 < result → out.new ≡ out.old }
     ensures stays { ServesBut No_item service.old service.new }
 {
-    let factory = service
-        .domain
-        .slice_publisher_builder()
-        .initial_max_slice_len(service.payload_size);
-    tell(factory.create(&mut service.domain), out)
+    let factory = plain_factory(service);
+    let made = factory.create(&mut service.domain);
+    tell(made, out)
+}
+
+// A factory of publishers without options.
+fn plain_factory(service: &Service) -> Factory
+    ensures { result.settings ≡ plain_publisher_settings service.now }
+{
+    let factory = service.domain.slice_publisher_builder();
+    factory.initial_max_slice_len(service.payload_size)
 }
 
 // What came of a publisher: its code, and its numbers where it was made.
 fn tell(made: Result<Publisher, PublisherCreateError>, out: &mut PublisherNumbers) -> u32
     ensures code { result ≡ code_of publisher_code made }
     ensures named { IfOk made (λ it. named_publisher out.new ≡ publisher_key (as_publisher it)) }
+    ensures longest { IfOk made (λ it. (out.new).initial_max_slice_len ≡ max_slice_len_of (as_publisher it)) }
+    ensures strategy { IfOk made (λ it. strategy_numbered (out.new).backpressure_strategy ≡ handle_strategy (as_publisher it)) }
     ensures same { IfErr made (λ _. out.new ≡ out.old) }
 {
     match made {
@@ -50,25 +70,10 @@ fn tell(made: Result<Publisher, PublisherCreateError>, out: &mut PublisherNumber
     }
 }
 
-/// Makes a publisher with these options.
-pub fn create_with(
-    service: &mut Service,
-    options: &PublisherOptions,
-    out: &mut PublisherNumbers,
-) -> u32
-    ensures code { result ≡ 1 → ⊥ }
-    ensures ready { result ≡ 0 → IsReady service.new.domain (named_publisher out.new) }
-    ensures new { result ≡ 0 → IsNewIn service.old.domain (A_publisher (wide (out.new).id)) }
-    ensures same { 0 < result → out.new ≡ out.old }
-    ensures invalid { result ≡ 8 → service.new ≡ service.old }
-    ensures stays { ServesBut No_item service.old service.new }
+// A factory of publishers with these options, which have the worst case of slots.
+fn factory_with(service: &Service, options: &PublisherOptions) -> Factory
+    ensures { result.settings ≡ unasked_settings (service.now.domain).config options.now }
 {
-    let rest = options
-        .initial_max_slice_len
-        .checked_rem(service.payload_alignment);
-    if rest != Some(0) || !options.are_valid() {
-        return INVALID_SETTINGS;
-    }
     let plain = service
         .domain
         .slice_publisher_builder()
@@ -76,11 +81,75 @@ pub fn create_with(
         .initial_max_slice_len(options.initial_max_slice_len)
         .backpressure_strategy(strategy_of(options.backpressure_strategy))
         .set_degradation_handler(degradation_of(options.degradation));
-    let factory = match options.handler() {
+    match options.handler() {
         Some(handler) => plain.set_backpressure_handler(handler),
         None => plain,
-    };
-    tell(factory.create(&mut service.domain), out)
+    }
+}
+
+// Makes a publisher by the factory, with an override that always asks for so many slots.
+fn create_asked<P: Fn(usize) -> usize + Drop>(
+    domain: &mut BytesDomain,
+    factory: Factory,
+    slots: usize,
+    callback: P,
+) -> Result<Publisher, PublisherCreateError>
+    requires can_ask { P.IsAlwaysCallable callback }
+    requires asks { (worst n : ℕ) → P.post callback worst n → n ≡ slots }
+    ensures creates { CreatesPublisher domain.old domain.new (with_slots factory.settings (Some slots)) (publisher_made result) }
+    ensures ready { IfOk result (λ it. IsReadyPublisher domain.new (as_publisher it)) }
+    ensures new { IfOk result (λ it. IsNewIn domain.old (publisher_port (as_publisher it))) }
+    ensures longest { IfOk result (λ it. max_slice_len_of (as_publisher it) ≡ factory.settings.initial_max_slice_len) }
+    ensures strategy { IfOk result (λ it. handle_strategy (as_publisher it) ≡ factory.settings.backpressure_strategy) }
+    ensures stays { Stays domain.old domain.new }
+{
+    let asking = factory.override_sample_preallocation(callback);
+    asking.create(domain)
+}
+
+// Makes a publisher by the factory, which asks for so many slots, or for the worst case where that is 0.
+fn create_by(
+    domain: &mut BytesDomain,
+    factory: Factory,
+    slots: usize,
+) -> Result<Publisher, PublisherCreateError>
+    requires { factory.settings.asked_slots ≡ None }
+    ensures creates { CreatesPublisher domain.old domain.new (with_slots factory.settings (slots_numbered slots)) (publisher_made result) }
+    ensures ready { IfOk result (λ it. IsReadyPublisher domain.new (as_publisher it)) }
+    ensures new { IfOk result (λ it. IsNewIn domain.old (publisher_port (as_publisher it))) }
+    ensures longest { IfOk result (λ it. max_slice_len_of (as_publisher it) ≡ factory.settings.initial_max_slice_len) }
+    ensures strategy { IfOk result (λ it. handle_strategy (as_publisher it) ≡ factory.settings.backpressure_strategy) }
+    ensures stays { Stays domain.old domain.new }
+{
+    if slots == 0 {
+        factory.create(domain)
+    } else {
+        create_asked(domain, factory, slots, move |_| slots)
+    }
+}
+
+/// Makes a publisher with these options.
+pub fn create_with(
+    service: &mut Service,
+    options: &PublisherOptions,
+    out: &mut PublisherNumbers,
+) -> u32
+    ensures creates { result ≡ 0 → CreatesPublisher service.old.domain service.new.domain (publisher_settings (service.old.domain).config options.now) (Ok (wide (out.new).id)) }
+    ensures errors { 0 < result → result ≢ 8 → (error : PublisherCreateError) × (result ≡ publisher_code error) × CreatesPublisher service.old.domain service.new.domain (publisher_settings (service.old.domain).config options.now) (Err error) }
+    ensures valid { result ≢ 8 → AreOptions service.old.payload_alignment options.now }
+    ensures invalid { result ≡ 8 → (AreOptions service.old.payload_alignment options.now → ⊥) × (service.new ≡ service.old) }
+    ensures ready { result ≡ 0 → IsReady service.new.domain (named_publisher out.new) }
+    ensures new { result ≡ 0 → IsNewIn service.old.domain (A_publisher (wide (out.new).id)) }
+    ensures reads { result ≡ 0 → ReadsSettings out.new (publisher_settings (service.old.domain).config options.now) }
+    ensures same { 0 < result → out.new ≡ out.old }
+    ensures stays { ServesBut No_item service.old service.new }
+{
+    if !options.are_valid(service.payload_alignment) {
+        return INVALID_SETTINGS;
+    }
+    let factory = factory_with(service, options);
+    let made = create_by(&mut service.domain, factory, options.preallocated_samples);
+    tell(made, out)
 }
 
 /// A handle of a publisher that may be called, or the code that says why there is none.

@@ -1,16 +1,18 @@
 //! What a domain is asked that changes nothing but connections.
-ghost use Rattle.std.specs.Prelude.{Bool, cond, length, ◌≡◌, ◌<◌, ◌≤◌, ◌⊎◌, IfOk};
+ghost use Rattle.std.specs.Prelude.{Bool, cond, length, slice_get, ◌≡◌, ◌<◌, ◌≤◌, ◌⊎◌, ◌↔◌, IfOk, IfSome, None};
 ghost use Rattle.std.specs.declared.result.Result.{Result};
 ghost use Rattle.std.specs.List.{count_by};
 ghost use Rattle.std.specs.Option.{is_some};
 ghost use Rattle.circular_buffer.specs.Buffer.{buffer};
 ghost use Rattle.iox2_store.specs.machine.Limits.{warning_limit};
 ghost use Rattle.iox2_store.specs.declared.errors.ConnectionFailure.{ConnectionFailure};
-ghost use Rattle.iox2_pubsub.specs.Live.{IsPublisherKey, IsSubscriberKey, No_item};
+ghost use Rattle.iox2_pubsub.specs.Live.{IsPublisherKey, IsSubscriberKey, IsUnblocked, No_item};
 ghost use Rattle.iox2_c.specs.Calls.{RefusesPublisher};
 ghost use Rattle.iox2_c.specs.Codes.{code_of, failure_code};
 ghost use Rattle.iox2_c.specs.Numbers.{named_publisher, named_subscriber, wide};
 ghost use Rattle.iox2_c.specs.Serving.{ServesBut};
+ghost use Rattle.iox2_c.specs.Settings.{settings_in, settings_of};
+ghost use Rattle.iox2_c.specs.Warnings.{TellsOf};
 ghost use Rattle.iox2_c.specs.Steps.{Asks, UpdatesPublisher, UpdatesSubscriber};
 
 use crate::calls::publishers::ready_publisher;
@@ -91,6 +93,9 @@ fn number_of(is_so: bool) -> u32
 /// Whether a send of a publisher waits.
 pub fn is_blocked(service: &Service, numbers: &PublisherNumbers, out: &mut u32) -> u32
     ensures code { (result ≡ 0) ⊎ ((result ≡ 2) × (IsPublisherKey service.now.domain (named_publisher numbers.now) → ⊥)) }
+    ensures live { result ≡ 0 → IsPublisherKey service.now.domain (named_publisher numbers.now) }
+    ensures tells { result ≡ 0 → (out.new ≡ 0) ↔ IsUnblocked service.now.domain (named_publisher numbers.now) }
+    ensures answer { result ≡ 0 → (out.new ≡ 0) ⊎ (out.new ≡ 1) }
     ensures same { 0 < result → out.new ≡ out.old }
 {
     let Some(publisher) = service.domain.publisher_of(&numbers.parts()) else {
@@ -103,7 +108,8 @@ pub fn is_blocked(service: &Service, numbers: &PublisherNumbers, out: &mut u32) 
 
 /// One of the domain's last warnings, the oldest first.
 pub fn warning(service: &Service, index: usize, out: &mut WarningNumbers) -> u32
-    ensures code { result ≡ 1 → ⊥ }
+    ensures code { (result ≡ 0) ⊎ ((result ≡ 2) × (slice_get (buffer (service.now.domain.warnings).latest warning_limit).items index ≡ None)) }
+    ensures reads { result ≡ 0 → IfSome (slice_get (buffer (service.now.domain.warnings).latest warning_limit).items index) (λ warning. TellsOf warning out.new) }
     ensures same { 0 < result → out.new ≡ out.old }
 {
     match service.domain.warnings().get(index) {
@@ -154,6 +160,9 @@ pub fn book_count(service: &Service, count: &mut usize) -> u32
 /// The domain's settings.
 pub fn config(service: &Service, out: &mut Config) -> u32
     ensures code { result ≡ 0 }
+    ensures reads { settings_of out.new ≡ settings_in service.now.domain }
+    ensures size { (out.new).payload_size ≡ service.now.payload_size }
+    ensures alignment { (out.new).payload_alignment ≡ service.now.payload_alignment }
 {
     *out = Config::of(
         service.domain.config(),

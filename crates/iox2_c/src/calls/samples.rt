@@ -1,7 +1,7 @@
 //! The calls of samples.
-ghost use Rattle.std.specs.Prelude.{ℕ, List, length, take, ◌≡◌, ◌≢◌, ◌<◌, ◌⊎◌, IfNone, IfSome};
+ghost use Rattle.std.specs.Prelude.{ℕ, List, drop, length, take, ◌≡◌, ◌≢◌, ◌<◌, ◌≤◌, ◌⊎◌, IfNone, IfSome};
 ghost use Rattle.iox2_store.specs.declared.header.Header.{Header};
-ghost use Rattle.iox2_pubsub.specs.Handles.{as_sample, receiver_of, sample_number};
+ghost use Rattle.iox2_pubsub.specs.Handles.{as_sample, origin_of, receiver_of, sample_number};
 ghost use Rattle.iox2_pubsub.specs.Live.{A_sample, IsLiveSample, IsSampleKey, SampleHasHeader, received_sample, sample_key};
 ghost use Rattle.iox2_pubsub.specs.Slices.{SampleHasValues};
 ghost use Rattle.iox2_c.specs.Numbers.{IsHeader, named_sample, wide};
@@ -53,10 +53,13 @@ pub fn payload(
 pub fn copy(service: &Service, numbers: &SampleNumbers, bytes: &mut [u8], len: &mut usize) -> u32
     ensures code { (result ≡ 0) ⊎ (result ≡ 9) ⊎ ((result ≡ 2) × (IsSampleKey service.now.domain (named_sample numbers.now) → ⊥)) }
     ensures live { result ≢ 2 → IsSampleKey service.now.domain (named_sample numbers.now) }
-    ensures copied { result ≡ 0 → (values : List ℕ) → SampleHasValues service.now.domain (named_sample numbers.now) values → take len.new bytes.new ≡ values }
+    ensures copied { result ≡ 0 → SampleHasValues service.now.domain (named_sample numbers.now) (take len.new bytes.new) }
+    ensures fits { result ≡ 0 → len.new ≤ length bytes.old }
+    ensures rest { result ≡ 0 → drop len.new bytes.new ≡ drop len.new bytes.old }
     ensures length { result ≢ 2 → (values : List ℕ) → SampleHasValues service.now.domain (named_sample numbers.now) values → len.new ≡ length values }
     ensures small { (result ≡ 9) → length bytes.old < len.new }
     ensures same { 0 < result → bytes.new ≡ bytes.old }
+    ensures same_length { result ≡ 2 → len.new ≡ len.old }
 {
     let Some(sample) = live_sample(&service.domain, numbers) else {
         return NOT_LIVE;
@@ -70,6 +73,8 @@ pub fn copy(service: &Service, numbers: &SampleNumbers, bytes: &mut [u8], len: &
 // Copies the bytes where there is room for them.
 fn copy_bytes(from: &[u8], bytes: &mut [u8]) -> u32
     ensures copied { result ≡ 0 → take (length from.now) bytes.new ≡ from.now }
+    ensures fits { result ≡ 0 → length from.now ≤ length bytes.old }
+    ensures rest { result ≡ 0 → drop (length from.now) bytes.new ≡ drop (length from.now) bytes.old }
     ensures small { (result ≡ 9) → length bytes.old < length from.now }
     ensures same { 0 < result → bytes.new ≡ bytes.old }
     ensures code { (result ≡ 0) ⊎ (result ≡ 9) }
@@ -92,8 +97,16 @@ pub fn copy_out(
 ) -> u32
     requires { IsLiveSample service.old.domain (as_sample sample) }
     ensures code { (result ≡ 0) ⊎ (result ≡ 9) }
-    ensures live { result ≡ 9 → IsSampleKey service.new.domain (named_sample out.new) }
+    ensures copied { result ≡ 0 → SampleHasValues service.old.domain (sample_key (as_sample sample)) (take len.new bytes.new) }
+    ensures fits { result ≡ 0 → len.new ≤ length bytes.old }
+    ensures releases { result ≡ 0 → Releases service.old.domain service.new.domain (receiver_of (as_sample sample)) (sample_number (as_sample sample)) }
+    ensures kept { result ≡ 9 → service.new ≡ service.old }
+    ensures named { result ≡ 9 → named_sample out.new ≡ sample_key (as_sample sample) }
+    ensures origin { result ≡ 9 → wide (out.new).origin ≡ origin_of (as_sample sample) }
+    ensures small { result ≡ 9 → length bytes.old < len.new }
+    ensures length { (values : List ℕ) → SampleHasValues service.old.domain (sample_key (as_sample sample)) values → len.new ≡ length values }
     ensures same { 0 < result → bytes.new ≡ bytes.old }
+    ensures same_numbers { result ≡ 0 → out.new ≡ out.old }
     ensures stays { ServesBut (received_sample (as_sample sample)) service.old service.new }
 {
     let from = sample.payload(&service.domain);

@@ -1,21 +1,23 @@
 //! Sends, and those that wait.
-ghost use Rattle.std.specs.Prelude.{◌≡◌, ◌<◌, ◌⊎◌, nat_eq, IfOk};
+ghost use Rattle.std.specs.Prelude.{◌≡◌, ◌≢◌, ◌<◌, ◌⊎◌, nat_eq, IfOk};
 ghost use Rattle.std.specs.declared.result.Result.{Result};
 ghost use Rattle.iox2_store.specs.declared.errors.SendError.{SendError};
 ghost use Rattle.iox2_pubsub.specs.declared.send_outcome.SendOutcome.{SendOutcome};
-ghost use Rattle.iox2_pubsub.specs.Live.{A_blocked_send, A_sent_copy, A_sent_loan, IsBlockedKey, IsLoanKey, blocked_key};
-ghost use Rattle.iox2_pubsub.specs.SendCalls.{IfBlocked};
+ghost use Rattle.iox2_pubsub.specs.Live.{A_blocked_send, A_sent_copy, A_sent_loan, IsBlockedKey, IsLoanKey, IsReadyPublisher, StaysBut, blocked_key};
+ghost use Rattle.iox2_pubsub.specs.Handles.{as_publisher, publisher_id};
+ghost use Rattle.iox2_pubsub.specs.SendCalls.{IfBlocked, spent_by_copy};
 ghost use Rattle.iox2_c.specs.Calls.{IsOut, IsReady, RefusesPublisher, RefusesSend};
 ghost use Rattle.iox2_c.specs.Codes.{receivers_of, sent_code};
 ghost use Rattle.iox2_c.specs.Numbers.{named_loan, named_publisher, wide};
-ghost use Rattle.iox2_c.specs.Serving.{ServesBut};
-ghost use Rattle.iox2_c.specs.Steps.{GivesUp, Retries, SendsLoan};
+ghost use Rattle.iox2_c.specs.Serving.{IsOfBytes, ServesBut};
+ghost use Rattle.iox2_c.specs.Steps.{GivesUp, Retries, SendsCopy, SendsLoan};
 
 use crate::calls::loans::written_loan;
 use crate::calls::publishers::ready_publisher;
 use crate::numbers::{LoanNumbers, PublisherNumbers};
-use crate::service::Service;
-use crate::status::{BLOCKED, NOT_LIVE, OK, PUBLISHER_IS_BLOCKED, loan_status, send_status};
+use crate::service::{BytesDomain, Service};
+use crate::status::{BLOCKED, NOT_LIVE, OK, PUBLISHER_IS_BLOCKED, send_status};
+use iox2_pubsub::slice::Publisher;
 use iox2_pubsub::{SendError, SendOutcome};
 use std::time::Duration;
 
@@ -28,6 +30,7 @@ fn tell(
     ensures code { result ≡ sent_code sent }
     ensures receivers { receivers.new ≡ receivers_of receivers.old sent }
     ensures blocked { IfOk sent (λ outcome. IfBlocked outcome (λ it. named_loan blocked.new ≡ blocked_key it)) }
+    ensures same { result ≢ 6 → blocked.new ≡ blocked.old }
 {
     match sent {
         Ok(SendOutcome::Delivered(count)) => {
@@ -50,9 +53,12 @@ pub fn send(
     blocked: &mut LoanNumbers,
 ) -> u32
     ensures code { result ≡ 1 → ⊥ }
-    ensures sent { (result ≡ 0) ⊎ ((5 < result) × (result ≡ 7 → ⊥)) → (outcome : Result SendOutcome SendError) × (result ≡ sent_code outcome) × (receivers.new ≡ receivers_of receivers.old outcome) × SendsLoan service.old.domain service.new.domain (wide (numbers.now).number) outcome }
+    ensures sent { result ≢ 2 → result ≢ 7 → (outcome : Result SendOutcome SendError) × (result ≡ sent_code outcome) × (receivers.new ≡ receivers_of receivers.old outcome) × SendsLoan service.old.domain service.new.domain (wide (numbers.now).number) outcome }
     ensures why { (result ≡ 2) ⊎ (result ≡ 7) → RefusesSend service.old.domain (named_loan numbers.now) result × (service.new ≡ service.old) }
     ensures waits { result ≡ 6 → IsBlockedKey service.new.domain (named_loan blocked.new) × (named_loan blocked.new ≡ named_loan numbers.now) }
+    ensures spent { result ≢ 2 → result ≢ 7 → IsLoanKey service.new.domain (named_loan numbers.now) → ⊥ }
+    ensures same { result ≢ 6 → blocked.new ≡ blocked.old }
+    ensures same_count { (result ≡ 2) ⊎ (result ≡ 7) → receivers.new ≡ receivers.old }
     ensures stays { ServesBut (A_sent_loan (wide (numbers.now).number) (wide (numbers.now).publisher) (nat_eq result 6)) service.old service.new }
 {
     let Some(loan) = written_loan(&service.domain, numbers) else {
@@ -74,20 +80,37 @@ pub fn send_copy(
     blocked: &mut LoanNumbers,
 ) -> u32
     ensures code { result ≡ 1 → ⊥ }
+    ensures sent { result ≢ 2 → result ≢ 7 → (outcome : Result SendOutcome SendError) × (result ≡ sent_code outcome) × (receivers.new ≡ receivers_of receivers.old outcome) × SendsCopy service.old.domain service.new.domain (wide (numbers.now).id) bytes.now outcome }
+    ensures why { (result ≡ 2) ⊎ (result ≡ 7) → RefusesPublisher service.old.domain (named_publisher numbers.now) result × (service.new ≡ service.old) }
+    ensures waits { result ≡ 6 → IsBlockedKey service.new.domain (named_loan blocked.new) }
+    ensures same { result ≢ 6 → blocked.new ≡ blocked.old }
+    ensures same_count { (result ≡ 2) ⊎ (result ≡ 7) → receivers.new ≡ receivers.old }
     ensures stays { ServesBut (A_sent_copy (wide (numbers.now).id) (nat_eq result 6)) service.old service.new }
 {
     let publisher = match ready_publisher(&service.domain, numbers) {
         Ok(publisher) => publisher,
         Err(code) => return code,
     };
-    let lent = publisher.loan_slice_uninit(&mut service.domain, bytes.len());
+    let sent = send_bytes(&mut service.domain, &publisher, bytes);
     publisher.disown();
-    match lent {
-        Ok(loan) => {
-            let message = loan.write_from_slice(&mut service.domain, bytes);
-            tell(message.send(&mut service.domain), receivers, blocked)
-        }
-        Err(error) => loan_status(error),
+    tell(sent, receivers, blocked)
+}
+
+// Lends a loan, writes the bytes there and sends it.
+fn send_bytes(
+    domain: &mut BytesDomain,
+    publisher: &Publisher,
+    bytes: &[u8],
+) -> Result<SendOutcome, SendError>
+    requires ready { IsReadyPublisher domain.old (as_publisher publisher.now) }
+    requires bytes { IsOfBytes domain.old }
+    ensures sends { SendsCopy domain.old domain.new (publisher_id (as_publisher publisher.now)) bytes.now result }
+    ensures waits { IfOk result (λ outcome. IfBlocked outcome (λ it. IsBlockedKey domain.new (blocked_key it))) }
+    ensures stays { StaysBut (spent_by_copy (as_publisher publisher.now) result) domain.old domain.new }
+{
+    match publisher.loan_slice_uninit(domain, bytes.len()) {
+        Ok(loan) => loan.write_from_slice(domain, bytes).send(domain),
+        Err(error) => Err(SendError::LoanError(error)),
     }
 }
 
@@ -102,6 +125,7 @@ pub fn retry(
     ensures ends { (result ≡ 2 → ⊥) → (outcome : Result SendOutcome SendError) × (result ≡ sent_code outcome) × (receivers.new ≡ receivers_of receivers.old outcome)
         × Retries service.old.domain service.new.domain (wide (numbers.now).publisher) elapsed outcome }
     ensures not_live { result ≡ 2 → (IsBlockedKey service.old.domain (named_loan numbers.now) → ⊥) × (service.new ≡ service.old) }
+    ensures same_count { result ≡ 2 → receivers.new ≡ receivers.old }
     ensures stays { ServesBut (A_blocked_send (wide (numbers.now).publisher)) service.old service.new }
 {
     let Some(waiting) = service.domain.blocked_of(&numbers.parts()) else {
@@ -118,6 +142,7 @@ pub fn give_up(service: &mut Service, numbers: &LoanNumbers, receivers: &mut usi
     ensures ends { (result ≡ 2 → ⊥) → (outcome : Result SendOutcome SendError) × (result ≡ sent_code outcome) × (receivers.new ≡ receivers_of receivers.old outcome)
         × GivesUp service.old.domain service.new.domain (wide (numbers.now).publisher) outcome }
     ensures not_live { result ≡ 2 → (IsBlockedKey service.old.domain (named_loan numbers.now) → ⊥) × (service.new ≡ service.old) }
+    ensures same_count { result ≡ 2 → receivers.new ≡ receivers.old }
     ensures stays { ServesBut (A_blocked_send (wide (numbers.now).publisher)) service.old service.new }
 {
     let Some(waiting) = service.domain.blocked_of(&numbers.parts()) else {

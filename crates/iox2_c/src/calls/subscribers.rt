@@ -1,39 +1,64 @@
 //! The calls of subscribers.
-ghost use Rattle.std.specs.Prelude.{◌≡◌, ◌<◌, ◌≤◌, ◌⊎◌, IfErr, IfNone, IfOk, IfSome};
+ghost use Rattle.std.specs.Prelude.{ℕ, List, length, take, ◌≡◌, ◌≢◌, ◌<◌, ◌≤◌, ◌⊎◌, Err, IfErr, IfNone, IfOk, IfSome, Ok};
 ghost use Rattle.iox2_store.specs.declared.errors.ReceiveError.{ReceiveError};
+ghost use Rattle.iox2_store.specs.declared.errors.SubscriberCreateError.{SubscriberCreateError};
+ghost use Rattle.iox2_store.specs.declared.key.Key.{Key};
 ghost use Rattle.iox2_store.specs.machine.Receives.{Got_sample, No_sample, Receive_error};
-ghost use Rattle.iox2_pubsub.specs.Handles.{as_subscriber, subscriber_id};
+ghost use Rattle.iox2_pubsub.specs.Handles.{as_subscriber, buffer_size_of, subscriber_id};
+ghost use Rattle.iox2_pubsub.specs.Slices.{SampleHasValues};
 ghost use Rattle.iox2_pubsub.specs.Live.{A_sample, A_subscriber, IsLiveSubscriber, IsNewIn, IsSampleKey, IsSubscriberKey, No_item, subscriber_key};
 ghost use Rattle.iox2_c.specs.Codes.{code_of, receive_code, subscriber_code};
 ghost use Rattle.iox2_c.specs.Numbers.{named_sample, named_subscriber, wide};
 ghost use Rattle.iox2_c.specs.Serving.{ServesBut};
-ghost use Rattle.iox2_c.specs.Steps.{ClosesSubscriber, Receives};
+ghost use Rattle.iox2_c.specs.Settings.{plain_subscriber_settings, subscriber_settings};
+ghost use Rattle.iox2_c.specs.Steps.{ClosesSubscriber, CreatesSubscriber, Receives, ReceivesCopy};
 
 use crate::calls::samples::copy_out;
+use crate::handlers::NoHandler;
 use crate::numbers::{SampleNumbers, SubscriberNumbers};
 use crate::options::{SubscriberOptions, degradation_of};
 use crate::service::{BytesDomain, Service};
 use crate::starts::start_of;
 use crate::status::{INVALID_SETTINGS, NO_SAMPLE, NOT_LIVE, OK, receive_status, subscriber_status};
 use iox2_pubsub::SubscriberCreateError;
-use iox2_pubsub::slice::Subscriber;
+use iox2_pubsub::slice::{PortFactorySubscriber, Subscriber};
 
 /// Makes a subscriber, as the settings say.
 pub fn create(service: &mut Service, out: &mut SubscriberNumbers) -> u32
-    ensures code { result ≡ 1 → ⊥ }
+    ensures creates { result ≡ 0 → CreatesSubscriber service.old.domain service.new.domain (plain_subscriber_settings service.old) (Ok out.new) }
+    ensures errors { 0 < result → (error : SubscriberCreateError) × (result ≡ subscriber_code error) × CreatesSubscriber service.old.domain service.new.domain (plain_subscriber_settings service.old) (Err error) }
     ensures live { result ≡ 0 → IsSubscriberKey service.new.domain (named_subscriber out.new) }
     ensures new { result ≡ 0 → IsNewIn service.old.domain (A_subscriber (wide (out.new).id)) }
     ensures same { 0 < result → out.new ≡ out.old }
     ensures stays { ServesBut No_item service.old service.new }
 {
-    let factory = service.domain.slice_subscriber_builder();
-    tell(factory.create(&mut service.domain), out)
+    let factory = plain_factory(service);
+    let made = factory.create(&mut service.domain);
+    tell(made, out)
+}
+
+// A factory of subscribers without options.
+fn plain_factory(service: &Service) -> PortFactorySubscriber<NoHandler>
+    ensures { result.settings ≡ plain_subscriber_settings service.now }
+{
+    service.domain.slice_subscriber_builder()
+}
+
+// A factory of subscribers with these options.
+fn factory_with(service: &Service, options: &SubscriberOptions) -> PortFactorySubscriber<NoHandler>
+    ensures { result.settings ≡ subscriber_settings options.now }
+{
+    let plain = service.domain.slice_subscriber_builder();
+    plain
+        .buffer_size(options.buffer_size)
+        .set_degradation_handler(degradation_of(options.degradation))
 }
 
 // What came of a subscriber: its code, and its numbers where it was made.
 fn tell(made: Result<Subscriber, SubscriberCreateError>, out: &mut SubscriberNumbers) -> u32
     ensures code { result ≡ code_of subscriber_code made }
     ensures named { IfOk made (λ it. named_subscriber out.new ≡ subscriber_key (as_subscriber it)) }
+    ensures buffer { IfOk made (λ it. (out.new).buffer_size ≡ buffer_size_of (as_subscriber it)) }
     ensures same { IfErr made (λ _. out.new ≡ out.old) }
 {
     match made {
@@ -51,22 +76,21 @@ pub fn create_with(
     options: &SubscriberOptions,
     out: &mut SubscriberNumbers,
 ) -> u32
-    ensures code { result ≡ 1 → ⊥ }
+    ensures creates { result ≡ 0 → CreatesSubscriber service.old.domain service.new.domain (subscriber_settings options.now) (Ok out.new) }
+    ensures errors { 0 < result → result ≢ 8 → (error : SubscriberCreateError) × (result ≡ subscriber_code error) × CreatesSubscriber service.old.domain service.new.domain (subscriber_settings options.now) (Err error) }
+    ensures valid { result ≢ 8 → options.now.degradation < 3 }
+    ensures invalid { result ≡ 8 → (options.now.degradation < 3 → ⊥) × (service.new ≡ service.old) }
     ensures live { result ≡ 0 → IsSubscriberKey service.new.domain (named_subscriber out.new) }
     ensures new { result ≡ 0 → IsNewIn service.old.domain (A_subscriber (wide (out.new).id)) }
     ensures same { 0 < result → out.new ≡ out.old }
-    ensures invalid { result ≡ 8 → service.new ≡ service.old }
     ensures stays { ServesBut No_item service.old service.new }
 {
     if options.degradation >= 3 {
         return INVALID_SETTINGS;
     }
-    let factory = service
-        .domain
-        .slice_subscriber_builder()
-        .buffer_size(options.buffer_size)
-        .set_degradation_handler(degradation_of(options.degradation));
-    tell(factory.create(&mut service.domain), out)
+    let factory = factory_with(service, options);
+    let made = factory.create(&mut service.domain);
+    tell(made, out)
 }
 
 /// A handle of a subscriber that wasn't closed.
@@ -108,11 +132,13 @@ pub fn receive(
     ensures code { result ≡ 1 → ⊥ }
     ensures received { result ≡ 0 → Receives service.old.domain service.new.domain (wide (numbers.now).id) (Got_sample (wide (out.new).origin) (wide (out.new).number)) }
     ensures nothing { result ≡ 3 → Receives service.old.domain service.new.domain (wide (numbers.now).id) No_sample }
-    ensures errors { 30 ≤ result → (error : ReceiveError) × (result ≡ receive_code error) × Receives service.old.domain service.new.domain (wide (numbers.now).id) (Receive_error error) }
+    ensures errors { 3 < result → (error : ReceiveError) × (result ≡ receive_code error) × Receives service.old.domain service.new.domain (wide (numbers.now).id) (Receive_error error) }
     ensures not_live { result ≡ 2 → (IsSubscriberKey service.old.domain (named_subscriber numbers.now) → ⊥) × (service.new ≡ service.old) }
     ensures live { result ≡ 0 → IsSampleKey service.new.domain (named_sample out.new) }
     ensures new { result ≡ 0 → IsNewIn service.old.domain (A_sample (wide (out.new).subscriber) (wide (out.new).number)) }
+    ensures length { result ≡ 0 → (values : List ℕ) → SampleHasValues service.new.domain (named_sample out.new) values → len.new ≡ length values }
     ensures same { 0 < result → out.new ≡ out.old }
+    ensures same_length { 0 < result → len.new ≡ len.old }
     ensures stays { ServesBut No_item service.old service.new }
 {
     let Some(subscriber) = live_subscriber(&service.domain, numbers) else {
@@ -143,8 +169,19 @@ pub fn receive_copy(
     out: &mut SampleNumbers,
 ) -> u32
     ensures code { result ≡ 1 → ⊥ }
+    ensures copied { result ≡ 0 → (key : Key) × (key.port ≡ wide (numbers.now).id) × (origin : ℕ) × ReceivesCopy service.old.domain service.new.domain key origin (take len.new bytes.new) }
+    ensures fits { result ≡ 0 → len.new ≤ length bytes.old }
+    ensures kept { result ≡ 9 → Receives service.old.domain service.new.domain (wide (numbers.now).id) (Got_sample (wide (out.new).origin) (wide (out.new).number)) }
     ensures live { result ≡ 9 → IsSampleKey service.new.domain (named_sample out.new) }
+    ensures new { result ≡ 9 → IsNewIn service.old.domain (A_sample (wide (out.new).subscriber) (wide (out.new).number)) }
+    ensures small { result ≡ 9 → length bytes.old < len.new }
+    ensures length { result ≡ 9 → (values : List ℕ) → SampleHasValues service.new.domain (named_sample out.new) values → len.new ≡ length values }
+    ensures nothing { result ≡ 3 → Receives service.old.domain service.new.domain (wide (numbers.now).id) No_sample }
+    ensures errors { 3 < result → result ≢ 9 → (error : ReceiveError) × (result ≡ receive_code error) × Receives service.old.domain service.new.domain (wide (numbers.now).id) (Receive_error error) }
+    ensures not_live { result ≡ 2 → (IsSubscriberKey service.old.domain (named_subscriber numbers.now) → ⊥) × (service.new ≡ service.old) }
     ensures same { 0 < result → bytes.new ≡ bytes.old }
+    ensures same_numbers { result ≢ 9 → out.new ≡ out.old }
+    ensures same_length { 0 < result → result ≢ 9 → len.new ≡ len.old }
     ensures stays { ServesBut No_item service.old service.new }
 {
     let Some(subscriber) = live_subscriber(&service.domain, numbers) else {

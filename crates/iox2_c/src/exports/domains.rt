@@ -1,10 +1,13 @@
 //! The exports of domains.
-ghost use Rattle.std.specs.Prelude.{◌≡◌, ◌≢◌, ◌<◌, ◌↔◌, IsTrue, None, Some};
+ghost use Rattle.std.specs.Prelude.{◌≡◌, ◌≢◌, ◌<◌, ◌⊎◌, ◌↔◌, IfSome, IsTrue, None, Some};
 ghost use Rattle.iox2_store.specs.machine.Limits.{fits, worst_case};
+ghost use Rattle.iox2_store.specs.Defaults.{default_config};
+ghost use Rattle.iox2_store.specs.declared.service_config.TypeVariant.TheVariants.{Dynamic};
+ghost use Rattle.iox2_store.specs.machine.Ports.{default_publisher_settings, default_subscriber_settings};
 ghost use Rattle.iox2_store.specs.machine.State.{fresh, no_messages};
 ghost use Rattle.iox2_domain.specs.Shows.{Shows};
 ghost use Rattle.iox2_c.specs.Boxed.{Knows};
-ghost use Rattle.iox2_c.specs.Settings.{AreValid, settings_of};
+ghost use Rattle.iox2_c.specs.Settings.{AreValid, publisher_settings, settings_of, subscriber_settings};
 
 use crate::config::Config;
 use crate::domain_box::DomainBox;
@@ -21,19 +24,27 @@ pub extern "C" fn iox2_config_defaults(
     service_id: u64,
     payload_size: usize,
     payload_alignment: usize,
-) {
+)
+    ensures settings { settings_of config.new ≡ record (default_config service_id) { variant = Dynamic } }
+    ensures size { (config.new).payload_size ≡ payload_size }
+    ensures alignment { (config.new).payload_alignment ≡ payload_alignment }
+{
     *config = Config::defaults(service_id as u128, payload_size, payload_alignment);
 }
 
 /// Writes what a publisher has that is made without options.
 #[unsafe(no_mangle)]
-pub extern "C" fn iox2_publisher_options_of(config: &Config, options: &mut PublisherOptions) {
+pub extern "C" fn iox2_publisher_options_of(config: &Config, options: &mut PublisherOptions)
+    ensures { publisher_settings (settings_of config.now) options.new ≡ record (default_publisher_settings (settings_of config.now)) { initial_max_slice_len = config.now.payload_size } }
+{
     *options = PublisherOptions::of(config);
 }
 
 /// Writes what a subscriber has that is made without options.
 #[unsafe(no_mangle)]
-pub extern "C" fn iox2_subscriber_options_of(config: &Config, options: &mut SubscriberOptions) {
+pub extern "C" fn iox2_subscriber_options_of(config: &Config, options: &mut SubscriberOptions)
+    ensures { subscriber_settings options.new ≡ default_subscriber_settings (settings_of config.now) }
+{
     *options = SubscriberOptions::of(config);
 }
 
@@ -41,6 +52,7 @@ pub extern "C" fn iox2_subscriber_options_of(config: &Config, options: &mut Subs
 #[unsafe(no_mangle)]
 pub extern "C" fn iox2_worst_case_slots(config: &Config, loans: usize, slots: &mut usize) -> u32
     ensures slots { result ≡ 0 → slots.new ≡ worst_case (settings_of config.now) loans }
+    ensures code { (result ≡ 0) ⊎ (result ≡ 8) }
     ensures fits { (result ≡ 0) ↔ IsTrue (fits (worst_case (settings_of config.now) loans)) }
     ensures same { 0 < result → slots.new ≡ slots.old }
 {
@@ -57,8 +69,9 @@ pub extern "C" fn iox2_worst_case_slots(config: &Config, loans: usize, slots: &m
 #[unsafe(no_mangle)]
 pub extern "C" fn iox2_domain_create(alloc: Global, domain: &mut DomainBox, config: &Config) -> u32
     ensures fresh { result ≡ 0 → Knows (λ kept. Shows kept no_messages (fresh (settings_of config.now))) domain.new.service }
-    ensures valid { result ≡ 0 → AreValid config.now }
-    ensures was_none { result ≡ 0 → domain.old.service ≡ None }
+    ensures code { (result ≡ 0) ⊎ (result ≡ 4) ⊎ (result ≡ 5) ⊎ (result ≡ 8) }
+    ensures sizes { result ≡ 0 → IfSome domain.new.service (λ it. (it.payload_size ≡ config.now.payload_size) × (it.payload_alignment ≡ config.now.payload_alignment)) }
+    ensures valid { (result ≡ 0) ⊎ (result ≡ 4) → AreValid config.now }
     ensures there { (result ≡ 5) ↔ (domain.old.service ≢ None) }
     ensures invalid { result ≡ 8 → AreValid config.now → ⊥ }
     ensures refused { 0 < result → domain.new.service ≡ domain.old.service }
@@ -83,6 +96,7 @@ pub extern "C" fn iox2_domain_create(alloc: Global, domain: &mut DomainBox, conf
 /// Frees the domain, with all that is in it.
 #[unsafe(no_mangle)]
 pub extern "C" fn iox2_domain_destroy(alloc: Global, domain: &mut DomainBox) -> u32
+    ensures code { (result ≡ 0) ⊎ (result ≡ 1) }
     ensures gone { domain.new.service ≡ None }
     ensures no_domain { (result ≡ 1) ↔ (domain.old.service ≡ None) }
 {

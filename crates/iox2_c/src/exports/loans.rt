@@ -1,6 +1,7 @@
 //! The exports of loans.
-ghost use Rattle.std.specs.Prelude.{◌≡◌, ◌<◌, ◌↔◌, None};
+ghost use Rattle.std.specs.Prelude.{ℕ, List, length, ◌≡◌, ◌<◌, ◌↔◌, None};
 ghost use Rattle.iox2_pubsub.specs.Live.{A_loan, IsLoanKey};
+ghost use Rattle.iox2_pubsub.specs.Slices.{HasValues};
 ghost use Rattle.iox2_c.specs.Boxed.{Becomes, HoldsOn, Knows, KnowsNo};
 ghost use Rattle.iox2_c.specs.Calls.{IsOut, RefusesLoan};
 ghost use Rattle.iox2_c.specs.Numbers.{named_loan, wide};
@@ -47,6 +48,7 @@ pub extern "C" fn iox2_loan_payload(
     ensures no_domain { (result ≡ 1) ↔ (domain.old.service ≡ None) }
     ensures out { result ≡ 0 → Knows (λ kept. IsOut kept (named_loan loan.now)) domain.old.service }
     ensures why { 1 < result → Knows (λ kept. RefusesLoan kept (named_loan loan.now) result) domain.old.service }
+    ensures length { result ≡ 0 → Knows (λ kept. (values : List ℕ) → HasValues kept (wide (loan.now).number) values → len.new ≡ length values) domain.old.service }
     ensures same { 0 < result → len.new ≡ len.old }
     ensures unchanged { domain.new.service ≡ domain.old.service }
 {

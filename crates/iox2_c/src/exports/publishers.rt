@@ -1,13 +1,15 @@
 //! The exports of publishers.
 ghost use Rattle.std.specs.Prelude.{◌≡◌, ◌<◌, ◌↔◌, None};
-ghost use Rattle.std.specs.Prelude.{◌≤◌, Err, Ok};
+ghost use Rattle.std.specs.Prelude.{◌≢◌, ◌≤◌, ◌⊎◌, Err, IfSome, Ok};
 ghost use Rattle.iox2_store.specs.declared.errors.LoanError.{LoanError};
-ghost use Rattle.iox2_pubsub.specs.Live.{A_publisher, IsPublisherKey, No_item};
-ghost use Rattle.iox2_c.specs.Boxed.{Becomes, HoldsOn, Knows, KnowsNo};
+ghost use Rattle.iox2_store.specs.declared.errors.PublisherCreateError.{PublisherCreateError};
+ghost use Rattle.iox2_pubsub.specs.Live.{A_loan, A_publisher, IsNewIn, IsPublisherKey, No_item};
+ghost use Rattle.iox2_c.specs.Boxed.{Becomes, HoldsOn, Knows, KnowsNo, Turns};
 ghost use Rattle.iox2_c.specs.Calls.{IsOut, IsReady, RefusesPublisher};
-ghost use Rattle.iox2_c.specs.Codes.{loan_code};
+ghost use Rattle.iox2_c.specs.Codes.{loan_code, publisher_code};
 ghost use Rattle.iox2_c.specs.Numbers.{named_loan, named_publisher, wide};
-ghost use Rattle.iox2_c.specs.Steps.{ClosesPublisher, Lends};
+ghost use Rattle.iox2_c.specs.Settings.{AreOptions, ReadsSettings, plain_publisher_settings, publisher_settings};
+ghost use Rattle.iox2_c.specs.Steps.{ClosesPublisher, CreatesPublisher, Lends};
 
 use crate::calls::publishers;
 use crate::domain_box::DomainBox;
@@ -24,7 +26,10 @@ pub extern "C" fn iox2_publisher_create(
     publisher: &mut PublisherNumbers,
 ) -> u32
     ensures no_domain { (result ≡ 1) ↔ (domain.old.service ≡ None) }
+    ensures creates { result ≡ 0 → Turns (λ old new. CreatesPublisher old.domain new.domain (plain_publisher_settings old) (Ok (wide (publisher.new).id)) × ReadsSettings publisher.new (plain_publisher_settings old)) domain.old.service domain.new.service }
+    ensures errors { 1 < result → (error : PublisherCreateError) × (result ≡ publisher_code error) × Turns (λ old new. CreatesPublisher old.domain new.domain (plain_publisher_settings old) (Err error)) domain.old.service domain.new.service }
     ensures ready { result ≡ 0 → Knows (λ kept. IsReady kept (named_publisher publisher.new)) domain.new.service }
+    ensures new { result ≡ 0 → Knows (λ kept. IsNewIn kept (A_publisher (wide (publisher.new).id))) domain.old.service }
     ensures same { 0 < result → publisher.new ≡ publisher.old }
     ensures stays { HoldsOn No_item domain.old.service domain.new.service }
 {
@@ -45,9 +50,15 @@ pub extern "C" fn iox2_publisher_create_with(
     publisher: &mut PublisherNumbers,
 ) -> u32
     ensures no_domain { (result ≡ 1) ↔ (domain.old.service ≡ None) }
+    ensures creates { result ≡ 0 → Turns (λ old new. CreatesPublisher old.domain new.domain (publisher_settings (old.domain).config options.now) (Ok (wide (publisher.new).id)) × ReadsSettings publisher.new (publisher_settings (old.domain).config options.now)) domain.old.service domain.new.service }
+    ensures errors { 1 < result → result ≢ 8 → (error : PublisherCreateError) × (result ≡ publisher_code error)
+        × Turns (λ old new. CreatesPublisher old.domain new.domain (publisher_settings (old.domain).config options.now) (Err error)) domain.old.service domain.new.service }
+    ensures valid { result ≢ 1 → result ≢ 8 → IfSome domain.old.service (λ it. AreOptions it.payload_alignment options.now) }
+    ensures invalid { result ≡ 8 → IfSome domain.old.service (λ it. AreOptions it.payload_alignment options.now → ⊥) }
+    ensures refused { (result ≡ 1) ⊎ (result ≡ 8) → domain.new.service ≡ domain.old.service }
     ensures ready { result ≡ 0 → Knows (λ kept. IsReady kept (named_publisher publisher.new)) domain.new.service }
+    ensures new { result ≡ 0 → Knows (λ kept. IsNewIn kept (A_publisher (wide (publisher.new).id))) domain.old.service }
     ensures same { 0 < result → publisher.new ≡ publisher.old }
-    ensures invalid { result ≡ 8 → domain.new.service ≡ domain.old.service }
     ensures stays { HoldsOn No_item domain.old.service domain.new.service }
 {
     let Some(mut boxed) = domain.take(alloc) else {
@@ -97,6 +108,7 @@ pub extern "C" fn iox2_publisher_loan(
     ensures why { 1 < result → result < 10 → Knows (λ kept. RefusesPublisher kept (named_publisher publisher.now) result) domain.old.service }
     ensures refused { 0 < result → result < 10 → domain.new.service ≡ domain.old.service }
     ensures out { result ≡ 0 → Knows (λ kept. IsOut kept (named_loan loan.new)) domain.new.service }
+    ensures new { result ≡ 0 → Knows (λ kept. IsNewIn kept (A_loan (wide (loan.new).number))) domain.old.service }
     ensures same { 0 < result → loan.new ≡ loan.old }
     ensures stays { HoldsOn No_item domain.old.service domain.new.service }
 {

@@ -1,13 +1,19 @@
 //! The exports of questions.
 ghost use Rattle.std.specs.Prelude.{◌≡◌, ◌<◌, ◌↔◌, None};
-ghost use Rattle.std.specs.Prelude.{Bool, cond, ◌≤◌, ◌⊎◌, IfOk};
+ghost use Rattle.std.specs.Prelude.{Bool, cond, length, slice_get, ◌≤◌, ◌⊎◌, IfOk, IfSome};
 ghost use Rattle.std.specs.declared.result.Result.{Result};
+ghost use Rattle.std.specs.List.{count_by};
+ghost use Rattle.std.specs.Option.{is_some};
+ghost use Rattle.circular_buffer.specs.Buffer.{buffer};
+ghost use Rattle.iox2_store.specs.machine.Limits.{warning_limit};
 ghost use Rattle.iox2_store.specs.declared.errors.ConnectionFailure.{ConnectionFailure};
-ghost use Rattle.iox2_pubsub.specs.Live.{IsSubscriberKey, No_item};
+ghost use Rattle.iox2_pubsub.specs.Live.{IsPublisherKey, IsSubscriberKey, IsUnblocked, No_item};
 ghost use Rattle.iox2_c.specs.Boxed.{Becomes, HoldsOn, Knows, KnowsNo};
 ghost use Rattle.iox2_c.specs.Calls.{RefusesPublisher};
 ghost use Rattle.iox2_c.specs.Codes.{code_of, failure_code};
 ghost use Rattle.iox2_c.specs.Numbers.{named_publisher, named_subscriber, wide};
+ghost use Rattle.iox2_c.specs.Settings.{settings_in, settings_of};
+ghost use Rattle.iox2_c.specs.Warnings.{TellsOf};
 ghost use Rattle.iox2_c.specs.Steps.{Asks, UpdatesPublisher, UpdatesSubscriber};
 
 use crate::calls::questions;
@@ -103,6 +109,10 @@ pub extern "C" fn iox2_publisher_is_blocked(
     is_blocked: &mut u32,
 ) -> u32
     ensures no_domain { (result ≡ 1) ↔ (domain.old.service ≡ None) }
+    ensures code { result < 3 }
+    ensures not_live { result ≡ 2 → KnowsNo (λ kept. IsPublisherKey kept (named_publisher publisher.now)) domain.old.service }
+    ensures tells { result ≡ 0 → Knows (λ kept. IsPublisherKey kept (named_publisher publisher.now) × ((is_blocked.new ≡ 0) ↔ IsUnblocked kept (named_publisher publisher.now))) domain.old.service }
+    ensures answer { result ≡ 0 → (is_blocked.new ≡ 0) ⊎ (is_blocked.new ≡ 1) }
     ensures same { 0 < result → is_blocked.new ≡ is_blocked.old }
     ensures unchanged { domain.new.service ≡ domain.old.service }
 {
@@ -123,6 +133,9 @@ pub extern "C" fn iox2_domain_warning(
     warning: &mut WarningNumbers,
 ) -> u32
     ensures no_domain { (result ≡ 1) ↔ (domain.old.service ≡ None) }
+    ensures code { result < 3 }
+    ensures reads { result ≡ 0 → Knows (λ kept. IfSome (slice_get (buffer (kept.warnings).latest warning_limit).items index) (λ it. TellsOf it warning.new)) domain.old.service }
+    ensures none { result ≡ 2 → Knows (λ kept. slice_get (buffer (kept.warnings).latest warning_limit).items index ≡ None) domain.old.service }
     ensures same { 0 < result → warning.new ≡ warning.old }
     ensures unchanged { domain.new.service ≡ domain.old.service }
 {
@@ -142,6 +155,9 @@ pub extern "C" fn iox2_domain_warning_count(
     count: &mut usize,
 ) -> u32
     ensures no_domain { (result ≡ 1) ↔ (domain.old.service ≡ None) }
+    ensures code { (result ≡ 0) ⊎ (result ≡ 1) }
+    ensures counts { result ≡ 0 → Knows (λ kept. count.new ≡ length (buffer (kept.warnings).latest warning_limit).items) domain.old.service }
+    ensures same { 0 < result → count.new ≡ count.old }
     ensures unchanged { domain.new.service ≡ domain.old.service }
 {
     let Some(boxed) = domain.take(alloc) else {
@@ -160,6 +176,9 @@ pub extern "C" fn iox2_domain_refused_connections(
     count: &mut u64,
 ) -> u32
     ensures no_domain { (result ≡ 1) ↔ (domain.old.service ≡ None) }
+    ensures code { (result ≡ 0) ⊎ (result ≡ 1) }
+    ensures counts { result ≡ 0 → Knows (λ kept. count.new ≡ (kept.warnings).refused_connections) domain.old.service }
+    ensures same { 0 < result → count.new ≡ count.old }
     ensures unchanged { domain.new.service ≡ domain.old.service }
 {
     let Some(boxed) = domain.take(alloc) else {
@@ -178,6 +197,9 @@ pub extern "C" fn iox2_domain_connection_count(
     count: &mut usize,
 ) -> u32
     ensures no_domain { (result ≡ 1) ↔ (domain.old.service ≡ None) }
+    ensures code { (result ≡ 0) ⊎ (result ≡ 1) }
+    ensures counts { result ≡ 0 → Knows (λ kept. count.new ≡ count_by is_some kept.connections) domain.old.service }
+    ensures same { 0 < result → count.new ≡ count.old }
     ensures unchanged { domain.new.service ≡ domain.old.service }
 {
     let Some(boxed) = domain.take(alloc) else {
@@ -196,6 +218,10 @@ pub extern "C" fn iox2_domain_config(
     config: &mut Config,
 ) -> u32
     ensures no_domain { (result ≡ 1) ↔ (domain.old.service ≡ None) }
+    ensures code { (result ≡ 0) ⊎ (result ≡ 1) }
+    ensures reads { result ≡ 0 → Knows (λ kept. settings_of config.new ≡ settings_in kept) domain.old.service }
+    ensures sizes { result ≡ 0 → IfSome domain.old.service (λ it. ((config.new).payload_size ≡ it.payload_size) × ((config.new).payload_alignment ≡ it.payload_alignment)) }
+    ensures same { 0 < result → config.new ≡ config.old }
     ensures unchanged { domain.new.service ≡ domain.old.service }
 {
     let Some(boxed) = domain.take(alloc) else {
@@ -214,6 +240,9 @@ pub extern "C" fn iox2_domain_book_count(
     count: &mut usize,
 ) -> u32
     ensures no_domain { (result ≡ 1) ↔ (domain.old.service ≡ None) }
+    ensures code { (result ≡ 0) ⊎ (result ≡ 1) }
+    ensures counts { result ≡ 0 → Knows (λ kept. count.new ≡ count_by is_some kept.books) domain.old.service }
+    ensures same { 0 < result → count.new ≡ count.old }
     ensures unchanged { domain.new.service ≡ domain.old.service }
 {
     let Some(boxed) = domain.take(alloc) else {

@@ -1,6 +1,6 @@
 //! The exports of samples.
 ghost use Rattle.std.specs.Prelude.{◌≡◌, ◌<◌, ◌↔◌, None};
-ghost use Rattle.std.specs.Prelude.{ℕ, List, take};
+ghost use Rattle.std.specs.Prelude.{ℕ, List, drop, length, take, ◌≤◌, ◌⊎◌};
 ghost use Rattle.iox2_store.specs.declared.header.Header.{Header};
 ghost use Rattle.iox2_pubsub.specs.Live.{A_sample, IsSampleKey, SampleHasHeader};
 ghost use Rattle.iox2_pubsub.specs.Slices.{SampleHasValues};
@@ -24,7 +24,10 @@ pub extern "C" fn iox2_sample_payload(
     len: &mut usize,
 ) -> u32
     ensures no_domain { (result ≡ 1) ↔ (domain.old.service ≡ None) }
+    ensures code { result < 3 }
+    ensures not_live { result ≡ 2 → KnowsNo (λ kept. IsSampleKey kept (named_sample sample.now)) domain.old.service }
     ensures live { result ≡ 0 → Knows (λ kept. IsSampleKey kept (named_sample sample.now)) domain.old.service }
+    ensures length { result ≡ 0 → Knows (λ kept. (values : List ℕ) → SampleHasValues kept (named_sample sample.now) values → len.new ≡ length values) domain.old.service }
     ensures same { 0 < result → len.new ≡ len.old }
     ensures unchanged { domain.new.service ≡ domain.old.service }
 {
@@ -46,8 +49,16 @@ pub extern "C" fn iox2_sample_copy(
     len: &mut usize,
 ) -> u32
     ensures no_domain { (result ≡ 1) ↔ (domain.old.service ≡ None) }
-    ensures copied { result ≡ 0 → Knows (λ kept. (values : List ℕ) → SampleHasValues kept (named_sample sample.now) values → take len.new bytes.new ≡ values) domain.old.service }
+    ensures code { (result < 3) ⊎ (result ≡ 9) }
+    ensures not_live { result ≡ 2 → KnowsNo (λ kept. IsSampleKey kept (named_sample sample.now)) domain.old.service }
+    ensures live { (result ≡ 0) ⊎ (result ≡ 9) → Knows (λ kept. IsSampleKey kept (named_sample sample.now)) domain.old.service }
+    ensures copied { result ≡ 0 → Knows (λ kept. SampleHasValues kept (named_sample sample.now) (take len.new bytes.new)) domain.old.service }
+    ensures fits { result ≡ 0 → len.new ≤ length bytes.old }
+    ensures rest { result ≡ 0 → drop len.new bytes.new ≡ drop len.new bytes.old }
+    ensures small { result ≡ 9 → length bytes.old < len.new }
+    ensures length { (result ≡ 0) ⊎ (result ≡ 9) → Knows (λ kept. (values : List ℕ) → SampleHasValues kept (named_sample sample.now) values → len.new ≡ length values) domain.old.service }
     ensures same { 0 < result → bytes.new ≡ bytes.old }
+    ensures same_length { (result ≡ 1) ⊎ (result ≡ 2) → len.new ≡ len.old }
     ensures unchanged { domain.new.service ≡ domain.old.service }
 {
     let Some(boxed) = domain.take(alloc) else {
@@ -67,6 +78,9 @@ pub extern "C" fn iox2_sample_header(
     header: &mut HeaderNumbers,
 ) -> u32
     ensures no_domain { (result ≡ 1) ↔ (domain.old.service ≡ None) }
+    ensures code { result < 3 }
+    ensures not_live { result ≡ 2 → KnowsNo (λ kept. IsSampleKey kept (named_sample sample.now)) domain.old.service }
+    ensures live { result ≡ 0 → Knows (λ kept. IsSampleKey kept (named_sample sample.now)) domain.old.service }
     ensures reads { result ≡ 0 → Knows (λ kept. (it : Header) → SampleHasHeader kept (named_sample sample.now) it → IsHeader it header.new) domain.old.service }
     ensures same { 0 < result → header.new ≡ header.old }
     ensures unchanged { domain.new.service ≡ domain.old.service }
@@ -87,6 +101,8 @@ pub extern "C" fn iox2_sample_release(
     sample: &SampleNumbers,
 ) -> u32
     ensures no_domain { (result ≡ 1) ↔ (domain.old.service ≡ None) }
+    ensures code { result < 3 }
+    ensures not_live { result ≡ 2 → KnowsNo (λ kept. IsSampleKey kept (named_sample sample.now)) domain.old.service }
     ensures live { result ≡ 0 → Knows (λ kept. IsSampleKey kept (named_sample sample.now)) domain.old.service }
     ensures releases { result ≡ 0 → Becomes (λ old new. Releases old new (wide (sample.now).subscriber) (wide (sample.now).number)) domain.old.service domain.new.service }
     ensures spent { KnowsNo (λ kept. IsSampleKey kept (named_sample sample.now)) domain.new.service }

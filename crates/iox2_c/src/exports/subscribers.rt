@@ -1,13 +1,17 @@
 //! The exports of subscribers.
 ghost use Rattle.std.specs.Prelude.{◌≡◌, ◌<◌, ◌↔◌, None};
-ghost use Rattle.std.specs.Prelude.{◌≤◌};
+ghost use Rattle.std.specs.Prelude.{ℕ, List, length, take, ◌≢◌, ◌≤◌, ◌⊎◌, Err, Ok};
 ghost use Rattle.iox2_store.specs.declared.errors.ReceiveError.{ReceiveError};
 ghost use Rattle.iox2_store.specs.machine.Receives.{Got_sample, No_sample, Receive_error};
-ghost use Rattle.iox2_pubsub.specs.Live.{A_subscriber, IsSampleKey, IsSubscriberKey, No_item};
-ghost use Rattle.iox2_c.specs.Boxed.{Becomes, HoldsOn, Knows, KnowsNo};
-ghost use Rattle.iox2_c.specs.Codes.{receive_code};
+ghost use Rattle.iox2_store.specs.declared.errors.SubscriberCreateError.{SubscriberCreateError};
+ghost use Rattle.iox2_store.specs.declared.key.Key.{Key};
+ghost use Rattle.iox2_pubsub.specs.Live.{A_sample, A_subscriber, IsNewIn, IsSampleKey, IsSubscriberKey, No_item};
+ghost use Rattle.iox2_pubsub.specs.Slices.{SampleHasValues};
+ghost use Rattle.iox2_c.specs.Boxed.{Becomes, HoldsOn, Knows, KnowsNo, Turns};
+ghost use Rattle.iox2_c.specs.Codes.{receive_code, subscriber_code};
+ghost use Rattle.iox2_c.specs.Settings.{plain_subscriber_settings, subscriber_settings};
 ghost use Rattle.iox2_c.specs.Numbers.{named_sample, named_subscriber, wide};
-ghost use Rattle.iox2_c.specs.Steps.{ClosesSubscriber, Receives};
+ghost use Rattle.iox2_c.specs.Steps.{ClosesSubscriber, CreatesSubscriber, Receives, ReceivesCopy};
 
 use crate::calls::subscribers;
 use crate::domain_box::DomainBox;
@@ -24,7 +28,10 @@ pub extern "C" fn iox2_subscriber_create(
     subscriber: &mut SubscriberNumbers,
 ) -> u32
     ensures no_domain { (result ≡ 1) ↔ (domain.old.service ≡ None) }
+    ensures creates { result ≡ 0 → Turns (λ old new. CreatesSubscriber old.domain new.domain (plain_subscriber_settings old) (Ok subscriber.new)) domain.old.service domain.new.service }
+    ensures errors { 1 < result → (error : SubscriberCreateError) × (result ≡ subscriber_code error) × Turns (λ old new. CreatesSubscriber old.domain new.domain (plain_subscriber_settings old) (Err error)) domain.old.service domain.new.service }
     ensures live { result ≡ 0 → Knows (λ kept. IsSubscriberKey kept (named_subscriber subscriber.new)) domain.new.service }
+    ensures new { result ≡ 0 → Knows (λ kept. IsNewIn kept (A_subscriber (wide (subscriber.new).id))) domain.old.service }
     ensures same { 0 < result → subscriber.new ≡ subscriber.old }
     ensures stays { HoldsOn No_item domain.old.service domain.new.service }
 {
@@ -45,9 +52,14 @@ pub extern "C" fn iox2_subscriber_create_with(
     subscriber: &mut SubscriberNumbers,
 ) -> u32
     ensures no_domain { (result ≡ 1) ↔ (domain.old.service ≡ None) }
+    ensures creates { result ≡ 0 → Turns (λ old new. CreatesSubscriber old.domain new.domain (subscriber_settings options.now) (Ok subscriber.new)) domain.old.service domain.new.service }
+    ensures errors { 1 < result → result ≢ 8 → (error : SubscriberCreateError) × (result ≡ subscriber_code error) × Turns (λ old new. CreatesSubscriber old.domain new.domain (subscriber_settings options.now) (Err error)) domain.old.service domain.new.service }
+    ensures valid { result ≢ 1 → result ≢ 8 → options.now.degradation < 3 }
+    ensures invalid { result ≡ 8 → options.now.degradation < 3 → ⊥ }
+    ensures refused { (result ≡ 1) ⊎ (result ≡ 8) → domain.new.service ≡ domain.old.service }
     ensures live { result ≡ 0 → Knows (λ kept. IsSubscriberKey kept (named_subscriber subscriber.new)) domain.new.service }
+    ensures new { result ≡ 0 → Knows (λ kept. IsNewIn kept (A_subscriber (wide (subscriber.new).id))) domain.old.service }
     ensures same { 0 < result → subscriber.new ≡ subscriber.old }
-    ensures invalid { result ≡ 8 → domain.new.service ≡ domain.old.service }
     ensures stays { HoldsOn No_item domain.old.service domain.new.service }
 {
     let Some(mut boxed) = domain.take(alloc) else {
@@ -93,11 +105,14 @@ pub extern "C" fn iox2_subscriber_receive(
     ensures no_domain { (result ≡ 1) ↔ (domain.old.service ≡ None) }
     ensures received { result ≡ 0 → Becomes (λ old new. Receives old new (wide (subscriber.now).id) (Got_sample (wide (sample.new).origin) (wide (sample.new).number))) domain.old.service domain.new.service }
     ensures nothing { result ≡ 3 → Becomes (λ old new. Receives old new (wide (subscriber.now).id) No_sample) domain.old.service domain.new.service }
-    ensures errors { 30 ≤ result → (error : ReceiveError) × (result ≡ receive_code error) × Becomes (λ old new. Receives old new (wide (subscriber.now).id) (Receive_error error)) domain.old.service domain.new.service }
+    ensures errors { 3 < result → (error : ReceiveError) × (result ≡ receive_code error) × Becomes (λ old new. Receives old new (wide (subscriber.now).id) (Receive_error error)) domain.old.service domain.new.service }
     ensures not_live { result ≡ 2 → KnowsNo (λ kept. IsSubscriberKey kept (named_subscriber subscriber.now)) domain.old.service }
     ensures refused { 0 < result → result < 3 → domain.new.service ≡ domain.old.service }
     ensures live { result ≡ 0 → Knows (λ kept. IsSampleKey kept (named_sample sample.new)) domain.new.service }
+    ensures new { result ≡ 0 → Knows (λ kept. IsNewIn kept (A_sample (wide (sample.new).subscriber) (wide (sample.new).number))) domain.old.service }
+    ensures length { result ≡ 0 → Knows (λ kept. (values : List ℕ) → SampleHasValues kept (named_sample sample.new) values → len.new ≡ length values) domain.new.service }
     ensures same { 0 < result → sample.new ≡ sample.old }
+    ensures same_length { 0 < result → len.new ≡ len.old }
     ensures stays { HoldsOn No_item domain.old.service domain.new.service }
 {
     let Some(mut boxed) = domain.take(alloc) else {
@@ -119,8 +134,20 @@ pub extern "C" fn iox2_subscriber_receive_copy(
     sample: &mut SampleNumbers,
 ) -> u32
     ensures no_domain { (result ≡ 1) ↔ (domain.old.service ≡ None) }
+    ensures copied { result ≡ 0 → (key : Key) × (key.port ≡ wide (subscriber.now).id) × (origin : ℕ) × Becomes (λ old new. ReceivesCopy old new key origin (take len.new bytes.new)) domain.old.service domain.new.service }
+    ensures fits { result ≡ 0 → len.new ≤ length bytes.old }
+    ensures kept { result ≡ 9 → Becomes (λ old new. Receives old new (wide (subscriber.now).id) (Got_sample (wide (sample.new).origin) (wide (sample.new).number))) domain.old.service domain.new.service }
     ensures live { result ≡ 9 → Knows (λ kept. IsSampleKey kept (named_sample sample.new)) domain.new.service }
+    ensures new { result ≡ 9 → Knows (λ kept. IsNewIn kept (A_sample (wide (sample.new).subscriber) (wide (sample.new).number))) domain.old.service }
+    ensures small { result ≡ 9 → length bytes.old < len.new }
+    ensures length { result ≡ 9 → Knows (λ kept. (values : List ℕ) → SampleHasValues kept (named_sample sample.new) values → len.new ≡ length values) domain.new.service }
+    ensures nothing { result ≡ 3 → Becomes (λ old new. Receives old new (wide (subscriber.now).id) No_sample) domain.old.service domain.new.service }
+    ensures errors { 3 < result → result ≢ 9 → (error : ReceiveError) × (result ≡ receive_code error) × Becomes (λ old new. Receives old new (wide (subscriber.now).id) (Receive_error error)) domain.old.service domain.new.service }
+    ensures not_live { result ≡ 2 → KnowsNo (λ kept. IsSubscriberKey kept (named_subscriber subscriber.now)) domain.old.service }
+    ensures refused { 0 < result → result < 3 → domain.new.service ≡ domain.old.service }
     ensures same { 0 < result → bytes.new ≡ bytes.old }
+    ensures same_numbers { result ≢ 9 → sample.new ≡ sample.old }
+    ensures same_length { 0 < result → result ≢ 9 → len.new ≡ len.old }
     ensures stays { HoldsOn No_item domain.old.service domain.new.service }
 {
     let Some(mut boxed) = domain.take(alloc) else {

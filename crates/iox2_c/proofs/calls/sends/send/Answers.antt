@@ -8,7 +8,7 @@ use Rattle.iox2_c.specs.Steps.{SendsLoan}
 use Rattle.iox2_c.proofs.calls.sends.send.Goals as goal
 
 pub returns-clause-sent : goal.returns-clause-sent
-returns-clause-sent c = λ ended.
+returns-clause-sent c = λ two seven.
     let sent : Result SendOutcome SendError = c.send.result in (
       sent,
       c.tell.ensures.code,
