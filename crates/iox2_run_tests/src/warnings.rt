@@ -23,19 +23,20 @@ fn only_the_last_warnings_stay(rt: HostRuntime) {
         ..settings()
     };
     let mut domain: Domain<u64, u8> = Domain::new(rt.alloc(), config).expect(&rt, "a domain");
-    for subscriber in 1..34 {
+    for subscriber in 1..34u64 {
         let commands = [CREATE_SUBSCRIBER, Command::Close { of: 0 }];
         let commands = Vec::from_array(rt.alloc(), commands).expect(&rt, "commands");
         let outcome = replies_to_numbers(rt.alloc(), &mut domain, commands);
         let replies = outcome.ok().expect(&rt, "replies");
-        let made = Reply::SubscriberMade(UniqueSubscriberId::new(subscriber));
+        let made = Reply::SubscriberMade(UniqueSubscriberId::new(subscriber as u128));
         assert!(rt; replies.as_slice() == [made, Reply::Done].as_slice());
     }
     let warnings = domain.warnings().to_vec(rt.alloc());
     drop(domain);
     let warnings = warnings.expect(&rt, "warnings");
     assert_eq!(rt; warnings.len(), 32);
-    for (warning, subscriber) in warnings.iter().zip(2..34) {
-        assert!(rt; *warning == raised(subscriber));
+    for at in 0..32usize {
+        let expected = raised(at as u128 + 2);
+        assert!(rt; warnings.as_slice().get(at) == Some(&expected));
     }
 }
