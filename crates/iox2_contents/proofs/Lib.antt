@@ -1,3 +1,2 @@
 pub mod CallLists
-pub mod PayloadParts
 pub mod SlotReads

@@ -1,5 +1,5 @@
 -- The elements of a payload that isn't a single value, which no public contract shows.
-use Rattle.std.specs.Prelude.{ℕ, List, [], ◌∷◌, length, replicate, slice_set}
+use Rattle.std.specs.Prelude.{ℕ, List, [], length, replicate, slice_set}
 use Rattle.std.specs.List.{refill}
 use Rattle.std.specs.declared.option.Option.{Option}
 use Rattle.std.specs.declared.option.Option.TheVariants.{None}

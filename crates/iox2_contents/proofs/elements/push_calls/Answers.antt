@@ -1,4 +1,4 @@
-use Rattle.std.proofs.Common.{◌≡◌, ℕ, ◌+◌, ◌++◌, ◌∷◌, [], length, refl, arith}
+use Rattle.std.proofs.Common.{◌≡◌, ◌+◌, length, refl, arith}
 use denote.Param.Always.{mut_next}
 use Rattle.std.specs.List.{FoldsTo, enumerate_from}
 use Rattle.std.proofs.lemmas.Fn.{FoldsTo-push}

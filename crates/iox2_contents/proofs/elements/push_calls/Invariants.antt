@@ -1,4 +1,4 @@
-use Rattle.std.proofs.Common.{◌≡◌, ◌≤◌, length}
+use Rattle.std.proofs.Common.{◌≡◌, length}
 use Rattle.std.specs.List.{FoldsTo, enumerate_from}
 use Rattle.iox2_contents.proofs.elements.push_calls.Given as goal
 

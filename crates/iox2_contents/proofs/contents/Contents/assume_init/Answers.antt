@@ -1,8 +1,4 @@
-use Rattle.std.proofs.Common.{◌≡◌, true, false, Bool, refl, ap, slice_set, sym, subst, ◌∙◌}
-use Rattle.std.specs.Prelude.{List, map}
-use Rattle.std.specs.Bool.{MatchBool}
-use Rattle.std.specs.declared.option.Option.TheVariants.{Some}
-use Rattle.iox2_contents.specs.SlotContents.{ContentState, with_changed, written_content}
+use Rattle.std.proofs.Common.{ap, slice_set, ◌∙◌}
 use Rattle.iox2_contents.proofs.SlotReads.{some_read, set_same, by_result}
 use Rattle.iox2_contents.proofs.contents.Contents.assume_init.Goals as goal
 
