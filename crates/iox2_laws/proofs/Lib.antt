@@ -1,4 +1,5 @@
 pub mod Cases
+pub mod CallCases
 pub mod Sizes
 pub mod Puts
 pub mod NumberLemmas

@@ -1,30 +1,28 @@
 -- What becomes of the loans in users' hands: no operation puts one there but a grant, and a send takes its loan away.
-use Rattle.std.proofs.Common.{◌≡◌, ◌⊎◌, inl, inr, ℕ, ◌+◌, ◌≤◌, Bool, false, List, drop, refl, sym, ap, subst, ◌∙◌, eqb, ltb, le_refl, le_trans, ⊎_elim, Option, None, Some}
+use Rattle.std.proofs.Common.{◌≡◌, ◌⊎◌, inl, inr, ℕ, ◌+◌, ◌≤◌, Bool, false, List, drop, refl, sym, ap, subst, ◌∙◌, le_refl, le_trans, ⊎_elim, Option, None, Some}
 use Rattle.std.specs.declared.time.Duration.{Duration}
 use Rattle.std.proofs.lemmas.Bool.{cond_both}
-use Rattle.iox2_store.specs.machine.Limits.{buffer_limit, last_number}
-use Rattle.iox2_store.specs.machine.Numbers.{put_at, size}
-use Rattle.iox2_store.specs.machine.Places.{free_place}
+use Rattle.iox2_store.specs.machine.Numbers.{put_at}
 use Rattle.iox2_store.specs.machine.Mailbox.{Mailbox}
 use Rattle.iox2_store.specs.machine.Records.{Loan, Publisher, Subscriber, PublisherSettings, SubscriberSettings, Environment, BlockedSend}
-use Rattle.iox2_store.specs.machine.State.{State, held, with_loan}
+use Rattle.iox2_store.specs.machine.State.{State, with_loan}
 use Rattle.iox2_store.specs.machine.Delivery.{DeliveryEnd, Complete, Suspended, no_time}
 use Rattle.iox2_store.specs.machine.PublisherUpdate.{UpdatePublisher}
 use Rattle.iox2_store.specs.machine.SubscriberUpdate.{UpdateSubscriber}
-use Rattle.iox2_store.specs.machine.Loans.{is_static, limit_error, loan_granted, DynamicLoan, GrantLoan, written, loan_discarded}
+use Rattle.iox2_store.specs.machine.Loans.{loan_granted, GrantLoan, written, loan_discarded}
 use Rattle.iox2_store.specs.machine.SingleCalls.{GrantWrittenLoan}
 use Rattle.iox2_store.specs.machine.Sends.{SendResult, ConcludeSend, with_mailboxes, published, more_retries, DeliverAndConclude, Send, Retry, GiveUp}
 use Rattle.iox2_store.specs.machine.Receives.{ReceiveResult, Got_sample, No_sample, Receive_error, TakeSample, Receive, HasSamples}
 use Rattle.iox2_store.specs.machine.Releases.{is_unused, place_freed, freed_if_unused, subscriber_pruned, unborrowed, released}
-use Rattle.iox2_store.specs.machine.Ports.{buffer_for, first_segment_fits, with_new_publisher, with_new_subscriber, with_failure_warning, MakePublisher, MakeSubscriber, CreatePublisher, CreateSubscriber, subscriber_shut, publisher_closed, subscriber_closed}
+use Rattle.iox2_store.specs.machine.Ports.{with_new_publisher, with_new_subscriber, with_failure_warning, FirstPublisherUpdate, FirstSubscriberUpdate, CreatePublisher, CreateSubscriber, subscriber_shut, publisher_closed, subscriber_closed}
 use Rattle.iox2_store.specs.declared.errors.ConnectionFailure.{ConnectionFailure}
 use Rattle.iox2_store.specs.declared.errors.LoanError.{LoanError}
-use Rattle.iox2_store.specs.declared.errors.LoanError.TheVariants.{OutOfMemory, ExceedsMaxLoans, ExceedsMaxLoanSize, InternalFailure}
 use Rattle.iox2_store.specs.declared.errors.PublisherCreateError.{PublisherCreateError}
 use Rattle.iox2_store.specs.declared.errors.SubscriberCreateError.{SubscriberCreateError}
 use Rattle.iox2_store.specs.declared.warning.Warning.{Warning}
 use Rattle.iox2_laws.specs.Laws.{Advances}
 use Rattle.iox2_laws.proofs.Cases.{by_option, by_bool}
+use Rattle.iox2_laws.proofs.CallCases.{grant_cases, publisher_cases, subscriber_cases}
 use Rattle.iox2_laws.proofs.Puts.{put_at-same, found_put, found_removed}
 use Rattle.iox2_laws.proofs.LoanLaws.{grant_loan_advances}
 
@@ -70,23 +68,10 @@ module _ {T U : Type 0} where
     refused_follows : s' ≡ s → LoansFollow s s'
     refused_follows e = same_loans_follow s s' (ap (λ (t : State T U). t.loans) e)
 
-    dynamic_loan_follows : (x : Publisher) (refusal : Option LoanError) → DynamicLoan environment default_header s p x len s' refusal → LoansFollow s s'
-    dynamic_loan_follows x None h = granted_follows x h.2 h.4
-    dynamic_loan_follows x (Some OutOfMemory) h = refused_follows h.0
-    dynamic_loan_follows x (Some InternalFailure) h = refused_follows h.0
-    dynamic_loan_follows x (Some ExceedsMaxLoans) h = absurd h
-    dynamic_loan_follows x (Some ExceedsMaxLoanSize) h = absurd h
-
     -- A grant's loan has a number that wasn't given out, and no other loan appears.
     pub grant_loan_follows : (refusal : Option LoanError) → GrantLoan environment default_header checks_length len s p s' refusal → LoansFollow s s'
     grant_loan_follows refusal h =
-        by_option (LoansFollow s s') (s.publishers p) _ _ h (λ _ v. absurd v) (λ x _ h.
-        by_option (LoansFollow s s') (limit_error checks_length x len) _ _ h
-        (λ _ h. by_bool (LoansFollow s s') (is_static x.allocation_strategy) _ _ h
-        (λ _ h. by_bool (LoansFollow s s') (eqb (size (held s p x)) x.slots) _ _ h (λ _ h. refused_follows h.0) (λ _ h.
-        by_bool (LoansFollow s s') (eqb s.next_message last_number) _ _ h (λ _ h. refused_follows h.0) (λ _ h. granted_follows x x.segments h.0)))
-        (λ _ h. dynamic_loan_follows x refusal h))
-        (λ limit _ h. refused_follows h.0))
+        grant_cases environment default_header checks_length len s p s' (LoansFollow s s') refusal h (λ e same _. refused_follows same) (λ x _ grants. granted_follows x grants.0 grants.4)
 
   -- So has the loan of a grant with every cell written.
   pub grant_written_loan_follows : (environment : Environment) (default_value : T) (default_header : U) (checks_length : Bool) (len : ℕ) (s : State T U) (p : ℕ)
@@ -187,36 +172,21 @@ module _ {T U : Type 0} where
   failure_warning_loans s warning None = refl
   failure_warning_loans s warning (Some failure) = refl
 
-  make_publisher_loans : (environment : Environment) (s : State T U) (given : PublisherSettings) (place : ℕ) (s' : State T U) (refusal : Option PublisherCreateError)
-      → MakePublisher environment s given place s' refusal → s'.loans ≡ s.loans
-  make_publisher_loans environment s given place s' None h =
-      ap (λ (t : State T U). t.loans) h.3 ∙ failure_warning_loans h.0 _ h.1 ∙ update_publisher_loans environment (with_new_publisher s given place) s.next_port h.0 h.1 h.2
-  make_publisher_loans environment s given place s' (Some e) h = ap (λ (t : State T U). t.loans) h.1
-
-  make_subscriber_loans : (environment : Environment) (s : State T U) (given : SubscriberSettings) (place : ℕ) (s' : State T U) (refusal : Option SubscriberCreateError)
-      → MakeSubscriber environment s given place s' refusal → s'.loans ≡ s.loans
-  make_subscriber_loans environment s given place s' None h =
-      ap (λ (t : State T U). t.loans) h.3 ∙ failure_warning_loans h.0 _ h.1 ∙ update_subscriber_loans environment (with_new_subscriber s given place) s.next_port h.0 h.1 h.2
-  make_subscriber_loans environment s given place s' (Some e) h = ap (λ (t : State T U). t.loans) h.1
-
   -- A publisher that is made, or refused, leaves the loans.
   pub create_publisher_loans : (environment : Environment) (s : State T U) (given : PublisherSettings) (s' : State T U) (refusal : Option PublisherCreateError)
       → CreatePublisher environment s given s' refusal → s'.loans ≡ s.loans
   create_publisher_loans environment s given s' refusal h =
-      by_bool (s'.loans ≡ s.loans) (eqb s.next_port last_number) _ _ h (λ _ h. ap (λ (t : State T U). t.loans) h.0) (λ _ h.
-      by_option (s'.loans ≡ s.loans) (free_place (s.config).max_publishers s.publisher_places) _ _ h (λ _ h. ap (λ (t : State T U). t.loans) h.0) (λ place _ h.
-      by_bool (s'.loans ≡ s.loans) (first_segment_fits s.config given) _ _ h
-      (λ _ h. make_publisher_loans environment s given place s' refusal h)
-      (λ _ h. ap (λ (t : State T U). t.loans) h.0)))
+      publisher_cases environment s given s' (s'.loans ≡ s.loans) refusal h (λ e same _. ap (λ (t : State T U). t.loans) same) (λ place makes.
+      let first : FirstPublisherUpdate environment (with_new_publisher s given place) s.next_port s' = makes.2 in
+      ap (λ (t : State T U). t.loans) first.3 ∙ failure_warning_loans first.0 _ first.1 ∙ update_publisher_loans environment (with_new_publisher s given place) s.next_port first.0 first.1 first.2)
 
   -- A subscriber that is made, or refused, leaves the loans.
   pub create_subscriber_loans : (environment : Environment) (s : State T U) (given : SubscriberSettings) (s' : State T U) (refusal : Option SubscriberCreateError)
       → CreateSubscriber environment s given s' refusal → s'.loans ≡ s.loans
   create_subscriber_loans environment s given s' refusal h =
-      by_bool (s'.loans ≡ s.loans) (eqb s.next_port last_number) _ _ h (λ _ h. ap (λ (t : State T U). t.loans) h.0) (λ _ h.
-      by_bool (s'.loans ≡ s.loans) (ltb (buffer_limit s.config) (buffer_for given)) _ _ h (λ _ h. ap (λ (t : State T U). t.loans) h.0) (λ _ h.
-      by_option (s'.loans ≡ s.loans) (free_place (s.config).max_subscribers s.subscriber_places) _ _ h (λ _ h. ap (λ (t : State T U). t.loans) h.0) (λ place _ h.
-      make_subscriber_loans environment s given place s' refusal h)))
+      subscriber_cases environment s given s' (s'.loans ≡ s.loans) refusal h (λ e same _. ap (λ (t : State T U). t.loans) same) (λ place makes.
+      let first : FirstSubscriberUpdate environment (with_new_subscriber s given place) s.next_port s' = makes.3 in
+      ap (λ (t : State T U). t.loans) first.3 ∙ failure_warning_loans first.0 _ first.1 ∙ update_subscriber_loans environment (with_new_subscriber s given place) s.next_port first.0 first.1 first.2)
 
   -- A publisher that is closed leaves the loans: its users keep theirs.
   pub publisher_closed_loans : (s : State T U) (p : ℕ) (x : Publisher) → (publisher_closed s p x).loans ≡ s.loans

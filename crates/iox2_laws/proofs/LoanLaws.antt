@@ -1,25 +1,25 @@
 -- Granting, changing and discarding a loan keeps a state well-formed.
-use Rattle.std.proofs.Common.{◌≡◌, ℕ, le_refl, ◌+◌, ◌*◌, ◌≤◌, ◌<◌, Bool, true, false, cond, List, [], ◌∷◌, ◌++◌, length, replicate, max, zero, suc, is_some, refl, sym, ap, subst, ◌∙◌, arith, eqb, leb, ⊎_elim, ◌⊎◌, inl, inr, Option, None, Some}
+use Rattle.std.proofs.Common.{◌≡◌, ℕ, le_refl, ◌+◌, ◌*◌, ◌≤◌, ◌<◌, Bool, true, false, List, [], ◌∷◌, ◌++◌, length, replicate, max, zero, suc, is_some, refl, sym, ap, subst, ◌∙◌, arith, eqb, ⊎_elim, ◌⊎◌, inl, inr, Option, None, Some}
 use Rattle.std.specs.Option.{MatchOption, option_map, option_map_or}
 use Rattle.std.specs.Prelude.{slice_set}
 use Rattle.std.specs.List.{flat_map, list_all}
-use Rattle.std.proofs.lemmas.Bool.{true≢false, eqb-true, eqb-false, eq-eqb, ne_eqb, leb-false, and_parts, and_from, or_left}
+use Rattle.std.proofs.lemmas.Bool.{true≢false, eqb-true, eqb-false, eq-eqb, ne_eqb, and_parts, and_from, or_left}
 use Rattle.std.proofs.lemmas.List.{length-append, length-replicate, length-set}
 use Rattle.std.proofs.lemmas.Option.{none-some, same_Some}
-use Rattle.iox2_store.specs.machine.Limits.{last_number, segment_limit}
+use Rattle.iox2_store.specs.machine.Limits.{segment_limit}
 use Rattle.iox2_store.specs.machine.Numbers.{put_at, contains, without, size}
 use Rattle.iox2_store.specs.machine.Places.{occupants}
 use Rattle.iox2_store.specs.machine.Mailbox.{numbers_in}
 use Rattle.iox2_store.specs.machine.Records.{Loan, Publisher, Environment}
 use Rattle.iox2_store.specs.machine.State.{State, held, with_loan, is_blocked}
-use Rattle.iox2_store.specs.machine.Loans.{is_static, limit_error, loan_granted, DynamicLoan, GrantLoan, written, with_cell, is_initialized, initialized, loan_discarded}
+use Rattle.iox2_store.specs.machine.Loans.{is_static, loan_granted, GrantLoan, written, with_cell, is_initialized, initialized, loan_discarded}
 use Rattle.iox2_store.specs.machine.SingleCalls.{GrantWrittenLoan}
 use Rattle.iox2_store.specs.machine.WellFormed.{BlockedIsWellFormed, PublisherIsWellFormed, SubscriberIsWellFormed, LoanIsWellFormed, IsWellFormed}
 use Rattle.iox2_store.specs.declared.header.Header.{Header}
 use Rattle.iox2_store.specs.declared.errors.LoanError.{LoanError}
-use Rattle.iox2_store.specs.declared.errors.LoanError.TheVariants.{OutOfMemory, ExceedsMaxLoans, ExceedsMaxLoanSize, InternalFailure}
 use Rattle.iox2_laws.specs.Laws.{Advances}
-use Rattle.iox2_laws.proofs.Cases.{by_option, by_bool}
+use Rattle.iox2_laws.proofs.Cases.{by_option}
+use Rattle.iox2_laws.proofs.CallCases.{grant_cases}
 use Rattle.iox2_laws.proofs.NumberLemmas.{contains_in_append, contains_left, contains_right, contains_one, absent_from, IsOnce-push, IsOnce-without, contains_in_without, contains-without_same, contains-without_other, length-without_le, size_le, size_le_one_more}
 use Rattle.iox2_laws.proofs.Puts.{put_at-same, put_at-other, at_each, found_put, found_removed}
 use Rattle.iox2_laws.proofs.Altered.{absent_apart, same_state, in_three, in_first, in_second, in_third, altered, uniform, mailbox_moves, loan_moves, publisher_moves, altered_keeps, mailbox_stays, loan_stays, altered_same_row}
@@ -35,12 +35,6 @@ some_set (cell ∷ cells) zero a h = (and_parts (is_some cell) (list_all is_some
 some_set (cell ∷ cells) (suc at) a h =
     let parts : (is_some cell ≡ true) × (list_all is_some cells ≡ true) = and_parts (is_some cell) (list_all is_some cells) h in
     and_from (is_some cell) (list_all is_some (slice_set cells at (Some a))) parts.0 (some_set cells at a parts.1)
-
--- no limit was met
-no_limit : {E : Type 0} (a b : Bool) (e e' : E) → cond a (Some e) (cond b (Some e') None) ≡ None → b ≡ false
-no_limit true b e e' h = absurd (none-some e (sym h))
-no_limit false true e e' h = absurd (none-some e' (sym h))
-no_limit false false e e' h = refl
 
 module _ {T U : Type 0} where
   -- ---- other loans alone
@@ -342,41 +336,10 @@ module _ {T U : Type 0} where
         (λ m u e _. old_loan m ((w.loans m u e).below) ∙ e)
         (λ m low e. old_loan m low ∙ e))
 
-  -- a grant by cases: it is refused and nothing changes, or the publisher is within its limits
   module _ (environment : Environment) (default_header : U) (checks_length : Bool) (len : ℕ) (s : State T U) (p : ℕ) (s' : State T U) where
-    abbrev Grants : Publisher → Option LoanError → Type 0
-    Grants x refusal =
-        (segments : ℕ) × ((segments ≡ x.segments) ⊎ ((segments ≡ x.segments + 1) × (x.segments < segment_limit)))
-        × (length x.loans < x.max_loaned_samples) × (is_static x.allocation_strategy ≡ true → eqb (size (held s p x)) x.slots ≡ false)
-        × (s' ≡ loan_granted default_header s p x len segments) × (refusal ≡ None)
-
-    dynamic_cases : (R : Type 0) (x : Publisher) → is_static x.allocation_strategy ≡ false → length x.loans < x.max_loaned_samples → (refusal : Option LoanError)
-        → DynamicLoan environment default_header s p x len s' refusal → ((e : LoanError) → s' ≡ s → refusal ≡ Some e → R) → (Grants x refusal → R) → R
-    dynamic_cases R x dynamic room None h refused grants =
-        grants (h.2, ⊎_elim (λ same. inl same) (λ more. inr (more.0, more.1)) h.3, room, λ static. absurd (true≢false (sym static ∙ dynamic)), h.4, refl)
-    dynamic_cases R x dynamic room (Some OutOfMemory) h refused grants = refused OutOfMemory h.0 refl
-    dynamic_cases R x dynamic room (Some InternalFailure) h refused grants = refused InternalFailure h.0 refl
-    dynamic_cases R x dynamic room (Some ExceedsMaxLoans) h refused grants = absurd h
-    dynamic_cases R x dynamic room (Some ExceedsMaxLoanSize) h refused grants = absurd h
-
-    grant_cases : (R : Type 0) (refusal : Option LoanError) → GrantLoan environment default_header checks_length len s p s' refusal
-        → ((e : LoanError) → s' ≡ s → refusal ≡ Some e → R) → ((x : Publisher) → s.publishers p ≡ Some x → Grants x refusal → R) → R
-    grant_cases R refusal h refused grants =
-        by_option R (s.publishers p) _ _ h (λ _ v. absurd v) (λ x here h.
-        by_option R (limit_error checks_length x len) _ _ h
-        (λ free h.
-        let room : length x.loans < x.max_loaned_samples = leb-false x.max_loaned_samples (length x.loans)
-        (no_limit _ (leb x.max_loaned_samples (length x.loans)) _ _ free) in
-        by_bool R (is_static x.allocation_strategy) _ _ h
-        (λ static h. by_bool R (eqb (size (held s p x)) x.slots) _ _ h (λ _ h. refused OutOfMemory h.0 h.1) (λ apart h.
-        by_bool R (eqb s.next_message last_number) _ _ h (λ _ h. refused InternalFailure h.0 h.1)
-        (λ _ h. grants x here (x.segments, inl refl, room, λ _. apart, h.0, h.1))))
-        (λ dynamic h. dynamic_cases R x dynamic room refusal h refused (grants x here)))
-        (λ limit _ h. refused limit h.0 h.1))
-
     -- a grant keeps a state well-formed
     pub grant_loan_keeps : (refusal : Option LoanError) → IsWellFormed s → GrantLoan environment default_header checks_length len s p s' refusal → IsWellFormed s'
-    grant_loan_keeps refusal w h = grant_cases (IsWellFormed s') refusal h
+    grant_loan_keeps refusal w h = grant_cases environment default_header checks_length len s p s' (IsWellFormed s') refusal h
         (λ e same _. subst IsWellFormed (sym same) w)
         (λ x here g. let v : PublisherIsWellFormed s p x = w.publishers p x here in
         subst IsWellFormed (sym g.4) (loan_granted_keeps default_header s w p x here len g.0 g.2
@@ -387,13 +350,13 @@ module _ {T U : Type 0} where
 
     -- a grant advances the state
     pub grant_loan_advances : (refusal : Option LoanError) → GrantLoan environment default_header checks_length len s p s' refusal → Advances s s'
-    grant_loan_advances refusal h = grant_cases (Advances s s') refusal h
+    grant_loan_advances refusal h = grant_cases environment default_header checks_length len s p s' (Advances s s') refusal h
         (λ e same _. subst (Advances s) (sym same) (record { config = refl; next_port = le_refl s.next_port; next_message = le_refl s.next_message }))
         (λ x here g. subst (Advances s) (sym g.4) (record { config = refl; next_port = le_refl s.next_port; next_message = omega arith }))
 
     -- a loan blocks no publisher
     pub grant_loan_unblocked : (refusal : Option LoanError) → GrantLoan environment default_header checks_length len s p s' refusal → is_blocked s p ≡ false → is_blocked s' p ≡ false
-    grant_loan_unblocked refusal h unblocked = grant_cases (is_blocked s' p ≡ false) refusal h
+    grant_loan_unblocked refusal h unblocked = grant_cases environment default_header checks_length len s p s' (is_blocked s' p ≡ false) refusal h
         (λ e same _. subst (λ (t : State T U). is_blocked t p ≡ false) (sym same) unblocked)
         (λ x here g. subst (λ (t : State T U). is_blocked t p ≡ false) (sym g.4)
         (ap (λ (o : Option Publisher). option_map_or (λ (v : Publisher). is_some v.blocked) o false)
@@ -403,7 +366,7 @@ module _ {T U : Type 0} where
     -- what was granted is there, unwritten, and in its publisher's name
     pub grant_loan_finds : (refusal : Option LoanError) → GrantLoan environment default_header checks_length len s p s' refusal → refusal ≡ None
         → (l : Loan T U) × (s'.loans s.next_message ≡ Some l) × (l.publisher ≡ p) × (l.is_written ≡ false) × (s.next_message < s'.next_message)
-    grant_loan_finds refusal h none = grant_cases _ refusal h
+    grant_loan_finds refusal h none = grant_cases environment default_header checks_length len s p s' _ refusal h
         (λ e same some. absurd (none-some e (sym none ∙ some)))
         (λ x here g. subst (λ (t : State T U). (l : Loan T U) × (t.loans s.next_message ≡ Some l) × (l.publisher ≡ p) × (l.is_written ≡ false)
         × (s.next_message < t.next_message)) (sym g.4)

@@ -1,22 +1,21 @@
 -- What operations leave of the loans that publishers may still take.
 use Rattle.std.proofs.Common.{◌≡◌, ℕ, suc, ◌+◌, ◌<◌, ◌≤◌, Bool, true, false, List, [], ◌∷◌, ◌++◌, length, cond, drop, refl, sym, ap, subst, ◌∙◌, arith, Option, None, Some}
-use Rattle.std.specs.Prelude.{◌==◌, ◌≢◌, max, nat_lt}
+use Rattle.std.specs.Prelude.{◌≢◌, max}
 use Rattle.std.specs.Option.{option_map}
 use Rattle.std.proofs.lemmas.Bool.{ne_eqb}
 use Rattle.std.proofs.lemmas.List.{length-append}
 use Rattle.std.proofs.lemmas.Option.{none-some, same_Some}
-use Rattle.iox2_store.specs.machine.Limits.{worst_case, last_number, buffer_limit}
-use Rattle.iox2_store.specs.machine.Numbers.{put_at, contains, without, size, last_n}
-use Rattle.iox2_store.specs.machine.Places.{free_place}
+use Rattle.iox2_store.specs.machine.Limits.{worst_case}
+use Rattle.iox2_store.specs.machine.Numbers.{put_at, contains, without, last_n}
 use Rattle.iox2_store.specs.machine.Mailbox.{Mailbox}
 use Rattle.iox2_store.specs.machine.Records.{Loan, Publisher, Subscriber, Environment, BlockedSend, PublisherSettings, SubscriberSettings}
-use Rattle.iox2_store.specs.machine.State.{State, held, with_loan, publisher_changed}
+use Rattle.iox2_store.specs.machine.State.{State, with_loan, publisher_changed}
 use Rattle.iox2_store.specs.machine.Delivery.{DeliveryEnd, Complete, Suspended}
 use Rattle.iox2_store.specs.machine.PublisherUpdate.{UpdatePublisher}
 use Rattle.iox2_store.specs.machine.SubscriberUpdate.{UpdateSubscriber}
-use Rattle.iox2_store.specs.machine.Loans.{GrantLoan, limit_error, is_static, loan_granted, loan_discarded}
+use Rattle.iox2_store.specs.machine.Loans.{GrantLoan, is_static, loan_granted, loan_discarded}
 use Rattle.iox2_store.specs.machine.LoansLeft.{CanLend}
-use Rattle.iox2_store.specs.machine.Ports.{CreatePublisher, CreateSubscriber, MakePublisher, MakeSubscriber, with_new_publisher, with_new_subscriber, new_publisher, with_failure_warning, first_segment_fits, slots_for, buffer_for, publisher_closed, subscriber_shut, subscriber_closed}
+use Rattle.iox2_store.specs.machine.Ports.{CreatePublisher, CreateSubscriber, FirstPublisherUpdate, FirstSubscriberUpdate, with_new_publisher, with_new_subscriber, new_publisher, with_failure_warning, slots_for, publisher_closed, subscriber_shut, subscriber_closed}
 use Rattle.iox2_store.specs.machine.Receives.{ReceiveResult, Got_sample, No_sample, Receive_error, TakeSample, Receive}
 use Rattle.iox2_store.specs.machine.Releases.{place_freed, unborrowed, subscriber_pruned, is_unused, freed_if_unused, released}
 use Rattle.std.specs.declared.time.Duration.{Duration}
@@ -31,6 +30,7 @@ use Rattle.iox2_store.specs.declared.warning.Warning.{Warning}
 use Rattle.iox2_store.specs.declared.warning.Warning.TheVariants.{PublisherPartlyConnected, SubscriberPartlyConnected}
 use Rattle.iox2_store.specs.declared.service_config.ServiceConfig.{ServiceConfig}
 use Rattle.iox2_laws.proofs.Cases.{by_option, by_bool}
+use Rattle.iox2_laws.proofs.CallCases.{grant_cases, publisher_cases, subscriber_cases}
 use Rattle.iox2_laws.proofs.NumberLemmas.{length-without}
 use Rattle.iox2_laws.proofs.PortsClose.{publisher_closed_others}
 use Rattle.iox2_laws.proofs.Puts.{at_each, put_at-same, put_at-other}
@@ -160,7 +160,8 @@ module _ {T U : Type 0} where
   }
 
   -- a publisher is made
-  made_kept : (environment : Environment) (s : State T U) (given : PublisherSettings) (place : ℕ) (s' : State T U) → MakePublisher environment s given place s' None → LoansKept (with_new_publisher s given place) s'
+  made_kept : (environment : Environment) (s : State T U) (given : PublisherSettings) (place : ℕ) (s' : State T U) → FirstPublisherUpdate environment (with_new_publisher s given place) s.next_port s'
+      → LoansKept (with_new_publisher s given place) s'
   made_kept environment s given place s' h =
       subst (LoansKept (with_new_publisher s given place)) (sym h.3)
       (kept_trans (with_new_publisher s given place) h.0 _ (update_publisher_kept environment (with_new_publisher s given place) s.next_port h.0 h.1 h.2) (warning_kept h.0 (PublisherPartlyConnected s.next_port) h.1))
@@ -168,29 +169,18 @@ module _ {T U : Type 0} where
   pub create_publisher_kept : (environment : Environment) (s : State T U) → IsWellFormed s → (given : PublisherSettings) (s' : State T U) (refusal : Option PublisherCreateError)
       → CreatePublisher environment s given s' refusal → LoansKept s s'
   create_publisher_kept environment s w given s' refusal h =
-      by_bool (LoansKept s s') (s.next_port == last_number) _ _ h (λ _ k. kept_same s s' k.0) (λ _ k.
-      by_option (LoansKept s s') (free_place (s.config).max_publishers s.publisher_places) _ _ k (λ _ j. kept_same s s' j.0) (λ place _ j.
-      by_bool (LoansKept s s') (first_segment_fits s.config given) _ _ j (λ _ i. made place refusal i) (λ _ i. kept_same s s' i.0)))
-    where
-      made : (place : ℕ) (refusal : Option PublisherCreateError) → MakePublisher environment s given place s' refusal → LoansKept s s'
-      made place None h = kept_trans s (with_new_publisher s given place) s' (new_publisher_kept s w given place) (made_kept environment s given place s' h)
-      made place (Some e) h = kept_same s s' h.1
+      publisher_cases environment s given s' (LoansKept s s') refusal h (λ e same _. kept_same s s' same)
+      (λ place makes. kept_trans s (with_new_publisher s given place) s' (new_publisher_kept s w given place) (made_kept environment s given place s' makes.2))
 
   -- The publisher that was made stands, on the terms that it was given.
   pub created_stands : (environment : Environment) (s : State T U) (given : PublisherSettings) (s' : State T U) → CreatePublisher environment s given s' None
       → (place : ℕ) × Kept_at (new_publisher s given place) (s'.publishers s.next_port) × (s'.config ≡ s.config)
   created_stands environment s given s' h =
-      by_bool Stands (s.next_port == last_number) _ _ h (λ _ k. absurd (none-some _ k.1)) (λ _ k.
-      by_option Stands (free_place (s.config).max_publishers s.publisher_places) _ _ k (λ _ j. absurd (none-some _ j.1)) (λ place _ j.
-      by_bool Stands (first_segment_fits s.config given) _ _ j (λ _ i. made place i) (λ _ i. absurd (none-some _ i.1))))
-    where
-      Stands : Type 0
-      Stands = (place : ℕ) × Kept_at (new_publisher s given place) (s'.publishers s.next_port) × (s'.config ≡ s.config)
-
-      made : (place : ℕ) → MakePublisher environment s given place s' None → Stands
-      made place h =
-          let kept : LoansKept (with_new_publisher s given place) s' = made_kept environment s given place s' h in
-          (place, kept.publishers s.next_port (new_publisher s given place) (put_at-same s.publishers s.next_port (Some (new_publisher s given place))), kept.config)
+      publisher_cases environment s given s' ((place : ℕ) × Kept_at (new_publisher s given place) (s'.publishers s.next_port) × (s'.config ≡ s.config)) None h
+      (λ e _ some. absurd (none-some e some))
+      (λ place makes.
+      let kept : LoansKept (with_new_publisher s given place) s' = made_kept environment s given place s' makes.2 in
+      (place, kept.publishers s.next_port (new_publisher s given place) (put_at-same s.publishers s.next_port (Some (new_publisher s given place))), kept.config))
 
   -- A publisher that was made has all of its loans left, where it is static and has the worst case of slots.
   pub created_lends : (environment : Environment) (s : State T U) (given : PublisherSettings) (s' : State T U) → is_static given.allocation_strategy ≡ true
@@ -221,21 +211,16 @@ module _ {T U : Type 0} where
   pub create_subscriber_kept : (environment : Environment) (s : State T U) (given : SubscriberSettings) (s' : State T U) (refusal : Option SubscriberCreateError)
       → CreateSubscriber environment s given s' refusal → LoansKept s s'
   create_subscriber_kept environment s given s' refusal h =
-      by_bool (LoansKept s s') (s.next_port == last_number) _ _ h (λ _ k. kept_same s s' k.0) (λ _ k.
-      by_bool (LoansKept s s') (nat_lt (buffer_limit s.config) (buffer_for given)) _ _ k (λ _ j. kept_same s s' j.0) (λ _ j.
-      by_option (LoansKept s s') (free_place (s.config).max_subscribers s.subscriber_places) _ _ j (λ _ i. kept_same s s' i.0) (λ place _ i. made place refusal i)))
-    where
-      made : (place : ℕ) (refusal : Option SubscriberCreateError) → MakeSubscriber environment s given place s' refusal → LoansKept s s'
-      made place None h =
-          let new : State T U = with_new_subscriber s given place in
-          subst (LoansKept s) (sym h.3) (kept_trans s new _
-          (record {
-            config = refl;
-            numbers = refl;
-            publishers = λ p x e. (record x { is_due = true }, ap (option_map {T = Publisher} (λ z. record z { is_due = true })) e, record { allocation = refl; most = refl; slots = refl; longest = refl; loans = refl });
-          })
-          (kept_trans new h.0 _ (update_subscriber_kept environment new s.next_port h.0 h.1 h.2) (warning_kept h.0 (SubscriberPartlyConnected s.next_port) h.1)))
-      made place (Some e) h = kept_same s s' h.1
+      subscriber_cases environment s given s' (LoansKept s s') refusal h (λ e same _. kept_same s s' same) (λ place makes.
+      let new : State T U = with_new_subscriber s given place in
+      let first : FirstSubscriberUpdate environment new s.next_port s' = makes.3 in
+      subst (LoansKept s) (sym first.3) (kept_trans s new _
+      (record {
+        config = refl;
+        numbers = refl;
+        publishers = λ p x e. (record x { is_due = true }, ap (option_map {T = Publisher} (λ z. record z { is_due = true })) e, record { allocation = refl; most = refl; slots = refl; longest = refl; loans = refl });
+      })
+      (kept_trans new first.0 _ (update_subscriber_kept environment new s.next_port first.0 first.1 first.2) (warning_kept first.0 (SubscriberPartlyConnected s.next_port) first.1))))
 
   -- ---- what leaves the loans that may be taken
 
@@ -300,14 +285,8 @@ module _ {T U : Type 0} where
   pub loan_taken : (environment : Environment) (default_header : U) (checks_length : Bool) (len : ℕ) (s : State T U) (p : ℕ) (s' : State T U)
       → GrantLoan environment default_header checks_length len s p s' None → LoanTaken p s s'
   loan_taken environment default_header checks_length len s p s' h =
-      by_option (LoanTaken p s s') (s.publishers p) _ _ h (λ _ v. absurd v) (λ x present k.
-      by_option (LoanTaken p s s') (limit_error checks_length x len) _ _ k
-      (λ _ j. by_bool (LoanTaken p s s') (is_static x.allocation_strategy) _ _ j
-      (λ _ i. by_bool (LoanTaken p s s') (size (held s p x) == x.slots) _ _ i (λ _ g. absurd (none-some _ g.1)) (λ _ g.
-      by_bool (LoanTaken p s s') (s.next_message == last_number) _ _ g (λ _ f. absurd (none-some _ f.1))
-      (λ _ f. subst (LoanTaken p s) (sym f.0) (granted_taken default_header s p x present len x.segments))))
-      (λ _ i. subst (LoanTaken p s) (sym i.4) (granted_taken default_header s p x present len i.2)))
-      (λ limit _ j. absurd (none-some _ j.1)))
+      grant_cases environment default_header checks_length len s p s' (LoanTaken p s s') None h (λ e _ some. absurd (none-some e some))
+      (λ x present grants. subst (LoanTaken p s) (sym grants.4) (granted_taken default_header s p x present len grants.0))
 
   -- ---- a loan ends
 

@@ -3,14 +3,14 @@ use Rattle.std.proofs.Common.{◌≡◌, ℕ, ◌+◌, ◌≤◌, ◌<◌, true,
 use Rattle.std.proofs.Common.{None, Some, ◌⊎◌, ⊎_elim}
 use Rattle.std.proofs.lemmas.Bool.{eq-eqb, true≢false, ne_eqb, ltb-false, false_from_ne_true}
 use Rattle.std.proofs.lemmas.Option.{none-some, same_Some}
-use Rattle.iox2_store.specs.machine.Limits.{buffer_limit, last_number}
+use Rattle.iox2_store.specs.machine.Limits.{buffer_limit}
 use Rattle.iox2_store.specs.machine.Numbers.{contains, put_at}
-use Rattle.iox2_store.specs.machine.Places.{occupant, set_place, free_place}
+use Rattle.iox2_store.specs.machine.Places.{occupant, set_place}
 use Rattle.iox2_store.specs.machine.Mailbox.{Mailbox, has_numbers, waiting_count}
 use Rattle.iox2_store.specs.machine.Records.{Publisher, Subscriber, PublisherSettings, SubscriberSettings, Environment}
 use Rattle.iox2_store.specs.machine.State.{State, is_blocked, with_warning}
-use Rattle.iox2_store.specs.machine.Ports.{buffer_for, first_segment_fits, new_publisher, new_subscriber, with_new_publisher, with_new_subscriber}
-use Rattle.iox2_store.specs.machine.Ports.{with_buffer_warning, with_failure_warning, CreatePublisher, CreateSubscriber, MakePublisher, MakeSubscriber}
+use Rattle.iox2_store.specs.machine.Ports.{buffer_for, new_publisher, new_subscriber, with_new_publisher, with_new_subscriber, FirstPublisherUpdate, FirstSubscriberUpdate}
+use Rattle.iox2_store.specs.machine.Ports.{with_buffer_warning, with_failure_warning, CreatePublisher, CreateSubscriber}
 use Rattle.iox2_store.specs.machine.WellFormed.{LeadsTo, PlacesAgree, publisher_place, subscriber_place, PublisherIsWellFormed, SubscriberIsWellFormed}
 use Rattle.iox2_store.specs.machine.WellFormed.{MailboxIsWellFormed, IsWellFormed}
 use Rattle.iox2_store.specs.declared.errors.ConnectionFailure.{ConnectionFailure}
@@ -19,7 +19,7 @@ use Rattle.iox2_store.specs.declared.errors.SubscriberCreateError.{SubscriberCre
 use Rattle.iox2_store.specs.declared.warning.Warning.{Warning}
 use Rattle.iox2_store.specs.declared.warning.Warning.TheVariants.{PublisherPartlyConnected, SubscriberPartlyConnected}
 use Rattle.iox2_laws.specs.Laws.{Advances}
-use Rattle.iox2_laws.proofs.Cases.{by_option, by_bool}
+use Rattle.iox2_laws.proofs.CallCases.{publisher_cases, subscriber_cases}
 use Rattle.iox2_laws.proofs.Puts.{put_at-other, at_each, found_put}
 use Rattle.iox2_laws.proofs.PlaceLemmas.{occupant-set_place, length-set_place_le, found_set, free_place_is}
 use Rattle.iox2_laws.proofs.MailboxLemmas.{has_numbers-borrows, has_numbers-data}
@@ -283,89 +283,71 @@ module _ {T U : Type 0} where
   failure_warning_advances s warning None = advances_refl s
   failure_warning_advances s warning (Some failure) = record { config = refl; next_port = omega arith; next_message = omega arith }
 
-  make_publisher_keeps : (environment : Environment) (s : State T U) (given : PublisherSettings) (place : ℕ)
-      (s' : State T U) (refusal : Option PublisherCreateError)
-      → IsWellFormed s → place < (s.config).max_publishers → occupant s.publisher_places place ≡ None → MakePublisher environment s given place s' refusal
+  make_publisher_keeps : (environment : Environment) (s : State T U) (given : PublisherSettings) (place : ℕ) (s' : State T U)
+      → IsWellFormed s → place < (s.config).max_publishers → occupant s.publisher_places place ≡ None → FirstPublisherUpdate environment (with_new_publisher s given place) s.next_port s'
       → IsWellFormed s'
-  make_publisher_keeps environment s given place s' None w low free h =
+  make_publisher_keeps environment s given place s' w low free h =
       subst IsWellFormed (sym h.3) (failure_warning_keeps h.0
       (update_publisher_keeps environment (with_new_publisher s given place) s.next_port h.0 h.1
       (new_publisher_keeps s w given place low free) (new_publisher_unblocked s given place) h.2)
       (PublisherPartlyConnected s.next_port) h.1)
-  make_publisher_keeps environment s given place s' (Some e) w low free h = subst IsWellFormed (sym h.1) w
 
-  make_publisher_advances : (environment : Environment) (s : State T U) (given : PublisherSettings) (place : ℕ)
-      (s' : State T U) (refusal : Option PublisherCreateError)
-      → MakePublisher environment s given place s' refusal → Advances s s'
-  make_publisher_advances environment s given place s' None h =
+  make_publisher_advances : (environment : Environment) (s : State T U) (given : PublisherSettings) (place : ℕ) (s' : State T U)
+      → FirstPublisherUpdate environment (with_new_publisher s given place) s.next_port s' → Advances s s'
+  make_publisher_advances environment s given place s' h =
       subst (Advances s) (sym h.3) (advances_trans s h.0 (with_failure_warning h.0 (PublisherPartlyConnected s.next_port) h.1)
       (advances_trans s (with_new_publisher s given place) h.0 (record { config = refl; next_port = omega arith; next_message = omega arith })
       (update_publisher_advances environment (with_new_publisher s given place) s.next_port h.0 h.1 h.2))
       (failure_warning_advances h.0 (PublisherPartlyConnected s.next_port) h.1))
-  make_publisher_advances environment s given place s' (Some e) h = advances_same s s' h.1
 
-  make_subscriber_keeps : (environment : Environment) (s : State T U) (given : SubscriberSettings) (place : ℕ)
-      (s' : State T U) (refusal : Option SubscriberCreateError)
+  make_subscriber_keeps : (environment : Environment) (s : State T U) (given : SubscriberSettings) (place : ℕ) (s' : State T U)
       → IsWellFormed s → buffer_for given ≤ buffer_limit s.config → place < (s.config).max_subscribers → occupant s.subscriber_places place ≡ None
-      → MakeSubscriber environment s given place s' refusal → IsWellFormed s'
-  make_subscriber_keeps environment s given place s' None w fits low free h =
+      → FirstSubscriberUpdate environment (with_new_subscriber s given place) s.next_port s' → IsWellFormed s'
+  make_subscriber_keeps environment s given place s' w fits low free h =
       subst IsWellFormed (sym h.3) (failure_warning_keeps h.0
       (update_subscriber_keeps environment (with_new_subscriber s given place) s.next_port h.0 h.1 (new_subscriber_keeps s w given place fits low free) h.2)
       (SubscriberPartlyConnected s.next_port) h.1)
-  make_subscriber_keeps environment s given place s' (Some e) w fits low free h = subst IsWellFormed (sym h.1) w
 
-  make_subscriber_advances : (environment : Environment) (s : State T U) (given : SubscriberSettings) (place : ℕ)
-      (s' : State T U) (refusal : Option SubscriberCreateError)
-      → MakeSubscriber environment s given place s' refusal → Advances s s'
-  make_subscriber_advances environment s given place s' None h =
+  make_subscriber_advances : (environment : Environment) (s : State T U) (given : SubscriberSettings) (place : ℕ) (s' : State T U)
+      → FirstSubscriberUpdate environment (with_new_subscriber s given place) s.next_port s' → Advances s s'
+  make_subscriber_advances environment s given place s' h =
       subst (Advances s) (sym h.3) (advances_trans s h.0 (with_failure_warning h.0 (SubscriberPartlyConnected s.next_port) h.1)
       (advances_trans s (with_new_subscriber s given place) h.0 (record { config = refl; next_port = omega arith; next_message = omega arith })
       (update_subscriber_advances environment (with_new_subscriber s given place) s.next_port h.0 h.1 h.2))
       (failure_warning_advances h.0 (SubscriberPartlyConnected s.next_port) h.1))
-  make_subscriber_advances environment s given place s' (Some e) h = advances_same s s' h.1
 
 -- A publisher that is made, or refused, leaves the state well-formed.
 pub create_publisher_keeps : {T U : Type 0} (environment : Environment) (s : State T U) (given : PublisherSettings)
     (s' : State T U) (refusal : Option PublisherCreateError)
     → IsWellFormed s → CreatePublisher environment s given s' refusal → IsWellFormed s'
 create_publisher_keeps environment s given s' refusal w h =
-    by_bool (IsWellFormed s') (eqb s.next_port last_number) _ _ h (λ _ h. subst IsWellFormed (sym h.0) w) (λ _ h.
-    by_option (IsWellFormed s') (free_place (s.config).max_publishers s.publisher_places) _ _ h (λ _ h. subst IsWellFormed (sym h.0) w) (λ place e h.
+    publisher_cases environment s given s' (IsWellFormed s') refusal h (λ e same _. subst IsWellFormed (sym same) w) (λ place makes.
     let found : (place < (s.config).max_publishers) × (occupant s.publisher_places place ≡ None) =
-    free_place_is (s.config).max_publishers s.publisher_places place e in
-    by_bool (IsWellFormed s') (first_segment_fits s.config given) _ _ h
-    (λ _ h. make_publisher_keeps environment s given place s' refusal w found.0 found.1 h)
-    (λ _ h. subst IsWellFormed (sym h.0) w)))
+    free_place_is (s.config).max_publishers s.publisher_places place makes.0 in
+    make_publisher_keeps environment s given place s' w found.0 found.1 makes.2)
 
 -- A publisher that is made, or refused, lets no counter fall.
 pub create_publisher_advances : {T U : Type 0} (environment : Environment) (s : State T U) (given : PublisherSettings)
     (s' : State T U) (refusal : Option PublisherCreateError)
     → CreatePublisher environment s given s' refusal → Advances s s'
 create_publisher_advances environment s given s' refusal h =
-    by_bool (Advances s s') (eqb s.next_port last_number) _ _ h (λ _ h. advances_same s s' h.0) (λ _ h.
-    by_option (Advances s s') (free_place (s.config).max_publishers s.publisher_places) _ _ h (λ _ h. advances_same s s' h.0) (λ place e h.
-    by_bool (Advances s s') (first_segment_fits s.config given) _ _ h
-    (λ _ h. make_publisher_advances environment s given place s' refusal h)
-    (λ _ h. advances_same s s' h.0)))
+    publisher_cases environment s given s' (Advances s s') refusal h (λ e same _. advances_same s s' same)
+    (λ place makes. make_publisher_advances environment s given place s' makes.2)
 
 -- A subscriber that is made, or refused, leaves the state well-formed.
 pub create_subscriber_keeps : {T U : Type 0} (environment : Environment) (s : State T U) (given : SubscriberSettings)
     (s' : State T U) (refusal : Option SubscriberCreateError)
     → IsWellFormed s → CreateSubscriber environment s given s' refusal → IsWellFormed s'
 create_subscriber_keeps environment s given s' refusal w h =
-    by_bool (IsWellFormed s') (eqb s.next_port last_number) _ _ h (λ _ h. subst IsWellFormed (sym h.0) w) (λ _ h.
-    by_bool (IsWellFormed s') (ltb (buffer_limit s.config) (buffer_for given)) _ _ h (λ _ h. subst IsWellFormed (sym h.0) w) (λ fits h.
-    by_option (IsWellFormed s') (free_place (s.config).max_subscribers s.subscriber_places) _ _ h (λ _ h. subst IsWellFormed (sym h.0) w) (λ place e h.
+    subscriber_cases environment s given s' (IsWellFormed s') refusal h (λ e same _. subst IsWellFormed (sym same) w) (λ place makes.
     let found : (place < (s.config).max_subscribers) × (occupant s.subscriber_places place ≡ None) =
-    free_place_is (s.config).max_subscribers s.subscriber_places place e in
-    make_subscriber_keeps environment s given place s' refusal w (ltb-false _ _ fits) found.0 found.1 h)))
+    free_place_is (s.config).max_subscribers s.subscriber_places place makes.0 in
+    make_subscriber_keeps environment s given place s' w (ltb-false _ _ makes.1) found.0 found.1 makes.3)
 
 -- A subscriber that is made, or refused, lets no counter fall.
 pub create_subscriber_advances : {T U : Type 0} (environment : Environment) (s : State T U) (given : SubscriberSettings)
     (s' : State T U) (refusal : Option SubscriberCreateError)
     → CreateSubscriber environment s given s' refusal → Advances s s'
 create_subscriber_advances environment s given s' refusal h =
-    by_bool (Advances s s') (eqb s.next_port last_number) _ _ h (λ _ h. advances_same s s' h.0) (λ _ h.
-    by_bool (Advances s s') (ltb (buffer_limit s.config) (buffer_for given)) _ _ h (λ _ h. advances_same s s' h.0) (λ _ h.
-    by_option (Advances s s') (free_place (s.config).max_subscribers s.subscriber_places) _ _ h (λ _ h. advances_same s s' h.0) (λ place e h.
-    make_subscriber_advances environment s given place s' refusal h)))
+    subscriber_cases environment s given s' (Advances s s') refusal h (λ e same _. advances_same s s' same)
+    (λ place makes. make_subscriber_advances environment s given place s' makes.3)

@@ -1,29 +1,28 @@
 -- Each operation but a close leaves ports there, and each but a receive and a release leaves borrowed what is, and nothing else.
 use Rattle.std.proofs.Common.{◌≡◌, ℕ, Bool, true, false, List, [], ◌∷◌, ◌++◌, refl, sym, ap, subst, ◌∙◌, Option, None, Some}
-use Rattle.std.specs.Prelude.{max, ◌==◌, nat_lt}
+use Rattle.std.specs.Prelude.{max}
 use Rattle.std.specs.Option.{option_map}
 use Rattle.std.proofs.lemmas.Option.{same_Some}
-use Rattle.iox2_store.specs.machine.Limits.{last_number, buffer_limit, expired_limit}
-use Rattle.iox2_store.specs.machine.Numbers.{put_at, without, size, last_n}
-use Rattle.iox2_store.specs.machine.Places.{free_place}
+use Rattle.iox2_store.specs.machine.Limits.{expired_limit}
+use Rattle.iox2_store.specs.machine.Numbers.{put_at, without, last_n}
 use Rattle.iox2_store.specs.machine.Mailbox.{Mailbox}
 use Rattle.iox2_store.specs.machine.Records.{Loan, Publisher, Subscriber, Environment, PublisherSettings, SubscriberSettings}
-use Rattle.iox2_store.specs.machine.State.{State, held, receiving_buffer, has_receiver_end, has_sender_end, with_loan, publisher_changed}
+use Rattle.iox2_store.specs.machine.State.{State, receiving_buffer, has_receiver_end, has_sender_end, with_loan, publisher_changed}
 use Rattle.iox2_store.specs.machine.Delivery.{DeliveryEnd, Complete, Suspended, no_time}
 use Rattle.iox2_store.specs.machine.PublisherUpdate.{sender_side, UpdatePublisher}
 use Rattle.iox2_store.specs.machine.SubscriberUpdate.{receiver_side, UpdateSubscriber}
-use Rattle.iox2_store.specs.machine.Loans.{GrantLoan, StaticLoan, DynamicLoan, limit_error, is_static, loan_granted, loan_discarded}
+use Rattle.iox2_store.specs.machine.Loans.{GrantLoan, loan_granted, loan_discarded}
 use Rattle.iox2_store.specs.machine.Sends.{Send, Publish, DeliverAndConclude, ConcludeSend, SendResult, Blocked_send, with_mailboxes, published}
-use Rattle.iox2_store.specs.machine.Ports.{CreatePublisher, CreateSubscriber, MakePublisher, MakeSubscriber, with_new_publisher, with_new_subscriber, new_publisher, new_subscriber, with_failure_warning, first_segment_fits, buffer_for}
+use Rattle.iox2_store.specs.machine.Ports.{CreatePublisher, CreateSubscriber, FirstPublisherUpdate, FirstSubscriberUpdate, with_new_publisher, with_new_subscriber, new_publisher, new_subscriber, with_failure_warning}
 use Rattle.std.specs.declared.time.Duration.{Duration}
 use Rattle.iox2_store.specs.declared.errors.ConnectionFailure.{ConnectionFailure}
 use Rattle.iox2_store.specs.declared.errors.LoanError.{LoanError}
-use Rattle.iox2_store.specs.declared.errors.LoanError.TheVariants.{OutOfMemory, ExceedsMaxLoans, ExceedsMaxLoanSize, InternalFailure}
 use Rattle.iox2_store.specs.declared.errors.PublisherCreateError.{PublisherCreateError}
 use Rattle.iox2_store.specs.declared.errors.SubscriberCreateError.{SubscriberCreateError}
 use Rattle.iox2_store.specs.declared.warning.Warning.{Warning}
 use Rattle.iox2_store.specs.declared.warning.Warning.TheVariants.{PublisherPartlyConnected, SubscriberPartlyConnected}
 use Rattle.iox2_laws.proofs.Cases.{by_option, by_bool}
+use Rattle.iox2_laws.proofs.CallCases.{grant_cases, publisher_cases, subscriber_cases}
 use Rattle.iox2_laws.proofs.Puts.{at_each}
 use Rattle.iox2_laws.proofs.MailboxWalks.{sender_side_keeps, receiver_side_keeps, deliver_keeps}
 
@@ -77,6 +76,10 @@ module _ {T U : Type 0} where
     };
     borrowed = λ p q. b.borrowed p q ∙ a.borrowed p q;
   }
+
+  -- the state is the same
+  same_stays : (s s' : State T U) → s' ≡ s → PortsStay s s'
+  same_stays s s' e = subst (PortsStay s) (sym e) (ports_stay_themselves s)
 
   -- ---- updates
 
@@ -148,36 +151,20 @@ module _ {T U : Type 0} where
   pub create_publisher_stays : (environment : Environment) (s : State T U) (given : PublisherSettings) (s' : State T U) (refusal : Option PublisherCreateError)
       → CreatePublisher environment s given s' refusal → PortsStay s s'
   create_publisher_stays environment s given s' refusal h =
-      by_bool (PortsStay s s') (s.next_port == last_number) _ _ h (λ _ k. same k.0) (λ _ k.
-      by_option (PortsStay s s') (free_place (s.config).max_publishers s.publisher_places) _ _ k (λ _ j. same j.0) (λ place _ j.
-      by_bool (PortsStay s s') (first_segment_fits s.config given) _ _ j (λ _ i. made place refusal i) (λ _ i. same i.0)))
-    where
-      same : s' ≡ s → PortsStay s s'
-      same e = subst (PortsStay s) (sym e) (ports_stay_themselves s)
-
-      made : (place : ℕ) (refusal : Option PublisherCreateError) → MakePublisher environment s given place s' refusal → PortsStay s s'
-      made place None h =
-          let new : State T U = with_new_publisher s given place in
-          subst (PortsStay s) (sym h.3) (ports_stay_trans s new _ (new_publisher_stays s given place)
-          (ports_stay_trans new h.0 _ (update_publisher_stays environment new s.next_port h.0 h.1 h.2) (warning_stays h.0 (PublisherPartlyConnected s.next_port) h.1)))
-      made place (Some e) h = same h.1
+      publisher_cases environment s given s' (PortsStay s s') refusal h (λ e same _. same_stays s s' same) (λ place makes.
+      let new : State T U = with_new_publisher s given place in
+      let first : FirstPublisherUpdate environment new s.next_port s' = makes.2 in
+      subst (PortsStay s) (sym first.3) (ports_stay_trans s new _ (new_publisher_stays s given place)
+      (ports_stay_trans new first.0 _ (update_publisher_stays environment new s.next_port first.0 first.1 first.2) (warning_stays first.0 (PublisherPartlyConnected s.next_port) first.1))))
 
   pub create_subscriber_stays : (environment : Environment) (s : State T U) (given : SubscriberSettings) (s' : State T U) (refusal : Option SubscriberCreateError)
       → CreateSubscriber environment s given s' refusal → PortsStay s s'
   create_subscriber_stays environment s given s' refusal h =
-      by_bool (PortsStay s s') (s.next_port == last_number) _ _ h (λ _ k. same k.0) (λ _ k.
-      by_bool (PortsStay s s') (nat_lt (buffer_limit s.config) (buffer_for given)) _ _ k (λ _ j. same j.0) (λ _ j.
-      by_option (PortsStay s s') (free_place (s.config).max_subscribers s.subscriber_places) _ _ j (λ _ i. same i.0) (λ place _ i. made place refusal i)))
-    where
-      same : s' ≡ s → PortsStay s s'
-      same e = subst (PortsStay s) (sym e) (ports_stay_themselves s)
-
-      made : (place : ℕ) (refusal : Option SubscriberCreateError) → MakeSubscriber environment s given place s' refusal → PortsStay s s'
-      made place None h =
-          let new : State T U = with_new_subscriber s given place in
-          subst (PortsStay s) (sym h.3) (ports_stay_trans s new _ (new_subscriber_stays s given place)
-          (ports_stay_trans new h.0 _ (update_subscriber_stays environment new s.next_port h.0 h.1 h.2) (warning_stays h.0 (SubscriberPartlyConnected s.next_port) h.1)))
-      made place (Some e) h = same h.1
+      subscriber_cases environment s given s' (PortsStay s s') refusal h (λ e same _. same_stays s s' same) (λ place makes.
+      let new : State T U = with_new_subscriber s given place in
+      let first : FirstSubscriberUpdate environment new s.next_port s' = makes.3 in
+      subst (PortsStay s) (sym first.3) (ports_stay_trans s new _ (new_subscriber_stays s given place)
+      (ports_stay_trans new first.0 _ (update_subscriber_stays environment new s.next_port first.0 first.1 first.2) (warning_stays first.0 (SubscriberPartlyConnected s.next_port) first.1))))
 
   -- ---- loans
 
@@ -258,26 +245,8 @@ module _ {T U : Type 0} where
 
   -- ---- a loan is asked for
 
-  static_stays : (default_header : U) (s : State T U) (p : ℕ) (x : Publisher) → s.publishers p ≡ Some x → (len : ℕ) (s' : State T U) (refusal : Option LoanError)
-      → StaticLoan default_header s p x len s' refusal → PortsStay s s'
-  static_stays default_header s p x present len s' refusal h =
-      by_bool (PortsStay s s') (size (held s p x) == x.slots) _ _ h (λ _ k. subst (PortsStay s) (sym k.0) (ports_stay_themselves s)) (λ _ k.
-      by_bool (PortsStay s s') (s.next_message == last_number) _ _ k (λ _ j. subst (PortsStay s) (sym j.0) (ports_stay_themselves s))
-      (λ _ j. subst (PortsStay s) (sym j.0) (granted_stays default_header s p x present len x.segments)))
-
-  dynamic_stays : (environment : Environment) (default_header : U) (s : State T U) (p : ℕ) (x : Publisher) → s.publishers p ≡ Some x → (len : ℕ) (s' : State T U) (refusal : Option LoanError)
-      → DynamicLoan environment default_header s p x len s' refusal → PortsStay s s'
-  dynamic_stays environment default_header s p x present len s' None h = subst (PortsStay s) (sym h.4) (granted_stays default_header s p x present len h.2)
-  dynamic_stays environment default_header s p x present len s' (Some OutOfMemory) h = subst (PortsStay s) (sym h.0) (ports_stay_themselves s)
-  dynamic_stays environment default_header s p x present len s' (Some InternalFailure) h = subst (PortsStay s) (sym h.0) (ports_stay_themselves s)
-  dynamic_stays environment default_header s p x present len s' (Some ExceedsMaxLoans) h = absurd h
-  dynamic_stays environment default_header s p x present len s' (Some ExceedsMaxLoanSize) h = absurd h
-
   pub grant_loan_stays : (environment : Environment) (default_header : U) (checks_length : Bool) (len : ℕ) (s : State T U) (p : ℕ) (s' : State T U) (refusal : Option LoanError)
       → GrantLoan environment default_header checks_length len s p s' refusal → PortsStay s s'
   grant_loan_stays environment default_header checks_length len s p s' refusal h =
-      by_option (PortsStay s s') (s.publishers p) _ _ h (λ _ v. absurd v) (λ x present k.
-      by_option (PortsStay s s') (limit_error checks_length x len) _ _ k
-      (λ _ j. by_bool (PortsStay s s') (is_static x.allocation_strategy) _ _ j
-      (λ _ i. static_stays default_header s p x present len s' refusal i) (λ _ i. dynamic_stays environment default_header s p x present len s' refusal i))
-      (λ limit _ j. subst (PortsStay s) (sym j.0) (ports_stay_themselves s)))
+      grant_cases environment default_header checks_length len s p s' (PortsStay s s') refusal h (λ e same _. same_stays s s' same)
+      (λ x present grants. subst (PortsStay s) (sym grants.4) (granted_stays default_header s p x present len grants.0))

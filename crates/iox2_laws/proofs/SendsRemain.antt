@@ -3,19 +3,16 @@
 use Rattle.std.proofs.Common.{◌≡◌, ℕ, ◌+◌, ◌||◌, Bool, true, false, List, cond, [], ◌∷◌, ◌++◌, drop, refl, sym, ap, subst, ◌∙◌, arith, Option, None, Some}
 use Rattle.std.specs.Option.{option_map}
 use Rattle.std.specs.declared.time.Duration.{Duration}
-use Rattle.std.proofs.lemmas.Option.{same_Some}
+use Rattle.std.proofs.lemmas.Option.{none-some, same_Some}
 use Rattle.iox2_store.specs.machine.Numbers.{without, last_n}
 use Rattle.iox2_store.specs.machine.Mailbox.{Mailbox}
 use Rattle.iox2_store.specs.machine.Records.{Loan, Publisher, PublisherSettings, Subscriber, Environment, BlockedSend, Handler}
-use Rattle.iox2_store.specs.machine.Limits.{last_number}
-use Rattle.iox2_store.specs.machine.Places.{free_place}
-use Rattle.iox2_store.specs.machine.Ports.{CreatePublisher, MakePublisher, with_new_publisher, new_publisher, with_failure_warning, first_segment_fits}
+use Rattle.iox2_store.specs.machine.Ports.{CreatePublisher, FirstPublisherUpdate, with_new_publisher, new_publisher, with_failure_warning}
 use Rattle.iox2_store.specs.machine.PublisherUpdate.{UpdatePublisher}
 use Rattle.iox2_store.specs.declared.errors.ConnectionFailure.{ConnectionFailure}
 use Rattle.iox2_store.specs.declared.warning.Warning.TheVariants.{PublisherPartlyConnected}
 use Rattle.iox2_laws.proofs.PublisherUpdates.{update_publisher_leaves}
 use Rattle.iox2_laws.proofs.Waits.{update_publisher_waits}
-use Rattle.std.specs.Prelude.{◌==◌}
 use Rattle.iox2_store.specs.machine.State.{State, receiving_buffer, with_loan, publisher_changed}
 use Rattle.iox2_store.specs.machine.Delivery.{Deliver, DeliveryEnd, Complete, Suspended, accepted_count, is_failed, is_blocking, no_time}
 use Rattle.iox2_store.specs.machine.Sends.{Send, Publish, Retry, GiveUp, DeliverAndConclude, ConcludeSend, SendResult, Blocked_send, Delivered_to, Send_error, with_mailboxes, published, more_retries}
@@ -25,6 +22,7 @@ use Rattle.iox2_store.specs.declared.backpressure.BackpressureAction.{Backpressu
 use Rattle.iox2_store.specs.declared.errors.SendError.TheVariants.{UnableToDeliver}
 use Rattle.iox2_store.specs.declared.service_config.ServiceConfig.{ServiceConfig}
 use Rattle.iox2_laws.proofs.Cases.{by_option, by_bool}
+use Rattle.iox2_laws.proofs.CallCases.{publisher_cases}
 use Rattle.iox2_laws.proofs.MailboxWalks.{deliver_keeps}
 use Rattle.iox2_laws.proofs.PortsStay.{PortsStay, update_publisher_stays, loan_set_stays, loan_discarded_stays}
 use Rattle.iox2_laws.proofs.Puts.{at_each, put_at-same}
@@ -210,14 +208,12 @@ module _ {T U : Type 0} where
   pub created_as : (environment : Environment) (s : State T U) (given : PublisherSettings) (s' : State T U) → CreatePublisher environment s given s' None
       → (x : Publisher) × (s'.publishers s.next_port ≡ Some x) × (x.backpressure_strategy ≡ given.backpressure_strategy) × (x.backpressure_handler ≡ given.backpressure_handler) × (x.blocked ≡ None) × (x.degradation_handler ≡ given.degradation_handler)
   created_as environment s given s' h =
-      by_bool (Made s') (s.next_port == last_number) _ _ h (λ _ k. let no : None ≡ Some _ = k.1 in absurd cc) (λ _ k.
-      by_option (Made s') (free_place (s.config).max_publishers s.publisher_places) _ _ k (λ _ j. let no : None ≡ Some _ = j.1 in absurd cc) (λ place _ j.
-      by_bool (Made s') (first_segment_fits s.config given) _ _ j (λ _ i. made place i) (λ _ i. let no : None ≡ Some _ = i.1 in absurd cc)))
+      publisher_cases environment s given s' (Made s') None h (λ e _ some. absurd (none-some e some)) (λ place makes. made place makes.2)
     where
       Made : State T U → Type 0
       Made t = (x : Publisher) × (t.publishers s.next_port ≡ Some x) × (x.backpressure_strategy ≡ given.backpressure_strategy) × (x.backpressure_handler ≡ given.backpressure_handler) × (x.blocked ≡ None) × (x.degradation_handler ≡ given.degradation_handler)
 
-      made : (place : ℕ) → MakePublisher environment s given place s' None → Made s'
+      made : (place : ℕ) → FirstPublisherUpdate environment (with_new_publisher s given place) s.next_port s' → Made s'
       made place h =
           let new : State T U = with_new_publisher s given place in
           let left = update_publisher_leaves environment new s.next_port h.0 h.1 (new_publisher s given place) (put_at-same s.publishers s.next_port (Some (new_publisher s given place))) h.2 in

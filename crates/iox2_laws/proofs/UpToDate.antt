@@ -1,22 +1,18 @@
 -- Subscribers that aren't due for an update, and which operations leave them so.
 use Rattle.std.proofs.Common.{◌≡◌, ℕ, suc, ◌+◌, List, drop, Bool, true, false, cond, not, ◌&&◌, refl, sym, ap, subst, ◌∙◌, arith, ◌<◌, Option, None, Some, inl, inr}
-use Rattle.std.specs.Prelude.{◌==◌, nat_lt}
 use Rattle.std.specs.List.{list_all}
 use Rattle.std.specs.declared.time.Duration.{Duration}
 use Rattle.std.specs.Option.{option_map, option_map_or}
 use Rattle.std.proofs.lemmas.Bool.{true≢false, cases_eq, ne_eqb}
 use Rattle.std.proofs.lemmas.Option.{same_Some}
-use Rattle.iox2_store.specs.machine.Limits.{last_number, buffer_limit}
-use Rattle.iox2_store.specs.machine.Numbers.{size}
-use Rattle.iox2_store.specs.machine.Places.{free_place}
 use Rattle.iox2_store.specs.machine.Mailbox.{has_borrows}
-use Rattle.iox2_store.specs.machine.Records.{Loan, Publisher, Subscriber, BlockedSend, Environment, SubscriberSettings}
-use Rattle.iox2_store.specs.machine.State.{State, held, connected_publishers}
+use Rattle.iox2_store.specs.machine.Records.{Loan, Subscriber, BlockedSend, Environment, SubscriberSettings}
+use Rattle.iox2_store.specs.machine.State.{State, connected_publishers}
 use Rattle.iox2_store.specs.machine.Delivery.{DeliveryEnd, Complete, Suspended, no_time}
 use Rattle.iox2_store.specs.machine.PublisherUpdate.{UpdatePublisher}
 use Rattle.iox2_store.specs.machine.SubscriberUpdate.{UpdateSubscriber}
-use Rattle.iox2_store.specs.machine.Loans.{GrantLoan, StaticLoan, DynamicLoan, limit_error, is_static}
-use Rattle.iox2_store.specs.machine.Ports.{CreateSubscriber, MakeSubscriber, with_new_subscriber, new_subscriber, with_failure_warning, buffer_for}
+use Rattle.iox2_store.specs.machine.Loans.{GrantLoan}
+use Rattle.iox2_store.specs.machine.Ports.{CreateSubscriber, FirstSubscriberUpdate, with_new_subscriber, new_subscriber, with_failure_warning}
 use Rattle.iox2_store.specs.machine.Receives.{ReceiveResult, Got_sample, No_sample, Receive_error, TakeSample, Receive}
 use Rattle.iox2_store.specs.machine.Releases.{pruned, is_unused, place_freed, unborrowed, subscriber_pruned, released}
 use Rattle.iox2_store.specs.machine.Sends.{Send, Retry, GiveUp, DeliverAndConclude, ConcludeSend, SendResult, more_retries, published, with_mailboxes}
@@ -24,11 +20,11 @@ use Rattle.iox2_store.specs.machine.Waiting.{waiting_for}
 use Rattle.iox2_store.specs.machine.WellFormed.{IsWellFormed}
 use Rattle.iox2_store.specs.declared.errors.ConnectionFailure.{ConnectionFailure}
 use Rattle.iox2_store.specs.declared.errors.LoanError.{LoanError}
-use Rattle.iox2_store.specs.declared.errors.LoanError.TheVariants.{OutOfMemory, ExceedsMaxLoans, ExceedsMaxLoanSize, InternalFailure}
 use Rattle.iox2_store.specs.declared.errors.ReceiveError.{ReceiveError}
 use Rattle.iox2_store.specs.declared.errors.SubscriberCreateError.{SubscriberCreateError}
 use Rattle.iox2_store.specs.declared.warning.Warning.TheVariants.{SubscriberPartlyConnected}
 use Rattle.iox2_laws.proofs.Cases.{by_option, by_bool}
+use Rattle.iox2_laws.proofs.CallCases.{grant_cases, subscriber_cases}
 use Rattle.iox2_laws.proofs.Puts.{put_at-other, at_each}
 use Rattle.iox2_laws.proofs.PortsStay.{update_subscriber_stays}
 use Rattle.iox2_laws.proofs.WaitingReceives.{update_subscriber_updates, take_waits}
@@ -50,30 +46,11 @@ module _ {T U : Type 0} where
 
   -- ---- loans
 
-  dynamic_subscribers : (environment : Environment) (default_header : U) (s : State T U) (p : ℕ) (x : Publisher) (len : ℕ) (s' : State T U) (refusal : Option LoanError)
-      → DynamicLoan environment default_header s p x len s' refusal → s'.subscribers ≡ s.subscribers
-  dynamic_subscribers environment default_header s p x len s' None h = ap (λ (t : State T U). t.subscribers) h.4
-  dynamic_subscribers environment default_header s p x len s' (Some OutOfMemory) h = stay_same s s' h.0
-  dynamic_subscribers environment default_header s p x len s' (Some InternalFailure) h = stay_same s s' h.0
-  dynamic_subscribers environment default_header s p x len s' (Some ExceedsMaxLoans) h = absurd h
-  dynamic_subscribers environment default_header s p x len s' (Some ExceedsMaxLoanSize) h = absurd h
-
   pub grant_loan_subscribers : (environment : Environment) (default_header : U) (checks_length : Bool) (len : ℕ) (s : State T U) (p : ℕ) (s' : State T U) (refusal : Option LoanError)
       → GrantLoan environment default_header checks_length len s p s' refusal → s'.subscribers ≡ s.subscribers
   grant_loan_subscribers environment default_header checks_length len s p s' refusal h =
-      by_option Same (s.publishers p) _ _ h (λ _ v. absurd v) (λ x _ k.
-      by_option Same (limit_error checks_length x len) _ _ k
-      (λ _ j. by_bool Same (is_static x.allocation_strategy) _ _ j
-      (λ _ i. static x i) (λ _ i. dynamic_subscribers environment default_header s p x len s' refusal i))
-      (λ limit _ j. stay_same s s' j.0))
-    where
-      Same : Type 0
-      Same = s'.subscribers ≡ s.subscribers
-
-      static : (x : Publisher) → StaticLoan default_header s p x len s' refusal → Same
-      static x h =
-          by_bool Same (size (held s p x) == x.slots) _ _ h (λ _ k. stay_same s s' k.0) (λ _ k.
-          by_bool Same (s.next_message == last_number) _ _ k (λ _ j. stay_same s s' j.0) (λ _ j. ap (λ (t : State T U). t.subscribers) j.0))
+      grant_cases environment default_header checks_length len s p s' (s'.subscribers ≡ s.subscribers) refusal h (λ e same _. stay_same s s' same)
+      (λ x present grants. ap (λ (t : State T U). t.subscribers) grants.4)
 
   -- ---- sends
 
@@ -206,21 +183,14 @@ module _ {T U : Type 0} where
   pub create_subscriber_updated : (environment : Environment) (s : State T U) → IsWellFormed s → (given : SubscriberSettings) (s' : State T U) (refusal : Option SubscriberCreateError)
       → CreateSubscriber environment s given s' refusal → UpdatedStay s s'
   create_subscriber_updated environment s w given s' refusal h i is =
-      by_bool (IsUpdated s' i) (s.next_port == last_number) _ _ h (λ _ k. same k.0) (λ _ k.
-      by_bool (IsUpdated s' i) (nat_lt (buffer_limit s.config) (buffer_for given)) _ _ k (λ _ j. same j.0) (λ _ j.
-      by_option (IsUpdated s' i) (free_place (s.config).max_subscribers s.subscriber_places) _ _ j (λ _ m. same m.0) (λ place _ m. made place refusal m)))
+      subscriber_cases environment s given s' (IsUpdated s' i) refusal h (λ e same _. same_subscribers s s' (stay_same s s' same) i is) (λ place makes.
+      let new : State T U = with_new_subscriber s given place in
+      let first : FirstSubscriberUpdate environment new s.next_port s' = makes.3 in
+      let low : i < s.next_port = (w.subscribers i is.0 is.1).is_known in
+      let there : IsUpdated new i = (is.0, put_at-other s.subscribers s.next_port (Some (new_subscriber given place)) i (ne_eqb i s.next_port (λ here. omega arith)) ∙ is.1, is.2, is.3) in
+      same_subscribers first.0 s' (ap (λ (t : State T U). t.subscribers) first.3 ∙ warned_subscribers first.0 first.1) i
+      (update_subscriber_updated environment new s.next_port first.0 first.1 first.2 i there))
     where
-      same : s' ≡ s → IsUpdated s' i
-      same e = same_subscribers s s' (stay_same s s' e) i is
-
       warned_subscribers : (t : State T U) (failure : Option ConnectionFailure) → (with_failure_warning t (SubscriberPartlyConnected s.next_port) failure).subscribers ≡ t.subscribers
       warned_subscribers t None = refl
       warned_subscribers t (Some failure) = refl
-
-      made : (place : ℕ) (r : Option SubscriberCreateError) → MakeSubscriber environment s given place s' r → IsUpdated s' i
-      made place (Some e) h = same h.1
-      made place None h =
-          let new : State T U = with_new_subscriber s given place in
-          let low : i < s.next_port = (w.subscribers i is.0 is.1).is_known in
-          let first : IsUpdated new i = (is.0, put_at-other s.subscribers s.next_port (Some (new_subscriber given place)) i (ne_eqb i s.next_port (λ here. omega arith)) ∙ is.1, is.2, is.3) in
-          same_subscribers h.0 s' (ap (λ (t : State T U). t.subscribers) h.3 ∙ warned_subscribers h.0 h.1) i (update_subscriber_updated environment new s.next_port h.0 h.1 h.2 i first)

@@ -1,21 +1,19 @@
 -- What the creation of a subscriber does to the number of messages that wait.
 use Rattle.std.proofs.Common.{◌≡◌, ℕ, suc, ◌+◌, ◌≤◌, ◌<◌, true, List, [], ◌∷◌, length, refl, sym, ap, subst, ◌∙◌, arith, Option, None, Some, inl, inr}
-use Rattle.std.specs.Prelude.{not, ◌&&◌, ◌≢◌, ◌==◌, nat_lt}
+use Rattle.std.specs.Prelude.{not, ◌&&◌, ◌≢◌}
 use Rattle.std.proofs.lemmas.Bool.{cases_eq, ne_eqb}
 use Rattle.std.proofs.lemmas.Option.{none-some}
-use Rattle.iox2_store.specs.machine.Limits.{last_number, buffer_limit}
 use Rattle.iox2_store.specs.machine.Numbers.{is_nil}
-use Rattle.iox2_store.specs.machine.Places.{free_place}
 use Rattle.iox2_store.specs.machine.Mailbox.{Mailbox, has_numbers, waiting_count}
 use Rattle.iox2_store.specs.machine.Records.{Environment, SubscriberSettings}
 use Rattle.iox2_store.specs.machine.State.{State}
-use Rattle.iox2_store.specs.machine.Ports.{CreateSubscriber, MakeSubscriber, with_new_subscriber, new_subscriber, with_failure_warning, buffer_for}
+use Rattle.iox2_store.specs.machine.Ports.{CreateSubscriber, FirstSubscriberUpdate, with_new_subscriber, new_subscriber, with_failure_warning}
 use Rattle.iox2_store.specs.machine.Waiting.{waiting_from}
 use Rattle.iox2_store.specs.machine.WellFormed.{IsWellFormed}
 use Rattle.iox2_store.specs.declared.errors.ConnectionFailure.{ConnectionFailure}
 use Rattle.iox2_store.specs.declared.errors.SubscriberCreateError.{SubscriberCreateError}
 use Rattle.iox2_store.specs.declared.warning.Warning.TheVariants.{SubscriberPartlyConnected}
-use Rattle.iox2_laws.proofs.Cases.{by_option, by_bool}
+use Rattle.iox2_laws.proofs.CallCases.{subscriber_cases}
 use Rattle.iox2_laws.proofs.Puts.{put_at-other}
 use Rattle.iox2_laws.proofs.WaitingCounts.{SameWaits, same_itself, cond_le, same_from}
 use Rattle.iox2_laws.proofs.WaitingReceives.{UpdateWaits, update_subscriber_waits}
@@ -49,9 +47,7 @@ module _ {T U : Type 0} (s : State T U) (w : IsWellFormed s) where
     pub create_subscriber_waits : (refusal : Option SubscriberCreateError) → CreateSubscriber environment s given s' refusal
         → (refusal ≡ None → NewWaits s') × ((e : SubscriberCreateError) → refusal ≡ Some e → SameWaits s s')
     create_subscriber_waits refusal h =
-        by_bool Result (s.next_port == last_number) _ _ h (λ _ k. refused _ k.0 k.1) (λ _ k.
-        by_bool Result (nat_lt (buffer_limit s.config) (buffer_for given)) _ _ k (λ _ j. refused _ j.0 j.1) (λ _ j.
-        by_option Result (free_place (s.config).max_subscribers s.subscriber_places) _ _ j (λ _ i. refused _ i.0 i.1) (λ place _ i. made place refusal i)))
+        subscriber_cases environment s given s' Result refusal h (λ e same is. refused e same is) (λ place makes. made place makes.2 makes.3)
       where
         Result : Type 0
         Result = (refusal ≡ None → NewWaits s') × ((e : SubscriberCreateError) → refusal ≡ Some e → SameWaits s s')
@@ -59,10 +55,8 @@ module _ {T U : Type 0} (s : State T U) (w : IsWellFormed s) where
         refused : (e : SubscriberCreateError) → s' ≡ s → refusal ≡ Some e → Result
         refused e same is = (λ none. absurd (none-some e (sym none ∙ is)), λ _ _. subst (SameWaits s) (sym same) (same_itself s))
 
-        made : (place : ℕ) (r : Option SubscriberCreateError) → MakeSubscriber environment s given place s' r
-            → (r ≡ None → NewWaits s') × ((e : SubscriberCreateError) → r ≡ Some e → SameWaits s s')
-        made place (Some e) h = (λ none. absurd (none-some e (sym none)), λ _ _. subst (SameWaits s) (sym h.1) (same_itself s))
-        made place None h = (λ _. record { ports = ports; from = each; none = nothing }, λ e some. absurd (none-some e some)) where
+        made : (place : ℕ) → refusal ≡ None → FirstSubscriberUpdate environment (with_new_subscriber s given place) s.next_port s' → Result
+        made place made_one h = (λ _. record { ports = ports; from = each; none = nothing }, λ e some. absurd (none-some e (sym made_one ∙ some))) where
           new : State T U
           new = with_new_subscriber s given place
 

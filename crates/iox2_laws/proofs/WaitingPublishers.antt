@@ -1,22 +1,21 @@
 -- What the creation of a publisher does to the number of messages that wait.
 use Rattle.std.proofs.Common.{◌≡◌, ℕ, zero, suc, ◌+◌, ◌≤◌, ◌<◌, Bool, true, false, cond, ◌&&◌, ◌||◌, List, [], length, refl, sym, ap, subst, ◌∙◌, arith, Option, None, Some}
-use Rattle.std.specs.Prelude.{◌≢◌, ◌==◌}
+use Rattle.std.specs.Prelude.{◌≢◌}
 use Rattle.std.specs.Option.{option_map, option_map_or}
 use Rattle.std.proofs.lemmas.Bool.{ne_eqb}
 use Rattle.std.proofs.lemmas.Option.{none-some}
-use Rattle.iox2_store.specs.machine.Limits.{last_number}
 use Rattle.iox2_store.specs.machine.Numbers.{contains}
-use Rattle.iox2_store.specs.machine.Places.{free_place}
 use Rattle.iox2_store.specs.machine.Mailbox.{Mailbox}
 use Rattle.iox2_store.specs.machine.Records.{Subscriber, Environment, PublisherSettings}
 use Rattle.iox2_store.specs.machine.State.{State, connected_publishers}
 use Rattle.iox2_store.specs.machine.PublisherUpdate.{UpdatePublisher}
-use Rattle.iox2_store.specs.machine.Ports.{CreatePublisher, MakePublisher, with_new_publisher, first_segment_fits, with_failure_warning}
+use Rattle.iox2_store.specs.machine.Ports.{CreatePublisher, FirstPublisherUpdate, with_new_publisher, with_failure_warning}
 use Rattle.iox2_store.specs.machine.Waiting.{sum_below, receives_from, waiting_from, waiting_for}
 use Rattle.iox2_store.specs.declared.errors.ConnectionFailure.{ConnectionFailure}
 use Rattle.iox2_store.specs.declared.errors.PublisherCreateError.{PublisherCreateError}
 use Rattle.iox2_store.specs.declared.warning.Warning.TheVariants.{PublisherPartlyConnected}
 use Rattle.iox2_laws.proofs.Cases.{by_option, by_bool}
+use Rattle.iox2_laws.proofs.CallCases.{publisher_cases}
 use Rattle.iox2_laws.proofs.Puts.{put_at-other}
 use Rattle.iox2_laws.proofs.WaitingCounts.{SameWaits, same_itself}
 use Rattle.iox2_laws.proofs.UpToDate.{update_publisher_subscribers}
@@ -54,23 +53,19 @@ module _ {T U : Type 0} where
     pub create_publisher_waits : (refusal : Option PublisherCreateError) → CreatePublisher environment s given s' refusal
         → ((q : ℕ) → waiting_for s q ≤ waiting_for s' q) × ((e : PublisherCreateError) → refusal ≡ Some e → SameWaits s s')
     create_publisher_waits refusal h =
-        by_bool Result (s.next_port == last_number) _ _ h (λ _ k. refused _ k.0) (λ _ k.
-        by_option Result (free_place (s.config).max_publishers s.publisher_places) _ _ k (λ _ j. refused _ j.0) (λ place _ j.
-        by_bool Result (first_segment_fits s.config given) _ _ j (λ _ i. made place refusal i) (λ _ i. refused _ i.0)))
+        publisher_cases environment s given s' Result refusal h (λ e same _. refused same) (λ place makes. made place makes.1 makes.2)
       where
         Result : Type 0
         Result = ((q : ℕ) → waiting_for s q ≤ waiting_for s' q) × ((e : PublisherCreateError) → refusal ≡ Some e → SameWaits s s')
 
-        refused : (r : Option PublisherCreateError) → s' ≡ s → ((q : ℕ) → waiting_for s q ≤ waiting_for s' q) × ((e : PublisherCreateError) → r ≡ Some e → SameWaits s s')
-        refused r same = (
+        refused : s' ≡ s → Result
+        refused same = (
           λ q. subst (λ (t : State T U). waiting_for s q ≤ waiting_for t q) (sym same) (omega arith),
           λ _ _. subst (SameWaits s) (sym same) (same_itself s),
         )
 
-        made : (place : ℕ) (r : Option PublisherCreateError) → MakePublisher environment s given place s' r
-            → ((q : ℕ) → waiting_for s q ≤ waiting_for s' q) × ((e : PublisherCreateError) → r ≡ Some e → SameWaits s s')
-        made place (Some e) h = refused (Some e) h.1
-        made place None h = (more, λ e is. absurd (none-some e is)) where
+        made : (place : ℕ) → refusal ≡ None → FirstPublisherUpdate environment (with_new_publisher s given place) s.next_port s' → Result
+        made place none h = (more, λ e is. absurd (none-some e (sym none ∙ is))) where
           new : State T U
           new = with_new_publisher s given place
 

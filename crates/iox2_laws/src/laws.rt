@@ -1,8 +1,3 @@
-ghost use Rattle.std.specs.Prelude.{◌≡◌, ℕ, List, length};
-ghost use Rattle.iox2_store.specs.machine.Numbers.{contains, size, IsOnce};
-ghost use Rattle.iox2_store.specs.machine.State.{State, fresh};
-ghost use Rattle.iox2_store.specs.machine.WellFormed.{IsWellFormed, HoldsAtMostWorstCase};
-ghost use Rattle.iox2_store.specs.declared.service_config.ServiceConfig.{ServiceConfig};
 ghost use Rattle.iox2_laws.specs.Laws.{FreshIsWellFormed, WorstCaseIsEnough, SizeIsLength};
 
 /// A new domain's state is well-formed, whatever its configuration.
