@@ -6,18 +6,18 @@ use Rattle.script_text.specs.declared.failure.ScriptError.TheVariants.{OutOfMemo
 use Rattle.script_runner.specs.declared.ending.Ending.{Ending}
 use Rattle.script_runner.specs.declared.ending.Ending.TheVariants.{Printed, Unwarned, Reported, Unreported}
 
--- The failure of an ending, if it is one.
-abbrev failure_of : Ending → ScriptError
-failure_of Printed = OutOfMemory
-failure_of Unwarned = OutOfMemory
-failure_of (Reported error) = error
-failure_of (Unreported error) = error
+-- The error of an ending, if it has one.
+abbrev error_in : Ending → ScriptError
+error_in Printed = OutOfMemory
+error_in Unwarned = OutOfMemory
+error_in (Reported error) = error
+error_in (Unreported error) = error
 
 pub Reported-injective : (a b : ScriptError) → Reported a ≡ Reported b → a ≡ b
-Reported-injective a b same = ap failure_of same
+Reported-injective a b same = ap error_in same
 
 pub Unreported-injective : (a b : ScriptError) → Unreported a ≡ Unreported b → a ≡ b
-Unreported-injective a b same = ap failure_of same
+Unreported-injective a b same = ap error_in same
 
 -- A script whose replies are written ends in status 0.
 pub printed_status : (ending : Ending) → (ending ≡ Printed) ⊎ (ending ≡ Unwarned) → 0 ≡ ending_status ending
