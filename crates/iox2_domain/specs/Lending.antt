@@ -14,7 +14,6 @@ use Rattle.iox2_store.specs.declared.header.Header.{Header}
 use Rattle.iox2_store.specs.declared.service_config.ServiceConfig.{ServiceConfig}
 use Rattle.iox2_slots.specs.declared.slots.mark.SlotMark.TheVariants.{Unwritten}
 use Rattle.iox2_store.specs.machine.Environments.{ample_memory}
-use Rattle.iox2_ends.specs.Receivers.{HasReclaimed}
 use Rattle.iox2_domain.specs.Kept.{state_of}
 use Rattle.iox2_domain.specs.Reaches.{Reaches}
 use Rattle.iox2_domain.specs.Fields.{Fields, kept_of, publisher_of}
@@ -49,11 +48,6 @@ module _ {T U : Type 0} where
     pub some_free : All (λ n. 0 < n) book.holders → ⊥
     pub more : f.next_message < last_number
     pub short : (checks && is_static publisher.allocation && nat_lt publisher.initial_max_slice_len len) ≡ false
-
-  -- Where each slot of the publisher at the place has a holder, it has reclaimed all that was given back.
-  pub record IsReclaimedIfFull (f : Fields T U) (place : ℕ) : Type 0 where
-    pub at : (x : PublisherFields) (b : Book) → slice_index_or f.publishers place None ≡ Some x → get f.books x.book ≡ Some b
-        → All (λ n. 0 < n) b.holders → HasReclaimed f.connections x.keys
 
   -- A loan of a single value by the publisher at the place is refused for this reason, or a slot may be lent.
   abbrev pub LoanDecided : Fields T U → (checks : Bool) → (len place : ℕ) → Option LoanError → Type 0

@@ -24,7 +24,7 @@ use Rattle.iox2_domain.specs.Ports.{PublisherFields}
 use Rattle.iox2_domain.specs.Kept.{Lent_message, state_of}
 use Rattle.iox2_domain.specs.Fields.{Fields, kept_of, publisher_of, numbers_of, contents_at}
 use Rattle.iox2_domain.specs.Invariant.{IsDomain}
-use Rattle.iox2_domain.specs.Lending.{with_taken_slot, header_for, lending, CanGrant, IsReclaimedIfFull, LoanDecided, Lends}
+use Rattle.iox2_domain.specs.Lending.{with_taken_slot, header_for, lending, CanGrant, LoanDecided, Lends}
 use Rattle.iox2_domain.specs.LoanSlots.{IsLoanSlot, LiesInSlot}
 use Rattle.iox2_domain.specs.Reaches.{Reaches}
 use Rattle.iox2_domain.proofs.lemmas.fields.ConnectionEnds.{publisher-stands}
@@ -192,15 +192,3 @@ module _ {T U : Type 0} (f : Fields T U) (sound : IsDomain f) (i : ℕ) (x : Pub
             (message_in-parts (taken_book f sound x slot can user_header len) lies slot (Lent_message f.next_message (lent f sound x slot can user_header len))
             (sym (message_at-slot (begun_contents f sound x slot can user_header len) (taken_books f sound x slot can user_header len) x.book slot
             (taken_book f sound x slot can user_header len) (taken-stands f sound x slot can user_header len)) ∙ lent-lies f sound x slot can user_header len))).0
-
--- a publisher with a free slot isn't full
-pub not-full : {T U : Type 0} (f before : Fields T U) → f ≡ before → (i : ℕ) (x : PublisherFields) → get_or f.publishers i None ≡ Some x → (b : Book) → get f.books x.book ≡ Some b
-    → (All (λ n. 0 < n) b.holders → ⊥) → IsReclaimedIfFull before i
-not-full {T} {U} f before same i x at b stands free = subst (λ (g : Fields T U). IsReclaimedIfFull g i) same (record {
-  at = λ y c there has all.
-      let both : Some x ≡ Some y = sym at ∙ there in
-      let is : x ≡ y = cc in
-      let books : Some b ≡ Some c = sym stands ∙ ap (λ (z : PublisherFields). get f.books z.book) is ∙ has in
-      let book : b ≡ c = cc in
-      absurd (free (subst (λ (d : Book). All (λ n. 0 < n) d.holders) (sym book) all));
-})
