@@ -46,7 +46,7 @@ pub struct PublisherState {
     pub degradation: HandlerMark<DegradationAction>,
     pub allocation: AllocationStrategy,
     pub initial_max_slice_len: usize,
-    pub longest_granted: usize,
+    longest_granted: usize,
     pub segments: usize,
     // The slots of the loans that are out, by rising number of the message.
     pub loans: Vec<usize>,

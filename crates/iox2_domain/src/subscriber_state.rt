@@ -105,9 +105,9 @@ impl SubscriberState {
         }
     }
 
-    /// Makes room for the key of its connection with the publisher at a place, and for one more
-    /// expired key than so many.
-    pub fn reserve_connection(&mut self, place: usize, count: usize) -> Result<(), AllocError>
+    // Makes room for the key of its connection with the publisher at a place, and for one more
+    // expired key than so many.
+    fn reserve_connection(&mut self, place: usize, count: usize) -> Result<(), AllocError>
         ensures same { self.new ≡ with_receiver_rooms self.new.key_room self.new.expired_room self.old }
         ensures grows { self.old.key_room ≤ self.new.key_room }
         ensures expired_grows { self.old.expired_room ≤ self.new.expired_room }
@@ -167,8 +167,8 @@ pub fn forget_at(
 impl SubscriberState {
     ghost use Rattle.iox2_domain.specs.ReceiverSteps.{with_expired, without_expired};
 
-    /// Keeps the key of its connection with the publisher at a place among the expired ones.
-    pub fn expire(&mut self, place: usize, key: usize)
+    // Keeps the key of its connection with the publisher at a place among the expired ones.
+    fn expire(&mut self, place: usize, key: usize)
         requires within { place < length self.old.keys }
         requires room { length self.old.expired < self.old.expired_room }
         ensures { self.new ≡ with_expired place key self.old }
@@ -177,7 +177,7 @@ impl SubscriberState {
         self.expired.push_reserved(key);
     }
 
-    /// Forgets an expired key.
+    // Forgets an expired key.
     fn forget_expired(&mut self, key: usize)
         ensures { self.new ≡ without_expired key self.old }
     {
