@@ -53,9 +53,9 @@ fn receipt_of(
     }
 }
 
-/// The subscriber at a place borrows a message, if one waits of which it may borrow one more.
+// The subscriber at a place borrows a message, if one waits of which it may borrow one more.
 #[inline(always)]
-pub(crate) fn take_at<T: Drop, U: Default + Drop>(
+fn take_at<T: Drop, U: Default + Drop>(
     state: &mut DomainState<T, U>,
     place: usize,
 ) -> Result<Option<Receipt>, ReceiveError>
