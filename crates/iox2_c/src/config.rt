@@ -110,8 +110,8 @@ impl Config {
     }
 }
 
-/// Whether payloads can be aligned so.
-pub fn is_alignment(value: usize) -> bool
+// Whether payloads can be aligned so.
+fn is_alignment(value: usize) -> bool
     ensures { IsTrue result ↔ IsAlignment value }
 {
     matches!(value, 1 | 2 | 4 | 8 | 16)

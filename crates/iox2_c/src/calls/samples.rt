@@ -14,9 +14,9 @@ use crate::starts::start_of;
 use crate::status::{NOT_LIVE, OK, TOO_SMALL};
 use iox2_pubsub::slice::Sample;
 
-/// A handle of a sample that wasn't released.
+// A handle of a sample that wasn't released.
 #[inline(always)]
-pub fn live_sample(domain: &BytesDomain, numbers: &SampleNumbers) -> Option<Sample>
+fn live_sample(domain: &BytesDomain, numbers: &SampleNumbers) -> Option<Sample>
     ensures live { IfSome result (λ it. IsLiveSample domain.now (as_sample it)) }
     ensures named { IfSome result (λ it. sample_key (as_sample it) ≡ named_sample numbers.now) }
     ensures number { IfSome result (λ it. sample_number (as_sample it) ≡ wide (numbers.now).number) }
