@@ -12,7 +12,7 @@ use crate::reclaims::reclaim_if_full;
 use iox2_contents::Contents;
 use iox2_domain::{DomainState, LoanAt, PublisherState, units_of};
 use iox2_store::{
-    AllocationStrategy, Header, LoanError, ServiceConfig, UniqueNodeId, UniquePublisherId,
+    Header, LoanError, ServiceConfig, UniqueNodeId, UniquePublisherId,
 };
 
 // In the slot starts a loan of that length.
@@ -105,8 +105,5 @@ fn header_for(config: &ServiceConfig, publisher_id: UniquePublisherId, len: usiz
 fn is_too_long(publisher: &PublisherState, checks_length: bool, len: usize) -> bool
     ensures { result ≡ (checks_length && is_static (publisher.now).allocation && nat_lt (publisher.now).initial_max_slice_len len) }
 {
-    match publisher.allocation {
-        AllocationStrategy::Static => checks_length && publisher.initial_max_slice_len < len,
-        _ => false,
-    }
+    checks_length && publisher.initial_max_slice_len < len
 }

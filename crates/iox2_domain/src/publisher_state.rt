@@ -12,8 +12,8 @@ use circular_buffer::HeapCircularBuffer;
 use iox2_ends::receiver::key_in;
 use iox2_ends::sender::Progress;
 use iox2_store::{
-    AllocationStrategy, BackpressureAction, BackpressureHandler, BackpressureStrategy,
-    DegradationAction, ServiceConfig, UniquePublisherId,
+    BackpressureAction, BackpressureHandler, BackpressureStrategy, DegradationAction,
+    ServiceConfig, UniquePublisherId,
 };
 use std::alloc::{AllocError, Global};
 use std::marker::Model;
@@ -28,7 +28,8 @@ pub struct BlockedDelivery {
 }
 
 /// A publisher that wasn't closed. It knows its slots by their numbers in its book, and its
-/// connections by their keys.
+/// connections by their keys. Its memory is static, so that it has one segment and never another:
+/// both are constants of its view.
 ///
 /// iceoryx2's `PublisherSharedState` (`src/port/publisher.rs`) and `Sender`
 /// (`src/port/details/sender.rs`).
@@ -44,10 +45,8 @@ pub struct PublisherState {
     pub backpressure_handler: Option<HandlerMark<BackpressureAction>>,
     // What answers for it where it can't make a connection.
     pub degradation: HandlerMark<DegradationAction>,
-    pub allocation: AllocationStrategy,
     pub initial_max_slice_len: usize,
     longest_granted: usize,
-    pub segments: usize,
     // The slots of the loans that are out, by rising number of the message.
     pub loans: Vec<usize>,
     // The slots of the last messages sent.
@@ -61,6 +60,7 @@ pub struct PublisherState {
 
 impl Model for PublisherState {
     ghost use Rattle.std.specs.Prelude.{vec_capacity};
+    ghost use Rattle.iox2_store.specs.declared.allocation.AllocationStrategy.TheVariants.{Static};
     ghost use Rattle.iox2_domain.specs.Handlers.{handler_if_any, handler_of};
     ghost use Rattle.iox2_domain.specs.Ports.{PublisherFields};
 
@@ -75,10 +75,10 @@ impl Model for PublisherState {
       strategy = x.strategy;
       backpressure_handler = handler_if_any x.backpressure_handler;
       degradation_handler = handler_of x.degradation;
-      allocation = x.allocation;
+      allocation = Static;
       initial_max_slice_len = x.initial_max_slice_len;
       longest_granted = x.longest_granted;
-      segments = x.segments;
+      segments = 1;
       loans = x.loans.items;
       loan_room = vec_capacity x.loans;
       history = x.history;
@@ -125,10 +125,8 @@ impl PublisherState {
             strategy: given.strategy,
             backpressure_handler: handler,
             degradation: given.degradation,
-            allocation: AllocationStrategy::Static,
             initial_max_slice_len: given.initial_max_slice_len,
             longest_granted: 0,
-            segments: 1,
             loans,
             history,
             keys: Vec::new(alloc),
