@@ -114,6 +114,7 @@ impl<T: Drop, U: Default + Drop> DomainState<T, U> {
 
     /// Where the message lies that the subscriber has borrowed, and `None` where it hasn't. Every
     /// connection is gone through.
+    #[cold]
     #[inline(never)]
     pub fn find_sample(&self, subscriber: UniqueSubscriberId, number: u128) -> Option<SampleSlot>
         requires { IsDomain self.now }

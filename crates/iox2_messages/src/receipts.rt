@@ -165,6 +165,7 @@ pub fn give_back<T: Drop, U: Default + Drop>(state: &mut DomainState<T, U>, samp
 
 // The same, wherever the sample lies and whichever of its ports is gone. It takes the sample itself: a
 // reference would have the usual release keep it in memory.
+#[cold]
 #[inline(never)]
 fn search_and_give_back<T: Drop, U: Default + Drop>(state: &mut DomainState<T, U>, sample: SampleAt)
     requires agrees { IsDomain state.old }
