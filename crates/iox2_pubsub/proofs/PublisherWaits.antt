@@ -14,7 +14,7 @@ use Rattle.iox2_laws.proofs.MailboxLemmas.{has_numbers-contains}
 use Rattle.iox2_laws.proofs.NumberLemmas.{contains_first, contains_left}
 use Rattle.iox2_laws.proofs.WaitingCounts.{cond_among, sum_part}
 use Rattle.iox2_pubsub.specs.Live.{AllFrom, AreAllSlices, IsServed, LeavesLater, TakesFirst, TakesOldest, payloads, payloads_from, waiting, sample_key}
-use Rattle.iox2_pubsub.specs.Payloads.{all_below, payload_of}
+use Rattle.iox2_pubsub.specs.Payloads.{payload_of}
 use Rattle.iox2_pubsub.specs.SendCalls.{IsDelivered}
 use Rattle.iox2_pubsub.specs.Slices.{SampleHasValues}
 use Rattle.iox2_pubsub.specs.declared.sample.Sample.{Sample}

@@ -27,7 +27,7 @@ impl Failure {
     /// What is said of it.
     pub(crate) fn text(self) -> &'static str {
         match self {
-            Failure::Usage => "usage: list_runner fill P S B R H L, or compare COUNT P S B R H L",
+            Failure::Usage => "usage: list_runner fill P S B R H L, or compare P S B R H L",
             Failure::NoNumber => "each size has to be a number from 0 to 18446744073709551615",
             Failure::NothingToFill => "no list: P, S and L have to be at least 1",
             Failure::TooManySlots => "no list: its slots would be more than 18446744073709551615",

@@ -70,13 +70,11 @@ fn replies_of(
     Ok(replies)
 }
 
-/// Makes so many allocations, and then has two runs of the list compared. Prints how many commands
-/// were skipped or refused in each run and how many of its connections were refused memory, or that
-/// there is no comparison.
-pub(crate) fn compare(rt: &HostRuntime, sizes: &Sizes, allocations: usize) -> Result<(), Failure> {
+/// Has two runs of the list compared. Prints how many commands were skipped or refused in each run
+/// and how many of its connections were refused memory, or that there is no comparison.
+pub(crate) fn compare(rt: &HostRuntime, sizes: &Sizes) -> Result<(), Failure> {
     let commands = filling(rt.alloc(), sizes)?;
     let same = filling(rt.alloc(), sizes)?;
-    allocate(rt.alloc(), allocations)?;
     match compare_runs(rt.alloc(), &sizes.config, commands, same) {
         Some((first, second)) => print_both(rt, &first, &second)?,
         None => println!(rt; "no comparison")?,
@@ -91,12 +89,4 @@ fn print_both(rt: &HostRuntime, first: &End, second: &End) -> io::Result<()> {
     let one = first.0.refused_connections();
     let other = second.0.refused_connections();
     println!(rt; "refused connections: {one} and {other}")
-}
-
-// Makes so many allocations.
-fn allocate(alloc: Global, count: usize) -> Result<(), Failure> {
-    for _ in 0..count {
-        Vec::<u8>::with_capacity(alloc, 1)?;
-    }
-    Ok(())
 }

@@ -8,7 +8,7 @@ mod sizes;
 
 use failure::Failure;
 use lists::{compare, fill};
-use sizes::{Sizes, number};
+use sizes::Sizes;
 use std::env;
 use std::process::ExitCode;
 
@@ -27,9 +27,7 @@ fn carry_out(rt: &HostRuntime) -> Result<(), Failure> {
     let words: Vec<String> = env::args(rt)?.collect(rt.alloc())?;
     match words.as_slice() {
         [_, task, words @ ..] if task.as_str() == "fill" => fill(rt, &Sizes::parse(words)?),
-        [_, task, count, words @ ..] if task.as_str() == "compare" => {
-            compare(rt, &Sizes::parse(words)?, number(count)?)
-        }
+        [_, task, words @ ..] if task.as_str() == "compare" => compare(rt, &Sizes::parse(words)?),
         _ => Err(Failure::Usage),
     }
 }

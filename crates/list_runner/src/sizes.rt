@@ -33,7 +33,7 @@ impl Sizes {
     }
 }
 
-/// The number that a word says. `NoNumber` where it says none, or one that doesn't fit.
-pub(crate) fn number(word: &str) -> Result<usize, Failure> {
+// The number that a word says. `NoNumber` where it says none, or one that doesn't fit.
+fn number(word: &str) -> Result<usize, Failure> {
     word.parse().map_err(|_| Failure::NoNumber)
 }

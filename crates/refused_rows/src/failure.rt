@@ -8,7 +8,7 @@ use std::io;
 /// Why a row isn't carried out, or not to its end.
 #[derive(Clone, Copy)]
 pub(crate) enum Failure {
-    /// The arguments name no row, no answer or no number.
+    /// The arguments name no row or no answer.
     Usage,
     /// Memory for the domain or the arguments is refused.
     OutOfMemory,
@@ -22,7 +22,7 @@ impl Failure {
     /// What is said of it.
     pub(crate) fn text(self) -> &'static str {
         match self {
-            Failure::Usage => "usage: refused_rows later_subscriber|later_publisher ANSWER COUNT",
+            Failure::Usage => "usage: refused_rows later_subscriber|later_publisher ANSWER",
             Failure::OutOfMemory => "out of memory",
             Failure::Refused => "a call failed",
             Failure::InputOutput => "arguments or output failed",

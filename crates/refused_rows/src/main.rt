@@ -1,7 +1,7 @@
 //! Carries out a short row of calls in which a port meets one that comes later, for
 //! `tools/refused_memory`, which has each allocation refused in turn. The arguments say which of the
-//! two comes later, what each port answers where its connection is refused and whether a box answers,
-//! and how many allocations to make first.
+//! two comes later, and what each port answers where its connection is refused and whether a box
+//! answers.
 #![tactic(auto)]
 
 ghost use Rattle.std.specs.Prelude.{IfOk};
@@ -35,25 +35,15 @@ fn main(rt: HostRuntime) -> ExitCode {
 // Does what the arguments ask for.
 fn carry_out(rt: &HostRuntime) -> Result<(), Failure> {
     let words: Vec<String> = env::args(rt)?.collect(rt.alloc())?;
-    let [_, row, answer, count] = words.as_slice() else {
+    let [_, row, answer] = words.as_slice() else {
         return Err(Failure::Usage);
     };
     let answer = Answer::parse(answer).ok_or(Failure::Usage)?;
-    let count: usize = count.parse().map_err(|_| Failure::Usage)?;
-    allocate(rt.alloc(), count)?;
     match row.as_str() {
         "later_subscriber" => meet_subscriber(rt, answer),
         "later_publisher" => meet_publisher(rt, answer),
         _ => Err(Failure::Usage),
     }
-}
-
-// Makes so many allocations.
-fn allocate(alloc: Global, count: usize) -> Result<(), Failure> {
-    for _ in 0..count {
-        Vec::<u8>::with_capacity(alloc, 1)?;
-    }
-    Ok(())
 }
 
 fn meet_subscriber(rt: &HostRuntime, answer: Answer) -> Result<(), Failure> {

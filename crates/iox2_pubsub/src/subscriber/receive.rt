@@ -12,7 +12,7 @@ impl Subscriber {
     ghost use Rattle.iox2_domain.specs.Boxes.{answers_of};
     ghost use Rattle.iox2_store.specs.machine.Receives.{Receive};
     ghost use Rattle.iox2_store.specs.machine.State.{State, Messages};
-    ghost use Rattle.iox2_pubsub.specs.Live.{AllFrom, AreAllSlices, IsFromOrigin, IsLiveSample, IsLiveSubscriber, IsUpToDate, KeepsAll, IsNewIn, OthersWait, Stays, TakesOldest, UpToDateStay, payloads, received_sample, sample_key, waiting, LeavesLater, LeavesOthers, TakesFirst};
+    ghost use Rattle.iox2_pubsub.specs.Live.{AreAllSlices, IsFromOrigin, IsLiveSample, IsLiveSubscriber, IsUpToDate, KeepsAll, IsNewIn, OthersWait, Stays, TakesOldest, UpToDateStay, payloads, received_sample, sample_key, waiting, LeavesLater, LeavesOthers, TakesFirst};
     ghost use Rattle.iox2_pubsub.specs.LoansLeft.{LoansLeftStay};
     ghost use Rattle.iox2_pubsub.specs.ReceivedSamples.{received_result};
     ghost use Rattle.iox2_pubsub.specs.Slices.{SampleHasValues};
@@ -45,7 +45,6 @@ impl Subscriber {
         ensures none { IfOk result (λ sample. IfNone sample (waiting domain.new self.now ≡ 0)) }
         ensures reads { IfOk result (λ sample. IfSome sample (λ it. (values : List T) → AreAllSlices (payloads domain.old self.now) values → SampleHasValues domain.new (sample_key it) values)) }
         ensures only { IfOk result (λ sample. IfSome sample (λ it. (values : List T) → payloads domain.old self.now ≡ values ∷ [] → SampleHasValues domain.new (sample_key it) values)) }
-        ensures single { IfOk result (λ sample. IfSome sample (λ it. (publisher : ℕ) (values : List T) → AllFrom domain.old publisher self.now (values ∷ []) → SampleHasValues domain.new (sample_key it) values)) }
         ensures oldest { IfOk result (λ sample. IfSome sample (λ it. TakesOldest self.now it domain.old domain.new)) }
         ensures first { IfOk result (λ sample. IfSome sample (λ it. TakesFirst self.now it domain.old domain.new)) }
         ensures later { IfOk result (λ sample. OnSome sample (LeavesLater self.now domain.old domain.new)) }

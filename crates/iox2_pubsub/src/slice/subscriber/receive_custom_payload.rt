@@ -10,7 +10,7 @@ impl Subscriber {
     ghost use Rattle.iox2_domain.specs.Boxes.{answers_of};
     ghost use Rattle.iox2_store.specs.machine.Receives.{Receive};
     ghost use Rattle.iox2_store.specs.machine.State.{State, Messages};
-    ghost use Rattle.iox2_pubsub.specs.Live.{AllFrom, AreAllSlices, IsFromOrigin, IsLiveSample, IsLiveSubscriber, IsUpToDate, KeepsAll, IsNewIn, OthersWait, Stays, TakesOldest, UpToDateStay, payloads, received_sample, sample_key, waiting, LeavesLater, LeavesOthers, TakesFirst};
+    ghost use Rattle.iox2_pubsub.specs.Live.{AreAllSlices, IsFromOrigin, IsLiveSample, IsLiveSubscriber, IsUpToDate, KeepsAll, IsNewIn, OthersWait, Stays, TakesOldest, UpToDateStay, payloads, received_sample, sample_key, waiting, LeavesLater, LeavesOthers, TakesFirst};
     ghost use Rattle.iox2_pubsub.specs.LoansLeft.{LoansLeftStay};
     ghost use Rattle.iox2_pubsub.specs.ReceivedSamples.{received_slice};
     ghost use Rattle.iox2_pubsub.specs.Slices.{SampleHasValues};
@@ -37,7 +37,6 @@ impl Subscriber {
         ensures none { IfOk result (λ sample. IfNone sample (waiting domain.new (as_subscriber self.now) ≡ 0)) }
         ensures reads { IfOk result (λ sample. IfSome sample (λ it. (values : List CustomPayloadMarker) → AreAllSlices (payloads domain.old (as_subscriber self.now)) values → SampleHasValues domain.new (sample_key (as_sample it)) values)) }
         ensures only { IfOk result (λ sample. IfSome sample (λ it. (values : List CustomPayloadMarker) → payloads domain.old (as_subscriber self.now) ≡ values ∷ [] → SampleHasValues domain.new (sample_key (as_sample it)) values)) }
-        ensures single { IfOk result (λ sample. IfSome sample (λ it. (publisher : ℕ) (values : List CustomPayloadMarker) → AllFrom domain.old publisher (as_subscriber self.now) (values ∷ []) → SampleHasValues domain.new (sample_key (as_sample it)) values)) }
         ensures oldest { IfOk result (λ sample. IfSome sample (λ it. TakesOldest (as_subscriber self.now) (as_sample it) domain.old domain.new)) }
         ensures first { IfOk result (λ sample. IfSome sample (λ it. TakesFirst (as_subscriber self.now) (as_sample it) domain.old domain.new)) }
         ensures later { IfOk result (λ sample. OnSome sample (LeavesLater (as_subscriber self.now) domain.old domain.new)) }

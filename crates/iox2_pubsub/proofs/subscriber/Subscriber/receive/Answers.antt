@@ -235,6 +235,3 @@ returns-clause-rest g c = λ keeps other away.
 
 pub returns-clause-only : goal.returns-clause-only
 returns-clause-only g c = λ values is. returns-clause-reads g c values (one-is-all _ values is)
-
-pub returns-clause-single : goal.returns-clause-single
-returns-clause-single g c = λ publisher values is. returns-clause-only g c values is.all
