@@ -264,7 +264,7 @@ RoomStays old new = (subscriber : Subscriber) (closes : ℕ) → HasRoomFor old 
 pub record UpToDateStay {T U F G : Type 0} (old new : Kept T U F G) : Type 0 where
   pub subscribers : (subscriber : Subscriber) → IsUpToDate old subscriber → IsUpToDate new subscriber
   pub connections : (publisher : ℕ) (subscriber : Subscriber) → IsConnected old publisher subscriber → IsConnected new publisher subscriber
-  pub room : RoomStays old new
+  pub room : (subscriber : Subscriber) (closes : ℕ) → HasRoomFor old subscriber closes → HasRoomFor new subscriber closes
 
 -- For each subscriber the same messages wait as before, and so from each publisher.
 pub record WaitingStays {T U F G : Type 0} (old new : Kept T U F G) : Type 0 where
