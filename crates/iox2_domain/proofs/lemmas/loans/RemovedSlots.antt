@@ -1,7 +1,7 @@
--- The last slot of a list goes.
-use Rattle.std.proofs.Common.{◌≡◌, ◌≢◌, ℕ, ◌-◌, ◌<◌, ◌≤◌, Bool, cond, not, List, [], ◌∷◌, length, take, true, ap, sym, ◌∙◌, arith, Option, Some, None}
+-- A slot of a list goes.
+use Rattle.std.proofs.Common.{◌≡◌, ℕ, zero, suc, ◌-◌, ◌<◌, ◌≤◌, Bool, cond, not, List, [], ◌∷◌, length, take, true, refl, ap, sym, ◌∙◌, arith, Option, Some, None}
 use Rattle.std.proofs.lemmas.Bool.{ne_eqb, eq-eqb, eqb-true}
-use Rattle.std.specs.Prelude.{nat_eq, slice_get}
+use Rattle.std.specs.Prelude.{nat_eq, remove, slice_get}
 use Rattle.std.specs.Option.{option_eq}
 use Rattle.iox2_store.specs.machine.Numbers.{without}
 use Rattle.iox2_ends.specs.Counters.{times}
@@ -11,30 +11,45 @@ pub equal-some : (o : Option ℕ) (n : ℕ) → option_eq nat_eq o (Some n) ≡ 
 equal-some None n e = absurd cc
 equal-some (Some m) n e = ap Some (eqb-true m n e)
 
--- the last slot stands in the list
-last-stands : (slot x : ℕ) (xs : List ℕ) → slice_get (x ∷ xs) (length xs) ≡ Some slot → 0 < times slot (x ∷ xs)
-last-stands slot x [] at =
+-- a slot that stands at a place stands in the list
+stands-at : (slot : ℕ) (xs : List ℕ) (place : ℕ) → slice_get xs place ≡ Some slot → 0 < times slot xs
+stands-at slot [] place at = absurd cc
+stands-at slot (x ∷ xs) zero at =
     let same : x ≡ slot = cc in
     let one : one_if slot x ≡ 1 = ap (one_if slot) same ∙ one_if_same slot in
-    omega (arith, times-cons slot x [], one)
-last-stands slot x (y ∷ ys) at = omega (arith, times-cons slot x (y ∷ ys), last-stands slot y ys at)
+    omega (arith, times-cons slot x xs, one)
+stands-at slot (x ∷ xs) (suc k) at = omega (arith, times-cons slot x xs, stands-at slot xs k at)
 
--- what is left without the last slot, which stands there once, is all before it
-last-out : (slot x : ℕ) (xs : List ℕ) → slice_get (x ∷ xs) (length xs) ≡ Some slot → times slot (x ∷ xs) ≤ 1 → take (length xs) (x ∷ xs) ≡ without slot (x ∷ xs)
-last-out slot x [] at once =
+-- another stands before what is left of the list without the slot
+other-before : (slot x : ℕ) (xs : List ℕ) → (one_if slot x ≡ 1 → ⊥) → without slot (x ∷ xs) ≡ x ∷ without slot xs
+other-before slot x xs other = ap (λ (t : Bool). cond (not t) (x ∷ without slot xs) (without slot xs)) (ne_eqb x slot (λ same. other (ap (one_if slot) same ∙ one_if_same slot)))
+
+-- where the slot doesn't stand nothing goes
+pub absent-without : (slot : ℕ) (xs : List ℕ) → times slot xs ≡ 0 → without slot xs ≡ xs
+absent-without slot [] none = refl
+absent-without slot (x ∷ xs) none =
+    other-before slot x xs (λ one. omega (arith, times-cons slot x xs, one, none))
+    ∙ ap (λ zs. x ∷ zs) (absent-without slot xs (omega (arith, times-cons slot x xs, none)))
+
+-- the slot at a place, which stands once, goes
+pub removed-without : (slot : ℕ) (xs : List ℕ) (place : ℕ) → slice_get xs place ≡ Some slot → times slot xs ≤ 1 → remove xs place ≡ without slot xs
+removed-without slot [] place at once = absurd cc
+removed-without slot (x ∷ xs) zero at once =
     let same : x ≡ slot = cc in
-    ap (λ (t : Bool). cond (not t) (x ∷ []) []) (sym (eq-eqb x slot same))
-last-out slot x (y ∷ ys) at once =
-    let there : 0 < times slot (y ∷ ys) = last-stands slot y ys at in
-    let away : x ≢ slot = λ same.
     let one : one_if slot x ≡ 1 = ap (one_if slot) same ∙ one_if_same slot in
-    omega (arith, times-cons slot x (y ∷ ys), one, there, once) in
-    ap (λ zs. x ∷ zs) (last-out slot y ys at (omega (arith, times-cons slot x (y ∷ ys), once)))
-    ∙ ap (λ (t : Bool). cond (not t) (x ∷ without slot (y ∷ ys)) (without slot (y ∷ ys))) (sym (ne_eqb x slot away))
+    sym (ap (λ (t : Bool). cond (not t) (x ∷ without slot xs) (without slot xs)) (eq-eqb x slot same) ∙ absent-without slot xs (omega (arith, times-cons slot x xs, one, once)))
+removed-without slot (x ∷ xs) (suc k) at once =
+    let there : 0 < times slot xs = stands-at slot xs k at in
+    ap (λ zs. x ∷ zs) (removed-without slot xs k at (omega (arith, times-cons slot x xs, once)))
+    ∙ sym (other-before slot x xs (λ one. omega (arith, times-cons slot x xs, one, there, once)))
+
+-- all but the last
+without-last : (x : ℕ) (xs : List ℕ) → take (length xs) (x ∷ xs) ≡ remove (x ∷ xs) (length xs)
+without-last x [] = refl
+without-last x (y ∷ ys) = ap (λ zs. x ∷ zs) (without-last y ys)
 
 pub popped-without : (slot : ℕ) (xs ys : List ℕ) → slice_get xs (length xs - 1) ≡ Some slot → times slot xs ≤ 1 → ys ≡ take (length xs - 1) xs → ys ≡ without slot xs
 popped-without slot [] ys at once left = absurd cc
 popped-without slot (x ∷ xs) ys at once left =
     let long : length (x ∷ xs) - 1 ≡ length xs = omega arith in
-    left ∙ ap (λ (k : ℕ). take k (x ∷ xs)) long
-    ∙ last-out slot x xs (ap (slice_get (x ∷ xs)) (sym long) ∙ at) once
+    left ∙ ap (λ (k : ℕ). take k (x ∷ xs)) long ∙ without-last x xs ∙ removed-without slot (x ∷ xs) (length xs) (ap (slice_get (x ∷ xs)) (sym long) ∙ at) once

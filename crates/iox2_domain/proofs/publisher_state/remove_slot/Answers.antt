@@ -1,5 +1,4 @@
 use Rattle.std.proofs.Common.{rules, ◌≡◌, ◌-◌, List, ℕ, length, take, vec_len, ap, sym, ◌∙◌, Some}
-use Rattle.std.proofs.lemmas.Fn.{filter_same}
 use Rattle.std.specs.Prelude.{slice_get}
 use Rattle.iox2_domain.proofs.lemmas.loans.RemovedSlots.{equal-some, popped-without}
 use Rattle.iox2_domain.proofs.publisher_state.remove_slot.Goals as goal
@@ -12,6 +11,3 @@ returns-then-eq-clause-items c =
     let long : vec_len c.args.slots.now ≡ length c.args.slots.now.items = search rules in
     popped-without c.args.slot c.args.slots.now.items c.pop.new.self.items last c.requires
     (c.pop.ensures.rest ∙ ap (λ (len : ℕ). take (len - 1) c.args.slots.now.items) long)
-
-pub returns-else-eq-clause-items : goal.returns-else-eq-clause-items
-returns-else-eq-clause-items c = filter_same _ _ _ (λ x b f' k. search rules) _ _ c.retain.ensures.filtered
