@@ -1,21 +1,20 @@
 -- An independent state stays independent.
-use Rattle.std.proofs.Common.{◌≡◌, ⊎_elim, ℕ, Bool, true, false, cond, List, [], ◌∷◌, ◌++◌, refl, sym, ap, subst, ◌∙◌, Option, None, Some, eqb}
-use Rattle.std.specs.Prelude.{◌≢◌, nat_lt}
+use Rattle.std.proofs.Common.{◌≡◌, ⊎_elim, ℕ, Bool, true, false, cond, List, [], ◌∷◌, ◌++◌, refl, sym, ap, subst, ◌∙◌, Option, None, Some}
+use Rattle.std.specs.Prelude.{◌≢◌}
 use Rattle.std.specs.Option.{option_map}
-use Rattle.std.proofs.lemmas.Bool.{true≢false, cases_eq}
-use Rattle.iox2_store.specs.machine.Limits.{worst_case, buffer_limit, last_number}
-use Rattle.iox2_store.specs.machine.Places.{free_place}
-use Rattle.iox2_store.specs.machine.Numbers.{put_at, size, without, last_n}
+use Rattle.std.proofs.lemmas.Bool.{cases_eq}
+use Rattle.iox2_store.specs.machine.Limits.{worst_case}
+use Rattle.iox2_store.specs.machine.Numbers.{put_at, without, last_n}
 use Rattle.iox2_store.specs.machine.Records.{Loan, Publisher, Subscriber, Environment, PublisherSettings, SubscriberSettings}
-use Rattle.iox2_store.specs.machine.State.{State, held, with_loan}
+use Rattle.iox2_store.specs.machine.State.{State, with_loan}
 use Rattle.iox2_store.specs.machine.PublisherUpdate.{UpdatePublisher}
 use Rattle.iox2_store.specs.machine.SubscriberUpdate.{UpdateSubscriber}
-use Rattle.iox2_store.specs.machine.Loans.{GrantLoan, is_static, limit_error, loan_discarded}
+use Rattle.iox2_store.specs.machine.Loans.{GrantLoan, is_static, loan_discarded}
 use Rattle.iox2_store.specs.machine.SingleCalls.{GrantWrittenLoan}
 use Rattle.iox2_store.specs.machine.Sends.{Send, SendResult, Publish}
 use Rattle.iox2_store.specs.machine.Receives.{Receive, TakeSample, ReceiveResult, Got_sample, No_sample, Receive_error}
 use Rattle.iox2_store.specs.machine.Releases.{released, pruned, unborrowed, subscriber_pruned, is_unused, place_freed, freed_if_unused}
-use Rattle.iox2_store.specs.machine.Ports.{new_publisher, new_subscriber, with_new_publisher, with_new_subscriber, with_failure_warning, MakePublisher, CreatePublisher, MakeSubscriber, CreateSubscriber, first_segment_fits, buffer_for, slots_for, publisher_gone, publisher_closed, subscribers_pruned, subscriber_shut, subscriber_closed}
+use Rattle.iox2_store.specs.machine.Ports.{FirstPublisherUpdate, FirstSubscriberUpdate, new_publisher, new_subscriber, with_new_publisher, with_new_subscriber, with_failure_warning, CreatePublisher, CreateSubscriber, slots_for, publisher_gone, publisher_closed, subscribers_pruned, subscriber_shut, subscriber_closed}
 use Rattle.iox2_store.specs.declared.service_config.ServiceConfig.{ServiceConfig}
 use Rattle.iox2_store.specs.declared.warning.Warning.{Warning}
 use Rattle.iox2_store.specs.declared.errors.ConnectionFailure.{ConnectionFailure}
@@ -23,6 +22,7 @@ use Rattle.iox2_store.specs.declared.errors.LoanError.{LoanError}
 use Rattle.iox2_store.specs.declared.errors.PublisherCreateError.{PublisherCreateError}
 use Rattle.iox2_store.specs.declared.errors.SubscriberCreateError.{SubscriberCreateError}
 use Rattle.iox2_laws.proofs.Cases.{by_option, by_bool}
+use Rattle.iox2_laws.proofs.CallCases.{grant_cases, publisher_cases, subscriber_cases}
 use Rattle.iox2_laws.proofs.PublisherUpdates.{update_publisher_changes}
 use Rattle.iox2_laws.proofs.Puts.{found_put, found_removed, found_mapped, at_each, put_at-other}
 use Rattle.iox2_store.specs.machine.Environments.{ample_memory}
@@ -153,17 +153,11 @@ module _ {T U : Type 0} (q : ℕ) where
   pub grant_loan_open : (default_header : U) (checks_length : Bool) (len : ℕ) (s s' : State T U) (p : ℕ) (refusal : Option LoanError)
       → GrantLoan ample_memory default_header checks_length len s p s' refusal → StaysOpen s → StaysOpen s'
   grant_loan_open default_header checks_length len s s' p refusal h k =
-      by_option (StaysOpen s') (s.publishers p) _ _ h (λ _ v. absurd v) (λ x e h.
-      by_option (StaysOpen s') (limit_error checks_length x len) _ _ h
-      (λ _ h. by_bool (StaysOpen s') (is_static x.allocation_strategy) _ _ h
-      (λ _ h. by_bool (StaysOpen s') (eqb (size (held s p x)) x.slots) _ _ h (λ _ h. subst StaysOpen (sym h.0) k) (λ _ h.
-      by_bool (StaysOpen s') (eqb s.next_message last_number) _ _ h (λ _ h. subst StaysOpen (sym h.0) k) (λ _ h.
-      subst StaysOpen (sym h.0) (record {
+      grant_cases ample_memory default_header checks_length len s p s' (StaysOpen s') refusal h (λ e same _. subst StaysOpen (sym same) k)
+      (λ x e grants. subst StaysOpen (sym grants.4) (record {
         publishers = put_independent s.config s.publishers p _ k.publishers (independent_changed s.config x _ refl refl refl refl refl refl (k.publishers p x e));
         all_open = k.all_open;
-      }))))
-      (λ dynamic _. absurd (true≢false (sym (k.publishers p x e).static ∙ dynamic))))
-      (λ limit _ h. subst StaysOpen (sym h.0) k))
+      }))
 
   -- the same for one that is written at once
   pub grant_written_loan_open : (value : T) (default_header : U) (checks_length : Bool) (len : ℕ) (s s' : State T U) (p : ℕ) (refusal : Option LoanError)
@@ -217,9 +211,10 @@ module _ {T U : Type 0} (q : ℕ) where
   pub create_publisher_open : (s s' : State T U) (given : PublisherSettings) (refusal : Option PublisherCreateError) → (refusal ≡ None → AreIndependentSettings s.config given)
       → CreatePublisher ample_memory s given s' refusal → StaysOpen s → StaysOpen s'
   create_publisher_open s s' given refusal settings h k =
-      by_bool (StaysOpen s') (eqb s.next_port last_number) _ _ h (λ _ h. subst StaysOpen (sym h.0) k) (λ _ h.
-      by_option (StaysOpen s') (free_place (s.config).max_publishers s.publisher_places) _ _ h (λ _ h. subst StaysOpen (sym h.0) k) (λ place _ h.
-      by_bool (StaysOpen s') (first_segment_fits s.config given) _ _ h (λ _ h. make refusal settings place h) (λ _ h. subst StaysOpen (sym h.0) k)))
+      publisher_cases ample_memory s given s' (StaysOpen s') refusal h (λ e same _. subst StaysOpen (sym same) k) (λ place makes.
+      let first : FirstPublisherUpdate ample_memory (with_new_publisher s given place) s.next_port s' = makes.2 in
+      subst StaysOpen (sym first.3) (warning_open first.0 _ first.1
+      (update_publisher_open (with_new_publisher s given place) first.0 s.next_port first.1 first.2 (new place (settings makes.1)))))
     where
       new : (place : ℕ) → AreIndependentSettings s.config given → StaysOpen (with_new_publisher s given place)
       new place settings = record {
@@ -232,28 +227,20 @@ module _ {T U : Type 0} (q : ℕ) where
         all_open = each_open s (λ r y. record y { is_due = true }) (λ r y. refl) k.all_open;
       }
 
-      make : (refusal : Option PublisherCreateError) → (refusal ≡ None → AreIndependentSettings s.config given) → (place : ℕ)
-          → MakePublisher ample_memory s given place s' refusal → StaysOpen s'
-      make None settings place h = subst StaysOpen (sym h.3) (warning_open h.0 _ h.1 (update_publisher_open (with_new_publisher s given place) h.0 s.next_port h.1 h.2 (new place (settings refl))))
-      make (Some e) settings place h = absurd h.0
-
   -- a subscriber that is made or refused
   pub create_subscriber_open : (s s' : State T U) (given : SubscriberSettings) (refusal : Option SubscriberCreateError)
       → CreateSubscriber ample_memory s given s' refusal → StaysOpen s → StaysOpen s'
   create_subscriber_open s s' given refusal h k =
-      by_bool (StaysOpen s') (eqb s.next_port last_number) _ _ h (λ _ h. subst StaysOpen (sym h.0) k) (λ _ h.
-      by_bool (StaysOpen s') (nat_lt (buffer_limit s.config) (buffer_for given)) _ _ h (λ _ h. subst StaysOpen (sym h.0) k) (λ _ h.
-      by_option (StaysOpen s') (free_place (s.config).max_subscribers s.subscriber_places) _ _ h (λ _ h. subst StaysOpen (sym h.0) k) (λ place _ h. make refusal place h)))
+      subscriber_cases ample_memory s given s' (StaysOpen s') refusal h (λ e same _. subst StaysOpen (sym same) k) (λ place makes.
+      let first : FirstSubscriberUpdate ample_memory (with_new_subscriber s given place) s.next_port s' = makes.3 in
+      subst StaysOpen (sym first.3) (warning_open first.0 _ first.1
+      (update_subscriber_open ample_memory (with_new_subscriber s given place) first.0 s.next_port first.1 first.2 (new place))))
     where
       new : (place : ℕ) → StaysOpen (with_new_subscriber s given place)
       new place = record {
         publishers = each_independent s.config s.publishers (λ x. record x { is_due = true }) k.publishers (λ x. independent_changed s.config x _ refl refl refl refl refl refl);
         all_open = put_open s s.next_port (new_subscriber given place) (λ _. refl) k.all_open;
       }
-
-      make : (refusal : Option SubscriberCreateError) (place : ℕ) → MakeSubscriber ample_memory s given place s' refusal → StaysOpen s'
-      make None place h = subst StaysOpen (sym h.3) (warning_open h.0 _ h.1 (update_subscriber_open ample_memory (with_new_subscriber s given place) h.0 s.next_port h.1 h.2 (new place)))
-      make (Some e) place h = absurd h.0
 
   -- a publisher that is closed
   pub publisher_closed_open : (s : State T U) (p : ℕ) (x : Publisher) → StaysOpen s → StaysOpen (publisher_closed s p x)

@@ -1,33 +1,32 @@
 -- Each operation leaves what a run's mailboxes, histories and loans have traced to that run, and what is borrowed borrowed.
 use Rattle.std.proofs.Common.{◌≡◌, ℕ, ◌≤◌, ◌+◌, Bool, true, false, List, [], ◌∷◌, ◌++◌, drop, refl, sym, ap, subst, ◌∙◌, eqb, Option, None, Some, ⊎_elim}
-use Rattle.std.specs.Prelude.{◌&&◌, ◌==◌, nat_lt, max}
+use Rattle.std.specs.Prelude.{◌&&◌, max}
 use Rattle.std.specs.Option.{option_map, option_map_or}
 use Rattle.std.specs.declared.time.Duration.{Duration}
 use Rattle.std.proofs.lemmas.Bool.{cond_both, true≢false, ne_eqb}
 use Rattle.std.proofs.lemmas.Option.{none-some, same_Some}
-use Rattle.iox2_store.specs.machine.Limits.{last_number, buffer_limit}
-use Rattle.iox2_store.specs.machine.Numbers.{put_at, contains, without, last_n, size}
-use Rattle.iox2_store.specs.machine.Places.{occupant, is_port, free_place}
+use Rattle.iox2_store.specs.machine.Numbers.{put_at, contains, without, last_n}
+use Rattle.iox2_store.specs.machine.Places.{occupant, is_port}
 use Rattle.iox2_store.specs.machine.Mailbox.{Mailbox, numbers_in, is_borrowed, waiting_dropped, with_released}
 use Rattle.iox2_store.specs.machine.Records.{Loan, Publisher, Subscriber, Environment, BlockedSend, PublisherSettings, SubscriberSettings}
-use Rattle.iox2_store.specs.machine.State.{State, held, receiving_buffer, has_receiver_end, has_sender_end, is_present, with_mailbox, with_loan, publishers_due}
+use Rattle.iox2_store.specs.machine.State.{State, receiving_buffer, has_receiver_end, has_sender_end, is_present, with_mailbox, with_loan, publishers_due}
 use Rattle.iox2_store.specs.machine.Delivery.{DeliveryEnd, Complete, Suspended, no_time}
 use Rattle.iox2_store.specs.machine.PublisherUpdate.{sender_side, UpdatePublisher}
 use Rattle.iox2_store.specs.machine.SubscriberUpdate.{receiver_side, UpdateSubscriber}
-use Rattle.iox2_store.specs.machine.Loans.{GrantLoan, DynamicLoan, limit_error, is_static, loan_granted, loan_discarded, written}
+use Rattle.iox2_store.specs.machine.Loans.{GrantLoan, loan_granted, loan_discarded, written}
 use Rattle.iox2_store.specs.machine.Sends.{Retry, GiveUp, Publish, DeliverAndConclude, ConcludeSend, SendResult, with_mailboxes, published, more_retries}
 use Rattle.iox2_store.specs.machine.Receives.{Receive, TakeSample, ReceiveResult, Got_sample, No_sample, Receive_error}
 use Rattle.iox2_store.specs.machine.Releases.{released, unborrowed, subscriber_pruned, freed_if_unused, place_freed, is_unused}
-use Rattle.iox2_store.specs.machine.Ports.{CreatePublisher, CreateSubscriber, MakePublisher, MakeSubscriber, with_new_publisher, with_new_subscriber, with_failure_warning, first_segment_fits, buffer_for, publisher_closed, subscriber_closed, subscriber_shut, mailbox_after_publisher, mailbox_after_subscriber, new_publisher}
+use Rattle.iox2_store.specs.machine.Ports.{FirstPublisherUpdate, FirstSubscriberUpdate, CreatePublisher, CreateSubscriber, with_new_publisher, with_new_subscriber, with_failure_warning, publisher_closed, subscriber_closed, subscriber_shut, mailbox_after_publisher, mailbox_after_subscriber, new_publisher}
 use Rattle.iox2_store.specs.machine.SingleCalls.{GrantWrittenLoan}
 use Rattle.iox2_store.specs.declared.errors.ConnectionFailure.{ConnectionFailure}
 use Rattle.iox2_store.specs.declared.errors.LoanError.{LoanError}
-use Rattle.iox2_store.specs.declared.errors.LoanError.TheVariants.{OutOfMemory, ExceedsMaxLoans, ExceedsMaxLoanSize, InternalFailure}
 use Rattle.iox2_store.specs.declared.errors.PublisherCreateError.{PublisherCreateError}
 use Rattle.iox2_store.specs.declared.errors.SubscriberCreateError.{SubscriberCreateError}
 use Rattle.iox2_store.specs.declared.warning.Warning.{Warning}
 use Rattle.iox2_store.specs.declared.warning.Warning.TheVariants.{PublisherPartlyConnected, SubscriberPartlyConnected}
 use Rattle.iox2_laws.proofs.Cases.{by_option, by_bool}
+use Rattle.iox2_laws.proofs.CallCases.{grant_cases, publisher_cases, subscriber_cases}
 use Rattle.iox2_laws.proofs.Puts.{at_each, found_put, found_removed, found_mapped, put_at-same}
 use Rattle.iox2_laws.proofs.NumberLemmas.{contains_in_append, contains_left, contains_right, contains_first, contains_one, contains_in_last_n, contains-without_other}
 use Rattle.iox2_laws.proofs.MailboxLemmas.{contains_in_released}
@@ -254,30 +253,14 @@ module _ {T U : Type 0} where
       put_loan s.loans s.next_message _ t.2 (new, λ _. own),
     )
 
-    dynamic_follows : (environment : Environment) (default_header : U) (s : State T U) (p : ℕ) (x : Publisher) (len : ℕ) (s' : State T U)
-        (refusal : Option LoanError) → s.publishers p ≡ Some x
-        → scope.first_port ≤ p → scope.IsUnsent s.next_message → IsTraced scope s → DynamicLoan environment default_header s p x len s' refusal → Follows scope s s'
-    dynamic_follows environment default_header s p x len s' None present own new t h = subst (Follows scope s) (sym h.4)
-        (granted_follows default_header s p x len h.2 present own new t)
-    dynamic_follows environment default_header s p x len s' (Some OutOfMemory) present own new t h = subst (Follows scope s) (sym h.0) (follows_itself s t)
-    dynamic_follows environment default_header s p x len s' (Some InternalFailure) present own new t h = subst (Follows scope s) (sym h.0) (follows_itself s t)
-    dynamic_follows environment default_header s p x len s' (Some ExceedsMaxLoans) present own new t h = absurd h
-    dynamic_follows environment default_header s p x len s' (Some ExceedsMaxLoanSize) present own new t h = absurd h
-
     -- A publisher of the run is asked for a loan.
     pub grant_loan_follows : (environment : Environment) (default_header : U) (checks_length : Bool) (len : ℕ) (s : State T U) (p : ℕ) (s' : State T U)
         (refusal : Option LoanError)
         → scope.first_port ≤ p → scope.IsUnsent s.next_message → IsTraced scope s → GrantLoan environment default_header checks_length len s p s' refusal
         → Follows scope s s'
     grant_loan_follows environment default_header checks_length len s p s' refusal own new t h =
-        by_option (Follows scope s s') (s.publishers p) _ _ h (λ _ v. absurd v) (λ x present h.
-        by_option (Follows scope s s') (limit_error checks_length x len) _ _ h
-        (λ _ k. by_bool (Follows scope s s') (is_static x.allocation_strategy) _ _ k
-        (λ _ j. by_bool (Follows scope s s') (size (held s p x) == x.slots) _ _ j (λ _ e. subst (Follows scope s) (sym e.0) (follows_itself s t))
-        (λ _ i. by_bool (Follows scope s s') (s.next_message == last_number) _ _ i (λ _ e. subst (Follows scope s) (sym e.0) (follows_itself s t))
-        (λ _ e. subst (Follows scope s) (sym e.0) (granted_follows default_header s p x len x.segments present own new t))))
-        (λ _ j. dynamic_follows environment default_header s p x len s' refusal present own new t j))
-        (λ limit _ e. subst (Follows scope s) (sym e.0) (follows_itself s t)))
+        grant_cases environment default_header checks_length len s p s' (Follows scope s s') refusal h (λ e same _. subst (Follows scope s) (sym same) (follows_itself s t))
+        (λ x present grants. subst (Follows scope s) (sym grants.4) (granted_follows default_header s p x len grants.0 present own new t))
 
     -- A loan is changed.
     pub with_loan_follows : (s : State T U) (n : ℕ) (l l' : Loan T U) → s.loans n ≡ Some l → l'.publisher ≡ l.publisher → IsTraced scope s
@@ -379,55 +362,36 @@ module _ {T U : Type 0} where
     warned_follows s warning None t = follows_itself s t
     warned_follows s warning (Some e) t = follows_itself s t
 
-    make_publisher_follows : (environment : Environment) (s : State T U) (given : PublisherSettings) (place : ℕ) (s' : State T U)
-        (refusal : Option PublisherCreateError)
-        → scope.first_port ≤ s.next_port → IsTraced scope s → MakePublisher environment s given place s' refusal → Follows scope s s'
-    make_publisher_follows environment s given place s' None own t h =
+    -- A publisher is made, or it is refused.
+    pub create_publisher_follows : (environment : Environment) (s : State T U) (given : PublisherSettings) (s' : State T U) (refusal : Option PublisherCreateError)
+        → scope.first_port ≤ s.next_port → IsTraced scope s → CreatePublisher environment s given s' refusal → Follows scope s s'
+    create_publisher_follows environment s given s' refusal own t h =
+        publisher_cases environment s given s' (Follows scope s s') refusal h (λ e same _. subst (Follows scope s) (sym same) (follows_itself s t)) (λ place makes.
         let new : State T U = with_new_publisher s given place in
+        let first : FirstPublisherUpdate environment new s.next_port s' = makes.2 in
         let f : Follows scope s new = (
           same_good s t.0,
           put_publisher scope s.publishers s.next_port (new_publisher s given place) t.1 (λ _. (λ k h. absurd (true≢false (sym h)), λ b e. absurd (none-some b e))),
           t.2,
         ) in
-        let g : Follows scope new h.0 = update_publisher_follows environment new s.next_port h.0 h.1 own (traced_after s new f) h.2 in
-        let whole : Follows scope s h.0 = follows_trans s new h.0 f g in
-        subst (Follows scope s) (sym h.3) (follows_trans s h.0 (with_failure_warning h.0 (PublisherPartlyConnected s.next_port) h.1) whole
-        (warned_follows h.0 (PublisherPartlyConnected s.next_port) h.1 (traced_after s h.0 whole)))
-    make_publisher_follows environment s given place s' (Some e) own t h = subst (Follows scope s) (sym h.1) (follows_itself s t)
-
-    -- A publisher is made, or it is refused.
-    pub create_publisher_follows : (environment : Environment) (s : State T U) (given : PublisherSettings) (s' : State T U) (refusal : Option PublisherCreateError)
-        → scope.first_port ≤ s.next_port → IsTraced scope s → CreatePublisher environment s given s' refusal → Follows scope s s'
-    create_publisher_follows environment s given s' refusal own t h =
-        by_bool (Follows scope s s') (s.next_port == last_number) _ _ h (λ _ k. subst (Follows scope s) (sym k.0) (follows_itself s t)) (λ _ k.
-        by_option (Follows scope s s') (free_place (s.config).max_publishers s.publisher_places) _ _ k
-        (λ _ j. subst (Follows scope s) (sym j.0) (follows_itself s t)) (λ place _ j.
-        by_bool (Follows scope s s') (first_segment_fits s.config given) _ _ j
-        (λ _ i. make_publisher_follows environment s given place s' refusal own t i)
-        (λ _ i. subst (Follows scope s) (sym i.0) (follows_itself s t))))
-
-    make_subscriber_follows : (environment : Environment) (s : State T U) (given : SubscriberSettings) (place : ℕ) (s' : State T U)
-        (refusal : Option SubscriberCreateError)
-        → IsTraced scope s → MakeSubscriber environment s given place s' refusal → Follows scope s s'
-    make_subscriber_follows environment s given place s' None t h =
-        let new : State T U = with_new_subscriber s given place in
-        let f : Follows scope s new = (same_good s t.0, due_traced s t.1, t.2) in
-        let g : Follows scope new h.0 = update_subscriber_follows environment new s.next_port h.0 h.1 (traced_after s new f) h.2 in
-        let whole : Follows scope s h.0 = follows_trans s new h.0 f g in
-        subst (Follows scope s) (sym h.3) (follows_trans s h.0 (with_failure_warning h.0 (SubscriberPartlyConnected s.next_port) h.1) whole
-        (warned_follows h.0 (SubscriberPartlyConnected s.next_port) h.1 (traced_after s h.0 whole)))
-    make_subscriber_follows environment s given place s' (Some e) t h = subst (Follows scope s) (sym h.1) (follows_itself s t)
+        let g : Follows scope new first.0 = update_publisher_follows environment new s.next_port first.0 first.1 own (traced_after s new f) first.2 in
+        let whole : Follows scope s first.0 = follows_trans s new first.0 f g in
+        subst (Follows scope s) (sym first.3) (follows_trans s first.0 (with_failure_warning first.0 (PublisherPartlyConnected s.next_port) first.1) whole
+        (warned_follows first.0 (PublisherPartlyConnected s.next_port) first.1 (traced_after s first.0 whole))))
 
     -- A subscriber is made, or it is refused.
     pub create_subscriber_follows : (environment : Environment) (s : State T U) (given : SubscriberSettings) (s' : State T U)
         (refusal : Option SubscriberCreateError)
         → IsTraced scope s → CreateSubscriber environment s given s' refusal → Follows scope s s'
     create_subscriber_follows environment s given s' refusal t h =
-        by_bool (Follows scope s s') (s.next_port == last_number) _ _ h (λ _ k. subst (Follows scope s) (sym k.0) (follows_itself s t)) (λ _ k.
-        by_bool (Follows scope s s') (nat_lt (buffer_limit s.config) (buffer_for given)) _ _ k (λ _ j. subst (Follows scope s) (sym j.0) (follows_itself s t)) (λ _ j.
-        by_option (Follows scope s s') (free_place (s.config).max_subscribers s.subscriber_places) _ _ j
-        (λ _ i. subst (Follows scope s) (sym i.0) (follows_itself s t)) (λ place _ i.
-        make_subscriber_follows environment s given place s' refusal t i)))
+        subscriber_cases environment s given s' (Follows scope s s') refusal h (λ e same _. subst (Follows scope s) (sym same) (follows_itself s t)) (λ place makes.
+        let new : State T U = with_new_subscriber s given place in
+        let first : FirstSubscriberUpdate environment new s.next_port s' = makes.3 in
+        let f : Follows scope s new = (same_good s t.0, due_traced s t.1, t.2) in
+        let g : Follows scope new first.0 = update_subscriber_follows environment new s.next_port first.0 first.1 (traced_after s new f) first.2 in
+        let whole : Follows scope s first.0 = follows_trans s new first.0 f g in
+        subst (Follows scope s) (sym first.3) (follows_trans s first.0 (with_failure_warning first.0 (SubscriberPartlyConnected s.next_port) first.1) whole
+        (warned_follows first.0 (SubscriberPartlyConnected s.next_port) first.1 (traced_after s first.0 whole))))
 
     -- A publisher is closed.
     pub publisher_closed_follows : (s : State T U) (p : ℕ) (x : Publisher) → IsTraced scope s → Follows scope s (publisher_closed s p x)

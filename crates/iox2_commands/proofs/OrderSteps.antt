@@ -1,19 +1,18 @@
 -- Steps in which nothing is sent or received: loans, releases and closes.
-use Rattle.std.proofs.Common.{◌≡◌, ℕ, ◌≤◌, Bool, true, false, cond, List, refl, sym, ap, subst, ◌∙◌, arith, eqb, inl, inr, Option, None, Some, is_some}
+use Rattle.std.proofs.Common.{◌≡◌, ℕ, ◌≤◌, Bool, true, false, cond, List, refl, sym, ap, subst, ◌∙◌, arith, inl, inr, Option, None, Some, is_some}
 use Rattle.std.specs.Option.{option_map, option_and_then}
 use Rattle.std.proofs.lemmas.Bool.{cond_both, true≢false}
-use Rattle.iox2_store.specs.machine.Limits.{last_number}
-use Rattle.iox2_store.specs.machine.Numbers.{put_at, without, size}
+use Rattle.iox2_store.specs.machine.Numbers.{put_at, without}
 use Rattle.iox2_store.specs.machine.Mailbox.{Mailbox, waiting_dropped, with_released}
 use Rattle.iox2_store.specs.machine.Records.{Loan, Publisher, Subscriber, Environment}
-use Rattle.iox2_store.specs.machine.State.{State, held, with_loan, with_mailbox, subscriber_changed}
-use Rattle.iox2_store.specs.machine.Loans.{GrantLoan, limit_error, is_static, DynamicLoan, loan_granted, loan_discarded, written}
+use Rattle.iox2_store.specs.machine.State.{State, with_loan, with_mailbox, subscriber_changed}
+use Rattle.iox2_store.specs.machine.Loans.{GrantLoan, loan_granted, loan_discarded, written}
 use Rattle.iox2_store.specs.machine.SingleCalls.{GrantWrittenLoan}
 use Rattle.iox2_store.specs.machine.Releases.{released, unborrowed, subscriber_pruned, pruned, freed_if_unused, place_freed, is_unused}
 use Rattle.iox2_store.specs.machine.Ports.{publisher_closed, publisher_gone, subscribers_pruned, mailbox_after_publisher, subscriber_closed, subscriber_shut, mailbox_after_subscriber}
 use Rattle.iox2_store.specs.declared.errors.LoanError.{LoanError}
-use Rattle.iox2_store.specs.declared.errors.LoanError.TheVariants.{OutOfMemory, ExceedsMaxLoans, ExceedsMaxLoanSize, InternalFailure}
-use Rattle.iox2_laws.proofs.Cases.{by_option, by_bool}
+use Rattle.iox2_laws.proofs.Cases.{by_option}
+use Rattle.iox2_laws.proofs.CallCases.{grant_cases}
 use Rattle.iox2_laws.proofs.Puts.{at_each, found_put, found_removed, found_mapped}
 use Rattle.iox2_commands.specs.Runs.{IsSubsequence}
 use Rattle.iox2_commands.proofs.Subsequences.{IsSubsequence-nil, IsSubsequence-refl}
@@ -108,26 +107,12 @@ module _ {T U : Type 0} (p0 : ℕ) where
   unchanged : (s s' : State T U) → s' ≡ s → Quiet p0 s s'
   unchanged s s' e = subst (Quiet p0 s) (sym e) (quiet_refl s)
 
-  dynamic_loan_quiet : (environment : Environment) (default_header : U) (s : State T U) (p : ℕ) (x : Publisher) (len : ℕ) (s' : State T U) (refusal : Option LoanError) → p0 ≤ p → s.publishers p ≡ Some x
-      → DynamicLoan environment default_header s p x len s' refusal → Quiet p0 s s'
-  dynamic_loan_quiet environment default_header s p x len s' None new found h = subst (Quiet p0 s) (sym h.4) (loan_granted_quiet default_header s p x len h.2 new found)
-  dynamic_loan_quiet environment default_header s p x len s' (Some OutOfMemory) new found h = unchanged s s' h.0
-  dynamic_loan_quiet environment default_header s p x len s' (Some InternalFailure) new found h = unchanged s s' h.0
-  dynamic_loan_quiet environment default_header s p x len s' (Some ExceedsMaxLoans) new found h = absurd h
-  dynamic_loan_quiet environment default_header s p x len s' (Some ExceedsMaxLoanSize) new found h = absurd h
-
   -- A loan is granted or refused.
   pub grant_loan_quiet : (environment : Environment) (default_header : U) (checks_length : Bool) (len : ℕ) (s : State T U) (p : ℕ) (s' : State T U) (refusal : Option LoanError) → p0 ≤ p
       → GrantLoan environment default_header checks_length len s p s' refusal → Quiet p0 s s'
   grant_loan_quiet environment default_header checks_length len s p s' refusal new h =
-      by_option (Quiet p0 s s') (s.publishers p) _ _ h (λ _ v. absurd v) (λ x found h.
-      by_option (Quiet p0 s s') (limit_error checks_length x len) _ _ h
-      (λ _ h. by_bool (Quiet p0 s s') (is_static x.allocation_strategy) _ _ h
-      (λ _ h. by_bool (Quiet p0 s s') (eqb (size (held s p x)) x.slots) _ _ h (λ _ h. unchanged s s' h.0)
-      (λ _ h. by_bool (Quiet p0 s s') (eqb s.next_message last_number) _ _ h (λ _ h. unchanged s s' h.0)
-      (λ _ h. subst (Quiet p0 s) (sym h.0) (loan_granted_quiet default_header s p x len x.segments new found))))
-      (λ _ h. dynamic_loan_quiet environment default_header s p x len s' refusal new found h))
-      (λ _ _ h. unchanged s s' h.0))
+      grant_cases environment default_header checks_length len s p s' (Quiet p0 s s') refusal h (λ e same _. unchanged s s' same)
+      (λ x found grants. subst (Quiet p0 s) (sym grants.4) (loan_granted_quiet default_header s p x len grants.0 new found))
 
   -- ---- mailboxes and subscribers
 

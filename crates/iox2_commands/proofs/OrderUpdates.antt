@@ -1,18 +1,18 @@
 -- Steps in which nothing is sent or received: updates, and ports that are made.
-use Rattle.std.proofs.Common.{◌≡◌, ℕ, ◌≤◌, Bool, true, false, cond, List, refl, sym, ap, subst, ◌∙◌, arith, eqb, ltb, ◌⊎◌, inl, inr, ⊎_elim, Option, None, Some, is_some}
+use Rattle.std.proofs.Common.{◌≡◌, ℕ, ◌≤◌, Bool, true, false, cond, List, refl, sym, ap, subst, ◌∙◌, arith, eqb, ◌⊎◌, inl, inr, ⊎_elim, Option, None, Some, is_some}
 use Rattle.std.specs.Option.{option_and_then}
 use Rattle.std.proofs.lemmas.Bool.{true≢false, ne_eqb, eq-eqb}
 use Rattle.std.proofs.lemmas.Option.{none-some, same_Some, option_and_then_some}
-use Rattle.iox2_store.specs.machine.Limits.{last_number, expired_limit, buffer_limit}
+use Rattle.iox2_store.specs.machine.Limits.{expired_limit}
 use Rattle.iox2_store.specs.machine.Numbers.{last_n}
-use Rattle.iox2_store.specs.machine.Places.{occupant, set_place, is_port, free_place}
+use Rattle.iox2_store.specs.machine.Places.{occupant, set_place, is_port}
 use Rattle.iox2_store.specs.machine.Mailbox.{Mailbox, waiting_dropped, with_waiting}
 use Rattle.iox2_store.specs.machine.Records.{Publisher, Subscriber, Handler, Environment, PublisherSettings, SubscriberSettings}
 use Rattle.iox2_store.specs.machine.State.{State, receiving_buffer, has_receiver_end, has_sender_end, with_warning}
 use Rattle.iox2_store.specs.machine.Connections.{ForEachPlace}
 use Rattle.iox2_store.specs.machine.PublisherUpdate.{SenderSide, SenderAction, Keep_end, Drop_waiting, Disconnect, Connect, sender_action, dropped, disconnected, connected, Performs, UpdateSenderPlace, sender_side, with_sender_side, UpdatePublisher}
 use Rattle.iox2_store.specs.machine.SubscriberUpdate.{ReceiverSide, Retirement, Keep_expired, Evict, Discard_data, Refuse, data_discarded, after_retirement, is_refused, retirement_of, with_end, ConnectReceiver, Retire, ConnectAtPlace, DisconnectAtPlace, UpdateReceiverSide, receiver_side, with_receiver_side, UpdateSubscriber}
-use Rattle.iox2_store.specs.machine.Ports.{with_new_publisher, new_publisher, with_new_subscriber, new_subscriber, with_failure_warning, buffer_for, first_segment_fits, MakePublisher, CreatePublisher, MakeSubscriber, CreateSubscriber}
+use Rattle.iox2_store.specs.machine.Ports.{FirstPublisherUpdate, FirstSubscriberUpdate, with_new_publisher, new_publisher, with_new_subscriber, new_subscriber, with_failure_warning, CreatePublisher, CreateSubscriber}
 use Rattle.iox2_store.specs.machine.WellFormed.{LeadsTo, IsInjective, IsWellFormed}
 use Rattle.iox2_store.specs.declared.degradation.DegradationAction.{DegradationAction}
 use Rattle.iox2_store.specs.declared.errors.ConnectionFailure.{ConnectionFailure}
@@ -20,6 +20,7 @@ use Rattle.iox2_store.specs.declared.errors.PublisherCreateError.{PublisherCreat
 use Rattle.iox2_store.specs.declared.errors.SubscriberCreateError.{SubscriberCreateError}
 use Rattle.iox2_store.specs.declared.warning.Warning.{Warning}
 use Rattle.iox2_laws.proofs.Cases.{by_option, by_bool}
+use Rattle.iox2_laws.proofs.CallCases.{publisher_cases, subscriber_cases}
 use Rattle.iox2_laws.proofs.Puts.{at_each, found_put, put_at-same}
 use Rattle.iox2_laws.proofs.PlaceLemmas.{occupant-set_place, is_port-false, found_set}
 use Rattle.iox2_laws.proofs.Walks.{for_each_place_keeps}
@@ -323,39 +324,26 @@ module _ {T U : Type 0} (p0 n0 : ℕ) (out : ℕ → List ℕ) (got : ℕ → �
   same_state : (s' : State T U) → s' ≡ s → Ordered p0 n0 out got s'
   same_state s' e = subst (Ordered p0 n0 out got) (sym e) w
 
-  make_publisher_ordered : (given : PublisherSettings) (place : ℕ) (s' : State T U) (refusal : Option PublisherCreateError) → IsWellFormed s
-      → MakePublisher environment s given place s' refusal → Ordered p0 n0 out got s'
-  make_publisher_ordered given place s' None v h =
-      let t : State T U = with_new_publisher s given place in
-      let w1 : Ordered p0 n0 out got t = quiet_keeps p0 n0 out got s t w (new_publisher_quiet p0 s given place) in
-      let w2 : Ordered p0 n0 out got h.0 = quiet_keeps p0 n0 out got t h.0 w1
-      (update_quiet_from p0 environment t s.next_port (new_publisher s given place) h.0 h.1 w.ports (put_at-same s.publishers s.next_port (Some (new_publisher s given place))) refl
-      (places_apart p0 s v) (λ i q buffer e _. absurd (none-some q e)) h.2) in
-      subst (Ordered p0 n0 out got) (sym h.3) (quiet_keeps p0 n0 out got h.0 _ w2 (warning_quiet p0 h.0 _ h.1))
-  make_publisher_ordered given place s' (Some e) v h = same_state s' h.1
-
   -- A publisher is made or refused.
   pub create_publisher_ordered : (given : PublisherSettings) (s' : State T U) (refusal : Option PublisherCreateError) → IsWellFormed s
       → CreatePublisher environment s given s' refusal → Ordered p0 n0 out got s'
   create_publisher_ordered given s' refusal v h =
-      by_bool (Ordered p0 n0 out got s') (eqb s.next_port last_number) _ _ h (λ _ h. same_state s' h.0) (λ _ h.
-      by_option (Ordered p0 n0 out got s') (free_place (s.config).max_publishers s.publisher_places) _ _ h (λ _ h. same_state s' h.0) (λ place _ h.
-      by_bool (Ordered p0 n0 out got s') (first_segment_fits s.config given) _ _ h (λ _ h. make_publisher_ordered given place s' refusal v h) (λ _ h. same_state s' h.0)))
-
-  make_subscriber_ordered : (given : SubscriberSettings) (place : ℕ) (s' : State T U) (refusal : Option SubscriberCreateError)
-      → MakeSubscriber environment s given place s' refusal → Ordered p0 n0 out got s'
-  make_subscriber_ordered given place s' None h =
-      let t : State T U = with_new_subscriber s given place in
-      let w1 : Ordered p0 n0 out got t = quiet_keeps p0 n0 out got s t w (new_subscriber_quiet p0 s given place) in
-      let w2 : Ordered p0 n0 out got h.0 = quiet_keeps p0 n0 out got t h.0 w1 (update_subscriber_quiet p0 environment t s.next_port h.0 h.1 h.2) in
-      subst (Ordered p0 n0 out got) (sym h.3) (quiet_keeps p0 n0 out got h.0 _ w2 (warning_quiet p0 h.0 _ h.1))
-  make_subscriber_ordered given place s' (Some e) h = same_state s' h.1
+      publisher_cases environment s given s' (Ordered p0 n0 out got s') refusal h (λ e same _. same_state s' same) (λ place makes.
+      let t : State T U = with_new_publisher s given place in
+      let first : FirstPublisherUpdate environment t s.next_port s' = makes.2 in
+      let w1 : Ordered p0 n0 out got t = quiet_keeps p0 n0 out got s t w (new_publisher_quiet p0 s given place) in
+      let w2 : Ordered p0 n0 out got first.0 = quiet_keeps p0 n0 out got t first.0 w1
+      (update_quiet_from p0 environment t s.next_port (new_publisher s given place) first.0 first.1 w.ports (put_at-same s.publishers s.next_port (Some (new_publisher s given place))) refl
+      (places_apart p0 s v) (λ i q buffer e _. absurd (none-some q e)) first.2) in
+      subst (Ordered p0 n0 out got) (sym first.3) (quiet_keeps p0 n0 out got first.0 _ w2 (warning_quiet p0 first.0 _ first.1)))
 
   -- A subscriber is made or refused.
   pub create_subscriber_ordered : (given : SubscriberSettings) (s' : State T U) (refusal : Option SubscriberCreateError)
       → CreateSubscriber environment s given s' refusal → Ordered p0 n0 out got s'
   create_subscriber_ordered given s' refusal h =
-      by_bool (Ordered p0 n0 out got s') (eqb s.next_port last_number) _ _ h (λ _ h. same_state s' h.0) (λ _ h.
-      by_bool (Ordered p0 n0 out got s') (ltb (buffer_limit s.config) (buffer_for given)) _ _ h (λ _ h. same_state s' h.0) (λ _ h.
-      by_option (Ordered p0 n0 out got s') (free_place (s.config).max_subscribers s.subscriber_places) _ _ h (λ _ h. same_state s' h.0)
-      (λ place _ h. make_subscriber_ordered given place s' refusal h)))
+      subscriber_cases environment s given s' (Ordered p0 n0 out got s') refusal h (λ e same _. same_state s' same) (λ place makes.
+      let t : State T U = with_new_subscriber s given place in
+      let first : FirstSubscriberUpdate environment t s.next_port s' = makes.3 in
+      let w1 : Ordered p0 n0 out got t = quiet_keeps p0 n0 out got s t w (new_subscriber_quiet p0 s given place) in
+      let w2 : Ordered p0 n0 out got first.0 = quiet_keeps p0 n0 out got t first.0 w1 (update_subscriber_quiet p0 environment t s.next_port first.0 first.1 first.2) in
+      subst (Ordered p0 n0 out got) (sym first.3) (quiet_keeps p0 n0 out got first.0 _ w2 (warning_quiet p0 first.0 _ first.1)))

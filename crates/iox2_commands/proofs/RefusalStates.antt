@@ -1,29 +1,26 @@
 -- Publishers that have their memory from the start go on having it.
-use Rattle.std.proofs.Common.{◌≡◌, ℕ, ◌+◌, Bool, true, false, List, [], ◌∷◌, ◌++◌, drop, cond, sym, subst, ◌∙◌, Option, None, Some, eqb}
-use Rattle.std.specs.Prelude.{nat_lt}
+use Rattle.std.proofs.Common.{◌≡◌, ℕ, ◌+◌, Bool, true, false, List, [], ◌∷◌, ◌++◌, drop, cond, sym, subst, Option, None, Some}
 use Rattle.std.specs.Option.{option_map}
 use Rattle.std.specs.declared.time.Duration.{Duration}
-use Rattle.std.proofs.lemmas.Bool.{true≢false}
-use Rattle.iox2_store.specs.machine.Limits.{buffer_limit, last_number}
-use Rattle.iox2_store.specs.machine.Numbers.{put_at, size, without, last_n}
-use Rattle.iox2_store.specs.machine.Places.{free_place}
+use Rattle.iox2_store.specs.machine.Numbers.{put_at, without, last_n}
 use Rattle.iox2_store.specs.machine.SingleCalls.{GrantWrittenLoan}
 use Rattle.iox2_store.specs.machine.Records.{Loan, Publisher, Subscriber, Environment, PublisherSettings, SubscriberSettings, BlockedSend}
-use Rattle.iox2_store.specs.machine.State.{State, held, with_loan, publisher_changed}
+use Rattle.iox2_store.specs.machine.State.{State, with_loan, publisher_changed}
 use Rattle.iox2_store.specs.machine.Delivery.{DeliveryEnd, Complete, Suspended, no_time}
 use Rattle.iox2_store.specs.machine.PublisherUpdate.{UpdatePublisher}
 use Rattle.iox2_store.specs.machine.SubscriberUpdate.{UpdateSubscriber}
-use Rattle.iox2_store.specs.machine.Loans.{GrantLoan, is_static, limit_error, loan_discarded}
+use Rattle.iox2_store.specs.machine.Loans.{GrantLoan, is_static, loan_discarded}
 use Rattle.iox2_store.specs.machine.Sends.{Send, SendResult, Publish, DeliverAndConclude, ConcludeSend, Retry, GiveUp, more_retries, published, with_mailboxes}
 use Rattle.iox2_store.specs.machine.Receives.{Receive, TakeSample, ReceiveResult, Got_sample, No_sample, Receive_error}
 use Rattle.iox2_store.specs.machine.Releases.{released, unborrowed, subscriber_pruned, is_unused, place_freed, freed_if_unused}
-use Rattle.iox2_store.specs.machine.Ports.{new_publisher, with_new_publisher, with_new_subscriber, with_failure_warning, MakePublisher, CreatePublisher, MakeSubscriber, CreateSubscriber, first_segment_fits, buffer_for, publisher_closed, subscriber_shut, subscriber_closed}
+use Rattle.iox2_store.specs.machine.Ports.{FirstPublisherUpdate, FirstSubscriberUpdate, new_publisher, with_new_publisher, with_new_subscriber, with_failure_warning, CreatePublisher, CreateSubscriber, publisher_closed, subscriber_shut, subscriber_closed}
 use Rattle.iox2_store.specs.declared.warning.Warning.{Warning}
 use Rattle.iox2_store.specs.declared.errors.ConnectionFailure.{ConnectionFailure}
 use Rattle.iox2_store.specs.declared.errors.LoanError.{LoanError}
 use Rattle.iox2_store.specs.declared.errors.PublisherCreateError.{PublisherCreateError}
 use Rattle.iox2_store.specs.declared.errors.SubscriberCreateError.{SubscriberCreateError}
 use Rattle.iox2_laws.proofs.Cases.{by_option, by_bool}
+use Rattle.iox2_laws.proofs.CallCases.{grant_cases, publisher_cases, subscriber_cases}
 use Rattle.iox2_laws.proofs.Puts.{found_put, found_removed, found_mapped, at_each}
 
 -- ---- what holds of each port
@@ -135,16 +132,10 @@ module _ {T U : Type 0} where
   pub grant_loan_static : (environment : Environment) (default_header : U) (checks_length : Bool) (len : ℕ) (s s' : State T U) (p : ℕ) (refusal : Option LoanError)
       → GrantLoan environment default_header checks_length len s p s' refusal → AllStatic s → AllStatic s'
   grant_loan_static environment default_header checks_length len s s' p refusal h k =
-      by_option (AllStatic s') (s.publishers p) _ _ h (λ _ v. absurd v) (λ x e h.
-      by_option (AllStatic s') (limit_error checks_length x len) _ _ h
-      (λ _ h. by_bool (AllStatic s') (is_static x.allocation_strategy) _ _ h
-      (λ _ h. by_bool (AllStatic s') (eqb (size (held s p x)) x.slots) _ _ h (λ _ h. subst AllStatic (sym h.0) k) (λ _ h.
-      by_bool (AllStatic s') (eqb s.next_message last_number) _ _ h (λ _ h. subst AllStatic (sym h.0) k) (λ _ h.
-      subst AllStatic (sym h.0) (record {
+      grant_cases environment default_header checks_length len s p s' (AllStatic s') refusal h (λ e same _. subst AllStatic (sym same) k)
+      (λ x e grants. subst AllStatic (sym grants.4) (record {
         publishers = put_each StaticPublisher s.publishers p _ k.publishers (k.publishers p x e);
-      }))))
-      (λ dynamic _. absurd (true≢false (sym (k.publishers p x e) ∙ dynamic))))
-      (λ limit _ h. subst AllStatic (sym h.0) k))
+      }))
 
   pub grant_written_loan_static : (environment : Environment) (value : T) (default_header : U) (checks_length : Bool) (len : ℕ) (s s' : State T U) (p : ℕ) (refusal : Option LoanError)
       → GrantWrittenLoan environment value default_header checks_length len s p s' refusal → AllStatic s → AllStatic s'
@@ -208,14 +199,10 @@ module _ {T U : Type 0} where
   pub create_publisher_static : (environment : Environment) (s s' : State T U) (given : PublisherSettings) (refusal : Option PublisherCreateError)
       → is_static given.allocation_strategy ≡ true → CreatePublisher environment s given s' refusal → AllStatic s → AllStatic s'
   create_publisher_static environment s s' given refusal static h k =
-      by_bool (AllStatic s') (eqb s.next_port last_number) _ _ h (λ _ h. subst AllStatic (sym h.0) k) (λ _ h.
-      by_option (AllStatic s') (free_place (s.config).max_publishers s.publisher_places) _ _ h (λ _ h. subst AllStatic (sym h.0) k) (λ place _ h.
-      by_bool (AllStatic s') (first_segment_fits s.config given) _ _ h (λ _ h. make refusal place h) (λ _ h. subst AllStatic (sym h.0) k)))
-    where
-      make : (refusal : Option PublisherCreateError) (place : ℕ) → MakePublisher environment s given place s' refusal → AllStatic s'
-      make None place h =
-          subst AllStatic (sym h.3) (warning_static h.0 _ h.1 (update_publisher_static environment (with_new_publisher s given place) h.0 s.next_port h.1 h.2 (with_new_publisher_static s given place static k)))
-      make (Some e) place h = subst AllStatic (sym h.1) k
+      publisher_cases environment s given s' (AllStatic s') refusal h (λ e same _. subst AllStatic (sym same) k) (λ place makes.
+      let first : FirstPublisherUpdate environment (with_new_publisher s given place) s.next_port s' = makes.2 in
+      subst AllStatic (sym first.3) (warning_static first.0 _ first.1
+      (update_publisher_static environment (with_new_publisher s given place) first.0 s.next_port first.1 first.2 (with_new_publisher_static s given place static k))))
 
   pub with_new_subscriber_static : (s : State T U) (given : SubscriberSettings) (place : ℕ) → AllStatic s → AllStatic (with_new_subscriber s given place)
   with_new_subscriber_static s given place k = record {
@@ -225,11 +212,7 @@ module _ {T U : Type 0} where
   pub create_subscriber_static : (environment : Environment) (s s' : State T U) (given : SubscriberSettings) (refusal : Option SubscriberCreateError)
       → CreateSubscriber environment s given s' refusal → AllStatic s → AllStatic s'
   create_subscriber_static environment s s' given refusal h k =
-      by_bool (AllStatic s') (eqb s.next_port last_number) _ _ h (λ _ h. subst AllStatic (sym h.0) k) (λ _ h.
-      by_bool (AllStatic s') (nat_lt (buffer_limit s.config) (buffer_for given)) _ _ h (λ _ h. subst AllStatic (sym h.0) k) (λ _ h.
-      by_option (AllStatic s') (free_place (s.config).max_subscribers s.subscriber_places) _ _ h (λ _ h. subst AllStatic (sym h.0) k) (λ place _ h. make refusal place h)))
-    where
-      make : (refusal : Option SubscriberCreateError) (place : ℕ) → MakeSubscriber environment s given place s' refusal → AllStatic s'
-      make None place h =
-          subst AllStatic (sym h.3) (warning_static h.0 _ h.1 (update_subscriber_static environment (with_new_subscriber s given place) h.0 s.next_port h.1 h.2 (with_new_subscriber_static s given place k)))
-      make (Some e) place h = subst AllStatic (sym h.1) k
+      subscriber_cases environment s given s' (AllStatic s') refusal h (λ e same _. subst AllStatic (sym same) k) (λ place makes.
+      let first : FirstSubscriberUpdate environment (with_new_subscriber s given place) s.next_port s' = makes.3 in
+      subst AllStatic (sym first.3) (warning_static first.0 _ first.1
+      (update_subscriber_static environment (with_new_subscriber s given place) first.0 s.next_port first.1 first.2 (with_new_subscriber_static s given place k))))

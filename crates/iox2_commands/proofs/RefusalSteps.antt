@@ -3,14 +3,12 @@ use Rattle.std.proofs.Common.{◌≡◌, ℕ, ◌+◌, Bool, true, false, ◌||�
 use Rattle.std.specs.Prelude.{nat_lt, MatchOption}
 use Rattle.std.specs.Bool.{MatchBool}
 use Rattle.std.specs.declared.time.Duration.{Duration}
-use Rattle.std.proofs.lemmas.Bool.{true≢false}
 use Rattle.iox2_store.specs.machine.Limits.{buffer_limit, last_number}
 use Rattle.iox2_store.specs.machine.Mailbox.{Mailbox, has_room}
-use Rattle.iox2_store.specs.machine.Numbers.{size}
 use Rattle.iox2_store.specs.machine.Places.{free_place}
 use Rattle.iox2_store.specs.machine.SingleCalls.{GrantWrittenLoan}
 use Rattle.iox2_store.specs.machine.Records.{Loan, Publisher, Subscriber, BlockedSend, Handler, Fixed, Custom, PublisherSettings, SubscriberSettings}
-use Rattle.iox2_store.specs.machine.State.{State, held, warned, receiving_buffer}
+use Rattle.iox2_store.specs.machine.State.{State, warned, receiving_buffer}
 use Rattle.iox2_store.specs.machine.Delivery.{PutResult, DeliveryEnd, Complete, Suspended, Decides, Put, PutAtEnd, Deliver, is_blocking, is_failed, accepted_count, no_time}
 use Rattle.iox2_store.specs.machine.Loans.{GrantLoan, is_static, limit_error, loan_discarded}
 use Rattle.iox2_store.specs.machine.Sends.{Send, SendResult, Send_error, Publish, DeliverAndConclude, ConcludeSend, Retry, GiveUp, more_retries, published, with_mailboxes}
@@ -32,6 +30,7 @@ use Rattle.iox2_store.specs.declared.service_config.ServiceConfig.{ServiceConfig
 use Rattle.iox2_store.specs.declared.warning.Warning.{Warning}
 use Rattle.iox2_store.specs.declared.warning.Warning.TheVariants.{ExpiredBufferRaised}
 use Rattle.iox2_laws.proofs.Cases.{by_option, by_bool}
+use Rattle.iox2_laws.proofs.CallCases.{grant_cases}
 use Rattle.iox2_commands.specs.Refusals.{TellNoRefusal}
 use Rattle.iox2_commands.proofs.RefusalUpdates.{option_maps, bool_maps, update_publisher_ample, update_publisher_told, update_subscriber_ample, update_subscriber_told}
 use Rattle.iox2_commands.proofs.RefusalStates.{AllStatic}
@@ -96,13 +95,8 @@ module _ {T U : Type 0} where
         option_maps (limit_error checks_length x len) _ _ _ _ h
         (λ h. static_only x e _ _ _ h)
         (λ limit _ h. h)),
-    by_option (s'.warnings ≡ s.warnings) (s.publishers p) _ _ h (λ _ v. absurd v) (λ x e h.
-        by_option (s'.warnings ≡ s.warnings) (limit_error checks_length x len) _ _ h
-        (λ _ h. by_bool (s'.warnings ≡ s.warnings) (is_static x.allocation_strategy) _ _ h
-        (λ _ h. by_bool (s'.warnings ≡ s.warnings) (eqb (size (held s p x)) x.slots) _ _ h (λ _ h. ap (λ (z : State T U). z.warnings) h.0) (λ _ h.
-        by_bool (s'.warnings ≡ s.warnings) (eqb s.next_message last_number) _ _ h (λ _ h. ap (λ (z : State T U). z.warnings) h.0) (λ _ h. ap (λ (z : State T U). z.warnings) h.0)))
-        (λ dynamic _. absurd (true≢false (sym (k.publishers p x e) ∙ dynamic))))
-        (λ limit _ h. ap (λ (z : State T U). z.warnings) h.0)),
+    grant_cases fixed_handlers default_header checks_length len s p s' (s'.warnings ≡ s.warnings) refusal h (λ e same _. ap (λ (z : State T U). z.warnings) same)
+        (λ x _ grants. ap (λ (z : State T U). z.warnings) grants.4),
   )
     where
       static_only : (x : Publisher) → s.publishers p ≡ Some x → (P Q Q' : Type 0) → MatchBool (is_static x.allocation_strategy) P Q → MatchBool (is_static x.allocation_strategy) P Q'
