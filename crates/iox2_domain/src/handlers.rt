@@ -1,5 +1,4 @@
 //! What answers for a port.
-ghost use Rattle.std.specs.Prelude.{◌≡◌};
 ghost use Rattle.iox2_domain.specs.Boxes.{BoxAnswers, box_of};
 
 use crate::boxes::Boxes;

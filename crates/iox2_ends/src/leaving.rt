@@ -1,5 +1,5 @@
 //! A publisher that closes leaves its connections and its history.
-ghost use Rattle.std.specs.Prelude.{◌≡◌, ℕ, ◌≤◌, []};
+ghost use Rattle.std.specs.Prelude.{◌≡◌, ℕ, ◌≤◌};
 ghost use Rattle.iox2_slots.specs.SlotBook.{holders_at};
 ghost use Rattle.iox2_ends.specs.Counters.{times, with_counters};
 ghost use Rattle.iox2_ends.specs.Reclaims.{IsHeld};

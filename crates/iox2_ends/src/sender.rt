@@ -1,5 +1,5 @@
 //! A publisher's end: its messages go to the connections at its places.
-ghost use Rattle.std.specs.Prelude.{◌≡◌, ℕ, ◌+◌, ◌≤◌, ◌<◌, ◌^◌, [], ◌∷◌, ◌++◌, true, None, Some, length, slice_index, slice_index_or, IsSomeAnd, map};
+ghost use Rattle.std.specs.Prelude.{◌≡◌, ℕ, ◌+◌, ◌≤◌, ◌<◌, ◌^◌, [], ◌∷◌, ◌++◌, true, None, Some, length, slice_index_or, IsSomeAnd, map};
 ghost use Rattle.std.specs.Option.{option_map};
 ghost use Rattle.iox2_slots.specs.Link.{load, IsBounded};
 ghost use Rattle.iox2_store.specs.declared.backpressure.BackpressureAction.{BackpressureAction};

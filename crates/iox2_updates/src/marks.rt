@@ -1,6 +1,5 @@
 //! Connections are marked as open while both their ports are there and open, so that a message asks
 //! nothing about them.
-ghost use Rattle.std.specs.Prelude.{◌≡◌};
 ghost use Rattle.iox2_domain.specs.Invariant.{IsDomain};
 ghost use Rattle.iox2_domain.specs.OpenMarks.{ChangesMarks, ClearsEnd, ClearsMarks, IsUnmarkedReceiver, IsUnmarkedSender};
 

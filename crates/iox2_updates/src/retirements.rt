@@ -1,5 +1,5 @@
 //! A departed publisher's connection leaves its place at a subscriber.
-ghost use Rattle.std.specs.Prelude.{◌≡◌, ◌<◌, ℕ, true, false, None, Some, length, slice_index_or};
+ghost use Rattle.std.specs.Prelude.{◌≡◌, ◌<◌, true, false, None, Some, length, slice_index_or};
 ghost use Rattle.slab.specs.Slab.{get, ContainsKey};
 ghost use Rattle.iox2_slots.specs.Link.{Link};
 ghost use Rattle.iox2_slots.specs.SlotBook.{Book};

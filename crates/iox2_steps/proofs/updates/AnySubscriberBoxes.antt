@@ -11,8 +11,7 @@ use Rattle.iox2_store.specs.machine.Ports.{CreatePublisher, CreateSubscriber, Ma
 use Rattle.iox2_store.specs.machine.Receives.{HasSamples, Receive, ReceiveResult}
 use Rattle.iox2_store.specs.machine.Records.{Environment, Handler, Publisher, PublisherSettings, Subscriber, SubscriberSettings}
 use Rattle.iox2_store.specs.machine.State.{State, has_sender_end}
-use Rattle.iox2_store.specs.machine.SubscriberUpdate.{ReceiverSide, ConnectReceiver, ConnectAtPlace, DisconnectAtPlace, Retire, UpdateReceiverSide, UpdateSubscriber, after_retirement, is_refused, receiver_side, retirement_of, with_end, with_receiver_side}
-use Rattle.iox2_store.specs.machine.Connections.{expired_buffer_full}
+use Rattle.iox2_store.specs.machine.SubscriberUpdate.{ReceiverSide, ConnectReceiver, ConnectAtPlace, Retire, UpdateReceiverSide, UpdateSubscriber, after_retirement, is_refused, receiver_side, retirement_of, with_end, with_receiver_side}
 use Rattle.iox2_store.specs.declared.degradation.DegradationAction.{DegradationAction}
 use Rattle.iox2_store.specs.declared.errors.ConnectionFailure.{ConnectionFailure}
 use Rattle.iox2_store.specs.declared.errors.PublisherCreateError.{PublisherCreateError}
