@@ -1,9 +1,9 @@
 //! What lies in slots, to be changed.
-ghost use Rattle.std.specs.Prelude.{◌≡◌, ◌<◌, List, None, Some, length, false, slice_index_or, IsSome};
+ghost use Rattle.std.specs.Prelude.{◌≡◌, ◌<◌, None, Some, length, false, slice_index_or, IsSome};
 ghost use Rattle.std.specs.Borrow.{sem};
 ghost use Rattle.slab.specs.Slab.{get};
 ghost use Rattle.iox2_slots.specs.SlotBook.{Book};
-ghost use Rattle.iox2_contents.specs.SlotContents.{ContentState, SomeAt, cells_at, values_at, first_cell_at, first_value_at, user_header_at};
+ghost use Rattle.iox2_contents.specs.SlotContents.{cells_at, values_at, first_cell_at, first_value_at, user_header_at};
 ghost use Rattle.iox2_slots.specs.declared.slots.mark.SlotMark.TheVariants.{Written};
 ghost use Rattle.iox2_domain.specs.Fields.{contents_at};
 ghost use Rattle.iox2_domain.specs.LoanCalls.{HasContents, HasContentIn, with_mark};

@@ -1,5 +1,5 @@
 //! A loan is given back unsent.
-ghost use Rattle.std.specs.Prelude.{◌≡◌, ℕ, ◌≤◌, None, Some, slice_index_or};
+ghost use Rattle.std.specs.Prelude.{◌≡◌, ◌≤◌, None, Some, slice_index_or};
 ghost use Rattle.slab.specs.Slab.{get};
 ghost use Rattle.iox2_slots.specs.SlotBook.{Book, IsInUse};
 ghost use Rattle.iox2_store.specs.machine.SingleCalls.{HoldsLoan};
