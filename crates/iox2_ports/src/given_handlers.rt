@@ -1,5 +1,5 @@
 //! The handlers that a new port is given.
-ghost use Rattle.std.specs.Prelude.{◌≡◌, ◌≢◌, ℕ, IsTrue, OnOk};
+ghost use Rattle.std.specs.Prelude.{◌≡◌, ◌≢◌, ℕ, OnOk};
 ghost use Rattle.iox2_domain.specs.Boxes.{box_of, boxes_of, degradation_box_of};
 ghost use Rattle.iox2_domain.specs.Handlers.{handler_if_any};
 ghost use Rattle.iox2_ends.specs.Handlers.{marks_of};

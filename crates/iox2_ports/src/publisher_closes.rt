@@ -1,5 +1,5 @@
 //! A publisher closes.
-ghost use Rattle.std.specs.Prelude.{◌≡◌, ◌↔◌, ◌<◌, None, Some, length, map, slice_index_or, slice_set, All, IsSomeAnd, IsTrue};
+ghost use Rattle.std.specs.Prelude.{◌≡◌, ◌↔◌, ◌<◌, None, Some, length, map, slice_index_or, IsSomeAnd, IsTrue};
 ghost use Rattle.std.specs.Option.{option_map, option_and_then};
 ghost use Rattle.slab.specs.Slab.{get, Updates};
 ghost use Rattle.iox2_store.specs.machine.Ports.{publisher_closed};

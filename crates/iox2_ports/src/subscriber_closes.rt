@@ -1,10 +1,9 @@
 //! A subscriber closes.
-ghost use Rattle.std.specs.Prelude.{◌≡◌, ◌≢◌, ◌<◌, ◌↔◌, None, Some, cond, length, map, slice_index_or, IsSome, IsSomeAnd, IsTrue};
-ghost use Rattle.slab.specs.Slab.{Updates, ContainsKey, get};
+ghost use Rattle.std.specs.Prelude.{◌≡◌, ◌<◌, ◌↔◌, None, Some, length, map, slice_index_or, IsSome, IsSomeAnd, IsTrue};
+ghost use Rattle.slab.specs.Slab.{get};
 ghost use Rattle.iox2_slots.specs.Link.{Link};
-ghost use Rattle.iox2_store.specs.machine.Places.{is_port, vacated};
 ghost use Rattle.iox2_store.specs.machine.Ports.{subscriber_closed};
-ghost use Rattle.iox2_domain.specs.Departures.{key_forgotten, KnowsKey};
+ghost use Rattle.iox2_domain.specs.Departures.{KnowsKey};
 ghost use Rattle.iox2_domain.specs.Ports.{SubscriberFields};
 ghost use Rattle.iox2_domain.specs.Kept.{state_of};
 ghost use Rattle.iox2_domain.specs.Fields.{kept_of, subscriber_of};
@@ -12,14 +11,12 @@ ghost use Rattle.iox2_domain.specs.Invariant.{IsDomain};
 ghost use Rattle.iox2_domain.specs.OpenMarks.{IsUnmarkedReceiver};
 ghost use Rattle.iox2_domain.specs.Reaches.{Reaches};
 ghost use Rattle.iox2_domain.specs.Updates.{changed_at};
-ghost use Rattle.iox2_closes.specs.Agreement.{HasOwnedParts, IsOrphan};
-ghost use Rattle.iox2_closes.specs.Closes.{shut_subscriber, is_empty_link, HasNoPublisher, IsBusy, IsLeftAt, IsStanding, LosesWaiting, FreesBook, ForgetsIfEmpty, LosesIfLeft};
+ghost use Rattle.iox2_closes.specs.Agreement.{HasOwnedParts};
+ghost use Rattle.iox2_closes.specs.Closes.{shut_subscriber, HasNoPublisher, IsBusy, IsStanding, LosesWaiting, LosesIfLeft};
 
 use iox2_domain::{DomainState, SubscriberState, key_at, make_all_due, stands_at};
 use iox2_ends::drops::drop_waiting_at;
-use iox2_slots::Connection;
 use iox2_updates::{forget_if_empty, leave_if_unused};
-use slab::Slab;
 
 // The subscriber at a place takes no messages any more.
 fn shut(subscribers: &mut [Option<SubscriberState>], place: usize)

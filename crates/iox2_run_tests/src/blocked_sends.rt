@@ -1,5 +1,4 @@
 //! Runs in which sends wait for a full subscriber.
-ghost use Rattle.std.specs.List.{All};
 ghost use Rattle.iox2_runs.specs.Supported.{IsSupportedCommand};
 
 use crate::runs::{CREATE_SUBSCRIBER, replies_to_numbers};

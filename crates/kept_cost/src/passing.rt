@@ -1,5 +1,5 @@
 //! Messages pass from a publisher to a subscriber, each of which keeps many.
-ghost use Rattle.std.specs.Prelude.{◌≡◌, ◌≤◌, IfSome};
+ghost use Rattle.std.specs.Prelude.{◌≤◌, IfSome};
 ghost use Rattle.iox2_pubsub.specs.Live.{IsLivePublisher, IsLiveSample, IsLiveSubscriber, IsSingleValued, IsUnblocked, IsWritten, Stays, written_key};
 
 use crate::kept::Kept;

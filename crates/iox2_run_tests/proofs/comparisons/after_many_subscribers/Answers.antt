@@ -1,4 +1,4 @@
-use Rattle.std.proofs.Common.{List, ℕ, Bool, true, false, None, ◌++◌, refl, subst, sym}
+use Rattle.std.proofs.Common.{List, ℕ, Bool, true, false, None, ◌++◌, subst, sym}
 use Rattle.std.specs.Prelude.{if◌then◌else◌, is_ok}
 use Rattle.std.specs.List.{All}
 use Rattle.std.proofs.lemmas.List.Elements.{All-append, All-replicate}
