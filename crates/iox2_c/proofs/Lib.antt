@@ -1,5 +1,4 @@
 mod Values
 mod DomainBoxSteps
 mod BecomesSteps
-mod AskedSlots
 mod CreationSteps

@@ -205,25 +205,31 @@ fn remove_slot(slots: &mut Vec<usize>, slot: usize)
     }
 }
 
-// The same, wherever the slot stands. The later ones move, and the earlier ones aren't looked at.
+// The same, wherever the slot stands.
 #[inline(never)]
 fn search_and_remove(slots: &mut Vec<usize>, slot: usize)
     requires { times slot slots.old.items ≤ 1 }
     ensures items { slots.new.items ≡ without slot slots.old.items }
     ensures capacity { vec_capacity slots.new ≡ vec_capacity slots.old }
 {
-    if let Some(place) = last_place_of(slots, slot) {
+    if let Some(place) = place_of(slots, slot) {
         slots.remove(place);
     }
 }
 
-// The last place at which a slot stands.
-fn last_place_of(slots: &[usize], slot: usize) -> Option<usize>
+// A place at which a slot stands. It is looked for from both ends, since either the oldest or the
+// newest loans end first.
+#[inline(never)]
+fn place_of(slots: &[usize], slot: usize) -> Option<usize>
     ensures { MatchOption result (times slot slots.now ≡ 0) (λ place. slice_get slots.now place ≡ Some slot) }
 {
-    for place in (0..slots.len()).rev() {
+    for place in 0..slots.len() {
         if slots[place] == slot {
             return Some(place);
+        }
+        let from_end = slots.len() - 1 - place;
+        if slots[from_end] == slot {
+            return Some(from_end);
         }
     }
     None

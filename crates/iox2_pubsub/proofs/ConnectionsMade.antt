@@ -1,16 +1,16 @@
 -- A publisher that is made is connected with each open subscriber, where no connection was refused memory meanwhile.
 use Rattle.std.proofs.Common.{◌≡◌, ℕ, ◌+◌, ◌≤◌, ◌<◌, Bool, true, false, cond, List, min, length, refl, sym, ap, subst, ◌∙◌, arith, Option, None, Some, inl, ⊎_elim}
-use Rattle.std.specs.Prelude.{◌≢◌, ◌==◌}
+use Rattle.std.specs.Prelude.{◌≢◌}
 use Rattle.std.specs.Option.{option_map}
 use Rattle.std.proofs.lemmas.Bool.{true≢false, ne_eqb, eq-eqb}
 use Rattle.std.proofs.lemmas.Option.{none-some, same_Some}
-use Rattle.iox2_store.specs.machine.Limits.{last_number, refusal_limit}
+use Rattle.iox2_store.specs.machine.Limits.{refusal_limit}
 use Rattle.iox2_store.specs.machine.Numbers.{contains}
-use Rattle.iox2_store.specs.machine.Places.{occupant, set_place, is_port, free_place}
+use Rattle.iox2_store.specs.machine.Places.{occupant, set_place, is_port}
 use Rattle.iox2_store.specs.machine.Records.{Publisher, Subscriber, Handler, Environment, PublisherSettings}
 use Rattle.iox2_store.specs.machine.State.{State, Warnings, connected_publishers, receiving_buffer, has_receiver_end}
 use Rattle.iox2_store.specs.machine.Connections.{ForEachPlace, warnings_after}
-use Rattle.iox2_store.specs.machine.Ports.{CreatePublisher, MakePublisher, with_new_publisher, new_publisher, with_failure_warning, first_segment_fits}
+use Rattle.iox2_store.specs.machine.Ports.{FirstPublisherUpdate, CreatePublisher, with_new_publisher, new_publisher, with_failure_warning}
 use Rattle.iox2_store.specs.machine.PublisherUpdate.{SenderSide, SenderAction, Keep_end, Drop_waiting, Disconnect, Connect, sender_action, disconnected, connected, Performs, UpdateSenderPlace, sender_side, with_sender_side, UpdatePublisher}
 use Rattle.iox2_store.specs.machine.Waiting.{receives_from}
 use Rattle.iox2_store.specs.machine.WellFormed.{IsWellFormed, subscriber_place}
@@ -20,6 +20,7 @@ use Rattle.iox2_store.specs.declared.errors.ConnectionFailure.{ConnectionFailure
 use Rattle.iox2_store.specs.declared.errors.PublisherCreateError.{PublisherCreateError}
 use Rattle.iox2_store.specs.declared.warning.Warning.TheVariants.{PublisherPartlyConnected}
 use Rattle.iox2_laws.proofs.Cases.{by_option, by_bool}
+use Rattle.iox2_laws.proofs.CallCases.{publisher_cases}
 use Rattle.iox2_laws.proofs.PlaceLemmas.{free_place_is, occupant-set_place, occupied_within, is_port-true}
 use Rattle.iox2_laws.proofs.PortLaws.{new_publisher_keeps}
 use Rattle.iox2_laws.proofs.Puts.{put_at-same, put_at-other}
@@ -223,37 +224,24 @@ module _ {T U : Type 0} where
 
     pub create-publisher-connections : (s' : State T U) (refusal : Option PublisherCreateError) → CreatePublisher environment s given s' refusal → ConnectsStay s s'
     create-publisher-connections s' refusal h =
-        by_bool (ConnectsStay s s') (s.next_port == last_number) _ _ h (λ _ k. stays-itself s s' k.0) (λ _ k.
-        by_option (ConnectsStay s s') (free_place (s.config).max_publishers s.publisher_places) _ _ k (λ _ j. stays-itself s s' j.0) (λ place e j.
-        let found : (place < (s.config).max_publishers) × (occupant s.publisher_places place ≡ None) = free_place_is (s.config).max_publishers s.publisher_places place e in
-        by_bool (ConnectsStay s s') (first_segment_fits s.config given) _ _ j
-        (λ _ i. made place (new_publisher_keeps s w given place found.0 found.1) refusal i) (λ _ i. stays-itself s s' i.0)))
-      where
-        made : (place : ℕ) → IsWellFormed (with_new_publisher s given place) → (r : Option PublisherCreateError) → MakePublisher environment s given place s' r → ConnectsStay s s'
-        made place v (Some e) h = stays-itself s s' h.1
-        made place v None h = λ p q c.
-            let low : p < s.next_port = (w.publishers p c.publisher c.stands).is_known in
-            let mid = (update-publisher-connected environment (with_new_publisher s given place) v p q (made-due place p q low c) s.next_port h.0 h.1 h.2).0 in
-            subst (λ (t : State T U). Connects t p q) (sym h.3) (warned-connections h.0 s.next_port h.1 p q mid)
+        publisher_cases environment s given s' (ConnectsStay s s') refusal h (λ e same _. stays-itself s s' same) (λ place makes p q c.
+        let found : (place < (s.config).max_publishers) × (occupant s.publisher_places place ≡ None) = free_place_is (s.config).max_publishers s.publisher_places place makes.0 in
+        let first : FirstPublisherUpdate environment (with_new_publisher s given place) s.next_port s' = makes.2 in
+        let low : p < s.next_port = (w.publishers p c.publisher c.stands).is_known in
+        let mid = (update-publisher-connected environment (with_new_publisher s given place) (new_publisher_keeps s w given place found.0 found.1) p q (made-due place p q low c) s.next_port first.0 first.1 first.2).0 in
+        subst (λ (t : State T U). Connects t p q) (sym first.3) (warned-connections first.0 s.next_port first.1 p q mid))
 
     pub create-publisher-connects : (s' : State T U) → CreatePublisher environment s given s' None → (q : ℕ) (y : Subscriber) → s.subscribers q ≡ Some y → y.is_open ≡ true
         → (s.warnings).refused_connections < refusal_limit → (s'.warnings).refused_connections ≡ (s.warnings).refused_connections → Connects s' s.next_port q
     create-publisher-connects s' h q y here opened low none =
-        by_bool R (s.next_port == last_number) _ _ h (λ _ k. absurd (none-some _ k.1)) (λ _ k.
-        by_option R (free_place (s.config).max_publishers s.publisher_places) _ _ k (λ _ j. absurd (none-some _ j.1)) (λ place e j.
-        let found : (place < (s.config).max_publishers) × (occupant s.publisher_places place ≡ None) = free_place_is (s.config).max_publishers s.publisher_places place e in
-        by_bool R (first_segment_fits s.config given) _ _ j
-        (λ _ i. made place (new_publisher_keeps s w given place found.0 found.1) i) (λ _ i. absurd (none-some _ i.1))))
-      where
-        R : Type 0
-        R = Connects s' s.next_port q
-
-        made : (place : ℕ) → IsWellFormed (with_new_publisher s given place) → MakePublisher environment s given place s' None → R
-        made place v h =
-            let new : State T U = with_new_publisher s given place in
-            let mid : Connects h.0 s.next_port q =
-            update-publisher-connects environment new s.next_port h.0 h.1 v (new_publisher s given place) (put_at-same s.publishers s.next_port _) refl h.2 q (record y { is_due = true })
-            (ap (option_map {T = Subscriber} {U = Subscriber} (λ y. record y { is_due = true })) here)
-            (due-receives y s.next_port opened) low
-            (sym (warned-refusals h.0 s.next_port h.1) ∙ sym (ap (λ (t : State T U). (t.warnings).refused_connections) h.3) ∙ none) in
-            subst (λ (t : State T U). Connects t s.next_port q) (sym h.3) (warned-connections h.0 s.next_port h.1 s.next_port q mid)
+        publisher_cases environment s given s' (Connects s' s.next_port q) None h (λ e _ some. absurd (none-some e some)) (λ place makes.
+        let found : (place < (s.config).max_publishers) × (occupant s.publisher_places place ≡ None) = free_place_is (s.config).max_publishers s.publisher_places place makes.0 in
+        let new : State T U = with_new_publisher s given place in
+        let first : FirstPublisherUpdate environment new s.next_port s' = makes.2 in
+        let mid : Connects first.0 s.next_port q =
+        update-publisher-connects environment new s.next_port first.0 first.1 (new_publisher_keeps s w given place found.0 found.1) (new_publisher s given place)
+        (put_at-same s.publishers s.next_port _) refl first.2 q (record y { is_due = true })
+        (ap (option_map {T = Subscriber} {U = Subscriber} (λ y. record y { is_due = true })) here)
+        (due-receives y s.next_port opened) low
+        (sym (warned-refusals first.0 s.next_port first.1) ∙ sym (ap (λ (t : State T U). (t.warnings).refused_connections) first.3) ∙ none) in
+        subst (λ (t : State T U). Connects t s.next_port q) (sym first.3) (warned-connections first.0 s.next_port first.1 s.next_port q mid))

@@ -1,20 +1,20 @@
 -- A publisher that is connected with a subscriber stays so in every operation but a close of the two.
 use Rattle.std.proofs.Common.{◌≡◌, ℕ, zero, suc, ◌+◌, ◌<◌, Bool, true, false, cond, not, ◌&&◌, ◌||◌, List, [], ◌∷◌, ◌++◌, drop, length, refl, sym, ap, subst, ◌∙◌, arith, eqb, Option, None, Some, ◌⊎◌, inl, inr, ⊎_elim}
-use Rattle.std.specs.Prelude.{◌≢◌, ◌==◌, nat_lt}
+use Rattle.std.specs.Prelude.{◌≢◌}
 use Rattle.std.specs.List.{filter, list_all}
 use Rattle.std.specs.Option.{is_some, option_map, option_map_or}
 use Rattle.std.specs.declared.time.Duration.{Duration}
 use Rattle.std.proofs.lemmas.Bool.{true≢false, ne_eqb, eqb-true, eq-eqb, ltb-false, cases_eq}
 use Rattle.std.proofs.lemmas.Option.{none-some, same_Some}
-use Rattle.iox2_store.specs.machine.Limits.{last_number, buffer_limit, expired_limit}
-use Rattle.iox2_store.specs.machine.Numbers.{put_at, contains, size, without}
-use Rattle.iox2_store.specs.machine.Places.{occupant, occupants, is_port, places_kept, free_place}
+use Rattle.iox2_store.specs.machine.Limits.{expired_limit}
+use Rattle.iox2_store.specs.machine.Numbers.{put_at, contains, without}
+use Rattle.iox2_store.specs.machine.Places.{occupant, occupants, is_port, places_kept}
 use Rattle.iox2_store.specs.machine.Mailbox.{has_borrows, has_numbers}
 use Rattle.iox2_store.specs.machine.Records.{Publisher, Subscriber, Loan, Handler, Environment, BlockedSend, SubscriberSettings}
-use Rattle.iox2_store.specs.machine.State.{State, held, has_sender_end, connected_publishers, with_loan}
+use Rattle.iox2_store.specs.machine.State.{State, has_sender_end, connected_publishers, with_loan}
 use Rattle.iox2_store.specs.machine.Connections.{ForEachPlace}
-use Rattle.iox2_store.specs.machine.Loans.{GrantLoan, StaticLoan, DynamicLoan, limit_error, is_static, loan_granted, loan_discarded}
-use Rattle.iox2_store.specs.machine.Ports.{CreateSubscriber, MakeSubscriber, with_new_subscriber, new_subscriber, with_failure_warning, buffer_for, publisher_closed, publisher_gone, subscriber_shut, subscriber_closed}
+use Rattle.iox2_store.specs.machine.Loans.{GrantLoan, loan_granted, loan_discarded}
+use Rattle.iox2_store.specs.machine.Ports.{FirstSubscriberUpdate, CreateSubscriber, with_new_subscriber, new_subscriber, with_failure_warning, publisher_closed, publisher_gone, subscriber_shut, subscriber_closed}
 use Rattle.iox2_store.specs.machine.Receives.{ReceiveResult, Got_sample, No_sample, Receive_error, TakeSample, Receive}
 use Rattle.iox2_store.specs.machine.Releases.{is_connected, pruned, is_unused, place_freed, unborrowed, subscriber_pruned, released}
 use Rattle.iox2_store.specs.machine.Sends.{SendResult, Retry, GiveUp, DeliverAndConclude, more_retries}
@@ -25,10 +25,10 @@ use Rattle.iox2_store.specs.machine.WellFormed.{LeadsTo, IsWellFormed, publisher
 use Rattle.iox2_store.specs.declared.degradation.DegradationAction.{DegradationAction}
 use Rattle.iox2_store.specs.declared.errors.ConnectionFailure.{ConnectionFailure}
 use Rattle.iox2_store.specs.declared.errors.LoanError.{LoanError}
-use Rattle.iox2_store.specs.declared.errors.LoanError.TheVariants.{OutOfMemory, ExceedsMaxLoans, ExceedsMaxLoanSize, InternalFailure}
 use Rattle.iox2_store.specs.declared.errors.SubscriberCreateError.{SubscriberCreateError}
 use Rattle.iox2_store.specs.declared.warning.Warning.TheVariants.{SubscriberPartlyConnected}
 use Rattle.iox2_laws.proofs.Cases.{by_option, by_bool}
+use Rattle.iox2_laws.proofs.CallCases.{grant_cases, subscriber_cases}
 use Rattle.iox2_laws.proofs.FilterLemmas.{contains-filter}
 use Rattle.iox2_laws.proofs.NumberLemmas.{contains_in_append, contains_left, contains_right}
 use Rattle.iox2_laws.proofs.PlaceLemmas.{free_place_is, occupant-set_place, occupied_within, contains-occupants, leads_to, places_kept_keeps}
@@ -199,28 +199,11 @@ module _ {T U : Type 0} where
   unchanged : (s s' : State T U) → s' ≡ s → EndsStay s s'
   unchanged s s' same = ends-themselves s s' (ap (λ (t : State T U). t.publishers) same)
 
-  dynamic-ends : (environment : Environment) (default_header : U) (s : State T U) (p : ℕ) (x : Publisher) (len : ℕ) (s' : State T U) (refusal : Option LoanError) → s.publishers p ≡ Some x
-      → DynamicLoan environment default_header s p x len s' refusal → EndsStay s s'
-  dynamic-ends environment default_header s p x len s' None present h = subst (EndsStay s) (sym h.4) (granted-ends default_header s p x len h.2 present)
-  dynamic-ends environment default_header s p x len s' (Some OutOfMemory) present h = unchanged s s' h.0
-  dynamic-ends environment default_header s p x len s' (Some InternalFailure) present h = unchanged s s' h.0
-  dynamic-ends environment default_header s p x len s' (Some ExceedsMaxLoans) present h = absurd h
-  dynamic-ends environment default_header s p x len s' (Some ExceedsMaxLoanSize) present h = absurd h
-
   grant-ends : (environment : Environment) (default_header : U) (checks_length : Bool) (len : ℕ) (s : State T U) (p : ℕ) (s' : State T U) (refusal : Option LoanError)
       → GrantLoan environment default_header checks_length len s p s' refusal → EndsStay s s'
   grant-ends environment default_header checks_length len s p s' refusal h =
-      by_option (EndsStay s s') (s.publishers p) _ _ h (λ _ v. absurd v) (λ x present k.
-      by_option (EndsStay s s') (limit_error checks_length x len) _ _ k
-      (λ _ j. by_bool (EndsStay s s') (is_static x.allocation_strategy) _ _ j
-      (λ _ i. static x present i) (λ _ i. dynamic-ends environment default_header s p x len s' refusal present i))
-      (λ limit _ j. unchanged s s' j.0))
-    where
-      static : (x : Publisher) → s.publishers p ≡ Some x → StaticLoan default_header s p x len s' refusal → EndsStay s s'
-      static x present h =
-          by_bool (EndsStay s s') (size (held s p x) == x.slots) _ _ h (λ _ k. unchanged s s' k.0) (λ _ k.
-          by_bool (EndsStay s s') (s.next_message == last_number) _ _ k (λ _ j. unchanged s s' j.0)
-          (λ _ j. subst (EndsStay s) (sym j.0) (granted-ends default_header s p x len x.segments present)))
+      grant_cases environment default_header checks_length len s p s' (EndsStay s s') refusal h (λ e same _. unchanged s s' same)
+      (λ x present grants. subst (EndsStay s) (sym grants.4) (granted-ends default_header s p x len grants.0 present))
 
   pub grant-connections : (environment : Environment) (default_header : U) (checks_length : Bool) (len : ℕ) (s : State T U) (p : ℕ) (s' : State T U) (refusal : Option LoanError)
       → GrantLoan environment default_header checks_length len s p s' refusal → ConnectsStay s s'
@@ -360,19 +343,16 @@ module _ {T U : Type 0} where
   pub create-subscriber-connections : (environment : Environment) (s : State T U) → IsWellFormed s → (given : SubscriberSettings) (s' : State T U) (refusal : Option SubscriberCreateError)
       → CreateSubscriber environment s given s' refusal → ConnectsStay s s'
   create-subscriber-connections environment s w given s' refusal h =
-      by_bool (ConnectsStay s s') (s.next_port == last_number) _ _ h (λ _ k. stays-itself s s' k.0) (λ _ k.
-      by_bool (ConnectsStay s s') (nat_lt (buffer_limit s.config) (buffer_for given)) _ _ k (λ _ j. stays-itself s s' j.0) (λ fits j.
-      by_option (ConnectsStay s s') (free_place (s.config).max_subscribers s.subscriber_places) _ _ j (λ _ m. stays-itself s s' m.0) (λ place e m.
-      let found : (place < (s.config).max_subscribers) × (occupant s.subscriber_places place ≡ None) = free_place_is (s.config).max_subscribers s.subscriber_places place e in
-      made place (new_subscriber_keeps s w given place (ltb-false _ _ fits) found.0 found.1) refusal m)))
+      subscriber_cases environment s given s' (ConnectsStay s s') refusal h (λ e same _. stays-itself s s' same) (λ place makes.
+      let found : (place < (s.config).max_subscribers) × (occupant s.subscriber_places place ≡ None) = free_place_is (s.config).max_subscribers s.subscriber_places place makes.0 in
+      made place (new_subscriber_keeps s w given place (ltb-false _ _ makes.1) found.0 found.1) makes.3)
     where
       warned : (t : State T U) (failure : Option ConnectionFailure) → ConnectsStay t (with_failure_warning t (SubscriberPartlyConnected s.next_port) failure)
       warned t None = λ p q c. c
       warned t (Some failure) = ports-same t (with_failure_warning t (SubscriberPartlyConnected s.next_port) (Some failure)) refl refl
 
-      made : (place : ℕ) → IsWellFormed (with_new_subscriber s given place) → (r : Option SubscriberCreateError) → MakeSubscriber environment s given place s' r → ConnectsStay s s'
-      made place new-well (Some e) h = stays-itself s s' h.1
-      made place new-well None h = λ p q c.
+      made : (place : ℕ) → IsWellFormed (with_new_subscriber s given place) → FirstSubscriberUpdate environment (with_new_subscriber s given place) s.next_port s' → ConnectsStay s s'
+      made place new-well h = λ p q c.
           let new : State T U = with_new_subscriber s given place in
           let low : q < s.next_port = (w.subscribers q c.subscriber c.there).is_known in
           let first : Connects new p q =

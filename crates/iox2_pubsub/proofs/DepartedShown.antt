@@ -1,5 +1,5 @@
 -- Which calls leave subscribers room for closed publishers, seen from outside.
-use Rattle.std.proofs.Common.{ℕ, suc, ◌≡◌, ◌≤◌, sym, ap, subst, ◌∙◌, Option, None, Some}
+use Rattle.std.proofs.Common.{ℕ, suc, ◌≡◌, ◌≤◌, sym, subst, Option, None, Some}
 use Rattle.iox2_store.specs.machine.Limits.{expired_limit}
 use Rattle.iox2_store.specs.machine.Ports.{CreatePublisher, CreateSubscriber, publisher_closed, subscriber_closed}
 use Rattle.iox2_store.specs.machine.Records.{Environment, Publisher, PublisherSettings, Subscriber as MachineSubscriber, SubscriberSettings}

@@ -1,14 +1,13 @@
 -- No operation but a publisher's close adds to a subscriber's connections with closed publishers, and that adds at most one.
 use Rattle.std.proofs.Common.{◌≡◌, ℕ, suc, ◌+◌, ◌≤◌, ◌<◌, Bool, true, false, cond, not, length, refl, sym, ap, subst, ◌∙◌, arith, Option, None, Some, ◌⊎◌, inl, inr}
-use Rattle.std.specs.Prelude.{◌==◌, nat_lt}
 use Rattle.std.specs.List.{filter}
 use Rattle.std.specs.Option.{is_some, option_map, option_map_or}
 use Rattle.std.specs.declared.time.Duration.{Duration}
 use Rattle.std.proofs.lemmas.Bool.{true≢false, cond_both, cases_eq, ltb-false}
-use Rattle.iox2_store.specs.machine.Limits.{last_number, buffer_limit, expired_limit}
-use Rattle.iox2_store.specs.machine.Places.{occupant, occupants, places_kept, free_place}
+use Rattle.iox2_store.specs.machine.Limits.{expired_limit}
+use Rattle.iox2_store.specs.machine.Places.{occupant, occupants, places_kept}
 use Rattle.iox2_store.specs.machine.Loans.{GrantLoan, loan_discarded}
-use Rattle.iox2_store.specs.machine.Ports.{CreatePublisher, MakePublisher, CreateSubscriber, MakeSubscriber, with_new_publisher, with_new_subscriber, new_subscriber, with_failure_warning, buffer_for, first_segment_fits, publisher_gone, publisher_closed, subscriber_shut, subscriber_closed}
+use Rattle.iox2_store.specs.machine.Ports.{FirstPublisherUpdate, FirstSubscriberUpdate, CreatePublisher, CreateSubscriber, with_new_publisher, with_new_subscriber, new_subscriber, with_failure_warning, publisher_gone, publisher_closed, subscriber_shut, subscriber_closed}
 use Rattle.iox2_store.specs.machine.PublisherUpdate.{UpdatePublisher}
 use Rattle.iox2_store.specs.machine.Receives.{ReceiveResult, Got_sample, No_sample, Receive_error, TakeSample, Receive}
 use Rattle.iox2_store.specs.machine.Records.{Publisher, Subscriber, Loan, Environment, BlockedSend, PublisherSettings, SubscriberSettings}
@@ -22,7 +21,8 @@ use Rattle.iox2_store.specs.declared.errors.LoanError.{LoanError}
 use Rattle.iox2_store.specs.declared.errors.PublisherCreateError.{PublisherCreateError}
 use Rattle.iox2_store.specs.declared.errors.SubscriberCreateError.{SubscriberCreateError}
 use Rattle.iox2_store.specs.declared.warning.Warning.TheVariants.{PublisherPartlyConnected, SubscriberPartlyConnected}
-use Rattle.iox2_laws.proofs.Cases.{by_option, by_bool}
+use Rattle.iox2_laws.proofs.Cases.{by_option}
+use Rattle.iox2_laws.proofs.CallCases.{publisher_cases, subscriber_cases}
 use Rattle.iox2_laws.proofs.FilterLemmas.{length-filter_le}
 use Rattle.iox2_laws.proofs.PlaceLemmas.{free_place_is, IsOnce-occupants}
 use Rattle.iox2_laws.proofs.PortLaws.{new_subscriber_keeps}
@@ -175,19 +175,16 @@ module _ {T U : Type 0} where
   pub create-subscriber-room : (environment : Environment) (s : State T U) → IsWellFormed s → (given : SubscriberSettings) (s' : State T U) (refusal : Option SubscriberCreateError)
       → CreateSubscriber environment s given s' refusal → RoomStays s s'
   create-subscriber-room environment s w given s' refusal h =
-      by_bool (RoomStays s s') (s.next_port == last_number) _ _ h (λ _ k. room-itself s s' k.0) (λ _ k.
-      by_bool (RoomStays s s') (nat_lt (buffer_limit s.config) (buffer_for given)) _ _ k (λ _ j. room-itself s s' j.0) (λ fits j.
-      by_option (RoomStays s s') (free_place (s.config).max_subscribers s.subscriber_places) _ _ j (λ _ m. room-itself s s' m.0) (λ place e m.
-      let found : (place < (s.config).max_subscribers) × (occupant s.subscriber_places place ≡ None) = free_place_is (s.config).max_subscribers s.subscriber_places place e in
-      made place (new_subscriber_keeps s w given place (ltb-false _ _ fits) found.0 found.1) refusal m)))
+      subscriber_cases environment s given s' (RoomStays s s') refusal h (λ e same _. room-itself s s' same) (λ place makes.
+      let found : (place < (s.config).max_subscribers) × (occupant s.subscriber_places place ≡ None) = free_place_is (s.config).max_subscribers s.subscriber_places place makes.0 in
+      made place (new_subscriber_keeps s w given place (ltb-false _ _ makes.1) found.0 found.1) makes.3)
     where
       warned : (t : State T U) (failure : Option ConnectionFailure) → RoomStays t (with_failure_warning t (SubscriberPartlyConnected s.next_port) failure)
       warned t None = λ q closes has. has
       warned t (Some failure) = λ q closes has. record { fits = has.fits }
 
-      made : (place : ℕ) → IsWellFormed (with_new_subscriber s given place) → (r : Option SubscriberCreateError) → MakeSubscriber environment s given place s' r → RoomStays s s'
-      made place new-well (Some e) h = room-itself s s' h.1
-      made place new-well None h = λ q closes has.
+      made : (place : ℕ) → IsWellFormed (with_new_subscriber s given place) → FirstSubscriberUpdate environment (with_new_subscriber s given place) s.next_port s' → RoomStays s s'
+      made place new-well h = λ q closes has.
           let new : State T U = with_new_subscriber s given place in
           let first : HasRoom new q closes = room-stays s new refl (λ i.
           at_each s.subscribers s.next_port (Some (new_subscriber given place)) (λ k o. option_map_or (departed_of new) o 0 ≤ departed_at s k) i
@@ -212,17 +209,14 @@ module _ {T U : Type 0} where
       → CreatePublisher environment s given s' refusal → RoomStays s s'
   create-publisher-room environment s given s' refusal h =
       let stay : PortsStay s s' = create_publisher_stays environment s given s' refusal h in
-      by_bool (RoomStays s s') (s.next_port == last_number) _ _ h (λ _ k. room-itself s s' k.0) (λ _ k.
-      by_option (RoomStays s s') (free_place (s.config).max_publishers s.publisher_places) _ _ k (λ _ j. room-itself s s' j.0) (λ place _ j.
-      by_bool (RoomStays s s') (first_segment_fits s.config given) _ _ j (λ _ i. made stay place refusal i) (λ _ i. room-itself s s' i.0)))
+      publisher_cases environment s given s' (RoomStays s s') refusal h (λ e same _. room-itself s s' same) (λ place makes. made stay place makes.2)
     where
       warned : (t : State T U) (failure : Option ConnectionFailure) → (with_failure_warning t (PublisherPartlyConnected s.next_port) failure).subscribers ≡ t.subscribers
       warned t None = refl
       warned t (Some failure) = refl
 
-      made : PortsStay s s' → (place : ℕ) (r : Option PublisherCreateError) → MakePublisher environment s given place s' r → RoomStays s s'
-      made stay place (Some e) h = room-itself s s' h.1
-      made stay place None h =
+      made : PortsStay s s' → (place : ℕ) → FirstPublisherUpdate environment (with_new_publisher s given place) s.next_port s' → RoomStays s s'
+      made stay place h =
           let new : State T U = with_new_publisher s given place in
           let same : s'.subscribers ≡ new.subscribers =
           ap (λ (t : State T U). t.subscribers) h.3 ∙ warned h.0 h.1 ∙ update_publisher_subscribers environment new s.next_port h.0 h.1 h.2 in

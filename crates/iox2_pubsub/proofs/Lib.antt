@@ -1,6 +1,7 @@
 pub mod Fresh
 pub mod ReleaseShows
 pub mod SampleOrigins
+pub mod AskedSlots
 pub mod UninitLoans
 pub mod SubscribersShown
 pub mod LoanHandles

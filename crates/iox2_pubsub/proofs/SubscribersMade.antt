@@ -1,16 +1,16 @@
 -- A subscriber that is made awaits each publisher that is there, where no connection was refused memory meanwhile, and the publisher's
 -- next update connects the two.
 use Rattle.std.proofs.Common.{◌≡◌, ℕ, ◌≤◌, ◌<◌, Bool, true, false, cond, List, ◌++◌, ◌+◌, min, length, refl, sym, ap, subst, ◌∙◌, arith, eqb, Option, None, Some, inl, inr, ⊎_elim}
-use Rattle.std.specs.Prelude.{◌≢◌, ◌==◌, nat_lt}
+use Rattle.std.specs.Prelude.{◌≢◌, nat_lt}
 use Rattle.std.specs.Option.{option_map}
 use Rattle.std.proofs.lemmas.Bool.{true≢false, ne_eqb, eqb-true, eq-eqb}
 use Rattle.std.proofs.lemmas.Option.{none-some, same_Some}
-use Rattle.iox2_store.specs.machine.Limits.{last_number, refusal_limit, buffer_limit, expired_limit}
+use Rattle.iox2_store.specs.machine.Limits.{refusal_limit, expired_limit}
 use Rattle.iox2_store.specs.machine.Numbers.{contains, put_at}
-use Rattle.iox2_store.specs.machine.Places.{occupant, occupants, free_place}
+use Rattle.iox2_store.specs.machine.Places.{occupant, occupants}
 use Rattle.iox2_store.specs.machine.Records.{Publisher, Subscriber, Handler, Environment, SubscriberSettings}
 use Rattle.iox2_store.specs.machine.State.{State, Warnings, has_sender_end, with_warning}
-use Rattle.iox2_store.specs.machine.Ports.{CreateSubscriber, MakeSubscriber, with_new_subscriber, with_buffer_warning, new_subscriber, with_failure_warning, buffer_for}
+use Rattle.iox2_store.specs.machine.Ports.{FirstSubscriberUpdate, CreateSubscriber, with_new_subscriber, with_buffer_warning, new_subscriber, with_failure_warning}
 use Rattle.iox2_store.specs.machine.PublisherUpdate.{UpdatePublisher}
 use Rattle.iox2_store.specs.machine.SubscriberUpdate.{ReceiverSide, Retirement, Keep_expired, Evict, Discard_data, Refuse, retirement_of, is_refused, after_retirement, with_end, ConnectReceiver, Retire, ConnectAtPlace, DisconnectAtPlace, UpdateReceiverSide, receiver_side, with_receiver_side}
 use Rattle.iox2_store.specs.machine.WellFormed.{IsWellFormed}
@@ -18,6 +18,7 @@ use Rattle.iox2_store.specs.declared.degradation.DegradationAction.{DegradationA
 use Rattle.iox2_store.specs.declared.errors.ConnectionFailure.{ConnectionFailure}
 use Rattle.iox2_store.specs.declared.warning.Warning.TheVariants.{ExpiredBufferRaised, SubscriberPartlyConnected}
 use Rattle.iox2_laws.proofs.Cases.{by_option, by_bool}
+use Rattle.iox2_laws.proofs.CallCases.{subscriber_cases}
 use Rattle.iox2_laws.proofs.NumberLemmas.{contains_right}
 use Rattle.iox2_laws.proofs.PlaceLemmas.{occupant-set_place, occupied_within, contains-occupants}
 use Rattle.iox2_laws.proofs.Puts.{put_at-same, put_at-other}
@@ -188,9 +189,7 @@ module _ {T U : Type 0} where
     pub create-subscriber-awaits : (s' : State T U) → CreateSubscriber environment s given s' None → (s.warnings).refused_connections < refusal_limit
         → (s'.warnings).refused_connections ≡ (s.warnings).refused_connections → (p : ℕ) (x : Publisher) → s.publishers p ≡ Some x → Awaits s' p s.next_port
     create-subscriber-awaits s' h low none p x present =
-        by_bool R (s.next_port == last_number) _ _ h (λ _ k. absurd (none-some _ k.1)) (λ _ k.
-        by_bool R (nat_lt (buffer_limit s.config) (buffer_for given)) _ _ k (λ _ j. absurd (none-some _ j.1)) (λ _ j.
-        by_option R (free_place (s.config).max_subscribers s.subscriber_places) _ _ j (λ _ i. absurd (none-some _ i.1)) (λ place _ i. made place i)))
+        subscriber_cases environment s given s' R None h (λ e _ some. absurd (none-some e some)) (λ place makes. made place makes.3)
       where
         q : ℕ
         q = s.next_port
@@ -229,7 +228,7 @@ module _ {T U : Type 0} where
                   (⊎_elim (λ due. inl due) (λ end. inr (contains_right side.expired (occupants side.ends) p (contains-occupants side.ends p (x.place, end)))) (reaches.1 quiet));
             }
 
-        made : (place : ℕ) → MakeSubscriber environment s given place s' None → R
+        made : (place : ℕ) → FirstSubscriberUpdate environment (with_new_subscriber s given place) s.next_port s' → R
         made place h =
             by_option R ((new place).subscribers q) _ _ h.2 (λ gone _. absurd (none-some _ (sym gone ∙ put_at-same s.subscribers q _))) (λ y at k.
             let same : new_subscriber given place ≡ y = same_Some (new_subscriber given place) y (sym (put_at-same s.subscribers q _) ∙ at) in

@@ -31,4 +31,3 @@ pub mod CarriedSlices
 pub mod CellLists
 pub mod CellViews
 pub mod Services
-pub mod AskedSlots

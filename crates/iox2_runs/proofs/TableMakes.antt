@@ -1,16 +1,15 @@
 -- Ports and loans are made, with what the run keeps.
 use Rattle.std.proofs.Common.{◌≡◌, ℕ, ◌+◌, ◌≤◌, ◌<◌, Bool, true, false, List, [], ◌∷◌, ◌++◌, refl, sym, ap, subst, ◌∙◌, Option, None, Some, arith, ⊎_elim, inl, inr}
 use Rattle.std.specs.Bool.{MatchBool}
-use Rattle.std.specs.Prelude.{MatchOption, ◌==◌, nat_lt, slice_get}
+use Rattle.std.specs.Prelude.{MatchOption, slice_get}
 use Rattle.std.proofs.lemmas.Option.{none-some, same_Some}
 use Rattle.iox2_store.specs.SingleValues.{is_single_valued}
-use Rattle.iox2_store.specs.machine.Limits.{last_number, buffer_limit}
-use Rattle.iox2_store.specs.machine.Places.{free_place}
+use Rattle.iox2_store.specs.machine.Limits.{buffer_limit}
 use Rattle.iox2_store.specs.machine.Records.{Custom, Loan, Publisher, Subscriber, Environment, PublisherSettings, SubscriberSettings, Fixed}
 use Rattle.iox2_store.specs.machine.State.{State, Messages}
 use Rattle.iox2_store.specs.machine.Environments.{ample_memory}
 use Rattle.iox2_store.specs.machine.Loans.{GrantLoan, StaticLoan, DynamicLoan, limit_error, is_static}
-use Rattle.iox2_store.specs.machine.Ports.{CreatePublisher, CreateSubscriber, MakePublisher, MakeSubscriber, with_new_publisher, with_new_subscriber, new_subscriber, first_segment_fits, buffer_for}
+use Rattle.iox2_store.specs.machine.Ports.{FirstPublisherUpdate, FirstSubscriberUpdate, CreatePublisher, CreateSubscriber, with_new_publisher, with_new_subscriber, new_subscriber}
 use Rattle.iox2_store.specs.declared.allocation.AllocationStrategy.{AllocationStrategy}
 use Rattle.iox2_store.specs.declared.backpressure.BackpressureAction.{BackpressureAction}
 use Rattle.iox2_store.specs.declared.backpressure.BackpressureStrategy.{BackpressureStrategy}
@@ -20,7 +19,7 @@ use Rattle.iox2_store.specs.declared.errors.LoanError.TheVariants.{OutOfMemory, 
 use Rattle.iox2_store.specs.declared.errors.PublisherCreateError.{PublisherCreateError}
 use Rattle.iox2_store.specs.declared.errors.SubscriberCreateError.{SubscriberCreateError}
 use Rattle.iox2_store.specs.declared.warning.Warning.TheVariants.{PublisherPartlyConnected, SubscriberPartlyConnected}
-use Rattle.iox2_laws.proofs.Cases.{by_option, by_bool}
+use Rattle.iox2_laws.proofs.CallCases.{publisher_cases, subscriber_cases}
 use Rattle.iox2_laws.proofs.Puts.{put_at-same}
 use Rattle.iox2_laws.proofs.LoanKeeping.{create_publisher_loans, create_subscriber_loans}
 use Rattle.iox2_commands.specs.Outcomes.{Handle, Publisher_handle, Subscriber_handle, Loan_handle, Blocked_handle, Sample_handle, Event, No_event, outcome, replied}
@@ -52,15 +51,13 @@ module _ {T U : Type 0} (environment : Environment) (s : State T U) where
   publisher_made given s' h =
       let made = created_as environment s given s' h in (
         (made.0, made.1, made.3, made.5),
-        by_bool IsKnown (s.next_port == last_number) _ _ h (λ _ k. absurd (none-some _ k.1)) (λ _ k.
-            by_option IsKnown (free_place (s.config).max_publishers s.publisher_places) _ _ k (λ _ j. absurd (none-some _ j.1)) (λ place _ j.
-            by_bool IsKnown (first_segment_fits s.config given) _ _ j (λ _ i. known place i) (λ _ i. absurd (none-some _ i.1)))),
+        publisher_cases environment s given s' IsKnown None h (λ e _ some. absurd (none-some e some)) (λ place makes. known place makes.2),
       )
     where
       IsKnown : Type 0
       IsKnown = s.next_port < s'.next_port
 
-      known : (place : ℕ) → MakePublisher environment s given place s' None → IsKnown
+      known : (place : ℕ) → FirstPublisherUpdate environment (with_new_publisher s given place) s.next_port s' → IsKnown
       known place i =
           let new : State T U = with_new_publisher s given place in
           let come : PortsCome new s' = subst (PortsCome new) (sym i.3)
@@ -71,14 +68,12 @@ module _ {T U : Type 0} (environment : Environment) (s : State T U) where
   pub subscriber_made : (given : SubscriberSettings) (s' : State T U) → CreateSubscriber environment s given s' None
       → ((y : Subscriber) × (s'.subscribers s.next_port ≡ Some y) × (y.is_open ≡ true) × (y.degradation_handler ≡ given.degradation_handler)) × (s.next_port < s'.next_port)
   subscriber_made given s' h =
-      by_bool IsMade (s.next_port == last_number) _ _ h (λ _ k. absurd (none-some _ k.1)) (λ _ k.
-      by_bool IsMade (nat_lt (buffer_limit s.config) (buffer_for given)) _ _ k (λ _ j. absurd (none-some _ j.1)) (λ _ j.
-      by_option IsMade (free_place (s.config).max_subscribers s.subscriber_places) _ _ j (λ _ i. absurd (none-some _ i.1)) (λ place _ i. made place i)))
+      subscriber_cases environment s given s' IsMade None h (λ e _ some. absurd (none-some e some)) (λ place makes. made place makes.3)
     where
       IsMade : Type 0
       IsMade = ((y : Subscriber) × (s'.subscribers s.next_port ≡ Some y) × (y.is_open ≡ true) × (y.degradation_handler ≡ given.degradation_handler)) × (s.next_port < s'.next_port)
 
-      made : (place : ℕ) → MakeSubscriber environment s given place s' None → IsMade
+      made : (place : ℕ) → FirstSubscriberUpdate environment (with_new_subscriber s given place) s.next_port s' → IsMade
       made place i =
           let new : State T U = with_new_subscriber s given place in
           let stay : PortsStay new s' = subst (PortsStay new) (sym i.3)

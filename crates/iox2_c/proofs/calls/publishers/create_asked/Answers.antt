@@ -11,7 +11,7 @@ use Rattle.iox2_pubsub.specs.declared.slice.publisher.Publisher.{Publisher}
 use Rattle.iox2_pubsub.specs.declared.port_factory.preallocation.PreallocatedSamplesOverride.{PreallocatedSamplesOverride}
 use Rattle.iox2_c.specs.Steps.{BytesState, publishers_answer}
 use Rattle.iox2_c.specs.declared.handlers.NoHandler.{NoHandler}
-use Rattle.iox2_c.proofs.AskedSlots.{asked-result, asks-alike}
+use Rattle.iox2_pubsub.proofs.AskedSlots.{asked-result, asks-alike}
 use Rattle.iox2_c.proofs.CreationSteps.{by-id}
 use Rattle.iox2_c.proofs.calls.publishers.create_asked.Goals as goal
 

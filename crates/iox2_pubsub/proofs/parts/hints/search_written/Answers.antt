@@ -1,4 +1,4 @@
-use Rattle.std.proofs.Common.{◌≡◌, Bool, true, false, not, refl, ap, sym, ◌∙◌}
+use Rattle.std.proofs.Common.{ap, sym, ◌∙◌}
 use Rattle.slab.specs.Slab.{get}
 use Rattle.iox2_domain.specs.Fields.{Fields}
 use Rattle.iox2_pubsub.proofs.MarkedLoans.{written-tells, no-written}

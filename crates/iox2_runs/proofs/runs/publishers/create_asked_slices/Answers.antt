@@ -10,7 +10,7 @@ use Rattle.iox2_pubsub.specs.Factories.{AsksFor, PublisherFactory, callback_of, 
 use Rattle.iox2_pubsub.specs.Handles.{as_publisher, publisher_id}
 use Rattle.iox2_pubsub.specs.declared.slice.publisher.Publisher.{Publisher}
 use Rattle.iox2_pubsub.specs.declared.port_factory.preallocation.PreallocatedSamplesOverride.{PreallocatedSamplesOverride}
-use Rattle.iox2_runs.proofs.AskedSlots.{asked-result, asks-alike}
+use Rattle.iox2_pubsub.proofs.AskedSlots.{asked-result, asks-alike}
 use Rattle.iox2_runs.proofs.runs.publishers.create_asked_slices.Goals as goal
 
 pub returns-clause-creates : goal.returns-clause-creates
