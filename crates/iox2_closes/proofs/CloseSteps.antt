@@ -151,7 +151,7 @@ module _ {T U : Type 0} (f : Fields T U) (parts : HasOwnedParts f) where
           connection = subst (λ (l : Link). Updates f.connections new key (Some (without_waiting l))) same
               (rw drops.new_is (Updates-with_value f.connections key drops.link (without_waiting drops.link) drops.stands));
           books = λ k away. book-others f c.home.book book.book (with_counters book.book holders) book.stands
-              (record { publisher = refl; numbers = refl; slots = drops.drops.slots }) k away;
+              (record { publisher = refl; node = refl; numbers = refl; slots = drops.drops.slots }) k away;
         }
 
       -- the same, for the book that stands at its key

@@ -36,7 +36,7 @@ module _ {T U : Type 0} (f : Fields T U) (parts : HasOwnedParts f) (key : ℕ) (
 
   owners : HasOwners with_fewer
   owners = record {
-    at = λ k e there. elim (book-was (with_connections f new r.homes) key b (with_counters b holders) at (record { publisher = refl; numbers = refl; slots = r.slots }) k e there) [
+    at = λ k e there. elim (book-was (with_connections f new r.homes) key b (with_counters b holders) at (record { publisher = refl; node = refl; numbers = refl; slots = r.slots }) k e there) [
       | inl is ↦ subst (λ (p : ℕ). IsOwned f.publishers k p ⊎ IsGone f.next_port f.publishers p) (sym (ap (λ (c : Book). c.publisher) is.1))
           (parts.owners.at k b (ap (get f.books) is.0 ∙ at))
       | inr away ↦ parts.owners.at k e away.1

@@ -7,20 +7,19 @@ use Rattle.std.specs.Prelude.{IsSomeAnd}
 use Rattle.slab.specs.Slab.{Slab, get, with_value}
 use Rattle.iox2_store.specs.declared.errors.LoanError.{LoanError}
 use Rattle.iox2_store.specs.declared.errors.LoanError.TheVariants.{OutOfMemory, ExceedsMaxLoans, ExceedsMaxLoanSize, InternalFailure}
-use Rattle.iox2_store.specs.declared.header.Header.{Header}
 use Rattle.iox2_store.specs.declared.service_config.TypeVariant.TheVariants.{FixedSize}
 use Rattle.iox2_store.specs.machine.Limits.{last_number}
 use Rattle.iox2_store.specs.machine.Loans.{is_static}
 use Rattle.iox2_contents.specs.SlotContents.{ContentState, SomeAt}
 use Rattle.iox2_slots.specs.Link.{Link}
-use Rattle.iox2_slots.specs.SlotBook.{Book, TakesFreeSlot}
+use Rattle.iox2_slots.specs.SlotBook.{Book, TakesFreeSlot, header_in}
 use Rattle.iox2_ends.specs.Counters.{with_counters}
 use Rattle.iox2_ends.specs.Receivers.{HasReclaimed}
 use Rattle.iox2_ends.specs.Reclaims.{Reclaims}
 use Rattle.iox2_domain.specs.Fields.{Fields, kept_of}
 use Rattle.iox2_domain.specs.Invariant.{IsDomain}
 use Rattle.iox2_domain.specs.Kept.{state_of}
-use Rattle.iox2_domain.specs.Lending.{CanGrant, IsNamed, Lends, LoanDecided, LoanReaches, Starts, header_for, lending}
+use Rattle.iox2_domain.specs.Lending.{CanGrant, IsNamed, Lends, LoanDecided, LoanReaches, Starts, lending}
 use Rattle.iox2_domain.specs.LoanSlots.{LiesInSlot}
 use Rattle.iox2_domain.specs.Ports.{PublisherFields, slot_length}
 use Rattle.iox2_domain.specs.Reaches.{Reaches}
@@ -105,8 +104,7 @@ module _ {T U : Type 0} (before f : Fields T U) (same : f ≡ before) (agrees : 
               → IsSomeAnd o (λ cs. SomeAt cs slot (λ content. len * (f.config).units_per_element ≤ content.room))
           lent-length slot below o read = length-fits reclaimed reached.agrees i x at len low book its-book slot below o read
 
-          module _ (is_default : U → Type 0) (taken : Book) (slot : ℕ) (header : Header) (head : header ≡ header_for f.config x.id len)
-              (takes : TakesFreeSlot book taken slot f.next_message header) (o started : Option (List (ContentState T U))) (read : o ≡ get_or f.contents x.book o)
+          module _ (is_default : U → Type 0) (taken : Book) (slot : ℕ) (takes : TakesFreeSlot book taken slot f.next_message (header_in book len)) (o started : Option (List (ContentState T U))) (read : o ≡ get_or f.contents x.book o)
               (starts : Starts is_default o started slot (len * (f.config).units_per_element)) (y y' : Option PublisherFields) (read_y : y ≡ get_or f.publishers i y)
               (lent : y' ≡ option_map (lending len slot) y) where
             -- the fields after the loan
@@ -126,7 +124,7 @@ module _ {T U : Type 0} (before f : Fields T U) (same : f ≡ before) (agrees : 
                 subst (λ (p : Option PublisherFields). IsSomeAnd p (λ p. Lends is_default reclaimed i p slot len new)) (sym at)
                 (subst (λ (slots : List (Option Book)). Lends is_default reclaimed i x slot len (record new { books = record f.books { slots = slots } }))
                 (set-set f.books.slots x.book (Some book) (Some taken))
-                (lends-from reclaimed reached.agrees i x at len is_default book taken slot header its-book head takes o started read starts y y' read_y lent))
+                (lends-from reclaimed reached.agrees i x at len is_default book taken slot its-book takes o started read starts y y' read_y lent))
 
             named : IsSomeAnd (get_or reclaimed.publishers i None) (λ p. IsNamed reclaimed p loan)
             named = subst (λ (p : Option PublisherFields). IsSomeAnd p (λ p. IsNamed reclaimed p loan)) (sym at) (record { publisher = refl; number = refl; book = refl })

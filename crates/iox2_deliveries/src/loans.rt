@@ -3,7 +3,7 @@ ghost use Rattle.std.specs.Prelude.{◌≡◌, ◌≤◌, ◌&&◌, nat_lt, fals
 ghost use Rattle.iox2_store.specs.machine.Loans.{is_static};
 ghost use Rattle.iox2_store.specs.declared.service_config.TypeVariant.TheVariants.{FixedSize};
 ghost use Rattle.iox2_contents.specs.SlotContents.{SomeAt};
-ghost use Rattle.iox2_domain.specs.Lending.{Starts, IsNamed, LoanReaches, header_for};
+ghost use Rattle.iox2_domain.specs.Lending.{Starts, IsNamed, LoanReaches};
 ghost use Rattle.iox2_domain.specs.LoanSlots.{LiesInSlot};
 ghost use Rattle.iox2_domain.specs.Ports.{PublisherFields};
 ghost use Rattle.iox2_domain.specs.Invariant.{IsDomain};
@@ -11,9 +11,7 @@ ghost use Rattle.iox2_domain.specs.Invariant.{IsDomain};
 use crate::reclaims::reclaim_if_full;
 use iox2_contents::Contents;
 use iox2_domain::{DomainState, LoanAt, PublisherState, units_of};
-use iox2_store::{
-    AllocationStrategy, Header, LoanError, ServiceConfig, UniqueNodeId, UniquePublisherId,
-};
+use iox2_store::{AllocationStrategy, LoanError};
 
 // In the slot starts a loan of that length.
 fn start<T: Drop, U: Default + Drop>(contents: &mut Option<Contents<T, U>>, slot: usize, len: usize)
@@ -70,8 +68,7 @@ pub fn loan<T: Drop, U: Default + Drop>(
     }
     let publisher_id = publisher.id;
     let number = state.next_message;
-    let header = header_for(&state.config, publisher_id, len);
-    let Some(slot) = book.take(number, header) else {
+    let Some(slot) = book.take(number, len as u64) else {
         unreachable!();
     };
     state.next_message += 1;
@@ -88,17 +85,6 @@ pub fn loan<T: Drop, U: Default + Drop>(
         book: key,
         slot,
     })
-}
-
-// The header of a publisher's message of so many elements.
-fn header_for(config: &ServiceConfig, publisher_id: UniquePublisherId, len: usize) -> Header
-    ensures { result ≡ header_for config.now publisher_id len }
-{
-    Header {
-        node_id: UniqueNodeId::new(config.node_id),
-        publisher_id,
-        number_of_elements: len as u64,
-    }
 }
 
 // The length counts, and is more than the publisher lends.

@@ -126,12 +126,13 @@ pub record IsBook {T U : Type 0} (b : Book) (contents : Option (List (ContentSta
   pub aligned : IsAligned b
   pub shaped : IsSomeAnd contents (λ cs. length cs ≡ length b.holders)
 
--- The publisher's book has at least its slots, and no more where its memory doesn't grow. Each has room for the publisher's
+-- The publisher's book names the domain's node. It has at least its slots, and no more where its memory doesn't grow. Each has room for the publisher's
 -- first longest slice, and for one element at least.
 pub record HasBook {T U : Type 0} (f : Fields T U) (x : PublisherFields) : Type 0 where
   pub book : Book
   pub stands : get f.books x.book ≡ Some book
   pub is_its : book.publisher ≡ x.id
+  pub node : book.node ≡ (f.config).node_id
   pub slots : x.slots ≤ length book.holders
   pub no_more : is_static x.allocation ≡ true → length book.holders ≡ x.slots
   pub room : IsSomeAnd (slice_index_or f.contents x.book None) (All (λ content. slot_length x.initial_max_slice_len * (f.config).units_per_element ≤ content.room))

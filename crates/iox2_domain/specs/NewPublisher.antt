@@ -80,10 +80,11 @@ module _ {T U : Type 0} where
 abbrev pub subscriber_due : SubscriberFields → SubscriberFields
 subscriber_due y = record y { is_due = true }
 
--- A book of so many slots of the publisher, none of which is in use, and their contents, each with room for so many elements,
+-- A book of so many slots of the publisher, which names its node. None of the slots is in use, and their contents, each with room for so many elements,
 -- which lie in lists where they are to.
-pub record IsNewSegment {T U : Type 0} (book : Book) (contents : List (ContentState T U)) (publisher slots room : ℕ) (in_lists : Bool) : Type 0 where
+pub record IsNewSegment {T U : Type 0} (book : Book) (contents : List (ContentState T U)) (node publisher slots room : ℕ) (in_lists : Bool) : Type 0 where
   pub is_its : book.publisher ≡ publisher
+  pub names_node : book.node ≡ node
   pub unused : book.holders ≡ replicate slots 0
   pub aligned : IsAligned book
   pub contents_length : length contents ≡ slots
@@ -92,12 +93,13 @@ pub record IsNewSegment {T U : Type 0} (book : Book) (contents : List (ContentSt
 
 -- A book of the publisher, none of whose slots is in use, is among the books now, at a key that had none. At that key are
 -- contents for its slots, each with room for so many elements. Nothing else changes.
-pub record BookEnters {T U : Type 0} (publisher slots room key : ℕ) (old_books : Slab Book) (old_contents : List (Option (List (ContentState T U))))
+pub record BookEnters {T U : Type 0} (node publisher slots room key : ℕ) (old_books : Slab Book) (old_contents : List (Option (List (ContentState T U))))
     (books : Slab Book) (contents : List (Option (List (ContentState T U)))) : Type 0 where
   pub book : Book
   pub vacant : get old_books key ≡ None
   pub updates : Updates old_books books key (Some book)
   pub is_its : book.publisher ≡ publisher
+  pub names_node : book.node ≡ node
   pub unused : book.holders ≡ replicate slots 0
   pub aligned : IsAligned book
   pub slot_contents : List (ContentState T U)

@@ -4,8 +4,7 @@ use iox2_ends::sender::{
 };
 use iox2_slots::{Connection, Home, SlotBook};
 use iox2_store::{
-    BackpressureHandler, BackpressureStrategy, Header, ServiceConfig, UniqueNodeId,
-    UniquePublisherId,
+    BackpressureHandler, BackpressureStrategy, ServiceConfig, UniqueNodeId, UniquePublisherId,
 };
 use slab::Slab;
 use std::test::Fail;
@@ -28,17 +27,13 @@ fn a_message_goes_there_and_back(rt: HostRuntime) -> Result<(), Fail> {
         ..ServiceConfig::new(1)
     };
     let connection = Connection::new(rt.alloc(), HOME, 2, 1)?;
-    let mut book = SlotBook::new(rt.alloc(), UniquePublisherId::new(1), 1)?;
+    let node = UniqueNodeId::new(1);
+    let mut book = SlotBook::new(rt.alloc(), node, UniquePublisherId::new(1), 1)?;
     let mut connections = Slab::new(rt.alloc());
     connections.reserve(1)?;
     let key = connections.insert_reserved(connection);
     let keys = [Some(key)];
-    let header = Header {
-        node_id: UniqueNodeId::new(1),
-        publisher_id: UniquePublisherId::new(1),
-        number_of_elements: 1,
-    };
-    let slot = book.take(1, header).unwrap();
+    let slot = book.take(1, 1).unwrap();
     let receiver = ReceiverDetails {
         port_id: 2,
         buffer_size: 2,

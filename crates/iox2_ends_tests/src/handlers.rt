@@ -8,7 +8,7 @@ use iox2_ends::sender::{Delivery, DeliveryOutcome, Progress, ReceiverDetails, de
 use iox2_slots::{Connection, Home, SlotBook};
 use iox2_store::{
     BackpressureAction, BackpressureFn, BackpressureHandler, BackpressureInfo,
-    BackpressureStrategy, Header, ServiceConfig, UniqueNodeId, UniquePublisherId,
+    BackpressureStrategy, ServiceConfig, UniqueNodeId, UniquePublisherId,
 };
 use slab::Slab;
 use std::alloc::{AllocError, Global};
@@ -79,13 +79,9 @@ fn outcome_at(
     requires receiver { receiver.port_id ≡ 2 }
     requires buffer { 0 < receiver.buffer_size }
 {
-    let header = Header {
-        node_id: UniqueNodeId::new(1),
-        publisher_id: UniquePublisherId::new(1),
-        number_of_elements: 1,
-    };
-    let mut book = SlotBook::new(alloc, header.publisher_id, 1)?;
-    let slot = book.take(1, header).unwrap();
+    let node = UniqueNodeId::new(1);
+    let mut book = SlotBook::new(alloc, node, UniquePublisherId::new(1), 1)?;
+    let slot = book.take(1, 1).unwrap();
     book.hold(slot);
     let connection = connection_with(alloc, receiver.buffer_size, slot)?;
     let mut connections = Slab::new(alloc);

@@ -28,7 +28,7 @@ use iox2_domain::{
 };
 use iox2_store::{
     AllocationStrategy, BackpressureAction, BackpressureFn, BackpressureHandler, ConnectionFailure,
-    DegradationFn, PublisherCreateError, UniquePublisherId, Warning,
+    DegradationFn, PublisherCreateError, UniqueNodeId, UniquePublisherId, Warning,
 };
 use iox2_updates::update_publisher;
 
@@ -101,7 +101,8 @@ fn admit_publisher<T: Drop, U: Default + Drop>(
     let key = state.books.vacant_key();
     let room = room_for(&state.config, slots, given.initial_max_slice_len);
     let in_lists = !state.config.is_single_valued();
-    let Ok(segment) = Segment::new(state.alloc, id, slots, room, in_lists) else {
+    let node = UniqueNodeId::new(state.config.node_id);
+    let Ok(segment) = Segment::new(state.alloc, node, id, slots, room, in_lists) else {
         return Err(PublisherCreateError::UnableToCreateDataSegment);
     };
     let entering = PublisherState::new(

@@ -11,7 +11,9 @@ ghost use Rattle.iox2_ports.specs.Settings.{static_with};
 use iox2_contents::Contents;
 use iox2_domain::{PublisherOptions, put_at_place, reserve_place, units_of};
 use iox2_slots::SlotBook;
-use iox2_store::{AllocationStrategy, ServiceConfig, UniquePublisherId, worst_case_slots};
+use iox2_store::{
+    AllocationStrategy, ServiceConfig, UniqueNodeId, UniquePublisherId, worst_case_slots,
+};
 use slab::Slab;
 use std::alloc::{AllocError, Global};
 
@@ -73,18 +75,19 @@ pub(crate) struct Segment<T, U> {
 }
 
 impl<T: Drop, U: Default + Drop> Segment<T, U> {
-    /// So many slots of a publisher without holders, each with room for so many elements, which lie
+    /// So many slots of a publisher of this node without holders, each with room for so many elements, which lie
     /// in lists where they are to be handed out as slices.
     pub(crate) fn new(
         alloc: Global,
+        node: UniqueNodeId,
         publisher: UniquePublisherId,
         slots: usize,
         room: usize,
         in_lists: bool,
     ) -> Result<Self, AllocError>
-        ensures { IfOk result (λ segment. IsNewSegment segment.book segment.contents publisher slots room in_lists) }
+        ensures { IfOk result (λ segment. IsNewSegment segment.book segment.contents node publisher slots room in_lists) }
     {
-        let book = SlotBook::new(alloc, publisher, slots)?;
+        let book = SlotBook::new(alloc, node, publisher, slots)?;
         let contents = Contents::new(alloc, slots, room, in_lists)?;
         Ok(Segment { book, contents })
     }

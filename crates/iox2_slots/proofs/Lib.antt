@@ -2,3 +2,4 @@ pub mod EachOnce
 pub mod FreeSlots
 pub mod LinkLemmas
 pub mod SlotRecords
+pub mod SlotHeaders

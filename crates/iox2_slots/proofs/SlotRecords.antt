@@ -13,6 +13,9 @@ module _ {A : Type 0} where
   pub field_read : {B : Type 0} (f : A → B) (xs : List A) (i : ℕ) (x : A) → i < length xs → x ≡ get_or xs i x → slice_get (map f xs) i ≡ Some (f x)
   field_read f xs i x h read = rw (slice_get-map f xs i, slice_get_read xs _ i x refl h read) refl
 
+  pub field_at : {B : Type 0} (f : A → B) (xs : List A) (i : ℕ) (x : A) → i < length xs → x ≡ get_or xs i x → f x ≡ get_or (map f xs) i (f x)
+  field_at f xs i x h read = ap f read ∙ sym (get_or-map f xs i x (f x) h)
+
   -- The same of a count.
   pub count_read : (f : A → ℕ) (xs : List A) (i : ℕ) (x : A) → i < length xs → x ≡ get_or xs i x → slice_index (map f xs) i ≡ f x
   count_read f xs i x h read = get_or-map f xs i x 0 h ∙ sym (ap f read)

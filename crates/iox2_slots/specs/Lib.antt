@@ -1,4 +1,5 @@
 pub mod SlotFree
+pub mod SlotHeaders
 pub mod SlotBook
 pub mod Link
 pub mod LinkFields

@@ -4,9 +4,10 @@ use Rattle.iox2_store.specs.declared.header.Header.{Header}
 use Rattle.iox2_slots.specs.declared.slots.mark.SlotMark.{SlotMark}
 use Rattle.iox2_slots.specs.declared.slots.mark.SlotMark.TheVariants.{Unwritten}
 
--- A publisher, and for each of its slots the number, the header and the mark of the message in it, and how many holders
+-- A publisher and its node, and for each of its slots the number, the header and the mark of the message in it, and how many holders
 -- the slot has.
 pub record Book : Type 0 where
+  pub node : ℕ
   pub publisher : ℕ
   pub numbers : List ℕ
   pub headers : List Header
@@ -36,6 +37,10 @@ pub record IsInUse (book : Book) (slot : ℕ) : Type 0 where
 pub record IsUsedFor (book : Book) (number slot : ℕ) : Type 0 where
   pub in_use : 0 < holders_at book slot
   pub number_is : slice_index book.numbers slot ≡ number
+
+-- The header of a message of so many elements of the book's publisher.
+abbrev pub header_in : Book → (len : ℕ) → Header
+header_in book len = record { node_id = book.node; publisher_id = book.publisher; number_of_elements = len }
 
 -- A slot that wasn't in use has this number and header, isn't written, and has one holder. Nothing else changes.
 pub record TakesFreeSlot (old new : Book) (slot number : ℕ) (header : Header) : Type 0 where

@@ -1,20 +1,12 @@
 use iox2_slots::{SlotBook, SlotMark};
-use iox2_store::{Header, UniqueNodeId, UniquePublisherId};
+use iox2_store::{UniqueNodeId, UniquePublisherId};
 use std::alloc::Global;
 use std::process::Abort;
 
-// The header of a message with so many elements.
-pub(super) fn header(elements: u64) -> Header {
-    Header {
-        node_id: UniqueNodeId::new(7),
-        publisher_id: UniquePublisherId::new(3),
-        number_of_elements: elements,
-    }
-}
-
 // A book of a publisher with so many slots, all of them free.
 pub(super) fn book(rt: &impl Abort, alloc: Global, slots: usize) -> SlotBook {
-    SlotBook::new(alloc, UniquePublisherId::new(3), slots).expect(rt, "a book")
+    let node = UniqueNodeId::new(7);
+    SlotBook::new(alloc, node, UniquePublisherId::new(3), slots).expect(rt, "a book")
 }
 
 #[test]
@@ -23,11 +15,11 @@ fn as_many_slots_are_taken_as_there_are(rt: HostRuntime) {
     let publisher = book.publisher().value();
     let slots = book.len();
     let empty = book.is_full();
-    let first = book.take(5, header(1));
+    let first = book.take(5, 1);
     let half = book.is_full();
-    let second = book.take(6, header(2));
+    let second = book.take(6, 2);
     let full = book.is_full();
-    let third = book.take(7, header(3));
+    let third = book.take(7, 3);
     drop(book);
     assert!(rt; publisher == 3 && slots == 2 && [empty, half, full] == [false, false, true]);
     assert!(rt; first.is_some() && second.is_some() && first != second && third == None);
@@ -36,18 +28,19 @@ fn as_many_slots_are_taken_as_there_are(rt: HostRuntime) {
 #[test]
 fn slots_keep_what_their_messages_are(rt: HostRuntime) {
     let mut book = book(&rt, rt.alloc(), 2);
-    let first = book.take(5, header(1)).expect(&rt, "a free slot");
-    let second = book.take(6, header(2)).expect(&rt, "another free slot");
+    let first = book.take(5, 1).expect(&rt, "a free slot");
+    let second = book.take(6, 2).expect(&rt, "another free slot");
     let numbers = [book.number(first), book.number(second)];
-    let elements = book.header(second).number_of_elements();
+    let header = *book.header(second);
     drop(book);
-    assert!(rt; numbers == [5, 6] && elements == 2);
+    let from = [header.node_id().value(), header.publisher_id().value()];
+    assert!(rt; numbers == [5, 6] && header.number_of_elements() == 2 && from == [7, 3]);
 }
 
 #[test]
 fn a_slot_keeps_how_far_its_message_came(rt: HostRuntime) {
     let mut book = book(&rt, rt.alloc(), 1);
-    let slot = book.take(5, header(1)).expect(&rt, "a free slot");
+    let slot = book.take(5, 1).expect(&rt, "a free slot");
     let before = book.mark(slot);
     book.set_mark(slot, SlotMark::Sent);
     let after = book.mark(slot);
@@ -59,13 +52,13 @@ fn a_slot_keeps_how_far_its_message_came(rt: HostRuntime) {
 fn a_slot_is_held_and_released(rt: HostRuntime) {
     let mut book = book(&rt, rt.alloc(), 1);
     let unused = book.is_unused();
-    let slot = book.take(5, header(1)).expect(&rt, "a free slot");
+    let slot = book.take(5, 1).expect(&rt, "a free slot");
     book.hold(slot);
     let holders = book.holders(slot);
     let first = book.release(slot);
     let used = book.is_unused();
     let last = book.release(slot);
-    let again = book.take(6, header(1));
+    let again = book.take(6, 1);
     drop(book);
     assert!(rt; holders == 2 && [first, last, unused, used] == [false, true, true, false]);
     assert!(rt; again == Some(slot));

@@ -1,5 +1,5 @@
 use crate::connections::connection;
-use crate::slots::{book, header};
+use crate::slots::book;
 use iox2_slots::{PutOutcome, SlotBook};
 use iox2_store::{ServiceConfig, worst_case_slots};
 use std::alloc::Global;
@@ -40,11 +40,11 @@ fn only_the_whole_sum_has_to_fit(rt: HostRuntime) {
 // that each of the three keeps its slot.
 fn fill_subscriber(rt: &impl Abort, alloc: Global, book: &mut SlotBook) {
     let mut connection = connection(rt, alloc);
-    let first = book.take(1, header(1)).expect(rt, "a first slot");
+    let first = book.take(1, 1).expect(rt, "a first slot");
     let borrowed = [connection.put(first, false)];
     let taken = connection.take();
-    let second = book.take(2, header(1)).expect(rt, "a second slot");
-    let third = book.take(3, header(1)).expect(rt, "a third slot");
+    let second = book.take(2, 1).expect(rt, "a second slot");
+    let third = book.take(3, 1).expect(rt, "a third slot");
     let waiting = [
         connection.put(second, false),
         connection.put(third, false),
@@ -61,8 +61,8 @@ fn lends_when_all_is_filled(rt: &impl Abort, alloc: Global, slots: usize) -> boo
     let mut book = book(rt, alloc, slots);
     fill_subscriber(rt, alloc, &mut book);
     fill_subscriber(rt, alloc, &mut book);
-    let kept = book.take(4, header(1));
-    let lent = book.take(5, header(1));
+    let kept = book.take(4, 1);
+    let lent = book.take(5, 1);
     drop(book);
     assert!(rt; kept.is_some());
     lent.is_some()

@@ -20,7 +20,9 @@ use std::marker::Model;
 /// holders. There the headers lie in shared memory, and an allocator has the list of free slots.
 #[derive(Drop)]
 pub struct SlotBook {
+    node: UniqueNodeId,
     publisher: UniquePublisherId,
+    // Each has a header of this publisher and its node from the start.
     slots: Vec<Slot>,
     // The slots without holders, each once. There is room for all.
     free: Vec<usize>,
@@ -30,10 +32,12 @@ impl Model for SlotBook {
     ghost use Rattle.std.specs.Prelude.{◌≤◌, length, map, vec_capacity};
     ghost use Rattle.iox2_slots.specs.SlotBook.{Book};
     ghost use Rattle.iox2_slots.specs.SlotFree.{HasFree};
+    ghost use Rattle.iox2_slots.specs.SlotHeaders.{AreFrom};
 
     ghost Value = { Book };
 
     ghost view = { λ book. record {
+      node = book.node;
       publisher = book.publisher;
       numbers = map (λ slot. slot.number) book.slots.items;
       headers = map (λ slot. slot.header) book.slots.items;
@@ -44,25 +48,28 @@ impl Model for SlotBook {
     ghost invariant = { λ book. record {
       exact : HasFree (map (λ slot. slot.holders) book.slots.items) book.free.items;
       room : length book.slots.items ≤ vec_capacity book.free;
+      headers : AreFrom book.node book.publisher (map (λ slot. slot.header) book.slots.items);
     } };
 }
 
 impl SlotBook {
-    ghost use Rattle.iox2_slots.specs.SlotBook.{IsAligned, IsInUse, IsUsedFor, TakesFreeSlot, holders_at, with_holders};
+    ghost use Rattle.iox2_slots.specs.SlotBook.{IsAligned, IsInUse, IsUsedFor, TakesFreeSlot, header_in, holders_at, with_holders};
 
-    /// The book of a new publisher, with so many slots, all of them free. Fails where memory runs
+    /// The book of a new publisher of this node, with so many slots, all of them free. Fails where memory runs
     /// out; no other call on a book takes memory.
     pub fn new(
         alloc: Global,
+        node: UniqueNodeId,
         publisher: UniquePublisherId,
         slots: usize,
     ) -> Result<Self, AllocError>
+        ensures node { IfOk result (λ book. book.node ≡ node) }
         ensures publisher { IfOk result (λ book. book.publisher ≡ publisher) }
         ensures unused { IfOk result (λ book. book.holders ≡ replicate slots 0) }
         ensures aligned { IfOk result IsAligned }
     {
         let header = Header {
-            node_id: UniqueNodeId::new(0),
+            node_id: node,
             publisher_id: publisher,
             number_of_elements: 0,
         };
@@ -75,28 +82,28 @@ impl SlotBook {
         let free = all_slots(alloc, slots)?;
         let slots = vec![in alloc; unused; slots]?;
         Ok(SlotBook {
+            node,
             publisher,
             slots,
             free,
         })
     }
 
-    /// Gives a free slot to the message with this number and header, and one holder. Its mark is
-    /// `Unwritten`. `None` if every slot has a holder; the book then stays as it is.
+    /// Gives a free slot to the message with this number and so many elements, and one holder. Its
+    /// mark is `Unwritten`. `None` if every slot has a holder; the book then stays as it is.
     #[tactic(auto, using(crate::proofs::FreeSlots::taking))]
-    pub fn take(&mut self, number: u128, header: Header) -> Option<usize>
+    pub fn take(&mut self, number: u128, len: u64) -> Option<usize>
         ensures none { IsNone result ↔ All (λ n. 0 < n) self.old.holders }
         ensures refused { IfNone result (self.new ≡ self.old) }
-        ensures taken { IfSome result (λ slot. TakesFreeSlot self.old self.new slot number header) }
+        ensures taken { IfSome result (λ slot. TakesFreeSlot self.old self.new slot number (header_in self.old len)) }
         ensures aligned { IsAligned self.new }
     {
         let slot = self.free.pop()?;
-        self.slots[slot] = Slot {
-            number,
-            header,
-            holders: 1,
-            mark: SlotMark::Unwritten,
-        };
+        let taken = &mut self.slots[slot];
+        taken.number = number;
+        taken.header.number_of_elements = len;
+        taken.holders = 1;
+        taken.mark = SlotMark::Unwritten;
         Some(slot)
     }
 

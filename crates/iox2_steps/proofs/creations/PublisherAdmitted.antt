@@ -33,7 +33,7 @@ module _ {T U : Type 0} (f : Fields T U) where
 
 module _ {T U : Type 0} (f : Fields T U) (sound : IsDomain f) (place : ℕ) (given : PublisherSettings) (plain : IsForOneSegment given) (loan_room key_room key : ℕ) (books : Slab Book) (contents : List (Option (List (ContentState T U))))
     (free : get_or f.publishers place None ≡ None)
-    (book : BookEnters f.next_port (slots_for f.config given) (slot_length given.initial_max_slice_len * (f.config).units_per_element) key f.books f.contents books contents) (forms : HasForms f.config contents) where
+    (book : BookEnters (f.config).node_id f.next_port (slots_for f.config given) (slot_length given.initial_max_slice_len * (f.config).units_per_element) key f.books f.contents books contents) (forms : HasForms f.config contents) where
   -- the new publisher among the fields whose subscribers are due
   abbrev pub enters : PublisherEnters (with_subscribers_due f) place given loan_room key_room key books contents
   enters = record { sound = subscribers_due-agree f sound; free = free; plain = plain; book = book; forms = forms }

@@ -32,7 +32,7 @@ pub record PublisherEnters {T U : Type 0} (f : Fields T U) (place : ℕ) (given 
   pub sound : IsDomain f
   pub free : get_or f.publishers place None ≡ None
   pub plain : IsForOneSegment given
-  pub book : BookEnters f.next_port (slots_for f.config given) (slot_length given.initial_max_slice_len * (f.config).units_per_element) key f.books f.contents books contents
+  pub book : BookEnters (f.config).node_id f.next_port (slots_for f.config given) (slot_length given.initial_max_slice_len * (f.config).units_per_element) key f.books f.contents books contents
   pub forms : HasForms f.config contents
 
 module _ {T U : Type 0} (f : Fields T U) (place : ℕ) (given : PublisherSettings) (loan_room key_room key : ℕ) (books : Slab Book) (contents : List (Option (List (ContentState T U))))

@@ -110,6 +110,7 @@ module _ {T U : Type 0} (f : Fields T U) (place : ℕ) (given : PublisherSetting
     book = enters.book.book;
     stands = enters.book.updates.changed;
     is_its = enters.book.is_its;
+    node = enters.book.names_node;
     slots = let e : length (enters.book.book).holders ≡ slots = ap length enters.book.unused ∙ length-replicate slots in omega arith;
     no_more = λ _. ap length enters.book.unused ∙ length-replicate slots;
     room = rw enters.book.contents_here enters.book.has_room;
@@ -142,6 +143,7 @@ module _ {T U : Type 0} (f : Fields T U) (place : ℕ) (given : PublisherSetting
       book = has.book;
       stands = still_book f enters.sound slots needed key books contents enters.book x.book has.book has.stands;
       is_its = has.is_its;
+      node = has.node;
       slots = has.slots;
       no_more = has.no_more;
       room = subst (λ o. IsSomeAnd o (All (λ (content : ContentState T U). slot_length x.initial_max_slice_len * units ≤ content.room)))

@@ -95,7 +95,7 @@ module _ {T U : Type 0} (f : Fields T U) where
       one_each = b.one_each;
       books = b.books;
       publishers = λ i x at. let has = b.publishers i x at in
-          record { book = has.book; stands = has.stands; is_its = has.is_its; slots = has.slots; no_more = has.no_more; room = has.room };
+          record { book = has.book; stands = has.stands; is_its = has.is_its; node = has.node; slots = has.slots; no_more = has.no_more; room = has.room };
       no_others = b.no_others;
     }
 
@@ -122,6 +122,7 @@ module _ {T U : Type 0} (f : Fields T U) where
     pub publisher : x ≡ entering_publisher before.next_port place (before.books).vacant_key given slots x.loan_room (buffer [] (before.config).history_size) x.key_room
     pub room : HasPublisherRoom before.config x
     pub is_its : book.publisher ≡ before.next_port
+    pub names_node : book.node ≡ (before.config).node_id
     pub unused : book.holders ≡ replicate slots 0
     pub aligned : IsAligned book
     pub contents_length : length slot_contents ≡ slots
@@ -146,11 +147,12 @@ module _ {T U : Type 0} (f : Fields T U) where
       let next : place ≤ length f.publishers = subst (λ (p : ℕ). p ≤ length f.publishers) has.lowest (lowest_empty-low f.publishers) in
       let key : ℕ = (f.books).vacant_key in
       let contents : List (Option (List (ContentState T U))) = placed f.contents key slot_contents in
-      let enters : BookEnters f.next_port (slots_for f.config given) (slot_length given.initial_max_slice_len * (f.config).units_per_element) key f.books f.contents books contents = record {
+      let enters : BookEnters (f.config).node_id f.next_port (slots_for f.config given) (slot_length given.initial_max_slice_len * (f.config).units_per_element) key f.books f.contents books contents = record {
         book = book;
         vacant = e.vacant;
         updates = e.updates;
         is_its = e.is_its;
+        names_node = e.names_node;
         unused = e.unused ∙ ap (λ n. replicate n 0) count;
         aligned = e.aligned;
         slot_contents = slot_contents;

@@ -117,13 +117,13 @@ module _ {T U : Type 0} (f : Fields T U) (sound : IsDomain f) (j : ℕ) (y : Sub
   pub dropped-gone : (d : Book) → get dropped_fields.books c.home.book ≡ Some d → IsGone f.next_port f.publishers d.publisher
   dropped-gone d at_d =
       let same : Some (with_counters b holders) ≡ Some d =
-      sym (book-here (with_connections f between recounts.homes) c.home.book b (with_counters b holders) at_b (record { publisher = refl; numbers = refl; slots = recounts.slots })) ∙ at_d in
+      sym (book-here (with_connections f between recounts.homes) c.home.book b (with_counters b holders) at_b (record { publisher = refl; node = refl; numbers = refl; slots = recounts.slots })) ∙ at_d in
       let is : d ≡ with_counters b holders = cc in
       rw is book-gone
 
   -- the other books are somebody's, or left, still
   pub dropped-kept : (k : ℕ) (d : Book) → k ≢ c.home.book → get dropped_fields.books k ≡ Some d → IsOwned f.publishers k d.publisher ⊎ IsLeft f.next_port f.publishers d
-  dropped-kept k d away at_d = elim (book-was (with_connections f between recounts.homes) c.home.book b (with_counters b holders) at_b (record { publisher = refl; numbers = refl; slots = recounts.slots }) k d at_d) [
+  dropped-kept k d away at_d = elim (book-was (with_connections f between recounts.homes) c.home.book b (with_counters b holders) at_b (record { publisher = refl; node = refl; numbers = refl; slots = recounts.slots }) k d at_d) [
     | inl here ↦ absurd (away here.0)
     | inr was ↦ sound.kept_books.at k d was.1
   ]

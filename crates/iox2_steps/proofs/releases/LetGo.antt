@@ -37,7 +37,7 @@ module _ {T U : Type 0} (f : Fields T U) (sound : IsDomain f) (key slot : ℕ) (
   after = with_counters b (one_holder_less slot b.holders)
 
   keeps : KeepsSlots b after
-  keeps = record { publisher = refl; numbers = refl; slots = r.slots }
+  keeps = record { publisher = refl; node = refl; numbers = refl; slots = r.slots }
 
   fewer : (s : ℕ) → holders_at after s + one_if s slot ≡ holders_at b s
   fewer s = get_or-one_holder_less b.holders slot s in_use

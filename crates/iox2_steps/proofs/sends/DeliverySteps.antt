@@ -328,7 +328,7 @@ module _ {T U : Type 0} (before f : Fields T U) (same : f ≡ before) (i slot : 
           let held : 0 < holders_of (recounted_fields f here y.id y.book b at mine holders new r).books y.id oldest =
           held-itself (recounted_fields f here y.id y.book b at mine holders new r) counted here.parts.publisher_ids i oldest y stands (omega (arith, some)) in
           let now : holders_of (recounted_fields f here y.id y.book b at mine holders new r).books y.id oldest ≡ get_or holders oldest 0 =
-          holders-here f y.book b (with_counters b holders) at (record { publisher = refl; numbers = refl; slots = r.slots }) here.parts.books.one_each y.id oldest mine in
+          holders-here f y.book b (with_counters b holders) at (record { publisher = refl; node = refl; numbers = refl; slots = r.slots }) here.parts.books.one_each y.id oldest mine in
           omega (arith, held, now)
 
       by : (items : List ℕ) → y.history.items ≡ items → slice_get (items ++ slot ∷ []) 0 ≡ Some oldest → 0 < get_or holders oldest 0

@@ -85,7 +85,7 @@ module _ {T U : Type 0} (environment : Environment) (f : Fields T U) (sound : Is
   book = with_counters d.book d.holders
 
   keeps : KeepsSlots d.book book
-  keeps = record { publisher = refl; numbers = refl; slots = d.recounts.slots }
+  keeps = record { publisher = refl; node = refl; numbers = refl; slots = d.recounts.slots }
 
   book-stands : get mid.books x.book ≡ Some book
   book-stands = book-here (with_connections f d.connections d.recounts.homes) x.book d.book book d.stands keeps

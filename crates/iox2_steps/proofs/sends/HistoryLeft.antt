@@ -65,7 +65,7 @@ module _ {T U : Type 0} (f : Fields T U) (parts : HasParts f) (i : ℕ) (x : Pub
   }
 
   keeps : KeepsSlots b left_book
-  keeps = record { publisher = refl; numbers = refl; slots = length-set b.holders oldest _ }
+  keeps = record { publisher = refl; node = refl; numbers = refl; slots = length-set b.holders oldest _ }
 
   -- ---- slots and messages
 

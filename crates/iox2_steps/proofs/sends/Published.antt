@@ -115,7 +115,7 @@ module _ {T U : Type 0} (environment : Environment) (f : Fields T U) (sound : Is
   book = with_counters d.book d.holders
 
   keeps : KeepsSlots d.book book
-  keeps = record { publisher = refl; numbers = refl; slots = d.recounts.slots }
+  keeps = record { publisher = refl; node = refl; numbers = refl; slots = d.recounts.slots }
 
   book-stands : get mid.books x.book ≡ Some book
   book-stands = book-here (with_connections f d.connections d.recounts.homes) x.book d.book book d.stands keeps
@@ -164,7 +164,7 @@ module _ {T U : Type 0} (environment : Environment) (f : Fields T U) (sound : Is
   stands-remembered = changed-here mid i x remembering here refl
 
   book-remembered : get remembered.books x.book ≡ Some (with_sent slot book)
-  book-remembered = book-here mid x.book book (with_sent slot book) book-stands (record { publisher = refl; numbers = refl; slots = refl })
+  book-remembered = book-here mid x.book book (with_sent slot book) book-stands (record { publisher = refl; node = refl; numbers = refl; slots = refl })
 
   -- the fields after the send
   abbrev after : Fields T U
@@ -565,10 +565,10 @@ module _ {T U : Type 0} (environment : Environment) (f : Fields T U) (sound : Is
     stands-relent = changed-here remembered i remembering relender stands-remembered refl
 
     book-relent : get relent.books x.book ≡ Some relent_book
-    book-relent = book-here remembered x.book (with_sent slot book) relent_book book-remembered (record { publisher = refl; numbers = refl; slots = length-set book.holders slot _ })
+    book-relent = book-here remembered x.book (with_sent slot book) relent_book book-remembered (record { publisher = refl; node = refl; numbers = refl; slots = length-set book.holders slot _ })
 
     numbers-remembered : numbers_of remembered.books ≡ numbers_of f.books
-    numbers-remembered = numbers-same mid x.book book (with_sent slot book) book-stands (record { publisher = refl; numbers = refl; slots = refl }) parts.books.one_each ∙ numbers-are
+    numbers-remembered = numbers-same mid x.book book (with_sent slot book) book-stands (record { publisher = refl; node = refl; numbers = refl; slots = refl }) parts.books.one_each ∙ numbers-are
 
     -- what waits, to the machine
     abbrev b : BlockedSend

@@ -89,7 +89,7 @@ values-of (v ∷ vs) = ap (λ ws. v ∷ ws) (values-of vs)
 module _ (b : Book) (slot : ℕ) where
   -- the slots keep their numbers
   pub sent-keeps : KeepsSlots b (with_sent slot b)
-  sent-keeps = record { publisher = refl; numbers = refl; slots = refl }
+  sent-keeps = record { publisher = refl; node = refl; numbers = refl; slots = refl }
 
 module _ {T U : Type 0} (b : Book) (slot : ℕ) (contents : List (ContentState T U)) where
   -- in each other slot lies what lay there

@@ -56,7 +56,7 @@ module _ {T U : Type 0} (before f : Fields T U) (same : f ≡ before) (sound : I
   g-agrees = (reclaimed-reaches f sound x.id x.book b at (book-own f sound.parts i x here b at) (book-owned f sound.parts i x here) b1.holders new r).agrees
 
   at-g : get g.books x.book ≡ Some (with_counters b b1.holders)
-  at-g = book-here f x.book b (with_counters b b1.holders) at (record { publisher = refl; numbers = refl; slots = r.recounts.slots })
+  at-g = book-here f x.book b (with_counters b b1.holders) at (record { publisher = refl; node = refl; numbers = refl; slots = r.recounts.slots })
 
   -- the connection is still there
   pub new-there : get new key ≡ Some c

@@ -173,6 +173,7 @@ module _ {T U : Type 0} (f : Fields T U) (sound : IsDomain f) (i : ℕ) (x : Pub
       book = has.book;
       stands = ap (get f.books) book ∙ has.stands;
       is_its = has.is_its ∙ sym id;
+      node = has.node;
       slots = rw slots has.slots;
       no_more = rw (slots, allocation) has.no_more;
       room = rw (book, longest) has.room;

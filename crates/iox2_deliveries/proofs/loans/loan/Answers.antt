@@ -1,4 +1,4 @@
-use Rattle.std.proofs.Common.{rules, ◌≡◌, ◌<◌, vec_len, length, slice_index_or, None, Some, true, false, refl, sym, subst, ap, ◌∙◌, arith}
+use Rattle.std.proofs.Common.{rules, ◌≡◌, vec_len, length, slice_index_or, None, Some, true, false, refl, sym, subst, ap, ◌∙◌, arith}
 use Rattle.std.specs.Option.{option_map}
 use Rattle.iox2_domain.specs.Fields.{Fields}
 use Rattle.iox2_domain.specs.Invariant.{IsDomain}
@@ -104,14 +104,13 @@ returns-then-state-clause-reaches g c =
 pub returns-clause-reaches : goal.returns-clause-reaches
 returns-clause-reaches g c =
     let long : vec_len c.publisher.inside.loans ≡ length c.publisher.inside.loans.items = search rules in
-    let head = c.header_for-header.ensures in
     granted {T = g.row.T.Denot} {U = g.row.U.Denot} _ _ c.state.view_is c.requires.agrees c.args.place _
     (read-there _ c.args.place _ _ (ap (λ (f : Fields g.row.T.Denot g.row.U.Denot). slice_index_or f.publishers c.args.place None) c.state.view_is ∙ c.requires.stands.1) c.index_mut.ensures.value ∙ c.in-Some.is ∙ ap Some (sym c.publisher.view_is))
     _ _ c.index_mut-book.ensures.value _ c.reclaim_if_full.ensures.book _ c.publisher.view_is c.reclaim_if_full.ensures.reclaims c.args.checks_length c.args.len
     (sym c.if-is_too_long.ensures) (omega (arith, c.if-len-publisher.false, c.len.ensures, long)) (λ all. let no : false ≡ true = c.if-is_full.ensures.1 all in absurd cc) (let bound = c.state.invariant in omega arith)
     (λ unchecked. ap (λ (f : Fields g.row.T.Denot g.row.U.Denot). (f.config).variant) c.state.view_is ∙ c.requires.unchecked unchecked)
     (λ fixed. c.requires.single (sym (ap (λ (f : Fields g.row.T.Denot g.row.U.Denot). (f.config).variant) c.state.view_is) ∙ fixed))
-    g.U.Default.is_default _ c.in-Some-take.slot _ head c.in-Some-take.ensures.taken _ _ c.index_mut-2.ensures.value (rw c.units_of.ensures at c.start.ensures) _ _ c.index_mut.ensures.value
+    g.U.Default.is_default _ c.in-Some-take.slot c.in-Some-take.ensures.taken _ _ c.index_mut-2.ensures.value (rw c.units_of.ensures at c.start.ensures) _ _ c.index_mut.ensures.value
     (ap Some c.lend.ensures ∙ ap (option_map (lending c.args.len c.in-Some-take.slot)) (sym c.in-Some.is))
 
 pub returns-clause-named : goal.returns-clause-named
@@ -123,12 +122,11 @@ returns-clause-named g c =
 pub returns-clause-lies : goal.returns-clause-lies
 returns-clause-lies g c =
     let long : vec_len c.publisher.inside.loans ≡ length c.publisher.inside.loans.items = search rules in
-    let head = c.header_for-header.ensures in
     granted-lies {T = g.row.T.Denot} {U = g.row.U.Denot} _ _ c.state.view_is c.requires.agrees c.args.place _
     (read-there _ c.args.place _ _ (ap (λ (f : Fields g.row.T.Denot g.row.U.Denot). slice_index_or f.publishers c.args.place None) c.state.view_is ∙ c.requires.stands.1) c.index_mut.ensures.value ∙ c.in-Some.is ∙ ap Some (sym c.publisher.view_is))
     _ _ c.index_mut-book.ensures.value _ c.reclaim_if_full.ensures.book _ c.publisher.view_is c.reclaim_if_full.ensures.reclaims c.args.checks_length c.args.len
     (sym c.if-is_too_long.ensures) (omega (arith, c.if-len-publisher.false, c.len.ensures, long)) (λ all. let no : false ≡ true = c.if-is_full.ensures.1 all in absurd cc) (let bound = c.state.invariant in omega arith)
     (λ unchecked. ap (λ (f : Fields g.row.T.Denot g.row.U.Denot). (f.config).variant) c.state.view_is ∙ c.requires.unchecked unchecked)
     (λ fixed. c.requires.single (sym (ap (λ (f : Fields g.row.T.Denot g.row.U.Denot). (f.config).variant) c.state.view_is) ∙ fixed))
-    g.U.Default.is_default _ c.in-Some-take.slot _ head c.in-Some-take.ensures.taken _ _ c.index_mut-2.ensures.value (rw c.units_of.ensures at c.start.ensures) _ _ c.index_mut.ensures.value
+    g.U.Default.is_default _ c.in-Some-take.slot c.in-Some-take.ensures.taken _ _ c.index_mut-2.ensures.value (rw c.units_of.ensures at c.start.ensures) _ _ c.index_mut.ensures.value
     (ap Some c.lend.ensures ∙ ap (option_map (lending c.args.len c.in-Some-take.slot)) (sym c.in-Some.is))

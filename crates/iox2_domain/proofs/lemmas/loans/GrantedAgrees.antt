@@ -93,6 +93,7 @@ module _ {T U : Type 0} (f : Fields T U) (sound : IsDomain f) (i : ℕ) (x : Pub
       book = has.book;
       stands = others-stand f sound x slot can user_header len z.book away ∙ has.stands;
       is_its = has.is_its;
+      node = has.node;
       slots = has.slots;
       no_more = has.no_more;
       room = subst (λ (o : Option (List (ContentState T U))). IsSomeAnd o (All (λ content. slot_length z.initial_max_slice_len * (f.config).units_per_element ≤ content.room)))
@@ -106,6 +107,7 @@ module _ {T U : Type 0} (f : Fields T U) (sound : IsDomain f) (i : ℕ) (x : Pub
           book = new_book;
           stands = ap (get (taken_books f sound x slot can user_header len)) here ∙ taken-stands f sound x slot can user_header len;
           is_its = sym (ap (λ (b : Book). b.publisher) same) ∙ has.is_its;
+          node = sym (ap (λ (b : Book). b.node) same) ∙ has.node;
           slots = rw long has.slots;
           no_more = rw long has.no_more;
           room = subst (λ (o : Option (List (ContentState T U))). IsSomeAnd o (All (λ content. slot_length z.initial_max_slice_len * (f.config).units_per_element ≤ content.room)))

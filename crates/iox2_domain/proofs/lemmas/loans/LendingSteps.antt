@@ -10,11 +10,10 @@ use Rattle.std.specs.List.{All}
 use Rattle.circular_buffer.proofs.Places.{slice_get-some}
 use Rattle.std.proofs.lemmas.Option.{get_or_from_slice_get}
 use Rattle.slab.specs.Slab.{get, with_value}
-use Rattle.iox2_slots.specs.SlotBook.{Book, TakesFreeSlot}
+use Rattle.iox2_slots.specs.SlotBook.{Book, TakesFreeSlot, header_in}
 use Rattle.iox2_contents.specs.SlotContents.{ContentState, SomeAt}
 use Rattle.iox2_store.specs.machine.Loans.{is_static}
 use Rattle.iox2_store.specs.declared.service_config.TypeVariant.TheVariants.{FixedSize}
-use Rattle.iox2_store.specs.declared.header.Header.{Header}
 use Rattle.iox2_ends.proofs.MailboxChanges.{within_if_some}
 use Rattle.iox2_domain.specs.Ports.{PublisherFields, slot_length}
 use Rattle.iox2_domain.specs.Fields.{Fields}
@@ -104,8 +103,7 @@ module _ {T U : Type 0} (f : Fields T U) (sound : IsDomain f) (i : ℕ) (x : Pub
       omega arith
 
   -- the steps together are a loan
-  pub lends-from : (len : ℕ) (is_default : U → Type 0) (b b' : Book) (slot : ℕ) (header : Header) → get f.books x.book ≡ Some b
-      → header ≡ header_for f.config x.id len → TakesFreeSlot b b' slot f.next_message header
+  pub lends-from : (len : ℕ) (is_default : U → Type 0) (b b' : Book) (slot : ℕ) → get f.books x.book ≡ Some b → TakesFreeSlot b b' slot f.next_message (header_in b len)
       → (o started : Option (List (ContentState T U))) → o ≡ get_or f.contents x.book o → Starts is_default o started slot (len * (f.config).units_per_element)
       → (y y' : Option PublisherFields) → y ≡ get_or f.publishers i y → y' ≡ option_map (lending len slot) y
       → Lends is_default f i x slot len (record f {
@@ -114,7 +112,7 @@ module _ {T U : Type 0} (f : Fields T U) (sound : IsDomain f) (i : ℕ) (x : Pub
         contents = slice_set f.contents x.book started;
         publishers = slice_set f.publishers i y';
       })
-  lends-from len is_default b b' slot header stands its takes o started read starts y y' read_y lent =
+  lends-from len is_default b b' slot stands takes o started read starts y y' read_y lent =
       let found = contents-of b stands in
       record {
         book = b;
@@ -132,6 +130,15 @@ module _ {T U : Type 0} (f : Fields T U) (sound : IsDomain f) (i : ℕ) (x : Pub
         };
       }
     where
+      its : header_in b len ≡ header_for f.config x.id len
+      its =
+          let has : HasBook f x = sound.parts.books.publishers i x at in
+          let found : Some has.book ≡ Some b = sym has.stands ∙ stands in
+          let same : has.book ≡ b = cc in
+          let node : b.node ≡ (f.config).node_id = sym (ap (λ (c : Book). c.node) same) ∙ has.node in
+          let publisher : b.publisher ≡ x.id = sym (ap (λ (c : Book). c.publisher) same) ∙ has.is_its in
+          λ j. record { node_id = node j; publisher_id = publisher j; number_of_elements = len }
+
       book : b' ≡ with_taken_slot b slot f.next_message (header_for f.config x.id len)
       book = takes.taken ∙ ap (with_taken_slot b slot f.next_message) its
 

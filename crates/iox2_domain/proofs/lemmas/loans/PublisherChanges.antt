@@ -231,7 +231,7 @@ module _ {T U : Type 0} (f : Fields T U) (i : ℕ) (x y : PublisherFields) (at :
       | inl is ↦ rw is.1 (mine (books.publishers i x at))
       | inr away ↦
           let has = books.publishers k z away.1 in
-          record { book = has.book; stands = has.stands; is_its = has.is_its; slots = has.slots; no_more = has.no_more; room = has.room }
+          record { book = has.book; stands = has.stands; is_its = has.is_its; node = has.node; slots = has.slots; no_more = has.no_more; room = has.room }
     ];
     no_others = books.no_others;
   } where
@@ -240,6 +240,7 @@ module _ {T U : Type 0} (f : Fields T U) (i : ℕ) (x y : PublisherFields) (at :
       book = has.book;
       stands = rw keeps.book has.stands;
       is_its = has.is_its ∙ sym id;
+      node = has.node;
       slots = rw keeps.slots has.slots;
       no_more = rw (keeps.allocation, keeps.slots) has.no_more;
       room = rw (keeps.book, keeps.initial_max_slice_len) has.room;

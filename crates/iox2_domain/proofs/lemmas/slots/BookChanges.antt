@@ -26,6 +26,7 @@ with_book f key b = record f { books = with_value f.books key b }
 -- the slots of the book keep their publisher and their numbers
 pub record KeepsSlots (b d : Book) : Type 0 where
   pub publisher : d.publisher ≡ b.publisher
+  pub node : d.node ≡ b.node
   pub numbers : d.numbers ≡ b.numbers
   pub slots : length d.holders ≡ length b.holders
 
@@ -52,7 +53,7 @@ module _ {T U : Type 0} (f : Fields T U) (key : ℕ) (b d : Book) (at : get f.bo
   pub book-before : (k : ℕ) (e : Book) → get changed k ≡ Some e → (o : Book) × (get f.books k ≡ Some o) × KeepsSlots o e
   book-before k e there = elim (book-was k e there) [
     | inl is ↦ (b, ap (get f.books) is.0 ∙ at, subst (KeepsSlots b) (sym is.1) keeps)
-    | inr away ↦ (e, away.1, record { publisher = refl; numbers = refl; slots = refl })
+    | inr away ↦ (e, away.1, record { publisher = refl; node = refl; numbers = refl; slots = refl })
   ]
 
   -- each book is there still, with its publisher
@@ -153,6 +154,7 @@ module _ {T U : Type 0} (f : Fields T U) (key : ℕ) (b d : Book) (at : get f.bo
             book = d;
             stands = ap (get changed) same ∙ book-here;
             is_its = keeps.publisher ∙ ap (λ (e : Book). e.publisher) (sym is) ∙ has.is_its;
+            node = keeps.node ∙ ap (λ (e : Book). e.node) (sym is) ∙ has.node;
             slots = subst (λ (n : ℕ). x.slots ≤ n) (sym long) has.slots;
             no_more = λ static. long ∙ has.no_more static;
             room = has.room;
@@ -161,6 +163,7 @@ module _ {T U : Type 0} (f : Fields T U) (key : ℕ) (b d : Book) (at : get f.bo
         book = has.book;
         stands = book-others x.book away ∙ has.stands;
         is_its = has.is_its;
+        node = has.node;
         slots = has.slots;
         no_more = has.no_more;
         room = has.room;

@@ -197,6 +197,7 @@ module _ {T U : Type 0} (f : Fields T U) (parts : HasParts f) (key : ℕ) (b : B
           book = has.book;
           stands = others x.book away ∙ has.stands;
           is_its = has.is_its;
+          node = has.node;
           slots = has.slots;
           no_more = has.no_more;
           room = rw (contents-others x.book away) has.room;

@@ -34,7 +34,7 @@ module _ {T U : Type 0} (f : Fields T U) (parts : HasParts f) (key : ℕ) (b : B
   -- ---- the book
 
   pub keeps_slots : KeepsSlots b given
-  keeps_slots = record { publisher = refl; numbers = refl; slots = length-set b.holders slot _ }
+  keeps_slots = record { publisher = refl; node = refl; numbers = refl; slots = length-set b.holders slot _ }
 
   pub fewer-holders : (s : ℕ) → holders_at given s + one_if s slot ≡ holders_at b s
   fewer-holders s = get_or-one_holder_less b.holders slot s (omega (arith, alone))

@@ -30,7 +30,7 @@ none_of (suc n) zero = refl
 none_of (suc n) (suc i) = none_of n i
 
 module _ {T U : Type 0} (f : Fields T U) (sound : IsDomain f) (slots room key : ℕ) (books : Slab Book) (contents : List (Option (List (ContentState T U))))
-    (enters : BookEnters f.next_port slots room key f.books f.contents books contents) where
+    (enters : BookEnters (f.config).node_id f.next_port slots room key f.books f.contents books contents) where
   -- a publisher that stands somewhere was made before
   pub publisher_before : (i : ℕ) (x : PublisherFields) → get_or f.publishers i None ≡ Some x → x.id < f.next_port
   publisher_before i x at = (sound.well_formed.publishers x.id _ (publisher-stands f sound.parts i x at)).is_known

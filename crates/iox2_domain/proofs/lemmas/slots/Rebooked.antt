@@ -51,7 +51,7 @@ module _ {T U : Type 0} (f : Fields T U) (parts : HasParts f) (i : ℕ) (x : Pub
   between = with_book f x.book new_book
 
   keeps : KeepsSlots b new_book
-  keeps = record { publisher = refl; numbers = refl; slots = long }
+  keeps = record { publisher = refl; node = refl; numbers = refl; slots = long }
 
   -- ---- slots and messages
 

@@ -29,7 +29,7 @@ module _ {T U : Type 0} (f : Fields T U) (parts : HasParts f) (p key : ℕ) (b :
   recounted_fields = with_recounted f parts p key b at mine holders new r
 
   keeps : KeepsSlots b (with_counters b holders)
-  keeps = record { publisher = refl; numbers = refl; slots = r.slots }
+  keeps = record { publisher = refl; node = refl; numbers = refl; slots = r.slots }
 
   -- each slot has its number
   pub same-numbers : numbers_of recounted_fields.books ≡ numbers_of f.books

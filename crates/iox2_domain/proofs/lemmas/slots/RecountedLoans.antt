@@ -59,7 +59,7 @@ module _ {T U : Type 0} (f : Fields T U) (parts : HasParts f) (lone : HasLoneLoa
   counted_book = with_counters b holders
 
   keeps : KeepsSlots b counted_book
-  keeps = record { publisher = refl; numbers = refl; slots = r.slots }
+  keeps = record { publisher = refl; node = refl; numbers = refl; slots = r.slots }
 
   is-its : look_up (is_book_of p) f.books.slots ≡ Some b
   is-its = look_up-found (is_book_of p) f.books.slots key b (parts.books.one_each p) at (eq-eqb b.publisher p mine)

@@ -73,7 +73,7 @@ module _ {T U : Type 0} (f : Fields T U) (sound : IsDomain f) (key slot : ℕ) (
   with_slot = record f { books = with_value f.books key marked; contents = slice_set f.contents key (Some rewritten_contents) }
 
   pub marked-keeps : KeepsSlots b marked
-  marked-keeps = record { publisher = refl; numbers = refl; slots = refl }
+  marked-keeps = record { publisher = refl; node = refl; numbers = refl; slots = refl }
 
   -- ---- books and contents
 
@@ -105,6 +105,7 @@ module _ {T U : Type 0} (f : Fields T U) (sound : IsDomain f) (key slot : ℕ) (
       book = has.book;
       stands = has.stands;
       is_its = has.is_its;
+      node = has.node;
       slots = has.slots;
       no_more = has.no_more;
       room = still (All (λ content. slot_length x.initial_max_slice_len * (f.config).units_per_element ≤ content.room))

@@ -65,6 +65,7 @@ returns-clause-step g c = λ asked slots.
           ∙ ap (λ key. entering_publisher c.state.inside.next_port c.args.place key given c.args.slots c.in-Ok-entering.publisher.loan_room (buffer [] c.state.inside.config.history_size) c.in-Ok-entering.publisher.key_room) c.vacant_key-key.ensures.value;
       room = c.in-Ok-entering.ensures.room;
       is_its = c.in-Ok.ensures.is_its ∙ c.new-id.ensures;
+      names_node = c.in-Ok.ensures.names_node ∙ c.new-node.ensures;
       unused = c.in-Ok.ensures.unused;
       aligned = c.in-Ok.ensures.aligned;
       contents_length = c.in-Ok.ensures.contents_length;

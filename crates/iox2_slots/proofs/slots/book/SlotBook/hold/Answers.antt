@@ -10,6 +10,7 @@ invariant_of-self c =
     record {
       exact = rw (map-set (λ slot. slot.holders) c.self.inside.slots.items _ _) (free_kept _ _ _ _ before.in_bounds before.in_use (omega arith) c.self.invariant.exact);
       room = simp length-set c.self.invariant.room;
+      headers = rw (field_kept (λ slot. slot.header) c.self.inside.slots.items _ _ (record c.index_mut.result.now { holders = c.index_mut.result.now.holders + 1 }) c.index_mut.ensures.value refl) c.self.invariant.headers;
     }
 
 pub returns : goal.returns

@@ -1,6 +1,7 @@
 use Rattle.std.proofs.Common.{refl}
 use Rattle.std.proofs.lemmas.List.{length-map, length-replicate}
 use Rattle.iox2_slots.specs.declared.slots.slot.Slot.{Slot}
+use Rattle.iox2_slots.proofs.SlotHeaders.{equal_are}
 use Rattle.iox2_slots.proofs.SlotRecords.{map-replicate}
 use Rattle.iox2_slots.proofs.slots.book.SlotBook.new.Goals as goal
 
@@ -20,4 +21,5 @@ invariant_of-result c =
     record {
       exact = rw (unused, map-replicate (λ (slot : Slot). slot.holders) _ _) c.in_ok-free.ensures.exact;
       room = rw (unused, length-replicate) c.in_ok-free.ensures.room;
+      headers = rw (unused, map-replicate (λ (slot : Slot). slot.header) _ _) (equal_are _ _ _ _ refl refl);
     }

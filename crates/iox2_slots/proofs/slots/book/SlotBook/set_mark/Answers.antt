@@ -7,6 +7,7 @@ pub invariant_of-self : goal.invariant_of-self
 invariant_of-self c = record {
   exact = rw (field_kept (λ slot. slot.holders) c.self.inside.slots.items _ _ (record c.index_mut.result.now { mark = c.args.mark }) c.index_mut.ensures.value refl) c.self.invariant.exact;
   room = simp length-set c.self.invariant.room;
+  headers = rw (field_kept (λ slot. slot.header) c.self.inside.slots.items _ _ (record c.index_mut.result.now { mark = c.args.mark }) c.index_mut.ensures.value refl) c.self.invariant.headers;
 }
 
 pub returns : goal.returns
