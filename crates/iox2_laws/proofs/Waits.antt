@@ -1,5 +1,6 @@
--- Who waits for a receiver: no operation changes what a publisher does with a full receiver or without a connection, and only a
--- send of its own, tried again or given up, changes whether it waits, and with which message.
+-- Who waits for a receiver, and where ports stand: no operation changes what a publisher does with a full receiver or without a
+-- connection, and only a send of its own, tried again or given up, changes whether it waits, and with which message. No port moves to
+-- another place.
 use Rattle.std.proofs.Common.{◌≡◌, ℕ, ◌≤◌, ◌<◌, Bool, true, false, List, [], ◌∷◌, ◌++◌, refl, sym, ap, subst, ◌∙◌, le_refl, le_trans, arith, Option, None, Some}
 use Rattle.std.specs.Prelude.{max, ◌==◌, nat_lt}
 use Rattle.std.specs.Option.{option_map}
@@ -16,9 +17,9 @@ use Rattle.iox2_store.specs.machine.PublisherUpdate.{UpdatePublisher}
 use Rattle.iox2_store.specs.machine.SubscriberUpdate.{UpdateSubscriber}
 use Rattle.iox2_store.specs.machine.Loans.{GrantLoan, StaticLoan, DynamicLoan, limit_error, is_static, loan_granted, loan_discarded}
 use Rattle.iox2_store.specs.machine.Sends.{Send, Publish, Retry, GiveUp, DeliverAndConclude, ConcludeSend, SendResult, with_mailboxes, published, more_retries}
-use Rattle.iox2_store.specs.machine.Ports.{CreatePublisher, CreateSubscriber, MakePublisher, MakeSubscriber, with_new_publisher, with_new_subscriber, new_publisher, with_failure_warning, first_segment_fits, buffer_for, publisher_closed, subscriber_shut, subscriber_closed}
+use Rattle.iox2_store.specs.machine.Ports.{CreatePublisher, CreateSubscriber, MakePublisher, MakeSubscriber, with_new_publisher, with_new_subscriber, new_publisher, new_subscriber, with_failure_warning, first_segment_fits, buffer_for, publisher_closed, publisher_gone, subscribers_pruned, subscriber_shut, subscriber_closed}
 use Rattle.iox2_store.specs.machine.Receives.{Receive, TakeSample, ReceiveResult, Got_sample, No_sample, Receive_error}
-use Rattle.iox2_store.specs.machine.Releases.{released, unborrowed, subscriber_pruned, freed_if_unused, place_freed, is_unused}
+use Rattle.iox2_store.specs.machine.Releases.{released, unborrowed, pruned, subscriber_pruned, freed_if_unused, place_freed, is_unused}
 use Rattle.iox2_store.specs.declared.errors.ConnectionFailure.{ConnectionFailure}
 use Rattle.iox2_store.specs.declared.errors.LoanError.{LoanError}
 use Rattle.iox2_store.specs.declared.errors.LoanError.TheVariants.{OutOfMemory, ExceedsMaxLoans, ExceedsMaxLoanSize, InternalFailure}
@@ -29,8 +30,10 @@ use Rattle.iox2_store.specs.declared.warning.Warning.TheVariants.{PublisherPartl
 use Rattle.iox2_laws.proofs.Cases.{by_option, by_bool}
 use Rattle.iox2_laws.proofs.Puts.{at_each, found_put, found_removed, found_mapped}
 
--- the publisher does with a full receiver what it did, and without a connection, and waits as it did, unless it is spared
+-- the publisher stands where it did, does with a full receiver what it did, and without a connection, and waits as it did, unless it is
+-- spared
 pub record IsAsItWas (Spared : ℕ → Type 0) (p : ℕ) (x x' : Publisher) : Type 0 where
+  pub place : x'.place ≡ x.place
   pub strategy : x'.backpressure_strategy ≡ x.backpressure_strategy
   pub handler : x'.backpressure_handler ≡ x.backpressure_handler
   pub degradation : x'.degradation_handler ≡ x.degradation_handler
@@ -40,17 +43,34 @@ pub record IsAsItWas (Spared : ℕ → Type 0) (p : ℕ) (x x' : Publisher) : Ty
 abbrev pub WasPublisher : (Spared : ℕ → Type 0) → (publishers : ℕ → Option Publisher) → (p : ℕ) → Publisher → Type 0
 WasPublisher Spared publishers p x' = (x : Publisher) × (publishers p ≡ Some x) × IsAsItWas Spared p x x'
 
--- Each publisher that is there, of those whose ids were given out, was so before.
+-- where a subscriber came from, which stands where it did
+abbrev pub WasSubscriber : (subscribers : ℕ → Option Subscriber) → (q : ℕ) → Subscriber → Type 0
+WasSubscriber subscribers q y' = (y : Subscriber) × (subscribers q ≡ Some y) × (y'.place ≡ y.place)
+
+-- Each publisher that is there, of those whose ids were given out, was so before, and so is where each subscriber stands.
 pub record Waits {T U : Type 0} (Spared : ℕ → Type 0) (s s' : State T U) : Type 0 where
   pub next_port : s.next_port ≤ s'.next_port
   pub publishers : (p : ℕ) (x' : Publisher) → p < s.next_port → s'.publishers p ≡ Some x' → WasPublisher Spared s.publishers p x'
+  pub subscribers : (q : ℕ) (y' : Subscriber) → q < s.next_port → s'.subscribers q ≡ Some y' → WasSubscriber s.subscribers q y'
+
+-- a subscriber is set
+put_subscriber : (subscribers : ℕ → Option Subscriber) (next i : ℕ) (z : Subscriber) → (i < next → WasSubscriber subscribers i z)
+    → (q : ℕ) (y' : Subscriber) → q < next → put_at subscribers i (Some z) q ≡ Some y' → WasSubscriber subscribers q y'
+put_subscriber subscribers next i z known q y' low e =
+    found_put subscribers i z (λ k a. k < next → WasSubscriber subscribers k a) q y' e (λ _. known) (λ k old _. (y', old, refl)) low
+
+-- a subscriber that may be there is changed, and stands where it did
+mapped_subscriber : (subscribers : ℕ → Option Subscriber) (f : Subscriber → Subscriber) (q : ℕ) → ((y : Subscriber) → (f y).place ≡ y.place)
+    → (y' : Subscriber) → option_map f (subscribers q) ≡ Some y' → WasSubscriber subscribers q y'
+mapped_subscriber subscribers f q stays y' e =
+    found_mapped f (subscribers q) y' (WasSubscriber subscribers q y') e (λ y old same. (y, old, ap (λ (v : Subscriber). v.place) same ∙ stays y))
 
 module _ (Spared : ℕ → Type 0) where
   as_it_is : (p : ℕ) (x : Publisher) → IsAsItWas Spared p x x
-  as_it_is p x = record { strategy = refl; handler = refl; degradation = refl; blocked = λ _. refl }
+  as_it_is p x = record { place = refl; strategy = refl; handler = refl; degradation = refl; blocked = λ _. refl }
 
   as_it_was : (p : ℕ) (x y z : Publisher) → IsAsItWas Spared p x y → IsAsItWas Spared p y z → IsAsItWas Spared p x z
-  as_it_was p x y z a b = record { strategy = b.strategy ∙ a.strategy; handler = b.handler ∙ a.handler; degradation = b.degradation ∙ a.degradation; blocked = λ apart. b.blocked apart ∙ a.blocked apart }
+  as_it_was p x y z a b = record { place = b.place ∙ a.place; strategy = b.strategy ∙ a.strategy; handler = b.handler ∙ a.handler; degradation = b.degradation ∙ a.degradation; blocked = λ apart. b.blocked apart ∙ a.blocked apart }
 
   -- a publisher is set
   put_publisher : (publishers : ℕ → Option Publisher) (next i : ℕ) (z : Publisher) → (i < next → WasPublisher Spared publishers i z)
@@ -66,7 +86,7 @@ module _ (Spared : ℕ → Type 0) where
 
   module _ {T U : Type 0} where
     pub waits_itself : (s : State T U) → Waits Spared s s
-    waits_itself s = record { next_port = le_refl s.next_port; publishers = λ p x low e. (x, e, as_it_is p x) }
+    waits_itself s = record { next_port = le_refl s.next_port; publishers = λ p x low e. (x, e, as_it_is p x); subscribers = λ q y low e. (y, e, refl) }
 
     pub waits_trans : (s s' s'' : State T U) → Waits Spared s s' → Waits Spared s' s'' → Waits Spared s s''
     waits_trans s s' s'' a b = record {
@@ -74,21 +94,38 @@ module _ (Spared : ℕ → Type 0) where
       publishers = λ p x low e.
           let low' : p < s'.next_port = (let rises = a.next_port in omega (arith, rises)) in
           let v = b.publishers p x low' e in let u = a.publishers p v.0 low v.1 in (u.0, u.1, as_it_was p u.0 v.0 x u.2 v.2);
+      subscribers = λ q y low e.
+          let low' : q < s'.next_port = (let rises = a.next_port in omega (arith, rises)) in
+          let v = b.subscribers q y low' e in let u = a.subscribers q v.0 low v.1 in (u.0, u.1, v.2 ∙ u.2);
     }
+
+    -- the subscribers that were known stand where they did
+    abbrev Stand : (s s' : State T U) → Type 0
+    Stand s s' = (q : ℕ) (y' : Subscriber) → q < s.next_port → s'.subscribers q ≡ Some y' → WasSubscriber s.subscribers q y'
+
+    -- the subscribers are the same
+    same_subscribers : (s s' : State T U) → s'.subscribers ≡ s.subscribers → Stand s s'
+    same_subscribers s s' subscribers q y low e = (y, ap (λ (f : ℕ → Option Subscriber). f q) (sym subscribers) ∙ e, refl)
 
     -- the publishers are the same
-    same_publishers : (s s' : State T U) → s'.next_port ≡ s.next_port → s'.publishers ≡ s.publishers → Waits Spared s s'
-    same_publishers s s' next publishers = record {
+    same_publishers : (s s' : State T U) → s'.next_port ≡ s.next_port → s'.publishers ≡ s.publishers → Stand s s' → Waits Spared s s'
+    same_publishers s s' next publishers stand = record {
       next_port = omega (arith, next);
       publishers = λ p x low e. (x, ap (λ (f : ℕ → Option Publisher). f p) (sym publishers) ∙ e, as_it_is p x);
+      subscribers = stand;
     }
 
+    -- the ports are the same
+    same_ports : (s s' : State T U) → s'.next_port ≡ s.next_port → s'.publishers ≡ s.publishers → s'.subscribers ≡ s.subscribers → Waits Spared s s'
+    same_ports s s' next publishers subscribers = same_publishers s s' next publishers (same_subscribers s s' subscribers)
+
     -- each publisher is due
-    all_due : (s s' : State T U) → s.next_port ≤ s'.next_port → s'.publishers ≡ (λ p. option_map (λ (z : Publisher). record z { is_due = true }) (s.publishers p)) → Waits Spared s s'
-    all_due s s' next publishers = record {
+    all_due : (s s' : State T U) → s.next_port ≤ s'.next_port → s'.publishers ≡ (λ p. option_map (λ (z : Publisher). record z { is_due = true }) (s.publishers p)) → Stand s s' → Waits Spared s s'
+    all_due s s' next publishers stand = record {
       next_port = next;
-      publishers = λ p x low e. mapped_publisher s.publishers (λ z. record z { is_due = true }) p (λ z. record { strategy = refl; handler = refl; degradation = refl; blocked = λ _. refl }) x
+      publishers = λ p x low e. mapped_publisher s.publishers (λ z. record z { is_due = true }) p (λ z. record { place = refl; strategy = refl; handler = refl; degradation = refl; blocked = λ _. refl }) x
           (ap (λ (f : ℕ → Option Publisher). f p) (sym publishers) ∙ e);
+      subscribers = stand;
     }
 
     -- ---- updates
@@ -100,7 +137,8 @@ module _ (Spared : ℕ → Type 0) where
         by_bool (Waits Spared s s') x.is_due _ _ h
         (λ _ h. subst (Waits Spared s) (sym h.2) (record {
           next_port = le_refl s.next_port;
-          publishers = put_publisher s.publishers s.next_port p (record x { ends = (h.0).ends; is_due = false }) (λ _. (x, present, record { strategy = refl; handler = refl; degradation = refl; blocked = λ _. refl }));
+          publishers = put_publisher s.publishers s.next_port p (record x { ends = (h.0).ends; is_due = false }) (λ _. (x, present, record { place = refl; strategy = refl; handler = refl; degradation = refl; blocked = λ _. refl }));
+          subscribers = λ q y low e. (y, e, refl);
         }))
         (λ _ h. subst (Waits Spared s) (sym h.0) (waits_itself s)))
 
@@ -109,23 +147,29 @@ module _ (Spared : ℕ → Type 0) where
     update_subscriber_waits environment s q s' failure h =
         by_option (Waits Spared s s') (s.subscribers q) _ _ h (λ _ v. absurd v) (λ y present h.
         by_bool (Waits Spared s s') y.is_due _ _ h
-        (λ _ h. subst (Waits Spared s) (sym h.2) (record { next_port = le_refl s.next_port; publishers = λ p x low e. (x, e, as_it_is p x) }))
+        (λ _ h. subst (Waits Spared s) (sym h.2) (record {
+          next_port = le_refl s.next_port;
+          publishers = λ p x low e. (x, e, as_it_is p x);
+          subscribers = put_subscriber s.subscribers s.next_port q (record y { ends = (h.0).ends; expired = (h.0).expired; is_due = (h.0).is_due }) (λ _. (y, present, refl));
+        }))
         (λ _ h. subst (Waits Spared s) (sym h.0) (waits_itself s)))
 
     -- ---- ports are made
 
     warning_waits : (s : State T U) (warning : ConnectionFailure → Warning) (failure : Option ConnectionFailure) → Waits Spared s (with_failure_warning s warning failure)
     warning_waits s warning None = waits_itself s
-    warning_waits s warning (Some failure) = same_publishers s (with_failure_warning s warning (Some failure)) refl refl
+    warning_waits s warning (Some failure) = same_ports s (with_failure_warning s warning (Some failure)) refl refl refl
 
     new_publisher_waits : (s : State T U) (given : PublisherSettings) (place : ℕ) → Waits Spared s (with_new_publisher s given place)
     new_publisher_waits s given place = record {
       next_port = omega arith;
       publishers = put_publisher s.publishers s.next_port s.next_port (new_publisher s given place) (λ low. absurd (omega arith));
+      subscribers = λ q y low e. mapped_subscriber s.subscribers (λ z. record z { is_due = true }) q (λ z. refl) y e;
     }
 
     new_subscriber_waits : (s : State T U) (given : SubscriberSettings) (place : ℕ) → Waits Spared s (with_new_subscriber s given place)
     new_subscriber_waits s given place = all_due s (with_new_subscriber s given place) (omega arith) refl
+        (put_subscriber s.subscribers s.next_port s.next_port (new_subscriber given place) (λ low. absurd (omega arith)))
 
     pub create_publisher_waits : (environment : Environment) (s : State T U) (given : PublisherSettings) (s' : State T U) (refusal : Option PublisherCreateError)
         → CreatePublisher environment s given s' refusal → Waits Spared s s'
@@ -168,11 +212,12 @@ module _ (Spared : ℕ → Type 0) where
       next_port = le_refl s.next_port;
       publishers = put_publisher s.publishers s.next_port p
           (record x { loans = x.loans ++ s.next_message ∷ []; longest_granted = max x.longest_granted len; segments = segments })
-          (λ _. (x, present, record { strategy = refl; handler = refl; degradation = refl; blocked = λ _. refl }));
+          (λ _. (x, present, record { place = refl; strategy = refl; handler = refl; degradation = refl; blocked = λ _. refl }));
+      subscribers = λ q y low e. (y, e, refl);
     }
 
     pub loan_set_waits : (s : State T U) (n : ℕ) (l : Option (Loan T U)) → Waits Spared s (with_loan s n l)
-    loan_set_waits s n l = same_publishers s (with_loan s n l) refl refl
+    loan_set_waits s n l = same_ports s (with_loan s n l) refl refl refl
 
     -- a publisher that may be there is changed
     publisher_changed_waits : (s : State T U) (i : ℕ) (f : Publisher → Publisher) → ((x : Publisher) → IsAsItWas Spared i x (f x)) → Waits Spared s (publisher_changed s i f)
@@ -180,17 +225,18 @@ module _ (Spared : ℕ → Type 0) where
       next_port = le_refl s.next_port;
       publishers = λ p x low e. at_each s.publishers i (option_map f (s.publishers i)) (λ k o. o ≡ Some x → WasPublisher Spared s.publishers k x) p
           (λ _ e. mapped_publisher s.publishers f i stays x e) (λ _ e. (x, e, as_it_is p x)) e;
+      subscribers = λ q y low e. (y, e, refl);
     }
 
     pub published_waits : (s : State T U) (p n : ℕ) → Waits Spared s (published s p n)
     published_waits s p n =
         waits_trans s (with_loan s n None) (published s p n) (loan_set_waits s n None)
-        (publisher_changed_waits (with_loan s n None) p (λ x. record x { history = last_n (s.config).history_size (x.history ++ n ∷ []) }) (λ x. record { strategy = refl; handler = refl; degradation = refl; blocked = λ _. refl }))
+        (publisher_changed_waits (with_loan s n None) p (λ x. record x { history = last_n (s.config).history_size (x.history ++ n ∷ []) }) (λ x. record { place = refl; strategy = refl; handler = refl; degradation = refl; blocked = λ _. refl }))
 
     pub loan_discarded_waits : (s : State T U) (n : ℕ) (l : Loan T U) → Waits Spared s (loan_discarded s n l)
     loan_discarded_waits s n l =
         waits_trans s (with_loan s n None) (loan_discarded s n l) (loan_set_waits s n None)
-        (publisher_changed_waits (with_loan s n None) l.publisher (λ x. record x { loans = without n x.loans }) (λ x. record { strategy = refl; handler = refl; degradation = refl; blocked = λ _. refl }))
+        (publisher_changed_waits (with_loan s n None) l.publisher (λ x. record x { loans = without n x.loans }) (λ x. record { place = refl; strategy = refl; handler = refl; degradation = refl; blocked = λ _. refl }))
 
     static_waits : (default_header : U) (s : State T U) (p : ℕ) (x : Publisher) → s.publishers p ≡ Some x → (len : ℕ) (s' : State T U) (refusal : Option LoanError)
         → StaticLoan default_header s p x len s' refusal → Waits Spared s s'
@@ -222,10 +268,10 @@ module _ (Spared : ℕ → Type 0) where
       concluded_waits : (s : State T U) (n : ℕ) (how : DeliveryEnd) (s' : State T U) (result : SendResult) → ConcludeSend s p n how s' result → Waits Spared s s'
       concluded_waits s n (Complete count has_failed) s' result h =
           subst (Waits Spared s) (sym h.0) (publisher_changed_waits s p (λ x. record x { loans = without n x.loans; blocked = None })
-          (λ x. record { strategy = refl; handler = refl; degradation = refl; blocked = λ apart. absurd (apart spared) }))
+          (λ x. record { place = refl; strategy = refl; handler = refl; degradation = refl; blocked = λ apart. absurd (apart spared) }))
       concluded_waits s n (Suspended b) s' result h =
           subst (Waits Spared s) (sym h.0) (publisher_changed_waits s p (λ x. record x { blocked = Some b })
-          (λ x. record { strategy = refl; handler = refl; degradation = refl; blocked = λ apart. absurd (apart spared) }))
+          (λ x. record { place = refl; strategy = refl; handler = refl; degradation = refl; blocked = λ apart. absurd (apart spared) }))
 
       pub delivered_waits : (environment : Environment) (s : State T U) (n retries : ℕ) (elapsed : Duration) (place : ℕ) (ends : List (Option ℕ)) (count : ℕ)
           (has_failed : Bool) (s' : State T U) (result : SendResult)
@@ -233,7 +279,7 @@ module _ (Spared : ℕ → Type 0) where
       delivered_waits environment s n retries elapsed place ends count has_failed s' result h =
           by_option (Waits Spared s s') (s.publishers p) _ _ h (λ _ v. absurd v) (λ x present h.
           let mid : State T U = with_mailboxes s p h.1 in
-          waits_trans s mid s' (same_publishers s mid refl refl) (concluded_waits mid n h.0 s' result h.3))
+          waits_trans s mid s' (same_ports s mid refl refl refl) (concluded_waits mid n h.0 s' result h.3))
 
       publish_waits : (environment : Environment) (s : State T U) (n : ℕ) (s' : State T U) (result : SendResult) → Publish environment s p n s' result → Waits Spared s s'
       publish_waits environment s n s' result h =
@@ -268,19 +314,27 @@ module _ (Spared : ℕ → Type 0) where
         (λ e _ k. subst (Waits Spared s) (sym k.0) first)
       where
         taken : (mid : State T U) (y : Subscriber) (result : ReceiveResult) → TakeSample mid q y s' result → Waits Spared mid s'
-        taken mid y (Got_sample p n) k = subst (Waits Spared mid) (sym k.3) (same_publishers mid (with_mailbox mid p q k.1) refl refl)
+        taken mid y (Got_sample p n) k = subst (Waits Spared mid) (sym k.3) (same_ports mid (with_mailbox mid p q k.1) refl refl refl)
         taken mid y No_sample k = subst (Waits Spared mid) (sym k.1) (waits_itself mid)
         taken mid y (Receive_error e) k = subst (Waits Spared mid) (sym k.3) (waits_itself mid)
 
+    -- a subscriber forgets publishers
+    pruned_waits : (s : State T U) (q : ℕ) → Waits Spared s (subscriber_pruned s q)
+    pruned_waits s q = same_publishers s (subscriber_pruned s q) refl refl
+        (λ i y low e. at_each s.subscribers q (option_map (pruned s q) (s.subscribers q)) (λ k o. o ≡ Some y → WasSubscriber s.subscribers k y) i
+        (λ _ e. mapped_subscriber s.subscribers (pruned s q) q (λ z. refl) y e) (λ _ e. (y, e, refl)) e)
+
     -- a subscriber that is unused is gone
     freed_waits : (s : State T U) (q : ℕ) → Waits Spared s (freed_if_unused s q)
-    freed_waits s q = cond_both (is_unused s q) (place_freed s q) s (Waits Spared s) (λ _. all_due s (place_freed s q) (le_refl s.next_port) refl) (λ _. waits_itself s)
+    freed_waits s q = cond_both (is_unused s q) (place_freed s q) s (Waits Spared s)
+        (λ _. all_due s (place_freed s q) (le_refl s.next_port) refl (λ i y low e. found_removed s.subscribers q i y (WasSubscriber s.subscribers i y) e (λ _ old. (y, old, refl))))
+        (λ _. waits_itself s)
 
     pub released_waits : (s : State T U) (p q n : ℕ) → Waits Spared s (released s p q n)
     released_waits s p q n =
         let mid : State T U = unborrowed s p q n in
-        waits_trans s mid (released s p q n) (same_publishers s mid refl refl)
-        (waits_trans mid (subscriber_pruned mid q) (released s p q n) (same_publishers mid (subscriber_pruned mid q) refl refl) (freed_waits (subscriber_pruned mid q) q))
+        waits_trans s mid (released s p q n) (same_ports s mid refl refl refl)
+        (waits_trans mid (subscriber_pruned mid q) (released s p q n) (pruned_waits mid q) (freed_waits (subscriber_pruned mid q) q))
 
     -- ---- closes
 
@@ -288,10 +342,15 @@ module _ (Spared : ℕ → Type 0) where
     publisher_closed_waits s p x = record {
       next_port = le_refl s.next_port;
       publishers = λ i z low e. found_removed s.publishers p i z (WasPublisher Spared s.publishers i z) e (λ _ old. (z, old, as_it_is i z));
+      subscribers = λ q y low e.
+          let gone : State T U = publisher_gone s p x in
+          let mid : State T U = subscribers_pruned gone in
+          let v = mapped_subscriber mid.subscribers (λ z. record z { is_due = true }) q (λ z. refl) y e in
+          let u = mapped_subscriber s.subscribers (pruned gone q) q (λ z. refl) v.0 v.1 in (u.0, u.1, v.2 ∙ u.2);
     }
 
-    pub subscriber_closed_waits : (s : State T U) (q : ℕ) (y : Subscriber) → Waits Spared s (subscriber_closed s q y)
-    subscriber_closed_waits s q y =
+    pub subscriber_closed_waits : (s : State T U) (q : ℕ) (y : Subscriber) → s.subscribers q ≡ Some y → Waits Spared s (subscriber_closed s q y)
+    subscriber_closed_waits s q y present =
         let mid : State T U = subscriber_shut s q y in
-        waits_trans s mid (subscriber_closed s q y) (all_due s mid (le_refl s.next_port) refl)
-        (waits_trans mid (subscriber_pruned mid q) (subscriber_closed s q y) (same_publishers mid (subscriber_pruned mid q) refl refl) (freed_waits (subscriber_pruned mid q) q))
+        waits_trans s mid (subscriber_closed s q y) (all_due s mid (le_refl s.next_port) refl (put_subscriber s.subscribers s.next_port q (record y { is_open = false }) (λ _. (y, present, refl))))
+        (waits_trans mid (subscriber_pruned mid q) (subscriber_closed s q y) (pruned_waits mid q) (freed_waits (subscriber_pruned mid q) q))
