@@ -38,13 +38,13 @@ fn assert_sliced(rt: &impl Abort, domain: &Domain<u64, u64>)
 fn assert_ready(rt: &impl Abort, domain: &Domain<u64, u64>, publisher: &Publisher)
     ensures { IsReadyPublisher domain.now publisher.now.publisher }
 {
-    assert!(rt; domain.holds_publisher(publisher.key()));
+    assert!(rt; publisher.is_in(domain));
     assert!(rt; !publisher.is_blocked(domain));
 }
 
 // Whether a send of the publisher is blocked, which is one of the domain's.
 fn has_blocked_send(rt: &impl Abort, domain: &Domain<u64, u64>, publisher: &Publisher) -> bool {
-    assert!(rt; domain.holds_publisher(publisher.key()));
+    assert!(rt; publisher.is_in(domain));
     publisher.is_blocked(domain)
 }
 
@@ -89,7 +89,7 @@ fn next_sum(
     subscriber: &Subscriber,
 ) -> Option<u64> {
     assert_sliced(rt, domain);
-    assert!(rt; domain.holds_subscriber(subscriber.key()));
+    assert!(rt; subscriber.is_in(domain));
     let sample = subscriber.receive(domain).expect(rt, "an answer")?;
     let sum = sample
         .payload(domain)

@@ -103,7 +103,7 @@ pub(crate) fn assert_live(
 )
     ensures { IsLiveSubscriber domain.now subscriber.now }
 {
-    assert!(rt; domain.holds_subscriber(subscriber.key()));
+    assert!(rt; subscriber.is_in(domain));
 }
 
 /// Asserts that the send is one of the domain's that is blocked.
@@ -125,7 +125,7 @@ pub(crate) fn has_blocked_send(
 ) -> bool
     ensures { result ≡ false → IsReadyPublisher domain.now publisher.now }
 {
-    assert!(rt; domain.holds_publisher(publisher.key()));
+    assert!(rt; publisher.is_in(domain));
     publisher.is_blocked(domain)
 }
 

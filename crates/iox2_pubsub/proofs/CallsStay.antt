@@ -234,6 +234,7 @@ module _ {T U F G : Type 0} (old new : Kept T U F G) (m : Messages T U) (s : Sta
                 was.0,
                 was.1,
                 record {
+                  place = was.2.place;
                   strategy = was.2.strategy;
                   handler = was.2.handler;
                   degradation = was.2.degradation;
@@ -248,6 +249,7 @@ module _ {T U F G : Type 0} (old new : Kept T U F G) (m : Messages T U) (s : Sta
                   ];
                 },
               );
+          subscribers = mine.subscribers;
         }
 
     -- all but the loan stays, and its publisher where it is blocked

@@ -83,8 +83,8 @@ module _ {T U F G : Type 0} (old new : Kept T U F G) (m : Messages T U) (s : Sta
 
   module _ (y : Subscriber) (shown' : Shows new m (subscriber_closed s id y)) where
     -- all but the subscriber stays
-    pub subscriber-close-stays : BoxesStayBut (A_subscriber id) old new → StaysBut (A_subscriber id) old new
-    subscriber-close-stays boxes =
+    pub subscriber-close-stays : s.subscribers id ≡ Some y → BoxesStayBut (A_subscriber id) old new → StaysBut (A_subscriber id) old new
+    subscriber-close-stays there boxes =
         let s' : State T U = subscriber_closed s id y in
         stays-between (A_subscriber id) old new m m s s' shown shown' (λ n entry at. at) (record {
           config = (subscriber_closed_advances s id y).config;
@@ -92,7 +92,7 @@ module _ {T U F G : Type 0} (old new : Kept T U F G) (m : Messages T U) (s : Sta
           subscribers = λ q z at is_open other. (z, subscriber_closed_others s id y q other ∙ at, is_open);
         })
         (λ n l at other. ap (λ (loans : ℕ → Option (Loan T U)). loans n) (subscriber_closed_loans s id y) ∙ at)
-        (λ p q n at other. still-borrowed s' (subscriber_closed_borrowed s id y) p q n at) (subscriber_closed_waits (IsSpared (A_subscriber id)) s id y) (none-spared _ old s s' (λ _. tt)) boxes
+        (λ p q n at other. still-borrowed s' (subscriber_closed_borrowed s id y) p q n at) (subscriber_closed_waits (IsSpared (A_subscriber id)) s id y there) (none-spared _ old s s' (λ _. tt)) boxes
 
     -- it is open no more
     pub subscriber-close-spends : (key : Key) → key.port ≡ id → IsSubscriberKey new key → ⊥

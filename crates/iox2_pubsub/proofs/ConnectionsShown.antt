@@ -18,7 +18,7 @@ use Rattle.iox2_store.specs.declared.errors.PublisherCreateError.{PublisherCreat
 use Rattle.iox2_domain.specs.Kept.{Kept, state_of, entries_of}
 use Rattle.iox2_domain.specs.Shows.{Shows}
 use Rattle.iox2_pubsub.specs.ConnectedPorts.{Connects}
-use Rattle.iox2_pubsub.specs.Live.{ConnectionsStay, IsConnected, IsLiveSubscriber, IsServed, IsUpToDate, NoneRefused, payloads_from, waiting}
+use Rattle.iox2_pubsub.specs.Live.{ConnectionsStay, IsConnected, IsServed, IsUpToDate, NoneRefused, payloads_from, waiting, IsSubscriberKey, subscriber_key}
 use Rattle.iox2_pubsub.specs.SendCalls.{IsDelivered, Sends, messages_after}
 use Rattle.iox2_pubsub.specs.declared.send_outcome.SendOutcome.{SendOutcome}
 use Rattle.iox2_pubsub.specs.declared.send_outcome.SendOutcome.TheVariants.{Delivered, Blocked}
@@ -136,7 +136,7 @@ module _ {T U F G : Type 0} (old new : Kept T U F G) (m m' : Messages T U) (s s'
 
   -- and it is connected with each subscriber that is live, where no connection was refused memory
   pub made-connects : (environment : Environment) (given : PublisherSettings) (p : ℕ) → p ≡ s.next_port → CreatePublisher environment s given s' None
-      → NoneRefused old new → (subscriber : Subscriber) → IsLiveSubscriber old subscriber → IsConnected new p subscriber
+      → NoneRefused old new → (subscriber : Subscriber) → IsSubscriberKey old (subscriber_key subscriber) → IsConnected new p subscriber
   made-connects environment given p here h none subscriber live =
       let has = live-open old new m m' s s' shown shown' subscriber live in
       let low : (s.warnings).refused_connections < refusal_limit = subst (λ (t : State T U). (t.warnings).refused_connections < refusal_limit) (sym shown.state) none.1 in

@@ -95,7 +95,7 @@ module _ {T U F G : Type 0} (old new : Kept T U F G) (m m' : Messages T U) (s s'
 
   pub one-fewer-waits : IsLiveSubscriber old subscriber → (p n : ℕ) → Receive environment s subscriber.id s' (Got_sample p n) → suc (waiting new subscriber) ≡ waiting old subscriber
   one-fewer-waits live p n h =
-      let has = live-open old new m m' s s' shown shown' subscriber live in
+      let has = live-open old new m m' s s' shown shown' subscriber live.there in
       ap suc (waiting-is new m' s' shown' subscriber)
       ∙ kept-one-fewer environment s subscriber.id keeps shown.well_formed p n s' has.0 has.1 has.2 h
       ∙ sym (waiting-is old m s shown subscriber)

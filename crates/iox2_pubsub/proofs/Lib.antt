@@ -24,6 +24,7 @@ pub mod PublishersShown
 pub mod ReceptionShown
 pub mod LiveParts
 pub mod StaysBut
+pub mod PlacedHandles
 pub mod CallsStay
 pub mod DiscardShows
 pub mod QuestionShown

@@ -3,7 +3,7 @@ use Rattle.std.proofs.Common.{List, [], ◌∷◌, Option, ◌≡◌, ◌⊎◌,
 use Rattle.std.specs.Option.{option_map_or}
 use Rattle.std.specs.Prelude.{◌↔◌}
 use Rattle.iox2_store.specs.machine.Mailbox.{is_borrowed}
-use Rattle.iox2_store.specs.machine.Records.{Entry, Loan, Publisher, BlockedSend}
+use Rattle.iox2_store.specs.machine.Records.{Entry, Loan, Publisher, Subscriber, BlockedSend}
 use Rattle.iox2_store.specs.machine.SingleCalls.{HoldsPublisher, HoldsSubscriber, HoldsLoan, HoldsSample, HoldsBlocked}
 use Rattle.iox2_store.specs.machine.State.{is_blocked}
 use Rattle.iox2_store.specs.declared.header.Header.{Header}
@@ -14,8 +14,10 @@ use Rattle.iox2_domain.specs.Kept.{Kept, state_of, entries_of}
 use Rattle.iox2_domain.specs.LoanCalls.{HasCell, HasLoanHeader, HasLoanUserHeader, HoldsUnwritten, HoldsWritten}
 use Rattle.iox2_pubsub.proofs.UnfailedSends.{HasNotFailed}
 use Rattle.iox2_pubsub.specs.Handlers.{may_wait}
-use Rattle.iox2_pubsub.specs.Live.{IsSingleValued, IsPublisherKey, IsSubscriberKey, IsLoanKey, IsSampleKey, IsBlockedKey, IsUnblocked, Overflows, PassesFull, NeverFails, NeverWaits, HasMark, IsFromOrigin, UnwrittenReads, LoanReads, SampleReads, LoanHasHeader, LoanHasUserHeader, SampleHasHeader, SampleHasUserHeader, IsUnwritten, IsWritten}
+use Rattle.iox2_pubsub.specs.Live.{IsSingleValued, IsPlacedPublisher, IsPlacedSubscriber, IsPublisherKey, IsSubscriberKey, IsLoanKey, IsSampleKey, IsBlockedKey, IsUnblocked, Overflows, PassesFull, NeverFails, NeverWaits, HasMark, IsFromOrigin, UnwrittenReads, LoanReads, SampleReads, LoanHasHeader, LoanHasUserHeader, SampleHasHeader, SampleHasUserHeader, IsUnwritten, IsWritten}
 use Rattle.iox2_pubsub.specs.Slices.{HasUnwrittenCells, HasValues, SampleHasValues}
+use Rattle.iox2_pubsub.specs.declared.publisher.Publisher.{Publisher as PublisherHandle}
+use Rattle.iox2_pubsub.specs.declared.subscriber.Subscriber.{Subscriber as SubscriberHandle}
 use Rattle.iox2_pubsub.specs.declared.sample.Sample.{Sample}
 use Rattle.iox2_pubsub.specs.declared.sample_mut.SampleMut.{SampleMut}
 use Rattle.iox2_pubsub.specs.declared.sample_mut_uninit.SampleMutUninit.{SampleMutUninit}
@@ -127,6 +129,28 @@ module _ {T U F G : Type 0} (kept : Kept T U F G) where
   pub unfailed-from : (p : ℕ) → (p < (state_of kept).next_port) × (Overflows kept ⊎ HasMildHandler p) × HasNotFailed (state_of kept) p × GoesOnUnconnected p → NeverFails kept p
   unfolding NeverFails
   unfailed-from p parts = parts
+
+  -- ---- where ports stand
+
+  pub placed-parts : (it : PublisherHandle) → IsPlacedPublisher kept it
+      → (it.id < (state_of kept).next_port) × ((x : Publisher) → (state_of kept).publishers it.id ≡ Some x → x.place ≡ it.place)
+  unfolding IsPlacedPublisher
+  placed-parts it placed = placed
+
+  pub placed-from : (it : PublisherHandle) → (it.id < (state_of kept).next_port) × ((x : Publisher) → (state_of kept).publishers it.id ≡ Some x → x.place ≡ it.place)
+      → IsPlacedPublisher kept it
+  unfolding IsPlacedPublisher
+  placed-from it parts = parts
+
+  pub placed-subscriber-parts : (it : SubscriberHandle) → IsPlacedSubscriber kept it
+      → (it.id < (state_of kept).next_port) × ((y : Subscriber) → (state_of kept).subscribers it.id ≡ Some y → y.place ≡ it.place)
+  unfolding IsPlacedSubscriber
+  placed-subscriber-parts it placed = placed
+
+  pub placed-subscriber-from : (it : SubscriberHandle) → (it.id < (state_of kept).next_port) × ((y : Subscriber) → (state_of kept).subscribers it.id ≡ Some y → y.place ≡ it.place)
+      → IsPlacedSubscriber kept it
+  unfolding IsPlacedSubscriber
+  placed-subscriber-from it parts = parts
 
   -- who never waits doesn't, whatever the rest of the key
   pub never-waits-alike : (key key' : Key) → key'.port ≡ key.port → NeverWaits kept key → NeverWaits kept key'

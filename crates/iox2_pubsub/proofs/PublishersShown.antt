@@ -1,5 +1,5 @@
 -- The creation of a publisher, seen from outside.
-use Rattle.std.proofs.Common.{◌≡◌, ◌<◌, true, false, inl, inr, refl, ap, sym, subst, ◌∙◌}
+use Rattle.std.proofs.Common.{◌≡◌, ◌<◌, get_or, true, false, inl, inr, refl, ap, sym, subst, ◌∙◌}
 use Rattle.std.proofs.lemmas.Option.{same_Some}
 use Rattle.std.specs.declared.option.Option.{Option}
 use Rattle.std.specs.declared.option.Option.TheVariants.{None, Some}
@@ -17,6 +17,8 @@ use Rattle.iox2_domain.specs.Fields.{Fields, kept_of, keeping}
 use Rattle.iox2_pubsub.specs.Handlers.{may_wait}
 use Rattle.iox2_pubsub.specs.Live.{IsReadyPublisher, NeverFails, NeverWaits, publisher_key}
 use Rattle.iox2_pubsub.specs.declared.publisher.Publisher.{Publisher}
+use Rattle.iox2_domain.specs.Ports.{PublisherFields}
+use Rattle.iox2_pubsub.proofs.PlacedHandles.{publisher-placed}
 use Rattle.iox2_pubsub.proofs.LiveParts.{publisher-live, unblocked-free, unfailed-from, passes-from}
 use Rattle.iox2_pubsub.proofs.UnfailedSends.{HasNotFailed}
 use Rattle.iox2_domain.specs.Reaches.{Reaches}
@@ -52,8 +54,9 @@ module _ {T U : Type 0} (f g : Fields T U) (given : PublisherSettings) (environm
 
   -- it is ready
   pub created-ready : {F G : Type 0} {boxes : DomainBoxes F G} (t : State T U) → CreatePublisher environment (state_of (kept_of f)) given t None → Reaches f g t
-      → (publisher : Publisher) → publisher.service_id ≡ (f.config).service_id → publisher.id ≡ f.next_port → IsReadyPublisher (keeping boxes g) publisher
-  created-ready {F} {G} {boxes} t made reached publisher service id =
+      → (publisher : Publisher) → publisher.service_id ≡ (f.config).service_id → publisher.id ≡ f.next_port
+      → (x : PublisherFields) × (get_or g.publishers publisher.place None ≡ Some x) × (x.id ≡ publisher.id) → IsReadyPublisher (keeping boxes g) publisher
+  created-ready {F} {G} {boxes} t made reached publisher service id at =
       let keeps = create-keeps environment (state_of (kept_of f)) given t None made in
       let stands = created-stands t made reached publisher id in
       record {
@@ -63,6 +66,7 @@ module _ {T U : Type 0} (f g : Fields T U) (given : PublisherSettings) (environm
           subst (HoldsPublisher (state_of (kept_of g))) (sym id)
               (subst (λ (u : State T U). HoldsPublisher u f.next_port) (sym reached.state) (create-holds environment (state_of (kept_of f)) given t made)),
         );
+        placed = publisher-placed boxes g reached.agrees publisher at;
         unblocked = unblocked-free (keeping boxes g) _ (stands.0, λ x here. (stands.1 x here).2);
       }
 

@@ -15,14 +15,10 @@ use Rattle.iox2_pubsub.specs.declared.subscriber.Subscriber.{Subscriber}
 use Rattle.iox2_pubsub.proofs.LiveParts.{subscriber-parts, sample-live, origin-live}
 use Rattle.iox2_pubsub.specs.declared.sample.Sample.{Sample}
 use Rattle.iox2_domain.specs.Shows.{Shows}
-use Rattle.iox2_domain.specs.Kept.{Kept, Named, state_of, is_named}
+use Rattle.iox2_domain.specs.Kept.{Kept, state_of}
 use Rattle.iox2_domain.specs.Boxes.{DomainBoxes}
-use Rattle.iox2_domain.specs.Fields.{Fields, kept_of, subscriber_of, keeping}
-use Rattle.iox2_domain.specs.Invariant.{is_subscriber}
-use Rattle.iox2_domain.proofs.lemmas.containers.LookUps.{look_up-map}
-use Rattle.iox2_ends.specs.LookUp.{look_up}
-use Rattle.iox2_store.specs.machine.Records.{Subscriber as MachineSubscriber, Environment}
-use Rattle.std.specs.Option.{option_map}
+use Rattle.iox2_domain.specs.Fields.{Fields, kept_of, keeping}
+use Rattle.iox2_store.specs.machine.Records.{Environment}
 use Rattle.iox2_domain.specs.Receipts.{receive_result, ReceivesAs}
 use Rattle.iox2_domain.specs.declared.sample_slots.Receipt.{Receipt}
 use Rattle.iox2_domain.specs.declared.sample_slots.SampleAt.{SampleAt}
@@ -61,7 +57,7 @@ module _ {T U : Type 0} where
         ap (λ (s : State T U). s.config) receives.1.state
         ∙ (receive_advances environment (state_of (kept_of f)) subscriber.id receives.0 (Got_sample receipt.publisher receipt.sample.number) receives.2).config in
         sample-live (keeping boxes g) _ (
-          service ∙ (subscriber-parts kept _ live).1 ∙ ap (λ (k : Kept T U F G). (k.config).service_id) (sym same) ∙ ap (λ (x : ServiceConfig). x.service_id) (sym config),
+          service ∙ (subscriber-parts kept _ live.there).1 ∙ ap (λ (k : Kept T U F G). (k.config).service_id) (sym same) ∙ ap (λ (x : ServiceConfig). x.service_id) (sym config),
           (sample.origin, is-borrowed),
         )
 
@@ -90,15 +86,3 @@ module _ {T U F G : Type 0} {boxes : DomainBoxes F G} (environment : Environment
   error-shows m s shown =
       subst (λ (answer : ReceiveResult). (s' : State T U) × Shows (kept_of g) m s' × Receive environment s q s' answer) (sym (error-answered r e same))
       (reception-shows environment kept f g view q (Err e) receives m s shown)
-
--- a subscriber that is live stands somewhere
-pub subscriber-missing : {T U F G : Type 0} {boxes : DomainBoxes F G} (f : Fields T U) (kept : Kept T U F G) → keeping boxes f ≡ kept → (subscriber : Subscriber)
-    → look_up (is_subscriber subscriber.id) f.subscribers ≡ None → IsLiveSubscriber kept subscriber → ⊥
-subscriber-missing {T} {U} {F} {G} {boxes} f kept view subscriber none live =
-    let live-here : IsLiveSubscriber (keeping boxes f) subscriber = subst (λ (k : Kept T U F G). IsLiveSubscriber k subscriber) (sym view) live in
-    let has = (subscriber-parts (keeping boxes f) _ live-here).2 in
-    let nothing : (state_of (kept_of f)).subscribers subscriber.id ≡ None =
-    ap (option_map (λ (z : Named MachineSubscriber). z.port))
-    (look_up-map (is_named subscriber.id) (subscriber_of f.books f.connections) f.subscribers ∙ ap (option_map (subscriber_of f.books f.connections)) none) in
-    let clash : None ≡ Some has.0 = sym nothing ∙ has.1 in
-    absurd cc

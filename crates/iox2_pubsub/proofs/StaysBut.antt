@@ -23,9 +23,11 @@ use Rattle.iox2_domain.specs.Kept.{Kept, state_of, entries_of}
 use Rattle.iox2_domain.specs.Shows.{Shows}
 use Rattle.iox2_pubsub.proofs.UnfailedSends.{IsMild, HasNotFailed}
 use Rattle.iox2_pubsub.specs.Handlers.{may_wait}
-use Rattle.iox2_pubsub.specs.Live.{degradation_box, handler_box, subscriber_box, IsSingleValued, IsPublisherKey, IsSubscriberKey, IsLoanKey, IsSampleKey, IsBlockedKey, HasMark, IsFromOrigin, LoanHasHeader, LoanHasUserHeader, SampleHasHeader, SampleHasUserHeader, Item, No_item, A_publisher, A_subscriber, A_loan, A_sample, A_blocked_send, A_sent_loan, A_sent_copy, Both, IsOtherPublisher, IsOtherSubscriber, IsOtherLoan, IsOtherSample, IsUnblocked, PassesFull, NeverFails, NeverWaits, IsOtherBlocked, StaysBut, Stays, IsNewIn, unwritten_key, written_key}
+use Rattle.iox2_pubsub.specs.Live.{degradation_box, handler_box, subscriber_box, IsSingleValued, IsPlacedPublisher, IsPlacedSubscriber, IsPublisherKey, IsSubscriberKey, IsLoanKey, IsSampleKey, IsBlockedKey, HasMark, IsFromOrigin, LoanHasHeader, LoanHasUserHeader, SampleHasHeader, SampleHasUserHeader, Item, No_item, A_publisher, A_subscriber, A_loan, A_sample, A_blocked_send, A_sent_loan, A_sent_copy, Both, IsOtherPublisher, IsOtherSubscriber, IsOtherLoan, IsOtherSample, IsUnblocked, PassesFull, NeverFails, NeverWaits, IsOtherBlocked, StaysBut, Stays, IsNewIn, unwritten_key, written_key}
 use Rattle.iox2_pubsub.specs.Slices.{IsSliced, HasUnwrittenCells, HasValues, SampleHasValues}
+use Rattle.iox2_pubsub.specs.declared.publisher.Publisher.{Publisher as PublisherHandle}
 use Rattle.iox2_pubsub.specs.declared.sample.Sample.{Sample}
+use Rattle.iox2_pubsub.specs.declared.subscriber.Subscriber.{Subscriber as SubscriberHandle}
 
 module _ {T U : Type 0} where
   -- the settings stay, and the ports, but for the item
@@ -245,6 +247,24 @@ module _ {T U F G : Type 0} (spent : Item) (old new : Kept T U F G) (remain : Po
   more : (p : ℕ) → p < (state_of old).next_port → p < (state_of new).next_port
   more p low = let rises = waits.next_port in omega (arith, low, rises)
 
+  placed : (it : PublisherHandle) → IsPlacedPublisher old it → IsPlacedPublisher new it
+  unfolding IsPlacedPublisher
+  placed it was = (
+    more it.id was.0,
+    λ x' at.
+        let before = waits.publishers it.id x' was.0 at in
+        before.2.place ∙ was.1 before.0 before.1,
+  )
+
+  placed-subscriber : (it : SubscriberHandle) → IsPlacedSubscriber old it → IsPlacedSubscriber new it
+  unfolding IsPlacedSubscriber
+  placed-subscriber it was = (
+    more it.id was.0,
+    λ y' at.
+        let before = waits.subscribers it.id y' was.0 at in
+        before.2 ∙ was.1 before.0 before.1,
+  )
+
   free : (key : Key) → IsUnblocked old key → IsOtherBlocked spent key.port → IsUnblocked new key
   unfolding IsUnblocked
   free key was other = (
@@ -311,6 +331,8 @@ module _ {T U F G : Type 0} (spent : Item) (old new : Kept T U F G) (remain : Po
     degradation_boxes = degradations-stay spent old new boxes;
     subscriber_boxes = subscribers-stay spent old new boxes;
     subscribers = subscriber;
+    placed_publishers = placed;
+    placed_subscribers = placed-subscriber;
     loans = loan;
     unwritten_loans = λ it live other. record { live = loan (unwritten_key it) live.live other; unwritten = mark it.loan.number _ live.unwritten other };
     written_loans = λ it live other. record { live = loan (written_key it) live.live other; written = mark it.loan.number _ live.written other };
@@ -383,6 +405,8 @@ module _ {T U F G : Type 0} (start old : Kept T U F G) (before : Stays start old
     degradation_boxes = λ key live other. next.degradation_boxes key (before.publishers key live other) (apart.publishers key live) ∙ before.degradation_boxes key live other;
     subscriber_boxes = λ key live other. next.subscriber_boxes key (before.subscribers key live other) (apart.subscribers key live) ∙ before.subscriber_boxes key live other;
     subscribers = λ key live other. next.subscribers key (before.subscribers key live other) (apart.subscribers key live);
+    placed_publishers = λ it was. next.placed_publishers it (before.placed_publishers it was);
+    placed_subscribers = λ it was. next.placed_subscribers it (before.placed_subscribers it was);
     loans = λ key live other. next.loans key (before.loans key live other) (apart.loans key live);
     unwritten_loans = λ it live other. next.unwritten_loans it (before.unwritten_loans it live other) (apart.unwritten_loans it live);
     written_loans = λ it live other. next.written_loans it (before.written_loans it live other) (apart.written_loans it live);
@@ -417,6 +441,8 @@ module _ {T U F G : Type 0} (start old : Kept T U F G) (before : Stays start old
     degradation_boxes = λ key live other. next.degradation_boxes key (before.publishers key live tt) (apart.publishers key live, other) ∙ before.degradation_boxes key live tt;
     subscriber_boxes = λ key live other. next.subscriber_boxes key (before.subscribers key live tt) (apart.subscribers key live, other) ∙ before.subscriber_boxes key live tt;
     subscribers = λ key live other. next.subscribers key (before.subscribers key live tt) (apart.subscribers key live, other);
+    placed_publishers = λ it was. next.placed_publishers it (before.placed_publishers it was);
+    placed_subscribers = λ it was. next.placed_subscribers it (before.placed_subscribers it was);
     loans = λ key live other. next.loans key (before.loans key live tt) (apart.loans key live, other);
     unwritten_loans = λ it live other. next.unwritten_loans it (before.unwritten_loans it live tt) (apart.unwritten_loans it live, other);
     written_loans = λ it live other. next.written_loans it (before.written_loans it live tt) (apart.written_loans it live, other);
@@ -467,6 +493,8 @@ unchanged-stays spent kept = record {
   degradation_boxes = λ key live other. refl;
   subscriber_boxes = λ key live other. refl;
   subscribers = λ key live other. live;
+  placed_publishers = λ it was. was;
+  placed_subscribers = λ it was. was;
   loans = λ key live other. live;
   unwritten_loans = λ it live other. live;
   written_loans = λ it live other. live;
@@ -621,6 +649,8 @@ stays-but-whole part whole is old new stays = record {
   degradation_boxes = λ key live other. stays.degradation_boxes key live (is.publishers key.port other);
   subscriber_boxes = λ key live other. stays.subscriber_boxes key live (is.subscribers key.port other);
   subscribers = λ key live other. stays.subscribers key live (is.subscribers key.port other);
+  placed_publishers = stays.placed_publishers;
+  placed_subscribers = stays.placed_subscribers;
   loans = λ key live other. stays.loans key live (is.loans key.message other);
   unwritten_loans = λ it live other. stays.unwritten_loans it live (is.loans it.loan.number other);
   written_loans = λ it live other. stays.written_loans it live (is.loans it.loan.number other);
@@ -654,6 +684,8 @@ stays-twice spent start old new before next = record {
   degradation_boxes = λ key live other. next.degradation_boxes key (before.publishers key live other) other ∙ before.degradation_boxes key live other;
   subscriber_boxes = λ key live other. next.subscriber_boxes key (before.subscribers key live other) other ∙ before.subscriber_boxes key live other;
   subscribers = λ key live other. next.subscribers key (before.subscribers key live other) other;
+  placed_publishers = λ it was. next.placed_publishers it (before.placed_publishers it was);
+  placed_subscribers = λ it was. next.placed_subscribers it (before.placed_subscribers it was);
   loans = λ key live other. next.loans key (before.loans key live other) other;
   unwritten_loans = λ it live other. next.unwritten_loans it (before.unwritten_loans it live other) other;
   written_loans = λ it live other. next.written_loans it (before.written_loans it live other) other;
@@ -691,6 +723,8 @@ stays-since-block {T} {U} p start old new was before next frees = record {
   degradation_boxes = λ key live other. next.degradation_boxes key (before.publishers key live tt) tt ∙ before.degradation_boxes key live tt;
   subscriber_boxes = λ key live other. next.subscriber_boxes key (before.subscribers key live tt) tt ∙ before.subscriber_boxes key live tt;
   subscribers = λ key live other. next.subscribers key (before.subscribers key live tt) tt;
+  placed_publishers = λ it was. next.placed_publishers it (before.placed_publishers it was);
+  placed_subscribers = λ it was. next.placed_subscribers it (before.placed_subscribers it was);
   loans = λ key live other. next.loans key (before.loans key live tt) tt;
   unwritten_loans = λ it live other. next.unwritten_loans it (before.unwritten_loans it live tt) tt;
   written_loans = λ it live other. next.written_loans it (before.written_loans it live tt) tt;

@@ -1,5 +1,5 @@
 -- The creation of a subscriber, seen from outside.
-use Rattle.std.proofs.Common.{◌≡◌, ℕ, refl, ap, sym, subst, ◌∙◌}
+use Rattle.std.proofs.Common.{◌≡◌, ℕ, get_or, refl, ap, sym, subst, ◌∙◌}
 use Rattle.std.specs.declared.option.Option.TheVariants.{None, Some}
 use Rattle.iox2_store.specs.machine.Ports.{buffer_for, CreateSubscriber}
 use Rattle.iox2_store.specs.machine.Records.{SubscriberSettings, Environment}
@@ -10,7 +10,9 @@ use Rattle.iox2_domain.specs.Boxes.{DomainBoxes}
 use Rattle.iox2_domain.specs.Fields.{Fields, kept_of, keeping}
 use Rattle.iox2_pubsub.specs.Live.{IsLiveSubscriber}
 use Rattle.iox2_pubsub.specs.declared.subscriber.Subscriber.{Subscriber}
+use Rattle.iox2_domain.specs.Ports.{SubscriberFields}
 use Rattle.iox2_pubsub.proofs.LiveParts.{subscriber-live}
+use Rattle.iox2_pubsub.proofs.PlacedHandles.{subscriber-placed}
 use Rattle.iox2_domain.specs.Reaches.{Reaches}
 use Rattle.iox2_domain.specs.Shows.{Shows}
 use Rattle.iox2_domain.proofs.lemmas.fields.ReachesShows.{reaches-shows-same}
@@ -53,12 +55,16 @@ module _ {T U F G : Type 0} {boxes : DomainBoxes F G} (environment : Environment
 module _ {T U : Type 0} (environment : Environment) (old new : Fields T U) (asked : SubscriberSettings) where
   -- the domain has the new subscriber
   pub made-live : {F G : Type 0} (boxes : DomainBoxes F G) → (s' : State T U) × CreateSubscriber environment (state_of (kept_of old)) asked s' None × Reaches old new s'
-      → (subscriber : Subscriber) → subscriber.service_id ≡ (old.config).service_id → subscriber.id ≡ old.next_port → IsLiveSubscriber (keeping boxes new) subscriber
-  made-live boxes made subscriber is_service is_id =
+      → (subscriber : Subscriber) → subscriber.service_id ≡ (old.config).service_id → subscriber.id ≡ old.next_port
+      → (y : SubscriberFields) × (get_or new.subscribers subscriber.place None ≡ Some y) × (y.id ≡ subscriber.id) → IsLiveSubscriber (keeping boxes new) subscriber
+  made-live boxes made subscriber is_service is_id at =
       let keeps = create-keeps environment (state_of (kept_of old)) asked made.0 None made.1 in
       let has = create-open environment (state_of (kept_of old)) asked made.0 made.1 in
-      subscriber-live (keeping boxes new) _ (
-        refl,
-        is_service ∙ sym (ap (λ (s : State T U). (s.config).service_id) made.2.state ∙ ap (λ c. c.service_id) keeps.config),
-        (has.port, ap (λ (s : State T U). s.subscribers subscriber.id) made.2.state ∙ ap made.0.subscribers is_id ∙ has.stands, has.is_open),
-      )
+      record {
+        there = subscriber-live (keeping boxes new) _ (
+          refl,
+          is_service ∙ sym (ap (λ (s : State T U). (s.config).service_id) made.2.state ∙ ap (λ c. c.service_id) keeps.config),
+          (has.port, ap (λ (s : State T U). s.subscribers subscriber.id) made.2.state ∙ ap made.0.subscribers is_id ∙ has.stands, has.is_open),
+        );
+        placed = subscriber-placed boxes new made.2.agrees subscriber at;
+      }

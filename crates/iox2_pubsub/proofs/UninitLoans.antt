@@ -5,7 +5,6 @@ use Rattle.std.proofs.lemmas.List.{length-replicate}
 use Rattle.std.proofs.lemmas.Option.{same_Some}
 use Rattle.std.specs.declared.option.Option.{Option}
 use Rattle.std.specs.declared.option.Option.TheVariants.{None, Some}
-use Rattle.std.specs.Option.{option_map}
 use Rattle.std.specs.Prelude.{IsSomeAnd, IsErrAnd}
 use Rattle.iox2_store.specs.machine.Loans.{loan_granted}
 use Rattle.iox2_store.specs.machine.Numbers.{put_at}
@@ -13,22 +12,18 @@ use Rattle.iox2_store.specs.machine.Records.{Loan, Publisher}
 use Rattle.iox2_store.specs.machine.State.{State, Messages}
 use Rattle.iox2_store.specs.declared.errors.LoanError.{LoanError}
 use Rattle.iox2_store.specs.declared.key.Key.{Key}
-use Rattle.iox2_ends.specs.LookUp.{look_up}
-use Rattle.iox2_pubsub.specs.Live.{IsPublisherKey, IsUnwritten, LoanHasHeader, publisher_key}
+use Rattle.iox2_pubsub.specs.Live.{IsUnwritten, LoanHasHeader}
 use Rattle.iox2_pubsub.specs.Slices.{HasUnwrittenCells}
-use Rattle.iox2_pubsub.specs.declared.publisher.Publisher.{Publisher as PublisherHandle}
 use Rattle.iox2_pubsub.specs.declared.sample_mut_uninit.SampleMutUninit.{SampleMutUninit}
-use Rattle.iox2_pubsub.proofs.LiveParts.{loan-header, publisher-parts, unwritten-live}
+use Rattle.iox2_pubsub.proofs.LiveParts.{loan-header, unwritten-live}
 use Rattle.iox2_pubsub.proofs.SliceParts.{has-cells, cells-parts}
 use Rattle.iox2_domain.specs.Ports.{PublisherFields}
-use Rattle.iox2_domain.specs.Kept.{Kept, Named, state_of, is_named}
+use Rattle.iox2_domain.specs.Kept.{Kept, state_of}
 use Rattle.iox2_domain.specs.Boxes.{DomainBoxes}
 use Rattle.iox2_domain.specs.Fields.{Fields, kept_of, publisher_of, keeping}
-use Rattle.iox2_domain.specs.Invariant.{is_publisher}
 use Rattle.iox2_domain.specs.Lending.{IsNamed, LoanReaches, LoanCall, header_for}
 use Rattle.iox2_domain.specs.declared.loan_slots.LoanAt.{LoanAt}
 use Rattle.iox2_domain.specs.Shows.{Shows}
-use Rattle.iox2_domain.proofs.lemmas.containers.LookUps.{look_up-map}
 use Rattle.iox2_domain.proofs.lemmas.fields.ReachesShows.{reaches-shows, reaches-shows-same}
 
 module _ {T U : Type 0} (f : Fields T U) where
@@ -37,18 +32,6 @@ module _ {T U : Type 0} (f : Fields T U) where
 
   abbrev machine : PublisherFields → Publisher
   machine x = (publisher_of f.books f.connections x).port
-
-  -- a publisher that is live stands somewhere
-  pub publisher-missing : {F G : Type 0} {boxes : DomainBoxes F G} (kept : Kept T U F G) → keeping boxes f ≡ kept → (publisher : PublisherHandle) → look_up (is_publisher publisher.id) f.publishers ≡ None
-      → IsPublisherKey kept (publisher_key publisher) → ⊥
-  publisher-missing {F} {G} {boxes} kept view publisher none live =
-      let live-here : IsPublisherKey (keeping boxes f) (publisher_key publisher) = subst (λ (k : Kept T U F G). IsPublisherKey k (publisher_key publisher)) (sym view) live in
-      let has = (publisher-parts (keeping boxes f) _ live-here).2 in
-      let nothing : state.publishers publisher.id ≡ None =
-      ap (option_map (λ (z : Named Publisher). z.port))
-      (look_up-map (is_named publisher.id) (publisher_of f.books f.connections) f.publishers ∙ ap (option_map (publisher_of f.books f.connections)) none) in
-      let clash : None ≡ Some has.0 = sym nothing ∙ has.1 in
-      absurd cc
 
   module _ (is_default : U → Type 0) (checks : Bool) (len : ℕ) (new : Fields T U) (x : PublisherFields) (m : Messages T U) (s : State T U) (shown : Shows (kept_of f) m s) where
     -- a loan that is refused changes nothing

@@ -102,12 +102,12 @@ module _ {T U F G : Type 0} (old new : Kept T U F G) (m m' : Messages T U) (s s'
 
     pub received-updated : IsLiveSubscriber old subscriber → (result : ReceiveResult) → ((e : ReceiveError) → result ≡ Receive_error e → ⊥) → Receive environment s subscriber.id s' result → IsUpToDate new subscriber
     received-updated live result fine h =
-        let has = live-open old new m m' s s' shown shown' subscriber live in
+        let has = live-open old new m m' s s' shown shown' subscriber live.there in
         up-to-date new m' s' shown' subscriber (receive_leaves_updated environment s subscriber.id s' result fine has.0 has.1 has.2 h)
 
     asked-updated : IsLiveSubscriber old subscriber → UpdateSubscriber environment s subscriber.id s' None → IsUpToDate new subscriber
     asked-updated live h =
-        let has = live-open old new m m' s s' shown shown' subscriber live in
+        let has = live-open old new m m' s s' shown shown' subscriber live.there in
         up-to-date new m' s' shown' subscriber (update_leaves_updated environment s subscriber.id s' None refl has.0 has.1 has.2 h)
 
     pub answers-updated : IsLiveSubscriber old subscriber → (result : Result Bool ConnectionFailure) → IsAnswer environment s subscriber.id result s' → OnOk result (IsUpToDate new subscriber)

@@ -38,7 +38,7 @@ use Rattle.iox2_laws.proofs.WaitingReceives.{UpdateWaits, update_subscriber_wait
 use Rattle.iox2_laws.proofs.WaitingPorts.{NewWaits, create_subscriber_waits}
 use Rattle.iox2_laws.proofs.WaitingPublishers.{create_publisher_waits}
 use Rattle.iox2_laws.proofs.WaitingSends.{update_publisher_waits, send_waits, send_among, retry_adds, give_up_adds}
-use Rattle.iox2_pubsub.specs.Live.{IsLiveSubscriber, AddAtMost, AreAllSlices, OthersWait, TakesOldest, WaitingStays, payloads, payloads_from, waiting, sample_key, subscriber_key}
+use Rattle.iox2_pubsub.specs.Live.{IsLiveSubscriber, AddAtMost, AreAllSlices, OthersWait, TakesOldest, WaitingStays, payloads, payloads_from, waiting, sample_key, subscriber_key, IsSubscriberKey}
 use Rattle.iox2_pubsub.specs.Slices.{HasValues, SampleHasValues}
 use Rattle.iox2_pubsub.specs.Payloads.{all_below, payload_of, payloads_for}
 use Rattle.iox2_pubsub.specs.declared.sample.Sample.{Sample}
@@ -162,7 +162,7 @@ module _ {T U F G : Type 0} (old new : Kept T U F G) (m m' : Messages T U) (s s'
   others-wait sent subscriber ports from other away = payloads-stay-for sent other ports (λ p. from p other.id away)
 
   -- the subscriber is open
-  pub live-open : (subscriber : Subscriber) → IsLiveSubscriber old subscriber → (y : MachineSubscriber) × (s.subscribers subscriber.id ≡ Some y) × (y.is_open ≡ true)
+  pub live-open : (subscriber : Subscriber) → IsSubscriberKey old (subscriber_key subscriber) → (y : MachineSubscriber) × (s.subscribers subscriber.id ≡ Some y) × (y.is_open ≡ true)
   live-open subscriber live =
       let has = (subscriber-parts old (subscriber_key subscriber) live).2 in
       (has.0, ap (λ (t : State T U). t.subscribers subscriber.id) shown.state ∙ has.1, has.2)
@@ -308,7 +308,7 @@ module _ {T U F G : Type 0} (old new : Kept T U F G) (m m' : Messages T U) (s s'
   module _ (environment : Environment) (subscriber : Subscriber) where
     pub received-fewer : IsLiveSubscriber old subscriber → (p n : ℕ) → Receive environment s subscriber.id s' (Got_sample p n) → waiting new subscriber < waiting old subscriber
     received-fewer live p n h =
-        let has = live-open subscriber live in
+        let has = live-open subscriber live.there in
         let fewer : waiting_for s' subscriber.id < waiting_for s subscriber.id = receive_fewer environment s subscriber.id p n s' has.0 shown.well_formed has.1 has.2 h in
         let now : waiting new subscriber ≡ waiting_for s' subscriber.id = waiting-is new m' s' shown' subscriber in
         let before : waiting old subscriber ≡ waiting_for s subscriber.id = waiting-is old m s shown subscriber in
@@ -319,7 +319,7 @@ module _ {T U F G : Type 0} (old new : Kept T U F G) (m m' : Messages T U) (s s'
 
     pub received-no-more : IsLiveSubscriber old subscriber → (result : ReceiveResult) → Receive environment s subscriber.id s' result → waiting new subscriber ≤ waiting old subscriber
     received-no-more live result h =
-        let has = live-open subscriber live in
+        let has = live-open subscriber live.there in
         let less : waiting_for s' subscriber.id ≤ waiting_for s subscriber.id = receive_no_more environment s subscriber.id s' result has.0 shown.well_formed has.1 has.2 h in
         let now : waiting new subscriber ≡ waiting_for s' subscriber.id = waiting-is new m' s' shown' subscriber in
         let before : waiting old subscriber ≡ waiting_for s subscriber.id = waiting-is old m s shown subscriber in
@@ -335,7 +335,7 @@ module _ {T U F G : Type 0} (old new : Kept T U F G) (m m' : Messages T U) (s s'
 
     answer-says : IsLiveSubscriber old subscriber → (waits : Bool) → HasSamples environment s subscriber.id s' None waits → (waits ≡ true) ↔ (0 < waiting new subscriber)
     answer-says live waits h =
-        let has = live-open subscriber live in
+        let has = live-open subscriber live.there in
         subst (λ k. (waits ≡ true) ↔ (0 < k)) (sym (waiting-is new m' s' shown' subscriber)) (has_samples_says environment s subscriber.id s' waits has.0 shown.well_formed has.1 has.2 h)
 
     -- and so does an answer that may be a failure
@@ -352,7 +352,7 @@ module _ {T U F G : Type 0} (old new : Kept T U F G) (m m' : Messages T U) (s s'
     pub received-reads : AreKept → IsLiveSubscriber old subscriber → (p : ℕ) (sample : Sample) → Receive environment s subscriber.id s' (Got_sample p sample.sample.number) → (values : List T)
         → AreAllSlices (payloads old subscriber) values → SampleHasValues new (sample_key sample) values
     received-reads sent live p sample h values only =
-        let has = live-open subscriber live in
+        let has = live-open subscriber live.there in
         let n = sample.sample.number in
         let waited : contains (waiting_from s p subscriber.id) n ≡ true = receive_waited environment s subscriber.id p n s' has.0 has.1 has.2 h in
         let boxed : contains (numbers_in (s.mailboxes p subscriber.id)) n ≡ true = waits-in-mailbox s p subscriber.id n waited in
@@ -381,7 +381,7 @@ module _ {T U F G : Type 0} (old new : Kept T U F G) (m m' : Messages T U) (s s'
       n = sample.sample.number
 
       has : (y : MachineSubscriber) × (s.subscribers subscriber.id ≡ Some y) × (y.is_open ≡ true)
-      has = live-open subscriber live
+      has = live-open subscriber live.there
 
       first : waiting_from s p q ≡ n ∷ waiting_from s' p q
       first = receive-first environment s q p n s' has.0 has.1 has.2 h

@@ -120,9 +120,22 @@ module _ {T U F G : Type 0} (domain : Kept T U F G) where
   unfoldable pub HasMark : (number : ℕ) → (is_written : Bool) → Type 0
   HasMark number is_written = (loan : Loan T U) × ((state_of domain).loans number ≡ Some loan) × (loan.is_written ≡ is_written)
 
-  -- The publisher is one of the domain's, wasn't closed, and no send of it is blocked.
+  -- The publisher, if it wasn't closed, stands at the place that its handle says.
+  unfoldable pub IsPlacedPublisher : Publisher → Type 0
+  IsPlacedPublisher publisher =
+      (publisher.id < (state_of domain).next_port)
+      × ((x : MachinePublisher) → (state_of domain).publishers publisher.id ≡ Some x → x.place ≡ publisher.place)
+
+  -- The subscriber, if it is there still, stands at the place that its handle says.
+  unfoldable pub IsPlacedSubscriber : Subscriber → Type 0
+  IsPlacedSubscriber subscriber =
+      (subscriber.id < (state_of domain).next_port)
+      × ((y : MachineSubscriber) → (state_of domain).subscribers subscriber.id ≡ Some y → y.place ≡ subscriber.place)
+
+  -- The publisher is one of the domain's and stands where its handle says, wasn't closed, and no send of it is blocked.
   pub record IsReadyPublisher (publisher : Publisher) : Type 0 where
     pub there : IsPublisherKey (publisher_key publisher)
+    pub placed : IsPlacedPublisher publisher
     pub unblocked : IsUnblocked (publisher_key publisher)
 
   -- The publisher is one of the domain's, wasn't closed, and no send of it is ever blocked.
@@ -130,9 +143,10 @@ module _ {T U F G : Type 0} (domain : Kept T U F G) where
     pub ready : IsReadyPublisher publisher
     pub never_waits : NeverWaits (publisher_key publisher)
 
-  -- The subscriber is one of the domain's, and wasn't closed.
-  abbrev pub IsLiveSubscriber : Subscriber → Type 0
-  IsLiveSubscriber subscriber = IsSubscriberKey (subscriber_key subscriber)
+  -- The subscriber is one of the domain's and stands where its handle says, and wasn't closed.
+  pub record IsLiveSubscriber (subscriber : Subscriber) : Type 0 where
+    pub there : IsSubscriberKey (subscriber_key subscriber)
+    pub placed : IsPlacedSubscriber subscriber
 
   -- The loan is one of the domain's that is out, and isn't written.
   pub record IsUnwritten (loan : SampleMutUninit) : Type 0 where
@@ -432,7 +446,7 @@ AreApart first (Both second third) = AreApart first second × AreApart first thi
 module _ {T U F G : Type 0} where
   -- The settings stay, and each port, loan, sample and blocked send that was live is live and reads as it did, but for the
   -- item that was spent. A publisher none of whose sends is blocked, or ever is, stays so, and one that no handler fails; and each
-  -- port keeps its boxes.
+  -- port keeps its boxes and its place.
   pub record StaysBut (spent : Item) (old new : Kept T U F G) : Type 0 where
     pub settings : new.config ≡ old.config
     pub single_valued : IsSingleValued old → IsSingleValued new
@@ -442,6 +456,8 @@ module _ {T U F G : Type 0} where
     pub degradation_boxes : (key : Key) → IsPublisherKey old key → IsOtherPublisher spent key.port → degradation_box new key.port ≡ degradation_box old key.port
     pub subscriber_boxes : (key : Key) → IsSubscriberKey old key → IsOtherSubscriber spent key.port → subscriber_box new key.port ≡ subscriber_box old key.port
     pub subscribers : (key : Key) → IsSubscriberKey old key → IsOtherSubscriber spent key.port → IsSubscriberKey new key
+    pub placed_publishers : (publisher : Publisher) → IsPlacedPublisher old publisher → IsPlacedPublisher new publisher
+    pub placed_subscribers : (subscriber : Subscriber) → IsPlacedSubscriber old subscriber → IsPlacedSubscriber new subscriber
     pub loans : (key : Key) → IsLoanKey old key → IsOtherLoan spent key.message → IsLoanKey new key
     pub unwritten_loans : (loan : SampleMutUninit) → IsUnwritten old loan → IsOtherLoan spent loan.loan.number → IsUnwritten new loan
     pub written_loans : (loan : SampleMut) → IsWritten old loan → IsOtherLoan spent loan.loan.number → IsWritten new loan

@@ -6,7 +6,7 @@
 //! `into_inner`), and has that one's numbers.
 
 mod blocked_send;
-mod hints;
+pub(crate) mod hints;
 mod loan;
 mod publisher;
 mod sample;

@@ -9,6 +9,7 @@ mod send_copy;
 mod update_connections;
 
 use crate::domain::Domain;
+use crate::parts::hints::find_open_publisher;
 use iox2_deliveries::is_waiting;
 use iox2_store::{BackpressureFn, BackpressureStrategy, DegradationFn, Key, UniquePublisherId};
 
@@ -73,8 +74,24 @@ impl Publisher {
 }
 
 impl Publisher {
-    ghost use Rattle.std.specs.Prelude.{◌↔◌, false};
-    ghost use Rattle.iox2_pubsub.specs.Live.{IsPublisherKey, IsUnblocked};
+    ghost use Rattle.std.specs.Prelude.{◌↔◌, false, IsTrue};
+    ghost use Rattle.iox2_pubsub.specs.Live.{IsPlacedPublisher, IsPublisherKey, IsUnblocked};
+
+    /// Whether the publisher is one of this domain's that wasn't closed. This library's own.
+    pub fn is_in<T: Drop, U: Default + Drop, F: BackpressureFn, G: DegradationFn>(
+        &self,
+        domain: &Domain<T, U, F, G>,
+    ) -> bool
+        ensures { IsTrue result ↔ (IsPublisherKey domain.now (publisher_key self.now) × IsPlacedPublisher domain.now self.now) }
+    {
+        if self.service_id != domain.state.config().service_id {
+            return false;
+        }
+        match find_open_publisher(&domain.state, self.id, self.place) {
+            Some(place) => place == self.place,
+            None => false,
+        }
+    }
 
     /// Whether a send of the publisher is blocked. Until that has ended, the publisher lends, sends
     /// and updates nothing and can't be closed. This library's own.

@@ -8,6 +8,7 @@ mod receive;
 mod update_connections;
 
 use crate::domain::Domain;
+use crate::parts::hints::find_open_subscriber;
 use iox2_store::{BackpressureFn, DegradationFn, Key, UniqueSubscriberId};
 
 /// Receives the messages of every publisher of its domain. It is a value to be spent: the domain
@@ -62,6 +63,27 @@ impl Subscriber {
             place: _,
             buffer_size: _,
         } = self;
+    }
+}
+
+impl Subscriber {
+    ghost use Rattle.std.specs.Prelude.{IsTrue, ◌↔◌};
+    ghost use Rattle.iox2_pubsub.specs.Live.{IsLiveSubscriber};
+
+    /// Whether the subscriber is one of this domain's that wasn't closed. This library's own.
+    pub fn is_in<T: Drop, U: Default + Drop, F: BackpressureFn, G: DegradationFn>(
+        &self,
+        domain: &Domain<T, U, F, G>,
+    ) -> bool
+        ensures { IsTrue result ↔ IsLiveSubscriber domain.now self.now }
+    {
+        if self.service_id != domain.state.config().service_id {
+            return false;
+        }
+        match find_open_subscriber(&domain.state, self.id, self.place) {
+            Some(place) => place == self.place,
+            None => false,
+        }
     }
 }
 

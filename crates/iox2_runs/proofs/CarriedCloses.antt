@@ -58,10 +58,10 @@ publisher-leaves {T} {U} s p x free =
     others i z other there = (z, publisher_closed_others s p x i (λ e. other (ap Publisher_handle e)) ∙ there)
 
 -- each port but the subscriber stays, and none comes back
-subscriber-leaves : {T U : Type 0} (s : State T U) (q : ℕ) (y : Subscriber) → PortsKeep (Subscriber_handle q) No_handle s (subscriber_closed s q y)
-subscriber-leaves s q y =
+subscriber-leaves : {T U : Type 0} (s : State T U) (q : ℕ) (y : Subscriber) → s.subscribers q ≡ Some y → PortsKeep (Subscriber_handle q) No_handle s (subscriber_closed s q y)
+subscriber-leaves s q y stands =
     let come = subscriber_closed_comes s q y in
-    let waits = subscriber_closed_waits Nobody s q y in record {
+    let waits = subscriber_closed_waits Nobody s q y stands in record {
       config = (subscriber_closed_advances s q y).config;
       publishers = λ p x other there. let v = subscriber_closed_publishers s q y p x there in (v.0, v.1);
       subscribers = λ i z other there is_open. (z, subscriber_closed_others s q y i (λ e. other (ap Subscriber_handle e)) ∙ there, is_open);
@@ -150,7 +150,7 @@ module _ {T U F G : Type 0} (environment : Environment) (defaults : Defaults T U
       let found = has_subscriber s handles events (map entry_for table) w of h.service_id h.id stand in
       subst (λ (ks : List TableEntry). Comes environment defaults (Shows new) m s handles events (Close of) Done (ks ++ No_entry ∷ [])) (sym (after is))
       (close_comes environment defaults (Shows new) m s handles events (map entry_for table) w default_value default_header is_value is_header of (Subscriber_handle h.id)
-      (subscriber_closed s h.id found.0) (v.1 ∙ ap Some (v.2).1) (subscriber-leaves s h.id found.0) (subscriber_closed_shut s h.id found.0) (subscriber_closed_loans s h.id found.0)
+      (subscriber_closed s h.id found.0) (v.1 ∙ ap Some (v.2).1) (subscriber-leaves s h.id found.0 found.2) (subscriber_closed_shut s h.id found.0) (subscriber_closed_loans s h.id found.0)
       (subscriber_closed_borrowed s h.id found.0) (subscriber_closed_advances s h.id found.0).next_message
       (at_none _ _ _ (lacks_publisher s handles events (map entry_for table) w of (lacks is_publisher_entry refl table of (ap (λ (made : Made). is_publisher_entry (entry_for made)) at)))
       (at_some _ _ _ (h.id, found.0) found.1 refl)) (closes m s found.0 shown found.2))

@@ -14,15 +14,30 @@ use Rattle.iox2_pubsub.specs.declared.send_outcome.SendOutcome.{SendOutcome}
 use Rattle.iox2_pubsub.specs.declared.send_outcome.SendOutcome.TheVariants.{Delivered as WasDelivered, Blocked as IsBlocked}
 use Rattle.iox2_pubsub.proofs.StaysBut.{new-since, stays-on, nothing-is-new, both-new, part-new, second-part, sent-loan-part, sent-copy-part, blocked-new}
 use Rattle.iox2_runs.specs.Leaves.{item_of, AreNewIn, Leaves}
+use Rattle.iox2_runs.specs.Placed.{ArePlaced, IsPlacedMade}
 use Rattle.iox2_runs.specs.SendReplies.{made_by_send}
 use Rattle.iox2_runs.specs.declared.runs.made.Made.{Made}
-use Rattle.iox2_runs.specs.declared.runs.made.Made.TheVariants.{Nothing, Publisher as MadePublisher, Written, Blocked}
+use Rattle.iox2_runs.specs.declared.runs.made.Made.TheVariants.{Nothing, Publisher as MadePublisher, Subscriber as MadeSubscriber, Unwritten, Written, Blocked, Sample as MadeSample}
 use Rattle.iox2_runs.proofs.TableEntries.{set_same}
 
 -- at the first index and at the later ones
 at_each_index : (P : ℕ → Type 0) → P zero → ((k : ℕ) → P (suc k)) → (k : ℕ) → P k
 at_each_index P first later zero = first
 at_each_index P first later (suc k) = later k
+
+module _ (P : Made → Type 0) (none : P Nothing) where
+  -- what holds of a table's entries and of what is put into it holds of all entries then
+  set-each : (table : List Made) (of : ℕ) (made : Made) → ((k : ℕ) → P (slice_index_or table k Nothing)) → P made → (k : ℕ) → P (slice_index_or (slice_set table of made) k Nothing)
+  set-each [] of made are is = are
+  set-each (h ∷ table) zero made are is = at_each_index (λ k. P (slice_index_or (made ∷ table) k Nothing)) is (λ k. are (suc k))
+  set-each (h ∷ table) (suc of) made are is =
+      at_each_index (λ k. P (slice_index_or (h ∷ slice_set table of made) k Nothing)) (are zero) (set-each table of made (λ k. are (suc k)) is)
+
+  -- and so with what is put behind it
+  push-each : (table : List Made) (made : Made) → ((k : ℕ) → P (slice_index_or table k Nothing)) → P made → (k : ℕ) → P (slice_index_or (table ++ made ∷ []) k Nothing)
+  push-each [] made are is = at_each_index (λ k. P (slice_index_or (made ∷ []) k Nothing)) is (λ k. none)
+  push-each (h ∷ table) made are is =
+      at_each_index (λ k. P (slice_index_or (h ∷ (table ++ made ∷ [])) k Nothing)) (are zero) (push-each table made (λ k. are (suc k)) is)
 
 module _ {T U F G : Type 0} (start : Domain T U F G) where
   -- an empty table
@@ -31,62 +46,93 @@ module _ {T U F G : Type 0} (start : Domain T U F G) where
 
   -- what is put into a table
   pub set-new : (table : List Made) (of : ℕ) (made : Made) → AreNewIn start table → IsNewIn start (item_of made) → AreNewIn start (slice_set table of made)
-  set-new [] of made are is = are
-  set-new (h ∷ table) zero made are is =
-      at_each_index (λ k. IsNewIn start (item_of (slice_index_or (made ∷ table) k Nothing))) is (λ k. are (suc k))
-  set-new (h ∷ table) (suc of) made are is =
-      at_each_index (λ k. IsNewIn start (item_of (slice_index_or (h ∷ slice_set table of made) k Nothing))) (are zero)
-      (set-new table of made (λ k. are (suc k)) is)
+  set-new table of made = set-each (λ h. IsNewIn start (item_of h)) (nothing-is-new start) table of made
 
   -- what is put behind it
   pub push-new : (table : List Made) (made : Made) → AreNewIn start table → IsNewIn start (item_of made) → AreNewIn start (table ++ made ∷ [])
-  push-new [] made are is =
-      at_each_index (λ k. IsNewIn start (item_of (slice_index_or (made ∷ []) k Nothing))) is (λ k. nothing-is-new start)
-  push-new (h ∷ table) made are is =
-      at_each_index (λ k. IsNewIn start (item_of (slice_index_or (h ∷ (table ++ made ∷ [])) k Nothing))) (are zero)
-      (push-new table made (λ k. are (suc k)) is)
+  push-new table made = push-each (λ h. IsNewIn start (item_of h)) (nothing-is-new start) table made
+
+  -- and so with where ports stand
+  pub none-placed : ArePlaced start []
+  none-placed = λ of. tt
+
+  pub push-placed : (table : List Made) (made : Made) → ArePlaced start table → IsPlacedMade start made → ArePlaced start (table ++ made ∷ [])
+  push-placed table made = push-each (IsPlacedMade start) tt table made
+
+  -- a send makes no port
+  sent-placed : (outcome : Result SendOutcome SendError) → IsPlacedMade start (made_by_send outcome)
+  sent-placed (Ok (WasDelivered count)) = tt
+  sent-placed (Ok (IsBlocked blocked)) = tt
+  sent-placed (Err error) = tt
 
 module _ {T U F G : Type 0} (old new : Domain T U F G) (table : List Made) where
+  -- a port stands where it did
+  still-placed : (spent : Item) → StaysBut spent old new → (made : Made) → IsPlacedMade old made → IsPlacedMade new made
+  still-placed spent stays Nothing placed = tt
+  still-placed spent stays (MadePublisher publisher) placed = stays.placed_publishers publisher placed
+  still-placed spent stays (MadeSubscriber subscriber) placed = stays.placed_subscribers subscriber placed
+  still-placed spent stays (Unwritten loan) placed = tt
+  still-placed spent stays (Written loan) placed = tt
+  still-placed spent stays (Blocked blocked) placed = tt
+  still-placed spent stays (MadeSample sample) placed = tt
+
+  -- and so each of the table's
+  all-placed : (spent : Item) → StaysBut spent old new → ArePlaced old table → ArePlaced new table
+  all-placed spent stays are = λ of. still-placed spent stays (slice_index_or table of Nothing) (are of)
+
   -- a command that changes nothing
   pub leaves-all : (table' : List Made) → old ≡ new → table' ≡ table → Leaves old new table table' Nothing
-  leaves-all table' same is = λ start before are.
-      (subst (Stays start) same before, subst (AreNewIn start) (sym is) are, nothing-is-new start)
+  leaves-all table' same is = record {
+    live = λ start before are. (subst (Stays start) same before, subst (AreNewIn start) (sym is) are, nothing-is-new start);
+    placed = λ are. (subst (ArePlaced new) (sym is) (subst (λ (d : Domain T U F G). ArePlaced d table) same are), tt);
+  }
 
   -- one that spends nothing, and may make something
-  pub leaves-making : Stays old new → (made : Made) → IsNewIn old (item_of made) → Leaves old new table table made
-  leaves-making stays made is = λ start before are.
-      (stays-on start old before No_item new (nothing-is-new start) stays, are, new-since start old before (item_of made) is)
+  pub leaves-making : Stays old new → (made : Made) → IsNewIn old (item_of made) → IsPlacedMade new made → Leaves old new table table made
+  leaves-making stays made is placed = record {
+    live = λ start before are. (stays-on start old before No_item new (nothing-is-new start) stays, are, new-since start old before (item_of made) is);
+    placed = λ are. (all-placed No_item stays are, placed);
+  }
 
   -- so where what it used is back in its place
-  pub leaves-making-here : (table' : List Made) → table' ≡ table → Stays old new → (made : Made) → IsNewIn old (item_of made) → Leaves old new table table' made
-  leaves-making-here table' same stays made is = subst (λ (t : List Made). Leaves old new table t made) (sym same) (leaves-making stays made is)
+  pub leaves-making-here : (table' : List Made) → table' ≡ table → Stays old new → (made : Made) → IsNewIn old (item_of made) → IsPlacedMade new made → Leaves old new table table' made
+  leaves-making-here table' same stays made is placed = subst (λ (t : List Made). Leaves old new table t made) (sym same) (leaves-making stays made is placed)
 
   -- one that uses what stands at a position, puts something in its place, and may make something
   pub leaves-using : (table' : List Made) (of : ℕ) (made put made' : Made) → slice_index_or table of Nothing ≡ made → (spent : Item) → StaysBut spent old new
       → ((start : Domain T U F G) → IsNewIn start (item_of made) → IsNewIn start spent)
       → ((start : Domain T U F G) → IsNewIn start (item_of made) → IsNewIn start (item_of put))
       → ((start : Domain T U F G) → Stays start old → IsNewIn start (item_of made) → IsNewIn start (item_of made'))
+      → (IsPlacedMade new made → IsPlacedMade new put) → IsPlacedMade new made'
       → table' ≡ slice_set table of put → Leaves old new table table' made'
-  leaves-using table' of made put made' at spent stays spends puts makes is = λ start before are.
-      let new-one : IsNewIn start (item_of made) = subst (λ (h : Made). IsNewIn start (item_of h)) at (are of) in (
-        stays-on start old before spent new (spends start new-one) stays,
-        subst (AreNewIn start) (sym is) (set-new start table of put are (puts start new-one)),
-        makes start before new-one,
-      )
+  leaves-using table' of made put made' at spent stays spends puts makes placed placed' is = record {
+    live = λ start before are.
+        let new-one : IsNewIn start (item_of made) = subst (λ (h : Made). IsNewIn start (item_of h)) at (are of) in (
+          stays-on start old before spent new (spends start new-one) stays,
+          subst (AreNewIn start) (sym is) (set-new start table of put are (puts start new-one)),
+          makes start before new-one,
+        );
+    placed = λ are.
+        let still : ArePlaced new table = all-placed spent stays are in (
+          subst (ArePlaced new) (sym is) (set-each (IsPlacedMade new) tt table of put still (placed (subst (IsPlacedMade new) at (still of)))),
+          placed',
+        );
+  }
 
   -- one that spends what stands at a position, and may leave the same there as another handle
   pub leaves-spending : (table' : List Made) (of : ℕ) (made made' : Made) → slice_index_or table of Nothing ≡ made → StaysBut (item_of made) old new
-      → ((start : Domain T U F G) → IsNewIn start (item_of made) → IsNewIn start (item_of made')) → table' ≡ slice_set table of made' → Leaves old new table table' Nothing
-  leaves-spending table' of made made' at stays put is =
-      leaves-using table' of made made' Nothing at (item_of made) stays (λ start new-one. new-one) put (λ start before new-one. nothing-is-new start) is
+      → ((start : Domain T U F G) → IsNewIn start (item_of made) → IsNewIn start (item_of made')) → table' ≡ slice_set table of made' → IsPlacedMade new made' → Leaves old new table table' Nothing
+  leaves-spending table' of made made' at stays put is placed =
+      leaves-using table' of made made' Nothing at (item_of made) stays (λ start new-one. new-one) put (λ start before new-one. nothing-is-new start) (λ _. placed) tt is
 
   -- one that lends something of the publisher at a position
   pub leaves-lending : (table' : List Made) → table' ≡ table → (of : ℕ) (publisher : Publisher) (made : Made) (loan : Item) → slice_index_or table of Nothing ≡ MadePublisher publisher → Stays old new
-      → IsNewIn old loan → item_of made ≡ Both loan (A_blocked_send publisher.id) → Leaves old new table table' made
-  leaves-lending table' same of publisher made loan at stays new-loan is =
+      → IsNewIn old loan → item_of made ≡ Both loan (A_blocked_send publisher.id) → IsPlacedMade new made → Leaves old new table table' made
+  leaves-lending table' same of publisher made loan at stays new-loan is placed =
       leaves-using table' of (MadePublisher publisher) (MadePublisher publisher) made at No_item stays (λ start new-one. nothing-is-new start) (λ start new-one. new-one)
       (λ start before new-one. subst (IsNewIn start) (sym is)
       (both-new start loan (A_blocked_send publisher.id) (new-since start old before loan new-loan) (blocked-new start publisher.id new-one)))
+      (λ stands. stands) placed
       (same ∙ sym (ap (λ (h : Made). slice_set table of h) (sym at) ∙ set_same table of))
 
   -- what a send of this publisher makes is new, where the publisher's sends are
@@ -103,7 +149,8 @@ module _ {T U F G : Type 0} (old new : Domain T U F G) (table : List Made) where
   leaves-sending table' of loan outcome at stays its is =
       leaves-using table' of (Written loan) Nothing (made_by_send outcome) at (spent_by_send loan outcome) stays
       (λ start new-one. part-new start _ _ (sent-loan-part loan.loan.number loan.loan.publisher (is_blocked_send outcome)) new-one) (λ start new-one. nothing-is-new start)
-      (λ start before new-one. made-new loan.loan.publisher outcome its start (part-new start _ _ (second-part (A_loan loan.loan.number) (A_blocked_send loan.loan.publisher)) new-one)) is
+      (λ start before new-one. made-new loan.loan.publisher outcome its start (part-new start _ _ (second-part (A_loan loan.loan.number) (A_blocked_send loan.loan.publisher)) new-one))
+      (λ _. tt) (sent-placed new outcome) is
 
   -- one that sends a copy with the publisher at a position
   pub leaves-copying : (of : ℕ) (publisher : Publisher) (outcome : Result SendOutcome SendError) → slice_index_or table of Nothing ≡ MadePublisher publisher
@@ -113,10 +160,11 @@ module _ {T U F G : Type 0} (old new : Domain T U F G) (table : List Made) where
       leaves-using table of (MadePublisher publisher) (MadePublisher publisher) (made_by_send outcome) at (spent_by_copy publisher outcome) stays
       (λ start new-one. part-new start _ _ (sent-copy-part publisher.id (is_blocked_send outcome)) (blocked-new start publisher.id new-one)) (λ start new-one. new-one)
       (λ start before new-one. made-new publisher.id outcome its start (blocked-new start publisher.id new-one))
+      (λ stands. stands) (sent-placed new outcome)
       (sym (ap (λ (h : Made). slice_set table of h) (sym at) ∙ set_same table of))
 
   -- one that goes on with the blocked send at a position
   pub leaves-going-on : (table' : List Made) (of : ℕ) (send : BlockedSend) (outcome : Result SendOutcome SendError) → slice_index_or table of Nothing ≡ Blocked send → StaysBut (blocked_send send) old new
       → IfOk outcome (λ came. IfBlocked came (λ blocked. blocked.loan.publisher ≡ send.loan.publisher)) → table' ≡ slice_set table of (made_by_send outcome) → Leaves old new table table' Nothing
   leaves-going-on table' of send outcome at stays its is =
-      leaves-spending table' of (Blocked send) (made_by_send outcome) at stays (λ start new-one. made-new send.loan.publisher outcome its start new-one) is
+      leaves-spending table' of (Blocked send) (made_by_send outcome) at stays (λ start new-one. made-new send.loan.publisher outcome its start new-one) is (sent-placed new outcome)

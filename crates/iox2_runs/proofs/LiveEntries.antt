@@ -19,6 +19,7 @@ use Rattle.iox2_pubsub.specs.declared.sample.Sample.{Sample as SampleHandle}
 use Rattle.iox2_commands.specs.Outcomes.{Handle}
 use Rattle.iox2_runs.specs.Tables.{IsUnblocked as IsFree, HasNoBox, HasNoReceiverBox, IsEntryOf}
 use Rattle.iox2_runs.specs.Carries.{entry_for, IsLiveTable}
+use Rattle.iox2_runs.specs.Placed.{IsPlacedMade}
 use Rattle.iox2_runs.specs.declared.runs.made.Made.{Made}
 use Rattle.iox2_runs.specs.declared.runs.made.Made.TheVariants.{Nothing, Publisher as MadePublisher, Subscriber as MadeSubscriber, Unwritten, Written, Blocked, Sample as MadeSample}
 use Rattle.iox2_runs.proofs.TableLooks.{handle_of}
@@ -59,12 +60,12 @@ module _ {T U F G : Type 0} (domain : Domain T U F G) (table : List Made) (keeps
 
   -- where no send of it is blocked it is ready
   pub ready_publisher : (h : PublisherHandle) → slice_index_or table of Nothing ≡ MadePublisher h → IsUnblocked domain (publisher_key h) → IsReadyPublisher domain h
-  ready_publisher h at free = record { there = live_publisher h at; unblocked = free }
+  ready_publisher h at free = record { there = live_publisher h at; placed = subst (IsPlacedMade domain) at (keeps.6 of); unblocked = free }
 
   pub live_subscriber : (h : SubscriberHandle) → slice_index_or table of Nothing ≡ MadeSubscriber h → IsLiveSubscriber domain h
   live_subscriber h at =
       let v = (has_entry (MadeSubscriber h) at (λ e. let clash : MadeSubscriber h ≡ Nothing = e in cc)).1 in
-      subscriber-live domain _ (refl, v.0, (v.2, v.3, v.4))
+      record { there = subscriber-live domain _ (refl, v.0, (v.2, v.3, v.4)); placed = subst (IsPlacedMade domain) at (keeps.6 of) }
 
   -- nor does one for it
   pub unboxed_subscriber : (h : SubscriberHandle) → slice_index_or table of Nothing ≡ MadeSubscriber h → HasNoReceiverBox (state_of domain) h.id

@@ -15,6 +15,7 @@ use Rattle.iox2_commands.specs.RunLaws.{IsFaithful}
 use Rattle.iox2_commands.specs.OneDefault.{HasOneDefault}
 use Rattle.iox2_runs.specs.Tables.{IsTable}
 use Rattle.iox2_runs.specs.Carries.{entry_for, IsLiveTable, Carries}
+use Rattle.iox2_runs.specs.Placed.{ArePlaced}
 use Rattle.iox2_runs.specs.DomainRuns.{RunsOnDomain}
 use Rattle.iox2_commands.specs.declared.command.Command.{Command}
 use Rattle.iox2_commands.specs.declared.reply.Reply.{Reply}
@@ -79,11 +80,12 @@ module _ {T U : Type 0} (environment : Environment) (defaults : Defaults T U) wh
         subst (IsTable comes.outcome.state (before.1 ++ comes.outcome.handle ∷ []) (before.0 ++ comes.outcome.event ∷ [])) (sym (map-append entry_for table' (made ∷ []))) (comes.follows once),
       )
 
-  -- what ran so far is kept, where the domain showed some state at the start
+  -- what ran so far is kept, where the domain showed some state at the start, and the ports stand where their handles say
   pub still_keeps : {F G : Type 0} (old new : Domain T U F G) (commands : List (Command T U)) (replies : List (Reply T U)) (table : List Made)
-      → (m : Messages T U) (s : State T U) → Shows old m s → HasRun old new commands replies table → IsLiveTable new table
-  still_keeps old new commands replies table m s shown ran =
-      let now = ran m s shown in (now.2, now.3, now.1, now.0, now.4, now.6)
+      → (m : Messages T U) (s : State T U) → Shows old m s → HasRun old new commands replies table → ArePlaced new table
+      → IsLiveTable new table
+  still_keeps old new commands replies table m s shown ran placed =
+      let now = ran m s shown in (now.2, now.3, now.1, now.0, now.4, now.6, placed)
 
   -- it is a run, and a faithful one, and it grants the loans that it has to
   pub is_run : {F G : Type 0} (old new : Domain T U F G) (commands : List (Command T U)) (replies : List (Reply T U)) (table : List Made) → HasRun old new commands replies table

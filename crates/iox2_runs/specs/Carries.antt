@@ -7,6 +7,7 @@ use Rattle.iox2_domain.specs.Shows.{Shows}
 use Rattle.iox2_commands.specs.Outcomes.{Handle, Event}
 use Rattle.iox2_commands.specs.Runs.{Defaults}
 use Rattle.iox2_runs.specs.Tables.{TableEntry, No_entry, Publisher_entry, Subscriber_entry, Unwritten_entry, Written_entry, Blocked_entry, Sample_entry, IsTable}
+use Rattle.iox2_runs.specs.Placed.{ArePlaced}
 use Rattle.iox2_runs.specs.RunSteps.{Comes}
 use Rattle.iox2_commands.specs.declared.command.Command.{Command}
 use Rattle.iox2_commands.specs.declared.reply.Reply.{Reply}
@@ -31,10 +32,11 @@ entries_with table made = map entry_for table ++ entry_for made ∷ []
 abbrev pub defaults_of : {T U : Type 0} → (T → Type 0) → (U → Type 0) → Defaults T U
 defaults_of is_default_value is_default_header = record { IsDefaultValue = is_default_value; IsDefaultHeader = is_default_header }
 
--- The domain shows a state in which the table has the entries of handles.
+-- The domain shows a state in which the table has the entries of handles, and its ports stand where their handles say.
 abbrev pub IsLiveTable : {T U F G : Type 0} → Domain T U F G → List Made → Type 0
 IsLiveTable {T} {U} domain table =
     (m : Messages T U) × (s : State T U) × (handles : List Handle) × (events : List (Event T U)) × Shows domain m s × IsTable s handles events (map entry_for table)
+    × ArePlaced domain table
 
 -- Whatever state the domain shows and whatever handles the table has entries of, the command steps to what the domain shows
 -- afterwards, with this reply, and the table follows.

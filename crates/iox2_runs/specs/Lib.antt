@@ -3,6 +3,7 @@ pub mod Supported
 pub mod RunSteps
 pub mod Rooms
 pub mod SendReplies
+pub mod Placed
 pub mod Carries
 pub mod DomainRuns
 pub mod Leaves

@@ -77,7 +77,7 @@ pub(crate) fn assert_ready<T: Drop, U: Default + Drop>(
 )
     ensures { IsReadyPublisher domain.now publisher.now }
 {
-    assert!(rt; domain.holds_publisher(publisher.key()));
+    assert!(rt; publisher.is_in(domain));
     assert!(rt; !publisher.is_blocked(domain));
 }
 
@@ -89,7 +89,7 @@ pub(crate) fn assert_live<T: Drop, U: Default + Drop>(
 )
     ensures { IsLiveSubscriber domain.now subscriber.now }
 {
-    assert!(rt; domain.holds_subscriber(subscriber.key()));
+    assert!(rt; subscriber.is_in(domain));
 }
 
 /// Asserts that the sample is one of the domain's.

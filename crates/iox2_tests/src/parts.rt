@@ -83,11 +83,14 @@ fn a_subscriber_is_had_again_until_it_is_closed(rt: HostRuntime) {
         has_subscriber(&domain, &astray),
         has_subscriber(&domain, &SubscriberParts { id: 9, ..parts }),
     ];
-    let subscriber = domain.subscriber_of(&astray).expect(&rt, "a subscriber");
+    let found = domain.subscriber_of(&astray).expect(&rt, "a subscriber");
+    let again = found.into_parts();
+    let subscriber = domain.subscriber_of(&again).expect(&rt, "a subscriber");
     subscriber.close(&mut domain);
     let after = has_subscriber(&domain, &parts);
     drop(domain);
     assert!(rt; before == [true, true, false]);
+    assert!(rt; again == parts);
     assert!(rt; !after);
 }
 

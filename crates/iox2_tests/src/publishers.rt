@@ -1,7 +1,9 @@
-use crate::fixtures::{domain, publisher_of};
-use iox2_fixtures::{Reading, Station, factory_for};
+use crate::fixtures::{domain, publisher_of, subscriber_of};
+use iox2_fixtures::{Reading, Station, factory_for, settings};
 use iox2_pubsub::Domain;
-use iox2_store::{Key, PublisherCreateError};
+use iox2_store::{Key, PublisherCreateError, ServiceConfig};
+use std::alloc::Global;
+use std::process::Abort;
 
 // Why a publisher with so many loans isn't made.
 fn refusal(domain: &mut Domain<Reading, Station>, loans: usize) -> Option<PublisherCreateError> {
@@ -35,6 +37,42 @@ fn a_publisher_is_made_and_a_second_is_refused(rt: HostRuntime) {
     assert!(rt; key == expected);
     assert!(rt; is_live);
     assert!(rt; refusal == Some(PublisherCreateError::ExceedsMaxSupportedPublishers));
+}
+
+// A domain of the same service with two publishers.
+fn domain_of_two(rt: &impl Abort, alloc: Global) -> Domain<Reading, Station> {
+    let config = ServiceConfig {
+        max_publishers: 2,
+        ..settings()
+    };
+    Domain::new(alloc, config).expect(rt, "a domain")
+}
+
+#[test]
+fn a_publisher_is_in_the_domain_where_it_stands(rt: HostRuntime) {
+    let mut domain = domain_of_two(&rt, rt.alloc());
+    let first = publisher_of(&rt, &mut domain);
+    let second = publisher_of(&rt, &mut domain);
+    let mut twin = domain_of_two(&rt, rt.alloc());
+    let subscriber = subscriber_of(&rt, &mut twin);
+    // It has the id of `second`, and the place of `first`.
+    let alike = publisher_of(&rt, &mut twin);
+    let at_home = [
+        first.is_in(&domain),
+        second.is_in(&domain),
+        alike.is_in(&twin),
+    ];
+    let away = [first.is_in(&twin), second.is_in(&twin)];
+    let has_its_id = twin.holds_publisher(second.key());
+    first.disown();
+    second.disown();
+    alike.disown();
+    subscriber.disown();
+    drop(twin);
+    drop(domain);
+    assert!(rt; at_home == [true, true, true]);
+    assert!(rt; away == [false, false]);
+    assert!(rt; has_its_id);
 }
 
 #[test]

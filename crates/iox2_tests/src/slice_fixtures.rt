@@ -70,7 +70,7 @@ pub(crate) fn assert_ready<T: Drop, U: Default + Drop>(
 )
     ensures { IsReadyPublisher domain.now publisher.now.publisher }
 {
-    assert!(rt; domain.holds_publisher(publisher.key()));
+    assert!(rt; publisher.is_in(domain));
     assert!(rt; !publisher.is_blocked(domain));
 }
 
@@ -82,7 +82,7 @@ pub(crate) fn assert_live<T: Drop, U: Default + Drop>(
 )
     ensures { IsLiveSubscriber domain.now subscriber.now.subscriber }
 {
-    assert!(rt; domain.holds_subscriber(subscriber.key()));
+    assert!(rt; subscriber.is_in(domain));
 }
 
 /// An unwritten loan of a slice of that length.

@@ -257,6 +257,7 @@ fn ports_of_slices_have_the_calls_of_ports(rt: HostRuntime) {
     let publisher = slice_publisher(&rt, &mut domain, 1);
     let ids = [publisher.id().value(), subscriber.id().value()];
     let keys = [publisher.key().port, subscriber.key().port];
+    let are_in = [publisher.is_in(&domain), subscriber.is_in(&domain)];
     let is_updated = update_both(&rt, &mut domain, &publisher, &subscriber);
     let before = waits(&rt, &mut domain, &subscriber);
     let loan = lend_defaults(&rt, &mut domain, &publisher, 1);
@@ -270,6 +271,7 @@ fn ports_of_slices_have_the_calls_of_ports(rt: HostRuntime) {
     drop(domain);
     assert!(rt; ids == [2, 1]);
     assert!(rt; keys == [2, 1]);
+    assert!(rt; are_in == [true, true]);
     assert!(rt; is_updated == [true, true]);
     assert!(rt; [before, after] == [false, true]);
     assert!(rt; takers == 1);

@@ -43,6 +43,7 @@ fn a_domain_holds_its_subscriber_alone(rt: HostRuntime) {
     let mut domain = domain(&rt, rt.alloc());
     let before = domain.holds_subscriber(FIRST);
     let subscriber = subscriber_of(&rt, &mut domain);
+    let is_in = subscriber.is_in(&domain);
     subscriber.disown();
     let elsewhere = Key {
         service_id: 8,
@@ -60,6 +61,7 @@ fn a_domain_holds_its_subscriber_alone(rt: HostRuntime) {
     ];
     drop(domain);
     assert!(rt; !before);
+    assert!(rt; is_in);
     assert!(rt; live == [true, false, false, false]);
 }
 

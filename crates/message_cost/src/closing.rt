@@ -132,7 +132,7 @@ fn close_publishers(domain: &mut Domain<u64, ()>, senders: Vec<Sender>) -> usize
     let mut closed = 0usize;
     for sender in senders {
         let publisher = sender.into_publisher();
-        if domain.holds_publisher(publisher.key()) && !publisher.is_blocked(domain) {
+        if publisher.is_in(domain) && !publisher.is_blocked(domain) {
             close_publisher(domain, publisher);
             closed = closed.saturating_add(1);
         } else {
@@ -147,7 +147,7 @@ fn close_subscribers(domain: &mut Domain<u64, ()>, receivers: Vec<Receiver>) -> 
     let mut closed = 0usize;
     for receiver in receivers {
         let subscriber = receiver.into_subscriber();
-        if domain.holds_subscriber(subscriber.key()) {
+        if subscriber.is_in(domain) {
             close_subscriber(domain, subscriber);
             closed = closed.saturating_add(1);
         } else {

@@ -1,10 +1,11 @@
 //! What a handle made of numbers names is looked for first where the numbers say.
-ghost use Rattle.std.specs.Prelude.{◌≡◌, ◌↔◌, true, IsTrue};
+ghost use Rattle.std.specs.Prelude.{◌≡◌, ◌↔◌, true, slice_index_or, IsTrue, MatchOption};
 ghost use Rattle.iox2_store.specs.machine.SingleCalls.{HoldsPublisher, HoldsSample, HoldsSubscriber};
 ghost use Rattle.iox2_domain.specs.Kept.{state_of};
 ghost use Rattle.iox2_domain.specs.Fields.{kept_of};
 ghost use Rattle.iox2_domain.specs.Invariant.{IsDomain, is_lent};
 ghost use Rattle.iox2_domain.specs.LoanCalls.{HoldsUnwritten, HoldsWritten};
+ghost use Rattle.iox2_domain.specs.Ports.{PublisherFields, SubscriberFields};
 ghost use Rattle.iox2_domain.specs.LoanSlots.{IsLoanSlot, LiesInSlot};
 ghost use Rattle.iox2_pubsub.specs.Parts.{written_mark};
 
@@ -12,33 +13,43 @@ use iox2_domain::{DomainState, LoanAt, SampleAt};
 use iox2_slots::{SlotBook, SlotMark};
 use iox2_store::{UniquePublisherId, UniqueSubscriberId};
 
-/// Whether a publisher has this id and wasn't closed.
-pub(crate) fn has_publisher<T: Drop, U: Default + Drop>(
+/// The place of the publisher with this id, where it wasn't closed. It is looked for at the place
+/// first.
+pub(crate) fn find_open_publisher<T: Drop, U: Default + Drop>(
     state: &DomainState<T, U>,
     id: UniquePublisherId,
     place: usize,
-) -> bool
+) -> Option<usize>
     requires { IsDomain state.now }
-    ensures { IsTrue result ↔ HoldsPublisher (state_of (kept_of state.now)) id }
+    ensures { MatchOption result (HoldsPublisher (state_of (kept_of state.now)) id → ⊥)
+        (λ i. HoldsPublisher (state_of (kept_of state.now)) id × (x : PublisherFields) × (slice_index_or state.now.publishers i None ≡ Some x) × (x.id ≡ id)) }
 {
-    state.find_publisher(id, place).is_some()
+    state.find_publisher(id, place)
 }
 
-/// Whether a subscriber has this id and wasn't closed.
-pub(crate) fn has_subscriber<T: Drop, U: Default + Drop>(
+/// The place of the subscriber with this id, where it wasn't closed. It is looked for at the place
+/// first.
+pub(crate) fn find_open_subscriber<T: Drop, U: Default + Drop>(
     state: &DomainState<T, U>,
     id: UniqueSubscriberId,
     place: usize,
-) -> bool
+) -> Option<usize>
     requires { IsDomain state.now }
-    ensures { IsTrue result ↔ HoldsSubscriber (state_of (kept_of state.now)) id }
+    ensures { MatchOption result (HoldsSubscriber (state_of (kept_of state.now)) id → ⊥)
+        (λ i. HoldsSubscriber (state_of (kept_of state.now)) id × (y : SubscriberFields) × (slice_index_or state.now.subscribers i None ≡ Some y) × (y.id ≡ id)) }
 {
     let Some(place) = state.find_subscriber(id, place) else {
-        return false;
+        return None;
     };
     match &state.subscribers[place] {
-        Some(subscriber) => subscriber.is_open,
-        None => false,
+        Some(subscriber) => {
+            if subscriber.is_open {
+                Some(place)
+            } else {
+                None
+            }
+        }
+        None => None,
     }
 }
 

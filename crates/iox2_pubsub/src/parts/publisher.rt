@@ -1,9 +1,9 @@
 //! A publisher as numbers.
-ghost use Rattle.std.specs.Prelude.{◌≡◌, ◌↔◌, IfNone, IfSome, IsTrue};
+ghost use Rattle.std.specs.Prelude.{◌≡◌, IfNone, IfSome};
 
 use crate::domain::Domain;
 use crate::parts::PublisherParts;
-use crate::parts::hints::has_publisher;
+use crate::parts::hints::find_open_publisher;
 use crate::publisher::Publisher;
 use iox2_store::{BackpressureFn, DegradationFn, UniquePublisherId};
 
@@ -33,34 +33,29 @@ impl Publisher {
 }
 
 impl<T: Drop, U: Default + Drop, F: BackpressureFn, G: DegradationFn> Domain<T, U, F, G> {
-    ghost use Rattle.iox2_pubsub.specs.Live.{IsPublisherKey, publisher_key};
+    ghost use Rattle.iox2_pubsub.specs.Live.{IsPlacedPublisher, IsPublisherKey, publisher_key};
     ghost use Rattle.iox2_pubsub.specs.Parts.{publisher_named, publisher_parts};
 
-    // Whether the numbers are those of a publisher of this domain that wasn't closed.
-    #[tactic(auto, unfolding(crate::specs::Live::IsPublisherKey))]
-    fn has_publisher_of(&self, parts: &PublisherParts) -> bool
-        ensures { IsTrue result ↔ IsPublisherKey self.now (publisher_named parts.now) }
-    {
-        if parts.service_id != self.state.config().service_id {
-            return false;
-        }
-        has_publisher(&self.state, UniquePublisherId::new(parts.id), parts.place)
-    }
-
     /// A handle of the publisher with these numbers, and `None` where this domain has none that
-    /// wasn't closed. This library's own.
+    /// wasn't closed. Where the publisher stands at another place than they say, the handle says where.
+    /// This library's own.
     pub fn publisher_of(&self, parts: &PublisherParts) -> Option<Publisher>
         ensures live { IfSome result (λ publisher. IsPublisherKey self.now (publisher_key publisher)) }
-        ensures named { IfSome result (λ publisher. publisher_parts publisher ≡ parts.now) }
+        ensures placed { IfSome result (λ publisher. IsPlacedPublisher self.now publisher) }
+        ensures named { IfSome result (λ publisher. record (publisher_parts publisher) { place = parts.now.place } ≡ parts.now) }
         ensures none { IfNone result (IsPublisherKey self.now (publisher_named parts.now) → ⊥) }
     {
-        if !self.has_publisher_of(parts) {
+        if parts.service_id != self.state.config().service_id {
             return None;
         }
+        let id = UniquePublisherId::new(parts.id);
+        let Some(place) = find_open_publisher(&self.state, id, parts.place) else {
+            return None;
+        };
         Some(Publisher {
             service_id: parts.service_id,
-            id: UniquePublisherId::new(parts.id),
-            place: parts.place,
+            id,
+            place,
             strategy: parts.strategy,
             initial_max_slice_len: parts.initial_max_slice_len,
         })

@@ -1,9 +1,9 @@
 //! A subscriber as numbers.
-ghost use Rattle.std.specs.Prelude.{◌≡◌, ◌↔◌, IfNone, IfSome, IsTrue};
+ghost use Rattle.std.specs.Prelude.{◌≡◌, IfNone, IfSome};
 
 use crate::domain::Domain;
 use crate::parts::SubscriberParts;
-use crate::parts::hints::has_subscriber;
+use crate::parts::hints::find_open_subscriber;
 use crate::subscriber::Subscriber;
 use iox2_store::{BackpressureFn, DegradationFn, UniqueSubscriberId};
 
@@ -34,31 +34,25 @@ impl<T: Drop, U: Default + Drop, F: BackpressureFn, G: DegradationFn> Domain<T, 
     ghost use Rattle.iox2_pubsub.specs.Live.{IsLiveSubscriber, IsSubscriberKey};
     ghost use Rattle.iox2_pubsub.specs.Parts.{subscriber_named, subscriber_parts};
 
-    // Whether the numbers are those of a subscriber of this domain that wasn't closed.
-    #[tactic(auto, unfolding(crate::specs::Live::IsSubscriberKey))]
-    fn has_subscriber_of(&self, parts: &SubscriberParts) -> bool
-        ensures { IsTrue result ↔ IsSubscriberKey self.now (subscriber_named parts.now) }
-    {
-        if parts.service_id != self.state.config().service_id {
-            return false;
-        }
-        has_subscriber(&self.state, UniqueSubscriberId::new(parts.id), parts.place)
-    }
-
     /// A handle of the subscriber with these numbers, and `None` where this domain has none that
-    /// wasn't closed. This library's own.
+    /// wasn't closed. Where the subscriber stands at another place than they say, the handle says
+    /// where. This library's own.
     pub fn subscriber_of(&self, parts: &SubscriberParts) -> Option<Subscriber>
         ensures live { IfSome result (λ subscriber. IsLiveSubscriber self.now subscriber) }
-        ensures named { IfSome result (λ subscriber. subscriber_parts subscriber ≡ parts.now) }
+        ensures named { IfSome result (λ subscriber. record (subscriber_parts subscriber) { place = parts.now.place } ≡ parts.now) }
         ensures none { IfNone result (IsSubscriberKey self.now (subscriber_named parts.now) → ⊥) }
     {
-        if !self.has_subscriber_of(parts) {
+        if parts.service_id != self.state.config().service_id {
             return None;
         }
+        let id = UniqueSubscriberId::new(parts.id);
+        let Some(place) = find_open_subscriber(&self.state, id, parts.place) else {
+            return None;
+        };
         Some(Subscriber {
             service_id: parts.service_id,
-            id: UniqueSubscriberId::new(parts.id),
-            place: parts.place,
+            id,
+            place,
             buffer_size: parts.buffer_size,
         })
     }

@@ -6,7 +6,7 @@ ghost use Rattle.iox2_store.specs.machine.Records.{Fixed};
 ghost use Rattle.iox2_store.specs.machine.Ports.{default_subscriber_settings, buffer_for, CreateSubscriber};
 ghost use Rattle.iox2_store.specs.machine.State.{State, Messages};
 ghost use Rattle.iox2_store.specs.machine.Limits.{expired_limit};
-ghost use Rattle.iox2_pubsub.specs.Live.{HasRoomFor, IsLiveSubscriber, IsNewIn, Stays, subscriber_box, subscriber_port, UpToDateStay, payloads, waiting, WaitingStays, IsAwaited, IsReadyPublisher, NoneRefused};
+ghost use Rattle.iox2_pubsub.specs.Live.{HasRoomFor, IsLiveSubscriber, IsNewIn, Stays, subscriber_box, subscriber_port, UpToDateStay, payloads, waiting, WaitingStays, IsAwaited, NoneRefused, IsPublisherKey, publisher_key};
 ghost use Rattle.iox2_pubsub.specs.LoansLeft.{LoansLeftStay};
 ghost use Rattle.iox2_pubsub.specs.Factories.{receiver_with_degradation};
 ghost use Rattle.iox2_domain.specs.Shows.{Shows};
@@ -119,7 +119,7 @@ impl<G: DegradationFn> PortFactorySubscriber<G> {
         ensures boxed { IfOk result (λ subscriber. subscriber_box domain.new (subscriber_id subscriber) ≡ self.box) }
         ensures new { IfOk result (λ subscriber. IsNewIn domain.old (subscriber_port subscriber)) }
         ensures none { IfOk result (λ subscriber. waiting domain.new subscriber ≡ 0) }
-        ensures awaits { IfOk result (λ subscriber. NoneRefused domain.old domain.new → (publisher : Publisher) → IsReadyPublisher domain.old publisher → IsAwaited domain.new (publisher_id publisher) subscriber) }
+        ensures awaits { IfOk result (λ subscriber. NoneRefused domain.old domain.new → (publisher : Publisher) → IsPublisherKey domain.old (publisher_key publisher) → IsAwaited domain.new (publisher_id publisher) subscriber) }
         ensures room { IfOk result (λ subscriber. (closes : ℕ) → closes ≤ expired_limit domain.old.config → HasRoomFor domain.new subscriber closes) }
         ensures waits { WaitingStays domain.old domain.new }
         ensures up_to_date { UpToDateStay domain.old domain.new }

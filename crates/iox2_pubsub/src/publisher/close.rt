@@ -49,7 +49,6 @@ impl Publisher {
             strategy: _,
             initial_max_slice_len: _,
         } = self;
-        let place = domain.state.find_live_publisher(id, place);
         close_publisher(&mut domain.state, place);
         domain.boxes.remove(id.value());
     }

@@ -90,8 +90,7 @@ impl Publisher {
         ensures refused { OnErr result (LoansLeftStay domain.old domain.new) }
         ensures stays { Stays domain.old domain.new }
     {
-        let place = domain.state.find_live_publisher(self.id, self.place);
-        let loan = loan(&mut domain.state, place, checks_length, len)?;
+        let loan = loan(&mut domain.state, self.place, checks_length, len)?;
         Ok(SampleMutUninit {
             service_id: self.service_id,
             loan,

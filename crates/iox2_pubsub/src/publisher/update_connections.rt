@@ -20,6 +20,7 @@ impl<T: Drop, U: Default + Drop, F: BackpressureFn, G: DegradationFn> UpdateConn
 
     ghost live_stays = { λ old new publisher stays live. record {
       there = stays.publishers (publisher_key publisher) live.there tt;
+      placed = stays.placed_publishers publisher live.placed;
       unblocked = stays.unblocked (publisher_key publisher) live.unblocked tt;
     } };
 
@@ -32,9 +33,6 @@ impl<T: Drop, U: Default + Drop, F: BackpressureFn, G: DegradationFn> UpdateConn
     ghost adds = { λ domain. (domain.config).history_size };
 
     fn update_connections(&self, domain: &mut Domain<T, U, F, G>) -> Result<(), ConnectionFailure> {
-        let Some(place) = domain.state.find_publisher(self.id, self.place) else {
-            unreachable!()
-        };
-        outcome_of(update_publisher(&mut domain.state, &domain.boxes, place))
+        outcome_of(update_publisher(&mut domain.state, &domain.boxes, self.place))
     }
 }

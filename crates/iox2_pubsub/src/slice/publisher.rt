@@ -19,8 +19,8 @@ pub struct Publisher {
 }
 
 impl Publisher {
-    ghost use Rattle.std.specs.Prelude.{false, ◌↔◌};
-    ghost use Rattle.iox2_pubsub.specs.Live.{IsPublisherKey, IsUnblocked, publisher_key};
+    ghost use Rattle.std.specs.Prelude.{false, IsTrue, ◌↔◌};
+    ghost use Rattle.iox2_pubsub.specs.Live.{IsPlacedPublisher, IsPublisherKey, IsUnblocked, publisher_key};
     ghost use Rattle.iox2_pubsub.specs.Handles.{as_publisher, max_slice_len_of, publisher_id, strategy_of};
 
     /// The same publisher, as one of slices. This library's own.
@@ -64,6 +64,16 @@ impl Publisher {
         ensures { result ≡ max_slice_len_of (as_publisher self.now) }
     {
         self.publisher.initial_max_slice_len
+    }
+
+    /// Whether the publisher is one of this domain's that wasn't closed. This library's own.
+    pub fn is_in<T: Drop, U: Default + Drop, F: BackpressureFn, G: DegradationFn>(
+        &self,
+        domain: &Domain<T, U, F, G>,
+    ) -> bool
+        ensures { IsTrue result ↔ (IsPublisherKey domain.now (publisher_key (as_publisher self.now)) × IsPlacedPublisher domain.now (as_publisher self.now)) }
+    {
+        self.publisher.is_in(domain)
     }
 
     /// Whether a send of the publisher is blocked. Until that has ended, the publisher lends, sends

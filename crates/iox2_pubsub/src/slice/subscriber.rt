@@ -7,7 +7,8 @@ mod receive;
 mod receive_custom_payload;
 mod update_connections;
 
-use iox2_store::{Key, UniqueSubscriberId};
+use crate::domain::Domain;
+use iox2_store::{BackpressureFn, DegradationFn, Key, UniqueSubscriberId};
 
 /// Receives the slices of every publisher of its domain. It is a value to be spent, as the
 /// subscriber of single values is, and is that subscriber with other samples.
@@ -18,7 +19,8 @@ pub struct Subscriber {
 }
 
 impl Subscriber {
-    ghost use Rattle.iox2_pubsub.specs.Live.{subscriber_key};
+    ghost use Rattle.std.specs.Prelude.{IsTrue, ◌↔◌};
+    ghost use Rattle.iox2_pubsub.specs.Live.{IsLiveSubscriber, subscriber_key};
     ghost use Rattle.iox2_pubsub.specs.Handles.{as_subscriber, buffer_size_of, subscriber_id};
 
     /// The same subscriber, as one of slices. This library's own.
@@ -52,6 +54,16 @@ impl Subscriber {
         ensures { result ≡ buffer_size_of (as_subscriber self.now) }
     {
         self.subscriber.buffer_size()
+    }
+
+    /// Whether the subscriber is one of this domain's that wasn't closed. This library's own.
+    pub fn is_in<T: Drop, U: Default + Drop, F: BackpressureFn, G: DegradationFn>(
+        &self,
+        domain: &Domain<T, U, F, G>,
+    ) -> bool
+        ensures { IsTrue result ↔ IsLiveSubscriber domain.now (as_subscriber self.now) }
+    {
+        self.subscriber.is_in(domain)
     }
 
     /// Names the subscriber without being its handle. This library's own.

@@ -11,7 +11,7 @@ impl Subscriber {
     ghost use Rattle.iox2_store.specs.machine.Ports.{subscriber_closed};
     ghost use Rattle.iox2_store.specs.machine.Records.{Subscriber as Record};
     ghost use Rattle.iox2_store.specs.machine.State.{State, Messages};
-    ghost use Rattle.iox2_pubsub.specs.Live.{IsConnected, IsLiveSubscriber, OthersStayUpToDate, OthersWait, RoomStays, StaysBut, subscriber_box, subscriber_key, subscriber_port, waiting};
+    ghost use Rattle.iox2_pubsub.specs.Live.{IsConnected, IsLiveSubscriber, IsSubscriberKey, OthersStayUpToDate, OthersWait, RoomStays, StaysBut, subscriber_box, subscriber_key, subscriber_port, waiting};
     ghost use Rattle.iox2_pubsub.specs.LoansLeft.{LoansLeftStay};
     ghost use Rattle.iox2_pubsub.specs.declared.subscriber.Subscriber.{Subscriber as Handle};
     ghost use Rattle.iox2_pubsub.specs.Handles.{subscriber_id};
@@ -29,7 +29,7 @@ impl Subscriber {
         requires live { IsLiveSubscriber domain.old self }
         ensures closed { (m : Messages T U) (s : State T U) (y : Record) → Shows domain.old m s → s.subscribers (subscriber_key self).port ≡ Some y
             → Shows domain.new m (subscriber_closed s (subscriber_key self).port y) }
-        ensures spent { IsLiveSubscriber domain.new self → ⊥ }
+        ensures spent { IsSubscriberKey domain.new (subscriber_key self) → ⊥ }
         ensures unboxed { subscriber_box domain.new (subscriber_key self).port ≡ None }
         ensures none { waiting domain.new self ≡ 0 }
         ensures others { OthersWait self domain.old domain.new }
@@ -45,7 +45,6 @@ impl Subscriber {
             place,
             buffer_size: _,
         } = self;
-        let place = domain.state.find_live_subscriber(id, place);
         close_subscriber(&mut domain.state, place);
         domain.subscriber_boxes.remove(id.value());
     }

@@ -37,9 +37,6 @@ impl Subscriber {
         ensures loans_left { LoansLeftStay domain.old domain.new }
         ensures stays { Stays domain.old domain.new }
     {
-        let Some(place) = domain.state.find_subscriber(self.id, self.place) else {
-            unreachable!()
-        };
-        has_samples_at(&mut domain.state, &domain.subscriber_boxes, place)
+        has_samples_at(&mut domain.state, &domain.subscriber_boxes, self.place)
     }
 }

@@ -57,8 +57,7 @@ impl Subscriber {
         ensures loans_left { LoansLeftStay domain.old domain.new }
         ensures stays { Stays domain.old domain.new }
     {
-        let place = domain.state.find_live_subscriber(self.id, self.place);
-        let receipt = receive_at(&mut domain.state, &domain.subscriber_boxes, place)?;
+        let receipt = receive_at(&mut domain.state, &domain.subscriber_boxes, self.place)?;
         let Some(receipt) = receipt else {
             return Ok(None);
         };

@@ -18,7 +18,10 @@ impl<T: Drop, U: Default + Drop, F: BackpressureFn, G: DegradationFn> UpdateConn
 
     ghost is_live = { IsLiveSubscriber };
 
-    ghost live_stays = { λ old new subscriber stays live. stays.subscribers (subscriber_key subscriber) live tt };
+    ghost live_stays = { λ old new subscriber stays live. record {
+      there = stays.subscribers (subscriber_key subscriber) live.there tt;
+      placed = stays.placed_subscribers subscriber live.placed;
+    } };
 
     ghost updates = { λ old s subscriber s' failure. UpdateSubscriber (answers_of F.allows G.allows (old.boxes).subscribers) s (subscriber_id subscriber) s' failure };
 
@@ -29,9 +32,6 @@ impl<T: Drop, U: Default + Drop, F: BackpressureFn, G: DegradationFn> UpdateConn
     ghost adds = { λ domain. 0 };
 
     fn update_connections(&self, domain: &mut Domain<T, U, F, G>) -> Result<(), ConnectionFailure> {
-        let Some(place) = domain.state.find_subscriber(self.id, self.place) else {
-            unreachable!()
-        };
-        outcome_of(update_subscriber(&mut domain.state, &domain.subscriber_boxes, place))
+        outcome_of(update_subscriber(&mut domain.state, &domain.subscriber_boxes, self.place))
     }
 }

@@ -5,7 +5,7 @@ ghost use Rattle.iox2_domain.specs.Boxes.{answers_of};
 ghost use Rattle.iox2_store.specs.machine.Records.{Fixed};
 ghost use Rattle.iox2_store.specs.machine.Ports.{CreatePublisher};
 ghost use Rattle.iox2_store.specs.machine.State.{State, Messages};
-ghost use Rattle.iox2_pubsub.specs.Live.{ConnectionsStay, IsConnected, IsLiveSubscriber, IsNewIn, IsReadyPublisher, NeverFails, NeverWaits, NoneRefused, RoomStays, Stays, degradation_box, handler_box, publisher_key, publisher_port, payloads, waiting, WaitingStays};
+ghost use Rattle.iox2_pubsub.specs.Live.{ConnectionsStay, IsConnected, IsNewIn, IsReadyPublisher, NeverFails, NeverWaits, NoneRefused, RoomStays, Stays, degradation_box, handler_box, publisher_key, publisher_port, payloads, waiting, WaitingStays, IsSubscriberKey, subscriber_key};
 ghost use Rattle.iox2_pubsub.specs.LoansLeft.{HasLoansLeft, LoansLeftStay};
 ghost use Rattle.iox2_domain.specs.NewPublisher.{plain_publisher};
 ghost use Rattle.iox2_domain.specs.Handlers.{may_fail, may_fail_update};
@@ -286,7 +286,7 @@ impl<F: BackpressureFn, G: DegradationFn> PortFactoryPublisher<F, G> {
         ensures no_fewer { (subscriber : Subscriber) → waiting domain.old subscriber ≤ waiting domain.new subscriber }
         ensures connections { ConnectionsStay domain.old domain.new }
         ensures room { RoomStays domain.old domain.new }
-        ensures connects { IfOk result (λ publisher. NoneRefused domain.old domain.new → (subscriber : Subscriber) → IsLiveSubscriber domain.old subscriber → IsConnected domain.new (publisher_id (as_publisher publisher)) subscriber) }
+        ensures connects { IfOk result (λ publisher. NoneRefused domain.old domain.new → (subscriber : Subscriber) → IsSubscriberKey domain.old (subscriber_key subscriber) → IsConnected domain.new (publisher_id (as_publisher publisher)) subscriber) }
         ensures loans_left { LoansLeftStay domain.old domain.new }
         ensures left { IfOk result (λ publisher. HasLoansLeft domain.new (as_publisher publisher) self.settings.max_loaned_samples) }
         ensures stays { Stays domain.old domain.new }

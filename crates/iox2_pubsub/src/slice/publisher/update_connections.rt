@@ -19,6 +19,7 @@ impl<T: Drop, U: Default + Drop, F: BackpressureFn, G: DegradationFn> UpdateConn
 
     ghost live_stays = { λ old new publisher stays live. record {
       there = stays.publishers (publisher_key publisher.publisher) live.there tt;
+      placed = stays.placed_publishers (as_publisher publisher) live.placed;
       unblocked = stays.unblocked (publisher_key publisher.publisher) live.unblocked tt;
     } };
 

@@ -10,7 +10,7 @@ impl Subscriber {
     ghost use Rattle.iox2_store.specs.machine.Ports.{subscriber_closed};
     ghost use Rattle.iox2_store.specs.machine.Records.{Subscriber as Record};
     ghost use Rattle.iox2_store.specs.machine.State.{State, Messages};
-    ghost use Rattle.iox2_pubsub.specs.Live.{IsConnected, IsLiveSubscriber, OthersStayUpToDate, OthersWait, RoomStays, StaysBut, subscriber_box, subscriber_key, subscriber_port, waiting};
+    ghost use Rattle.iox2_pubsub.specs.Live.{IsConnected, IsLiveSubscriber, IsSubscriberKey, OthersStayUpToDate, OthersWait, RoomStays, StaysBut, subscriber_box, subscriber_key, subscriber_port, waiting};
     ghost use Rattle.iox2_pubsub.specs.LoansLeft.{LoansLeftStay};
     ghost use Rattle.iox2_pubsub.specs.declared.subscriber.Subscriber.{Subscriber as Handle};
     ghost use Rattle.iox2_domain.specs.Shows.{Shows};
@@ -26,7 +26,7 @@ impl Subscriber {
         requires live { IsLiveSubscriber domain.old (as_subscriber self) }
         ensures closed { (m : Messages T U) (s : State T U) (y : Record) → Shows domain.old m s → s.subscribers (subscriber_key (as_subscriber self)).port ≡ Some y
             → Shows domain.new m (subscriber_closed s (subscriber_key (as_subscriber self)).port y) }
-        ensures spent { IsLiveSubscriber domain.new (as_subscriber self) → ⊥ }
+        ensures spent { IsSubscriberKey domain.new (subscriber_key (as_subscriber self)) → ⊥ }
         ensures unboxed { subscriber_box domain.new (subscriber_key (as_subscriber self)).port ≡ None }
         ensures none { waiting domain.new (as_subscriber self) ≡ 0 }
         ensures others { OthersWait (as_subscriber self) domain.old domain.new }

@@ -17,7 +17,10 @@ impl<T: Drop, U: Default + Drop, F: BackpressureFn, G: DegradationFn> UpdateConn
 
     ghost is_live = { λ domain subscriber. IsLiveSubscriber domain (as_subscriber subscriber) };
 
-    ghost live_stays = { λ old new subscriber stays live. stays.subscribers (subscriber_key (as_subscriber subscriber)) live tt };
+    ghost live_stays = { λ old new subscriber stays live. record {
+      there = stays.subscribers (subscriber_key (as_subscriber subscriber)) live.there tt;
+      placed = stays.placed_subscribers (as_subscriber subscriber) live.placed;
+    } };
 
     ghost updates = { λ old s subscriber s' failure. UpdateSubscriber (answers_of F.allows G.allows (old.boxes).subscribers) s (subscriber_id (as_subscriber subscriber)) s' failure };
 

@@ -4,6 +4,7 @@ use Rattle.iox2_store.specs.machine.Environments.{fixed_handlers}
 use Rattle.iox2_pubsub.specs.Live.{Stays}
 use Rattle.iox2_runs.specs.Carries.{defaults_of}
 use Rattle.iox2_runs.specs.Leaves.{AreNewIn}
+use Rattle.iox2_runs.specs.Placed.{ArePlaced}
 use Rattle.iox2_runs.proofs.RunLoop.{HasRun}
 use Rattle.iox2_runs.proofs.runs.run.Given as goal
 
@@ -13,6 +14,7 @@ invariant-loop-command g l = record {
       (take l.command-index l.fn.commands.items) l.replies.items l.table.items;
   stays : Stays l.fn.domain l.domain;
   new : AreNewIn l.fn.domain l.table.items;
+  placed : ArePlaced l.domain l.table.items;
   made : vec_len l.table ≡ l.command-index;
   replied : vec_len l.replies ≡ l.command-index;
   room : vec_len l.fn.commands ≤ vec_capacity l.table;

@@ -50,7 +50,7 @@ returns-clause-ready g c =
     let made = c.in_ok-port.ensures.step in
     created-ready {T = g.row.T.Denot} {U = g.row.U.Denot} c.domain.inside.state c.create_publisher.new.state (settings_with c.args.given.now (marks_of c.args.handler) c.args.segments) (answers_of g.F.BackpressureFn.allows g.G.DegradationFn.allows (c.create_publisher.new.boxes).boxes) made.0 made.1 made.2
     (record { service_id = c.config.result.now.service_id; id = c.in_ok-port.port.id; place = c.in_ok-port.port.place; strategy = c.args.given.now.strategy; initial_max_slice_len = c.args.given.now.initial_max_slice_len })
-    (ap (λ (config : ServiceConfig). config.service_id) c.config.ensures) c.in_ok-port.ensures.id
+    (ap (λ (config : ServiceConfig). config.service_id) c.config.ensures) c.in_ok-port.ensures.id c.in_ok-port.ensures.stands
 
 pub returns-clause-discards : goal.returns-clause-discards
 returns-clause-discards g c = λ discards none calm.

@@ -6,12 +6,12 @@ use Rattle.iox2_domain.proofs.lemmas.fields.ConnectionEnds.{free-of}
 use Rattle.iox2_domain.specs.Fields.{keeping}
 use Rattle.iox2_pubsub.specs.Live.{publisher_key}
 use Rattle.iox2_pubsub.proofs.DepartedShown.{publisher-close-room}
+use Rattle.iox2_pubsub.proofs.PlacedHandles.{publisher-at-place}
 use Rattle.iox2_pubsub.proofs.CallsStay.{always-shown}
 use Rattle.iox2_pubsub.proofs.ClosesShown.{publisher-close-shows, publisher-close-stays, publisher-close-spends}
 use Rattle.iox2_pubsub.proofs.ClosesWait.{publisher-close-no-fewer}
 use Rattle.iox2_pubsub.proofs.ConnectionsShown.{publisher-close-keeps, publisher-close-connections}
 use Rattle.iox2_pubsub.proofs.LiveParts.{publisher-parts, unblocked-test}
-use Rattle.iox2_pubsub.proofs.UninitLoans.{publisher-missing}
 use Rattle.iox2_pubsub.proofs.LoansLeftShown.{publisher-close-others, publisher-close-numbers}
 use Rattle.std.specs.Option.{option_and_then}
 use Rattle.iox2_domain.specs.Boxes.{box_of, degradation_box_of}
@@ -19,20 +19,16 @@ use Rattle.iox2_domain.specs.declared.boxes.PortBoxes.{PortBoxes}
 use Rattle.iox2_pubsub.proofs.StaysBut.{box-is, degradation-box-is, other-boxes}
 use Rattle.iox2_pubsub.proofs.publisher.Publisher.close.Goals as goal
 
-pub find_live_publisher-place-requires : goal.find_live_publisher-place-requires
-find_live_publisher-place-requires g c = λ none.
-    publisher-missing {T = g.row.T.Denot} {U = g.row.U.Denot} c.domain.inside.state c.args.domain.now c.domain.view_is c.args.self none c.requires.ready.there
-
 pub close_publisher-requires-clause-stands : goal.close_publisher-requires-clause-stands
-close_publisher-requires-clause-stands g c = (c.find_live_publisher-place.ensures.0, c.find_live_publisher-place.ensures.1)
+close_publisher-requires-clause-stands g c = ((publisher-at-place {T = g.row.T.Denot} {U = g.row.U.Denot} c.domain.inside.state c.domain.invariant c.args.domain.now c.domain.view_is c.args.self c.requires.ready).0, (publisher-at-place {T = g.row.T.Denot} {U = g.row.U.Denot} c.domain.inside.state c.domain.invariant c.args.domain.now c.domain.view_is c.args.self c.requires.ready).1)
 
 pub invariant_of-domain : goal.invariant_of-domain
-invariant_of-domain g c = (c.close_publisher.ensures c.find_live_publisher-place.ensures.0 c.find_live_publisher-place.ensures.1).agrees
+invariant_of-domain g c = (c.close_publisher.ensures (publisher-at-place {T = g.row.T.Denot} {U = g.row.U.Denot} c.domain.inside.state c.domain.invariant c.args.domain.now c.domain.view_is c.args.self c.requires.ready).0 (publisher-at-place {T = g.row.T.Denot} {U = g.row.U.Denot} c.domain.inside.state c.domain.invariant c.args.domain.now c.domain.view_is c.args.self c.requires.ready).1).agrees
 
 pub returns-clause-closed : goal.returns-clause-closed
 returns-clause-closed g c = λ m s x shown at.
     publisher-close-shows {T = g.row.T.Denot} {U = g.row.U.Denot} c.domain.inside.state c.close_publisher.new.state c.domain.invariant c.args.domain.now c.domain.view_is
-    c.find_live_publisher-place.result c.args.self.id m s shown c.find_live_publisher-place.ensures c.close_publisher.ensures x at
+    c.args.self.place c.args.self.id m s shown (publisher-at-place {T = g.row.T.Denot} {U = g.row.U.Denot} c.domain.inside.state c.domain.invariant c.args.domain.now c.domain.view_is c.args.self c.requires.ready) c.close_publisher.ensures x at
 
 pub returns-clause-spent : goal.returns-clause-spent
 returns-clause-spent g c =
@@ -86,11 +82,11 @@ returns-clause-numbers_left g c =
 
 pub close_publisher-requires-clause-unblocked : goal.close_publisher-requires-clause-unblocked
 close_publisher-requires-clause-unblocked g c = λ z at_z.
-    let found = c.find_live_publisher-place.ensures in
+    let found = (publisher-at-place {T = g.row.T.Denot} {U = g.row.U.Denot} c.domain.inside.state c.domain.invariant c.args.domain.now c.domain.view_is c.args.self c.requires.ready) in
     let both : Some z ≡ Some found.0 = sym at_z ∙ found.1 in
     let is : z ≡ found.0 = cc in
     ap (λ (w : PublisherFields). w.blocked) is
-    ∙ free-of c.domain.inside.state c.domain.invariant.parts c.args.self.id c.find_live_publisher-place.result found.0 found.1 found.2
+    ∙ free-of c.domain.inside.state c.domain.invariant.parts c.args.self.id c.args.self.place found.0 found.1 found.2
     (subst (λ (k : Kept g.row.T.Denot g.row.U.Denot g.row.F.Denot g.row.G.Denot). is_blocked (state_of k) c.args.self.id ≡ false) (sym c.domain.view_is) (unblocked-test c.args.domain.now (publisher_key c.args.self) c.requires.ready.unblocked))
 
 pub returns-clause-keeps : goal.returns-clause-keeps

@@ -4,7 +4,8 @@ use Rattle.iox2_domain.specs.Kept.{Kept}
 use Rattle.iox2_domain.specs.Lending.{header_for}
 use Rattle.iox2_pubsub.specs.Live.{IsPublisherKey, LoanHasHeader, lender_key, publisher_key, unwritten_key}
 use Rattle.iox2_pubsub.specs.Slices.{HasUnwrittenCells}
-use Rattle.iox2_pubsub.proofs.UninitLoans.{err-shown, ok-cells, ok-header, ok-lengths, ok-shown, ok-live, ok-number, ok-publisher, publisher-missing}
+use Rattle.iox2_pubsub.proofs.UninitLoans.{err-shown, ok-cells, ok-header, ok-lengths, ok-shown, ok-live, ok-number, ok-publisher}
+use Rattle.iox2_pubsub.proofs.PlacedHandles.{publisher-at-place}
 use Rattle.iox2_pubsub.proofs.CallsStay.{always-shown, loan-is-new, loan-stays}
 use Rattle.iox2_pubsub.proofs.LiveParts.{never-waits-alike, publisher-parts, unblocked-alike}
 use Rattle.iox2_pubsub.proofs.WaitingShown.{loan-waits}
@@ -16,54 +17,54 @@ use Rattle.iox2_pubsub.proofs.publisher.Publisher.lend.Goals as goal
 
 pub returns-in_err-loan-clause-lends : goal.returns-in_err-loan-clause-lends
 returns-in_err-loan-clause-lends g c = λ m s shown.
-    err-shown {T = g.row.T.Denot} {U = g.row.U.Denot} g.U.Default.is_default c.args.checks_length c.args.len c.domain.inside.state c.loan.new.state c.find_live_publisher-place.result c.args.self.now.id c.loan.result
-    c.find_live_publisher-place.ensures c.loan.ensures.reaches _ c.in_err-loan.field-0.0 c.in_err-loan.was c.from_residual.result c.from_residual.ensures.1 c.args.domain.now c.domain.view_is m s shown
+    err-shown {T = g.row.T.Denot} {U = g.row.U.Denot} g.U.Default.is_default c.args.checks_length c.args.len c.domain.inside.state c.loan.new.state c.args.self.now.place c.args.self.now.id c.loan.result
+    (publisher-at-place {T = g.row.T.Denot} {U = g.row.U.Denot} c.domain.inside.state c.domain.invariant c.args.domain.now c.domain.view_is c.args.self.now c.requires.ready) c.loan.ensures.reaches _ c.in_err-loan.field-0.0 c.in_err-loan.was c.from_residual.result c.from_residual.ensures.1 c.args.domain.now c.domain.view_is m s shown
 
 pub returns-clause-lends : goal.returns-clause-lends
 returns-clause-lends g c = λ m s shown.
-    ok-shown {T = g.row.T.Denot} {U = g.row.U.Denot} g.U.Default.is_default c.args.checks_length c.args.len c.domain.inside.state c.loan.new.state c.find_live_publisher-place.result c.args.self.now.id c.loan.result
-    c.find_live_publisher-place.ensures c.loan.ensures.reaches _ c.in_ok-loan.loan c.in_ok-loan.loan c.in_ok-loan.was c.args.domain.now c.domain.view_is m s shown
+    ok-shown {T = g.row.T.Denot} {U = g.row.U.Denot} g.U.Default.is_default c.args.checks_length c.args.len c.domain.inside.state c.loan.new.state c.args.self.now.place c.args.self.now.id c.loan.result
+    (publisher-at-place {T = g.row.T.Denot} {U = g.row.U.Denot} c.domain.inside.state c.domain.invariant c.args.domain.now c.domain.view_is c.args.self.now c.requires.ready) c.loan.ensures.reaches _ c.in_ok-loan.loan c.in_ok-loan.loan c.in_ok-loan.was c.args.domain.now c.domain.view_is m s shown
 
 pub returns-in_err-loan-clause-granted : goal.returns-in_err-loan-clause-granted
 returns-in_err-loan-clause-granted g c = λ loans numbers left numbered short.
-    absurd (sure-granted {T = g.row.T.Denot} {U = g.row.U.Denot} g.U.Default.is_default c.args.checks_length c.args.len c.domain.inside.state c.loan.new.state c.domain.invariant c.find_live_publisher-place.result c.args.self.now
-    short c.find_live_publisher-place.ensures c.loan.result c.loan.ensures.reaches c.in_err-loan.field-0.0 c.in_err-loan.was c.args.domain.now c.domain.view_is
+    absurd (sure-granted {T = g.row.T.Denot} {U = g.row.U.Denot} g.U.Default.is_default c.args.checks_length c.args.len c.domain.inside.state c.loan.new.state c.domain.invariant c.args.self.now.place c.args.self.now
+    short (publisher-at-place {T = g.row.T.Denot} {U = g.row.U.Denot} c.domain.inside.state c.domain.invariant c.args.domain.now c.domain.view_is c.args.self.now c.requires.ready) c.loan.result c.loan.ensures.reaches c.in_err-loan.field-0.0 c.in_err-loan.was c.args.domain.now c.domain.view_is
     (sure-of-loan {T = g.row.T.Denot} {U = g.row.U.Denot} c.args.domain.now c.args.self.now loans numbers left numbered))
 
 pub returns-clause-out : goal.returns-clause-out
 returns-clause-out g c =
-    ok-live {T = g.row.T.Denot} {U = g.row.U.Denot} g.U.Default.is_default c.args.checks_length c.args.len c.domain.inside.state c.loan.new.state c.find_live_publisher-place.result c.args.self.now.id c.loan.result
-    c.find_live_publisher-place.ensures c.loan.ensures.reaches (record { service_id = c.args.self.now.service_id; loan = c.in_ok-loan.loan }) c.in_ok-loan.was c.in_ok-loan.ensures.named
+    ok-live {T = g.row.T.Denot} {U = g.row.U.Denot} g.U.Default.is_default c.args.checks_length c.args.len c.domain.inside.state c.loan.new.state c.args.self.now.place c.args.self.now.id c.loan.result
+    (publisher-at-place {T = g.row.T.Denot} {U = g.row.U.Denot} c.domain.inside.state c.domain.invariant c.args.domain.now c.domain.view_is c.args.self.now c.requires.ready) c.loan.ensures.reaches (record { service_id = c.args.self.now.service_id; loan = c.in_ok-loan.loan }) c.in_ok-loan.was c.in_ok-loan.ensures.named
     c.args.domain.now c.domain.view_is (publisher-parts c.args.domain.now _ c.requires.ready.there).1
 
 pub returns-clause-cells : goal.returns-clause-cells
 returns-clause-cells g c =
     subst (λ (k : Kept g.row.T.Denot g.row.U.Denot g.row.F.Denot g.row.G.Denot). HasUnwrittenCells (keeping (record { publishers = (c.domain.inside.boxes).boxes; subscribers = (c.domain.inside.subscriber_boxes).boxes }) c.loan.new.state) c.in_ok-loan.loan.number (replicate (c.args.len * (k.config).units_per_element) None)) c.domain.view_is
-    (ok-cells {T = g.row.T.Denot} {U = g.row.U.Denot} g.U.Default.is_default c.args.checks_length c.args.len c.domain.inside.state c.loan.new.state c.find_live_publisher-place.result c.args.self.now.id c.loan.result
-    c.find_live_publisher-place.ensures c.loan.ensures.reaches (record { publishers = (c.domain.inside.boxes).boxes; subscribers = (c.domain.inside.subscriber_boxes).boxes }) c.in_ok-loan.loan c.in_ok-loan.was c.in_ok-loan.ensures.named)
+    (ok-cells {T = g.row.T.Denot} {U = g.row.U.Denot} g.U.Default.is_default c.args.checks_length c.args.len c.domain.inside.state c.loan.new.state c.args.self.now.place c.args.self.now.id c.loan.result
+    (publisher-at-place {T = g.row.T.Denot} {U = g.row.U.Denot} c.domain.inside.state c.domain.invariant c.args.domain.now c.domain.view_is c.args.self.now c.requires.ready) c.loan.ensures.reaches (record { publishers = (c.domain.inside.boxes).boxes; subscribers = (c.domain.inside.subscriber_boxes).boxes }) c.in_ok-loan.loan c.in_ok-loan.was c.in_ok-loan.ensures.named)
 
 pub returns-clause-lengths : goal.returns-clause-lengths
 returns-clause-lengths g c = λ cells has.
     subst (λ (k : Kept g.row.T.Denot g.row.U.Denot g.row.F.Denot g.row.G.Denot). length cells ≡ c.args.len * (k.config).units_per_element) c.domain.view_is
-    (ok-lengths {T = g.row.T.Denot} {U = g.row.U.Denot} g.U.Default.is_default c.args.checks_length c.args.len c.domain.inside.state c.loan.new.state c.find_live_publisher-place.result c.args.self.now.id c.loan.result
-    c.find_live_publisher-place.ensures c.loan.ensures.reaches (record { publishers = (c.domain.inside.boxes).boxes; subscribers = (c.domain.inside.subscriber_boxes).boxes }) c.in_ok-loan.loan c.in_ok-loan.was c.in_ok-loan.ensures.named cells has)
+    (ok-lengths {T = g.row.T.Denot} {U = g.row.U.Denot} g.U.Default.is_default c.args.checks_length c.args.len c.domain.inside.state c.loan.new.state c.args.self.now.place c.args.self.now.id c.loan.result
+    (publisher-at-place {T = g.row.T.Denot} {U = g.row.U.Denot} c.domain.inside.state c.domain.invariant c.args.domain.now c.domain.view_is c.args.self.now c.requires.ready) c.loan.ensures.reaches (record { publishers = (c.domain.inside.boxes).boxes; subscribers = (c.domain.inside.subscriber_boxes).boxes }) c.in_ok-loan.loan c.in_ok-loan.was c.in_ok-loan.ensures.named cells has)
 
 pub returns-clause-header : goal.returns-clause-header
 returns-clause-header g c =
     let key = unwritten_key (record { service_id = c.args.self.now.service_id; loan = c.in_ok-loan.loan }) in
     subst (λ (k : Kept g.row.T.Denot g.row.U.Denot g.row.F.Denot g.row.G.Denot). LoanHasHeader (keeping (record { publishers = (c.domain.inside.boxes).boxes; subscribers = (c.domain.inside.subscriber_boxes).boxes }) c.loan.new.state) key (header_for k.config c.args.self.now.id c.args.len)) c.domain.view_is
-    (ok-header {T = g.row.T.Denot} {U = g.row.U.Denot} g.U.Default.is_default c.args.checks_length c.args.len c.domain.inside.state c.loan.new.state c.find_live_publisher-place.result c.args.self.now.id c.loan.result
-    c.find_live_publisher-place.ensures c.loan.ensures.reaches (record { publishers = (c.domain.inside.boxes).boxes; subscribers = (c.domain.inside.subscriber_boxes).boxes }) c.in_ok-loan.loan c.in_ok-loan.was c.in_ok-loan.ensures.named key refl)
+    (ok-header {T = g.row.T.Denot} {U = g.row.U.Denot} g.U.Default.is_default c.args.checks_length c.args.len c.domain.inside.state c.loan.new.state c.args.self.now.place c.args.self.now.id c.loan.result
+    (publisher-at-place {T = g.row.T.Denot} {U = g.row.U.Denot} c.domain.inside.state c.domain.invariant c.args.domain.now c.domain.view_is c.args.self.now c.requires.ready) c.loan.ensures.reaches (record { publishers = (c.domain.inside.boxes).boxes; subscribers = (c.domain.inside.subscriber_boxes).boxes }) c.in_ok-loan.loan c.in_ok-loan.was c.in_ok-loan.ensures.named key refl)
 
 pub returns-clause-number : goal.returns-clause-number
 returns-clause-number g c =
-    ok-number {T = g.row.T.Denot} {U = g.row.U.Denot} g.U.Default.is_default c.args.checks_length c.args.len c.domain.inside.state c.loan.new.state c.find_live_publisher-place.result c.args.self.now.id c.loan.result
-    c.find_live_publisher-place.ensures c.loan.ensures.reaches c.in_ok-loan.loan c.in_ok-loan.ensures.named ∙ ap (λ (k : Kept g.row.T.Denot g.row.U.Denot g.row.F.Denot g.row.G.Denot). k.next_message) c.domain.view_is
+    ok-number {T = g.row.T.Denot} {U = g.row.U.Denot} g.U.Default.is_default c.args.checks_length c.args.len c.domain.inside.state c.loan.new.state c.args.self.now.place c.args.self.now.id c.loan.result
+    (publisher-at-place {T = g.row.T.Denot} {U = g.row.U.Denot} c.domain.inside.state c.domain.invariant c.args.domain.now c.domain.view_is c.args.self.now c.requires.ready) c.loan.ensures.reaches c.in_ok-loan.loan c.in_ok-loan.ensures.named ∙ ap (λ (k : Kept g.row.T.Denot g.row.U.Denot g.row.F.Denot g.row.G.Denot). k.next_message) c.domain.view_is
 
 pub returns-clause-publisher : goal.returns-clause-publisher
 returns-clause-publisher g c =
-    ok-publisher {T = g.row.T.Denot} {U = g.row.U.Denot} g.U.Default.is_default c.args.checks_length c.args.len c.domain.inside.state c.loan.new.state c.find_live_publisher-place.result c.args.self.now.id c.loan.result
-    c.find_live_publisher-place.ensures c.loan.ensures.reaches c.in_ok-loan.loan c.in_ok-loan.ensures.named
+    ok-publisher {T = g.row.T.Denot} {U = g.row.U.Denot} g.U.Default.is_default c.args.checks_length c.args.len c.domain.inside.state c.loan.new.state c.args.self.now.place c.args.self.now.id c.loan.result
+    (publisher-at-place {T = g.row.T.Denot} {U = g.row.U.Denot} c.domain.inside.state c.domain.invariant c.args.domain.now c.domain.view_is c.args.self.now c.requires.ready) c.loan.ensures.reaches c.in_ok-loan.loan c.in_ok-loan.ensures.named
 
 pub returns-clause-new : goal.returns-clause-new
 returns-clause-new g c =
@@ -93,11 +94,6 @@ pub returns-clause-unblocked : goal.returns-clause-unblocked
 returns-clause-unblocked g c =
     unblocked-alike (keeping (record { publishers = (c.domain.inside.boxes).boxes; subscribers = (c.domain.inside.subscriber_boxes).boxes }) c.loan.new.state) (publisher_key c.args.self.now) (unwritten_key (record { service_id = c.args.self.now.service_id; loan = c.in_ok-loan.loan }))
     (returns-clause-publisher g c) ((returns-clause-stays g c).unblocked (publisher_key c.args.self.now) c.requires.ready.unblocked tt)
-
-pub find_live_publisher-place-requires : goal.find_live_publisher-place-requires
-find_live_publisher-place-requires g c = λ none.
-    publisher-missing {T = g.row.T.Denot} {U = g.row.U.Denot} c.domain.inside.state c.args.domain.now c.domain.view_is c.args.self.now
-    none c.requires.ready.there
 
 pub returns-clause-lender : goal.returns-clause-lender
 returns-clause-lender g c = ap (λ (p : ℕ). lender_key (record { service_id = c.args.self.now.service_id; port = p; message = 0 })) (returns-clause-publisher g c)
@@ -141,6 +137,11 @@ returns-clause-loans_left g c =
     let it = always-shown {T = g.row.T.Denot} {U = g.row.U.Denot} c.domain.inside.state c.args.domain.now c.domain.invariant c.domain.view_is in
     let step = returns-clause-lends g c it.0 it.1 it.2 in
     loan-takes {T = g.row.T.Denot} {U = g.row.U.Denot} c.args.domain.now _ it.0 it.0 it.1 step.0 it.2 step.1 g.U.Default.is_default c.args.checks_length c.args.len c.args.self.now (Ok c.in_ok-loan.loan) step.2
+
+pub loan-requires-clause-stands : goal.loan-requires-clause-stands
+loan-requires-clause-stands g c =
+    let at = publisher-at-place {T = g.row.T.Denot} {U = g.row.U.Denot} c.domain.inside.state c.domain.invariant c.args.domain.now c.domain.view_is c.args.self.now c.requires.ready in
+    (at.0, at.1)
 
 pub loan-requires-clause-unchecked : goal.loan-requires-clause-unchecked
 loan-requires-clause-unchecked g c = λ unchecked. ap (λ (k : Kept g.row.T.Denot g.row.U.Denot g.row.F.Denot g.row.G.Denot). (k.config).variant) c.domain.view_is ∙ c.requires.unchecked unchecked

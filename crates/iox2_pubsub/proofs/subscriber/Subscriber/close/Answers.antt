@@ -7,35 +7,31 @@ use Rattle.iox2_store.specs.machine.State.{State}
 use Rattle.iox2_domain.specs.Fields.{keeping}
 use Rattle.iox2_pubsub.specs.Live.{subscriber_key}
 use Rattle.iox2_pubsub.proofs.DepartedShown.{subscriber-close-room}
+use Rattle.iox2_pubsub.proofs.PlacedHandles.{subscriber-at-place}
 use Rattle.iox2_pubsub.proofs.CallsStay.{always-shown}
 use Rattle.iox2_pubsub.proofs.ClosesShown.{subscriber-close-shows, subscriber-close-stays, subscriber-close-spends}
 use Rattle.iox2_pubsub.proofs.ClosesWait.{subscriber-close-none, subscriber-close-others, subscriber-close-leaves}
 use Rattle.iox2_pubsub.proofs.ConnectionsShown.{subscriber-close-connections}
 use Rattle.iox2_pubsub.proofs.LiveParts.{subscriber-parts}
-use Rattle.iox2_pubsub.proofs.ReceptionShown.{subscriber-missing}
 use Rattle.iox2_pubsub.proofs.LoansLeftShown.{subscriber-close-left}
 use Rattle.iox2_pubsub.proofs.StaysBut.{other-subscriber-boxes, subscriber-box-is}
 use Rattle.iox2_pubsub.proofs.subscriber.Subscriber.close.Goals as goal
 
-pub find_live_subscriber-place-requires : goal.find_live_subscriber-place-requires
-find_live_subscriber-place-requires g c = λ none.
-    subscriber-missing {T = g.row.T.Denot} {U = g.row.U.Denot} c.domain.inside.state c.args.domain.now c.domain.view_is c.args.self none c.requires.live
-
 pub close_subscriber-requires-clause-stands : goal.close_subscriber-requires-clause-stands
-close_subscriber-requires-clause-stands g c = subst IsSome (sym c.find_live_subscriber-place.ensures.1) refl
+close_subscriber-requires-clause-stands g c = subst IsSome (sym (subscriber-at-place {T = g.row.T.Denot} {U = g.row.U.Denot} c.domain.inside.state c.domain.invariant c.args.domain.now c.domain.view_is c.args.self c.requires.live).1) refl
 
 pub invariant_of-domain : goal.invariant_of-domain
-invariant_of-domain g c = (c.close_subscriber.ensures c.find_live_subscriber-place.ensures.0 c.find_live_subscriber-place.ensures.1).agrees
+invariant_of-domain g c = (c.close_subscriber.ensures (subscriber-at-place {T = g.row.T.Denot} {U = g.row.U.Denot} c.domain.inside.state c.domain.invariant c.args.domain.now c.domain.view_is c.args.self c.requires.live).0 (subscriber-at-place {T = g.row.T.Denot} {U = g.row.U.Denot} c.domain.inside.state c.domain.invariant c.args.domain.now c.domain.view_is c.args.self c.requires.live).1).agrees
 
 pub returns-clause-closed : goal.returns-clause-closed
 returns-clause-closed g c = λ m s x shown at.
     subscriber-close-shows {T = g.row.T.Denot} {U = g.row.U.Denot} c.domain.inside.state c.close_subscriber.new.state c.domain.invariant c.args.domain.now c.domain.view_is
-    c.find_live_subscriber-place.result c.args.self.id m s shown c.find_live_subscriber-place.ensures c.close_subscriber.ensures x at
+    c.args.self.place c.args.self.id m s shown (subscriber-at-place {T = g.row.T.Denot} {U = g.row.U.Denot} c.domain.inside.state c.domain.invariant c.args.domain.now c.domain.view_is c.args.self c.requires.live) c.close_subscriber.ensures x at
 
 pub returns-clause-spent : goal.returns-clause-spent
 returns-clause-spent g c =
     let it = always-shown {T = g.row.T.Denot} {U = g.row.U.Denot} c.domain.inside.state c.args.domain.now c.domain.invariant c.domain.view_is in
-    let has = (subscriber-parts c.args.domain.now _ c.requires.live).2 in
+    let has = (subscriber-parts c.args.domain.now _ c.requires.live.there).2 in
     let there = ap (λ (t : State g.row.T.Denot g.row.U.Denot). t.subscribers c.args.self.id) (it.2).state ∙ has.1 in
     subscriber-close-spends {T = g.row.T.Denot} {U = g.row.U.Denot} c.args.domain.now (keeping _ c.close_subscriber.new.state) it.0 it.1 it.2 c.args.self.id has.0
     (returns-clause-closed g c it.0 it.1 has.0 it.2 there) (subscriber_key c.args.self) refl
@@ -43,10 +39,10 @@ returns-clause-spent g c =
 pub returns-clause-stays : goal.returns-clause-stays
 returns-clause-stays g c =
     let it = always-shown {T = g.row.T.Denot} {U = g.row.U.Denot} c.domain.inside.state c.args.domain.now c.domain.invariant c.domain.view_is in
-    let has = (subscriber-parts c.args.domain.now _ c.requires.live).2 in
+    let has = (subscriber-parts c.args.domain.now _ c.requires.live.there).2 in
     let there = ap (λ (t : State g.row.T.Denot g.row.U.Denot). t.subscribers c.args.self.id) (it.2).state ∙ has.1 in
     subscriber-close-stays {T = g.row.T.Denot} {U = g.row.U.Denot} c.args.domain.now (keeping _ c.close_subscriber.new.state) it.0 it.1 it.2 c.args.self.id has.0
-    (returns-clause-closed g c it.0 it.1 has.0 it.2 there)
+    (returns-clause-closed g c it.0 it.1 has.0 it.2 there) there
     (other-subscriber-boxes c.domain.inside.state c.close_subscriber.new.state c.args.domain.now c.domain.view_is
     (λ q other. c.remove.ensures.others q (λ same. other (same ∙ c.value.ensures))))
 
@@ -57,7 +53,7 @@ returns-clause-unboxed g c = subscriber-box-is _ c.close_subscriber.new.state c.
 pub returns-clause-none : goal.returns-clause-none
 returns-clause-none g c =
     let it = always-shown {T = g.row.T.Denot} {U = g.row.U.Denot} c.domain.inside.state c.args.domain.now c.domain.invariant c.domain.view_is in
-    let has = (subscriber-parts c.args.domain.now _ c.requires.live).2 in
+    let has = (subscriber-parts c.args.domain.now _ c.requires.live.there).2 in
     let there = ap (λ (t : State g.row.T.Denot g.row.U.Denot). t.subscribers c.args.self.id) (it.2).state ∙ has.1 in
     subscriber-close-none {T = g.row.T.Denot} {U = g.row.U.Denot} c.args.domain.now (keeping _ c.close_subscriber.new.state) it.0 it.1 it.2 c.args.self.id has.0
     (returns-clause-closed g c it.0 it.1 has.0 it.2 there) c.args.self refl
@@ -65,7 +61,7 @@ returns-clause-none g c =
 pub returns-clause-others : goal.returns-clause-others
 returns-clause-others g c =
     let it = always-shown {T = g.row.T.Denot} {U = g.row.U.Denot} c.domain.inside.state c.args.domain.now c.domain.invariant c.domain.view_is in
-    let has = (subscriber-parts c.args.domain.now _ c.requires.live).2 in
+    let has = (subscriber-parts c.args.domain.now _ c.requires.live.there).2 in
     let there = ap (λ (t : State g.row.T.Denot g.row.U.Denot). t.subscribers c.args.self.id) (it.2).state ∙ has.1 in
     subscriber-close-others {T = g.row.T.Denot} {U = g.row.U.Denot} c.args.domain.now (keeping _ c.close_subscriber.new.state) it.0 it.1 it.2 c.args.self.id has.0
     (returns-clause-closed g c it.0 it.1 has.0 it.2 there) c.args.self refl
@@ -73,7 +69,7 @@ returns-clause-others g c =
 pub returns-clause-up_to_date : goal.returns-clause-up_to_date
 returns-clause-up_to_date g c =
     let it = always-shown {T = g.row.T.Denot} {U = g.row.U.Denot} c.domain.inside.state c.args.domain.now c.domain.invariant c.domain.view_is in
-    let has = (subscriber-parts c.args.domain.now _ c.requires.live).2 in
+    let has = (subscriber-parts c.args.domain.now _ c.requires.live.there).2 in
     let there = ap (λ (t : State g.row.T.Denot g.row.U.Denot). t.subscribers c.args.self.id) (it.2).state ∙ has.1 in
     subscriber-close-leaves {T = g.row.T.Denot} {U = g.row.U.Denot} c.args.domain.now (keeping _ c.close_subscriber.new.state) it.0 it.1 it.2 c.args.self.id has.0
     (returns-clause-closed g c it.0 it.1 has.0 it.2 there) c.args.self refl
@@ -81,7 +77,7 @@ returns-clause-up_to_date g c =
 pub returns-clause-loans_left : goal.returns-clause-loans_left
 returns-clause-loans_left g c =
     let it = always-shown {T = g.row.T.Denot} {U = g.row.U.Denot} c.domain.inside.state c.args.domain.now c.domain.invariant c.domain.view_is in
-    let has = (subscriber-parts c.args.domain.now _ c.requires.live).2 in
+    let has = (subscriber-parts c.args.domain.now _ c.requires.live.there).2 in
     let there = ap (λ (t : State g.row.T.Denot g.row.U.Denot). t.subscribers c.args.self.id) (it.2).state ∙ has.1 in
     subscriber-close-left {T = g.row.T.Denot} {U = g.row.U.Denot} c.args.domain.now (keeping _ c.close_subscriber.new.state) it.0 it.0 it.1 _ it.2
     (returns-clause-closed g c it.0 it.1 has.0 it.2 there) c.args.self.id has.0 refl
@@ -89,7 +85,7 @@ returns-clause-loans_left g c =
 pub returns-clause-connections : goal.returns-clause-connections
 returns-clause-connections g c =
     let it = always-shown {T = g.row.T.Denot} {U = g.row.U.Denot} c.domain.inside.state c.args.domain.now c.domain.invariant c.domain.view_is in
-    let has = (subscriber-parts c.args.domain.now _ c.requires.live).2 in
+    let has = (subscriber-parts c.args.domain.now _ c.requires.live.there).2 in
     let there = ap (λ (t : State g.row.T.Denot g.row.U.Denot). t.subscribers c.args.self.id) (it.2).state ∙ has.1 in
     subscriber-close-connections {T = g.row.T.Denot} {U = g.row.U.Denot} c.args.domain.now (keeping _ c.close_subscriber.new.state) it.0 it.1 it.2 c.args.self.id has.0
     (returns-clause-closed g c it.0 it.1 has.0 it.2 there)
@@ -97,7 +93,7 @@ returns-clause-connections g c =
 pub returns-clause-room : goal.returns-clause-room
 returns-clause-room g c =
     let it = always-shown {T = g.row.T.Denot} {U = g.row.U.Denot} c.domain.inside.state c.args.domain.now c.domain.invariant c.domain.view_is in
-    let has = (subscriber-parts c.args.domain.now _ c.requires.live).2 in
+    let has = (subscriber-parts c.args.domain.now _ c.requires.live.there).2 in
     let there = ap (λ (t : State g.row.T.Denot g.row.U.Denot). t.subscribers c.args.self.id) (it.2).state ∙ has.1 in
     subscriber-close-room {T = g.row.T.Denot} {U = g.row.U.Denot} c.args.domain.now (keeping _ c.close_subscriber.new.state) it.0 it.1 it.2 c.args.self.id has.0
     (returns-clause-closed g c it.0 it.1 has.0 it.2 there) there

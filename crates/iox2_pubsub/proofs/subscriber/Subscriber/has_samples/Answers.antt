@@ -5,9 +5,9 @@ use Rattle.iox2_laws.proofs.LoanKeeping.{has_samples_loans}
 use Rattle.iox2_laws.proofs.PortsStay.{update_subscriber_stays}
 use Rattle.iox2_laws.proofs.Waits.{update_subscriber_waits}
 use Rattle.iox2_pubsub.specs.Live.{No_item}
+use Rattle.iox2_pubsub.proofs.PlacedHandles.{subscriber-at-place}
 use Rattle.iox2_pubsub.proofs.CallsStay.{always-shown}
 use Rattle.iox2_pubsub.proofs.QuestionShown.{answer-at, answer-shows, answered}
-use Rattle.iox2_pubsub.proofs.ReceptionShown.{subscriber-missing}
 use Rattle.iox2_pubsub.proofs.StaysBut.{same-boxes, IsSpared}
 use Rattle.iox2_pubsub.proofs.UpdatesStay.{updates-stay}
 use Rattle.iox2_pubsub.proofs.WaitingShown.{answers-say, update-no-more, update-others}
@@ -16,17 +16,12 @@ use Rattle.iox2_pubsub.proofs.KeptReceives.{question-waits}
 use Rattle.iox2_pubsub.proofs.LoansLeftShown.{update-subscriber-left}
 use Rattle.iox2_pubsub.proofs.subscriber.Subscriber.has_samples.Goals as goal
 
-pub unreachable-requires : goal.unreachable-requires
-unreachable-requires g c =
-    subscriber-missing {T = g.row.T.Denot} {U = g.row.U.Denot} c.domain.inside.state c.args.domain.now c.domain.view_is c.args.self.now
-    c.in_default.ensures c.requires.live
-
 pub returns-clause-answers : goal.returns-clause-answers
 returns-clause-answers g c =
     answer-shows {T = g.row.T.Denot} {U = g.row.U.Denot} (answers_of g.F.BackpressureFn.allows g.G.DegradationFn.allows c.args.domain.now.boxes.subscribers) c.args.domain.now c.domain.inside.state c.has_samples_at.new.state c.domain.view_is c.args.self.now.id c.has_samples_at.result
-    (answer-at {T = g.row.T.Denot} {U = g.row.U.Denot} (answers_of g.F.BackpressureFn.allows g.G.DegradationFn.allows c.args.domain.now.boxes.subscribers) c.domain.inside.state c.has_samples_at.new.state c.in-Some.place c.args.self.now.id c.has_samples_at.result
-    c.in-Some.ensures
-    (asked g.F.BackpressureFn.allows g.G.DegradationFn.allows c.domain.inside.state c.has_samples_at.new.state c.args.domain.now c.domain.view_is c.in-Some.place c.has_samples_at.result c.has_samples_at.ensures))
+    (answer-at {T = g.row.T.Denot} {U = g.row.U.Denot} (answers_of g.F.BackpressureFn.allows g.G.DegradationFn.allows c.args.domain.now.boxes.subscribers) c.domain.inside.state c.has_samples_at.new.state c.args.self.now.place c.args.self.now.id c.has_samples_at.result
+    (subscriber-at-place {T = g.row.T.Denot} {U = g.row.U.Denot} c.domain.inside.state c.domain.invariant c.args.domain.now c.domain.view_is c.args.self.now c.requires.live)
+    (asked g.F.BackpressureFn.allows g.G.DegradationFn.allows c.domain.inside.state c.has_samples_at.new.state c.args.domain.now c.domain.view_is c.args.self.now.place c.has_samples_at.result c.has_samples_at.ensures))
 
 pub returns-clause-stays : goal.returns-clause-stays
 returns-clause-stays g c =
@@ -84,3 +79,13 @@ returns-clause-undisturbed g c = λ keeps.
     let step = returns-clause-answers g c it.0 it.1 it.2 in
     let has = answered {T = g.row.T.Denot} {U = g.row.U.Denot} (answers_of g.F.BackpressureFn.allows g.G.DegradationFn.allows c.args.domain.now.boxes.subscribers) it.1 c.args.self.now.id c.has_samples_at.result step.0 step.2 in
     question-waits {T = g.row.T.Denot} {U = g.row.U.Denot} c.args.domain.now (keeping _ c.has_samples_at.new.state) it.0 it.0 it.1 step.0 it.2 step.1 (answers_of g.F.BackpressureFn.allows g.G.DegradationFn.allows c.args.domain.now.boxes.subscribers) c.args.self.now keeps (λ n entry at. at) has.0 (has.2).0
+
+pub has_samples_at-requires-clause-stands : goal.has_samples_at-requires-clause-stands
+has_samples_at-requires-clause-stands g c =
+    let at = subscriber-at-place {T = g.row.T.Denot} {U = g.row.U.Denot} c.domain.inside.state c.domain.invariant c.args.domain.now c.domain.view_is c.args.self.now c.requires.live in
+    (at.0, at.1)
+
+pub invariant_of-domain : goal.invariant_of-domain
+invariant_of-domain g c =
+    let at = subscriber-at-place {T = g.row.T.Denot} {U = g.row.U.Denot} c.domain.inside.state c.domain.invariant c.args.domain.now c.domain.view_is c.args.self.now c.requires.live in
+    (c.has_samples_at.ensures at.0 at.1).1.agrees

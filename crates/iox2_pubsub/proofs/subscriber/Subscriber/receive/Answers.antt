@@ -6,7 +6,8 @@ use Rattle.iox2_domain.specs.Fields.{keeping}
 use Rattle.iox2_pubsub.specs.Live.{IsNewIn, A_sample}
 use Rattle.iox2_pubsub.specs.ReceivedSamples.{received_result}
 use Rattle.iox2_domain.specs.declared.sample_slots.Receipt.{Receipt}
-use Rattle.iox2_pubsub.proofs.ReceptionShown.{reception-at, reception-shows, reception-live, reception-origin, subscriber-missing, error-shows}
+use Rattle.iox2_pubsub.proofs.ReceptionShown.{reception-at, reception-shows, reception-live, reception-origin, error-shows}
+use Rattle.iox2_pubsub.proofs.PlacedHandles.{subscriber-at-place}
 use Rattle.iox2_pubsub.proofs.CallsStay.{always-shown, receive-stays, received-is-new}
 use Rattle.iox2_pubsub.proofs.WaitingShown.{received-fewer, received-none, received-no-more, received-others, received-reads, received-oldest}
 use Rattle.iox2_pubsub.proofs.UpToDateShown.{receive-leaves, received-updated}
@@ -19,44 +20,44 @@ use Rattle.iox2_pubsub.proofs.subscriber.Subscriber.receive.Goals as goal
 pub returns-in_err-receipt-clause-receives : goal.returns-in_err-receipt-clause-receives
 returns-in_err-receipt-clause-receives g c =
     error-shows {T = g.row.T.Denot} {U = g.row.U.Denot} (answers_of g.F.BackpressureFn.allows g.G.DegradationFn.allows c.args.domain.now.boxes.subscribers) c.args.domain.now c.domain.inside.state c.receive_at.new.state c.domain.view_is c.args.self.now.id c.in_err-receipt.field-0.0
-    (reception-at {T = g.row.T.Denot} {U = g.row.U.Denot} (answers_of g.F.BackpressureFn.allows g.G.DegradationFn.allows c.args.domain.now.boxes.subscribers) c.domain.inside.state c.receive_at.new.state c.find_live_subscriber-place.result c.args.self.now.id c.receive_at.result (Err c.in_err-receipt.field-0.0)
-    c.find_live_subscriber-place.ensures c.in_err-receipt.was (received g.F.BackpressureFn.allows g.G.DegradationFn.allows c.domain.inside.state c.receive_at.new.state c.args.domain.now c.domain.view_is c.find_live_subscriber-place.result c.receive_at.result c.receive_at.ensures)) c.from_residual.result c.from_residual.ensures.1
+    (reception-at {T = g.row.T.Denot} {U = g.row.U.Denot} (answers_of g.F.BackpressureFn.allows g.G.DegradationFn.allows c.args.domain.now.boxes.subscribers) c.domain.inside.state c.receive_at.new.state c.args.self.now.place c.args.self.now.id c.receive_at.result (Err c.in_err-receipt.field-0.0)
+    (subscriber-at-place {T = g.row.T.Denot} {U = g.row.U.Denot} c.domain.inside.state c.domain.invariant c.args.domain.now c.domain.view_is c.args.self.now c.requires.live) c.in_err-receipt.was (received g.F.BackpressureFn.allows g.G.DegradationFn.allows c.domain.inside.state c.receive_at.new.state c.args.domain.now c.domain.view_is c.args.self.now.place c.receive_at.result c.receive_at.ensures)) c.from_residual.result c.from_residual.ensures.1
 
 pub returns-in_default-clause-receives : goal.returns-in_default-clause-receives
 returns-in_default-clause-receives g c =
     reception-shows {T = g.row.T.Denot} {U = g.row.U.Denot} (answers_of g.F.BackpressureFn.allows g.G.DegradationFn.allows c.args.domain.now.boxes.subscribers) c.args.domain.now c.domain.inside.state c.receive_at.new.state c.domain.view_is c.args.self.now.id (Ok None)
-    (reception-at {T = g.row.T.Denot} {U = g.row.U.Denot} (answers_of g.F.BackpressureFn.allows g.G.DegradationFn.allows c.args.domain.now.boxes.subscribers) c.domain.inside.state c.receive_at.new.state c.find_live_subscriber-place.result c.args.self.now.id c.receive_at.result (Ok None)
-    c.find_live_subscriber-place.ensures (c.in_ok-receipt.was ∙ ap (λ (o : Option Receipt). Ok o) c.in_default.is) (received g.F.BackpressureFn.allows g.G.DegradationFn.allows c.domain.inside.state c.receive_at.new.state c.args.domain.now c.domain.view_is c.find_live_subscriber-place.result c.receive_at.result c.receive_at.ensures))
+    (reception-at {T = g.row.T.Denot} {U = g.row.U.Denot} (answers_of g.F.BackpressureFn.allows g.G.DegradationFn.allows c.args.domain.now.boxes.subscribers) c.domain.inside.state c.receive_at.new.state c.args.self.now.place c.args.self.now.id c.receive_at.result (Ok None)
+    (subscriber-at-place {T = g.row.T.Denot} {U = g.row.U.Denot} c.domain.inside.state c.domain.invariant c.args.domain.now c.domain.view_is c.args.self.now c.requires.live) (c.in_ok-receipt.was ∙ ap (λ (o : Option Receipt). Ok o) c.in_default.is) (received g.F.BackpressureFn.allows g.G.DegradationFn.allows c.domain.inside.state c.receive_at.new.state c.args.domain.now c.domain.view_is c.args.self.now.place c.receive_at.result c.receive_at.ensures))
 
 pub returns-clause-receives : goal.returns-clause-receives
 returns-clause-receives g c =
     let receipt = c.in-Some.receipt in
     reception-shows {T = g.row.T.Denot} {U = g.row.U.Denot} (answers_of g.F.BackpressureFn.allows g.G.DegradationFn.allows c.args.domain.now.boxes.subscribers) c.args.domain.now c.domain.inside.state c.receive_at.new.state c.domain.view_is c.args.self.now.id (Ok (Some receipt))
-    (reception-at {T = g.row.T.Denot} {U = g.row.U.Denot} (answers_of g.F.BackpressureFn.allows g.G.DegradationFn.allows c.args.domain.now.boxes.subscribers) c.domain.inside.state c.receive_at.new.state c.find_live_subscriber-place.result c.args.self.now.id c.receive_at.result (Ok (Some receipt))
-    c.find_live_subscriber-place.ensures (c.in_ok-receipt.was ∙ ap (λ (o : Option Receipt). Ok o) c.in-Some.is) (received g.F.BackpressureFn.allows g.G.DegradationFn.allows c.domain.inside.state c.receive_at.new.state c.args.domain.now c.domain.view_is c.find_live_subscriber-place.result c.receive_at.result c.receive_at.ensures))
+    (reception-at {T = g.row.T.Denot} {U = g.row.U.Denot} (answers_of g.F.BackpressureFn.allows g.G.DegradationFn.allows c.args.domain.now.boxes.subscribers) c.domain.inside.state c.receive_at.new.state c.args.self.now.place c.args.self.now.id c.receive_at.result (Ok (Some receipt))
+    (subscriber-at-place {T = g.row.T.Denot} {U = g.row.U.Denot} c.domain.inside.state c.domain.invariant c.args.domain.now c.domain.view_is c.args.self.now c.requires.live) (c.in_ok-receipt.was ∙ ap (λ (o : Option Receipt). Ok o) c.in-Some.is) (received g.F.BackpressureFn.allows g.G.DegradationFn.allows c.domain.inside.state c.receive_at.new.state c.args.domain.now c.domain.view_is c.args.self.now.place c.receive_at.result c.receive_at.ensures))
 
 pub returns-clause-live : goal.returns-clause-live
 returns-clause-live g c =
     let receipt = c.in-Some.receipt in
     reception-live {T = g.row.T.Denot} {U = g.row.U.Denot} (answers_of g.F.BackpressureFn.allows g.G.DegradationFn.allows c.args.domain.now.boxes.subscribers) c.args.domain.now c.domain.inside.state c.receive_at.new.state c.domain.view_is c.args.self.now
     (record { service_id = c.args.self.now.service_id; origin = receipt.publisher; sample = receipt.sample }) receipt
-    (reception-at {T = g.row.T.Denot} {U = g.row.U.Denot} (answers_of g.F.BackpressureFn.allows g.G.DegradationFn.allows c.args.domain.now.boxes.subscribers) c.domain.inside.state c.receive_at.new.state c.find_live_subscriber-place.result c.args.self.now.id c.receive_at.result (Ok (Some receipt))
-    c.find_live_subscriber-place.ensures (c.in_ok-receipt.was ∙ ap (λ (o : Option Receipt). Ok o) c.in-Some.is) (received g.F.BackpressureFn.allows g.G.DegradationFn.allows c.domain.inside.state c.receive_at.new.state c.args.domain.now c.domain.view_is c.find_live_subscriber-place.result c.receive_at.result c.receive_at.ensures)) refl refl refl c.requires.live
+    (reception-at {T = g.row.T.Denot} {U = g.row.U.Denot} (answers_of g.F.BackpressureFn.allows g.G.DegradationFn.allows c.args.domain.now.boxes.subscribers) c.domain.inside.state c.receive_at.new.state c.args.self.now.place c.args.self.now.id c.receive_at.result (Ok (Some receipt))
+    (subscriber-at-place {T = g.row.T.Denot} {U = g.row.U.Denot} c.domain.inside.state c.domain.invariant c.args.domain.now c.domain.view_is c.args.self.now c.requires.live) (c.in_ok-receipt.was ∙ ap (λ (o : Option Receipt). Ok o) c.in-Some.is) (received g.F.BackpressureFn.allows g.G.DegradationFn.allows c.domain.inside.state c.receive_at.new.state c.args.domain.now c.domain.view_is c.args.self.now.place c.receive_at.result c.receive_at.ensures)) refl refl refl c.requires.live
 
 pub returns-clause-origin : goal.returns-clause-origin
 returns-clause-origin g c =
     let receipt = c.in-Some.receipt in
     reception-origin {T = g.row.T.Denot} {U = g.row.U.Denot} (answers_of g.F.BackpressureFn.allows g.G.DegradationFn.allows c.args.domain.now.boxes.subscribers) c.args.domain.now c.domain.inside.state c.receive_at.new.state c.domain.view_is c.args.self.now
     (record { service_id = c.args.self.now.service_id; origin = receipt.publisher; sample = receipt.sample }) receipt
-    (reception-at {T = g.row.T.Denot} {U = g.row.U.Denot} (answers_of g.F.BackpressureFn.allows g.G.DegradationFn.allows c.args.domain.now.boxes.subscribers) c.domain.inside.state c.receive_at.new.state c.find_live_subscriber-place.result c.args.self.now.id c.receive_at.result (Ok (Some receipt))
-    c.find_live_subscriber-place.ensures (c.in_ok-receipt.was ∙ ap (λ (o : Option Receipt). Ok o) c.in-Some.is) (received g.F.BackpressureFn.allows g.G.DegradationFn.allows c.domain.inside.state c.receive_at.new.state c.args.domain.now c.domain.view_is c.find_live_subscriber-place.result c.receive_at.result c.receive_at.ensures)) refl refl
+    (reception-at {T = g.row.T.Denot} {U = g.row.U.Denot} (answers_of g.F.BackpressureFn.allows g.G.DegradationFn.allows c.args.domain.now.boxes.subscribers) c.domain.inside.state c.receive_at.new.state c.args.self.now.place c.args.self.now.id c.receive_at.result (Ok (Some receipt))
+    (subscriber-at-place {T = g.row.T.Denot} {U = g.row.U.Denot} c.domain.inside.state c.domain.invariant c.args.domain.now c.domain.view_is c.args.self.now c.requires.live) (c.in_ok-receipt.was ∙ ap (λ (o : Option Receipt). Ok o) c.in-Some.is) (received g.F.BackpressureFn.allows g.G.DegradationFn.allows c.domain.inside.state c.receive_at.new.state c.args.domain.now c.domain.view_is c.args.self.now.place c.receive_at.result c.receive_at.ensures)) refl refl
 
 pub returns-clause-subscriber : goal.returns-clause-subscriber
 returns-clause-subscriber g c =
     let receives =
-    reception-at {T = g.row.T.Denot} {U = g.row.U.Denot} (answers_of g.F.BackpressureFn.allows g.G.DegradationFn.allows c.args.domain.now.boxes.subscribers) c.domain.inside.state c.receive_at.new.state c.find_live_subscriber-place.result c.args.self.now.id c.receive_at.result (Ok (Some c.in-Some.receipt))
-    c.find_live_subscriber-place.ensures (c.in_ok-receipt.was ∙ ap (λ (o : Option Receipt). Ok o) c.in-Some.is)
-    (received g.F.BackpressureFn.allows g.G.DegradationFn.allows c.domain.inside.state c.receive_at.new.state c.args.domain.now c.domain.view_is c.find_live_subscriber-place.result c.receive_at.result c.receive_at.ensures) in
+    reception-at {T = g.row.T.Denot} {U = g.row.U.Denot} (answers_of g.F.BackpressureFn.allows g.G.DegradationFn.allows c.args.domain.now.boxes.subscribers) c.domain.inside.state c.receive_at.new.state c.args.self.now.place c.args.self.now.id c.receive_at.result (Ok (Some c.in-Some.receipt))
+    (subscriber-at-place {T = g.row.T.Denot} {U = g.row.U.Denot} c.domain.inside.state c.domain.invariant c.args.domain.now c.domain.view_is c.args.self.now c.requires.live) (c.in_ok-receipt.was ∙ ap (λ (o : Option Receipt). Ok o) c.in-Some.is)
+    (received g.F.BackpressureFn.allows g.G.DegradationFn.allows c.domain.inside.state c.receive_at.new.state c.args.domain.now c.domain.view_is c.args.self.now.place c.receive_at.result c.receive_at.ensures) in
     (receives.3).its
 
 pub returns-clause-new : goal.returns-clause-new
@@ -84,11 +85,6 @@ returns-clause-stays g c =
     let it = always-shown {T = g.row.T.Denot} {U = g.row.U.Denot} c.domain.inside.state c.args.domain.now c.domain.invariant c.domain.view_is in
     let step = returns-clause-receives g c it.0 it.1 it.2 in
     receive-stays {T = g.row.T.Denot} {U = g.row.U.Denot} c.args.domain.now _ it.0 it.1 it.2 (answers_of g.F.BackpressureFn.allows g.G.DegradationFn.allows c.args.domain.now.boxes.subscribers) c.args.self.now.id (Got_sample c.in-Some.receipt.publisher c.in-Some.receipt.sample.number) step.0 step.1 step.2 (same-boxes c.domain.inside.state c.receive_at.new.state c.args.domain.now c.domain.view_is)
-
-pub find_live_subscriber-place-requires : goal.find_live_subscriber-place-requires
-find_live_subscriber-place-requires g c = λ none.
-    subscriber-missing {T = g.row.T.Denot} {U = g.row.U.Denot} c.domain.inside.state c.args.domain.now c.domain.view_is c.args.self.now
-    none c.requires.live
 
 pub returns-clause-fewer : goal.returns-clause-fewer
 returns-clause-fewer g c =
@@ -235,3 +231,23 @@ returns-clause-rest g c = λ keeps other away.
 
 pub returns-clause-only : goal.returns-clause-only
 returns-clause-only g c = λ values is. returns-clause-reads g c values (one-is-all _ values is)
+
+pub receive_at-requires-clause-stands : goal.receive_at-requires-clause-stands
+receive_at-requires-clause-stands g c =
+    let at = subscriber-at-place {T = g.row.T.Denot} {U = g.row.U.Denot} c.domain.inside.state c.domain.invariant c.args.domain.now c.domain.view_is c.args.self.now c.requires.live in
+    (at.0, at.1)
+
+pub invariant_of-domain : goal.invariant_of-domain
+invariant_of-domain g c =
+    let at = subscriber-at-place {T = g.row.T.Denot} {U = g.row.U.Denot} c.domain.inside.state c.domain.invariant c.args.domain.now c.domain.view_is c.args.self.now c.requires.live in
+    (c.receive_at.ensures at.0 at.1).1.agrees
+
+pub invariant_of-domain-in_default : goal.invariant_of-domain-in_default
+invariant_of-domain-in_default g c =
+    let at = subscriber-at-place {T = g.row.T.Denot} {U = g.row.U.Denot} c.domain.inside.state c.domain.invariant c.args.domain.now c.domain.view_is c.args.self.now c.requires.live in
+    (c.receive_at.ensures at.0 at.1).1.agrees
+
+pub invariant_of-domain-2 : goal.invariant_of-domain-2
+invariant_of-domain-2 g c =
+    let at = subscriber-at-place {T = g.row.T.Denot} {U = g.row.U.Denot} c.domain.inside.state c.domain.invariant c.args.domain.now c.domain.view_is c.args.self.now c.requires.live in
+    (c.receive_at.ensures at.0 at.1).1.agrees

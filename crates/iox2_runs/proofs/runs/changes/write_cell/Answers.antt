@@ -31,7 +31,7 @@ returns-in-Unwritten-clause-leaves g c =
     leaves-spending {T = g.row.T.Denot} {U = g.row.U.Denot} c.args.domain.now c.write_cell_at-is_there.new.domain c.args.table.now.items c.put.new.table.items c.args.of
     (Unwritten c.in-Unwritten.loan) (Unwritten c.write_cell_at-is_there.result.1) (sym c.take.ensures.made ∙ c.in-Unwritten.is) (stays-but-more _ _ _ _ c.write_cell_at-is_there.ensures.stays)
     (λ start fresh. rw c.write_cell_at-is_there.ensures.same fresh)
-    (c.put.ensures.items ∙ ap (λ (t : List Made). slice_set t c.args.of (Unwritten c.write_cell_at-is_there.result.1)) c.take.ensures.items ∙ set_again c.args.table.now.items c.args.of Nothing (Unwritten c.write_cell_at-is_there.result.1))
+    (c.put.ensures.items ∙ ap (λ (t : List Made). slice_set t c.args.of (Unwritten c.write_cell_at-is_there.result.1)) c.take.ensures.items ∙ set_again c.args.table.now.items c.args.of Nothing (Unwritten c.write_cell_at-is_there.result.1)) tt
 
 pub returns-in_default-clause-leaves : goal.returns-in_default-clause-leaves
 returns-in_default-clause-leaves g c =

@@ -29,7 +29,7 @@ returns-in-Unwritten-clause-leaves g c =
     leaves-spending {T = g.row.T.Denot} {U = g.row.U.Denot} c.args.domain.now (with_user_header c.args.domain.now c.in-Unwritten.loan.loan.number c.args.value) c.args.table.now.items c.put.new.table.items c.args.of
     (Unwritten c.in-Unwritten.loan) (Unwritten c.user_header_mut.new.sample) (sym c.take.ensures.made ∙ c.in-Unwritten.is) (stays-but-more _ _ _ _ (c.user_header_mut.ensures.stays c.args.value))
     (λ start fresh. rw c.user_header_mut.ensures.same fresh)
-    (c.put.ensures.items ∙ ap (λ (t : List Made). slice_set t c.args.of (Unwritten c.user_header_mut.new.sample)) c.take.ensures.items ∙ set_again c.args.table.now.items c.args.of Nothing (Unwritten c.user_header_mut.new.sample))
+    (c.put.ensures.items ∙ ap (λ (t : List Made). slice_set t c.args.of (Unwritten c.user_header_mut.new.sample)) c.take.ensures.items ∙ set_again c.args.table.now.items c.args.of Nothing (Unwritten c.user_header_mut.new.sample)) tt
 
 pub user_header_mut-requires-in-Written : goal.user_header_mut-requires-in-Written
 user_header_mut-requires-in-Written g c = record {
@@ -48,7 +48,7 @@ returns-in-Written-clause-leaves g c =
     leaves-spending {T = g.row.T.Denot} {U = g.row.U.Denot} c.args.domain.now (with_user_header c.args.domain.now c.in-Written.loan.loan.number c.args.value) c.args.table.now.items c.put-in-Written.new.table.items c.args.of
     (Written c.in-Written.loan) (Written c.user_header_mut-in-Written.new.sample) (sym c.take.ensures.made ∙ c.in-Written.is) (stays-but-more _ _ _ _ (c.user_header_mut-in-Written.ensures.stays c.args.value))
     (λ start fresh. rw c.user_header_mut-in-Written.ensures.same fresh)
-    (c.put-in-Written.ensures.items ∙ ap (λ (t : List Made). slice_set t c.args.of (Written c.user_header_mut-in-Written.new.sample)) c.take.ensures.items ∙ set_again c.args.table.now.items c.args.of Nothing (Written c.user_header_mut-in-Written.new.sample))
+    (c.put-in-Written.ensures.items ∙ ap (λ (t : List Made). slice_set t c.args.of (Written c.user_header_mut-in-Written.new.sample)) c.take.ensures.items ∙ set_again c.args.table.now.items c.args.of Nothing (Written c.user_header_mut-in-Written.new.sample)) tt
 
 pub returns-in_default-clause-carries : goal.returns-in_default-clause-carries
 returns-in_default-clause-carries g c =

@@ -32,7 +32,7 @@ returns-in_default-clause-carries g c =
 pub returns-in-Subscriber-clause-leaves : goal.returns-in-Subscriber-clause-leaves
 returns-in-Subscriber-clause-leaves g c =
     leaves-spending {T = g.row.T.Denot} {U = g.row.U.Denot} c.args.domain.now c.close-in-Subscriber.new.domain c.args.table.now.items c.take.new.table.items c.args.of
-    (MadeSubscriber c.in-Subscriber.subscriber) Nothing (sym c.take.ensures.made ∙ c.in-Subscriber.is) c.close-in-Subscriber.ensures.stays (λ start new. nothing-is-new start) c.take.ensures.items
+    (MadeSubscriber c.in-Subscriber.subscriber) Nothing (sym c.take.ensures.made ∙ c.in-Subscriber.is) c.close-in-Subscriber.ensures.stays (λ start new. nothing-is-new start) c.take.ensures.items tt
 
 pub returns-in_default-clause-leaves : goal.returns-in_default-clause-leaves
 returns-in_default-clause-leaves g c =
@@ -68,4 +68,4 @@ returns-else-is_blocked-clause-carries g c =
 pub returns-else-is_blocked-clause-leaves : goal.returns-else-is_blocked-clause-leaves
 returns-else-is_blocked-clause-leaves g c =
     leaves-spending {T = g.row.T.Denot} {U = g.row.U.Denot} c.args.domain.now c.close.new.domain c.args.table.now.items c.take.new.table.items c.args.of
-    (MadePublisher c.in-Publisher.publisher) Nothing (sym c.take.ensures.made ∙ c.in-Publisher.is) c.close.ensures.stays (λ start new. nothing-is-new start) c.take.ensures.items
+    (MadePublisher c.in-Publisher.publisher) Nothing (sym c.take.ensures.made ∙ c.in-Publisher.is) c.close.ensures.stays (λ start new. nothing-is-new start) c.take.ensures.items tt

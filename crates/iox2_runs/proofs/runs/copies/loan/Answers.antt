@@ -57,11 +57,11 @@ pub returns-in-Ok-clause-leaves : goal.returns-in-Ok-clause-leaves
 returns-in-Ok-clause-leaves g c =
     leaves-lending {T = g.row.T.Denot} {U = g.row.U.Denot} c.args.domain.now c.loan.new.domain c.args.table.now c.args.table.now refl c.args.of c.in-Publisher.publisher (Written c.in-Ok.loan) (A_loan c.in-Ok.loan.loan.number)
     (looked c.args.table.now c.args.of c.get.result c.in-Some.made _ c.get.ensures.lookup c.in-Some.is c.in-Publisher.is)
-    c.loan.ensures.stays c.in-Ok.ensures.new (ap (λ (p : ℕ). Both (A_loan c.in-Ok.loan.loan.number) (A_blocked_send p)) c.in-Ok.ensures.publisher)
+    c.loan.ensures.stays c.in-Ok.ensures.new (ap (λ (p : ℕ). Both (A_loan c.in-Ok.loan.loan.number) (A_blocked_send p)) c.in-Ok.ensures.publisher) tt
 
 pub returns-in-Err-clause-leaves : goal.returns-in-Err-clause-leaves
 returns-in-Err-clause-leaves g c =
-    leaves-making {T = g.row.T.Denot} {U = g.row.U.Denot} c.args.domain.now c.loan.new.domain c.args.table.now c.loan.ensures.stays Nothing (nothing-is-new {T = g.row.T.Denot} {U = g.row.U.Denot} c.args.domain.now)
+    leaves-making {T = g.row.T.Denot} {U = g.row.U.Denot} c.args.domain.now c.loan.new.domain c.args.table.now c.loan.ensures.stays Nothing (nothing-is-new {T = g.row.T.Denot} {U = g.row.U.Denot} c.args.domain.now) tt
 
 pub returns-in_default-made-clause-leaves : goal.returns-in_default-made-clause-leaves
 returns-in_default-made-clause-leaves g c =

@@ -38,7 +38,7 @@ returns-in-Unwritten-clause-leaves g c =
     leaves-spending {T = g.row.T.Denot} {U = g.row.U.Denot} c.args.domain.now c.write_cells-loan.new.domain c.args.table.now.items c.put.new.table.items c.args.of
     (Unwritten c.in-Unwritten.loan) (Written c.write_cells-loan.result) (sym c.take.ensures.made ∙ c.in-Unwritten.is) (stays-but-more _ _ _ _ c.write_cells-loan.ensures.stays)
     (λ start new. subst (λ (k : Key). IsNewIn start (Both (A_loan k.message) (A_blocked_send k.port))) (sym c.write_cells-loan.ensures.key) new)
-    (c.put.ensures.items ∙ ap (λ (t : List Made). slice_set t c.args.of (Written c.write_cells-loan.result)) c.take.ensures.items ∙ set_again c.args.table.now.items c.args.of Nothing (Written c.write_cells-loan.result))
+    (c.put.ensures.items ∙ ap (λ (t : List Made). slice_set t c.args.of (Written c.write_cells-loan.result)) c.take.ensures.items ∙ set_again c.args.table.now.items c.args.of Nothing (Written c.write_cells-loan.result)) tt
 
 pub returns-in_default-clause-leaves : goal.returns-in_default-clause-leaves
 returns-in_default-clause-leaves g c =

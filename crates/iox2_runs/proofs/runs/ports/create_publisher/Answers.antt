@@ -17,8 +17,8 @@ returns-in-Err-clause-carries g c =
 
 pub returns-in-Ok-clause-leaves : goal.returns-in-Ok-clause-leaves
 returns-in-Ok-clause-leaves g c =
-    leaves-making {T = g.row.T.Denot} {U = g.row.U.Denot} c.args.domain.now c.make_publisher.new.domain c.args.table.now c.make_publisher.ensures.stays (MadePublisher c.in-Ok.publisher) c.in-Ok.ensures.new
+    leaves-making {T = g.row.T.Denot} {U = g.row.U.Denot} c.args.domain.now c.make_publisher.new.domain c.args.table.now c.make_publisher.ensures.stays (MadePublisher c.in-Ok.publisher) c.in-Ok.ensures.new c.in-Ok.ensures.ready.placed
 
 pub returns-in-Err-clause-leaves : goal.returns-in-Err-clause-leaves
 returns-in-Err-clause-leaves g c =
-    leaves-making {T = g.row.T.Denot} {U = g.row.U.Denot} c.args.domain.now c.make_publisher.new.domain c.args.table.now c.make_publisher.ensures.stays Nothing (nothing-is-new {T = g.row.T.Denot} {U = g.row.U.Denot} c.args.domain.now)
+    leaves-making {T = g.row.T.Denot} {U = g.row.U.Denot} c.args.domain.now c.make_publisher.new.domain c.args.table.now c.make_publisher.ensures.stays Nothing (nothing-is-new {T = g.row.T.Denot} {U = g.row.U.Denot} c.args.domain.now) tt

@@ -79,13 +79,13 @@ returns-in-Ok-clause-leaves g c =
     (back c.args.table.now.items c.take.new.table.items c.put-in-Publisher.new.table.items c.args.of (MadePublisher c.into_inner.result) c.take.ensures.items
     (sym c.take.ensures.made ∙ c.in-Publisher.is ∙ ap (λ (it : PublisherHandle). MadePublisher it) (sym (c.into_inner.ensures ∙ c.new-publisher.ensures))) c.put-in-Publisher.ensures.items)
     c.args.of c.new-publisher.result.publisher (Unwritten c.in-Ok.loan.sample) (unwritten_loan c.in-Ok.loan.sample)
-    (sym c.take.ensures.made ∙ c.in-Publisher.is ∙ ap (λ (it : PublisherHandle). MadePublisher it) (sym c.new-publisher.ensures)) c.loan_slice_uninit-loaned.ensures.stays new (ap (λ (p : ℕ). Both (unwritten_loan c.in-Ok.loan.sample) (A_blocked_send p)) publisher))
+    (sym c.take.ensures.made ∙ c.in-Publisher.is ∙ ap (λ (it : PublisherHandle). MadePublisher it) (sym c.new-publisher.ensures)) c.loan_slice_uninit-loaned.ensures.stays new (ap (λ (p : ℕ). Both (unwritten_loan c.in-Ok.loan.sample) (A_blocked_send p)) publisher) tt)
 
 pub returns-in-Err-clause-leaves : goal.returns-in-Err-clause-leaves
 returns-in-Err-clause-leaves g c =
     leaves-making-here {T = g.row.T.Denot} {U = g.row.U.Denot} c.args.domain.now c.loan_slice_uninit-loaned.new.domain c.args.table.now.items c.put-in-Publisher.new.table.items
     (back c.args.table.now.items c.take.new.table.items c.put-in-Publisher.new.table.items c.args.of (MadePublisher c.into_inner.result) c.take.ensures.items
-    (sym c.take.ensures.made ∙ c.in-Publisher.is ∙ ap (λ (it : PublisherHandle). MadePublisher it) (sym (c.into_inner.ensures ∙ c.new-publisher.ensures))) c.put-in-Publisher.ensures.items) c.loan_slice_uninit-loaned.ensures.stays Nothing (nothing-is-new {T = g.row.T.Denot} {U = g.row.U.Denot} c.args.domain.now)
+    (sym c.take.ensures.made ∙ c.in-Publisher.is ∙ ap (λ (it : PublisherHandle). MadePublisher it) (sym (c.into_inner.ensures ∙ c.new-publisher.ensures))) c.put-in-Publisher.ensures.items) c.loan_slice_uninit-loaned.ensures.stays Nothing (nothing-is-new {T = g.row.T.Denot} {U = g.row.U.Denot} c.args.domain.now) tt
 
 pub returns-in_default-clause-leaves : goal.returns-in_default-clause-leaves
 returns-in_default-clause-leaves g c =

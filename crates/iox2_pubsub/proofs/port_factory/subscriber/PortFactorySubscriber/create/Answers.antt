@@ -35,7 +35,7 @@ returns-clause-live g c =
     made-live {T = g.row.T.Denot} {U = g.row.U.Denot} (answers_of g.F.BackpressureFn.allows g.G.DegradationFn.allows (c.create_subscriber.new.boxes).boxes) c.domain.inside.state c.create_subscriber.new.state (asked_for c.self.inside.options) (record { publishers = (c.domain.inside.boxes).boxes; subscribers = (c.create_subscriber.new.boxes).boxes }) c.in_ok-port.ensures.step
     (record { service_id = c.config.result.now.service_id; id = c.in_ok-port.port.id; place = c.in_ok-port.port.place; buffer_size = c.max.result })
     (ap (λ (config : ServiceConfig). config.service_id) c.config.ensures)
-    c.in_ok-port.ensures.id
+    c.in_ok-port.ensures.id c.in_ok-port.ensures.stands
 
 pub returns-in_err-port-clause-stays : goal.returns-in_err-port-clause-stays
 returns-in_err-port-clause-stays g c =
@@ -110,11 +110,11 @@ returns-clause-boxed g c =
     (c.in_ok-port.ensures.degrades ∙ ap (λ (f : SubscriberFactory g.row.G.Denot). f.box) c.self.view_is)
 
 pub returns-clause-awaits : goal.returns-clause-awaits
-returns-clause-awaits g c = λ none publisher ready.
+returns-clause-awaits g c = λ none publisher there.
     let it = always-shown {T = g.row.T.Denot} {U = g.row.U.Denot} c.domain.inside.state c.args.domain.now c.domain.invariant c.domain.view_is in
     let step = returns-clause-creates g c it.0 it.1 it.2 in
     made-awaits {T = g.row.T.Denot} {U = g.row.U.Denot} c.args.domain.now _ it.0 it.0 it.1 step.0 it.2 step.1 (answers_of g.F.BackpressureFn.allows g.G.DegradationFn.allows (c.create_subscriber.new.boxes).boxes) c.args.self.settings (step.2).0
-    (record { service_id = c.config.result.now.service_id; id = c.in_ok-port.port.id; place = c.in_ok-port.port.place; buffer_size = c.max.result }) (step.2).1 none publisher ready.there
+    (record { service_id = c.config.result.now.service_id; id = c.in_ok-port.port.id; place = c.in_ok-port.port.place; buffer_size = c.max.result }) (step.2).1 none publisher there
 
 pub returns-clause-room : goal.returns-clause-room
 returns-clause-room g c =

@@ -15,9 +15,9 @@ use Rattle.iox2_domain.specs.Connects.{UpdatesPublisher}
 use Rattle.iox2_domain.specs.Fields.{keeping}
 use Rattle.iox2_pubsub.specs.UpdateCalls.{returned_failure}
 use Rattle.iox2_pubsub.specs.Live.{No_item, publisher_key}
+use Rattle.iox2_pubsub.proofs.PlacedHandles.{publisher-at-place}
 use Rattle.iox2_pubsub.proofs.CallsStay.{always-shown}
 use Rattle.iox2_pubsub.proofs.StaysBut.{IsSpared}
-use Rattle.iox2_pubsub.proofs.UninitLoans.{publisher-missing}
 use Rattle.iox2_pubsub.proofs.UpdateShown.{publisher-update-shows}
 use Rattle.iox2_pubsub.proofs.UpdatesStay.{updates-stay}
 use Rattle.iox2_pubsub.proofs.WaitingShown.{publisher-update-adds}
@@ -26,20 +26,15 @@ use Rattle.iox2_pubsub.proofs.LoansLeftShown.{update-publisher-left}
 use Rattle.iox2_pubsub.proofs.AwaitedShown.{update-connected}
 use Rattle.iox2_pubsub.proofs.publisher.update_connections.PublisherUpdateConnections.update_connections.Goals as goal
 
-pub unreachable-requires : goal.unreachable-requires
-unreachable-requires g c =
-    publisher-missing {T = g.row.T.Denot} {U = g.row.U.Denot} c.domain.inside.state c.args.domain.now c.domain.view_is c.args.self.now
-    c.in_default.ensures c.requires.live.there
-
 pub invariant_of-domain : goal.invariant_of-domain
-invariant_of-domain g c = (c.update_publisher.ensures c.in-Some.ensures.0 c.in-Some.ensures.1).reaches.agrees
+invariant_of-domain g c = (c.update_publisher.ensures (publisher-at-place {T = g.row.T.Denot} {U = g.row.U.Denot} c.domain.inside.state c.domain.invariant c.args.domain.now c.domain.view_is c.args.self.now c.requires.live).0 (publisher-at-place {T = g.row.T.Denot} {U = g.row.U.Denot} c.domain.inside.state c.domain.invariant c.args.domain.now c.domain.view_is c.args.self.now c.requires.live).1).reaches.agrees
 
 pub returns-clause-updates : goal.returns-clause-updates
 returns-clause-updates g c = λ m s shown.
     publisher-update-shows {T = g.row.T.Denot} {U = g.row.U.Denot} (answers_of g.F.BackpressureFn.allows g.G.DegradationFn.allows c.args.domain.now.boxes.publishers) c.args.domain.now c.domain.inside.state c.update_publisher.new.state c.domain.view_is
-    c.in-Some.place c.args.self.now.id m s shown (returned_failure c.outcome_of.result) c.in-Some.ensures
-    (λ x at. subst (UpdatesPublisher (answers_of g.F.BackpressureFn.allows g.G.DegradationFn.allows c.args.domain.now.boxes.publishers) c.domain.inside.state c.in-Some.place x c.update_publisher.new.state) (sym c.outcome_of.ensures)
-    (publisher-updated g.F.BackpressureFn.allows g.G.DegradationFn.allows c.domain.inside.state c.update_publisher.new.state c.args.domain.now c.domain.view_is c.in-Some.place c.update_publisher.result c.update_publisher.ensures x at))
+    c.args.self.now.place c.args.self.now.id m s shown (returned_failure c.outcome_of.result) (publisher-at-place {T = g.row.T.Denot} {U = g.row.U.Denot} c.domain.inside.state c.domain.invariant c.args.domain.now c.domain.view_is c.args.self.now c.requires.live)
+    (λ x at. subst (UpdatesPublisher (answers_of g.F.BackpressureFn.allows g.G.DegradationFn.allows c.args.domain.now.boxes.publishers) c.domain.inside.state c.args.self.now.place x c.update_publisher.new.state) (sym c.outcome_of.ensures)
+    (publisher-updated g.F.BackpressureFn.allows g.G.DegradationFn.allows c.domain.inside.state c.update_publisher.new.state c.args.domain.now c.domain.view_is c.args.self.now.place c.update_publisher.result c.update_publisher.ensures x at))
 
 pub returns-clause-stays : goal.returns-clause-stays
 returns-clause-stays g c =
@@ -50,11 +45,12 @@ returns-clause-stays g c =
     (update_publisher_waits (IsSpared No_item) (answers_of g.F.BackpressureFn.allows g.G.DegradationFn.allows c.args.domain.now.boxes.publishers) it.1 c.args.self.now.id step.0 (returned_failure c.outcome_of.result) step.2) (same-boxes c.domain.inside.state c.update_publisher.new.state c.args.domain.now c.domain.view_is)
 
 pub update_publisher-requires-clause-stands : goal.update_publisher-requires-clause-stands
-update_publisher-requires-clause-stands g c = (c.in-Some.ensures.0, c.in-Some.ensures.1)
+update_publisher-requires-clause-stands g c = ((publisher-at-place {T = g.row.T.Denot} {U = g.row.U.Denot} c.domain.inside.state c.domain.invariant c.args.domain.now c.domain.view_is c.args.self.now c.requires.live).0, (publisher-at-place {T = g.row.T.Denot} {U = g.row.U.Denot} c.domain.inside.state c.domain.invariant c.args.domain.now c.domain.view_is c.args.self.now c.requires.live).1)
 
 pub returns-clause-live : goal.returns-clause-live
 returns-clause-live g c = record {
   there = (returns-clause-stays g c).publishers (publisher_key c.args.self.now) c.requires.live.there tt;
+  placed = (returns-clause-stays g c).placed_publishers c.args.self.now c.requires.live.placed;
   unblocked = (returns-clause-stays g c).unblocked (publisher_key c.args.self.now) c.requires.live.unblocked tt;
 }
 
@@ -78,11 +74,11 @@ returns-clause-loans_left g c =
 
 pub update_publisher-requires-clause-unblocked : goal.update_publisher-requires-clause-unblocked
 update_publisher-requires-clause-unblocked g c = λ z at_z.
-    let found = c.in-Some.ensures in
+    let found = (publisher-at-place {T = g.row.T.Denot} {U = g.row.U.Denot} c.domain.inside.state c.domain.invariant c.args.domain.now c.domain.view_is c.args.self.now c.requires.live) in
     let both : Some z ≡ Some found.0 = sym at_z ∙ found.1 in
     let is : z ≡ found.0 = cc in
     ap (λ (w : PublisherFields). w.blocked) is
-    ∙ free-of c.domain.inside.state c.domain.invariant.parts c.args.self.now.id c.in-Some.place found.0 found.1 found.2
+    ∙ free-of c.domain.inside.state c.domain.invariant.parts c.args.self.now.id c.args.self.now.place found.0 found.1 found.2
     (subst (λ (k : Kept g.row.T.Denot g.row.U.Denot g.row.F.Denot g.row.G.Denot). is_blocked (state_of k) c.args.self.now.id ≡ false) (sym c.domain.view_is) (unblocked-test c.args.domain.now (publisher_key c.args.self.now) c.requires.live.unblocked))
 
 pub returns-clause-leaves : goal.returns-clause-leaves

@@ -1,0 +1,151 @@
+-- Where the ports of live handles stand among a domain's fields.
+use Rattle.std.proofs.Common.{◌≡◌, ℕ, zero, suc, List, [], ◌∷◌, map, get_or, Option, None, Some, refl, ap, sym, subst, ◌∙◌}
+use Rattle.std.proofs.lemmas.Bool.{eq-eqb}
+use Rattle.std.specs.Option.{option_map}
+use Rattle.std.specs.Prelude.{◌↔◌, MatchOption}
+use Rattle.iox2_store.specs.machine.SingleCalls.{HoldsPublisher, HoldsSubscriber}
+use Rattle.iox2_ends.specs.LookUp.{look_up}
+use Rattle.iox2_domain.proofs.lemmas.fields.OpenPorts.{absent-publisher, present-publisher}
+use Rattle.std.proofs.lemmas.Option.{same_Some}
+use Rattle.iox2_store.specs.machine.Places.{occupant}
+use Rattle.iox2_store.specs.machine.Records.{Publisher, Subscriber}
+use Rattle.iox2_store.specs.machine.State.{State}
+use Rattle.iox2_store.specs.declared.key.Key.{Key}
+use Rattle.iox2_domain.specs.Boxes.{DomainBoxes}
+use Rattle.iox2_domain.specs.Fields.{Fields, kept_of, keeping, publisher_of, subscriber_of}
+use Rattle.iox2_domain.specs.Invariant.{IsDomain, is_publisher}
+use Rattle.iox2_domain.specs.Kept.{Kept, Named, ids, state_of}
+use Rattle.iox2_domain.specs.Ports.{PublisherFields, SubscriberFields}
+use Rattle.iox2_domain.proofs.lemmas.fields.ConnectionEnds.{publisher-stands, subscriber-stands}
+use Rattle.iox2_pubsub.specs.Live.{IsLiveSubscriber, IsPlacedPublisher, IsPlacedSubscriber, IsPublisherKey, IsReadyPublisher, IsSubscriberKey, publisher_key, subscriber_key}
+use Rattle.iox2_pubsub.specs.declared.publisher.Publisher.{Publisher as PublisherHandle}
+use Rattle.iox2_pubsub.specs.declared.subscriber.Subscriber.{Subscriber as SubscriberHandle}
+use Rattle.iox2_pubsub.proofs.LiveParts.{placed-from, placed-parts, placed-subscriber-from, placed-subscriber-parts, publisher-live, publisher-parts, subscriber-live, subscriber-parts}
+
+module _ {A B : Type 0} (f : A → Named B) where
+  -- whose record stands at a place has that place
+  occupies : (xs : List (Option A)) (i : ℕ) (x : A) → get_or xs i None ≡ Some x → occupant (ids (map (option_map f) xs)) i ≡ Some (f x).id
+  occupies [] zero x at = absurd cc
+  occupies [] (suc i) x at = absurd cc
+  occupies (None ∷ xs) zero x at = absurd cc
+  occupies (Some y ∷ xs) zero x at = ap (option_map (λ (a : A). (f a).id)) at
+  occupies (y ∷ xs) (suc i) x at = occupies xs i x at
+
+  -- at a place that somebody has stands its record
+  occupied : (xs : List (Option A)) (i p : ℕ) → occupant (ids (map (option_map f) xs)) i ≡ Some p → (x : A) × (get_or xs i None ≡ Some x) × ((f x).id ≡ p)
+  occupied [] i p at = absurd cc
+  occupied (None ∷ xs) zero p at = absurd cc
+  occupied (Some y ∷ xs) zero p at = (y, refl, same_Some (f y).id p at)
+  occupied (y ∷ xs) (suc i) p at = occupied xs i p at
+
+-- the state that fields keep
+abbrev shown : {T U : Type 0} → Fields T U → State T U
+shown f = state_of (kept_of f)
+
+module _ {T U F G : Type 0} (boxes : DomainBoxes F G) (f : Fields T U) (sound : IsDomain f) where
+  -- a publisher whose record stands at its handle's place is where the handle says
+  pub publisher-placed : (it : PublisherHandle) → (x : PublisherFields) × (get_or f.publishers it.place None ≡ Some x) × (x.id ≡ it.id) → IsPlacedPublisher (keeping boxes f) it
+  publisher-placed it at =
+      let there : (shown f).publishers it.id ≡ Some ((publisher_of f.books f.connections at.0).port) =
+      ap (shown f).publishers (sym at.2) ∙ publisher-stands f sound.parts it.place at.0 at.1 in
+      let place : option_map {T = Publisher} {U = ℕ} (λ x. x.place) ((shown f).publishers it.id) ≡ Some it.place =
+      ((sound.well_formed).publisher_places).known it.id it.place (occupies (publisher_of f.books f.connections) f.publishers it.place at.0 at.1 ∙ ap Some at.2) in
+      placed-from (keeping boxes f) it (
+        ((sound.well_formed).publishers it.id _ there).is_known,
+        λ x here. same_Some x.place it.place (sym (ap (option_map {T = Publisher} {U = ℕ} (λ z. z.place)) here) ∙ place),
+      )
+
+  -- and so with a subscriber
+  pub subscriber-placed : (it : SubscriberHandle) → (y : SubscriberFields) × (get_or f.subscribers it.place None ≡ Some y) × (y.id ≡ it.id) → IsPlacedSubscriber (keeping boxes f) it
+  subscriber-placed it at =
+      let there : (shown f).subscribers it.id ≡ Some ((subscriber_of f.books f.connections at.0).port) =
+      ap (shown f).subscribers (sym at.2) ∙ subscriber-stands f sound.parts it.place at.0 at.1 in
+      let place : option_map {T = Subscriber} {U = ℕ} (λ y. y.place) ((shown f).subscribers it.id) ≡ Some it.place =
+      ((sound.well_formed).subscriber_places).known it.id it.place (occupies (subscriber_of f.books f.connections) f.subscribers it.place at.0 at.1 ∙ ap Some at.2) in
+      placed-subscriber-from (keeping boxes f) it (
+        ((sound.well_formed).subscribers it.id _ there).is_known,
+        λ y here. same_Some y.place it.place (sym (ap (option_map {T = Subscriber} {U = ℕ} (λ z. z.place)) here) ∙ place),
+      )
+
+module _ {T U F G : Type 0} {boxes : DomainBoxes F G} (f : Fields T U) (sound : IsDomain f) (kept : Kept T U F G) (view : keeping boxes f ≡ kept) where
+  -- the record of a publisher that is there stands at its handle's place
+  publisher-there : (it : PublisherHandle) → IsPublisherKey kept (publisher_key it) → IsPlacedPublisher kept it → (x : PublisherFields) × (get_or f.publishers it.place None ≡ Some x) × (x.id ≡ it.id)
+  publisher-there it there placed =
+      let has = (publisher-parts (keeping boxes f) _ (subst (λ (k : Kept T U F G). IsPublisherKey k (publisher_key it)) (sym view) there)).2 in
+      let parts = placed-parts (keeping boxes f) it (subst (λ (k : Kept T U F G). IsPlacedPublisher k it) (sym view) placed) in
+      let place : option_map {T = Publisher} {U = ℕ} (λ x. x.place) ((shown f).publishers it.id) ≡ Some it.place =
+      ap (option_map {T = Publisher} {U = ℕ} (λ x. x.place)) has.1 ∙ ap Some (parts.1 has.0 has.1) in
+      occupied (publisher_of f.books f.connections) f.publishers it.place it.id (((sound.well_formed).publisher_places).stands it.id it.place place)
+
+  pub publisher-at-place : (it : PublisherHandle) → IsReadyPublisher kept it → (x : PublisherFields) × (get_or f.publishers it.place None ≡ Some x) × (x.id ≡ it.id)
+  publisher-at-place it ready = publisher-there it ready.there ready.placed
+
+  -- and that of a live subscriber
+  pub subscriber-at-place : (it : SubscriberHandle) → IsLiveSubscriber kept it → (y : SubscriberFields) × (get_or f.subscribers it.place None ≡ Some y) × (y.id ≡ it.id)
+  subscriber-at-place it live =
+      let has = (subscriber-parts (keeping boxes f) _ (subst (λ (k : Kept T U F G). IsSubscriberKey k (subscriber_key it)) (sym view) live.there)).2 in
+      let parts = placed-subscriber-parts (keeping boxes f) it (subst (λ (k : Kept T U F G). IsPlacedSubscriber k it) (sym view) live.placed) in
+      let place : option_map {T = Subscriber} {U = ℕ} (λ y. y.place) ((shown f).subscribers it.id) ≡ Some it.place =
+      ap (option_map {T = Subscriber} {U = ℕ} (λ y. y.place)) has.1 ∙ ap Some (parts.1 has.0 has.1) in
+      occupied (subscriber_of f.books f.connections) f.subscribers it.place it.id (((sound.well_formed).subscriber_places).stands it.id it.place place)
+
+  -- ---- what a search tells
+
+  -- who was found is named by its key, and else it isn't, nor in a domain of another service
+  pub publisher-named : (key : Key) → key.message ≡ 0 → key.service_id ≡ (f.config).service_id → HoldsPublisher (shown f) key.port → IsPublisherKey kept key
+  publisher-named key none service holds = subst (λ (k : Kept T U F G). IsPublisherKey k key) view (publisher-live (keeping boxes f) key (none, service, holds))
+
+  pub publisher-unnamed : (key : Key) → (HoldsPublisher (shown f) key.port → ⊥) → IsPublisherKey kept key → ⊥
+  publisher-unnamed key none live = none ((publisher-parts (keeping boxes f) key (subst (λ (k : Kept T U F G). IsPublisherKey k key) (sym view) live)).2)
+
+  pub publisher-elsewhere : (key : Key) → (key.service_id ≡ (f.config).service_id → ⊥) → IsPublisherKey kept key → ⊥
+  publisher-elsewhere key away live = away ((publisher-parts (keeping boxes f) key (subst (λ (k : Kept T U F G). IsPublisherKey k key) (sym view) live)).1)
+
+  pub subscriber-named : (key : Key) → key.message ≡ 0 → key.service_id ≡ (f.config).service_id → HoldsSubscriber (shown f) key.port → IsSubscriberKey kept key
+  subscriber-named key none service holds = subst (λ (k : Kept T U F G). IsSubscriberKey k key) view (subscriber-live (keeping boxes f) key (none, service, holds))
+
+  pub subscriber-unnamed : (key : Key) → (HoldsSubscriber (shown f) key.port → ⊥) → IsSubscriberKey kept key → ⊥
+  subscriber-unnamed key none live = none ((subscriber-parts (keeping boxes f) key (subst (λ (k : Kept T U F G). IsSubscriberKey k key) (sym view) live)).2)
+
+  pub subscriber-elsewhere : (key : Key) → (key.service_id ≡ (f.config).service_id → ⊥) → IsSubscriberKey kept key → ⊥
+  subscriber-elsewhere key away live = away ((subscriber-parts (keeping boxes f) key (subst (λ (k : Kept T U F G). IsSubscriberKey k key) (sym view) live)).1)
+
+  -- a handle with the place at which its port was found says where that stands
+  pub publisher-found-placed : (it : PublisherHandle) → (x : PublisherFields) × (get_or f.publishers it.place None ≡ Some x) × (x.id ≡ it.id) → IsPlacedPublisher kept it
+  publisher-found-placed it found = subst (λ (k : Kept T U F G). IsPlacedPublisher k it) view (publisher-placed boxes f sound it found)
+
+  pub subscriber-found-placed : (it : SubscriberHandle) → (y : SubscriberFields) × (get_or f.subscribers it.place None ≡ Some y) × (y.id ≡ it.id) → IsPlacedSubscriber kept it
+  subscriber-found-placed it found = subst (λ (k : Kept T U F G). IsPlacedSubscriber k it) view (subscriber-placed boxes f sound it found)
+
+  -- a handle of this service names a port of the domain where that was found at the handle's place, and only there
+  pub publisher-in : (it : PublisherHandle) → it.service_id ≡ (f.config).service_id → HoldsPublisher (shown f) it.id
+      → (i : ℕ) → (x : PublisherFields) × (get_or f.publishers i None ≡ Some x) × (x.id ≡ it.id) → (i ≡ it.place) ↔ (IsPublisherKey kept (publisher_key it) × IsPlacedPublisher kept it)
+  publisher-in it service holds i found = (
+    λ here. (
+      publisher-named (publisher_key it) refl service holds,
+      publisher-found-placed it (subst (λ (k : ℕ). (x : PublisherFields) × (get_or f.publishers k None ≡ Some x) × (x.id ≡ it.id)) here found),
+    ),
+    λ live.
+        let there = publisher-there it live.0 live.1 in
+        ((sound.parts).publisher_ids it.id).one i it.place found.0 there.0 found.1 there.1 (eq-eqb found.0.id it.id found.2) (eq-eqb there.0.id it.id there.2),
+  )
+
+  pub subscriber-in : (it : SubscriberHandle) → it.service_id ≡ (f.config).service_id → HoldsSubscriber (shown f) it.id
+      → (i : ℕ) → (y : SubscriberFields) × (get_or f.subscribers i None ≡ Some y) × (y.id ≡ it.id) → (i ≡ it.place) ↔ IsLiveSubscriber kept it
+  subscriber-in it service holds i found = (
+    λ here. record {
+      there = subscriber-named (subscriber_key it) refl service holds;
+      placed = subscriber-found-placed it (subst (λ (k : ℕ). (y : SubscriberFields) × (get_or f.subscribers k None ≡ Some y) × (y.id ≡ it.id)) here found);
+    },
+    λ live.
+        let there = subscriber-at-place it live in
+        ((sound.parts).subscriber_ids it.id).one i it.place found.0 there.0 found.1 there.1 (eq-eqb found.0.id it.id found.2) (eq-eqb there.0.id it.id there.2),
+  )
+
+module _ {T U : Type 0} (f : Fields T U) (id : ℕ) (sound : IsDomain f) where
+  -- whoever a search found wasn't closed, where it is a publisher
+  pub publisher-found : (found : Option ℕ)
+      → MatchOption found (look_up (is_publisher id) f.publishers ≡ None) (λ i. (x : PublisherFields) × (get_or f.publishers i None ≡ Some x) × (x.id ≡ id))
+      → MatchOption found (HoldsPublisher (state_of (kept_of f)) id → ⊥) (λ i. HoldsPublisher (state_of (kept_of f)) id × (x : PublisherFields) × (get_or f.publishers i None ≡ Some x) × (x.id ≡ id))
+  publisher-found None none = absent-publisher f id none
+  publisher-found (Some i) found = (present-publisher f id sound i found.0 found.1 found.2, found.0, found.1, found.2)
