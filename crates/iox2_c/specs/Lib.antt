@@ -3,6 +3,7 @@ pub mod Holding
 pub mod Boxed
 pub mod Numbers
 pub mod Codes
+pub mod Texts
 pub mod Settings
 pub mod Calls
 pub mod Warnings

@@ -1,9 +1,10 @@
 //! The texts of codes. Each ends in a zero byte, as C's do.
-ghost use Rattle.std.specs.Prelude.{◌<◌, length};
+ghost use Rattle.std.specs.Prelude.{◌≡◌};
+ghost use Rattle.iox2_c.specs.Texts.{call_text, ended, failure_text, loan_text, publisher_text, receive_text, send_text, subscriber_text, text_numbered, warning_text};
 
 /// The text of a code, or of the kind of a warning.
 pub fn text_of(code: u32) -> &'static [u8]
-    ensures { 0 < length result.now }
+    ensures { result.now ≡ ended (text_numbered code) }
 {
     match code / 10 {
         0 => text_of_call(code),
@@ -20,7 +21,7 @@ pub fn text_of(code: u32) -> &'static [u8]
 const UNKNOWN: &[u8] = b"no code of a call\0";
 
 fn text_of_call(code: u32) -> &'static [u8]
-    ensures { 0 < length result.now }
+    ensures { result.now ≡ ended (call_text code) }
 {
     match code {
         0 => b"done\0",
@@ -38,7 +39,7 @@ fn text_of_call(code: u32) -> &'static [u8]
 }
 
 fn text_of_loan(code: u32) -> &'static [u8]
-    ensures { 0 < length result.now }
+    ensures { result.now ≡ ended (loan_text code) }
 {
     match code {
         10 => b"LoanError::OutOfMemory\0",
@@ -50,7 +51,7 @@ fn text_of_loan(code: u32) -> &'static [u8]
 }
 
 fn text_of_send(code: u32) -> &'static [u8]
-    ensures { 0 < length result.now }
+    ensures { result.now ≡ ended (send_text code) }
 {
     match code {
         20 => b"SendError::ConnectionBrokenSinceSenderNoLongerExists\0",
@@ -70,7 +71,7 @@ fn text_of_send(code: u32) -> &'static [u8]
 }
 
 fn text_of_receive(code: u32) -> &'static [u8]
-    ensures { 0 < length result.now }
+    ensures { result.now ≡ ended (receive_text code) }
 {
     match code {
         30 => b"ReceiveError::ExceedsMaxBorrows\0",
@@ -87,7 +88,7 @@ fn text_of_receive(code: u32) -> &'static [u8]
 }
 
 fn text_of_failure(code: u32) -> &'static [u8]
-    ensures { 0 < length result.now }
+    ensures { result.now ≡ ended (failure_text code) }
 {
     match code {
         44 => b"ConnectionFailure::FailedToEstablishConnection(IncompatibleBufferSize)\0",
@@ -99,7 +100,7 @@ fn text_of_failure(code: u32) -> &'static [u8]
 }
 
 fn text_of_publisher(code: u32) -> &'static [u8]
-    ensures { 0 < length result.now }
+    ensures { result.now ≡ ended (publisher_text code) }
 {
     match code {
         50 => b"PublisherCreateError::ExceedsMaxSupportedPublishers\0",
@@ -111,7 +112,7 @@ fn text_of_publisher(code: u32) -> &'static [u8]
 }
 
 fn text_of_subscriber(code: u32) -> &'static [u8]
-    ensures { 0 < length result.now }
+    ensures { result.now ≡ ended (subscriber_text code) }
 {
     match code {
         60 => b"SubscriberCreateError::ExceedsMaxSupportedSubscribers\0",
@@ -123,7 +124,7 @@ fn text_of_subscriber(code: u32) -> &'static [u8]
 }
 
 fn text_of_warning(kind: u32) -> &'static [u8]
-    ensures { 0 < length result.now }
+    ensures { result.now ≡ ended (warning_text kind) }
 {
     match kind {
         100 => b"Warning::ExpiredBufferRaised\0",

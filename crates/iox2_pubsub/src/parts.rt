@@ -5,6 +5,7 @@
 //! word for it. A handle of a slice is one of a single value in other clothes (`new` and
 //! `into_inner`), and has that one's numbers.
 
+mod at_hint;
 mod blocked_send;
 pub(crate) mod hints;
 mod loan;

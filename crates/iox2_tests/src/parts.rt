@@ -190,12 +190,46 @@ fn a_sample_is_had_again_until_it_is_released(rt: HostRuntime) {
         has_sample(&domain, &astray),
         has_sample(&domain, &SampleParts { number: 9, ..later }),
     ];
+    let last = [
+        domain.is_sample_at_hint(&earlier),
+        domain.is_sample_at_hint(&later),
+        domain.is_sample_at_hint(&astray),
+    ];
     let sample = domain.sample_of(&astray).expect(&rt, "a sample");
     let celsius = celsius_of(&rt, &domain, &sample);
     release(&rt, &mut domain, sample);
     let after = [has_sample(&domain, &earlier), has_sample(&domain, &later)];
     drop(domain);
     assert!(rt; before == [true, true, true, false]);
+    assert!(rt; last == [false, true, false]);
     assert!(rt; celsius == 21);
     assert!(rt; after == [true, false]);
+}
+
+#[test]
+fn numbers_are_tested_without_a_search(rt: HostRuntime) {
+    let mut domain = domain(&rt, rt.alloc());
+    let subscriber = subscriber_of(&rt, &mut domain).into_parts();
+    let loan = lent(&rt, &mut domain);
+    let elsewhere = SubscriberParts {
+        place: 1,
+        ..subscriber
+    };
+    let unknown = SubscriberParts {
+        id: 9,
+        ..subscriber
+    };
+    let subscribers = [
+        domain.is_subscriber_at_hint(&subscriber),
+        domain.is_subscriber_at_hint(&elsewhere),
+        domain.is_subscriber_at_hint(&unknown),
+    ];
+    let loans = [
+        domain.is_loan_at_hint(&loan),
+        domain.is_loan_at_hint(&LoanParts { place: 1, ..loan }),
+        domain.is_loan_at_hint(&LoanParts { number: 9, ..loan }),
+    ];
+    drop(domain);
+    assert!(rt; subscribers == [true, false, false]);
+    assert!(rt; loans == [true, false, false]);
 }

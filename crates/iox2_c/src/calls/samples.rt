@@ -144,9 +144,40 @@ pub fn release(service: &mut Service, numbers: &SampleNumbers) -> u32
     ensures refused { 0 < result → service.new ≡ service.old }
     ensures stays { ServesBut (A_sample (wide (numbers.now).subscriber) (wide (numbers.now).number)) service.old service.new }
 {
+    if service.domain.is_sample_at_hint(&numbers.parts()) {
+        release_named(service, numbers)
+    } else {
+        release_elsewhere(service, numbers)
+    }
+}
+
+// The same. What was found before of the sample isn't tested again here.
+#[inline(always)]
+fn release_named(service: &mut Service, numbers: &SampleNumbers) -> u32
+    ensures code { (result ≡ 0) ⊎ ((result ≡ 2) × (IsSampleKey service.old.domain (named_sample numbers.now) → ⊥)) }
+    ensures live { result ≡ 0 → IsSampleKey service.old.domain (named_sample numbers.now) }
+    ensures releases { result ≡ 0 → Releases service.old.domain service.new.domain (wide (numbers.now).subscriber) (wide (numbers.now).number) }
+    ensures spent { IsSampleKey service.new.domain (named_sample numbers.now) → ⊥ }
+    ensures refused { 0 < result → service.new ≡ service.old }
+    ensures stays { ServesBut (A_sample (wide (numbers.now).subscriber) (wide (numbers.now).number)) service.old service.new }
+{
     let Some(sample) = live_sample(&service.domain, numbers) else {
         return NOT_LIVE;
     };
     sample.release(&mut service.domain);
     OK
+}
+
+// The same, where the sample is sought.
+#[cold]
+#[inline(never)]
+fn release_elsewhere(service: &mut Service, numbers: &SampleNumbers) -> u32
+    ensures code { (result ≡ 0) ⊎ ((result ≡ 2) × (IsSampleKey service.old.domain (named_sample numbers.now) → ⊥)) }
+    ensures live { result ≡ 0 → IsSampleKey service.old.domain (named_sample numbers.now) }
+    ensures releases { result ≡ 0 → Releases service.old.domain service.new.domain (wide (numbers.now).subscriber) (wide (numbers.now).number) }
+    ensures spent { IsSampleKey service.new.domain (named_sample numbers.now) → ⊥ }
+    ensures refused { 0 < result → service.new ≡ service.old }
+    ensures stays { ServesBut (A_sample (wide (numbers.now).subscriber) (wide (numbers.now).number)) service.old service.new }
+{
+    release_named(service, numbers)
 }

@@ -45,8 +45,61 @@ fn tell(
     }
 }
 
+// The same of the loan with these numbers, which a send that waits has too: no number of its handle is
+// kept for that.
+#[inline(always)]
+fn tell_of(
+    sent: Result<SendOutcome, SendError>,
+    numbers: &LoanNumbers,
+    receivers: &mut usize,
+    blocked: &mut LoanNumbers,
+) -> u32
+    requires named { IfOk sent (λ outcome. IfBlocked outcome (λ it. blocked_key it ≡ named_loan numbers.now)) }
+    ensures code { result ≡ sent_code sent }
+    ensures receivers { receivers.new ≡ receivers_of receivers.old sent }
+    ensures blocked { IfOk sent (λ outcome. IfBlocked outcome (λ it. named_loan blocked.new ≡ blocked_key it)) }
+    ensures same { result ≢ 6 → blocked.new ≡ blocked.old }
+{
+    match sent {
+        Ok(SendOutcome::Delivered(count)) => {
+            *receivers = count;
+            OK
+        }
+        Ok(SendOutcome::Blocked(waiting)) => {
+            waiting.disown();
+            *blocked = *numbers;
+            BLOCKED
+        }
+        Err(error) => send_status(error),
+    }
+}
+
 /// Sends a loan, and says how many subscribers took it.
 pub fn send(
+    service: &mut Service,
+    numbers: &LoanNumbers,
+    receivers: &mut usize,
+    blocked: &mut LoanNumbers,
+) -> u32
+    ensures code { result ≡ 1 → ⊥ }
+    ensures sent { result ≢ 2 → result ≢ 7 → (outcome : Result SendOutcome SendError) × (result ≡ sent_code outcome) × (receivers.new ≡ receivers_of receivers.old outcome) × SendsLoan service.old.domain service.new.domain (wide (numbers.now).number) outcome }
+    ensures why { (result ≡ 2) ⊎ (result ≡ 7) → RefusesSend service.old.domain (named_loan numbers.now) result × (service.new ≡ service.old) }
+    ensures waits { result ≡ 6 → IsBlockedKey service.new.domain (named_loan blocked.new) × (named_loan blocked.new ≡ named_loan numbers.now) }
+    ensures spent { result ≢ 2 → result ≢ 7 → IsLoanKey service.new.domain (named_loan numbers.now) → ⊥ }
+    ensures same { result ≢ 6 → blocked.new ≡ blocked.old }
+    ensures same_count { (result ≡ 2) ⊎ (result ≡ 7) → receivers.new ≡ receivers.old }
+    ensures stays { ServesBut (A_sent_loan (wide (numbers.now).number) (wide (numbers.now).publisher) (nat_eq result 6)) service.old service.new }
+{
+    if service.domain.is_loan_at_hint(&numbers.parts()) {
+        send_named(service, numbers, receivers, blocked)
+    } else {
+        send_elsewhere(service, numbers, receivers, blocked)
+    }
+}
+
+// The same. What was found before of the loan, and of its publisher, isn't tested again here.
+#[inline(always)]
+fn send_named(
     service: &mut Service,
     numbers: &LoanNumbers,
     receivers: &mut usize,
@@ -68,7 +121,29 @@ pub fn send(
         loan.disown();
         return PUBLISHER_IS_BLOCKED;
     }
-    tell(loan.send(&mut service.domain), receivers, blocked)
+    let sent = loan.send(&mut service.domain);
+    tell_of(sent, numbers, receivers, blocked)
+}
+
+// The same, where the loan is sought.
+#[cold]
+#[inline(never)]
+fn send_elsewhere(
+    service: &mut Service,
+    numbers: &LoanNumbers,
+    receivers: &mut usize,
+    blocked: &mut LoanNumbers,
+) -> u32
+    ensures code { result ≡ 1 → ⊥ }
+    ensures sent { result ≢ 2 → result ≢ 7 → (outcome : Result SendOutcome SendError) × (result ≡ sent_code outcome) × (receivers.new ≡ receivers_of receivers.old outcome) × SendsLoan service.old.domain service.new.domain (wide (numbers.now).number) outcome }
+    ensures why { (result ≡ 2) ⊎ (result ≡ 7) → RefusesSend service.old.domain (named_loan numbers.now) result × (service.new ≡ service.old) }
+    ensures waits { result ≡ 6 → IsBlockedKey service.new.domain (named_loan blocked.new) × (named_loan blocked.new ≡ named_loan numbers.now) }
+    ensures spent { result ≢ 2 → result ≢ 7 → IsLoanKey service.new.domain (named_loan numbers.now) → ⊥ }
+    ensures same { result ≢ 6 → blocked.new ≡ blocked.old }
+    ensures same_count { (result ≡ 2) ⊎ (result ≡ 7) → receivers.new ≡ receivers.old }
+    ensures stays { ServesBut (A_sent_loan (wide (numbers.now).number) (wide (numbers.now).publisher) (nat_eq result 6)) service.old service.new }
+{
+    send_named(service, numbers, receivers, blocked)
 }
 
 /// Sends a copy of the bytes, and says how many subscribers took it.

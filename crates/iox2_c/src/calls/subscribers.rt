@@ -141,6 +141,34 @@ pub fn receive(
     ensures same_length { 0 < result → len.new ≡ len.old }
     ensures stays { ServesBut No_item service.old service.new }
 {
+    if service.domain.is_subscriber_at_hint(&numbers.parts()) {
+        receive_named(service, numbers, out, payload, len)
+    } else {
+        receive_elsewhere(service, numbers, out, payload, len)
+    }
+}
+
+// The same. What was found before of the subscriber isn't tested again here.
+#[inline(always)]
+fn receive_named(
+    service: &mut Service,
+    numbers: &SubscriberNumbers,
+    out: &mut SampleNumbers,
+    payload: &mut *const u8,
+    len: &mut usize,
+) -> u32
+    ensures code { result ≡ 1 → ⊥ }
+    ensures received { result ≡ 0 → Receives service.old.domain service.new.domain (wide (numbers.now).id) (Got_sample (wide (out.new).origin) (wide (out.new).number)) }
+    ensures nothing { result ≡ 3 → Receives service.old.domain service.new.domain (wide (numbers.now).id) No_sample }
+    ensures errors { 3 < result → (error : ReceiveError) × (result ≡ receive_code error) × Receives service.old.domain service.new.domain (wide (numbers.now).id) (Receive_error error) }
+    ensures not_live { result ≡ 2 → (IsSubscriberKey service.old.domain (named_subscriber numbers.now) → ⊥) × (service.new ≡ service.old) }
+    ensures live { result ≡ 0 → IsSampleKey service.new.domain (named_sample out.new) }
+    ensures new { result ≡ 0 → IsNewIn service.old.domain (A_sample (wide (out.new).subscriber) (wide (out.new).number)) }
+    ensures length { result ≡ 0 → (values : List ℕ) → SampleHasValues service.new.domain (named_sample out.new) values → len.new ≡ length values }
+    ensures same { 0 < result → out.new ≡ out.old }
+    ensures same_length { 0 < result → len.new ≡ len.old }
+    ensures stays { ServesBut No_item service.old service.new }
+{
     let Some(subscriber) = live_subscriber(&service.domain, numbers) else {
         return NOT_LIVE;
     };
@@ -157,6 +185,31 @@ pub fn receive(
         Ok(None) => NO_SAMPLE,
         Err(error) => receive_status(error),
     }
+}
+
+// The same, where the subscriber is sought.
+#[cold]
+#[inline(never)]
+fn receive_elsewhere(
+    service: &mut Service,
+    numbers: &SubscriberNumbers,
+    out: &mut SampleNumbers,
+    payload: &mut *const u8,
+    len: &mut usize,
+) -> u32
+    ensures code { result ≡ 1 → ⊥ }
+    ensures received { result ≡ 0 → Receives service.old.domain service.new.domain (wide (numbers.now).id) (Got_sample (wide (out.new).origin) (wide (out.new).number)) }
+    ensures nothing { result ≡ 3 → Receives service.old.domain service.new.domain (wide (numbers.now).id) No_sample }
+    ensures errors { 3 < result → (error : ReceiveError) × (result ≡ receive_code error) × Receives service.old.domain service.new.domain (wide (numbers.now).id) (Receive_error error) }
+    ensures not_live { result ≡ 2 → (IsSubscriberKey service.old.domain (named_subscriber numbers.now) → ⊥) × (service.new ≡ service.old) }
+    ensures live { result ≡ 0 → IsSampleKey service.new.domain (named_sample out.new) }
+    ensures new { result ≡ 0 → IsNewIn service.old.domain (A_sample (wide (out.new).subscriber) (wide (out.new).number)) }
+    ensures length { result ≡ 0 → (values : List ℕ) → SampleHasValues service.new.domain (named_sample out.new) values → len.new ≡ length values }
+    ensures same { 0 < result → out.new ≡ out.old }
+    ensures same_length { 0 < result → len.new ≡ len.old }
+    ensures stays { ServesBut No_item service.old service.new }
+{
+    receive_named(service, numbers, out, payload, len)
 }
 
 /// Receives a message, copies its bytes and releases it. Where there are more bytes than there is room

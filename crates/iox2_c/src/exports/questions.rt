@@ -13,6 +13,7 @@ ghost use Rattle.iox2_c.specs.Calls.{RefusesPublisher};
 ghost use Rattle.iox2_c.specs.Codes.{code_of, failure_code};
 ghost use Rattle.iox2_c.specs.Numbers.{named_publisher, named_subscriber, wide};
 ghost use Rattle.iox2_c.specs.Settings.{settings_in, settings_of};
+ghost use Rattle.iox2_c.specs.Texts.{text_numbered};
 ghost use Rattle.iox2_c.specs.Warnings.{TellsOf};
 ghost use Rattle.iox2_c.specs.Steps.{Asks, UpdatesPublisher, UpdatesSubscriber};
 
@@ -28,7 +29,9 @@ use std::ptr;
 
 /// The text of a code or of a warning's kind, which ends in a zero byte, and its length without that.
 #[unsafe(no_mangle)]
-pub extern "C" fn iox2_error_text_at(code: u32, text: &mut *const u8, len: &mut usize) {
+pub extern "C" fn iox2_error_text_at(code: u32, text: &mut *const u8, len: &mut usize)
+    ensures { len.new ≡ length (text_numbered code) }
+{
     let bytes = text_of(code);
     *text = ptr::from_ref(&bytes[0]);
     *len = bytes.len() - 1;

@@ -1,6 +1,6 @@
 //! What a handle made of numbers names is looked for first where the numbers say.
-ghost use Rattle.std.specs.Prelude.{◌≡◌, ◌↔◌, true, slice_index_or, IsTrue, MatchOption};
-ghost use Rattle.iox2_store.specs.machine.SingleCalls.{HoldsPublisher, HoldsSample, HoldsSubscriber};
+ghost use Rattle.std.specs.Prelude.{◌≡◌, ◌↔◌, true, slice_index_or, IsTrue, MatchOption, None, Some};
+ghost use Rattle.iox2_store.specs.machine.SingleCalls.{HoldsLoan, HoldsPublisher, HoldsSample, HoldsSubscriber};
 ghost use Rattle.iox2_domain.specs.Kept.{state_of};
 ghost use Rattle.iox2_domain.specs.Fields.{kept_of};
 ghost use Rattle.iox2_domain.specs.Invariant.{IsDomain, is_lent};
@@ -69,16 +69,32 @@ fn is_lent(mark: SlotMark) -> bool
     matches!(mark, SlotMark::Unwritten | SlotMark::Written)
 }
 
-// Whether the publisher's loan is out, and lies in the slot that is named.
+// The publisher with this id stands at the place, and has the book at the key.
+fn has_book<T: Drop, U: Default + Drop>(
+    state: &DomainState<T, U>,
+    place: usize,
+    id: UniquePublisherId,
+    book: usize,
+) -> bool
+    ensures { IsTrue result → (x : PublisherFields) × (slice_index_or state.now.publishers place None ≡ Some x) × (x.id ≡ id) × (x.book ≡ book) }
+{
+    let Some(Some(publisher)) = state.publishers.get(place) else {
+        return false;
+    };
+    publisher.id.value() == id.value() && publisher.book == book
+}
+
+// Whether the publisher's loan is out, and lies in the slot that is named, in the book of the
+// publisher that stands at its place.
 fn is_lent_at_hint<T: Drop, U: Default + Drop>(state: &DomainState<T, U>, loan: &LoanAt) -> bool
     requires { IsDomain state.now }
     ensures { IsTrue result → LiesInSlot state.now loan.now.publisher loan.now.number loan.now.book loan.now.slot }
 {
+    if !has_book(state, loan.place, loan.publisher, loan.book) {
+        return false;
+    }
     match state.books.get(loan.book) {
-        Some(book) => {
-            book.publisher().value() == loan.publisher.value()
-                && is_lent_there(book, loan.slot, loan.number)
-        }
+        Some(book) => is_lent_there(book, loan.slot, loan.number),
         None => false,
     }
 }
@@ -163,4 +179,54 @@ pub(crate) fn has_sample<T: Drop, U: Default + Drop>(
         Some(_) => true,
         None => state.has_sample(sample.subscriber, sample.number),
     }
+}
+
+// The subscriber with this id stands at the place, and wasn't closed.
+fn has_open<T: Drop, U: Default + Drop>(
+    state: &DomainState<T, U>,
+    place: usize,
+    id: UniqueSubscriberId,
+) -> bool
+    ensures { IsTrue result → (y : SubscriberFields) × (slice_index_or state.now.subscribers place None ≡ Some y) × (y.id ≡ id) × (y.is_open ≡ true) }
+{
+    let Some(Some(subscriber)) = state.subscribers.get(place) else {
+        return false;
+    };
+    subscriber.id.value() == id.value() && subscriber.is_open
+}
+
+/// Whether a subscriber has this id, wasn't closed and stands at the place.
+pub(crate) fn has_subscriber_at_hint<T: Drop, U: Default + Drop>(
+    state: &DomainState<T, U>,
+    id: UniqueSubscriberId,
+    place: usize,
+) -> bool
+    requires { IsDomain state.now }
+    ensures { IsTrue result → HoldsSubscriber (state_of (kept_of state.now)) id }
+{
+    has_open(state, place, id)
+}
+
+/// Whether the publisher's loan is out, and lies where it says.
+pub(crate) fn has_loan_at_hint<T: Drop, U: Default + Drop>(
+    state: &DomainState<T, U>,
+    loan: &LoanAt,
+) -> bool
+    requires { IsDomain state.now }
+    ensures { IsTrue result → HoldsLoan (state_of (kept_of state.now)) loan.now.publisher loan.now.number }
+{
+    is_lent_at_hint(state, loan)
+}
+
+/// Whether the subscriber has borrowed the message, as the last one of the connection that the sample
+/// names, and it lies where that says.
+pub(crate) fn has_sample_at_hint<T: Drop, U: Default + Drop>(
+    state: &mut DomainState<T, U>,
+    sample: &SampleAt,
+) -> bool
+    requires { IsDomain state.old }
+    ensures live { IsTrue result → HoldsSample (state_of (kept_of state.old)) sample.now.subscriber sample.now.number }
+    ensures same { state.new ≡ state.old }
+{
+    state.is_last_at_hint(sample)
 }

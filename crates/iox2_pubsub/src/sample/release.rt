@@ -20,6 +20,7 @@ impl Sample {
     /// it. Takes no memory.
     ///
     /// iceoryx2's `Sample`, when it is dropped (`src/sample.rs`).
+    #[inline(always)]
     pub fn release<T: Drop, U: Default + Drop, F: BackpressureFn, G: DegradationFn>(
         self,
         domain: &mut Domain<T, U, F, G>,

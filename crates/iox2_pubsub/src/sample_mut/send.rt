@@ -43,6 +43,7 @@ impl SampleMut {
     /// warning, as long as the publisher's handler says no other.
     ///
     /// iceoryx2's `SampleMut::send` (`src/sample_mut.rs`).
+    #[inline(always)]
     pub fn send<T: Drop, U: Default + Drop, F: BackpressureFn, G: DegradationFn>(
         self,
         domain: &mut Domain<T, U, F, G>,

@@ -40,6 +40,7 @@ impl Sample {
     }
 
     /// Gives the message back.
+    #[inline(always)]
     pub fn release<T: Drop, U: Default + Drop, F: BackpressureFn, G: DegradationFn>(
         self,
         domain: &mut Domain<T, U, F, G>,

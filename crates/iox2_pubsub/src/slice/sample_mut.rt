@@ -47,6 +47,7 @@ impl SampleMut {
     }
 
     /// Sends the message, as the loan of a single value is sent. Its payload isn't touched.
+    #[inline(always)]
     pub fn send<T: Drop, U: Default + Drop, F: BackpressureFn, G: DegradationFn>(
         self,
         domain: &mut Domain<T, U, F, G>,

@@ -32,6 +32,7 @@ impl Publisher {
     /// message number is left, a loan of permitted length is granted, whatever its subscribers hold.
     ///
     /// iceoryx2's `Publisher::loan_slice_uninit` (`src/port/publisher.rs`).
+    #[inline(always)]
     pub fn loan_slice_uninit<T: Drop, U: Default + Drop, F: BackpressureFn, G: DegradationFn>(
         &self,
         domain: &mut Domain<T, U, F, G>,

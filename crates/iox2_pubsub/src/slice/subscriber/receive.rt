@@ -26,6 +26,7 @@ impl Subscriber {
     /// `UpdateConnections::update_connections` says.
     ///
     /// iceoryx2's `Subscriber::receive` (`src/port/subscriber.rs`).
+    #[inline(always)]
     pub fn receive<T: Drop, U: Default + Drop, F: BackpressureFn, G: DegradationFn>(
         &self,
         domain: &mut Domain<T, U, F, G>,

@@ -12,8 +12,8 @@ use Rattle.iox2_c.specs.declared.numbers.SampleNumbers.{SampleNumbers}
 use Rattle.iox2_c.specs.Serving.{KeptBytes, Serving}
 use Rattle.iox2_c.specs.Steps.{Receives}
 use Rattle.iox2_c.proofs.BecomesSteps.{receive-code-high}
-use Rattle.iox2_c.proofs.calls.subscribers.receive.Goals as goal
-use Rattle.iox2_c.proofs.calls.subscribers.receive.Goals.{in-Ok-Some, in-Ok-None, in-Err}
+use Rattle.iox2_c.proofs.calls.subscribers.receive_named.Goals as goal
+use Rattle.iox2_c.proofs.calls.subscribers.receive_named.Goals.{in-Ok-Some, in-Ok-None, in-Err}
 
 -- a step of the subscriber is one of the numbers
 named : (inside old new : KeptBytes) (q p : ℕ) (was is : ReceiveResult) → inside ≡ old → q ≡ p → was ≡ is → Receives inside new q was → Receives old new p is

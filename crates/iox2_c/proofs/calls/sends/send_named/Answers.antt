@@ -1,0 +1,18 @@
+use Rattle.std.proofs.Common.{ap, subst}
+use Rattle.std.specs.declared.result.Result.{Result}
+use Rattle.iox2_store.specs.declared.errors.SendError.{SendError}
+use Rattle.iox2_pubsub.specs.declared.send_outcome.SendOutcome.{SendOutcome}
+use Rattle.iox2_c.specs.Numbers.{wide}
+use Rattle.iox2_c.specs.Serving.{KeptBytes, Serving}
+use Rattle.iox2_c.specs.Steps.{SendsLoan}
+use Rattle.iox2_c.proofs.calls.sends.send_named.Goals as goal
+
+pub returns-clause-sent : goal.returns-clause-sent
+returns-clause-sent c = λ two seven.
+    let sent : Result SendOutcome SendError = c.send-sent.result in (
+      sent,
+      c.tell_of.ensures.code,
+      c.tell_of.ensures.receivers,
+      subst (λ (old : KeptBytes). SendsLoan old c.send-sent.new.domain (wide c.args.numbers.now.number) sent) (ap (λ (s : Serving). s.domain) c.service.view_is)
+          (subst (λ n. SendsLoan c.service.inside.domain c.send-sent.new.domain n sent) c.in-Some.ensures.number c.send-sent.ensures.sent),
+    )
