@@ -149,6 +149,7 @@ fn hand_back<T: Drop, U: Default + Drop>(state: &mut DomainState<T, U>, at: Samp
 /// last message, and a subscriber that was closed leaves with the last one that it has borrowed.
 ///
 /// iceoryx2's `Sample`'s drop (`src/sample.rs`).
+#[inline(always)]
 pub fn give_back<T: Drop, U: Default + Drop>(state: &mut DomainState<T, U>, sample: SampleAt)
     requires agrees { IsDomain state.old }
     requires live { HoldsSample (state_of (kept_of state.old)) sample.subscriber sample.number }

@@ -125,6 +125,7 @@ fn loan_sought(publisher: UniquePublisherId, number: u128) -> LoanAt
 /// of a publisher without a handler.
 ///
 /// iceoryx2's `PublisherSharedState::send_sample` (`src/port/publisher.rs`).
+#[inline(always)]
 pub fn send_loan<T: Drop, U: Default + Drop, F: BackpressureFn, G: DegradationFn>(
     state: &mut DomainState<T, U>,
     boxes: &Boxes<F, G>,
