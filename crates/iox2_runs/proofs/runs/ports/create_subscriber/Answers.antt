@@ -26,7 +26,7 @@ returns-in-Ok-clause-carries g c =
     let none : c.match-buffer.factory.settings.degradation_handler ≡ Custom → ⊥ =
     λ boxed. always_unboxed c.args.degradation (sym (ap (λ (given : SubscriberSettings). given.degradation_handler) told) ∙ boxed) in
     subscriber_carried {T = g.row.T.Denot} {U = g.row.U.Denot} fixed_handlers _ c.args.domain.now c.create.new.domain c.args.table.now c.args.buffer c.args.degradation c.match-buffer.factory.settings told c.in-Ok.subscriber c.id.result
-    (λ m s shown. let made = c.in-Ok.ensures.creates m s shown in (made.0, made.1, (subscriber_created (answers_of g.F.BackpressureFn.allows g.G.DegradationFn.allows c.create.new.domain.boxes.subscribers) s c.match-buffer.factory.settings none made.0 None (made.2).0, (made.2).1))) (subscriber-parts {T = g.row.T.Denot} {U = g.row.U.Denot} c.create.new.domain _ c.in-Ok.ensures.live).1 c.id.ensures
+    (λ m s shown. let made = c.in-Ok.ensures.creates m s shown in (made.0, made.1, (subscriber_created (answers_of g.F.BackpressureFn.allows g.G.DegradationFn.allows c.create.new.domain.boxes.subscribers) s c.match-buffer.factory.settings none made.0 None (made.2).0, (made.2).1))) (subscriber-parts {T = g.row.T.Denot} {U = g.row.U.Denot} c.create.new.domain _ c.in-Ok.ensures.live.there).1 c.id.ensures
 
 pub returns-in-Err-clause-carries : goal.returns-in-Err-clause-carries
 returns-in-Err-clause-carries g c =
