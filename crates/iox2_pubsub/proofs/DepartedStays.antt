@@ -42,11 +42,13 @@ module _ {T U : Type 0} where
 
   -- the settings stay, and no subscriber has more connections with closed publishers
   room-stays : (s s' : State T U) → s'.config ≡ s.config → ((q : ℕ) → departed_at s' q ≤ departed_at s q) → RoomStays s s'
-  room-stays s s' same fewer q closes has = record { fits =
-      let limit : expired_limit s'.config ≡ expired_limit s.config = ap expired_limit same in
-      let less : departed_at s' q ≤ departed_at s q = fewer q in
-      let room : departed_at s q + closes ≤ expired_limit s.config = has.fits in
-      omega arith }
+  room-stays s s' same fewer q closes has = record {
+    fits =
+        let limit : expired_limit s'.config ≡ expired_limit s.config = ap expired_limit same in
+        let less : departed_at s' q ≤ departed_at s q = fewer q in
+        let room : departed_at s q + closes ≤ expired_limit s.config = has.fits in
+        omega arith;
+  }
 
   -- each publisher that is there stays
   abbrev PublishersStay : (s s' : State T U) → Type 0
@@ -231,10 +233,12 @@ module _ {T U : Type 0} where
 
   -- a publisher's close adds one at most
   pub publisher-closed-room : (s : State T U) (p : ℕ) (x : Publisher) → IsWellFormed s → (q closes : ℕ) → HasRoom s q (suc closes) → HasRoom (publisher_closed s p x) q closes
-  publisher-closed-room s p x w q closes has = record { fits =
-      let most : departed_at (publisher_closed s p x) q ≤ suc (departed_at s q) = by (s.subscribers q) refl in
-      let room : departed_at s q + suc closes ≤ expired_limit s.config = has.fits in
-      omega arith }
+  publisher-closed-room s p x w q closes has = record {
+    fits =
+        let most : departed_at (publisher_closed s p x) q ≤ suc (departed_at s q) = by (s.subscribers q) refl in
+        let room : departed_at s q + suc closes ≤ expired_limit s.config = has.fits in
+        omega arith;
+  }
     where
       gone-now : (n : ℕ) → is_gone (publisher_closed s p x) n ≡ true → (n ≡ p) ⊎ (is_gone s n ≡ true)
       gone-now n gone = elim (cases_eq n p) [
