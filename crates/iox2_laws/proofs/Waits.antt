@@ -1,6 +1,6 @@
 -- Who waits for a receiver, and where ports stand: no operation changes what a publisher does with a full receiver or without a
 -- connection, and only a send of its own, tried again or given up, changes whether it waits, and with which message. No port moves to
--- another place.
+-- another place, and no subscriber gets another buffer.
 use Rattle.std.proofs.Common.{◌≡◌, ℕ, ◌≤◌, ◌<◌, Bool, true, false, List, [], ◌∷◌, ◌++◌, refl, sym, ap, subst, ◌∙◌, le_refl, le_trans, arith, Option, None, Some}
 use Rattle.std.specs.Prelude.{max, ◌==◌, nat_lt}
 use Rattle.std.specs.Option.{option_map}
@@ -43,11 +43,22 @@ pub record IsAsItWas (Spared : ℕ → Type 0) (p : ℕ) (x x' : Publisher) : Ty
 abbrev pub WasPublisher : (Spared : ℕ → Type 0) → (publishers : ℕ → Option Publisher) → (p : ℕ) → Publisher → Type 0
 WasPublisher Spared publishers p x' = (x : Publisher) × (publishers p ≡ Some x) × IsAsItWas Spared p x x'
 
--- where a subscriber came from, which stands where it did
-abbrev pub WasSubscriber : (subscribers : ℕ → Option Subscriber) → (q : ℕ) → Subscriber → Type 0
-WasSubscriber subscribers q y' = (y : Subscriber) × (subscribers q ≡ Some y) × (y'.place ≡ y.place)
+-- the subscriber stands where it did, and has the buffer that it had
+pub record StandsAsItDid (y y' : Subscriber) : Type 0 where
+  pub place : y'.place ≡ y.place
+  pub buffer : y'.buffer ≡ y.buffer
 
--- Each publisher that is there, of those whose ids were given out, was so before, and so is where each subscriber stands.
+stands_still : (y : Subscriber) → StandsAsItDid y y
+stands_still y = record { place = refl; buffer = refl }
+
+stood : (y z v : Subscriber) → StandsAsItDid y z → StandsAsItDid z v → StandsAsItDid y v
+stood y z v a b = record { place = b.place ∙ a.place; buffer = b.buffer ∙ a.buffer }
+
+-- where a subscriber came from, which stands as it did
+abbrev pub WasSubscriber : (subscribers : ℕ → Option Subscriber) → (q : ℕ) → Subscriber → Type 0
+WasSubscriber subscribers q y' = (y : Subscriber) × (subscribers q ≡ Some y) × StandsAsItDid y y'
+
+-- Each publisher that is there, of those whose ids were given out, was so before, and so was each subscriber.
 pub record Waits {T U : Type 0} (Spared : ℕ → Type 0) (s s' : State T U) : Type 0 where
   pub next_port : s.next_port ≤ s'.next_port
   pub publishers : (p : ℕ) (x' : Publisher) → p < s.next_port → s'.publishers p ≡ Some x' → WasPublisher Spared s.publishers p x'
@@ -57,13 +68,13 @@ pub record Waits {T U : Type 0} (Spared : ℕ → Type 0) (s s' : State T U) : T
 put_subscriber : (subscribers : ℕ → Option Subscriber) (next i : ℕ) (z : Subscriber) → (i < next → WasSubscriber subscribers i z)
     → (q : ℕ) (y' : Subscriber) → q < next → put_at subscribers i (Some z) q ≡ Some y' → WasSubscriber subscribers q y'
 put_subscriber subscribers next i z known q y' low e =
-    found_put subscribers i z (λ k a. k < next → WasSubscriber subscribers k a) q y' e (λ _. known) (λ k old _. (y', old, refl)) low
+    found_put subscribers i z (λ k a. k < next → WasSubscriber subscribers k a) q y' e (λ _. known) (λ k old _. (y', old, stands_still y')) low
 
--- a subscriber that may be there is changed, and stands where it did
-mapped_subscriber : (subscribers : ℕ → Option Subscriber) (f : Subscriber → Subscriber) (q : ℕ) → ((y : Subscriber) → (f y).place ≡ y.place)
+-- a subscriber that may be there is changed, and stands as it did
+mapped_subscriber : (subscribers : ℕ → Option Subscriber) (f : Subscriber → Subscriber) (q : ℕ) → ((y : Subscriber) → StandsAsItDid y (f y))
     → (y' : Subscriber) → option_map f (subscribers q) ≡ Some y' → WasSubscriber subscribers q y'
 mapped_subscriber subscribers f q stays y' e =
-    found_mapped f (subscribers q) y' (WasSubscriber subscribers q y') e (λ y old same. (y, old, ap (λ (v : Subscriber). v.place) same ∙ stays y))
+    found_mapped f (subscribers q) y' (WasSubscriber subscribers q y') e (λ y old same. (y, old, subst (StandsAsItDid y) (sym same) (stays y)))
 
 module _ (Spared : ℕ → Type 0) where
   as_it_is : (p : ℕ) (x : Publisher) → IsAsItWas Spared p x x
@@ -86,7 +97,7 @@ module _ (Spared : ℕ → Type 0) where
 
   module _ {T U : Type 0} where
     pub waits_itself : (s : State T U) → Waits Spared s s
-    waits_itself s = record { next_port = le_refl s.next_port; publishers = λ p x low e. (x, e, as_it_is p x); subscribers = λ q y low e. (y, e, refl) }
+    waits_itself s = record { next_port = le_refl s.next_port; publishers = λ p x low e. (x, e, as_it_is p x); subscribers = λ q y low e. (y, e, stands_still y) }
 
     pub waits_trans : (s s' s'' : State T U) → Waits Spared s s' → Waits Spared s' s'' → Waits Spared s s''
     waits_trans s s' s'' a b = record {
@@ -96,7 +107,7 @@ module _ (Spared : ℕ → Type 0) where
           let v = b.publishers p x low' e in let u = a.publishers p v.0 low v.1 in (u.0, u.1, as_it_was p u.0 v.0 x u.2 v.2);
       subscribers = λ q y low e.
           let low' : q < s'.next_port = (let rises = a.next_port in omega (arith, rises)) in
-          let v = b.subscribers q y low' e in let u = a.subscribers q v.0 low v.1 in (u.0, u.1, v.2 ∙ u.2);
+          let v = b.subscribers q y low' e in let u = a.subscribers q v.0 low v.1 in (u.0, u.1, stood u.0 v.0 y u.2 v.2);
     }
 
     -- the subscribers that were known stand where they did
@@ -105,7 +116,7 @@ module _ (Spared : ℕ → Type 0) where
 
     -- the subscribers are the same
     same_subscribers : (s s' : State T U) → s'.subscribers ≡ s.subscribers → Stand s s'
-    same_subscribers s s' subscribers q y low e = (y, ap (λ (f : ℕ → Option Subscriber). f q) (sym subscribers) ∙ e, refl)
+    same_subscribers s s' subscribers q y low e = (y, ap (λ (f : ℕ → Option Subscriber). f q) (sym subscribers) ∙ e, stands_still y)
 
     -- the publishers are the same
     same_publishers : (s s' : State T U) → s'.next_port ≡ s.next_port → s'.publishers ≡ s.publishers → Stand s s' → Waits Spared s s'
@@ -138,7 +149,7 @@ module _ (Spared : ℕ → Type 0) where
         (λ _ h. subst (Waits Spared s) (sym h.2) (record {
           next_port = le_refl s.next_port;
           publishers = put_publisher s.publishers s.next_port p (record x { ends = (h.0).ends; is_due = false }) (λ _. (x, present, record { place = refl; strategy = refl; handler = refl; degradation = refl; blocked = λ _. refl }));
-          subscribers = λ q y low e. (y, e, refl);
+          subscribers = λ q y low e. (y, e, stands_still y);
         }))
         (λ _ h. subst (Waits Spared s) (sym h.0) (waits_itself s)))
 
@@ -150,7 +161,7 @@ module _ (Spared : ℕ → Type 0) where
         (λ _ h. subst (Waits Spared s) (sym h.2) (record {
           next_port = le_refl s.next_port;
           publishers = λ p x low e. (x, e, as_it_is p x);
-          subscribers = put_subscriber s.subscribers s.next_port q (record y { ends = (h.0).ends; expired = (h.0).expired; is_due = (h.0).is_due }) (λ _. (y, present, refl));
+          subscribers = put_subscriber s.subscribers s.next_port q (record y { ends = (h.0).ends; expired = (h.0).expired; is_due = (h.0).is_due }) (λ _. (y, present, record { place = refl; buffer = refl }));
         }))
         (λ _ h. subst (Waits Spared s) (sym h.0) (waits_itself s)))
 
@@ -164,7 +175,7 @@ module _ (Spared : ℕ → Type 0) where
     new_publisher_waits s given place = record {
       next_port = omega arith;
       publishers = put_publisher s.publishers s.next_port s.next_port (new_publisher s given place) (λ low. absurd (omega arith));
-      subscribers = λ q y low e. mapped_subscriber s.subscribers (λ z. record z { is_due = true }) q (λ z. refl) y e;
+      subscribers = λ q y low e. mapped_subscriber s.subscribers (λ z. record z { is_due = true }) q (λ z. record { place = refl; buffer = refl }) y e;
     }
 
     new_subscriber_waits : (s : State T U) (given : SubscriberSettings) (place : ℕ) → Waits Spared s (with_new_subscriber s given place)
@@ -213,7 +224,7 @@ module _ (Spared : ℕ → Type 0) where
       publishers = put_publisher s.publishers s.next_port p
           (record x { loans = x.loans ++ s.next_message ∷ []; longest_granted = max x.longest_granted len; segments = segments })
           (λ _. (x, present, record { place = refl; strategy = refl; handler = refl; degradation = refl; blocked = λ _. refl }));
-      subscribers = λ q y low e. (y, e, refl);
+      subscribers = λ q y low e. (y, e, stands_still y);
     }
 
     pub loan_set_waits : (s : State T U) (n : ℕ) (l : Option (Loan T U)) → Waits Spared s (with_loan s n l)
@@ -225,7 +236,7 @@ module _ (Spared : ℕ → Type 0) where
       next_port = le_refl s.next_port;
       publishers = λ p x low e. at_each s.publishers i (option_map f (s.publishers i)) (λ k o. o ≡ Some x → WasPublisher Spared s.publishers k x) p
           (λ _ e. mapped_publisher s.publishers f i stays x e) (λ _ e. (x, e, as_it_is p x)) e;
-      subscribers = λ q y low e. (y, e, refl);
+      subscribers = λ q y low e. (y, e, stands_still y);
     }
 
     pub published_waits : (s : State T U) (p n : ℕ) → Waits Spared s (published s p n)
@@ -322,12 +333,12 @@ module _ (Spared : ℕ → Type 0) where
     pruned_waits : (s : State T U) (q : ℕ) → Waits Spared s (subscriber_pruned s q)
     pruned_waits s q = same_publishers s (subscriber_pruned s q) refl refl
         (λ i y low e. at_each s.subscribers q (option_map (pruned s q) (s.subscribers q)) (λ k o. o ≡ Some y → WasSubscriber s.subscribers k y) i
-        (λ _ e. mapped_subscriber s.subscribers (pruned s q) q (λ z. refl) y e) (λ _ e. (y, e, refl)) e)
+        (λ _ e. mapped_subscriber s.subscribers (pruned s q) q (λ z. record { place = refl; buffer = refl }) y e) (λ _ e. (y, e, stands_still y)) e)
 
     -- a subscriber that is unused is gone
     freed_waits : (s : State T U) (q : ℕ) → Waits Spared s (freed_if_unused s q)
     freed_waits s q = cond_both (is_unused s q) (place_freed s q) s (Waits Spared s)
-        (λ _. all_due s (place_freed s q) (le_refl s.next_port) refl (λ i y low e. found_removed s.subscribers q i y (WasSubscriber s.subscribers i y) e (λ _ old. (y, old, refl))))
+        (λ _. all_due s (place_freed s q) (le_refl s.next_port) refl (λ i y low e. found_removed s.subscribers q i y (WasSubscriber s.subscribers i y) e (λ _ old. (y, old, stands_still y))))
         (λ _. waits_itself s)
 
     pub released_waits : (s : State T U) (p q n : ℕ) → Waits Spared s (released s p q n)
@@ -345,12 +356,12 @@ module _ (Spared : ℕ → Type 0) where
       subscribers = λ q y low e.
           let gone : State T U = publisher_gone s p x in
           let mid : State T U = subscribers_pruned gone in
-          let v = mapped_subscriber mid.subscribers (λ z. record z { is_due = true }) q (λ z. refl) y e in
-          let u = mapped_subscriber s.subscribers (pruned gone q) q (λ z. refl) v.0 v.1 in (u.0, u.1, v.2 ∙ u.2);
+          let v = mapped_subscriber mid.subscribers (λ z. record z { is_due = true }) q (λ z. record { place = refl; buffer = refl }) y e in
+          let u = mapped_subscriber s.subscribers (pruned gone q) q (λ z. record { place = refl; buffer = refl }) v.0 v.1 in (u.0, u.1, stood u.0 v.0 y u.2 v.2);
     }
 
     pub subscriber_closed_waits : (s : State T U) (q : ℕ) (y : Subscriber) → s.subscribers q ≡ Some y → Waits Spared s (subscriber_closed s q y)
     subscriber_closed_waits s q y present =
         let mid : State T U = subscriber_shut s q y in
-        waits_trans s mid (subscriber_closed s q y) (all_due s mid (le_refl s.next_port) refl (put_subscriber s.subscribers s.next_port q (record y { is_open = false }) (λ _. (y, present, refl))))
+        waits_trans s mid (subscriber_closed s q y) (all_due s mid (le_refl s.next_port) refl (put_subscriber s.subscribers s.next_port q (record y { is_open = false }) (λ _. (y, present, record { place = refl; buffer = refl }))))
         (waits_trans mid (subscriber_pruned mid q) (subscriber_closed s q y) (pruned_waits mid q) (freed_waits (subscriber_pruned mid q) q))

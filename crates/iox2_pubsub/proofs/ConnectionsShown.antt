@@ -1,5 +1,5 @@
 -- Which publisher is connected with which subscriber, seen from outside, and what that says of calls.
-use Rattle.std.proofs.Common.{◌≡◌, ℕ, suc, ◌<◌, Bool, true, false, List, [], ◌∷◌, ◌++◌, map, drop, length, sym, ap, subst, ◌∙◌, arith, Option, None, Some, ◌⊎◌, inl, inr, ⊎_elim}
+use Rattle.std.proofs.Common.{◌≡◌, ℕ, suc, ◌<◌, ◌≤◌, Bool, true, false, List, [], ◌∷◌, ◌++◌, map, drop, length, sym, ap, subst, ◌∙◌, arith, Option, None, Some, ◌⊎◌, inl, inr, ⊎_elim}
 use Rattle.std.specs.Prelude.{◌≢◌, IfOk, Result, Ok, Err}
 use Rattle.std.specs.Bool.{MatchBool}
 use Rattle.std.specs.List.{filter_map}
@@ -18,7 +18,7 @@ use Rattle.iox2_store.specs.declared.errors.PublisherCreateError.{PublisherCreat
 use Rattle.iox2_domain.specs.Kept.{Kept, state_of, entries_of}
 use Rattle.iox2_domain.specs.Shows.{Shows}
 use Rattle.iox2_pubsub.specs.ConnectedPorts.{Connects}
-use Rattle.iox2_pubsub.specs.Live.{ConnectionsStay, IsConnected, IsServed, IsUpToDate, NoneRefused, payloads_from, waiting, IsSubscriberKey, subscriber_key}
+use Rattle.iox2_pubsub.specs.Live.{ConnectionsStay, HasItsBuffer, IsConnected, IsFull, IsServed, IsUpToDate, NoneRefused, payloads_from, waiting, IsSubscriberKey, subscriber_key}
 use Rattle.iox2_pubsub.specs.SendCalls.{IsDelivered, Sends, messages_after}
 use Rattle.iox2_pubsub.specs.declared.send_outcome.SendOutcome.{SendOutcome}
 use Rattle.iox2_pubsub.specs.declared.send_outcome.SendOutcome.TheVariants.{Delivered, Blocked}
@@ -32,6 +32,7 @@ use Rattle.iox2_pubsub.specs.declared.subscriber.Subscriber.{Subscriber}
 use Rattle.iox2_pubsub.proofs.ConnectionsMade.{create-publisher-connections, create-publisher-connects}
 use Rattle.iox2_pubsub.proofs.ConnectionsStay.{publisher-closed-connections, subscriber-closed-connections}
 use Rattle.iox2_pubsub.proofs.ConnectedCounts.{publisher-closed-keeps}
+use Rattle.iox2_pubsub.proofs.LiveParts.{buffer-parts}
 use Rattle.iox2_pubsub.proofs.PayloadLists.{map_same}
 use Rattle.iox2_pubsub.proofs.ServedLists.{send-served, send-counts, send-full}
 use Rattle.iox2_pubsub.proofs.UpToDateShown.{connected, connected-in, up-to-date-in}
@@ -43,12 +44,12 @@ module _ {T U F G : Type 0} (kept : Kept T U F G) (m : Messages T U) (s : State 
   from-shown = payloads-from-are kept p subscriber ∙ ap (λ (t : State T U). map (payload_of (entries_of kept)) (waiting_from t p subscriber.id)) (sym shown.state)
 
 -- as many payloads as numbers
-mapped-some : {X : Type 0} (f : ℕ → X) (ns : List ℕ) (xs : List X) → xs ≡ map f ns → 0 < length ns → 0 < length xs
-mapped-some f ns xs is some = let same : length xs ≡ length ns = ap length is ∙ length-map ns f in omega (arith, same, some)
+mapped-least : {X : Type 0} (f : ℕ → X) (ns : List ℕ) (xs : List X) (least : ℕ) → xs ≡ map f ns → least ≤ length ns → least ≤ length xs
+mapped-least f ns xs least is some = let same : length xs ≡ length ns = ap length is ∙ length-map ns f in omega (arith, same, some)
 
 served-parts : {T U F G : Type 0} (old new : Kept T U F G) (p : ℕ) (subscriber : Subscriber) (values : List T)
     → ((payloads_from new p subscriber ≡ payloads_from old p subscriber ++ values ∷ []) × (waiting new subscriber ≡ suc (waiting old subscriber)))
-    ⊎ ((0 < length (payloads_from old p subscriber))
+    ⊎ (IsFull old p subscriber
     × MatchBool (old.config).enable_safe_overflow
     (payloads_from new p subscriber ≡ drop 1 (payloads_from old p subscriber) ++ values ∷ [])
     (payloads_from new p subscriber ≡ payloads_from old p subscriber)
@@ -103,6 +104,15 @@ module _ {T U F G : Type 0} (old new : Kept T U F G) (m m' : Messages T U) (s s'
     old-payloads : map eo before ≡ payloads_from old l.publisher subscriber
     old-payloads = sym (from-shown old m s shown l.publisher subscriber)
 
+    -- the mailbox is as full as the subscriber's record has it, which is as its handle has it
+    full-here : 0 < length before → (c.subscriber).buffer ≤ length before → IsFull old l.publisher subscriber
+    full-here some full = record {
+      some = mapped-least eo before (payloads_from old l.publisher subscriber) 1 (sym old-payloads) some;
+      full = λ its.
+          let same : (c.subscriber).buffer ≡ subscriber.buffer_size = (buffer-parts old subscriber its).1 c.subscriber (ap (λ (t : State T U). t.subscribers subscriber.id) (sym shown.state) ∙ c.there) in
+          mapped-least eo before (payloads_from old l.publisher subscriber) subscriber.buffer_size (sym old-payloads) (omega (arith, same, full));
+    }
+
     pub served : IsServed old new l.publisher subscriber values
     served =
         served-parts old new l.publisher subscriber values (⊎_elim
@@ -111,12 +121,12 @@ module _ {T U F G : Type 0} (old new : Kept T U F G) (m m' : Messages T U) (s s'
           waiting-is new m' s' shown' subscriber ∙ send-counts environment s n l s' count shown.well_formed free h subscriber.id c fits ∙ ap suc (sym (waiting-is old m s shown subscriber)),
         ))
         (λ full. inr (
-          mapped-some eo before (payloads_from old l.publisher subscriber) (sym old-payloads) full.0,
+          full-here (full.0).0 (full.0).1,
           subst (λ (b : Bool). MatchBool b
               (payloads_from new l.publisher subscriber ≡ drop 1 (payloads_from old l.publisher subscriber) ++ values ∷ [])
               (payloads_from new l.publisher subscriber ≡ payloads_from old l.publisher subscriber)) (ap (λ (t : State T U). (t.config).enable_safe_overflow) shown.state)
               (matched (s.config).enable_safe_overflow full.1),
-          waiting-is new m' s' shown' subscriber ∙ send-full environment s n l s' count shown.well_formed free h subscriber.id c full.0 full.1 ∙ sym (waiting-is old m s shown subscriber),
+          waiting-is new m' s' shown' subscriber ∙ send-full environment s n l s' count shown.well_formed free h subscriber.id c (full.0).0 full.1 ∙ sym (waiting-is old m s shown subscriber),
         ))
         (send-served environment s n l s' count shown.well_formed free h subscriber.id c))
       where

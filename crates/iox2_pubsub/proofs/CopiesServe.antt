@@ -1,20 +1,14 @@
 -- What a copy that is lent, written and sent leaves waiting, from what its send leaves.
-use Rattle.std.proofs.Common.{◌≡◌, ℕ, suc, Bool, ◌<◌, List, [], ◌∷◌, ◌++◌, drop, length, sym, ap, subst, ◌∙◌, arith, ◌⊎◌, Result, Ok, Err}
+use Rattle.std.proofs.Common.{◌≡◌, ℕ, suc, Bool, ◌<◌, ◌≤◌, List, [], ◌∷◌, ◌++◌, drop, length, sym, ap, subst, ◌∙◌, arith, inl, inr, ⊎_elim, Result, Ok, Err}
 use Rattle.std.specs.Prelude.{IfOk}
 use Rattle.std.specs.Bool.{MatchBool}
 use Rattle.iox2_store.specs.declared.errors.SendError.{SendError}
 use Rattle.iox2_store.specs.declared.service_config.ServiceConfig.{ServiceConfig}
 use Rattle.iox2_domain.specs.Kept.{Kept}
-use Rattle.iox2_pubsub.specs.Live.{AllFrom, AreAllSlices, IsConnected, IsServed, OthersSend, UpToDateStay, WaitingStays, payloads_from, waiting}
+use Rattle.iox2_pubsub.specs.Live.{AllFrom, AreAllSlices, HasItsBuffer, IsConnected, IsFull, IsServed, OthersSend, UpToDateStay, WaitingStays, payloads_from, waiting}
 use Rattle.iox2_pubsub.specs.SendCalls.{IsDelivered}
 use Rattle.iox2_pubsub.specs.declared.send_outcome.SendOutcome.{SendOutcome}
 use Rattle.iox2_pubsub.specs.declared.subscriber.Subscriber.{Subscriber}
-
--- What `IsServed` says of lists and numbers: what waited from the publisher and how many in all, and the same afterwards.
-abbrev Serves : {T : Type 0} → (before : List (List T)) → (count : ℕ) → (overflow : Bool) → (after : List (List T)) → (next : ℕ) → List T → Type 0
-Serves before count overflow after next values =
-    ((after ≡ before ++ values ∷ []) × (next ≡ suc count))
-    ⊎ ((0 < length before) × MatchBool overflow (after ≡ drop 1 before ++ values ∷ []) (after ≡ before) × (next ≡ count))
 
 -- one call after another
 pub waits-both : {T U F G : Type 0} {old mid new : Kept T U F G} → WaitingStays old mid → WaitingStays mid new → WaitingStays old new
@@ -33,21 +27,38 @@ pub connected-as : {T U F G : Type 0} {old new : Kept T U F G} → UpToDateStay 
 connected-as {T} {U} {F} {G} {old} {new} stay p lender its subscriber is = subst (λ i. IsConnected new i subscriber) (sym its) (stay.connections p subscriber is)
 
 module _ {T U F G : Type 0} (old mid new : Kept T U F G) (waits : WaitingStays old mid) where
-  served-since : (settings : mid.config ≡ old.config) (p : ℕ) (subscriber : Subscriber) (values : List T) → IsServed mid new p subscriber values → IsServed old new p subscriber values
+  from-since : (p : ℕ) (subscriber : Subscriber) → payloads_from mid p subscriber ≡ payloads_from old p subscriber
+  from-since p subscriber = ap (λ (f : ℕ → Subscriber → List (List T)). f p subscriber) waits.from
+
+  full-since : ((it : Subscriber) → HasItsBuffer old it → HasItsBuffer mid it) → (p : ℕ) (subscriber : Subscriber) → IsFull mid p subscriber → IsFull old p subscriber
+  full-since buffers p subscriber full = record {
+    some = subst (λ (before : List (List T)). 0 < length before) (from-since p subscriber) full.some;
+    full = λ its. subst (λ (before : List (List T)). subscriber.buffer_size ≤ length before) (from-since p subscriber) (full.full (buffers subscriber its));
+  }
+
+  served-since : (settings : mid.config ≡ old.config) (buffers : (it : Subscriber) → HasItsBuffer old it → HasItsBuffer mid it) (p : ℕ) (subscriber : Subscriber) (values : List T)
+      → IsServed mid new p subscriber values → IsServed old new p subscriber values
   unfolding IsServed
-  served-since settings p subscriber values served =
-      subst (λ (before : List (List T)). Serves before (waiting old subscriber) (old.config).enable_safe_overflow (payloads_from new p subscriber) (waiting new subscriber) values)
-      (ap (λ (f : ℕ → Subscriber → List (List T)). f p subscriber) waits.from)
-      (subst (λ (count : ℕ). Serves (payloads_from mid p subscriber) count (old.config).enable_safe_overflow (payloads_from new p subscriber) (waiting new subscriber) values) (same-count waits subscriber)
-      (subst (λ (overflow : Bool). Serves (payloads_from mid p subscriber) (waiting mid subscriber) overflow (payloads_from new p subscriber) (waiting new subscriber) values)
-      (ap (λ (c : ServiceConfig). c.enable_safe_overflow) settings) served))
+  served-since settings buffers p subscriber values served =
+      let counted : waiting mid subscriber ≡ waiting old subscriber = same-count waits subscriber in
+      let same : payloads_from mid p subscriber ≡ payloads_from old p subscriber = from-since p subscriber in
+      ⊎_elim
+      (λ came. inl (came.0 ∙ ap (λ before. before ++ values ∷ []) same, came.1 ∙ ap suc counted))
+      (λ full. inr (
+        full-since buffers p subscriber full.0,
+        subst (λ (before : List (List T)). MatchBool (old.config).enable_safe_overflow (payloads_from new p subscriber ≡ drop 1 before ++ values ∷ []) (payloads_from new p subscriber ≡ before)) same
+            (subst (λ (overflow : Bool). MatchBool overflow (payloads_from new p subscriber ≡ drop 1 (payloads_from mid p subscriber) ++ values ∷ []) (payloads_from new p subscriber ≡ payloads_from mid p subscriber))
+            (ap (λ (c : ServiceConfig). c.enable_safe_overflow) settings) full.1),
+        full.2 ∙ counted,
+      ))
+      served
 
   -- whom the send serves, seen from before
-  pub copy-serves : (settings : mid.config ≡ old.config) (p lender : ℕ) → lender ≡ p → (subscriber : Subscriber) (values : List T) (result : Result SendOutcome SendError)
+  pub copy-serves : (settings : mid.config ≡ old.config) (buffers : (it : Subscriber) → HasItsBuffer old it → HasItsBuffer mid it) (p lender : ℕ) → lender ≡ p → (subscriber : Subscriber) (values : List T) (result : Result SendOutcome SendError)
       → IfOk result (λ outcome. IsDelivered outcome → IsServed mid new lender subscriber values) → IfOk result (λ outcome. IsDelivered outcome → IsServed old new p subscriber values)
-  copy-serves settings p lender its subscriber values (Ok outcome) serves = λ delivered.
-      served-since settings p subscriber values (subst (λ i. IsServed mid new i subscriber values) its (serves delivered))
-  copy-serves settings p lender its subscriber values (Err error) serves = tt
+  copy-serves settings buffers p lender its subscriber values (Ok outcome) serves = λ delivered.
+      served-since settings buffers p subscriber values (subst (λ i. IsServed mid new i subscriber values) its (serves delivered))
+  copy-serves settings buffers p lender its subscriber values (Err error) serves = tt
 
   pub copy-others : (p lender : ℕ) → lender ≡ p → OthersSend lender mid new → OthersSend p old new
   copy-others p lender its others = λ other away. others other (λ same. away (same ∙ its)) ∙ ap (λ (f : ℕ → Subscriber → List (List T)). f other) waits.from
@@ -57,6 +68,14 @@ pub copy-arrives : {T U F G : Type 0} (new : Kept T U F G) (p lender : ℕ) → 
     → IfOk result (λ outcome. IsDelivered outcome → AllFrom new lender subscriber values) → IfOk result (λ outcome. IsDelivered outcome → AllFrom new p subscriber values)
 copy-arrives new p lender its subscriber values result arrives =
     subst (λ i. IfOk result (λ outcome. IsDelivered outcome → AllFrom new i subscriber values)) its arrives
+
+-- what waits is all of one publisher still
+pub all-since : {T U F G : Type 0} {old mid : Kept T U F G} → WaitingStays old mid → (p lender : ℕ) → lender ≡ p → (subscriber : Subscriber) (earlier : List (List T)) → AllFrom old p subscriber earlier
+    → AllFrom mid lender subscriber earlier
+all-since {T} {U} {F} {G} {old} waits p lender its subscriber earlier all = record {
+  all = ap (λ (f : Subscriber → List (List T)). f subscriber) waits.all ∙ all.all;
+  from = ap (λ (f : ℕ → Subscriber → List (List T)). f lender subscriber) waits.from ∙ subst (λ i. payloads_from old i subscriber ≡ earlier) (sym its) all.from;
+}
 
 -- of nothing all are such a message
 pub none-are-all : {T : Type 0} (lists : List (List T)) (values : List T) → length lists ≡ 0 → AreAllSlices lists values

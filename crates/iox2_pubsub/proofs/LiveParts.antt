@@ -14,7 +14,7 @@ use Rattle.iox2_domain.specs.Kept.{Kept, state_of, entries_of}
 use Rattle.iox2_domain.specs.LoanCalls.{HasCell, HasLoanHeader, HasLoanUserHeader, HoldsUnwritten, HoldsWritten}
 use Rattle.iox2_pubsub.proofs.UnfailedSends.{HasNotFailed}
 use Rattle.iox2_pubsub.specs.Handlers.{may_wait}
-use Rattle.iox2_pubsub.specs.Live.{IsSingleValued, IsPlacedPublisher, IsPlacedSubscriber, IsPublisherKey, IsSubscriberKey, IsLoanKey, IsSampleKey, IsBlockedKey, IsUnblocked, Overflows, PassesFull, NeverFails, NeverWaits, HasMark, IsFromOrigin, UnwrittenReads, LoanReads, SampleReads, LoanHasHeader, LoanHasUserHeader, SampleHasHeader, SampleHasUserHeader, IsUnwritten, IsWritten}
+use Rattle.iox2_pubsub.specs.Live.{IsSingleValued, HasItsBuffer, IsPlacedPublisher, IsPlacedSubscriber, IsPublisherKey, IsSubscriberKey, IsLoanKey, IsSampleKey, IsBlockedKey, IsUnblocked, Overflows, PassesFull, NeverFails, NeverWaits, HasMark, IsFromOrigin, UnwrittenReads, LoanReads, SampleReads, LoanHasHeader, LoanHasUserHeader, SampleHasHeader, SampleHasUserHeader, IsUnwritten, IsWritten}
 use Rattle.iox2_pubsub.specs.Slices.{HasUnwrittenCells, HasValues, SampleHasValues}
 use Rattle.iox2_pubsub.specs.declared.publisher.Publisher.{Publisher as PublisherHandle}
 use Rattle.iox2_pubsub.specs.declared.subscriber.Subscriber.{Subscriber as SubscriberHandle}
@@ -151,6 +151,16 @@ module _ {T U F G : Type 0} (kept : Kept T U F G) where
       → IsPlacedSubscriber kept it
   unfolding IsPlacedSubscriber
   placed-subscriber-from it parts = parts
+
+  pub buffer-parts : (it : SubscriberHandle) → HasItsBuffer kept it
+      → (it.id < (state_of kept).next_port) × ((y : Subscriber) → (state_of kept).subscribers it.id ≡ Some y → y.buffer ≡ it.buffer_size)
+  unfolding HasItsBuffer
+  buffer-parts it its = its
+
+  pub buffer-from : (it : SubscriberHandle) → (it.id < (state_of kept).next_port) × ((y : Subscriber) → (state_of kept).subscribers it.id ≡ Some y → y.buffer ≡ it.buffer_size)
+      → HasItsBuffer kept it
+  unfolding HasItsBuffer
+  buffer-from it parts = parts
 
   -- who never waits doesn't, whatever the rest of the key
   pub never-waits-alike : (key key' : Key) → key'.port ≡ key.port → NeverWaits kept key → NeverWaits kept key'

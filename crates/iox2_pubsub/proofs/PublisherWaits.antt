@@ -3,6 +3,7 @@ use Rattle.std.proofs.Common.{◌≡◌, ℕ, suc, ◌+◌, ◌<◌, ◌≤◌, 
 use Rattle.std.specs.Prelude.{◌≢◌, IfOk}
 use Rattle.std.specs.List.{AllByRecursion}
 use Rattle.std.proofs.lemmas.Bool.{cases_eq}
+use Rattle.std.proofs.lemmas.List.{length-append}
 use Rattle.iox2_store.specs.machine.Numbers.{contains}
 use Rattle.iox2_store.specs.machine.State.{State, Messages}
 use Rattle.iox2_store.specs.machine.Waiting.{sum_below, waiting_from}
@@ -13,7 +14,7 @@ use Rattle.iox2_domain.specs.Shows.{Shows}
 use Rattle.iox2_laws.proofs.MailboxLemmas.{has_numbers-contains}
 use Rattle.iox2_laws.proofs.NumberLemmas.{contains_first, contains_left}
 use Rattle.iox2_laws.proofs.WaitingCounts.{cond_among, sum_part}
-use Rattle.iox2_pubsub.specs.Live.{AllFrom, AreAllSlices, IsServed, LeavesLater, TakesFirst, TakesOldest, payloads, payloads_from, waiting, sample_key}
+use Rattle.iox2_pubsub.specs.Live.{AllFrom, AreAllSlices, HasItsBuffer, IsServed, LeavesLater, TakesFirst, TakesOldest, payloads, payloads_from, waiting, sample_key}
 use Rattle.iox2_pubsub.specs.Payloads.{payload_of}
 use Rattle.iox2_pubsub.specs.SendCalls.{IsDelivered}
 use Rattle.iox2_pubsub.specs.Slices.{SampleHasValues}
@@ -113,12 +114,31 @@ module _ {T U F G : Type 0} (old new : Kept T U F G) (before : IsWellFormed (sta
       let one : length (payloads_from new p subscriber) ≡ 1 = ap length first in
       let all : waiting new subscriber ≡ 1 = came.1 ∙ ap suc none in
       record { all = only-from new after subscriber p (all ∙ sym one) ∙ first; from = first })
-      (λ full. let some : 0 < length (payloads_from old p subscriber) = full.0 in absurd (omega arith))
+      (λ full. let some : 0 < length (payloads_from old p subscriber) = (full.0).some in absurd (omega arith))
       served
     where
       no-items : (xs : List (List T)) → length xs ≡ 0 → xs ≡ []
       no-items [] none = refl
       no-items (x ∷ xs) none = absurd (omega arith)
+
+  -- what is served where there is room joins all that waits
+  served-joins : (values : List T) (earlier : List (List T)) → IsServed old new p subscriber values → AllFrom old p subscriber earlier → HasItsBuffer old subscriber
+      → length earlier < subscriber.buffer_size → AllFrom new p subscriber (earlier ++ values ∷ [])
+  unfolding IsServed
+  served-joins values earlier served all its room =
+      ⊎_elim
+      (λ came.
+      let from : payloads_from new p subscriber ≡ earlier ++ values ∷ [] = came.0 ∙ ap (λ xs. xs ++ values ∷ []) all.from in
+      let longer : length (earlier ++ values ∷ []) ≡ length earlier + 1 = length-append earlier (values ∷ []) in
+      let now : length (payloads_from new p subscriber) ≡ length (earlier ++ values ∷ []) = ap length from in
+      let was : waiting old subscriber ≡ length earlier = ap length all.all in
+      let more : waiting new subscriber ≡ suc (waiting old subscriber) = came.1 in
+      record { all = only-from new after subscriber p (omega (arith, longer, now, was, more)) ∙ from; from = from })
+      (λ full.
+      let least : subscriber.buffer_size ≤ length (payloads_from old p subscriber) = (full.0).full its in
+      let same : length (payloads_from old p subscriber) ≡ length earlier = ap length all.from in
+      absurd (omega (arith, least, same, room)))
+      served
 
   -- what is received where all is of one publisher is the first of it
   received-first : (sample : Sample) → TakesOldest subscriber sample old new → waiting new subscriber < waiting old subscriber
@@ -168,6 +188,13 @@ module _ {T U F G : Type 0} (old new : Kept T U F G) (m m' : Messages T U) (s s'
       → IfOk result (λ outcome. IsDelivered outcome → IsServed old new p subscriber values) → IfOk result (λ outcome. IsDelivered outcome → AllFrom new p subscriber (values ∷ []))
   send-arrives p values none (Ok outcome) serves = λ delivered. served-first old new before-well after-well p subscriber values (serves delivered) none
   send-arrives p values none (Err error) serves = tt
+
+  -- and where there is room it joins what waits, if that is all of its publisher
+  pub send-joins : (p : ℕ) (values : List T) (earlier : List (List T)) → AllFrom old p subscriber earlier → HasItsBuffer old subscriber → length earlier < subscriber.buffer_size
+      → (result : Result SendOutcome SendError) → IfOk result (λ outcome. IsDelivered outcome → IsServed old new p subscriber values)
+      → IfOk result (λ outcome. IsDelivered outcome → AllFrom new p subscriber (earlier ++ values ∷ []))
+  send-joins p values earlier all its room (Ok outcome) serves = λ delivered. served-joins old new before-well after-well p subscriber values earlier (serves delivered) all its room
+  send-joins p values earlier all its room (Err error) serves = tt
 
   -- and a receive takes the first
   pub receive-takes-first : (sample : Sample) → TakesOldest subscriber sample old new → waiting new subscriber < waiting old subscriber → TakesFirst subscriber sample old new

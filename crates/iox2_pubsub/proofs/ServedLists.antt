@@ -15,20 +15,22 @@ use Rattle.iox2_pubsub.proofs.ConnectedCounts.{send-one-more, send-as-many}
 
 -- The number stands last. Where there was no room, which there is where nothing is, the first went in its place, with overflow; without, it
 -- doesn't stand there.
-abbrev pub ServedLists : (before now : List ℕ) → (n : ℕ) → (overflow : Bool) → Type 0
-ServedLists before now n overflow = (now ≡ before ++ n ∷ []) ⊎ ((0 < length before) × MatchBool overflow (now ≡ drop 1 before ++ n ∷ []) (now ≡ before))
+abbrev pub ServedLists : (before now : List ℕ) → (n buffer : ℕ) → (overflow : Bool) → Type 0
+ServedLists before now n buffer overflow =
+    (now ≡ before ++ n ∷ []) ⊎ (((0 < length before) × (buffer ≤ length before)) × MatchBool overflow (now ≡ drop 1 before ++ n ∷ []) (now ≡ before))
 
 served-lists : (box : Mailbox) (n buffer : ℕ) (overflow : Bool) (now : List ℕ) → 0 < buffer → now ≡ (cond (has_room buffer box || overflow) (with_appended buffer n box) box).waiting
-    → ServedLists box.waiting now n overflow
+    → ServedLists box.waiting now n buffer overflow
 served-lists box n buffer overflow now some is = by (has_room buffer box) refl overflow is where
-  by : (room : Bool) → has_room buffer box ≡ room → (overflow : Bool) → now ≡ (cond (has_room buffer box || overflow) (with_appended buffer n box) box).waiting → ServedLists box.waiting now n overflow
+  by : (room : Bool) → has_room buffer box ≡ room → (overflow : Bool) → now ≡ (cond (has_room buffer box || overflow) (with_appended buffer n box) box).waiting
+      → ServedLists box.waiting now n buffer overflow
   by true e overflow is = inl (is ∙ ap (λ (b : Bool). (cond (b || overflow) (record box { waiting = cond b box.waiting (drop 1 box.waiting) ++ n ∷ [] }) box).waiting) e)
   by false e true is =
       let full : buffer ≤ length box.waiting = ltb-false _ _ e in
-      inr (omega (arith, full, some), is ∙ ap (λ (b : Bool). (cond (b || true) (record box { waiting = cond b box.waiting (drop 1 box.waiting) ++ n ∷ [] }) box).waiting) e)
+      inr ((omega (arith, full, some), full), is ∙ ap (λ (b : Bool). (cond (b || true) (record box { waiting = cond b box.waiting (drop 1 box.waiting) ++ n ∷ [] }) box).waiting) e)
   by false e false is =
       let full : buffer ≤ length box.waiting = ltb-false _ _ e in
-      inr (omega (arith, full, some), is ∙ ap (λ (b : Bool). (cond (b || false) (record box { waiting = cond b box.waiting (drop 1 box.waiting) ++ n ∷ [] }) box).waiting) e)
+      inr ((omega (arith, full, some), full), is ∙ ap (λ (b : Bool). (cond (b || false) (record box { waiting = cond b box.waiting (drop 1 box.waiting) ++ n ∷ [] }) box).waiting) e)
 
 -- a list of which the first went and one came is as long
 as-long : (ns : List ℕ) (n : ℕ) → 0 < length ns → length ns ≡ length (drop 1 ns ++ n ∷ [])
@@ -37,9 +39,9 @@ as-long (m ∷ ns) n some = let more : length (ns ++ n ∷ []) ≡ length ns + 1
 
 module _ {T U : Type 0} (environment : Environment) (s : State T U) (n : ℕ) (l : Loan T U) (s' : State T U) (count : ℕ) (w : IsWellFormed s) (free : is_blocked s l.publisher ≡ false)
     (h : Send environment s n l s' (Delivered_to count)) (q : ℕ) (c : Connects s l.publisher q) where
-  pub send-served : ServedLists (waiting_from s l.publisher q) (waiting_from s' l.publisher q) n (s.config).enable_safe_overflow
+  pub send-served : ServedLists (waiting_from s l.publisher q) (waiting_from s' l.publisher q) n (c.subscriber).buffer (s.config).enable_safe_overflow
   send-served =
-      subst (λ (before : List ℕ). ServedLists before (waiting_from s' l.publisher q) n (s.config).enable_safe_overflow) (sym (connected-waits s l.publisher q c))
+      subst (λ (before : List ℕ). ServedLists before (waiting_from s' l.publisher q) n (c.subscriber).buffer (s.config).enable_safe_overflow) (sym (connected-waits s l.publisher q c))
       (served-lists (s.mailboxes l.publisher q) n (c.subscriber).buffer (s.config).enable_safe_overflow (waiting_from s' l.publisher q) (w.subscribers q c.subscriber c.there).some_room
       (connected-waits s' l.publisher q (send-connections environment s n l s' (Delivered_to count) w h l.publisher q c)
       ∙ ap (λ (box : Mailbox). box.waiting) (send-serves environment s n l s' count w free q c h)))

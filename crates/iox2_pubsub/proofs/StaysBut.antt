@@ -23,7 +23,7 @@ use Rattle.iox2_domain.specs.Kept.{Kept, state_of, entries_of}
 use Rattle.iox2_domain.specs.Shows.{Shows}
 use Rattle.iox2_pubsub.proofs.UnfailedSends.{IsMild, HasNotFailed}
 use Rattle.iox2_pubsub.specs.Handlers.{may_wait}
-use Rattle.iox2_pubsub.specs.Live.{degradation_box, handler_box, subscriber_box, IsSingleValued, IsPlacedPublisher, IsPlacedSubscriber, IsPublisherKey, IsSubscriberKey, IsLoanKey, IsSampleKey, IsBlockedKey, HasMark, IsFromOrigin, LoanHasHeader, LoanHasUserHeader, SampleHasHeader, SampleHasUserHeader, Item, No_item, A_publisher, A_subscriber, A_loan, A_sample, A_blocked_send, A_sent_loan, A_sent_copy, Both, IsOtherPublisher, IsOtherSubscriber, IsOtherLoan, IsOtherSample, IsUnblocked, PassesFull, NeverFails, NeverWaits, IsOtherBlocked, StaysBut, Stays, IsNewIn, unwritten_key, written_key}
+use Rattle.iox2_pubsub.specs.Live.{degradation_box, handler_box, subscriber_box, IsSingleValued, IsPlacedPublisher, IsPlacedSubscriber, HasItsBuffer, IsPublisherKey, IsSubscriberKey, IsLoanKey, IsSampleKey, IsBlockedKey, HasMark, IsFromOrigin, LoanHasHeader, LoanHasUserHeader, SampleHasHeader, SampleHasUserHeader, Item, No_item, A_publisher, A_subscriber, A_loan, A_sample, A_blocked_send, A_sent_loan, A_sent_copy, Both, IsOtherPublisher, IsOtherSubscriber, IsOtherLoan, IsOtherSample, IsUnblocked, PassesFull, NeverFails, NeverWaits, IsOtherBlocked, StaysBut, Stays, IsNewIn, unwritten_key, written_key}
 use Rattle.iox2_pubsub.specs.Slices.{IsSliced, HasUnwrittenCells, HasValues, SampleHasValues}
 use Rattle.iox2_pubsub.specs.declared.publisher.Publisher.{Publisher as PublisherHandle}
 use Rattle.iox2_pubsub.specs.declared.sample.Sample.{Sample}
@@ -262,7 +262,16 @@ module _ {T U F G : Type 0} (spent : Item) (old new : Kept T U F G) (remain : Po
     more it.id was.0,
     λ y' at.
         let before = waits.subscribers it.id y' was.0 at in
-        before.2 ∙ was.1 before.0 before.1,
+        before.2.place ∙ was.1 before.0 before.1,
+  )
+
+  buffered : (it : SubscriberHandle) → HasItsBuffer old it → HasItsBuffer new it
+  unfolding HasItsBuffer
+  buffered it was = (
+    more it.id was.0,
+    λ y' at.
+        let before = waits.subscribers it.id y' was.0 at in
+        before.2.buffer ∙ was.1 before.0 before.1,
   )
 
   free : (key : Key) → IsUnblocked old key → IsOtherBlocked spent key.port → IsUnblocked new key
@@ -333,6 +342,7 @@ module _ {T U F G : Type 0} (spent : Item) (old new : Kept T U F G) (remain : Po
     subscribers = subscriber;
     placed_publishers = placed;
     placed_subscribers = placed-subscriber;
+    buffers = buffered;
     loans = loan;
     unwritten_loans = λ it live other. record { live = loan (unwritten_key it) live.live other; unwritten = mark it.loan.number _ live.unwritten other };
     written_loans = λ it live other. record { live = loan (written_key it) live.live other; written = mark it.loan.number _ live.written other };
@@ -407,6 +417,7 @@ module _ {T U F G : Type 0} (start old : Kept T U F G) (before : Stays start old
     subscribers = λ key live other. next.subscribers key (before.subscribers key live other) (apart.subscribers key live);
     placed_publishers = λ it was. next.placed_publishers it (before.placed_publishers it was);
     placed_subscribers = λ it was. next.placed_subscribers it (before.placed_subscribers it was);
+    buffers = λ it was. next.buffers it (before.buffers it was);
     loans = λ key live other. next.loans key (before.loans key live other) (apart.loans key live);
     unwritten_loans = λ it live other. next.unwritten_loans it (before.unwritten_loans it live other) (apart.unwritten_loans it live);
     written_loans = λ it live other. next.written_loans it (before.written_loans it live other) (apart.written_loans it live);
@@ -443,6 +454,7 @@ module _ {T U F G : Type 0} (start old : Kept T U F G) (before : Stays start old
     subscribers = λ key live other. next.subscribers key (before.subscribers key live tt) (apart.subscribers key live, other);
     placed_publishers = λ it was. next.placed_publishers it (before.placed_publishers it was);
     placed_subscribers = λ it was. next.placed_subscribers it (before.placed_subscribers it was);
+    buffers = λ it was. next.buffers it (before.buffers it was);
     loans = λ key live other. next.loans key (before.loans key live tt) (apart.loans key live, other);
     unwritten_loans = λ it live other. next.unwritten_loans it (before.unwritten_loans it live tt) (apart.unwritten_loans it live, other);
     written_loans = λ it live other. next.written_loans it (before.written_loans it live tt) (apart.written_loans it live, other);
@@ -495,6 +507,7 @@ unchanged-stays spent kept = record {
   subscribers = λ key live other. live;
   placed_publishers = λ it was. was;
   placed_subscribers = λ it was. was;
+  buffers = λ it was. was;
   loans = λ key live other. live;
   unwritten_loans = λ it live other. live;
   written_loans = λ it live other. live;
@@ -651,6 +664,7 @@ stays-but-whole part whole is old new stays = record {
   subscribers = λ key live other. stays.subscribers key live (is.subscribers key.port other);
   placed_publishers = stays.placed_publishers;
   placed_subscribers = stays.placed_subscribers;
+  buffers = stays.buffers;
   loans = λ key live other. stays.loans key live (is.loans key.message other);
   unwritten_loans = λ it live other. stays.unwritten_loans it live (is.loans it.loan.number other);
   written_loans = λ it live other. stays.written_loans it live (is.loans it.loan.number other);
@@ -686,6 +700,7 @@ stays-twice spent start old new before next = record {
   subscribers = λ key live other. next.subscribers key (before.subscribers key live other) other;
   placed_publishers = λ it was. next.placed_publishers it (before.placed_publishers it was);
   placed_subscribers = λ it was. next.placed_subscribers it (before.placed_subscribers it was);
+  buffers = λ it was. next.buffers it (before.buffers it was);
   loans = λ key live other. next.loans key (before.loans key live other) other;
   unwritten_loans = λ it live other. next.unwritten_loans it (before.unwritten_loans it live other) other;
   written_loans = λ it live other. next.written_loans it (before.written_loans it live other) other;
@@ -725,6 +740,7 @@ stays-since-block {T} {U} p start old new was before next frees = record {
   subscribers = λ key live other. next.subscribers key (before.subscribers key live tt) tt;
   placed_publishers = λ it was. next.placed_publishers it (before.placed_publishers it was);
   placed_subscribers = λ it was. next.placed_subscribers it (before.placed_subscribers it was);
+  buffers = λ it was. next.buffers it (before.buffers it was);
   loans = λ key live other. next.loans key (before.loans key live tt) tt;
   unwritten_loans = λ it live other. next.unwritten_loans it (before.unwritten_loans it live tt) tt;
   written_loans = λ it live other. next.written_loans it (before.written_loans it live tt) tt;

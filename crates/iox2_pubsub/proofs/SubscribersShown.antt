@@ -1,17 +1,18 @@
 -- The creation of a subscriber, seen from outside.
 use Rattle.std.proofs.Common.{◌≡◌, ℕ, get_or, refl, ap, sym, subst, ◌∙◌}
 use Rattle.std.specs.declared.option.Option.TheVariants.{None, Some}
+use Rattle.std.proofs.lemmas.Option.{same_Some}
 use Rattle.iox2_store.specs.machine.Ports.{buffer_for, CreateSubscriber}
-use Rattle.iox2_store.specs.machine.Records.{SubscriberSettings, Environment}
+use Rattle.iox2_store.specs.machine.Records.{SubscriberSettings, Environment, Subscriber as MachineSubscriber}
 use Rattle.iox2_store.specs.machine.State.{State, Messages}
 use Rattle.iox2_store.specs.declared.errors.SubscriberCreateError.{SubscriberCreateError}
 use Rattle.iox2_domain.specs.Kept.{Kept, state_of}
 use Rattle.iox2_domain.specs.Boxes.{DomainBoxes}
 use Rattle.iox2_domain.specs.Fields.{Fields, kept_of, keeping}
-use Rattle.iox2_pubsub.specs.Live.{IsLiveSubscriber}
+use Rattle.iox2_pubsub.specs.Live.{HasItsBuffer, IsLiveSubscriber}
 use Rattle.iox2_pubsub.specs.declared.subscriber.Subscriber.{Subscriber}
 use Rattle.iox2_domain.specs.Ports.{SubscriberFields}
-use Rattle.iox2_pubsub.proofs.LiveParts.{subscriber-live}
+use Rattle.iox2_pubsub.proofs.LiveParts.{buffer-from, placed-subscriber-parts, subscriber-live}
 use Rattle.iox2_pubsub.proofs.PlacedHandles.{subscriber-placed}
 use Rattle.iox2_domain.specs.Reaches.{Reaches}
 use Rattle.iox2_domain.specs.Shows.{Shows}
@@ -68,3 +69,15 @@ module _ {T U : Type 0} (environment : Environment) (old new : Fields T U) (aske
         );
         placed = subscriber-placed boxes new made.2.agrees subscriber at;
       }
+
+  -- and its handle says the buffer that it has
+  pub made-buffer : {F G : Type 0} (boxes : DomainBoxes F G) → (s' : State T U) × CreateSubscriber environment (state_of (kept_of old)) asked s' None × Reaches old new s'
+      → (subscriber : Subscriber) → subscriber.id ≡ old.next_port → subscriber.buffer_size ≡ buffer_for asked → IsLiveSubscriber (keeping boxes new) subscriber
+      → HasItsBuffer (keeping boxes new) subscriber
+  made-buffer boxes made subscriber is_id is_size live =
+      let has = create-open environment (state_of (kept_of old)) asked made.0 made.1 in
+      let there = ap (λ (s : State T U). s.subscribers subscriber.id) made.2.state ∙ ap made.0.subscribers is_id ∙ has.stands in
+      buffer-from (keeping boxes new) subscriber (
+        (placed-subscriber-parts (keeping boxes new) subscriber live.placed).0,
+        λ y at. ap (λ (z : MachineSubscriber). z.buffer) (same_Some y has.port (sym at ∙ there)) ∙ has.has_buffer ∙ sym is_size,
+      )

@@ -132,6 +132,12 @@ module _ {T U F G : Type 0} (domain : Kept T U F G) where
       (subscriber.id < (state_of domain).next_port)
       × ((y : MachineSubscriber) → (state_of domain).subscribers subscriber.id ≡ Some y → y.place ≡ subscriber.place)
 
+  -- The subscriber, if it is there still, has the buffer that its handle says.
+  unfoldable pub HasItsBuffer : Subscriber → Type 0
+  HasItsBuffer subscriber =
+      (subscriber.id < (state_of domain).next_port)
+      × ((y : MachineSubscriber) → (state_of domain).subscribers subscriber.id ≡ Some y → y.buffer ≡ subscriber.buffer_size)
+
   -- The publisher is one of the domain's and stands where its handle says, wasn't closed, and no send of it is blocked.
   pub record IsReadyPublisher (publisher : Publisher) : Type 0 where
     pub there : IsPublisherKey (publisher_key publisher)
@@ -308,12 +314,17 @@ pub record Connected {T U F G : Type 0} (publisher : ℕ) (old new : Kept T U F 
   pub awaited : (subscriber : Subscriber) → IsAwaited old publisher subscriber → NoneRefused old new → IsConnected new publisher subscriber
   pub others : (other : ℕ) (subscriber : Subscriber) → other ≢ publisher → IsAwaited old other subscriber → IsAwaited new other subscriber
 
+-- As many messages of the publisher wait for the subscriber as its buffer takes, which is at least one.
+pub record IsFull {T U F G : Type 0} (domain : Kept T U F G) (publisher : ℕ) (subscriber : Subscriber) : Type 0 where
+  pub some : 0 < length (payloads_from domain publisher subscriber)
+  pub full : HasItsBuffer domain subscriber → subscriber.buffer_size ≤ length (payloads_from domain publisher subscriber)
+
 -- The publisher's message with these values waits for the subscriber, behind all others of that publisher. Where the buffer was
 -- full, the oldest of them went in its place, with overflow; without overflow this message did, and they wait still.
 unfoldable pub IsServed : {T U F G : Type 0} → (old new : Kept T U F G) → (publisher : ℕ) → Subscriber → List T → Type 0
 IsServed old new publisher subscriber values =
     ((payloads_from new publisher subscriber ≡ payloads_from old publisher subscriber ++ values ∷ []) × (waiting new subscriber ≡ suc (waiting old subscriber)))
-    ⊎ ((0 < length (payloads_from old publisher subscriber))
+    ⊎ (IsFull old publisher subscriber
     × MatchBool (old.config).enable_safe_overflow
     (payloads_from new publisher subscriber ≡ drop 1 (payloads_from old publisher subscriber) ++ values ∷ [])
     (payloads_from new publisher subscriber ≡ payloads_from old publisher subscriber)
@@ -446,7 +457,7 @@ AreApart first (Both second third) = AreApart first second × AreApart first thi
 module _ {T U F G : Type 0} where
   -- The settings stay, and each port, loan, sample and blocked send that was live is live and reads as it did, but for the
   -- item that was spent. A publisher none of whose sends is blocked, or ever is, stays so, and one that no handler fails; and each
-  -- port keeps its boxes and its place.
+  -- port keeps its boxes and its place, and each subscriber its buffer.
   pub record StaysBut (spent : Item) (old new : Kept T U F G) : Type 0 where
     pub settings : new.config ≡ old.config
     pub single_valued : IsSingleValued old → IsSingleValued new
@@ -458,6 +469,7 @@ module _ {T U F G : Type 0} where
     pub subscribers : (key : Key) → IsSubscriberKey old key → IsOtherSubscriber spent key.port → IsSubscriberKey new key
     pub placed_publishers : (publisher : Publisher) → IsPlacedPublisher old publisher → IsPlacedPublisher new publisher
     pub placed_subscribers : (subscriber : Subscriber) → IsPlacedSubscriber old subscriber → IsPlacedSubscriber new subscriber
+    pub buffers : (subscriber : Subscriber) → HasItsBuffer old subscriber → HasItsBuffer new subscriber
     pub loans : (key : Key) → IsLoanKey old key → IsOtherLoan spent key.message → IsLoanKey new key
     pub unwritten_loans : (loan : SampleMutUninit) → IsUnwritten old loan → IsOtherLoan spent loan.loan.number → IsUnwritten new loan
     pub written_loans : (loan : SampleMut) → IsWritten old loan → IsOtherLoan spent loan.loan.number → IsWritten new loan

@@ -6,7 +6,7 @@ ghost use Rattle.iox2_store.specs.machine.Records.{Fixed};
 ghost use Rattle.iox2_store.specs.machine.Ports.{default_subscriber_settings, buffer_for, CreateSubscriber};
 ghost use Rattle.iox2_store.specs.machine.State.{State, Messages};
 ghost use Rattle.iox2_store.specs.machine.Limits.{expired_limit};
-ghost use Rattle.iox2_pubsub.specs.Live.{HasRoomFor, IsLiveSubscriber, IsNewIn, Stays, subscriber_box, subscriber_port, UpToDateStay, payloads, waiting, WaitingStays, IsAwaited, NoneRefused, IsPublisherKey, publisher_key};
+ghost use Rattle.iox2_pubsub.specs.Live.{HasItsBuffer, HasRoomFor, IsLiveSubscriber, IsNewIn, Stays, subscriber_box, subscriber_port, UpToDateStay, payloads, waiting, WaitingStays, IsAwaited, NoneRefused, IsPublisherKey, publisher_key};
 ghost use Rattle.iox2_pubsub.specs.LoansLeft.{LoansLeftStay};
 ghost use Rattle.iox2_pubsub.specs.Factories.{receiver_with_degradation};
 ghost use Rattle.iox2_domain.specs.Shows.{Shows};
@@ -116,6 +116,7 @@ impl<G: DegradationFn> PortFactorySubscriber<G> {
             (λ subscriber. CreateSubscriber (answers_of F.allows G.allows (domain.new.boxes).subscribers) s self.settings s' None × (subscriber_id subscriber ≡ s.next_port) × (buffer_size_of subscriber ≡ buffer_for self.settings))
             (λ error. CreateSubscriber (answers_of F.allows G.allows (domain.new.boxes).subscribers) s self.settings s' (Some error)) }
         ensures live { IfOk result (λ subscriber. IsLiveSubscriber domain.new subscriber) }
+        ensures buffer { IfOk result (λ subscriber. HasItsBuffer domain.new subscriber) }
         ensures boxed { IfOk result (λ subscriber. subscriber_box domain.new (subscriber_id subscriber) ≡ self.box) }
         ensures new { IfOk result (λ subscriber. IsNewIn domain.old (subscriber_port subscriber)) }
         ensures none { IfOk result (λ subscriber. waiting domain.new subscriber ≡ 0) }

@@ -1,5 +1,5 @@
 //! A publisher sends a value.
-ghost use Rattle.std.specs.Prelude.{◌≡◌, ◌⊎◌, ◌+◌, ℕ, IfErr, IfOk, IsOk, [], ◌∷◌};
+ghost use Rattle.std.specs.Prelude.{◌≡◌, ◌<◌, ◌⊎◌, ◌+◌, ◌++◌, ℕ, List, length, IfErr, IfOk, IsOk, [], ◌∷◌};
 ghost use Rattle.iox2_store.specs.declared.errors.LoanError.{LoanError};
 
 use crate::domain::Domain;
@@ -11,11 +11,11 @@ impl Publisher {
     ghost use Rattle.iox2_store.specs.machine.State.{State, Messages};
     ghost use Rattle.iox2_domain.specs.Boxes.{answers_of};
     ghost use Rattle.iox2_domain.specs.Shows.{Shows};
-    ghost use Rattle.iox2_pubsub.specs.Live.{A_blocked_send, AddAtMost, AllFrom, AreAllSlices, IsBlockedSend, IsConnected, IsReadyPublisher, IsServed, IsSingleValued, NeverFails, NeverWaits, OthersSend, StaysBut, UpToDateStay, blocked_key, blocked_send, lender_key, payloads, publisher_key, waiting};
+    ghost use Rattle.iox2_pubsub.specs.Live.{A_blocked_send, AddAtMost, AllFrom, AreAllSlices, HasItsBuffer, IsBlockedSend, IsConnected, IsReadyPublisher, IsServed, IsSingleValued, NeverFails, NeverWaits, OthersSend, StaysBut, UpToDateStay, blocked_key, blocked_send, lender_key, payloads, publisher_key, waiting};
     ghost use Rattle.iox2_pubsub.specs.LoansLeft.{HasLoansLeft, HasNumbersLeft, TakesOneLeft};
     ghost use Rattle.iox2_pubsub.specs.SendCalls.{FailsCopy, IfBlocked, IsDelivered, spent_by_copy};
     ghost use Rattle.iox2_pubsub.specs.WrittenLoans.{SendsCopy};
-    ghost use Rattle.iox2_pubsub.specs.Handles.{publisher_id};
+    ghost use Rattle.iox2_pubsub.specs.Handles.{buffer_size_of, publisher_id};
     ghost use Rattle.iox2_pubsub.specs.declared.subscriber.Subscriber.{Subscriber};
 
     /// Lends a message, moves the value into it, and sends it, as `send` does. Refused as
@@ -42,6 +42,9 @@ impl Publisher {
             → IfOk result (λ outcome. IsDelivered outcome → IsServed domain.old domain.new (publisher_id self.now) subscriber (value ∷ [])) }
         ensures arrives { (subscriber : Subscriber) → waiting domain.old subscriber ≡ 0 → IsConnected domain.old (publisher_id self.now) subscriber
             → IfOk result (λ outcome. IsDelivered outcome → AllFrom domain.new (publisher_id self.now) subscriber ((value ∷ []) ∷ [])) }
+        ensures joins { (subscriber : Subscriber) (earlier : List (List T)) → AllFrom domain.old (publisher_id self.now) subscriber earlier → HasItsBuffer domain.old subscriber
+            → length earlier < buffer_size_of subscriber → IsConnected domain.old (publisher_id self.now) subscriber
+            → IfOk result (λ outcome. IsDelivered outcome → AllFrom domain.new (publisher_id self.now) subscriber (earlier ++ (value ∷ []) ∷ [])) }
         ensures others { OthersSend (publisher_id self.now) domain.old domain.new }
         ensures up_to_date { UpToDateStay domain.old domain.new }
         ensures granted { (loans numbers : ℕ) → HasLoansLeft domain.old self.now (loans + 1) → HasNumbersLeft domain.old (numbers + 1)

@@ -13,17 +13,17 @@ use iox2_messages::send_loan;
 use iox2_store::{BackpressureFn, DegradationFn, SendError};
 
 impl SampleMut {
-    ghost use Rattle.std.specs.Prelude.{List, Some, [], ◌∷◌};
+    ghost use Rattle.std.specs.Prelude.{List, Some, [], length, ◌<◌, ◌++◌, ◌∷◌};
     ghost use Rattle.iox2_store.specs.machine.Records.{Loan};
     ghost use Rattle.iox2_store.specs.machine.State.{State, Messages};
-    ghost use Rattle.iox2_pubsub.specs.Live.{AllFrom, HasLender, IsBlockedSend, IsConnected, IsLoanKey, IsServed, IsUnblocked, IsWritten, NeverFails, NeverWaits, OthersSend, StaysBut, blocked_key, written_key, AddAtMost, AreAllSlices, UpToDateStay, payloads, waiting};
+    ghost use Rattle.iox2_pubsub.specs.Live.{AllFrom, HasItsBuffer, HasLender, IsBlockedSend, IsConnected, IsLoanKey, IsServed, IsUnblocked, IsWritten, NeverFails, NeverWaits, OthersSend, StaysBut, blocked_key, written_key, AddAtMost, AreAllSlices, UpToDateStay, payloads, waiting};
     ghost use Rattle.iox2_pubsub.specs.LoansLeft.{HasOneMoreLeft, LoansLeftStay};
     ghost use Rattle.iox2_pubsub.specs.Slices.{HasValues};
     ghost use Rattle.iox2_pubsub.specs.SendCalls.{FailsSend, IsDelivered, Sends, messages_after, spent_by_send};
     ghost use Rattle.iox2_pubsub.specs.declared.subscriber.Subscriber.{Subscriber};
     ghost use Rattle.iox2_domain.specs.Boxes.{answers_of};
     ghost use Rattle.iox2_domain.specs.Shows.{Shows};
-    ghost use Rattle.iox2_pubsub.specs.Handles.{written_lender, written_number};
+    ghost use Rattle.iox2_pubsub.specs.Handles.{buffer_size_of, written_lender, written_number};
 
     /// Sends the message to every subscriber that is open. Where the buffer of one is full and the
     /// service doesn't overflow, the publisher's handler says what comes of that, or without one its
@@ -64,6 +64,9 @@ impl SampleMut {
             → IfOk result (λ outcome. IsDelivered outcome → IsServed domain.old domain.new (written_lender self) subscriber values) }
         ensures arrives { (subscriber : Subscriber) (values : List T) → waiting domain.old subscriber ≡ 0 → IsConnected domain.old (written_lender self) subscriber
             → HasValues domain.old (written_number self) values → IfOk result (λ outcome. IsDelivered outcome → AllFrom domain.new (written_lender self) subscriber (values ∷ [])) }
+        ensures joins { (subscriber : Subscriber) (values : List T) (earlier : List (List T)) → AllFrom domain.old (written_lender self) subscriber earlier → HasItsBuffer domain.old subscriber
+            → length earlier < buffer_size_of subscriber → IsConnected domain.old (written_lender self) subscriber → HasValues domain.old (written_number self) values
+            → IfOk result (λ outcome. IsDelivered outcome → AllFrom domain.new (written_lender self) subscriber (earlier ++ values ∷ [])) }
         ensures others { OthersSend (written_lender self) domain.old domain.new }
         ensures up_to_date { UpToDateStay domain.old domain.new }
         ensures loans_left { LoansLeftStay domain.old domain.new }

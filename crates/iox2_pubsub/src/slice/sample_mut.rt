@@ -18,18 +18,18 @@ pub struct SampleMut {
 }
 
 impl SampleMut {
-    ghost use Rattle.std.specs.Prelude.{IfErr, IfOk, IsOk, List, Some, [], false, ◌∷◌, ◌+◌, ◌⊎◌, ◌↔◌};
+    ghost use Rattle.std.specs.Prelude.{IfErr, IfOk, IsOk, List, Some, [], false, length, ◌<◌, ◌++◌, ◌∷◌, ◌+◌, ◌⊎◌, ◌↔◌};
     ghost use Rattle.iox2_store.specs.machine.Loans.{loan_discarded};
     ghost use Rattle.iox2_store.specs.machine.Records.{Loan};
     ghost use Rattle.iox2_store.specs.machine.State.{State, Messages};
     ghost use Rattle.iox2_domain.specs.Boxes.{answers_of};
     ghost use Rattle.iox2_domain.specs.Shows.{Shows};
-    ghost use Rattle.iox2_pubsub.specs.Live.{AddAtMost, AllFrom, AreAllSlices, HasLender, IsBlockedSend, IsConnected, IsLoanKey, IsServed, IsUnblocked, IsWritten, LoanHasHeader, LoanHasUserHeader, NeverFails, NeverWaits, OthersSend, StaysBut, blocked_key, UpToDateStay, payloads, waiting, written_key, written_loan, WaitingStays};
+    ghost use Rattle.iox2_pubsub.specs.Live.{AddAtMost, AllFrom, AreAllSlices, HasItsBuffer, HasLender, IsBlockedSend, IsConnected, IsLoanKey, IsServed, IsUnblocked, IsWritten, LoanHasHeader, LoanHasUserHeader, NeverFails, NeverWaits, OthersSend, StaysBut, blocked_key, UpToDateStay, payloads, waiting, written_key, written_loan, WaitingStays};
     ghost use Rattle.iox2_pubsub.specs.declared.subscriber.Subscriber.{Subscriber};
     ghost use Rattle.iox2_pubsub.specs.LoansLeft.{HasOneMoreLeft, LoansLeftStay};
     ghost use Rattle.iox2_pubsub.specs.SendCalls.{FailsSend, IfBlocked, IsDelivered, Sends, messages_after, spent_by_send};
     ghost use Rattle.iox2_pubsub.specs.Slices.{HasValues, IsSliced};
-    ghost use Rattle.iox2_pubsub.specs.Handles.{as_written, written_lender, written_number};
+    ghost use Rattle.iox2_pubsub.specs.Handles.{as_written, buffer_size_of, written_lender, written_number};
 
     /// The payload as it lies in its slot.
     ///
@@ -68,6 +68,9 @@ impl SampleMut {
             → IfOk result (λ outcome. IsDelivered outcome → IsServed domain.old domain.new (written_lender (as_written self)) subscriber values) }
         ensures arrives { (subscriber : Subscriber) (values : List T) → waiting domain.old subscriber ≡ 0 → IsConnected domain.old (written_lender (as_written self)) subscriber
             → HasValues domain.old (written_number (as_written self)) values → IfOk result (λ outcome. IsDelivered outcome → AllFrom domain.new (written_lender (as_written self)) subscriber (values ∷ [])) }
+        ensures joins { (subscriber : Subscriber) (values : List T) (earlier : List (List T)) → AllFrom domain.old (written_lender (as_written self)) subscriber earlier → HasItsBuffer domain.old subscriber
+            → length earlier < buffer_size_of subscriber → IsConnected domain.old (written_lender (as_written self)) subscriber → HasValues domain.old (written_number (as_written self)) values
+            → IfOk result (λ outcome. IsDelivered outcome → AllFrom domain.new (written_lender (as_written self)) subscriber (earlier ++ values ∷ [])) }
         ensures others { OthersSend (written_lender (as_written self)) domain.old domain.new }
         ensures up_to_date { UpToDateStay domain.old domain.new }
         ensures loans_left { LoansLeftStay domain.old domain.new }

@@ -1,4 +1,4 @@
-use Rattle.std.proofs.Common.{ap, inl, inr, refl, sym, ◌∙◌, List, [], ◌∷◌, ℕ}
+use Rattle.std.proofs.Common.{ap, inl, inr, refl, sym, ◌∙◌, List, [], ◌∷◌, ◌++◌, ℕ}
 use Rattle.std.proofs.lemmas.Result.{err_from_is_err_and}
 use Rattle.iox2_store.specs.declared.key.Key.{Key}
 use Rattle.iox2_store.specs.machine.Loans.{written}
@@ -10,7 +10,7 @@ use Rattle.iox2_pubsub.proofs.SendShown.{fails-copy, fails-there, whose-blocked}
 use Rattle.iox2_pubsub.specs.SendCalls.{FailsCopy}
 use Rattle.iox2_pubsub.proofs.WrittenLoanCalls.{with_value, written-out, copy-sent, written-refused}
 use Rattle.iox2_store.specs.declared.service_config.ServiceConfig.{ServiceConfig}
-use Rattle.iox2_pubsub.proofs.CopiesServe.{connected-as, copy-arrives, copy-others, copy-serves, none-are-all, none-still, waits-both}
+use Rattle.iox2_pubsub.proofs.CopiesServe.{all-since, connected-as, copy-arrives, copy-others, copy-serves, none-are-all, none-still, waits-both}
 use Rattle.iox2_pubsub.specs.declared.subscriber.Subscriber.{Subscriber}
 use Rattle.iox2_pubsub.proofs.publisher.Publisher.send_copy.Goals as goal
 
@@ -90,7 +90,7 @@ returns-clause-serves g c = λ subscriber connected.
     let settings = c.write_payload.ensures.stays.settings ∙ c.in_ok-loan.ensures.stays.settings in
     let lender = ap (λ (k : Key). k.port) c.write_payload.ensures.key ∙ c.in_ok-loan.ensures.publisher in
     let still = c.in_ok-loan.ensures.up_to_date.connections c.args.self.now.id subscriber connected in
-    copy-serves c.args.domain.now _ _ waits settings c.args.self.now.id c.write_payload.result.loan.publisher lender subscriber (c.args.value ∷ []) c.send.result
+    copy-serves c.args.domain.now _ _ waits settings (λ it its. c.write_payload.ensures.stays.buffers it (c.in_ok-loan.ensures.stays.buffers it its)) c.args.self.now.id c.write_payload.result.loan.publisher lender subscriber (c.args.value ∷ []) c.send.result
     (c.send.ensures.serves subscriber (c.args.value ∷ []) (connected-as c.write_payload.ensures.up_to_date c.args.self.now.id c.write_payload.result.loan.publisher lender subscriber still) c.write_payload.ensures.reads)
 
 pub returns-clause-arrives : goal.returns-clause-arrives
@@ -100,6 +100,16 @@ returns-clause-arrives g c = λ subscriber none connected.
     let still = c.in_ok-loan.ensures.up_to_date.connections c.args.self.now.id subscriber connected in
     copy-arrives _ c.args.self.now.id c.write_payload.result.loan.publisher lender subscriber ((c.args.value ∷ []) ∷ []) c.send.result
     (c.send.ensures.arrives subscriber (c.args.value ∷ []) (none-still waits subscriber none) (connected-as c.write_payload.ensures.up_to_date c.args.self.now.id c.write_payload.result.loan.publisher lender subscriber still) c.write_payload.ensures.reads)
+
+pub returns-clause-joins : goal.returns-clause-joins
+returns-clause-joins g c = λ subscriber earlier all its room connected.
+    let waits = waits-both c.in_ok-loan.ensures.waits c.write_payload.ensures.waits in
+    let lender = ap (λ (k : Key). k.port) c.write_payload.ensures.key ∙ c.in_ok-loan.ensures.publisher in
+    let still = c.in_ok-loan.ensures.up_to_date.connections c.args.self.now.id subscriber connected in
+    let buffer = c.write_payload.ensures.stays.buffers subscriber (c.in_ok-loan.ensures.stays.buffers subscriber its) in
+    copy-arrives _ c.args.self.now.id c.write_payload.result.loan.publisher lender subscriber (earlier ++ (c.args.value ∷ []) ∷ []) c.send.result
+    (c.send.ensures.joins subscriber (c.args.value ∷ []) earlier (all-since waits c.args.self.now.id c.write_payload.result.loan.publisher lender subscriber earlier all) buffer room
+    (connected-as c.write_payload.ensures.up_to_date c.args.self.now.id c.write_payload.result.loan.publisher lender subscriber still) c.write_payload.ensures.reads)
 
 pub returns-in_err-loan-clause-others : goal.returns-in_err-loan-clause-others
 returns-in_err-loan-clause-others g c = λ other away. ap (λ (f : ℕ → Subscriber → List (List g.row.T.Denot)). f other) c.in_err-loan.ensures.waits.from

@@ -24,7 +24,7 @@ use Rattle.iox2_pubsub.proofs.WaitingShown.{send-adds, send-brings}
 use Rattle.iox2_pubsub.proofs.UpToDateShown.{send-leaves}
 use Rattle.iox2_pubsub.proofs.ConnectionsShown.{serves}
 use Rattle.iox2_pubsub.proofs.LoansLeftShown.{send-left, send-gives, sent-free}
-use Rattle.iox2_pubsub.proofs.PublisherWaits.{send-arrives}
+use Rattle.iox2_pubsub.proofs.PublisherWaits.{send-arrives, send-joins}
 use Rattle.iox2_pubsub.proofs.KeptReceives.{others-send}
 use Rattle.iox2_pubsub.proofs.StaysBut.{same-boxes}
 use Rattle.iox2_pubsub.proofs.sample_mut.SampleMut.send.Goals as goal
@@ -191,6 +191,15 @@ returns-clause-arrives g c = λ subscriber values none connected reads.
     let step = returns-clause-sent g c it.0 it.1 has.0 it.2 out in
     send-arrives {T = g.row.T.Denot} {U = g.row.U.Denot} c.args.domain.now _ it.0 _ it.1 step.0 it.2 step.1
     subscriber c.args.self.loan.publisher values none c.outcome_of.result (returns-clause-serves g c subscriber values connected reads)
+
+pub returns-clause-joins : goal.returns-clause-joins
+returns-clause-joins g c = λ subscriber values earlier all its room connected reads.
+    let it = always-shown {T = g.row.T.Denot} {U = g.row.U.Denot} c.domain.inside.state c.args.domain.now c.domain.invariant c.domain.view_is in
+    let has = (written-parts c.args.domain.now c.args.self c.requires.live).1 in
+    let out = ap (λ (t : State g.row.T.Denot g.row.U.Denot). t.loans c.args.self.loan.number) (it.2).state ∙ has.1 in
+    let step = returns-clause-sent g c it.0 it.1 has.0 it.2 out in
+    send-joins {T = g.row.T.Denot} {U = g.row.U.Denot} c.args.domain.now _ it.0 _ it.1 step.0 it.2 step.1
+    subscriber c.args.self.loan.publisher values earlier all its room c.outcome_of.result (returns-clause-serves g c subscriber values connected reads)
 
 pub returns-clause-others : goal.returns-clause-others
 returns-clause-others g c =

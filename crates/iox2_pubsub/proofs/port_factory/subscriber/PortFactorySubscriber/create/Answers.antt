@@ -5,7 +5,7 @@ use Rattle.iox2_domain.specs.Boxes.{answers_of}
 use Rattle.iox2_domain.specs.SubscriberEntry.{asked_for}
 use Rattle.iox2_store.specs.declared.service_config.ServiceConfig.{ServiceConfig}
 use Rattle.iox2_pubsub.proofs.DepartedShown.{subscriber-made-room}
-use Rattle.iox2_pubsub.proofs.SubscribersShown.{made-shown, made-live, refused-shown}
+use Rattle.iox2_pubsub.proofs.SubscribersShown.{made-buffer, made-shown, made-live, refused-shown}
 use Rattle.iox2_pubsub.proofs.CallsStay.{always-shown, subscriber-apart-from-next, subscriber-creation-stays, subscriber-is-new}
 use Rattle.iox2_pubsub.proofs.WaitingShown.{created-none, creation-waits}
 use Rattle.iox2_pubsub.proofs.UpToDateShown.{creation-leaves}
@@ -36,6 +36,13 @@ returns-clause-live g c =
     (record { service_id = c.config.result.now.service_id; id = c.in_ok-port.port.id; place = c.in_ok-port.port.place; buffer_size = c.max.result })
     (ap (λ (config : ServiceConfig). config.service_id) c.config.ensures)
     c.in_ok-port.ensures.id c.in_ok-port.ensures.stands
+
+pub returns-clause-buffer : goal.returns-clause-buffer
+returns-clause-buffer g c =
+    let size : c.max.result ≡ max 1 c.self.inside.options.buffer_size = grind (arith, c.max.ensures) in
+    made-buffer {T = g.row.T.Denot} {U = g.row.U.Denot} (answers_of g.F.BackpressureFn.allows g.G.DegradationFn.allows (c.create_subscriber.new.boxes).boxes) c.domain.inside.state c.create_subscriber.new.state (asked_for c.self.inside.options) (record { publishers = (c.domain.inside.boxes).boxes; subscribers = (c.create_subscriber.new.boxes).boxes }) c.in_ok-port.ensures.step
+    (record { service_id = c.config.result.now.service_id; id = c.in_ok-port.port.id; place = c.in_ok-port.port.place; buffer_size = c.max.result })
+    c.in_ok-port.ensures.id size (returns-clause-live g c)
 
 pub returns-in_err-port-clause-stays : goal.returns-in_err-port-clause-stays
 returns-in_err-port-clause-stays g c =

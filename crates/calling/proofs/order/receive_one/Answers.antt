@@ -1,0 +1,15 @@
+use Rattle.std.proofs.Common.{ap, ◌∙◌, ℕ, List, [], ◌∷◌}
+use Rattle.iox2_pubsub.specs.declared.subscriber.Subscriber.{Subscriber}
+use Rattle.calling.proofs.order.receive_one.Goals as goal
+
+pub returns-clause-first : goal.returns-clause-first
+returns-clause-first g c = λ publisher value others all.
+    let takes = rw c.in-Some.is at c.in_ok-sample.ensures.first in
+    let leaves = rw c.in-Some.is at c.in_ok-sample.ensures.later in
+    let left = leaves publisher (value ∷ []) others all in (
+      c.payload-received.ensures.same value (takes publisher (value ∷ []) others all),
+      record {
+        all = ap (λ (f : Subscriber → List (List ℕ)). f c.args.subscriber.now) c.release.ensures.waits.all ∙ left.all;
+        from = ap (λ (f : ℕ → Subscriber → List (List ℕ)). f publisher c.args.subscriber.now) c.release.ensures.waits.from ∙ left.from;
+      },
+    )
