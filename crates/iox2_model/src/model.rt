@@ -12,7 +12,7 @@ pub struct Model {
     pub(crate) alloc: Global,
     pub(crate) config: ServiceConfig,
     pub(crate) memory: Memory,
-    pub(crate) refused_connections: u64,
+    refused_connections: u64,
     // By id. None has the id 0.
     pub(crate) publishers: Vec<Option<Publisher>>,
     pub(crate) subscribers: Vec<Option<Subscriber>>,
