@@ -173,6 +173,39 @@ static void bytes_stay_where_they_are(void) {
   IS(iox2_domain_destroy(&domain), IOX2_OK);
 }
 
+/* Whatever else is lent, however short it is, and also where slots are used again. */
+static void payloads_are_aligned_as_the_settings_say(void) {
+  for (size_t alignment = 1; alignment <= 16; alignment *= 2) {
+    iox2_domain_t domain;
+    iox2_config_t config;
+    iox2_publisher_t publisher;
+    iox2_subscriber_t subscriber;
+    iox2_loan_t loans[2];
+    iox2_sample_t sample;
+    iox2_blocked_t blocked;
+    void *written[2];
+    const void *read;
+    size_t receivers, len;
+    iox2_config_defaults(&config, 7, 3 * alignment, alignment);
+    create(&domain, &config);
+    IS(iox2_publisher_create(&domain, &publisher), IOX2_OK);
+    IS(iox2_subscriber_create(&domain, &subscriber), IOX2_OK);
+    for (int round = 0; round < 50; round++) {
+      for (int i = 0; i < 2; i++) {
+        IS(iox2_publisher_loan(&domain, &publisher, i ? 3 * alignment : 1, &loans[i], &written[i]), IOX2_OK);
+        CHECK((uintptr_t)written[i] % alignment == 0);
+      }
+      for (int i = 0; i < 2; i++) {
+        IS(iox2_loan_send(&domain, &loans[i], &receivers, &blocked), IOX2_OK);
+        IS(iox2_subscriber_receive(&domain, &subscriber, &sample, &read, &len), IOX2_OK);
+        CHECK((uintptr_t)read % alignment == 0);
+        IS(iox2_sample_release(&domain, &sample), IOX2_OK);
+      }
+    }
+    IS(iox2_domain_destroy(&domain), IOX2_OK);
+  }
+}
+
 static void a_blocked_send_is_tried_again_and_given_up(void) {
   iox2_domain_t domain;
   iox2_config_t config;
@@ -415,6 +448,7 @@ int main(void) {
   a_message_is_written_and_read_where_it_lies();
   a_message_is_copied();
   bytes_stay_where_they_are();
+  payloads_are_aligned_as_the_settings_say();
   a_blocked_send_is_tried_again_and_given_up();
   ports_are_made_with_options();
   a_publisher_asks_for_fewer_slots();
