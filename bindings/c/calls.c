@@ -173,6 +173,80 @@ static void bytes_stay_where_they_are(void) {
   IS(iox2_domain_destroy(&domain), IOX2_OK);
 }
 
+/* Of four messages that are out, or borrowed, at a time, each leads to bytes of its own: what is written to one is read
+ * there alone. Later rounds use slots again. */
+static void each_message_has_bytes_of_its_own(void) {
+  enum { MESSAGES = 4, LEN = 24 };
+  iox2_domain_t domain;
+  iox2_config_t config;
+  iox2_publisher_t publishers[2];
+  iox2_subscriber_t subscriber;
+  iox2_loan_t loans[MESSAGES];
+  iox2_sample_t samples[MESSAGES];
+  iox2_blocked_t blocked;
+  void *written[MESSAGES], *again;
+  const void *read[MESSAGES], *read_again;
+  size_t receivers, len;
+  iox2_config_defaults(&config, 7, LEN, 8);
+  create(&domain, &config);
+  for (int i = 0; i < 2; i++) IS(iox2_publisher_create(&domain, &publishers[i]), IOX2_OK);
+  IS(iox2_subscriber_create(&domain, &subscriber), IOX2_OK);
+  for (uint8_t letter = 'a'; letter < 'a' + 3 * MESSAGES; letter += MESSAGES) {
+    for (int i = 0; i < MESSAGES; i++) IS(iox2_publisher_loan(&domain, &publishers[i % 2], LEN, &loans[i], &written[i]), IOX2_OK);
+    for (int i = 0; i < MESSAGES; i++) memset(written[i], letter + i, LEN);
+    for (int i = 0; i < MESSAGES; i++) {
+      CHECK(are_all(written[i], LEN, (uint8_t)(letter + i)));
+      IS(iox2_loan_payload(&domain, &loans[i], &again, &len), IOX2_OK);
+      CHECK(again == written[i] && len == LEN);
+    }
+    for (int i = 0; i < MESSAGES; i++) IS(iox2_loan_send(&domain, &loans[i], &receivers, &blocked), IOX2_OK);
+    for (int i = 0; i < MESSAGES; i++) IS(iox2_subscriber_receive(&domain, &subscriber, &samples[i], &read[i], &len), IOX2_OK);
+    for (int i = 0; i < MESSAGES; i++) {
+      int of = 0;
+      while (of < MESSAGES - 1 && loans[of].number.low != samples[i].number.low) of++;
+      CHECK(loans[of].number.low == samples[i].number.low && loans[of].publisher.low == samples[i].origin.low);
+      CHECK(read[i] == written[of] && are_all(read[i], LEN, (uint8_t)(letter + of)));
+      IS(iox2_sample_payload(&domain, &samples[i], &read_again, &len), IOX2_OK);
+      CHECK(read_again == read[i] && len == LEN);
+    }
+    for (int i = 0; i < MESSAGES; i++) IS(iox2_sample_release(&domain, &samples[i]), IOX2_OK);
+  }
+  IS(iox2_domain_destroy(&domain), IOX2_OK);
+}
+
+/* Whatever else is lent, however short it is, and also where slots are used again. */
+static void payloads_are_aligned_as_the_settings_say(void) {
+  for (size_t alignment = 1; alignment <= 16; alignment *= 2) {
+    iox2_domain_t domain;
+    iox2_config_t config;
+    iox2_publisher_t publisher;
+    iox2_subscriber_t subscriber;
+    iox2_loan_t loans[2];
+    iox2_sample_t sample;
+    iox2_blocked_t blocked;
+    void *written[2];
+    const void *read;
+    size_t receivers, len;
+    iox2_config_defaults(&config, 7, 3 * alignment, alignment);
+    create(&domain, &config);
+    IS(iox2_publisher_create(&domain, &publisher), IOX2_OK);
+    IS(iox2_subscriber_create(&domain, &subscriber), IOX2_OK);
+    for (int round = 0; round < 50; round++) {
+      for (int i = 0; i < 2; i++) {
+        IS(iox2_publisher_loan(&domain, &publisher, i ? 3 * alignment : 1, &loans[i], &written[i]), IOX2_OK);
+        CHECK((uintptr_t)written[i] % alignment == 0);
+      }
+      for (int i = 0; i < 2; i++) {
+        IS(iox2_loan_send(&domain, &loans[i], &receivers, &blocked), IOX2_OK);
+        IS(iox2_subscriber_receive(&domain, &subscriber, &sample, &read, &len), IOX2_OK);
+        CHECK((uintptr_t)read % alignment == 0);
+        IS(iox2_sample_release(&domain, &sample), IOX2_OK);
+      }
+    }
+    IS(iox2_domain_destroy(&domain), IOX2_OK);
+  }
+}
+
 static void a_blocked_send_is_tried_again_and_given_up(void) {
   iox2_domain_t domain;
   iox2_config_t config;
@@ -346,6 +420,42 @@ static void warnings_are_read(void) {
   IS(iox2_domain_destroy(&domain), IOX2_OK);
 }
 
+/* All codes, and the kinds of warnings. */
+static const uint32_t codes[] = {
+    IOX2_OK, IOX2_NO_DOMAIN, IOX2_NOT_LIVE, IOX2_NO_SAMPLE, IOX2_OUT_OF_MEMORY, IOX2_HAS_DOMAIN, IOX2_BLOCKED,
+    IOX2_PUBLISHER_IS_BLOCKED, IOX2_INVALID_SETTINGS, IOX2_TOO_SMALL, IOX2_LOAN_ERROR_OUT_OF_MEMORY,
+    IOX2_LOAN_ERROR_EXCEEDS_MAX_LOANS, IOX2_LOAN_ERROR_EXCEEDS_MAX_LOAN_SIZE, IOX2_LOAN_ERROR_INTERNAL_FAILURE,
+    IOX2_SEND_ERROR_CONNECTION_BROKEN_SINCE_SENDER_NO_LONGER_EXISTS, IOX2_SEND_ERROR_CONNECTION_CORRUPTED,
+    IOX2_SEND_ERROR_UNABLE_TO_DELIVER, IOX2_SEND_ERROR_INTERNAL_ERROR,
+    IOX2_SEND_ERROR_CONNECTION_INCOMPATIBLE_BUFFER_SIZE, IOX2_SEND_ERROR_CONNECTION_OUT_OF_MEMORY,
+    IOX2_SEND_ERROR_CONNECTION_EXPIRED_BUFFER_FULL, IOX2_SEND_ERROR_CONNECTION_UNABLE_TO_MAP,
+    IOX2_RECEIVE_ERROR_EXCEEDS_MAX_BORROWS, IOX2_RECEIVE_ERROR_CONNECTION_INCOMPATIBLE_BUFFER_SIZE,
+    IOX2_RECEIVE_ERROR_CONNECTION_OUT_OF_MEMORY, IOX2_RECEIVE_ERROR_CONNECTION_EXPIRED_BUFFER_FULL,
+    IOX2_RECEIVE_ERROR_CONNECTION_UNABLE_TO_MAP, IOX2_CONNECTION_FAILURE_INCOMPATIBLE_BUFFER_SIZE,
+    IOX2_CONNECTION_FAILURE_OUT_OF_MEMORY, IOX2_CONNECTION_FAILURE_EXPIRED_BUFFER_FULL,
+    IOX2_CONNECTION_FAILURE_UNABLE_TO_MAP, IOX2_PUBLISHER_CREATE_ERROR_EXCEEDS_MAX_SUPPORTED_PUBLISHERS,
+    IOX2_PUBLISHER_CREATE_ERROR_UNABLE_TO_CREATE_DATA_SEGMENT,
+    IOX2_PUBLISHER_CREATE_ERROR_FAILED_TO_DEPLOY_THREADSAFETY_POLICY,
+    IOX2_PUBLISHER_CREATE_ERROR_UNABLE_TO_CREATE_PORT_TAG,
+    IOX2_SUBSCRIBER_CREATE_ERROR_EXCEEDS_MAX_SUPPORTED_SUBSCRIBERS,
+    IOX2_SUBSCRIBER_CREATE_ERROR_BUFFER_SIZE_EXCEEDS_MAX,
+    IOX2_SUBSCRIBER_CREATE_ERROR_FAILED_TO_DEPLOY_THREADSAFETY_POLICY,
+    IOX2_SUBSCRIBER_CREATE_ERROR_UNABLE_TO_CREATE_PORT_TAG, IOX2_WARNING_EXPIRED_BUFFER_RAISED,
+    IOX2_WARNING_PUBLISHER_PARTLY_CONNECTED, IOX2_WARNING_SUBSCRIBER_PARTLY_CONNECTED,
+    IOX2_WARNING_CONNECTION_NOT_MADE, IOX2_WARNING_EXPIRED_DATA_DISCARDED};
+
+enum { CODES = sizeof codes / sizeof codes[0] };
+
+static void each_code_has_a_text_that_no_other_has(void) {
+  uint32_t with_text = 0;
+  for (size_t i = 0; i < CODES; i++) {
+    CHECK(has_text(codes[i]));
+    for (size_t j = 0; j < i; j++) CHECK(strcmp(iox2_error_text(codes[i]), iox2_error_text(codes[j])) != 0);
+  }
+  for (uint32_t number = 0; number < 200; number++) with_text += has_text(number) ? 1 : 0;
+  CHECK(with_text == CODES);
+}
+
 static void texts_are_iceoryx2s(void) {
   const char *text;
   size_t len;
@@ -379,12 +489,15 @@ int main(void) {
   a_message_is_written_and_read_where_it_lies();
   a_message_is_copied();
   bytes_stay_where_they_are();
+  each_message_has_bytes_of_its_own();
+  payloads_are_aligned_as_the_settings_say();
   a_blocked_send_is_tried_again_and_given_up();
   ports_are_made_with_options();
   a_publisher_asks_for_fewer_slots();
   a_late_subscriber_gets_the_history();
   warnings_are_read();
   texts_are_iceoryx2s();
+  each_code_has_a_text_that_no_other_has();
   slots_are_counted();
   return checked();
 }

@@ -15,6 +15,11 @@
  * be copied, used twice, kept too long or made up. Domains whose handles are to be told apart need
  * service_ids of their own.
  *
+ * What a call does to the domain, which code it returns, and the numbers, lengths and copies that it writes
+ * are proved. Where a pointer to a payload leads is tested alone: to the bytes of its own message and of no
+ * other, aligned as payload_alignment says, and they stay there until the loan or the sample is spent. The
+ * pointer to a text is tested alone too.
+ *
  * Each call returns IOX2_OK, which is 0, or one of the codes that stand at it. Where it says nothing
  * else, a call that doesn't return IOX2_OK changes neither the domain nor what its pointers point to,
  * and IOX2_NO_DOMAIN says that the iox2_domain_t has no domain. */
