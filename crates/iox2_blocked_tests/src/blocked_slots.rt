@@ -1,7 +1,7 @@
 //! What becomes of the slots and of the history of a publisher that waits.
 use crate::waiting_publishers::{
-    assert_live, assert_ready, block, deliver, delivered_at_last, given_up, lend_one, next_reading,
-    next_readings, send_past, subscriber_of, waiting_domain, waiting_publisher,
+    assert_ready, block, deliver, delivered_at_last, given_up, lend_one, next_reading,
+    next_readings, release, send_past, subscriber_of, take, waiting_domain, waiting_publisher,
 };
 use iox2_fixtures::{Reading, Station, settings};
 use iox2_pubsub::{BlockedSend, Domain, Publisher, Sample, Subscriber, UpdateConnections};
@@ -40,19 +40,6 @@ fn lend_three(
         lend_one(rt, domain, publisher),
         lend_one(rt, domain, publisher),
     ]
-}
-
-// Receives a message, which waits.
-fn take(rt: &impl Abort, domain: &mut Domain<Reading, Station>, subscriber: &Subscriber) -> Sample {
-    assert_live(rt, domain, subscriber);
-    let received = subscriber.receive(domain).expect(rt, "an answer");
-    received.expect(rt, "a message")
-}
-
-// Gives a message back.
-fn release(rt: &impl Abort, domain: &mut Domain<Reading, Station>, sample: Sample) {
-    assert!(rt; domain.holds_sample(sample.key()));
-    sample.release(domain);
 }
 
 // Has the first subscriber borrow two messages and two more wait for it, of which the second has none

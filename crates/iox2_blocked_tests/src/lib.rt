@@ -15,4 +15,6 @@ mod boxes;
 #[cfg(test)]
 mod handlers;
 #[cfg(test)]
+mod two_domains;
+#[cfg(test)]
 mod waiting_publishers;

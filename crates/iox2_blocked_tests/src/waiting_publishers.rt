@@ -7,7 +7,9 @@ ghost use Rattle.std.specs.declared.result.Result.TheVariants.{Ok};
 ghost use Rattle.iox2_pubsub.specs.Live.{IsBlockedSend, IsLiveSubscriber, IsReadyPublisher, IsSingleValued, Stays};
 
 use iox2_fixtures::{Reading, Station, settings};
-use iox2_pubsub::{BlockedSend, Domain, LoanError, Publisher, SendError, SendOutcome, Subscriber};
+use iox2_pubsub::{
+    BlockedSend, Domain, LoanError, Publisher, Sample, SendError, SendOutcome, Subscriber,
+};
 use iox2_store::{ServiceConfig, TypeVariant};
 use std::alloc::Global;
 use std::process::Abort;
@@ -219,6 +221,23 @@ pub(crate) fn send_past(
 ) -> usize {
     let waiting = block(rt, domain, publisher, celsius);
     given_up(rt, domain, waiting)
+}
+
+/// Receives a message, which waits.
+pub(crate) fn take(
+    rt: &impl Abort,
+    domain: &mut Domain<Reading, Station>,
+    subscriber: &Subscriber,
+) -> Sample {
+    assert_live(rt, domain, subscriber);
+    let received = subscriber.receive(domain).expect(rt, "an answer");
+    received.expect(rt, "a message")
+}
+
+/// Gives a message back.
+pub(crate) fn release(rt: &impl Abort, domain: &mut Domain<Reading, Station>, sample: Sample) {
+    assert!(rt; domain.holds_sample(sample.key()));
+    sample.release(domain);
 }
 
 /// Reads and releases what the subscriber receives next. `None` where no message waits.

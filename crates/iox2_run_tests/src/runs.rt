@@ -144,7 +144,7 @@ fn too_large_a_publisher_is_refused(rt: HostRuntime) {
             create_publisher(usize::MAX),
             Reply::PublisherRefused(too_large),
         ),
-        (create_publisher(1), publisher_made(2)),
+        (create_publisher(2), publisher_made(2)),
     ];
     check(&rt, rt.alloc(), settings(), &steps);
 }

@@ -1,15 +1,29 @@
 use crate::StrategyWord;
 use iox2_store::BackpressureStrategy;
+use std::alloc::Global;
+use std::process::Abort;
 use std::test::Fail;
+
+// The strategy is written as this, and that is read as the strategy.
+fn assert_written(
+    rt: &impl Abort,
+    alloc: Global,
+    strategy: BackpressureStrategy,
+    text: &str,
+) -> Result<(), Fail> {
+    let written = serde_json::to_string(alloc, &StrategyWord::of(strategy))?;
+    assert_eq!(rt; written.as_str(), text);
+    let read: StrategyWord = serde_json::from_str(alloc, written.as_str())?;
+    assert_eq!(rt; read.strategy(), strategy);
+    Ok(())
+}
 
 #[test]
 fn a_strategy_is_written_and_read_by_its_name(rt: HostRuntime) -> Result<(), Fail> {
-    let word = StrategyWord::of(BackpressureStrategy::DiscardData);
-    let written = serde_json::to_string(rt.alloc(), &word)?;
-    assert_eq!(rt; written.as_str(), "\"DiscardData\"");
-    let read: StrategyWord = serde_json::from_str(rt.alloc(), "\"RetryUntilDelivered\"")?;
-    assert_eq!(rt; read.strategy(), BackpressureStrategy::RetryUntilDelivered);
-    Ok(())
+    let discard = BackpressureStrategy::DiscardData;
+    assert_written(&rt, rt.alloc(), discard, "\"DiscardData\"")?;
+    let retry = BackpressureStrategy::RetryUntilDelivered;
+    assert_written(&rt, rt.alloc(), retry, "\"RetryUntilDelivered\"")
 }
 
 #[test]

@@ -153,24 +153,33 @@ fn the_last_override_counts(rt: HostRuntime) {
     assert!(rt; lent == [true, false]);
 }
 
-#[test]
-fn where_no_slot_is_needed_there_is_none(rt: HostRuntime) {
+// What becomes of a loan of a publisher that needs no slot, and whose override answers so.
+fn lent_without_slots(rt: &impl Abort, alloc: Global, answer: usize) -> Result<(), LoanError> {
     let no_subscribers = ServiceConfig {
         max_subscribers: 0,
         ..settings()
     };
-    let mut domain: Domain<Reading, Station> = Domain::new(rt.alloc(), no_subscribers).expect(
-        &rt, "a domain",
+    let mut domain: Domain<Reading, Station> = Domain::new(alloc, no_subscribers).expect(
+        rt, "a domain",
     );
     let factory = factory_for(&domain)
         .max_loaned_samples(0)
-        .override_sample_preallocation(|worst| worst.max(3));
-    let publisher = factory.create(&mut domain).expect(&rt, "a publisher");
-    assert_single_valued(&rt, &domain);
-    assert_ready(&rt, &domain, &publisher);
+        .override_sample_preallocation(move |_| answer);
+    let publisher = factory.create(&mut domain).expect(rt, "a publisher");
+    assert_single_valued(rt, &domain);
+    assert_ready(rt, &domain, &publisher);
     let loan = publisher.loan_uninit(&mut domain).map(|loan| loan.disown());
     publisher.disown();
-    assert!(rt; loan == Err(LoanError::ExceedsMaxLoans));
+    loan
+}
+
+#[test]
+fn where_no_slot_is_needed_there_is_none(rt: HostRuntime) {
+    let loans = [
+        lent_without_slots(&rt, rt.alloc(), 0),
+        lent_without_slots(&rt, rt.alloc(), 3),
+    ];
+    assert!(rt; loans == [Err(LoanError::ExceedsMaxLoans); 2]);
 }
 
 // Whether an override is asked for a publisher with so many loans, and why it isn't made.

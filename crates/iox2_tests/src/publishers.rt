@@ -1,4 +1,4 @@
-use crate::fixtures::{domain, publisher_of, subscriber_of};
+use crate::fixtures::{close_publisher, domain, publisher_of, subscriber_of};
 use iox2_fixtures::{Reading, Station, factory_for, settings};
 use iox2_pubsub::Domain;
 use iox2_store::{Key, PublisherCreateError, ServiceConfig};
@@ -89,4 +89,22 @@ fn slots_that_cannot_be_had_are_refused_and_use_up_no_id(rt: HostRuntime) {
     drop(domain);
     assert!(rt; refusals == [Some(PublisherCreateError::UnableToCreateDataSegment); 2]);
     assert!(rt; id == 1);
+}
+
+// The number of publishers counts before the size of one.
+#[test]
+fn a_publisher_with_defaults_is_made_after_larger_ones_were_refused(rt: HostRuntime) {
+    let mut domain = domain(&rt, rt.alloc());
+    let first = publisher_of(&rt, &mut domain);
+    let beside_another = refusal(&mut domain, usize::MAX);
+    close_publisher(&rt, &mut domain, first);
+    let alone = refusal(&mut domain, usize::MAX);
+    let factory = domain.publisher_builder();
+    let publisher = factory.create(&mut domain).expect(&rt, "a publisher");
+    let id = publisher.id().value();
+    publisher.disown();
+    drop(domain);
+    assert!(rt; beside_another == Some(PublisherCreateError::ExceedsMaxSupportedPublishers));
+    assert!(rt; alone == Some(PublisherCreateError::UnableToCreateDataSegment));
+    assert!(rt; id == 2);
 }

@@ -5,13 +5,18 @@ use std::io::Write;
 use std::process::Abort;
 use std::test::Fail;
 
-/// The third message finds so many takers, and these two of the three are received.
+/// Fewer departed publishers are kept than messages may be borrowed.
+const WARNING: &[u8] = b"warning ExpiredBufferRaised\n";
+
+/// The third message finds so many takers, and these two of the three are received. The domain tells
+/// these warnings.
 fn assert_two_arrive(
     rt: &impl Abort,
     alloc: Global,
     domain: &str,
     takers: usize,
     arrived: [usize; 2],
+    warnings: &[u8],
 ) -> Result<(), Fail> {
     let mut plan = Plan::new(alloc, domain)?;
     let subscriber = plan.call("sub", 2, "ok")?;
@@ -27,16 +32,27 @@ fn assert_two_arrive(
         plan.call("release", sample, "ok")?;
     }
     plan.call("recv", subscriber, "none")?;
-    plan.assert(rt, alloc);
+    plan.assert_warned(rt, alloc, warnings);
     Ok(())
 }
 
 #[test]
 fn with_overflow_the_oldest_message_goes(rt: HostRuntime) -> Result<(), Fail> {
-    assert_two_arrive(&rt, rt.alloc(), "domain 1 1 2 1 0 1 overflow", 1, [2, 3])
+    let alloc = rt.alloc();
+    assert_two_arrive(
+        &rt,
+        alloc,
+        "domain 1 1 2 1 0 0 overflow",
+        1,
+        [2, 3],
+        WARNING,
+    )?;
+    assert_two_arrive(&rt, alloc, "domain 1 1 2 1 0 1 overflow", 1, [2, 3], b"")
 }
 
 #[test]
 fn without_overflow_a_full_buffer_keeps_what_it_has(rt: HostRuntime) -> Result<(), Fail> {
-    assert_two_arrive(&rt, rt.alloc(), "domain 1 1 2 1 0 1 keep", 0, [1, 2])
+    let alloc = rt.alloc();
+    assert_two_arrive(&rt, alloc, "domain 1 1 2 1 0 0 keep", 0, [1, 2], WARNING)?;
+    assert_two_arrive(&rt, alloc, "domain 1 1 2 1 0 1 keep", 0, [1, 2], b"")
 }
