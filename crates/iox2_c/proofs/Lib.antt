@@ -2,3 +2,5 @@ mod Values
 mod DomainBoxSteps
 mod BecomesSteps
 mod CreationSteps
+mod LoanSteps
+mod TextsOfErrors
