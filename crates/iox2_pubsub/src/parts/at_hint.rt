@@ -1,21 +1,20 @@
 //! Whether what numbers name is where they say that it is looked for first. Nothing is searched, so
 //! that a caller can go one way where it is, which is mostly so, and another where it isn't.
-ghost use Rattle.std.specs.Prelude.{◌≡◌, IsTrue};
+ghost use Rattle.std.specs.Prelude.{◌≡◌, ◌↔◌, IsTrue};
 
 use crate::domain::Domain;
-use crate::parts::hints::{has_loan_at_hint, has_sample_at_hint, has_subscriber_at_hint};
+use crate::parts::hints::{has_subscriber_at_hint, is_lent_at_hint};
 use crate::parts::{LoanParts, SampleParts, SubscriberParts};
 use iox2_store::{BackpressureFn, DegradationFn, UniqueSubscriberId};
 
 impl<T: Drop, U: Default + Drop, F: BackpressureFn, G: DegradationFn> Domain<T, U, F, G> {
-    ghost use Rattle.iox2_pubsub.specs.Live.{IsLoanKey, IsSampleKey, IsSubscriberKey};
-    ghost use Rattle.iox2_pubsub.specs.Parts.{loan_named, sample_named, subscriber_named};
+    ghost use Rattle.iox2_pubsub.specs.Live.{IsLiveSubscriber, IsLoanKey, IsSampleKey};
+    ghost use Rattle.iox2_pubsub.specs.Parts.{LenderIsPlaced, loan_named, sample_named, subscriber_with};
 
     /// Whether the subscriber with these numbers wasn't closed, and stands at the place that they name.
     /// This library's own.
-    #[tactic(auto, unfolding(crate::specs::Live::IsSubscriberKey))]
     pub fn is_subscriber_at_hint(&self, parts: &SubscriberParts) -> bool
-        ensures { IsTrue result → IsSubscriberKey self.now (subscriber_named parts.now) }
+        ensures { IsTrue result ↔ IsLiveSubscriber self.now (subscriber_with parts.now) }
     {
         if parts.service_id != self.state.config().service_id {
             return false;
@@ -25,19 +24,18 @@ impl<T: Drop, U: Default + Drop, F: BackpressureFn, G: DegradationFn> Domain<T, 
 
     /// Whether the loan with these numbers is out, and lies in the slot that they name, and its
     /// publisher stands at the place that they name. This library's own.
-    #[tactic(auto, unfolding(crate::specs::Live::IsLoanKey))]
     pub fn is_loan_at_hint(&self, parts: &LoanParts) -> bool
-        ensures { IsTrue result → IsLoanKey self.now (loan_named parts.now) }
+        ensures live { IsTrue result → IsLoanKey self.now (loan_named parts.now) }
+        ensures placed { IsTrue result → LenderIsPlaced self.now parts.now }
     {
         if parts.service_id != self.state.config().service_id {
             return false;
         }
-        has_loan_at_hint(&self.state, &parts.loan())
+        is_lent_at_hint(&self.state, &parts.loan())
     }
 
     /// Whether the sample with these numbers wasn't released, lies in the slot that they name, and was
     /// borrowed last of the connection that they name. This library's own.
-    #[tactic(auto, unfolding(crate::specs::Live::IsSampleKey))]
     pub fn is_sample_at_hint(&mut self, parts: &SampleParts) -> bool
         ensures live { IsTrue result → IsSampleKey self.old (sample_named parts.now) }
         ensures same { self.new ≡ self.old }
@@ -45,6 +43,6 @@ impl<T: Drop, U: Default + Drop, F: BackpressureFn, G: DegradationFn> Domain<T, 
         if parts.service_id != self.state.config().service_id {
             return false;
         }
-        has_sample_at_hint(&mut self.state, &parts.sample())
+        self.state.is_last_at_hint(&parts.sample())
     }
 }
