@@ -10,6 +10,7 @@ use Rattle.iox2_store.specs.machine.Ports.{CreatePublisher, CreateSubscriber}
 use Rattle.iox2_store.specs.machine.Receives.{ReceiveResult, Got_sample, No_sample, Receive_error, Receive}
 use Rattle.iox2_store.specs.machine.Records.{Entry, Loan, Publisher, PublisherSettings, SubscriberSettings, Environment}
 use Rattle.iox2_store.specs.machine.Releases.{released}
+use Rattle.iox2_store.specs.machine.SingleCalls.{HoldsBlocked, HoldsLoan, HoldsPublisher, HoldsSample, HoldsSubscriber}
 use Rattle.iox2_store.specs.machine.Sends.{SendResult, Delivered_to, Blocked_send, Send_error, Send}
 use Rattle.iox2_store.specs.declared.errors.SendError.{SendError}
 use Rattle.iox2_pubsub.specs.SendCalls.{Sends, messages_after, spent_by_send}
@@ -51,6 +52,27 @@ use Rattle.iox2_pubsub.proofs.UnfailedSends.{IsMild, HasNotFailed, blocked-unfai
 -- a domain shows some state
 pub always-shown : {T U F G : Type 0} {boxes : DomainBoxes F G} (f : Fields T U) (kept : Kept T U F G) → IsDomain f → keeping boxes f ≡ kept → (m : Messages T U) × (s : State T U) × Shows kept m s
 always-shown {T} {U} {F} {G} f kept sound view = (entries_of (kept_of f), state_of (kept_of f), subst (λ (k : Kept T U F G). Shows k (entries_of (kept_of f)) (state_of (kept_of f))) view (shows_itself f sound))
+
+-- and in the state that it shows is what is live in it
+module _ {T U F G : Type 0} {boxes : DomainBoxes F G} (f : Fields T U) (kept : Kept T U F G) (sound : IsDomain f) (view : keeping boxes f ≡ kept) where
+  shown-with : (Is : State T U → Type 0) → Is (state_of kept) → (m : Messages T U) × (s : State T U) × Shows kept m s × Is s
+  shown-with Is is = let it = always-shown f kept sound view in (it.0, it.1, it.2, subst Is (sym (it.2).state) is)
+
+  module _ (key : Key) where
+    pub publisher-shown : IsPublisherKey kept key → (m : Messages T U) × (s : State T U) × Shows kept m s × HoldsPublisher s key.port
+    publisher-shown live = shown-with (λ (s : State T U). HoldsPublisher s key.port) (publisher-parts kept key live).2
+
+    pub subscriber-shown : IsSubscriberKey kept key → (m : Messages T U) × (s : State T U) × Shows kept m s × HoldsSubscriber s key.port
+    subscriber-shown live = shown-with (λ (s : State T U). HoldsSubscriber s key.port) (subscriber-parts kept key live).2
+
+    pub loan-shown : IsLoanKey kept key → (m : Messages T U) × (s : State T U) × Shows kept m s × HoldsLoan s key.port key.message
+    loan-shown live = shown-with (λ (s : State T U). HoldsLoan s key.port key.message) (loan-parts kept key live).1
+
+    pub blocked-shown : IsBlockedKey kept key → (m : Messages T U) × (s : State T U) × Shows kept m s × HoldsBlocked s key.port key.message
+    blocked-shown live = shown-with (λ (s : State T U). HoldsBlocked s key.port key.message) (blocked-parts kept key live).1
+
+    pub sample-shown : IsSampleKey kept key → (m : Messages T U) × (s : State T U) × Shows kept m s × HoldsSample s key.port key.message
+    sample-shown live = shown-with (λ (s : State T U). HoldsSample s key.port key.message) (sample-parts kept key live).1
 
 -- the next id is that of no publisher that is there
 pub apart-from-next : {T U F G : Type 0} {boxes : DomainBoxes F G} (f : Fields T U) (kept : Kept T U F G) → IsDomain f → keeping boxes f ≡ kept → (key : Key) → IsPublisherKey kept key

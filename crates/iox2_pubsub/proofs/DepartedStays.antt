@@ -42,13 +42,11 @@ module _ {T U : Type 0} where
 
   -- the settings stay, and no subscriber has more connections with closed publishers
   room-stays : (s s' : State T U) → s'.config ≡ s.config → ((q : ℕ) → departed_at s' q ≤ departed_at s q) → RoomStays s s'
-  room-stays s s' same fewer q closes has = record {
-    fits =
-        let limit : expired_limit s'.config ≡ expired_limit s.config = ap expired_limit same in
-        let less : departed_at s' q ≤ departed_at s q = fewer q in
-        let room : departed_at s q + closes ≤ expired_limit s.config = has.fits in
-        omega arith;
-  }
+  room-stays s s' same fewer q closes has =
+      let limit : expired_limit s'.config ≡ expired_limit s.config = ap expired_limit same in
+      let less : departed_at s' q ≤ departed_at s q = fewer q in
+      let room : departed_at s q + closes ≤ expired_limit s.config = has in
+      omega arith
 
   -- each publisher that is there stays
   abbrev PublishersStay : (s s' : State T U) → Type 0
@@ -86,7 +84,7 @@ module _ {T U : Type 0} where
   -- ---- loans and sends
 
   pub set-room : (s : State T U) (n : ℕ) (l : Option (Loan T U)) → RoomStays s (with_loan s n l)
-  set-room s n l = λ q closes has. record { fits = has.fits }
+  set-room s n l = λ q closes has. has
 
   pub discard-room : (s : State T U) (n : ℕ) (l : Loan T U) → RoomStays s (loan_discarded s n l)
   discard-room s n l = ports-room s (loan_discarded s n l) refl (publishers-stay s (loan_discarded s n l) (loan_discarded_stays s n l)) refl
@@ -124,7 +122,7 @@ module _ {T U : Type 0} where
       room-stays s s' ((update_subscriber_stays environment s i s' failure h).remain).config (update-subscriber-departed environment s w i s' failure h)
 
   taken-room : (s : State T U) (q : ℕ) (y : Subscriber) (s' : State T U) (result : ReceiveResult) → TakeSample s q y s' result → RoomStays s s'
-  taken-room s q y s' (Got_sample p n) h = λ i closes has. subst (λ (t : State T U). HasRoom t i closes) (sym h.3) (record { fits = has.fits })
+  taken-room s q y s' (Got_sample p n) h = λ i closes has. subst (λ (t : State T U). HasRoom t i closes) (sym h.3) has
   taken-room s q y s' No_sample h = room-itself s s' h.1
   taken-room s q y s' (Receive_error e) h = room-itself s s' h.3
 
@@ -183,7 +181,7 @@ module _ {T U : Type 0} where
     where
       warned : (t : State T U) (failure : Option ConnectionFailure) → RoomStays t (with_failure_warning t (SubscriberPartlyConnected s.next_port) failure)
       warned t None = λ q closes has. has
-      warned t (Some failure) = λ q closes has. record { fits = has.fits }
+      warned t (Some failure) = λ q closes has. has
 
       made : (place : ℕ) → IsWellFormed (with_new_subscriber s given place) → FirstSubscriberUpdate environment (with_new_subscriber s given place) s.next_port s' → RoomStays s s'
       made place new-well h = λ q closes has.
@@ -205,7 +203,7 @@ module _ {T U : Type 0} where
       → CreateSubscriber environment s given s' refusal → (closes : ℕ) → closes ≤ expired_limit s.config → HasRoom s' s.next_port closes
   created-room environment s w given s' refusal h closes low =
       let none : departed_at s s.next_port ≡ 0 = unknown-departed s w in
-      create-subscriber-room environment s w given s' refusal h s.next_port closes (record { fits = omega arith })
+      create-subscriber-room environment s w given s' refusal h s.next_port closes (omega arith)
 
   pub create-publisher-room : (environment : Environment) (s : State T U) (given : PublisherSettings) (s' : State T U) (refusal : Option PublisherCreateError)
       → CreatePublisher environment s given s' refusal → RoomStays s s'
@@ -233,12 +231,10 @@ module _ {T U : Type 0} where
 
   -- a publisher's close adds one at most
   pub publisher-closed-room : (s : State T U) (p : ℕ) (x : Publisher) → IsWellFormed s → (q closes : ℕ) → HasRoom s q (suc closes) → HasRoom (publisher_closed s p x) q closes
-  publisher-closed-room s p x w q closes has = record {
-    fits =
-        let most : departed_at (publisher_closed s p x) q ≤ suc (departed_at s q) = by (s.subscribers q) refl in
-        let room : departed_at s q + suc closes ≤ expired_limit s.config = has.fits in
-        omega arith;
-  }
+  publisher-closed-room s p x w q closes has =
+      let most : departed_at (publisher_closed s p x) q ≤ suc (departed_at s q) = by (s.subscribers q) refl in
+      let room : departed_at s q + suc closes ≤ expired_limit s.config = has in
+      omega arith
     where
       gone-now : (n : ℕ) → is_gone (publisher_closed s p x) n ≡ true → (n ≡ p) ⊎ (is_gone s n ≡ true)
       gone-now n gone = elim (cases_eq n p) [

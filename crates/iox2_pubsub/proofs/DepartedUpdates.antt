@@ -283,6 +283,6 @@ module _ {T U : Type 0} (environment : Environment) (s : State T U) (w : IsWellF
           by_bool (waiting_from s' p q ≡ waiting_from s p q) y.is_due _ _ h
           (λ due h.
           let at : departed_at s q ≡ departed_of s y = ap (λ (o : Option Subscriber). option_map_or (departed_of s) o 0) present in
-          let all : departed_at s q + 0 ≤ expired_limit s.config = room.fits in
+          let all : departed_at s q + 0 ≤ expired_limit s.config = room in
           ap (λ (t : State T U). waiting_from t p q) h.2 ∙ same-waits y present due (omega arith) h.0 failure h.1 p)
           (λ _ h. ap (λ (t : State T U). waiting_from t p q) h.0))

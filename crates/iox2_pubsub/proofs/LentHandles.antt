@@ -21,7 +21,7 @@ use Rattle.iox2_domain.specs.Shows.{Shows}
 use Rattle.iox2_domain.proofs.lemmas.loans.LentLoans.{IsLent, header-lent, cell-lent, cells-lent, value-lent, values-lent}
 use Rattle.iox2_domain.proofs.lemmas.loans.LoanCalls.{contents-there, some-at, is-unwritten, is-written, user_header-read, in-lists, cell-some, cell-read, cells-read, value-some, value-read, values-read}
 use Rattle.iox2_pubsub.specs.ChangedLoans.{with_cell, with_cells, with_payload, with_payloads, with_user_header}
-use Rattle.iox2_pubsub.specs.Live.{IsUnwritten, IsUnwrittenLoan, IsWritten, IsWrittenLoan, LoanHasHeader, LoanHasUserHeader, NeverWaits, A_loan, StaysBut, UpToDateStay, unwritten_key, written_key, WaitingStays}
+use Rattle.iox2_pubsub.specs.Live.{IsUnwritten, IsWritten, LoanHasHeader, LoanHasUserHeader, A_loan, StaysBut, UpToDateStay, WaitingStays}
 use Rattle.iox2_pubsub.specs.Slices.{HasUnwrittenCells, HasValues}
 use Rattle.iox2_pubsub.specs.declared.sample_mut.SampleMut.{SampleMut}
 use Rattle.iox2_pubsub.specs.declared.sample_mut_uninit.SampleMutUninit.{SampleMutUninit}
@@ -87,41 +87,36 @@ refilled (x ∷ xs) (w ∷ ws) same = ap (λ ys. w ∷ ys) (refilled xs ws (omeg
 
 -- ---- a loan that was lent
 
+-- What a loan that was lent is afterwards and what it leaves, where `h` says what became of it.
+pub record Lent {T U F G : Type 0} (inside kept after : Kept T U F G) (n : ℕ) (l : Loan T U) (h : Loan T U → Loan T U) : Type 0 where
+  -- what is kept is what the word says
+  pub is : inside ≡ after
+  pub shown : (m : Messages T U) (s : State T U) → Shows kept m s → (k : Loan T U) × (s.loans n ≡ Some k) × Shows after m (with_loan s n (Some (h k)))
+  pub stays : StaysBut (A_loan n) kept after
+  pub loans_left : LoansLeftStay kept after
+  pub waits : WaitingStays kept after
+  pub up_to_date : UpToDateStay kept after
+  -- what it reads as
+  pub cells : (cells : List (Option T)) → (h l).cells ≡ cells → HasUnwrittenCells after n cells
+  pub values : (values : List T) → (h l).cells ≡ map Some values → HasValues after n values
+  pub user_header : (key : Key) (user_header : U) → key.message ≡ n → (h l).user_header ≡ user_header → LoanHasUserHeader after key user_header
+  -- what of it didn't change
+  pub same_cells : (h l).cells ≡ l.cells → (cells : List (Option T)) → HasUnwrittenCells kept n cells → HasUnwrittenCells after n cells
+  pub same_values : (h l).cells ≡ l.cells → (values : List T) → HasValues kept n values → HasValues after n values
+  pub same_header : (h l).header ≡ l.header → (key : Key) → key.message ≡ n → (header : Header) → LoanHasHeader kept key header → LoanHasHeader after key header
+  pub same_user_header : (h l).user_header ≡ l.user_header → (key : Key) → key.message ≡ n → (header : U) → LoanHasUserHeader kept key header → LoanHasUserHeader after key header
+  pub written : (h l).publisher ≡ l.publisher → (h l).is_written ≡ l.is_written → (loan : SampleMut) → loan.loan.number ≡ n → IsWritten kept loan → IsWritten after loan
+  pub unwritten : (h l).publisher ≡ l.publisher → (h l).is_written ≡ l.is_written → (loan : SampleMutUninit) → loan.loan.number ≡ n → IsUnwritten kept loan → IsUnwritten after loan
+
 module _ {T U F G : Type 0} {boxes : DomainBoxes F G} (f g : Fields T U) (sound : IsDomain f) (kept : Kept T U F G) (view : keeping boxes f ≡ kept) (n : ℕ) (l : Loan T U) (found : (state_of (kept_of f)).loans n ≡ Some l)
     (h : Loan T U → Loan T U) (lent : IsLent f g n l h) (after : Kept T U F G) (is : after ≡ with_loan_changed n h kept) where
-  -- what is kept is what the word says
-  pub lent-is : keeping boxes g ≡ after
+  lent-is : keeping boxes g ≡ after
   lent-is = ap (with-boxes boxes) lent.kept ∙ ap (with_loan_changed n h) view ∙ sym is
 
-  pub lent-shown : (m : Messages T U) (s : State T U) → Shows kept m s → (k : Loan T U) × (s.loans n ≡ Some k) × Shows after m (with_loan s n (Some (h k)))
+  lent-shown : (m : Messages T U) (s : State T U) → Shows kept m s → (k : Loan T U) × (s.loans n ≡ Some k) × Shows after m (with_loan s n (Some (h k)))
   lent-shown m s shown =
       let both = change-shown f g kept view n l (h l) found lent.reaches m s shown in
       (l, both.0, subst (λ (k : Kept T U F G). Shows k m (with_loan s n (Some (h l)))) lent-is both.1)
-
-  pub lent-stays : StaysBut (A_loan n) kept after
-  lent-stays =
-      let it = always-shown f kept sound view in
-      let step = lent-shown it.0 it.1 it.2 in
-      change-stays kept after it.0 it.1 it.2 n (h step.0) step.2 (subst (BoxesStayBut (A_loan n) kept) lent-is (same-boxes f g kept view))
-
-  pub lent-left : LoansLeftStay kept after
-  lent-left =
-      let it = always-shown f kept sound view in
-      let step = lent-shown it.0 it.1 it.2 in
-      set-left kept after it.0 it.0 it.1 (with_loan it.1 n (Some (h step.0))) it.2 step.2 n (Some (h step.0)) refl
-
-  -- the same messages wait, and who was up to date is
-  pub lent-waits : WaitingStays kept after
-  lent-waits =
-      let it = always-shown f kept sound view in
-      let step = lent-shown it.0 it.1 it.2 in
-      set-waits kept after it.0 it.1 it.2 n (Some (h step.0)) step.2
-
-  pub lent-leaves : UpToDateStay kept after
-  lent-leaves =
-      let it = always-shown f kept sound view in
-      let step = lent-shown it.0 it.1 it.2 in
-      set-leaves kept after it.0 it.1 it.2 n (Some (h step.0)) step.2
 
   -- the changed loan is the one that is kept
   lent-there : (state_of after).loans n ≡ Some (h l)
@@ -131,63 +126,51 @@ module _ {T U F G : Type 0} {boxes : DomainBoxes F G} (f g : Fields T U) (sound 
   loan-there k at =
       let both : Some k ≡ Some l = sym at ∙ sym (ap (λ (s : Kept T U F G). (state_of s).loans n) view) ∙ found in cc
 
-  -- what it reads as
-  pub lent-cells : (m : ℕ) (cells : List (Option T)) → m ≡ n → (h l).cells ≡ cells → HasUnwrittenCells after m cells
-  lent-cells m cells its is-it = has-cells after m cells (h l, ap (state_of after).loans its ∙ lent-there, is-it)
+  -- its cells, where they didn't change
+  lent-same : (h l).cells ≡ l.cells → (k : Loan T U) → (state_of kept).loans n ≡ Some k → (h l).cells ≡ k.cells
+  lent-same same k at = same ∙ ap (λ (j : Loan T U). j.cells) (sym (loan-there k at))
 
-  pub lent-values : (m : ℕ) (values : List T) → m ≡ n → (h l).cells ≡ map Some values → HasValues after m values
-  lent-values m values its is-it = has-values after m values (h l, ap (state_of after).loans its ∙ lent-there, is-it)
+  lent-written : (h l).publisher ≡ l.publisher → (h l).is_written ≡ l.is_written → (loan : SampleMut) → loan.loan.number ≡ n → IsWritten kept loan → IsWritten after loan
+  lent-written same mark loan its live =
+      let parts = written-parts kept loan live in
+      let out : HoldsLoan (state_of (kept_of f)) loan.loan.publisher n =
+      subst (λ (k : Kept T U F G). HoldsLoan (state_of k) loan.loan.publisher n) (sym view) (subst (HoldsLoan (state_of kept) loan.loan.publisher) its ((parts.1).0, (parts.1).1, (parts.1).2)) in
+      let one : (parts.1).0 ≡ l = loan-there (parts.1).0 (ap (state_of kept).loans (sym its) ∙ (parts.1).1) in
+      let written : (h l).is_written ≡ true = mark ∙ ap (λ (k : Loan T U). k.is_written) (sym one) ∙ (parts.1).3 in
+      subst (λ (k : Kept T U F G). IsWritten k loan) lent-is
+      (change-written f g kept view n l (h l) found lent.reaches same loan.loan.publisher loan.service_id parts.0 out written loan its refl refl)
 
-  pub lent-header : (key : Key) (user_header : U) → key.message ≡ n → (h l).user_header ≡ user_header → LoanHasUserHeader after key user_header
-  lent-header key user_header its is-it = loan-user-header after key user_header (h l, ap (state_of after).loans its ∙ lent-there, is-it)
+  lent-unwritten : (h l).publisher ≡ l.publisher → (h l).is_written ≡ l.is_written → (loan : SampleMutUninit) → loan.loan.number ≡ n → IsUnwritten kept loan → IsUnwritten after loan
+  lent-unwritten same mark loan its live =
+      let parts = unwritten-parts kept loan live in
+      let one : (parts.1).0 ≡ l = loan-there (parts.1).0 (ap (state_of kept).loans (sym its) ∙ (parts.1).1) in
+      let unwritten : (h l).is_written ≡ false = mark ∙ ap (λ (k : Loan T U). k.is_written) (sym one) ∙ (parts.1).3 in
+      subst (λ (k : Kept T U F G). IsUnwritten k loan) lent-is
+      (change-unwritten f g kept view n l (h l) found lent.reaches same loan its live unwritten)
 
-  -- a header that didn't change
-  pub lent-same-header : (h l).header ≡ l.header → (key : Key) → key.message ≡ n → (header : Header) → LoanHasHeader kept key header → LoanHasHeader after key header
-  lent-same-header same key its header has =
-      subst (λ (k : Kept T U F G). LoanHasHeader k key header) lent-is (change-header f g kept view n l (h l) found lent.reaches key key its its same header has)
-
-  pub lent-same-user-header : (h l).user_header ≡ l.user_header → (key : Key) → key.message ≡ n → (header : U) → LoanHasUserHeader kept key header → LoanHasUserHeader after key header
-  lent-same-user-header same key its header has =
-      subst (λ (k : Kept T U F G). LoanHasUserHeader k key header) lent-is (change-user-header f g kept view n l (h l) found lent.reaches key key its its same header has)
-
-  -- where only its user header changed, it reads as it did
-  module _ (same : (h l).cells ≡ l.cells) (m : ℕ) (its : m ≡ n) where
-    pub lent-same-cells : (cells : List (Option T)) → HasUnwrittenCells kept m cells → HasUnwrittenCells after m cells
-    lent-same-cells cells has =
-        let had = cells-parts kept m cells has in
-        lent-cells m cells its (same ∙ ap (λ (k : Loan T U). k.cells) (sym (loan-there had.0 (ap (state_of kept).loans (sym its) ∙ had.1))) ∙ had.2)
-
-    pub lent-same-values : (values : List T) → HasValues kept m values → HasValues after m values
-    lent-same-values values has =
-        let had = values-parts kept m values has in
-        lent-values m values its (same ∙ ap (λ (k : Loan T U). k.cells) (sym (loan-there had.0 (ap (state_of kept).loans (sym its) ∙ had.1))) ∙ had.2)
-
-  module _ (same : (h l).publisher ≡ l.publisher) (mark : (h l).is_written ≡ l.is_written) where
-    pub lent-written : (loan : SampleMut) → loan.loan.number ≡ n → IsWritten kept loan → IsWritten after loan
-    lent-written loan its live =
-        let parts = written-parts kept loan live in
-        let out : HoldsLoan (state_of (kept_of f)) loan.loan.publisher n =
-        subst (λ (k : Kept T U F G). HoldsLoan (state_of k) loan.loan.publisher n) (sym view) (subst (HoldsLoan (state_of kept) loan.loan.publisher) its ((parts.1).0, (parts.1).1, (parts.1).2)) in
-        let both : Some l ≡ Some (parts.1).0 = sym found ∙ ap (λ (k : Kept T U F G). (state_of k).loans n) view ∙ ap (state_of kept).loans (sym its) ∙ (parts.1).1 in
-        let one : l ≡ (parts.1).0 = cc in
-        let written : (h l).is_written ≡ true = mark ∙ ap (λ (k : Loan T U). k.is_written) one ∙ (parts.1).3 in
-        subst (λ (k : Kept T U F G). IsWritten k loan) lent-is
-        (change-written f g kept view n l (h l) found lent.reaches same loan.loan.publisher loan.service_id parts.0 out written loan its refl refl)
-
-    pub lent-unwritten : (loan : SampleMutUninit) → loan.loan.number ≡ n → IsUnwritten kept loan → IsUnwritten after loan
-    lent-unwritten loan its live =
-        let parts = unwritten-parts kept loan live in
-        let both : Some l ≡ Some (parts.1).0 = sym found ∙ ap (λ (k : Kept T U F G). (state_of k).loans n) view ∙ ap (state_of kept).loans (sym its) ∙ (parts.1).1 in
-        let one : l ≡ (parts.1).0 = cc in
-        let unwritten : (h l).is_written ≡ false = mark ∙ ap (λ (k : Loan T U). k.is_written) one ∙ (parts.1).3 in
-        subst (λ (k : Kept T U F G). IsUnwritten k loan) lent-is (change-unwritten f g kept view n l (h l) found lent.reaches same loan its live unwritten)
-
-    -- one whose publisher never waits stays so
-    pub lent-written-loan : (loan : SampleMut) → loan.loan.number ≡ n → IsWritten kept loan → NeverWaits kept (written_key loan) → IsWrittenLoan after loan
-    lent-written-loan loan its live never = record { out = lent-written loan its live; never_waits = lent-stays.never_wait (written_key loan) never }
-
-    pub lent-unwritten-loan : (loan : SampleMutUninit) → loan.loan.number ≡ n → IsUnwritten kept loan → NeverWaits kept (unwritten_key loan) → IsUnwrittenLoan after loan
-    lent-unwritten-loan loan its live never = record { out = lent-unwritten loan its live; never_waits = lent-stays.never_wait (unwritten_key loan) never }
+  pub was-lent : Lent (keeping boxes g) kept after n l h
+  was-lent =
+      let it = always-shown f kept sound view in
+      let step = lent-shown it.0 it.1 it.2 in
+      record {
+        is = lent-is;
+        shown = lent-shown;
+        stays = change-stays kept after it.0 it.1 it.2 n (h step.0) step.2 (subst (BoxesStayBut (A_loan n) kept) lent-is (same-boxes f g kept view));
+        loans_left = set-left kept after it.0 it.0 it.1 (with_loan it.1 n (Some (h step.0))) it.2 step.2 n (Some (h step.0)) refl;
+        waits = set-waits kept after it.0 it.1 it.2 n (Some (h step.0)) step.2;
+        up_to_date = set-leaves kept after it.0 it.1 it.2 n (Some (h step.0)) step.2;
+        cells = λ cells is-it. has-cells after n cells (h l, lent-there, is-it);
+        values = λ values is-it. has-values after n values (h l, lent-there, is-it);
+        user_header = λ key user_header its is-it. loan-user-header after key user_header (h l, ap (state_of after).loans its ∙ lent-there, is-it);
+        same_cells = λ same cells has. let had = cells-parts kept n cells has in has-cells after n cells (h l, lent-there, lent-same same had.0 had.1 ∙ had.2);
+        same_values = λ same values has. let had = values-parts kept n values has in has-values after n values (h l, lent-there, lent-same same had.0 had.1 ∙ had.2);
+        same_header = λ same key its header has.
+            subst (λ (k : Kept T U F G). LoanHasHeader k key header) lent-is (change-header f g kept view n l (h l) found lent.reaches key key its its same header has);
+        same_user_header = λ same key its header has.
+            subst (λ (k : Kept T U F G). LoanHasUserHeader k key header) lent-is (change-user-header f g kept view n l (h l) found lent.reaches key key its its same header has);
+        written = lent-written;
+        unwritten = lent-unwritten;
+      }
 
 -- a loan whose cells were changed, to as many
 pub cells-left : {T U : Type 0} (s : State T U) (n : ℕ) (l : Loan T U) → s.loans n ≡ Some l → (read cells : List (Option T)) → HasCells s n read → length cells ≡ length read
@@ -205,6 +188,9 @@ values-left s n l out read values has same = cells-left s n l out (map Some read
 -- ---- what lies in a loan's slot may be lent
 
 module _ {T U : Type 0} (f : Fields T U) (sound : IsDomain f) (p n key slot : ℕ) (at : LiesInSlot f p n key slot) where
+  abbrev contents_of : Option (List (ContentState T U)) → List (ContentState T U)
+  contents_of o = elim o [ None ↦ [] | Some zs ↦ zs ]
+
   has : HasContents f key
   has = contents-there f sound key at.book at.stands
 
@@ -218,9 +204,6 @@ module _ {T U : Type 0} (f : Fields T U) (sound : IsDomain f) (p n key slot : �
   pub header-known : (user_header : U) → user_header_at (contents_at f.contents key) slot ≡ Some user_header → HasLoanUserHeader (state_of (kept_of f)) n user_header
   header-known user_header known =
       user_header-read f sound p n key slot at has.0 has.1 user_header (sym (ap (λ o. user_header_at (contents_of o) slot) has.1) ∙ known)
-    where
-      contents_of : Option (List (ContentState T U)) → List (ContentState T U)
-      contents_of o = elim o [ None ↦ [] | Some zs ↦ zs ]
 
   -- the value of a written loan
   module _ (out : HoldsWritten (state_of (kept_of f)) p n) where
@@ -237,9 +220,6 @@ module _ {T U : Type 0} (f : Fields T U) (sound : IsDomain f) (p n key slot : �
     pub values-known : (values : List T) → values_at (contents_at f.contents key) slot ≡ Some values → HasCells (state_of (kept_of f)) n (map Some values)
     values-known values known =
         values-read f sound p n key slot at has.0 has.1 (is-written f sound p n key slot at out) values (sym (ap (λ o. values_at (contents_of o) slot) has.1) ∙ known)
-      where
-        contents_of : Option (List (ContentState T U)) → List (ContentState T U)
-        contents_of o = elim o [ None ↦ [] | Some zs ↦ zs ]
 
     module _ (one : length (at.loan).cells ≡ 1) where
       pub value-there : HasContentIn f key slot (λ content. 0 < length content.values)
@@ -248,9 +228,6 @@ module _ {T U : Type 0} (f : Fields T U) (sound : IsDomain f) (p n key slot : �
       pub value-known : (value : T) → first_value_at (contents_at f.contents key) slot ≡ Some value → HasCell (state_of (kept_of f)) n (Some value)
       value-known value known =
           value-read f sound p n key slot at has.0 has.1 (is-written f sound p n key slot at out) one value (sym (ap (λ o. first_value_at (contents_of o) slot) has.1) ∙ known)
-        where
-          contents_of : Option (List (ContentState T U)) → List (ContentState T U)
-          contents_of o = elim o [ None ↦ [] | Some zs ↦ zs ]
 
   -- the cell of an unwritten loan
   module _ (out : HoldsUnwritten (state_of (kept_of f)) p n) where
@@ -267,9 +244,6 @@ module _ {T U : Type 0} (f : Fields T U) (sound : IsDomain f) (p n key slot : �
     pub cells-known : (cells : List (Option T)) → cells_at (contents_at f.contents key) slot ≡ Some cells → HasCells (state_of (kept_of f)) n cells
     cells-known cells known =
         cells-read f sound p n key slot at has.0 has.1 (is-unwritten f sound p n key slot at out) cells (sym (ap (λ o. cells_at (contents_of o) slot) has.1) ∙ known)
-      where
-        contents_of : Option (List (ContentState T U)) → List (ContentState T U)
-        contents_of o = elim o [ None ↦ [] | Some zs ↦ zs ]
 
     module _ (one : length (at.loan).cells ≡ 1) where
       pub cell-there : HasContentIn f key slot (λ content. 0 < length content.cells)
@@ -278,6 +252,3 @@ module _ {T U : Type 0} (f : Fields T U) (sound : IsDomain f) (p n key slot : �
       pub cell-known : (cell : Option T) → first_cell_at (contents_at f.contents key) slot ≡ Some cell → HasCell (state_of (kept_of f)) n cell
       cell-known cell known =
           cell-read f sound p n key slot at has.0 has.1 (is-unwritten f sound p n key slot at out) one cell (sym (ap (λ o. first_cell_at (contents_of o) slot) has.1) ∙ known)
-        where
-          contents_of : Option (List (ContentState T U)) → List (ContentState T U)
-          contents_of o = elim o [ None ↦ [] | Some zs ↦ zs ]

@@ -1,11 +1,11 @@
 -- Where the ports of live handles stand among a domain's fields.
-use Rattle.std.proofs.Common.{◌≡◌, ℕ, zero, suc, List, [], ◌∷◌, map, get_or, Option, None, Some, refl, ap, sym, subst, ◌∙◌}
+use Rattle.std.proofs.Common.{◌≡◌, ℕ, zero, suc, List, [], ◌∷◌, map, get_or, true, Option, None, Some, refl, ap, sym, subst, ◌∙◌}
 use Rattle.std.proofs.lemmas.Bool.{eq-eqb}
 use Rattle.std.specs.Option.{option_map}
 use Rattle.std.specs.Prelude.{◌↔◌, MatchOption}
 use Rattle.iox2_store.specs.machine.SingleCalls.{HoldsPublisher, HoldsSubscriber}
 use Rattle.iox2_ends.specs.LookUp.{look_up}
-use Rattle.iox2_domain.proofs.lemmas.fields.OpenPorts.{absent-publisher, present-publisher}
+use Rattle.iox2_domain.proofs.lemmas.fields.OpenPorts.{absent-publisher, open-subscriber, present-publisher, subscriber-open}
 use Rattle.std.proofs.lemmas.Option.{same_Some}
 use Rattle.iox2_store.specs.machine.Places.{occupant}
 use Rattle.iox2_store.specs.machine.Records.{Publisher, Subscriber}
@@ -42,17 +42,24 @@ module _ {A B : Type 0} (f : A → Named B) where
 abbrev shown : {T U : Type 0} → Fields T U → State T U
 shown f = state_of (kept_of f)
 
+module _ {T U : Type 0} (f : Fields T U) (sound : IsDomain f) where
+  -- a publisher whose record stands at a place is there, at that place
+  pub publisher-at : (id place : ℕ) → (x : PublisherFields) × (get_or f.publishers place None ≡ Some x) × (x.id ≡ id) → (x : Publisher) × ((shown f).publishers id ≡ Some x) × (x.place ≡ place)
+  publisher-at id place at =
+      let port : Publisher = (publisher_of f.books f.connections at.0).port in
+      let there : (shown f).publishers id ≡ Some port = ap (shown f).publishers (sym at.2) ∙ publisher-stands f sound.parts place at.0 at.1 in
+      let known : option_map {T = Publisher} {U = ℕ} (λ x. x.place) ((shown f).publishers id) ≡ Some place =
+      ((sound.well_formed).publisher_places).known id place (occupies (publisher_of f.books f.connections) f.publishers place at.0 at.1 ∙ ap Some at.2) in
+      (port, there, same_Some port.place place (sym (ap (option_map {T = Publisher} {U = ℕ} (λ z. z.place)) there) ∙ known))
+
 module _ {T U F G : Type 0} (boxes : DomainBoxes F G) (f : Fields T U) (sound : IsDomain f) where
   -- a publisher whose record stands at its handle's place is where the handle says
   pub publisher-placed : (it : PublisherHandle) → (x : PublisherFields) × (get_or f.publishers it.place None ≡ Some x) × (x.id ≡ it.id) → IsPlacedPublisher (keeping boxes f) it
   publisher-placed it at =
-      let there : (shown f).publishers it.id ≡ Some ((publisher_of f.books f.connections at.0).port) =
-      ap (shown f).publishers (sym at.2) ∙ publisher-stands f sound.parts it.place at.0 at.1 in
-      let place : option_map {T = Publisher} {U = ℕ} (λ x. x.place) ((shown f).publishers it.id) ≡ Some it.place =
-      ((sound.well_formed).publisher_places).known it.id it.place (occupies (publisher_of f.books f.connections) f.publishers it.place at.0 at.1 ∙ ap Some at.2) in
+      let there = publisher-at f sound it.id it.place at in
       placed-from (keeping boxes f) it (
-        ((sound.well_formed).publishers it.id _ there).is_known,
-        λ x here. same_Some x.place it.place (sym (ap (option_map {T = Publisher} {U = ℕ} (λ z. z.place)) here) ∙ place),
+        ((sound.well_formed).publishers it.id there.0 there.1).is_known,
+        λ x here. ap (λ (z : Publisher). z.place) (same_Some x there.0 (sym here ∙ there.1)) ∙ there.2,
       )
 
   -- and so with a subscriber
@@ -148,6 +155,17 @@ module _ {T U F G : Type 0} {boxes : DomainBoxes F G} (f : Fields T U) (sound : 
     λ live.
         let there = subscriber-at-place it live in
         ((sound.parts).subscriber_ids it.id).one i it.place found.0 there.0 found.1 there.1 (eq-eqb found.0.id it.id found.2) (eq-eqb there.0.id it.id there.2),
+  )
+
+  -- a handle of this service is live where its subscriber stands open at its place, and only there
+  pub subscriber-hinted : (it : SubscriberHandle) → it.service_id ≡ (f.config).service_id
+      → ((y : SubscriberFields) × (get_or f.subscribers it.place None ≡ Some y) × (y.id ≡ it.id) × (y.is_open ≡ true)) ↔ IsLiveSubscriber kept it
+  subscriber-hinted it service = (
+    λ at. (subscriber-in it service (open-subscriber f it.id sound it.place at.0 at.1 at.2 at.3) it.place (at.0, at.1, at.2)).0 refl,
+    λ live.
+        let there = subscriber-at-place it live in
+        let has = (subscriber-parts (keeping boxes f) (subscriber_key it) (subst (λ (k : Kept T U F G). IsSubscriberKey k (subscriber_key it)) (sym view) live.there)).2 in
+        (there.0, there.1, there.2, subscriber-open f it.id sound it.place there.0 there.1 there.2 has),
   )
 
 module _ {T U : Type 0} (f : Fields T U) (id : ℕ) (sound : IsDomain f) where

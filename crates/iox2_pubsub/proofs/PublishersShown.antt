@@ -11,7 +11,7 @@ use Rattle.iox2_store.specs.declared.errors.PublisherCreateError.{PublisherCreat
 use Rattle.iox2_store.specs.declared.service_config.ServiceConfig.{ServiceConfig}
 use Rattle.iox2_laws.proofs.SendsRemain.{created_as}
 use Rattle.iox2_domain.specs.Handlers.{may_fail, may_fail_update}
-use Rattle.iox2_domain.specs.Kept.{state_of}
+use Rattle.iox2_domain.specs.Kept.{Kept, state_of}
 use Rattle.iox2_domain.specs.Boxes.{DomainBoxes}
 use Rattle.iox2_domain.specs.Fields.{Fields, kept_of, keeping}
 use Rattle.iox2_pubsub.specs.Handlers.{may_wait}
@@ -28,10 +28,11 @@ use Rattle.iox2_steps.proofs.creations.PublisherCreations.{create-keeps, create-
 
 module _ {T U : Type 0} (f g : Fields T U) (given : PublisherSettings) (environment : Environment) where
   -- a domain that shows a state shows the one that a creation comes to
-  pub created-shows : (m : Messages T U) (s t : State T U) (refusal : Option PublisherCreateError) → Shows (kept_of f) m s
+  pub created-shows : {F G : Type 0} {boxes : DomainBoxes F G} (kept : Kept T U F G) → keeping boxes f ≡ kept → (m : Messages T U) (s t : State T U) (refusal : Option PublisherCreateError) → Shows kept m s
       → CreatePublisher environment (state_of (kept_of f)) given t refusal → Reaches f g t
       → Shows (kept_of g) m t × CreatePublisher environment s given t refusal
-  created-shows m s t refusal shown made reached =
+  created-shows {F} {G} {boxes} kept view m s t refusal shows made reached =
+      let shown : Shows (kept_of f) m s = subst (λ (k : Kept T U F G). Shows k m s) (sym view) shows in
       let keeps = create-keeps environment (state_of (kept_of f)) given t refusal made in (
         reaches-shows-same f g m s t shown reached
             (keeps.next_message ∙ sym (ap (λ (u : State T U). u.next_message) shown.state)) (keeps.loans ∙ sym (ap (λ (u : State T U). u.loans) shown.state)),

@@ -42,7 +42,6 @@ use Rattle.std.specs.declared.result.Result.{Result}
 use Rattle.std.specs.declared.result.Result.TheVariants.{Ok, Err}
 use Rattle.iox2_pubsub.specs.SendCalls.{FailsCopy, FailsSend, IsDelivered, IsOfHandler, IfBlocked, messages_after, result_of_send}
 use Rattle.iox2_pubsub.specs.declared.send_outcome.SendOutcome.{SendOutcome}
-use Rattle.iox2_pubsub.specs.declared.send_outcome.SendOutcome.TheVariants.{Delivered}
 
 module _ {T U : Type 0} (environment : Environment) (f g : Fields T U) (n : ℕ) (result : SendResult) (sends : SendsLoan environment f g n result) (m : Messages T U) (s : State T U) (l : Loan T U)
     (shown : Shows (kept_of f) m s) (out : s.loans n ≡ Some l) where

@@ -23,10 +23,12 @@ use Rattle.iox2_domain.specs.Kept.{Kept, state_of, entries_of}
 use Rattle.iox2_domain.specs.Shows.{Shows}
 use Rattle.iox2_pubsub.proofs.UnfailedSends.{IsMild, HasNotFailed}
 use Rattle.iox2_pubsub.specs.Handlers.{may_wait}
-use Rattle.iox2_pubsub.specs.Live.{degradation_box, handler_box, subscriber_box, IsSingleValued, IsPlacedPublisher, IsPlacedSubscriber, HasItsBuffer, IsPublisherKey, IsSubscriberKey, IsLoanKey, IsSampleKey, IsBlockedKey, HasMark, IsFromOrigin, LoanHasHeader, LoanHasUserHeader, SampleHasHeader, SampleHasUserHeader, Item, No_item, A_publisher, A_subscriber, A_loan, A_sample, A_blocked_send, A_sent_loan, A_sent_copy, Both, IsOtherPublisher, IsOtherSubscriber, IsOtherLoan, IsOtherSample, IsUnblocked, PassesFull, NeverFails, NeverWaits, IsOtherBlocked, StaysBut, Stays, IsNewIn, unwritten_key, written_key}
+use Rattle.iox2_pubsub.specs.Live.{degradation_box, handler_box, subscriber_box, IsSingleValued, IsPlacedPublisher, IsPlacedSubscriber, HasItsBuffer, IsPublisherKey, IsSubscriberKey, IsLoanKey, IsSampleKey, IsBlockedKey, HasMark, IsFromOrigin, LoanHasHeader, LoanHasUserHeader, SampleHasHeader, SampleHasUserHeader, Item, No_item, A_publisher, A_subscriber, A_loan, A_sample, A_blocked_send, A_sent_loan, A_sent_copy, Both, IsOtherPublisher, IsOtherSubscriber, IsOtherLoan, IsOtherSample, IsUnblocked, IsUnwritten, IsWritten, PassesFull, NeverFails, NeverWaits, IsOtherBlocked, StaysBut, Stays, IsNewIn, unwritten_key, written_key}
 use Rattle.iox2_pubsub.specs.Slices.{IsSliced, HasUnwrittenCells, HasValues, SampleHasValues}
 use Rattle.iox2_pubsub.specs.declared.publisher.Publisher.{Publisher as PublisherHandle}
 use Rattle.iox2_pubsub.specs.declared.sample.Sample.{Sample}
+use Rattle.iox2_pubsub.specs.declared.sample_mut.SampleMut.{SampleMut}
+use Rattle.iox2_pubsub.specs.declared.sample_mut_uninit.SampleMutUninit.{SampleMutUninit}
 use Rattle.iox2_pubsub.specs.declared.subscriber.Subscriber.{Subscriber as SubscriberHandle}
 
 module _ {T U : Type 0} where
@@ -385,99 +387,6 @@ stays-between {T} {U} spent old new m m' s s' shown shown' sent remain loans sam
     between : (P : State T U → State T U → Type 0) → P s s' → P (state_of old) (state_of new)
     between P h = subst (λ (t : State T U). P t (state_of new)) shown.state (subst (P s) shown'.state h)
 
--- ---- one step after another
-
-module _ {T U F G : Type 0} (start old : Kept T U F G) (before : Stays start old) (item : Item) where
-  -- what is new later was new before
-  pub new-since : IsNewIn old item → IsNewIn start item
-  new-since new = record {
-    publishers = λ key live. new.publishers key (before.publishers key live tt);
-    subscribers = λ key live. new.subscribers key (before.subscribers key live tt);
-    loans = λ key live. new.loans key (before.loans key live tt);
-    unwritten_loans = λ it live. new.unwritten_loans it (before.unwritten_loans it live tt);
-    written_loans = λ it live. new.written_loans it (before.written_loans it live tt);
-    samples = λ key live. new.samples key (before.samples key live tt);
-    origins = λ it from. new.origins it (before.origins it from tt);
-    cells = λ n cells has. new.cells n cells (before.loan_cells n cells has tt);
-    payloads = λ n values has. new.payloads n values (before.loan_payloads n values has tt);
-    unblocked = λ key free. new.unblocked key (before.unblocked key free tt);
-    blocked_sends = λ key live. new.blocked_sends key (before.blocked_sends key live tt tt);
-  }
-
-  -- where an item that was new is spent, all that was there before stays
-  pub stays-on : (new : Kept T U F G) → IsNewIn start item → StaysBut item old new → Stays start new
-  stays-on new apart next = record {
-    settings = next.settings ∙ before.settings;
-    single_valued = λ was. next.single_valued (before.single_valued was);
-    sliced = λ was. next.sliced (before.sliced was);
-    publishers = λ key live other. next.publishers key (before.publishers key live other) (apart.publishers key live);
-    boxes = λ key live other. next.boxes key (before.publishers key live other) (apart.publishers key live) ∙ before.boxes key live other;
-    degradation_boxes = λ key live other. next.degradation_boxes key (before.publishers key live other) (apart.publishers key live) ∙ before.degradation_boxes key live other;
-    subscriber_boxes = λ key live other. next.subscriber_boxes key (before.subscribers key live other) (apart.subscribers key live) ∙ before.subscriber_boxes key live other;
-    subscribers = λ key live other. next.subscribers key (before.subscribers key live other) (apart.subscribers key live);
-    placed_publishers = λ it was. next.placed_publishers it (before.placed_publishers it was);
-    placed_subscribers = λ it was. next.placed_subscribers it (before.placed_subscribers it was);
-    buffers = λ it was. next.buffers it (before.buffers it was);
-    loans = λ key live other. next.loans key (before.loans key live other) (apart.loans key live);
-    unwritten_loans = λ it live other. next.unwritten_loans it (before.unwritten_loans it live other) (apart.unwritten_loans it live);
-    written_loans = λ it live other. next.written_loans it (before.written_loans it live other) (apart.written_loans it live);
-    samples = λ key live other. next.samples key (before.samples key live other) (apart.samples key live);
-    origins = λ it from other. next.origins it (before.origins it from other) (apart.origins it from);
-    unblocked = λ key free other. next.unblocked key (before.unblocked key free other) (apart.unblocked key free).1;
-    never_wait = λ key was. next.never_wait key (before.never_wait key was);
-    never_fail = λ publisher was. next.never_fail publisher (before.never_fail publisher was);
-    blocked_sends = λ key live other alike.
-        next.blocked_sends key (before.blocked_sends key live other alike) (apart.blocked_sends key live).0 (apart.blocked_sends key live).1;
-    loan_cells = λ n cells has other. next.loan_cells n cells (before.loan_cells n cells has other) (apart.cells n cells has);
-    loan_payloads = λ n values has other. next.loan_payloads n values (before.loan_payloads n values has other) (apart.payloads n values has);
-    loan_headers = λ key header live has other. next.loan_headers key header (before.loans key live other) (before.loan_headers key header live has other) (apart.loans key live);
-    loan_user_headers = λ key header live has other.
-        next.loan_user_headers key header (before.loans key live other) (before.loan_user_headers key header live has other) (apart.loans key live);
-    sample_payloads = λ key values live has other.
-        next.sample_payloads key values (before.samples key live other) (before.sample_payloads key values live has other) (apart.samples key live);
-    sample_headers = λ key header live has other.
-        next.sample_headers key header (before.samples key live other) (before.sample_headers key header live has other) (apart.samples key live);
-    sample_user_headers = λ key header live has other.
-        next.sample_user_headers key header (before.samples key live other) (before.sample_user_headers key header live has other) (apart.samples key live);
-  }
-
-  -- and so it does but for what is spent beside it
-  pub stays-on-but : (spent : Item) (new : Kept T U F G) → IsNewIn start item → StaysBut (Both item spent) old new → StaysBut spent start new
-  stays-on-but spent new apart next = record {
-    settings = next.settings ∙ before.settings;
-    single_valued = λ was. next.single_valued (before.single_valued was);
-    sliced = λ was. next.sliced (before.sliced was);
-    publishers = λ key live other. next.publishers key (before.publishers key live tt) (apart.publishers key live, other);
-    boxes = λ key live other. next.boxes key (before.publishers key live tt) (apart.publishers key live, other) ∙ before.boxes key live tt;
-    degradation_boxes = λ key live other. next.degradation_boxes key (before.publishers key live tt) (apart.publishers key live, other) ∙ before.degradation_boxes key live tt;
-    subscriber_boxes = λ key live other. next.subscriber_boxes key (before.subscribers key live tt) (apart.subscribers key live, other) ∙ before.subscriber_boxes key live tt;
-    subscribers = λ key live other. next.subscribers key (before.subscribers key live tt) (apart.subscribers key live, other);
-    placed_publishers = λ it was. next.placed_publishers it (before.placed_publishers it was);
-    placed_subscribers = λ it was. next.placed_subscribers it (before.placed_subscribers it was);
-    buffers = λ it was. next.buffers it (before.buffers it was);
-    loans = λ key live other. next.loans key (before.loans key live tt) (apart.loans key live, other);
-    unwritten_loans = λ it live other. next.unwritten_loans it (before.unwritten_loans it live tt) (apart.unwritten_loans it live, other);
-    written_loans = λ it live other. next.written_loans it (before.written_loans it live tt) (apart.written_loans it live, other);
-    samples = λ key live other. next.samples key (before.samples key live tt) (apart.samples key live, other);
-    origins = λ it from other. next.origins it (before.origins it from tt) (apart.origins it from, other);
-    unblocked = λ key free other. next.unblocked key (before.unblocked key free tt) ((apart.unblocked key free).1, other);
-    never_wait = λ key was. next.never_wait key (before.never_wait key was);
-    never_fail = λ publisher was. next.never_fail publisher (before.never_fail publisher was);
-    blocked_sends = λ key live other alike.
-        next.blocked_sends key (before.blocked_sends key live tt tt) ((apart.blocked_sends key live).0, other) ((apart.blocked_sends key live).1, alike);
-    loan_cells = λ n cells has other. next.loan_cells n cells (before.loan_cells n cells has tt) (apart.cells n cells has, other);
-    loan_payloads = λ n values has other. next.loan_payloads n values (before.loan_payloads n values has tt) (apart.payloads n values has, other);
-    loan_headers = λ key header live has other. next.loan_headers key header (before.loans key live tt) (before.loan_headers key header live has tt) (apart.loans key live, other);
-    loan_user_headers = λ key header live has other.
-        next.loan_user_headers key header (before.loans key live tt) (before.loan_user_headers key header live has tt) (apart.loans key live, other);
-    sample_payloads = λ key values live has other.
-        next.sample_payloads key values (before.samples key live tt) (before.sample_payloads key values live has tt) (apart.samples key live, other);
-    sample_headers = λ key header live has other.
-        next.sample_headers key header (before.samples key live tt) (before.sample_headers key header live has tt) (apart.samples key live, other);
-    sample_user_headers = λ key header live has other.
-        next.sample_user_headers key header (before.samples key live tt) (before.sample_user_headers key header live has tt) (apart.samples key live, other);
-  }
-
 -- nothing is always new
 pub nothing-is-new : {T U F G : Type 0} (start : Kept T U F G) → IsNewIn start No_item
 nothing-is-new start = record {
@@ -687,37 +596,124 @@ stays-but-whole part whole is old new stays = record {
 pub stays-but-more : {T U F G : Type 0} (first second : Item) (old new : Kept T U F G) → StaysBut first old new → StaysBut (Both first second) old new
 stays-but-more first second = stays-but-whole first (Both first second) (first-part first second)
 
--- what stays twice but for an item stays but for it
-pub stays-twice : {T U F G : Type 0} (spent : Item) (start old new : Kept T U F G) → StaysBut spent start old → StaysBut spent old new → StaysBut spent start new
-stays-twice spent start old new before next = record {
+-- ---- one step after another
+
+-- What was there at the start, and is another than the item, is another than what the first step spent, and than what the second did.
+record Spares {T U F G : Type 0} (start : Kept T U F G) (first second spent : Item) : Type 0 where
+  publishers : (key : Key) → IsPublisherKey start key → IsOtherPublisher spent key.port → IsOtherPublisher first key.port × IsOtherPublisher second key.port
+  subscribers : (key : Key) → IsSubscriberKey start key → IsOtherSubscriber spent key.port → IsOtherSubscriber first key.port × IsOtherSubscriber second key.port
+  loans : (key : Key) → IsLoanKey start key → IsOtherLoan spent key.message → IsOtherLoan first key.message × IsOtherLoan second key.message
+  unwritten_loans : (it : SampleMutUninit) → IsUnwritten start it → IsOtherLoan spent it.loan.number → IsOtherLoan first it.loan.number × IsOtherLoan second it.loan.number
+  written_loans : (it : SampleMut) → IsWritten start it → IsOtherLoan spent it.loan.number → IsOtherLoan first it.loan.number × IsOtherLoan second it.loan.number
+  samples : (key : Key) → IsSampleKey start key → IsOtherSample spent key.port key.message → IsOtherSample first key.port key.message × IsOtherSample second key.port key.message
+  origins : (it : Sample) → IsFromOrigin start it → IsOtherSample spent it.sample.subscriber it.sample.number
+      → IsOtherSample first it.sample.subscriber it.sample.number × IsOtherSample second it.sample.subscriber it.sample.number
+  cells : (n : ℕ) (cells : List (Option T)) → HasUnwrittenCells start n cells → IsOtherLoan spent n → IsOtherLoan first n × IsOtherLoan second n
+  payloads : (n : ℕ) (values : List T) → HasValues start n values → IsOtherLoan spent n → IsOtherLoan first n × IsOtherLoan second n
+  blocked_sends : (key : Key) → IsBlockedKey start key → IsOtherPublisher spent key.port → IsOtherBlocked spent key.port
+      → (IsOtherPublisher first key.port × IsOtherBlocked first key.port) × IsOtherPublisher second key.port × IsOtherBlocked second key.port
+
+-- So all that stays, but which publishers have no blocked send.
+stays-through : {T U F G : Type 0} (start old new : Kept T U F G) (first second spent : Item) → Spares start first second spent → StaysBut first start old → StaysBut second old new
+    → ((key : Key) → IsUnblocked start key → IsOtherBlocked spent key.port → IsUnblocked new key) → StaysBut spent start new
+stays-through start old new first second spent spares before next unblocked = record {
   settings = next.settings ∙ before.settings;
   single_valued = λ was. next.single_valued (before.single_valued was);
   sliced = λ was. next.sliced (before.sliced was);
-  publishers = λ key live other. next.publishers key (before.publishers key live other) other;
-  boxes = λ key live other. next.boxes key (before.publishers key live other) other ∙ before.boxes key live other;
-  degradation_boxes = λ key live other. next.degradation_boxes key (before.publishers key live other) other ∙ before.degradation_boxes key live other;
-  subscriber_boxes = λ key live other. next.subscriber_boxes key (before.subscribers key live other) other ∙ before.subscriber_boxes key live other;
-  subscribers = λ key live other. next.subscribers key (before.subscribers key live other) other;
+  publishers = λ key live other. let apart = spares.publishers key live other in next.publishers key (before.publishers key live apart.0) apart.1;
+  boxes = λ key live other. let apart = spares.publishers key live other in next.boxes key (before.publishers key live apart.0) apart.1 ∙ before.boxes key live apart.0;
+  degradation_boxes = λ key live other.
+      let apart = spares.publishers key live other in next.degradation_boxes key (before.publishers key live apart.0) apart.1 ∙ before.degradation_boxes key live apart.0;
+  subscriber_boxes = λ key live other.
+      let apart = spares.subscribers key live other in next.subscriber_boxes key (before.subscribers key live apart.0) apart.1 ∙ before.subscriber_boxes key live apart.0;
+  subscribers = λ key live other. let apart = spares.subscribers key live other in next.subscribers key (before.subscribers key live apart.0) apart.1;
   placed_publishers = λ it was. next.placed_publishers it (before.placed_publishers it was);
   placed_subscribers = λ it was. next.placed_subscribers it (before.placed_subscribers it was);
   buffers = λ it was. next.buffers it (before.buffers it was);
-  loans = λ key live other. next.loans key (before.loans key live other) other;
-  unwritten_loans = λ it live other. next.unwritten_loans it (before.unwritten_loans it live other) other;
-  written_loans = λ it live other. next.written_loans it (before.written_loans it live other) other;
-  samples = λ key live other. next.samples key (before.samples key live other) other;
-  origins = λ it from other. next.origins it (before.origins it from other) other;
-  unblocked = λ key waitless other. next.unblocked key (before.unblocked key waitless other) other;
+  loans = λ key live other. let apart = spares.loans key live other in next.loans key (before.loans key live apart.0) apart.1;
+  unwritten_loans = λ it live other. let apart = spares.unwritten_loans it live other in next.unwritten_loans it (before.unwritten_loans it live apart.0) apart.1;
+  written_loans = λ it live other. let apart = spares.written_loans it live other in next.written_loans it (before.written_loans it live apart.0) apart.1;
+  samples = λ key live other. let apart = spares.samples key live other in next.samples key (before.samples key live apart.0) apart.1;
+  origins = λ it from other. let apart = spares.origins it from other in next.origins it (before.origins it from apart.0) apart.1;
+  unblocked = unblocked;
   never_wait = λ key was. next.never_wait key (before.never_wait key was);
-  never_fail = λ q was. next.never_fail q (before.never_fail q was);
-  blocked_sends = λ key live other alike. next.blocked_sends key (before.blocked_sends key live other alike) other alike;
-  loan_cells = λ n cells has other. next.loan_cells n cells (before.loan_cells n cells has other) other;
-  loan_payloads = λ n values has other. next.loan_payloads n values (before.loan_payloads n values has other) other;
-  loan_headers = λ key header live has other. next.loan_headers key header (before.loans key live other) (before.loan_headers key header live has other) other;
-  loan_user_headers = λ key header live has other. next.loan_user_headers key header (before.loans key live other) (before.loan_user_headers key header live has other) other;
-  sample_payloads = λ key values live has other. next.sample_payloads key values (before.samples key live other) (before.sample_payloads key values live has other) other;
-  sample_headers = λ key header live has other. next.sample_headers key header (before.samples key live other) (before.sample_headers key header live has other) other;
-  sample_user_headers = λ key header live has other. next.sample_user_headers key header (before.samples key live other) (before.sample_user_headers key header live has other) other;
+  never_fail = λ publisher was. next.never_fail publisher (before.never_fail publisher was);
+  blocked_sends = λ key live other alike.
+      let apart = spares.blocked_sends key live other alike in
+      next.blocked_sends key (before.blocked_sends key live (apart.0).0 (apart.0).1) apart.1 apart.2;
+  loan_cells = λ n cells has other. let apart = spares.cells n cells has other in next.loan_cells n cells (before.loan_cells n cells has apart.0) apart.1;
+  loan_payloads = λ n values has other. let apart = spares.payloads n values has other in next.loan_payloads n values (before.loan_payloads n values has apart.0) apart.1;
+  loan_headers = λ key header live has other.
+      let apart = spares.loans key live other in next.loan_headers key header (before.loans key live apart.0) (before.loan_headers key header live has apart.0) apart.1;
+  loan_user_headers = λ key header live has other.
+      let apart = spares.loans key live other in next.loan_user_headers key header (before.loans key live apart.0) (before.loan_user_headers key header live has apart.0) apart.1;
+  sample_payloads = λ key values live has other.
+      let apart = spares.samples key live other in next.sample_payloads key values (before.samples key live apart.0) (before.sample_payloads key values live has apart.0) apart.1;
+  sample_headers = λ key header live has other.
+      let apart = spares.samples key live other in next.sample_headers key header (before.samples key live apart.0) (before.sample_headers key header live has apart.0) apart.1;
+  sample_user_headers = λ key header live has other.
+      let apart = spares.samples key live other in next.sample_user_headers key header (before.samples key live apart.0) (before.sample_user_headers key header live has apart.0) apart.1;
 }
+
+-- what stays twice but for an item stays but for it
+pub stays-twice : {T U F G : Type 0} (spent : Item) (start old new : Kept T U F G) → StaysBut spent start old → StaysBut spent old new → StaysBut spent start new
+stays-twice spent start old new before next =
+    stays-through start old new spent spent spent spared before next (λ key free other. next.unblocked key (before.unblocked key free other) other)
+  where
+    spared : Spares start spent spent spent
+    spared = record {
+      publishers = λ key live other. (other, other);
+      subscribers = λ key live other. (other, other);
+      loans = λ key live other. (other, other);
+      unwritten_loans = λ it live other. (other, other);
+      written_loans = λ it live other. (other, other);
+      samples = λ key live other. (other, other);
+      origins = λ it from other. (other, other);
+      cells = λ n cells has other. (other, other);
+      payloads = λ n values has other. (other, other);
+      blocked_sends = λ key live other alike. ((other, alike), other, alike);
+    }
+
+module _ {T U F G : Type 0} (start old : Kept T U F G) (before : Stays start old) (item : Item) where
+  -- what is new later was new before
+  pub new-since : IsNewIn old item → IsNewIn start item
+  new-since new = record {
+    publishers = λ key live. new.publishers key (before.publishers key live tt);
+    subscribers = λ key live. new.subscribers key (before.subscribers key live tt);
+    loans = λ key live. new.loans key (before.loans key live tt);
+    unwritten_loans = λ it live. new.unwritten_loans it (before.unwritten_loans it live tt);
+    written_loans = λ it live. new.written_loans it (before.written_loans it live tt);
+    samples = λ key live. new.samples key (before.samples key live tt);
+    origins = λ it from. new.origins it (before.origins it from tt);
+    cells = λ n cells has. new.cells n cells (before.loan_cells n cells has tt);
+    payloads = λ n values has. new.payloads n values (before.loan_payloads n values has tt);
+    unblocked = λ key free. new.unblocked key (before.unblocked key free tt);
+    blocked_sends = λ key live. new.blocked_sends key (before.blocked_sends key live tt tt);
+  }
+
+  -- where an item that was new is spent, all that was there before stays but for what is spent beside it
+  pub stays-on-but : (spent : Item) (new : Kept T U F G) → IsNewIn start item → StaysBut (Both item spent) old new → StaysBut spent start new
+  stays-on-but spent new apart next =
+      stays-through start old new No_item (Both item spent) spent spared before next
+      (λ key free other. next.unblocked key (before.unblocked key free tt) ((apart.unblocked key free).1, other))
+    where
+      spared : Spares start No_item (Both item spent) spent
+      spared = record {
+        publishers = λ key live other. (tt, (apart.publishers key live, other));
+        subscribers = λ key live other. (tt, (apart.subscribers key live, other));
+        loans = λ key live other. (tt, (apart.loans key live, other));
+        unwritten_loans = λ it live other. (tt, (apart.unwritten_loans it live, other));
+        written_loans = λ it live other. (tt, (apart.written_loans it live, other));
+        samples = λ key live other. (tt, (apart.samples key live, other));
+        origins = λ it from other. (tt, (apart.origins it from, other));
+        cells = λ n cells has other. (tt, (apart.cells n cells has, other));
+        payloads = λ n values has other. (tt, (apart.payloads n values has, other));
+        blocked_sends = λ key live other alike. let new = apart.blocked_sends key live in ((tt, tt), (new.0, other), (new.1, alike));
+      }
+
+  -- and where nothing is, all that was there before stays
+  pub stays-on : (new : Kept T U F G) → IsNewIn start item → StaysBut item old new → Stays start new
+  stays-on new apart next = stays-on-but No_item new apart (stays-but-more item No_item old new next)
 
 -- ---- a send that blocked has ended
 
@@ -729,43 +725,28 @@ waits-not kept key live free = let no : None ≡ Some (live.1).1 = sym (free.1 (
 -- What stood before a send of the publisher blocked, none of whose sends was blocked, stands when the blocked send has ended.
 pub stays-since-block : {T U F G : Type 0} (p : ℕ) (start old new : Kept T U F G) → ((key : Key) → key.port ≡ p → IsUnblocked start key) → StaysBut (A_blocked_send p) start old
     → StaysBut (A_blocked_send p) old new → ((key : Key) → key.port ≡ p → IsUnblocked new key) → Stays start new
-stays-since-block {T} {U} p start old new was before next frees = record {
-  settings = next.settings ∙ before.settings;
-  single_valued = λ single. next.single_valued (before.single_valued single);
-  sliced = λ sliced. next.sliced (before.sliced sliced);
-  publishers = λ key live other. next.publishers key (before.publishers key live tt) tt;
-  boxes = λ key live other. next.boxes key (before.publishers key live tt) tt ∙ before.boxes key live tt;
-  degradation_boxes = λ key live other. next.degradation_boxes key (before.publishers key live tt) tt ∙ before.degradation_boxes key live tt;
-  subscriber_boxes = λ key live other. next.subscriber_boxes key (before.subscribers key live tt) tt ∙ before.subscriber_boxes key live tt;
-  subscribers = λ key live other. next.subscribers key (before.subscribers key live tt) tt;
-  placed_publishers = λ it was. next.placed_publishers it (before.placed_publishers it was);
-  placed_subscribers = λ it was. next.placed_subscribers it (before.placed_subscribers it was);
-  buffers = λ it was. next.buffers it (before.buffers it was);
-  loans = λ key live other. next.loans key (before.loans key live tt) tt;
-  unwritten_loans = λ it live other. next.unwritten_loans it (before.unwritten_loans it live tt) tt;
-  written_loans = λ it live other. next.written_loans it (before.written_loans it live tt) tt;
-  samples = λ key live other. next.samples key (before.samples key live tt) tt;
-  origins = λ it from other. next.origins it (before.origins it from tt) tt;
-  unblocked = λ key unwaiting other. unblocked key unwaiting;
-  never_wait = λ key never. next.never_wait key (before.never_wait key never);
-  never_fail = never_fail;
-  blocked_sends = λ key live other alike. elim (cases_eq key.port p) [
-    | inl its ↦ absurd (waits-not start key live (was key its))
-    | inr away ↦ next.blocked_sends key (before.blocked_sends key live tt away) tt away
-  ];
-  loan_cells = λ n cells has other. next.loan_cells n cells (before.loan_cells n cells has tt) tt;
-  loan_payloads = λ n values has other. next.loan_payloads n values (before.loan_payloads n values has tt) tt;
-  loan_headers = λ key header live has other. next.loan_headers key header (before.loans key live tt) (before.loan_headers key header live has tt) tt;
-  loan_user_headers = λ key header live has other. next.loan_user_headers key header (before.loans key live tt) (before.loan_user_headers key header live has tt) tt;
-  sample_payloads = λ key values live has other. next.sample_payloads key values (before.samples key live tt) (before.sample_payloads key values live has tt) tt;
-  sample_headers = λ key header live has other. next.sample_headers key header (before.samples key live tt) (before.sample_headers key header live has tt) tt;
-  sample_user_headers = λ key header live has other. next.sample_user_headers key header (before.samples key live tt) (before.sample_user_headers key header live has tt) tt;
-} where
-  never_fail : (q : ℕ) → NeverFails start q → NeverFails new q
-  never_fail q never = next.never_fail q (before.never_fail q never)
+stays-since-block {T} {U} {F} {G} p start old new was before next frees =
+    stays-through start old new (A_blocked_send p) (A_blocked_send p) No_item spared before next (λ key free other. unblocked key free)
+  where
+    unblocked : (key : Key) → IsUnblocked start key → IsUnblocked new key
+    unblocked key free = elim (cases_eq key.port p) [
+      | inl its ↦ frees key its
+      | inr away ↦ next.unblocked key (before.unblocked key free away) away
+    ]
 
-  unblocked : (key : Key) → IsUnblocked start key → IsUnblocked new key
-  unblocked key unwaiting = elim (cases_eq key.port p) [
-    | inl its ↦ frees key its
-    | inr away ↦ next.unblocked key (before.unblocked key unwaiting away) away
-  ]
+    away : (key : Key) → IsBlockedKey start key → key.port ≢ p
+    away key live its = waits-not start key live (was key its)
+
+    spared : Spares start (A_blocked_send p) (A_blocked_send p) No_item
+    spared = record {
+      publishers = λ key live other. (tt, tt);
+      subscribers = λ key live other. (tt, tt);
+      loans = λ key live other. (tt, tt);
+      unwritten_loans = λ it live other. (tt, tt);
+      written_loans = λ it live other. (tt, tt);
+      samples = λ key live other. (tt, tt);
+      origins = λ it from other. (tt, tt);
+      cells = λ n cells has other. (tt, tt);
+      payloads = λ n values has other. (tt, tt);
+      blocked_sends = λ key live other alike. ((tt, away key live), tt, away key live);
+    }

@@ -4,7 +4,10 @@ use Rattle.iox2_pubsub.specs.declared.parts.PublisherParts.{PublisherParts}
 use Rattle.iox2_pubsub.specs.declared.parts.SubscriberParts.{SubscriberParts}
 use Rattle.iox2_pubsub.specs.declared.parts.LoanParts.{LoanParts}
 use Rattle.iox2_pubsub.specs.declared.parts.SampleParts.{SampleParts}
-use Rattle.std.specs.Prelude.{Bool, true, false}
+use Rattle.std.specs.Prelude.{◌≡◌, Bool, true, false}
+use Rattle.std.specs.declared.option.Option.TheVariants.{Some}
+use Rattle.iox2_store.specs.machine.Records.{Publisher as MachinePublisher}
+use Rattle.iox2_domain.specs.Kept.{Kept, state_of}
 use Rattle.iox2_slots.specs.declared.slots.mark.SlotMark.{SlotMark}
 use Rattle.iox2_slots.specs.declared.slots.mark.SlotMark.TheVariants.{Written}
 use Rattle.iox2_pubsub.specs.declared.blocked_send.BlockedSend.{BlockedSend}
@@ -46,6 +49,10 @@ publisher_with parts = record { service_id = parts.service_id; id = parts.id; pl
 abbrev pub subscriber_parts : Subscriber → SubscriberParts
 subscriber_parts it = record { service_id = it.service_id; id = it.id; place = it.place; buffer_size = it.buffer_size }
 
+-- The handle of a subscriber that has these numbers.
+abbrev pub subscriber_with : SubscriberParts → Subscriber
+subscriber_with parts = record { service_id = parts.service_id; id = parts.id; place = parts.place; buffer_size = parts.buffer_size }
+
 -- The numbers of a loan that isn't written.
 abbrev pub unwritten_parts : SampleMutUninit → LoanParts
 unwritten_parts it =
@@ -73,6 +80,12 @@ sample_parts it =
       book = it.sample.book;
       slot = it.sample.slot;
     }
+
+-- ---- where they say
+
+-- The publisher that lent the loan with these numbers wasn't closed, and stands at the place that they name.
+unfoldable pub LenderIsPlaced : {T U F G : Type 0} → Kept T U F G → LoanParts → Type 0
+LenderIsPlaced domain parts = (x : MachinePublisher) × ((state_of domain).publishers parts.publisher ≡ Some x) × (x.place ≡ parts.place)
 
 -- ---- marks
 

@@ -22,7 +22,7 @@ pub struct SampleMutUninit {
 }
 
 impl SampleMutUninit {
-    ghost use Rattle.std.specs.Prelude.{Option, Some};
+    ghost use Rattle.std.specs.Prelude.{Option};
     ghost use Rattle.iox2_store.specs.machine.State.{State, Messages};
     ghost use Rattle.iox2_pubsub.specs.Live.{IsLoanKey, IsSingleValued, IsUnwritten, LoanHasHeader, LoanHasUserHeader, UnwrittenReads, unwritten_key};
     ghost use Rattle.iox2_domain.specs.LoanCalls.{HasCell, HasLoanHeader, HasLoanUserHeader};

@@ -237,9 +237,10 @@ fn numbers_are_tested_without_a_search(rt: HostRuntime) {
     let loans = [
         domain.is_loan_at_hint(&loan),
         domain.is_loan_at_hint(&LoanParts { place: 1, ..loan }),
+        domain.is_loan_at_hint(&LoanParts { slot: 1, ..loan }),
         domain.is_loan_at_hint(&LoanParts { number: 9, ..loan }),
     ];
     drop(domain);
     assert!(rt; subscribers == [true, false, false]);
-    assert!(rt; loans == [true, false, false]);
+    assert!(rt; loans == [true, false, false, false]);
 }

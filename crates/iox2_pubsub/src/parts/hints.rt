@@ -1,6 +1,6 @@
 //! What a handle made of numbers names is looked for first where the numbers say.
 ghost use Rattle.std.specs.Prelude.{◌≡◌, ◌↔◌, true, slice_index_or, IsTrue, MatchOption, None, Some};
-ghost use Rattle.iox2_store.specs.machine.SingleCalls.{HoldsLoan, HoldsPublisher, HoldsSample, HoldsSubscriber};
+ghost use Rattle.iox2_store.specs.machine.SingleCalls.{HoldsPublisher, HoldsSample, HoldsSubscriber};
 ghost use Rattle.iox2_domain.specs.Kept.{state_of};
 ghost use Rattle.iox2_domain.specs.Fields.{kept_of};
 ghost use Rattle.iox2_domain.specs.Invariant.{IsDomain, is_lent};
@@ -98,11 +98,15 @@ fn has_book<T: Drop, U: Default + Drop>(
     publisher.id.value() == id.value() && publisher.book == book
 }
 
-// Whether the publisher's loan is out, and lies in the slot that is named, in the book of the
-// publisher that stands at its place.
-fn is_lent_at_hint<T: Drop, U: Default + Drop>(state: &DomainState<T, U>, loan: &LoanAt) -> bool
+/// Whether the publisher's loan is out, and lies in the slot that is named, in the book of the
+/// publisher that stands at its place.
+pub(crate) fn is_lent_at_hint<T: Drop, U: Default + Drop>(
+    state: &DomainState<T, U>,
+    loan: &LoanAt,
+) -> bool
     requires { IsDomain state.now }
-    ensures { IsTrue result → LiesInSlot state.now loan.now.publisher loan.now.number loan.now.book loan.now.slot }
+    ensures lies { IsTrue result → LiesInSlot state.now loan.now.publisher loan.now.number loan.now.book loan.now.slot }
+    ensures placed { IsTrue result → (x : PublisherFields) × (slice_index_or state.now.publishers loan.now.place None ≡ Some x) × (x.id ≡ loan.now.publisher) }
 {
     if !has_book(state, loan.place, loan.publisher, loan.book) {
         return false;
@@ -195,52 +199,16 @@ pub(crate) fn has_sample<T: Drop, U: Default + Drop>(
     }
 }
 
-// The subscriber with this id stands at the place, and wasn't closed.
-fn has_open<T: Drop, U: Default + Drop>(
-    state: &DomainState<T, U>,
-    place: usize,
-    id: UniqueSubscriberId,
-) -> bool
-    ensures { IsTrue result → (y : SubscriberFields) × (slice_index_or state.now.subscribers place None ≡ Some y) × (y.id ≡ id) × (y.is_open ≡ true) }
-{
-    let Some(Some(subscriber)) = state.subscribers.get(place) else {
-        return false;
-    };
-    subscriber.id.value() == id.value() && subscriber.is_open
-}
-
 /// Whether a subscriber has this id, wasn't closed and stands at the place.
 pub(crate) fn has_subscriber_at_hint<T: Drop, U: Default + Drop>(
     state: &DomainState<T, U>,
     id: UniqueSubscriberId,
     place: usize,
 ) -> bool
-    requires { IsDomain state.now }
-    ensures { IsTrue result → HoldsSubscriber (state_of (kept_of state.now)) id }
+    ensures { IsTrue result ↔ (y : SubscriberFields) × (slice_index_or state.now.subscribers place None ≡ Some y) × (y.id ≡ id) × (y.is_open ≡ true) }
 {
-    has_open(state, place, id)
-}
-
-/// Whether the publisher's loan is out, and lies where it says.
-pub(crate) fn has_loan_at_hint<T: Drop, U: Default + Drop>(
-    state: &DomainState<T, U>,
-    loan: &LoanAt,
-) -> bool
-    requires { IsDomain state.now }
-    ensures { IsTrue result → HoldsLoan (state_of (kept_of state.now)) loan.now.publisher loan.now.number }
-{
-    is_lent_at_hint(state, loan)
-}
-
-/// Whether the subscriber has borrowed the message, as the last one of the connection that the sample
-/// names, and it lies where that says.
-pub(crate) fn has_sample_at_hint<T: Drop, U: Default + Drop>(
-    state: &mut DomainState<T, U>,
-    sample: &SampleAt,
-) -> bool
-    requires { IsDomain state.old }
-    ensures live { IsTrue result → HoldsSample (state_of (kept_of state.old)) sample.now.subscriber sample.now.number }
-    ensures same { state.new ≡ state.old }
-{
-    state.is_last_at_hint(sample)
+    let Some(Some(subscriber)) = state.subscribers.get(place) else {
+        return false;
+    };
+    subscriber.id.value() == id.value() && subscriber.is_open
 }

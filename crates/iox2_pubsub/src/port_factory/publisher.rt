@@ -1,12 +1,12 @@
 //! The factory of publishers.
-ghost use Rattle.std.specs.Prelude.{◌≡◌, ◌≤◌, ℕ, true, false, None, Some, IfOk, OnErr, OnOk, MatchResult};
+ghost use Rattle.std.specs.Prelude.{◌≡◌, ◌≤◌, true, false, None, Some, IfOk, OnErr, OnOk, MatchResult};
 ghost use Rattle.iox2_store.specs.declared.degradation.DegradationAction.TheVariants.{Warn};
 ghost use Rattle.iox2_domain.specs.Boxes.{answers_of};
 ghost use Rattle.iox2_store.specs.machine.Records.{Fixed};
 ghost use Rattle.iox2_store.specs.machine.Limits.{worst_case};
 ghost use Rattle.iox2_store.specs.machine.Ports.{CreatePublisher, slots_for};
 ghost use Rattle.iox2_store.specs.machine.State.{State, Messages};
-ghost use Rattle.iox2_pubsub.specs.Live.{ConnectionsStay, IsConnected, IsNewIn, IsReadyPublisher, NeverFails, NeverWaits, NoneRefused, RoomStays, Stays, degradation_box, handler_box, publisher_key, publisher_port, payloads, waiting, WaitingStays, IsSubscriberKey, subscriber_key};
+ghost use Rattle.iox2_pubsub.specs.Live.{ConnectionsStay, IsConnected, IsNewIn, IsReadyPublisher, NeverFails, NeverWaits, NoneRefused, RoomStays, Stays, degradation_box, handler_box, publisher_key, publisher_port, waiting, WaitingStays, IsSubscriberKey, subscriber_key};
 ghost use Rattle.iox2_pubsub.specs.LoansLeft.{HasLoansLeft, LoansLeftStay};
 ghost use Rattle.iox2_domain.specs.NewPublisher.{plain_publisher};
 ghost use Rattle.iox2_domain.specs.Handlers.{handler_of, may_fail, may_fail_update};

@@ -1,6 +1,5 @@
 //! A publisher sends a value.
-ghost use Rattle.std.specs.Prelude.{◌≡◌, ◌<◌, ◌⊎◌, ◌+◌, ◌++◌, ℕ, List, length, IfErr, IfOk, IsOk, [], ◌∷◌};
-ghost use Rattle.iox2_store.specs.declared.errors.LoanError.{LoanError};
+ghost use Rattle.std.specs.Prelude.{◌≡◌, ◌<◌, ◌+◌, ◌++◌, ℕ, List, length, IfErr, IfOk, IsOk, [], ◌∷◌};
 
 use crate::domain::Domain;
 use crate::publisher::Publisher;

@@ -1,5 +1,5 @@
 //! A message is sent.
-ghost use Rattle.std.specs.Prelude.{◌≡◌, ◌⊎◌, IfErr, IfOk, IsOk, ◌+◌};
+ghost use Rattle.std.specs.Prelude.{◌≡◌, IfErr, IfOk, IsOk, ◌+◌};
 ghost use Rattle.iox2_deliveries.specs.SendEnds.{end_result};
 ghost use Rattle.iox2_pubsub.specs.SendCalls.{IfBlocked, result_of_send};
 

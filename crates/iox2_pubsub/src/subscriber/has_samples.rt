@@ -1,5 +1,5 @@
 //! A subscriber is asked whether messages wait.
-ghost use Rattle.std.specs.Prelude.{◌≡◌, ◌<◌, ◌≤◌, ◌↔◌, IfOk, IsTrue, OnOk};
+ghost use Rattle.std.specs.Prelude.{◌<◌, ◌≤◌, ◌↔◌, IfOk, IsTrue, OnOk};
 
 use crate::domain::Domain;
 use crate::subscriber::Subscriber;

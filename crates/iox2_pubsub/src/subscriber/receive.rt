@@ -1,5 +1,5 @@
 //! A subscriber receives.
-ghost use Rattle.std.specs.Prelude.{◌≡◌, ◌<◌, ◌≤◌, List, IfOk, suc, IfSome, IfNone, OnOk, OnSome, [], ◌∷◌, ℕ};
+ghost use Rattle.std.specs.Prelude.{◌≡◌, ◌<◌, ◌≤◌, List, IfOk, suc, IfSome, IfNone, OnOk, OnSome, [], ◌∷◌};
 
 use crate::domain::Domain;
 use crate::sample::Sample;

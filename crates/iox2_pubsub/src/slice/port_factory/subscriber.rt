@@ -6,7 +6,7 @@ ghost use Rattle.iox2_store.specs.machine.Records.{Fixed};
 ghost use Rattle.iox2_store.specs.machine.Ports.{default_subscriber_settings, buffer_for, CreateSubscriber};
 ghost use Rattle.iox2_store.specs.machine.State.{State, Messages};
 ghost use Rattle.iox2_store.specs.machine.Limits.{expired_limit};
-ghost use Rattle.iox2_pubsub.specs.Live.{HasItsBuffer, HasRoomFor, IsLiveSubscriber, IsNewIn, Stays, subscriber_box, subscriber_port, UpToDateStay, payloads, waiting, WaitingStays, IsAwaited, NoneRefused, IsPublisherKey, publisher_key};
+ghost use Rattle.iox2_pubsub.specs.Live.{HasItsBuffer, HasRoomFor, IsLiveSubscriber, IsNewIn, Stays, subscriber_box, subscriber_port, UpToDateStay, waiting, WaitingStays, IsAwaited, NoneRefused, IsPublisherKey, publisher_key};
 ghost use Rattle.iox2_pubsub.specs.LoansLeft.{LoansLeftStay};
 ghost use Rattle.iox2_pubsub.specs.Factories.{receiver_with_degradation};
 ghost use Rattle.iox2_domain.specs.Shows.{Shows};

@@ -1,5 +1,5 @@
 //! A subscriber receives custom bytes.
-ghost use Rattle.std.specs.Prelude.{◌≡◌, ◌<◌, ◌≤◌, List, IfOk, suc, IfSome, IfNone, OnOk, OnSome, [], ◌∷◌, ℕ};
+ghost use Rattle.std.specs.Prelude.{◌≡◌, ◌<◌, ◌≤◌, List, IfOk, suc, IfSome, IfNone, OnOk, OnSome, [], ◌∷◌};
 
 use crate::custom_markers::CustomPayloadMarker;
 use crate::domain::Domain;

@@ -13,7 +13,7 @@ use Rattle.iox2_domain.proofs.lemmas.slots.LeftConnections.{unknown, stands-nowh
 use Rattle.iox2_pubsub.specs.Live.{blocked_key, lender_key, written_key}
 use Rattle.iox2_pubsub.specs.SendCalls.{result_of_send}
 use Rattle.iox2_pubsub.proofs.BlockedShown.{has-blocked, as-machine, some-waits, give-up-shown, give-up-stays, give-up-frees-key, only-undelivered}
-use Rattle.iox2_pubsub.proofs.CallsStay.{always-shown}
+use Rattle.iox2_pubsub.proofs.CallsStay.{always-shown, blocked-shown}
 use Rattle.iox2_pubsub.proofs.LiveParts.{blocked-parts, blocked-live, unblocked-alike, unfailed-parts}
 use Rattle.iox2_pubsub.proofs.UnfailedSends.{IsMild, give-up-unfailed}
 use Rattle.iox2_pubsub.proofs.LoansLeftShown.{give-up-left, give-up-gives, sent-free}
@@ -65,29 +65,24 @@ returns-clause-gives_up g c = λ m s x b shown at waits.
 
 pub returns-clause-stays : goal.returns-clause-stays
 returns-clause-stays g c =
-    let it = always-shown {T = g.row.T.Denot} {U = g.row.U.Denot} c.domain.inside.state c.args.domain.now c.domain.invariant c.domain.view_is in
-    let held = (blocked-parts c.args.domain.now (blocked_key c.args.self) c.requires.live).1 in
-    let at = ap (λ (t : State g.row.T.Denot g.row.U.Denot). t.publishers c.args.self.loan.publisher) (it.2).state ∙ held.2 in
-    let next = returns-clause-gives_up g c it.0 it.1 held.0 held.1 it.2 at held.3 in
+    let it = blocked-shown {T = g.row.T.Denot} {U = g.row.U.Denot} c.domain.inside.state c.args.domain.now c.domain.invariant c.domain.view_is (blocked_key c.args.self) c.requires.live in
+    let next = returns-clause-gives_up g c it.0 it.1 (it.3).0 (it.3).1 it.2 (it.3).2 (it.3).3 in
     let d = some-waits c.domain.inside.state c.domain.invariant c.find_live_publisher-place.result c.args.self.loan.publisher c.args.self.loan.number c.find_live_publisher-place.ensures
     (subst (λ (k : Kept g.row.T.Denot g.row.U.Denot g.row.F.Denot g.row.G.Denot). HoldsBlocked (state_of k) c.args.self.loan.publisher c.args.self.loan.number) (sym c.domain.view_is) (blocked-parts c.args.domain.now (blocked_key c.args.self) c.requires.live).1) in
     let step = c.give_up_send-end.ensures.goes c.find_live_publisher-place.ensures.0 (d).0 c.find_live_publisher-place.ensures.1 (d).1 in
-    give-up-stays {T = g.row.T.Denot} {U = g.row.U.Denot} c.domain.inside.state c.give_up_send-end.new.state c.args.domain.now c.domain.view_is it.0 it.1 it.2 c.args.self.loan.publisher (result_of_send c.outcome_of.result) (answers_of g.F.BackpressureFn.allows g.G.DegradationFn.allows c.args.domain.now.boxes.publishers) held.0 held.1 at held.3
-    step.agrees (subst (λ (t : State g.row.T.Denot g.row.U.Denot). GiveUp (answers_of g.F.BackpressureFn.allows g.G.DegradationFn.allows c.args.domain.now.boxes.publishers) it.1 c.args.self.loan.publisher held.1 t (result_of_send c.outcome_of.result)) (next.1).state next.2) step.entries
+    give-up-stays {T = g.row.T.Denot} {U = g.row.U.Denot} c.domain.inside.state c.give_up_send-end.new.state c.args.domain.now c.domain.view_is it.0 it.1 it.2 c.args.self.loan.publisher (result_of_send c.outcome_of.result) (answers_of g.F.BackpressureFn.allows g.G.DegradationFn.allows c.args.domain.now.boxes.publishers) (it.3).0 (it.3).1 (it.3).2 (it.3).3
+    step.agrees (subst (λ (t : State g.row.T.Denot g.row.U.Denot). GiveUp (answers_of g.F.BackpressureFn.allows g.G.DegradationFn.allows c.args.domain.now.boxes.publishers) it.1 c.args.self.loan.publisher (it.3).1 t (result_of_send c.outcome_of.result)) (next.1).state next.2) step.entries
 
 pub returns-clause-blocked : goal.returns-clause-blocked
 returns-clause-blocked g c =
-    let it = always-shown {T = g.row.T.Denot} {U = g.row.U.Denot} c.domain.inside.state c.args.domain.now c.domain.invariant c.domain.view_is in
-    let parts = blocked-parts c.args.domain.now (blocked_key c.args.self) c.requires.live in
-    let held = parts.1 in
-    let at = ap (λ (t : State g.row.T.Denot g.row.U.Denot). t.publishers c.args.self.loan.publisher) (it.2).state ∙ held.2 in
-    let next = returns-clause-gives_up g c it.0 it.1 held.0 held.1 it.2 at held.3 in
+    let it = blocked-shown {T = g.row.T.Denot} {U = g.row.U.Denot} c.domain.inside.state c.args.domain.now c.domain.invariant c.domain.view_is (blocked_key c.args.self) c.requires.live in
+    let next = returns-clause-gives_up g c it.0 it.1 (it.3).0 (it.3).1 it.2 (it.3).2 (it.3).3 in
     is-blocked {T = g.row.T.Denot} {U = g.row.U.Denot} (keeping _ c.give_up_send-end.new.state) (blocked_key c.args.self) c.args.self refl c.outcome_of.result c.outcome_of.ensures.blocked (λ blocked.
     blocked-live (keeping _ c.give_up_send-end.new.state) (blocked_key c.args.self) (
-      parts.0 ∙ sym (ap (λ (k : ServiceConfig). k.service_id) (returns-clause-stays g c).settings),
-      subst (HoldsBlocked (state_of (kept_of c.give_up_send-end.new.state)) c.args.self.loan.publisher) held.4
-          (subst (λ (t : State g.row.T.Denot g.row.U.Denot). HoldsBlocked t c.args.self.loan.publisher held.1.message) (next.1).state
-          (give_up_waits_with (answers_of g.F.BackpressureFn.allows g.G.DegradationFn.allows c.args.domain.now.boxes.publishers) it.1 c.args.self.loan.publisher held.1 next.0 _ next.2 blocked)),
+      (blocked-parts c.args.domain.now (blocked_key c.args.self) c.requires.live).0 ∙ sym (ap (λ (k : ServiceConfig). k.service_id) (returns-clause-stays g c).settings),
+      subst (HoldsBlocked (state_of (kept_of c.give_up_send-end.new.state)) c.args.self.loan.publisher) (it.3).4
+          (subst (λ (t : State g.row.T.Denot g.row.U.Denot). HoldsBlocked t c.args.self.loan.publisher ((it.3).1).message) (next.1).state
+          (give_up_waits_with (answers_of g.F.BackpressureFn.allows g.G.DegradationFn.allows c.args.domain.now.boxes.publishers) it.1 c.args.self.loan.publisher (it.3).1 next.0 _ next.2 blocked)),
     ))
 
 pub returns-clause-failed : goal.returns-clause-failed
@@ -95,61 +90,47 @@ returns-clause-failed g c = only-undelivered c.give_up_send-end.result c.give_up
 
 pub returns-clause-freed : goal.returns-clause-freed
 returns-clause-freed g c = λ ends.
-    let it = always-shown {T = g.row.T.Denot} {U = g.row.U.Denot} c.domain.inside.state c.args.domain.now c.domain.invariant c.domain.view_is in
-    let held = (blocked-parts c.args.domain.now (blocked_key c.args.self) c.requires.live).1 in
-    let at = ap (λ (t : State g.row.T.Denot g.row.U.Denot). t.publishers c.args.self.loan.publisher) (it.2).state ∙ held.2 in
-    let next = returns-clause-gives_up g c it.0 it.1 held.0 held.1 it.2 at held.3 in
-    give-up-frees-key {T = g.row.T.Denot} {U = g.row.U.Denot} (keeping _ c.give_up_send-end.new.state) it.0 it.1 next.0 next.1 c.args.self.loan.publisher held.0 held.1 at (result_of_send c.outcome_of.result) (sent-free c.outcome_of.result ends) (answers_of g.F.BackpressureFn.allows g.G.DegradationFn.allows c.args.domain.now.boxes.publishers) next.2 (lender_key (blocked_key c.args.self)) refl
+    let it = blocked-shown {T = g.row.T.Denot} {U = g.row.U.Denot} c.domain.inside.state c.args.domain.now c.domain.invariant c.domain.view_is (blocked_key c.args.self) c.requires.live in
+    let next = returns-clause-gives_up g c it.0 it.1 (it.3).0 (it.3).1 it.2 (it.3).2 (it.3).3 in
+    give-up-frees-key {T = g.row.T.Denot} {U = g.row.U.Denot} (keeping _ c.give_up_send-end.new.state) it.0 it.1 next.0 next.1 c.args.self.loan.publisher (it.3).0 (it.3).1 (it.3).2 (result_of_send c.outcome_of.result) (sent-free c.outcome_of.result ends) (answers_of g.F.BackpressureFn.allows g.G.DegradationFn.allows c.args.domain.now.boxes.publishers) next.2 (lender_key (blocked_key c.args.self)) refl
 
 pub returns-clause-loans_freed : goal.returns-clause-loans_freed
 returns-clause-loans_freed g c = λ ends loan its.
-    let it = always-shown {T = g.row.T.Denot} {U = g.row.U.Denot} c.domain.inside.state c.args.domain.now c.domain.invariant c.domain.view_is in
-    let held = (blocked-parts c.args.domain.now (blocked_key c.args.self) c.requires.live).1 in
-    let at = ap (λ (t : State g.row.T.Denot g.row.U.Denot). t.publishers c.args.self.loan.publisher) (it.2).state ∙ held.2 in
-    let next = returns-clause-gives_up g c it.0 it.1 held.0 held.1 it.2 at held.3 in
-    give-up-frees-key {T = g.row.T.Denot} {U = g.row.U.Denot} (keeping _ c.give_up_send-end.new.state) it.0 it.1 next.0 next.1 c.args.self.loan.publisher held.0 held.1 at (result_of_send c.outcome_of.result) (sent-free c.outcome_of.result ends) (answers_of g.F.BackpressureFn.allows g.G.DegradationFn.allows c.args.domain.now.boxes.publishers) next.2 (written_key loan) its
+    let it = blocked-shown {T = g.row.T.Denot} {U = g.row.U.Denot} c.domain.inside.state c.args.domain.now c.domain.invariant c.domain.view_is (blocked_key c.args.self) c.requires.live in
+    let next = returns-clause-gives_up g c it.0 it.1 (it.3).0 (it.3).1 it.2 (it.3).2 (it.3).3 in
+    give-up-frees-key {T = g.row.T.Denot} {U = g.row.U.Denot} (keeping _ c.give_up_send-end.new.state) it.0 it.1 next.0 next.1 c.args.self.loan.publisher (it.3).0 (it.3).1 (it.3).2 (result_of_send c.outcome_of.result) (sent-free c.outcome_of.result ends) (answers_of g.F.BackpressureFn.allows g.G.DegradationFn.allows c.args.domain.now.boxes.publishers) next.2 (written_key loan) its
 
 pub returns-clause-adds : goal.returns-clause-adds
 returns-clause-adds g c =
-    let it = always-shown {T = g.row.T.Denot} {U = g.row.U.Denot} c.domain.inside.state c.args.domain.now c.domain.invariant c.domain.view_is in
-    let held = (blocked-parts c.args.domain.now (blocked_key c.args.self) c.requires.live).1 in
-    let at = ap (λ (t : State g.row.T.Denot g.row.U.Denot). t.publishers c.args.self.loan.publisher) (it.2).state ∙ held.2 in
-    let next = returns-clause-gives_up g c it.0 it.1 held.0 held.1 it.2 at held.3 in
-    give-up-adds {T = g.row.T.Denot} {U = g.row.U.Denot} c.args.domain.now (keeping _ c.give_up_send-end.new.state) it.0 it.0 it.1 next.0 it.2 next.1 (answers_of g.F.BackpressureFn.allows g.G.DegradationFn.allows c.args.domain.now.boxes.publishers) c.args.self.loan.publisher held.0 held.1 (result_of_send c.outcome_of.result) at held.3 next.2
+    let it = blocked-shown {T = g.row.T.Denot} {U = g.row.U.Denot} c.domain.inside.state c.args.domain.now c.domain.invariant c.domain.view_is (blocked_key c.args.self) c.requires.live in
+    let next = returns-clause-gives_up g c it.0 it.1 (it.3).0 (it.3).1 it.2 (it.3).2 (it.3).3 in
+    give-up-adds {T = g.row.T.Denot} {U = g.row.U.Denot} c.args.domain.now (keeping _ c.give_up_send-end.new.state) it.0 it.0 it.1 next.0 it.2 next.1 (answers_of g.F.BackpressureFn.allows g.G.DegradationFn.allows c.args.domain.now.boxes.publishers) c.args.self.loan.publisher (it.3).0 (it.3).1 (result_of_send c.outcome_of.result) (it.3).2 (it.3).3 next.2
 
 pub returns-clause-up_to_date : goal.returns-clause-up_to_date
 returns-clause-up_to_date g c =
-    let it = always-shown {T = g.row.T.Denot} {U = g.row.U.Denot} c.domain.inside.state c.args.domain.now c.domain.invariant c.domain.view_is in
-    let held = (blocked-parts c.args.domain.now (blocked_key c.args.self) c.requires.live).1 in
-    let at = ap (λ (t : State g.row.T.Denot g.row.U.Denot). t.publishers c.args.self.loan.publisher) (it.2).state ∙ held.2 in
-    let next = returns-clause-gives_up g c it.0 it.1 held.0 held.1 it.2 at held.3 in
-    give-up-leaves {T = g.row.T.Denot} {U = g.row.U.Denot} c.args.domain.now (keeping _ c.give_up_send-end.new.state) it.0 it.0 it.1 next.0 it.2 next.1 (answers_of g.F.BackpressureFn.allows g.G.DegradationFn.allows c.args.domain.now.boxes.publishers) c.args.self.loan.publisher held.1 (result_of_send c.outcome_of.result) next.2
+    let it = blocked-shown {T = g.row.T.Denot} {U = g.row.U.Denot} c.domain.inside.state c.args.domain.now c.domain.invariant c.domain.view_is (blocked_key c.args.self) c.requires.live in
+    let next = returns-clause-gives_up g c it.0 it.1 (it.3).0 (it.3).1 it.2 (it.3).2 (it.3).3 in
+    give-up-leaves {T = g.row.T.Denot} {U = g.row.U.Denot} c.args.domain.now (keeping _ c.give_up_send-end.new.state) it.0 it.0 it.1 next.0 it.2 next.1 (answers_of g.F.BackpressureFn.allows g.G.DegradationFn.allows c.args.domain.now.boxes.publishers) c.args.self.loan.publisher (it.3).1 (result_of_send c.outcome_of.result) next.2
 
 pub returns-clause-loans_left : goal.returns-clause-loans_left
 returns-clause-loans_left g c =
-    let it = always-shown {T = g.row.T.Denot} {U = g.row.U.Denot} c.domain.inside.state c.args.domain.now c.domain.invariant c.domain.view_is in
-    let held = (blocked-parts c.args.domain.now (blocked_key c.args.self) c.requires.live).1 in
-    let at = ap (λ (t : State g.row.T.Denot g.row.U.Denot). t.publishers c.args.self.loan.publisher) (it.2).state ∙ held.2 in
-    let next = returns-clause-gives_up g c it.0 it.1 held.0 held.1 it.2 at held.3 in
-    give-up-left {T = g.row.T.Denot} {U = g.row.U.Denot} c.args.domain.now (keeping _ c.give_up_send-end.new.state) it.0 it.0 it.1 next.0 it.2 next.1 c.args.self.loan.publisher held.0 held.1 at held.3 (answers_of g.F.BackpressureFn.allows g.G.DegradationFn.allows c.args.domain.now.boxes.publishers) (result_of_send c.outcome_of.result) next.2
+    let it = blocked-shown {T = g.row.T.Denot} {U = g.row.U.Denot} c.domain.inside.state c.args.domain.now c.domain.invariant c.domain.view_is (blocked_key c.args.self) c.requires.live in
+    let next = returns-clause-gives_up g c it.0 it.1 (it.3).0 (it.3).1 it.2 (it.3).2 (it.3).3 in
+    give-up-left {T = g.row.T.Denot} {U = g.row.U.Denot} c.args.domain.now (keeping _ c.give_up_send-end.new.state) it.0 it.0 it.1 next.0 it.2 next.1 c.args.self.loan.publisher (it.3).0 (it.3).1 (it.3).2 (it.3).3 (answers_of g.F.BackpressureFn.allows g.G.DegradationFn.allows c.args.domain.now.boxes.publishers) (result_of_send c.outcome_of.result) next.2
 
 pub returns-clause-given_back : goal.returns-clause-given_back
 returns-clause-given_back g c = λ ends.
-    let it = always-shown {T = g.row.T.Denot} {U = g.row.U.Denot} c.domain.inside.state c.args.domain.now c.domain.invariant c.domain.view_is in
-    let held = (blocked-parts c.args.domain.now (blocked_key c.args.self) c.requires.live).1 in
-    let at = ap (λ (t : State g.row.T.Denot g.row.U.Denot). t.publishers c.args.self.loan.publisher) (it.2).state ∙ held.2 in
-    let next = returns-clause-gives_up g c it.0 it.1 held.0 held.1 it.2 at held.3 in
-    give-up-gives {T = g.row.T.Denot} {U = g.row.U.Denot} c.args.domain.now (keeping _ c.give_up_send-end.new.state) it.0 it.0 it.1 next.0 it.2 next.1 c.args.self.loan.publisher held.0 held.1 at held.3 (answers_of g.F.BackpressureFn.allows g.G.DegradationFn.allows c.args.domain.now.boxes.publishers) (result_of_send c.outcome_of.result) (sent-free c.outcome_of.result ends) next.2
+    let it = blocked-shown {T = g.row.T.Denot} {U = g.row.U.Denot} c.domain.inside.state c.args.domain.now c.domain.invariant c.domain.view_is (blocked_key c.args.self) c.requires.live in
+    let next = returns-clause-gives_up g c it.0 it.1 (it.3).0 (it.3).1 it.2 (it.3).2 (it.3).3 in
+    give-up-gives {T = g.row.T.Denot} {U = g.row.U.Denot} c.args.domain.now (keeping _ c.give_up_send-end.new.state) it.0 it.0 it.1 next.0 it.2 next.1 c.args.self.loan.publisher (it.3).0 (it.3).1 (it.3).2 (it.3).3 (answers_of g.F.BackpressureFn.allows g.G.DegradationFn.allows c.args.domain.now.boxes.publishers) (result_of_send c.outcome_of.result) (sent-free c.outcome_of.result ends) next.2
 
 pub returns-clause-stays_since : goal.returns-clause-stays_since
 unfolding StaysSince
 returns-clause-stays_since g c = λ ends start free before.
-    let it = always-shown {T = g.row.T.Denot} {U = g.row.U.Denot} c.domain.inside.state c.args.domain.now c.domain.invariant c.domain.view_is in
-    let held = (blocked-parts c.args.domain.now (blocked_key c.args.self) c.requires.live).1 in
-    let at = ap (λ (t : State g.row.T.Denot g.row.U.Denot). t.publishers c.args.self.loan.publisher) (it.2).state ∙ held.2 in
-    let next = returns-clause-gives_up g c it.0 it.1 held.0 held.1 it.2 at held.3 in
+    let it = blocked-shown {T = g.row.T.Denot} {U = g.row.U.Denot} c.domain.inside.state c.args.domain.now c.domain.invariant c.domain.view_is (blocked_key c.args.self) c.requires.live in
+    let next = returns-clause-gives_up g c it.0 it.1 (it.3).0 (it.3).1 it.2 (it.3).2 (it.3).3 in
     stays-since-block c.args.self.loan.publisher start c.args.domain.now _ (λ key its. unblocked-alike start (lender_key (blocked_key c.args.self)) key its free) before (returns-clause-stays g c)
-    (give-up-frees-key {T = g.row.T.Denot} {U = g.row.U.Denot} (keeping _ c.give_up_send-end.new.state) it.0 it.1 next.0 next.1 c.args.self.loan.publisher held.0 held.1 at (result_of_send c.outcome_of.result) (sent-free c.outcome_of.result ends) (answers_of g.F.BackpressureFn.allows g.G.DegradationFn.allows c.args.domain.now.boxes.publishers) next.2)
+    (give-up-frees-key {T = g.row.T.Denot} {U = g.row.U.Denot} (keeping _ c.give_up_send-end.new.state) it.0 it.1 next.0 next.1 c.args.self.loan.publisher (it.3).0 (it.3).1 (it.3).2 (result_of_send c.outcome_of.result) (sent-free c.outcome_of.result ends) (answers_of g.F.BackpressureFn.allows g.G.DegradationFn.allows c.args.domain.now.boxes.publishers) next.2)
 
 pub returns-clause-fewer : goal.returns-clause-fewer
 returns-clause-fewer g c =

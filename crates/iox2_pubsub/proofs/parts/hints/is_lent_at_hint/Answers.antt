@@ -6,8 +6,8 @@ use Rattle.iox2_domain.specs.LoanSlots.{LiesInSlot}
 use Rattle.iox2_domain.proofs.lemmas.loans.LoanSlots.{book-its, lies-in-book}
 use Rattle.iox2_pubsub.proofs.parts.hints.is_lent_at_hint.Goals as goal
 
-pub returns-in-Some : goal.returns-in-Some
-returns-in-Some g c = λ yes.
+pub returns-in-Some-clause-lies : goal.returns-in-Some-clause-lies
+returns-in-Some-clause-lies g c = λ yes.
     let stands = c.has_book.ensures c.if-not-has_book.false in
     let here : get c.args.state.now.books c.args.loan.now.book ≡ Some c.in-Some.book.now =
     sym (ap (λ (f : Fields g.row.T.Denot g.row.U.Denot). get f.books c.args.loan.now.book) c.state.view_is) ∙ sym c.in-Some.ensures in

@@ -28,15 +28,14 @@ returns-in_err-port-clause-creates g c m s shows =
     let why = c.in_err-port.field-0.0 in
     let made = c.in_err-port.ensures.step in
     let before : State g.row.T.Denot g.row.U.Denot = state_of (kept_of c.domain.inside.state) in
-    let shown : Shows (kept_of c.domain.inside.state) m s = subst (λ (kept : Kept g.row.T.Denot g.row.U.Denot g.row.F.Denot g.row.G.Denot). Shows kept m s) (sym c.domain.view_is) shows in
-    let next = created-shows {T = g.row.T.Denot} {U = g.row.U.Denot} c.domain.inside.state c.create_publisher.new.state (settings_with c.args.given.now (marks_of c.args.handler) c.args.segments) (answers_of g.F.BackpressureFn.allows g.G.DegradationFn.allows (c.create_publisher.new.boxes).boxes) m s before (Some why) shown made.0 made.1 in
+    let next = created-shows {T = g.row.T.Denot} {U = g.row.U.Denot} c.domain.inside.state c.create_publisher.new.state (settings_with c.args.given.now (marks_of c.args.handler) c.args.segments) (answers_of g.F.BackpressureFn.allows g.G.DegradationFn.allows (c.create_publisher.new.boxes).boxes) c.args.domain.now c.domain.view_is m s before (Some why) shows made.0 made.1 in
     rw (refused.1, refused.2) (before, next.0, next.1)
 
 pub returns-clause-creates : goal.returns-clause-creates
 returns-clause-creates g c m s shows =
     let made = c.in_ok-port.ensures.step in
     let shown : Shows (kept_of c.domain.inside.state) m s = subst (λ (kept : Kept g.row.T.Denot g.row.U.Denot g.row.F.Denot g.row.G.Denot). Shows kept m s) (sym c.domain.view_is) shows in
-    let next = created-shows {T = g.row.T.Denot} {U = g.row.U.Denot} c.domain.inside.state c.create_publisher.new.state (settings_with c.args.given.now (marks_of c.args.handler) c.args.segments) (answers_of g.F.BackpressureFn.allows g.G.DegradationFn.allows (c.create_publisher.new.boxes).boxes) m s made.0 None shown made.1 made.2 in (
+    let next = created-shows {T = g.row.T.Denot} {U = g.row.U.Denot} c.domain.inside.state c.create_publisher.new.state (settings_with c.args.given.now (marks_of c.args.handler) c.args.segments) (answers_of g.F.BackpressureFn.allows g.G.DegradationFn.allows (c.create_publisher.new.boxes).boxes) c.args.domain.now c.domain.view_is m s made.0 None shows made.1 made.2 in (
       made.0,
       next.0,
       (
@@ -83,11 +82,8 @@ returns-clause-never_fails g c = λ none calm.
 pub returns-in_err-port-clause-stays : goal.returns-in_err-port-clause-stays
 returns-in_err-port-clause-stays g c =
     let it = always-shown {T = g.row.T.Denot} {U = g.row.U.Denot} c.domain.inside.state c.args.domain.now c.domain.invariant c.domain.view_is in
-    let made = c.in_err-port.ensures.step in
-    let why = c.in_err-port.field-0.0 in
-    let shown : Shows (kept_of c.domain.inside.state) it.0 it.1 = subst (λ (kept : Kept g.row.T.Denot g.row.U.Denot g.row.F.Denot g.row.G.Denot). Shows kept it.0 it.1) (sym c.domain.view_is) it.2 in
-    let next = created-shows {T = g.row.T.Denot} {U = g.row.U.Denot} c.domain.inside.state c.create_publisher.new.state (settings_with c.args.given.now (marks_of c.args.handler) c.args.segments) (answers_of g.F.BackpressureFn.allows g.G.DegradationFn.allows (c.create_publisher.new.boxes).boxes) it.0 it.1 _ (Some why) shown made.0 made.1 in
-    publisher-creation-stays {T = g.row.T.Denot} {U = g.row.U.Denot} c.args.domain.now _ it.0 it.1 it.2 (answers_of g.F.BackpressureFn.allows g.G.DegradationFn.allows (c.create_publisher.new.boxes).boxes) (settings_with c.args.given.now (marks_of c.args.handler) c.args.segments) (Some why) _ next.0 next.1 (live-boxes c.domain.inside.state c.create_publisher.new.state c.args.domain.now c.domain.view_is
+    let next = created-shows {T = g.row.T.Denot} {U = g.row.U.Denot} c.domain.inside.state c.create_publisher.new.state (settings_with c.args.given.now (marks_of c.args.handler) c.args.segments) (answers_of g.F.BackpressureFn.allows g.G.DegradationFn.allows (c.create_publisher.new.boxes).boxes) c.args.domain.now c.domain.view_is it.0 it.1 _ (Some c.in_err-port.field-0.0) it.2 c.in_err-port.ensures.step.0 c.in_err-port.ensures.step.1 in
+    publisher-creation-stays {T = g.row.T.Denot} {U = g.row.U.Denot} c.args.domain.now _ it.0 it.1 it.2 (answers_of g.F.BackpressureFn.allows g.G.DegradationFn.allows (c.create_publisher.new.boxes).boxes) (settings_with c.args.given.now (marks_of c.args.handler) c.args.segments) (Some c.in_err-port.field-0.0) _ next.0 next.1 (live-boxes c.domain.inside.state c.create_publisher.new.state c.args.domain.now c.domain.view_is
     (λ key live other. c.create_publisher.ensures.others key.port (apart-from-next c.domain.inside.state c.args.domain.now c.domain.invariant c.domain.view_is key live)))
 
 pub returns-clause-stays : goal.returns-clause-stays
@@ -106,21 +102,15 @@ returns-clause-new g c =
 pub returns-in_err-port-clause-refused : goal.returns-in_err-port-clause-refused
 returns-in_err-port-clause-refused g c =
     let it = always-shown {T = g.row.T.Denot} {U = g.row.U.Denot} c.domain.inside.state c.args.domain.now c.domain.invariant c.domain.view_is in
-    let made = c.in_err-port.ensures.step in
-    let why = c.in_err-port.field-0.0 in
-    let shown : Shows (kept_of c.domain.inside.state) it.0 it.1 = subst (λ (kept : Kept g.row.T.Denot g.row.U.Denot g.row.F.Denot g.row.G.Denot). Shows kept it.0 it.1) (sym c.domain.view_is) it.2 in
-    let next = created-shows {T = g.row.T.Denot} {U = g.row.U.Denot} c.domain.inside.state c.create_publisher.new.state (settings_with c.args.given.now (marks_of c.args.handler) c.args.segments) (answers_of g.F.BackpressureFn.allows g.G.DegradationFn.allows (c.create_publisher.new.boxes).boxes) it.0 it.1 _ (Some why) shown made.0 made.1 in
+    let next = created-shows {T = g.row.T.Denot} {U = g.row.U.Denot} c.domain.inside.state c.create_publisher.new.state (settings_with c.args.given.now (marks_of c.args.handler) c.args.segments) (answers_of g.F.BackpressureFn.allows g.G.DegradationFn.allows (c.create_publisher.new.boxes).boxes) c.args.domain.now c.domain.view_is it.0 it.1 _ (Some c.in_err-port.field-0.0) it.2 c.in_err-port.ensures.step.0 c.in_err-port.ensures.step.1 in
     let refused = err_from_is_err_and c.from_residual.result c.from_residual.ensures.1 in
-    rw refused.1 (publisher-refused {T = g.row.T.Denot} {U = g.row.U.Denot} c.args.domain.now _ it.0 it.0 it.1 _ it.2 next.0 (answers_of g.F.BackpressureFn.allows g.G.DegradationFn.allows (c.create_publisher.new.boxes).boxes) (settings_with c.args.given.now (marks_of c.args.handler) c.args.segments) (Some why) next.1 (λ n entry at. at) why refl)
+    rw refused.1 (publisher-refused {T = g.row.T.Denot} {U = g.row.U.Denot} c.args.domain.now _ it.0 it.0 it.1 _ it.2 next.0 (answers_of g.F.BackpressureFn.allows g.G.DegradationFn.allows (c.create_publisher.new.boxes).boxes) (settings_with c.args.given.now (marks_of c.args.handler) c.args.segments) (Some c.in_err-port.field-0.0) next.1 (λ n entry at. at) c.in_err-port.field-0.0 refl)
 
 pub returns-in_err-port-clause-no_fewer : goal.returns-in_err-port-clause-no_fewer
 returns-in_err-port-clause-no_fewer g c =
     let it = always-shown {T = g.row.T.Denot} {U = g.row.U.Denot} c.domain.inside.state c.args.domain.now c.domain.invariant c.domain.view_is in
-    let made = c.in_err-port.ensures.step in
-    let why = c.in_err-port.field-0.0 in
-    let shown : Shows (kept_of c.domain.inside.state) it.0 it.1 = subst (λ (kept : Kept g.row.T.Denot g.row.U.Denot g.row.F.Denot g.row.G.Denot). Shows kept it.0 it.1) (sym c.domain.view_is) it.2 in
-    let next = created-shows {T = g.row.T.Denot} {U = g.row.U.Denot} c.domain.inside.state c.create_publisher.new.state (settings_with c.args.given.now (marks_of c.args.handler) c.args.segments) (answers_of g.F.BackpressureFn.allows g.G.DegradationFn.allows (c.create_publisher.new.boxes).boxes) it.0 it.1 _ (Some why) shown made.0 made.1 in
-    publisher-no-fewer {T = g.row.T.Denot} {U = g.row.U.Denot} c.args.domain.now _ it.0 it.0 it.1 _ it.2 next.0 (answers_of g.F.BackpressureFn.allows g.G.DegradationFn.allows (c.create_publisher.new.boxes).boxes) (settings_with c.args.given.now (marks_of c.args.handler) c.args.segments) (Some why) next.1
+    let next = created-shows {T = g.row.T.Denot} {U = g.row.U.Denot} c.domain.inside.state c.create_publisher.new.state (settings_with c.args.given.now (marks_of c.args.handler) c.args.segments) (answers_of g.F.BackpressureFn.allows g.G.DegradationFn.allows (c.create_publisher.new.boxes).boxes) c.args.domain.now c.domain.view_is it.0 it.1 _ (Some c.in_err-port.field-0.0) it.2 c.in_err-port.ensures.step.0 c.in_err-port.ensures.step.1 in
+    publisher-no-fewer {T = g.row.T.Denot} {U = g.row.U.Denot} c.args.domain.now _ it.0 it.0 it.1 _ it.2 next.0 (answers_of g.F.BackpressureFn.allows g.G.DegradationFn.allows (c.create_publisher.new.boxes).boxes) (settings_with c.args.given.now (marks_of c.args.handler) c.args.segments) (Some c.in_err-port.field-0.0) next.1
 
 pub returns-clause-no_fewer : goal.returns-clause-no_fewer
 returns-clause-no_fewer g c =
@@ -131,11 +121,8 @@ returns-clause-no_fewer g c =
 pub returns-in_err-port-clause-loans_left : goal.returns-in_err-port-clause-loans_left
 returns-in_err-port-clause-loans_left g c =
     let it = always-shown {T = g.row.T.Denot} {U = g.row.U.Denot} c.domain.inside.state c.args.domain.now c.domain.invariant c.domain.view_is in
-    let made = c.in_err-port.ensures.step in
-    let why = c.in_err-port.field-0.0 in
-    let shown : Shows (kept_of c.domain.inside.state) it.0 it.1 = subst (λ (kept : Kept g.row.T.Denot g.row.U.Denot g.row.F.Denot g.row.G.Denot). Shows kept it.0 it.1) (sym c.domain.view_is) it.2 in
-    let next = created-shows {T = g.row.T.Denot} {U = g.row.U.Denot} c.domain.inside.state c.create_publisher.new.state (settings_with c.args.given.now (marks_of c.args.handler) c.args.segments) (answers_of g.F.BackpressureFn.allows g.G.DegradationFn.allows (c.create_publisher.new.boxes).boxes) it.0 it.1 _ (Some why) shown made.0 made.1 in
-    publisher-creation-left {T = g.row.T.Denot} {U = g.row.U.Denot} c.args.domain.now _ it.0 it.0 it.1 _ it.2 next.0 (answers_of g.F.BackpressureFn.allows g.G.DegradationFn.allows (c.create_publisher.new.boxes).boxes) (settings_with c.args.given.now (marks_of c.args.handler) c.args.segments) (Some why) next.1
+    let next = created-shows {T = g.row.T.Denot} {U = g.row.U.Denot} c.domain.inside.state c.create_publisher.new.state (settings_with c.args.given.now (marks_of c.args.handler) c.args.segments) (answers_of g.F.BackpressureFn.allows g.G.DegradationFn.allows (c.create_publisher.new.boxes).boxes) c.args.domain.now c.domain.view_is it.0 it.1 _ (Some c.in_err-port.field-0.0) it.2 c.in_err-port.ensures.step.0 c.in_err-port.ensures.step.1 in
+    publisher-creation-left {T = g.row.T.Denot} {U = g.row.U.Denot} c.args.domain.now _ it.0 it.0 it.1 _ it.2 next.0 (answers_of g.F.BackpressureFn.allows g.G.DegradationFn.allows (c.create_publisher.new.boxes).boxes) (settings_with c.args.given.now (marks_of c.args.handler) c.args.segments) (Some c.in_err-port.field-0.0) next.1
 
 pub returns-clause-loans_left : goal.returns-clause-loans_left
 returns-clause-loans_left g c =
@@ -161,11 +148,8 @@ returns-clause-degrades g c = degradation-box-is _ c.create_publisher.new.state 
 pub returns-in_err-port-clause-connections : goal.returns-in_err-port-clause-connections
 returns-in_err-port-clause-connections g c =
     let it = always-shown {T = g.row.T.Denot} {U = g.row.U.Denot} c.domain.inside.state c.args.domain.now c.domain.invariant c.domain.view_is in
-    let made = c.in_err-port.ensures.step in
-    let why = c.in_err-port.field-0.0 in
-    let shown : Shows (kept_of c.domain.inside.state) it.0 it.1 = subst (λ (kept : Kept g.row.T.Denot g.row.U.Denot g.row.F.Denot g.row.G.Denot). Shows kept it.0 it.1) (sym c.domain.view_is) it.2 in
-    let next = created-shows {T = g.row.T.Denot} {U = g.row.U.Denot} c.domain.inside.state c.create_publisher.new.state (settings_with c.args.given.now (marks_of c.args.handler) c.args.segments) (answers_of g.F.BackpressureFn.allows g.G.DegradationFn.allows (c.create_publisher.new.boxes).boxes) it.0 it.1 _ (Some why) shown made.0 made.1 in
-    made-connections {T = g.row.T.Denot} {U = g.row.U.Denot} c.args.domain.now _ it.0 it.0 it.1 _ it.2 next.0 (answers_of g.F.BackpressureFn.allows g.G.DegradationFn.allows (c.create_publisher.new.boxes).boxes) (settings_with c.args.given.now (marks_of c.args.handler) c.args.segments) (Some why) next.1
+    let next = created-shows {T = g.row.T.Denot} {U = g.row.U.Denot} c.domain.inside.state c.create_publisher.new.state (settings_with c.args.given.now (marks_of c.args.handler) c.args.segments) (answers_of g.F.BackpressureFn.allows g.G.DegradationFn.allows (c.create_publisher.new.boxes).boxes) c.args.domain.now c.domain.view_is it.0 it.1 _ (Some c.in_err-port.field-0.0) it.2 c.in_err-port.ensures.step.0 c.in_err-port.ensures.step.1 in
+    made-connections {T = g.row.T.Denot} {U = g.row.U.Denot} c.args.domain.now _ it.0 it.0 it.1 _ it.2 next.0 (answers_of g.F.BackpressureFn.allows g.G.DegradationFn.allows (c.create_publisher.new.boxes).boxes) (settings_with c.args.given.now (marks_of c.args.handler) c.args.segments) (Some c.in_err-port.field-0.0) next.1
 
 pub returns-clause-connections : goal.returns-clause-connections
 returns-clause-connections g c =
@@ -182,11 +166,8 @@ returns-clause-connects g c =
 pub returns-in_err-port-clause-room : goal.returns-in_err-port-clause-room
 returns-in_err-port-clause-room g c =
     let it = always-shown {T = g.row.T.Denot} {U = g.row.U.Denot} c.domain.inside.state c.args.domain.now c.domain.invariant c.domain.view_is in
-    let made = c.in_err-port.ensures.step in
-    let why = c.in_err-port.field-0.0 in
-    let shown : Shows (kept_of c.domain.inside.state) it.0 it.1 = subst (λ (kept : Kept g.row.T.Denot g.row.U.Denot g.row.F.Denot g.row.G.Denot). Shows kept it.0 it.1) (sym c.domain.view_is) it.2 in
-    let next = created-shows {T = g.row.T.Denot} {U = g.row.U.Denot} c.domain.inside.state c.create_publisher.new.state (settings_with c.args.given.now (marks_of c.args.handler) c.args.segments) (answers_of g.F.BackpressureFn.allows g.G.DegradationFn.allows (c.create_publisher.new.boxes).boxes) it.0 it.1 _ (Some why) shown made.0 made.1 in
-    publisher-creation-room {T = g.row.T.Denot} {U = g.row.U.Denot} c.args.domain.now _ it.0 it.0 it.1 _ it.2 next.0 (answers_of g.F.BackpressureFn.allows g.G.DegradationFn.allows (c.create_publisher.new.boxes).boxes) (settings_with c.args.given.now (marks_of c.args.handler) c.args.segments) (Some why) next.1
+    let next = created-shows {T = g.row.T.Denot} {U = g.row.U.Denot} c.domain.inside.state c.create_publisher.new.state (settings_with c.args.given.now (marks_of c.args.handler) c.args.segments) (answers_of g.F.BackpressureFn.allows g.G.DegradationFn.allows (c.create_publisher.new.boxes).boxes) c.args.domain.now c.domain.view_is it.0 it.1 _ (Some c.in_err-port.field-0.0) it.2 c.in_err-port.ensures.step.0 c.in_err-port.ensures.step.1 in
+    publisher-creation-room {T = g.row.T.Denot} {U = g.row.U.Denot} c.args.domain.now _ it.0 it.0 it.1 _ it.2 next.0 (answers_of g.F.BackpressureFn.allows g.G.DegradationFn.allows (c.create_publisher.new.boxes).boxes) (settings_with c.args.given.now (marks_of c.args.handler) c.args.segments) (Some c.in_err-port.field-0.0) next.1
 
 pub returns-clause-room : goal.returns-clause-room
 returns-clause-room g c =

@@ -1,5 +1,5 @@
 use Rattle.std.proofs.Common.{◌≡◌, ℕ, ap, refl, sym, subst, ◌∙◌, Some, None, false}
-use Rattle.iox2_store.specs.machine.State.{State, is_blocked}
+use Rattle.iox2_store.specs.machine.State.{is_blocked}
 use Rattle.iox2_domain.specs.Kept.{Kept, state_of}
 use Rattle.iox2_domain.specs.Ports.{PublisherFields}
 use Rattle.iox2_domain.proofs.lemmas.fields.ConnectionEnds.{free-of}
@@ -7,11 +7,11 @@ use Rattle.iox2_domain.specs.Fields.{keeping}
 use Rattle.iox2_pubsub.specs.Live.{publisher_key}
 use Rattle.iox2_pubsub.proofs.DepartedShown.{publisher-close-room}
 use Rattle.iox2_pubsub.proofs.PlacedHandles.{publisher-at-place}
-use Rattle.iox2_pubsub.proofs.CallsStay.{always-shown}
+use Rattle.iox2_pubsub.proofs.CallsStay.{publisher-shown}
 use Rattle.iox2_pubsub.proofs.ClosesShown.{publisher-close-shows, publisher-close-stays, publisher-close-spends}
 use Rattle.iox2_pubsub.proofs.ClosesWait.{publisher-close-no-fewer}
 use Rattle.iox2_pubsub.proofs.ConnectionsShown.{publisher-close-keeps, publisher-close-connections}
-use Rattle.iox2_pubsub.proofs.LiveParts.{publisher-parts, unblocked-test}
+use Rattle.iox2_pubsub.proofs.LiveParts.{unblocked-test}
 use Rattle.iox2_pubsub.proofs.LoansLeftShown.{publisher-close-others, publisher-close-numbers}
 use Rattle.std.specs.Option.{option_and_then}
 use Rattle.iox2_domain.specs.Boxes.{box_of, degradation_box_of}
@@ -32,19 +32,15 @@ returns-clause-closed g c = λ m s x shown at.
 
 pub returns-clause-spent : goal.returns-clause-spent
 returns-clause-spent g c =
-    let it = always-shown {T = g.row.T.Denot} {U = g.row.U.Denot} c.domain.inside.state c.args.domain.now c.domain.invariant c.domain.view_is in
-    let has = (publisher-parts c.args.domain.now _ c.requires.ready.there).2 in
-    let there = ap (λ (t : State g.row.T.Denot g.row.U.Denot). t.publishers c.args.self.id) (it.2).state ∙ has.1 in
-    publisher-close-spends {T = g.row.T.Denot} {U = g.row.U.Denot} c.args.domain.now (keeping _ c.close_publisher.new.state) it.0 it.1 it.2 c.args.self.id has.0
-    (returns-clause-closed g c it.0 it.1 has.0 it.2 there) (publisher_key c.args.self) refl
+    let it = publisher-shown {T = g.row.T.Denot} {U = g.row.U.Denot} c.domain.inside.state c.args.domain.now c.domain.invariant c.domain.view_is _ c.requires.ready.there in
+    publisher-close-spends {T = g.row.T.Denot} {U = g.row.U.Denot} c.args.domain.now (keeping _ c.close_publisher.new.state) it.0 it.1 it.2 c.args.self.id (it.3).0
+    (returns-clause-closed g c it.0 it.1 (it.3).0 it.2 (it.3).1) (publisher_key c.args.self) refl
 
 pub returns-clause-stays : goal.returns-clause-stays
 returns-clause-stays g c =
-    let it = always-shown {T = g.row.T.Denot} {U = g.row.U.Denot} c.domain.inside.state c.args.domain.now c.domain.invariant c.domain.view_is in
-    let has = (publisher-parts c.args.domain.now _ c.requires.ready.there).2 in
-    let there = ap (λ (t : State g.row.T.Denot g.row.U.Denot). t.publishers c.args.self.id) (it.2).state ∙ has.1 in
-    publisher-close-stays {T = g.row.T.Denot} {U = g.row.U.Denot} c.args.domain.now (keeping _ c.close_publisher.new.state) it.0 it.1 it.2 c.args.self.id has.0
-    (returns-clause-closed g c it.0 it.1 has.0 it.2 there)
+    let it = publisher-shown {T = g.row.T.Denot} {U = g.row.U.Denot} c.domain.inside.state c.args.domain.now c.domain.invariant c.domain.view_is _ c.requires.ready.there in
+    publisher-close-stays {T = g.row.T.Denot} {U = g.row.U.Denot} c.args.domain.now (keeping _ c.close_publisher.new.state) it.0 it.1 it.2 c.args.self.id (it.3).0
+    (returns-clause-closed g c it.0 it.1 (it.3).0 it.2 (it.3).1)
     (other-boxes c.domain.inside.state c.close_publisher.new.state c.args.domain.now c.domain.view_is
     (λ p other. c.remove.ensures.others p (λ same. other (same ∙ c.value.ensures))))
 
@@ -58,27 +54,21 @@ returns-clause-undegraded g c = degradation-box-is _ c.close_publisher.new.state
 
 pub returns-clause-no_fewer : goal.returns-clause-no_fewer
 returns-clause-no_fewer g c =
-    let it = always-shown {T = g.row.T.Denot} {U = g.row.U.Denot} c.domain.inside.state c.args.domain.now c.domain.invariant c.domain.view_is in
-    let has = (publisher-parts c.args.domain.now _ c.requires.ready.there).2 in
-    let there = ap (λ (t : State g.row.T.Denot g.row.U.Denot). t.publishers c.args.self.id) (it.2).state ∙ has.1 in
-    publisher-close-no-fewer {T = g.row.T.Denot} {U = g.row.U.Denot} c.args.domain.now (keeping _ c.close_publisher.new.state) it.0 it.1 it.2 c.args.self.id has.0
-    (returns-clause-closed g c it.0 it.1 has.0 it.2 there) there
+    let it = publisher-shown {T = g.row.T.Denot} {U = g.row.U.Denot} c.domain.inside.state c.args.domain.now c.domain.invariant c.domain.view_is _ c.requires.ready.there in
+    publisher-close-no-fewer {T = g.row.T.Denot} {U = g.row.U.Denot} c.args.domain.now (keeping _ c.close_publisher.new.state) it.0 it.1 it.2 c.args.self.id (it.3).0
+    (returns-clause-closed g c it.0 it.1 (it.3).0 it.2 (it.3).1) (it.3).1
 
 pub returns-clause-loans_left : goal.returns-clause-loans_left
 returns-clause-loans_left g c =
-    let it = always-shown {T = g.row.T.Denot} {U = g.row.U.Denot} c.domain.inside.state c.args.domain.now c.domain.invariant c.domain.view_is in
-    let has = (publisher-parts c.args.domain.now _ c.requires.ready.there).2 in
-    let there = ap (λ (t : State g.row.T.Denot g.row.U.Denot). t.publishers c.args.self.id) (it.2).state ∙ has.1 in
+    let it = publisher-shown {T = g.row.T.Denot} {U = g.row.U.Denot} c.domain.inside.state c.args.domain.now c.domain.invariant c.domain.view_is _ c.requires.ready.there in
     publisher-close-others {T = g.row.T.Denot} {U = g.row.U.Denot} c.args.domain.now (keeping _ c.close_publisher.new.state) it.0 it.0 it.1 _ it.2
-    (returns-clause-closed g c it.0 it.1 has.0 it.2 there) c.args.self has.0 refl
+    (returns-clause-closed g c it.0 it.1 (it.3).0 it.2 (it.3).1) c.args.self (it.3).0 refl
 
 pub returns-clause-numbers_left : goal.returns-clause-numbers_left
 returns-clause-numbers_left g c =
-    let it = always-shown {T = g.row.T.Denot} {U = g.row.U.Denot} c.domain.inside.state c.args.domain.now c.domain.invariant c.domain.view_is in
-    let has = (publisher-parts c.args.domain.now _ c.requires.ready.there).2 in
-    let there = ap (λ (t : State g.row.T.Denot g.row.U.Denot). t.publishers c.args.self.id) (it.2).state ∙ has.1 in
+    let it = publisher-shown {T = g.row.T.Denot} {U = g.row.U.Denot} c.domain.inside.state c.args.domain.now c.domain.invariant c.domain.view_is _ c.requires.ready.there in
     publisher-close-numbers {T = g.row.T.Denot} {U = g.row.U.Denot} c.args.domain.now (keeping _ c.close_publisher.new.state) it.0 it.0 it.1 _ it.2
-    (returns-clause-closed g c it.0 it.1 has.0 it.2 there) c.args.self.id has.0 refl
+    (returns-clause-closed g c it.0 it.1 (it.3).0 it.2 (it.3).1) c.args.self.id (it.3).0 refl
 
 pub close_publisher-requires-clause-unblocked : goal.close_publisher-requires-clause-unblocked
 close_publisher-requires-clause-unblocked g c = λ z at_z.
@@ -91,24 +81,18 @@ close_publisher-requires-clause-unblocked g c = λ z at_z.
 
 pub returns-clause-keeps : goal.returns-clause-keeps
 returns-clause-keeps g c =
-    let it = always-shown {T = g.row.T.Denot} {U = g.row.U.Denot} c.domain.inside.state c.args.domain.now c.domain.invariant c.domain.view_is in
-    let has = (publisher-parts c.args.domain.now _ c.requires.ready.there).2 in
-    let there = ap (λ (t : State g.row.T.Denot g.row.U.Denot). t.publishers c.args.self.id) (it.2).state ∙ has.1 in
-    publisher-close-keeps {T = g.row.T.Denot} {U = g.row.U.Denot} c.args.domain.now (keeping _ c.close_publisher.new.state) it.0 it.1 it.2 c.args.self.id has.0
-    (returns-clause-closed g c it.0 it.1 has.0 it.2 there) there
+    let it = publisher-shown {T = g.row.T.Denot} {U = g.row.U.Denot} c.domain.inside.state c.args.domain.now c.domain.invariant c.domain.view_is _ c.requires.ready.there in
+    publisher-close-keeps {T = g.row.T.Denot} {U = g.row.U.Denot} c.args.domain.now (keeping _ c.close_publisher.new.state) it.0 it.1 it.2 c.args.self.id (it.3).0
+    (returns-clause-closed g c it.0 it.1 (it.3).0 it.2 (it.3).1) (it.3).1
 
 pub returns-clause-connections : goal.returns-clause-connections
 returns-clause-connections g c =
-    let it = always-shown {T = g.row.T.Denot} {U = g.row.U.Denot} c.domain.inside.state c.args.domain.now c.domain.invariant c.domain.view_is in
-    let has = (publisher-parts c.args.domain.now _ c.requires.ready.there).2 in
-    let there = ap (λ (t : State g.row.T.Denot g.row.U.Denot). t.publishers c.args.self.id) (it.2).state ∙ has.1 in
-    publisher-close-connections {T = g.row.T.Denot} {U = g.row.U.Denot} c.args.domain.now (keeping _ c.close_publisher.new.state) it.0 it.1 it.2 c.args.self.id has.0
-    (returns-clause-closed g c it.0 it.1 has.0 it.2 there) there
+    let it = publisher-shown {T = g.row.T.Denot} {U = g.row.U.Denot} c.domain.inside.state c.args.domain.now c.domain.invariant c.domain.view_is _ c.requires.ready.there in
+    publisher-close-connections {T = g.row.T.Denot} {U = g.row.U.Denot} c.args.domain.now (keeping _ c.close_publisher.new.state) it.0 it.1 it.2 c.args.self.id (it.3).0
+    (returns-clause-closed g c it.0 it.1 (it.3).0 it.2 (it.3).1) (it.3).1
 
 pub returns-clause-room : goal.returns-clause-room
 returns-clause-room g c =
-    let it = always-shown {T = g.row.T.Denot} {U = g.row.U.Denot} c.domain.inside.state c.args.domain.now c.domain.invariant c.domain.view_is in
-    let has = (publisher-parts c.args.domain.now _ c.requires.ready.there).2 in
-    let there = ap (λ (t : State g.row.T.Denot g.row.U.Denot). t.publishers c.args.self.id) (it.2).state ∙ has.1 in
-    publisher-close-room {T = g.row.T.Denot} {U = g.row.U.Denot} c.args.domain.now (keeping _ c.close_publisher.new.state) it.0 it.1 it.2 c.args.self.id has.0
-    (returns-clause-closed g c it.0 it.1 has.0 it.2 there)
+    let it = publisher-shown {T = g.row.T.Denot} {U = g.row.U.Denot} c.domain.inside.state c.args.domain.now c.domain.invariant c.domain.view_is _ c.requires.ready.there in
+    publisher-close-room {T = g.row.T.Denot} {U = g.row.U.Denot} c.args.domain.now (keeping _ c.close_publisher.new.state) it.0 it.1 it.2 c.args.self.id (it.3).0
+    (returns-clause-closed g c it.0 it.1 (it.3).0 it.2 (it.3).1)

@@ -1,10 +1,8 @@
-use Rattle.std.proofs.Common.{refl, ap, sym, subst, ◌∙◌}
-use Rattle.iox2_store.specs.machine.Mailbox.{is_borrowed}
-use Rattle.iox2_store.specs.machine.State.{State}
+use Rattle.std.proofs.Common.{refl, sym, subst}
 use Rattle.iox2_store.specs.machine.SingleCalls.{HoldsSample}
 use Rattle.iox2_domain.specs.Kept.{Kept, state_of}
 use Rattle.iox2_pubsub.proofs.ReleaseShows.{release-shows}
-use Rattle.iox2_pubsub.proofs.CallsStay.{always-shown, release-stays, release-spends}
+use Rattle.iox2_pubsub.proofs.CallsStay.{sample-shown, release-stays, release-spends}
 use Rattle.iox2_pubsub.proofs.LiveParts.{sample-parts}
 use Rattle.iox2_pubsub.proofs.WaitingShown.{release-waits}
 use Rattle.iox2_pubsub.proofs.UpToDateShown.{release-leaves}
@@ -23,40 +21,30 @@ returns-clause-released g c =
 
 pub returns-clause-spent : goal.returns-clause-spent
 returns-clause-spent g c = λ live.
-    let it = always-shown {T = g.row.T.Denot} {U = g.row.U.Denot} c.domain.inside.state c.args.domain.now c.domain.invariant c.domain.view_is in
-    let has = (sample-parts c.args.domain.now _ c.requires.live).1 in
-    let borrowed = ap (λ (t : State g.row.T.Denot g.row.U.Denot). is_borrowed c.args.self.sample.number (t.mailboxes has.0 c.args.self.sample.subscriber)) (it.2).state ∙ has.1 in
-    let step = returns-clause-released g c it.0 it.1 it.2 has.0 borrowed in
-    release-spends {T = g.row.T.Denot} {U = g.row.U.Denot} c.args.domain.now _ it.0 it.1 it.2 has.0 c.args.self.sample.subscriber c.args.self.sample.number step.0 step.1 borrowed step.2 _ refl refl live
+    let it = sample-shown {T = g.row.T.Denot} {U = g.row.U.Denot} c.domain.inside.state c.args.domain.now c.domain.invariant c.domain.view_is _ c.requires.live in
+    let step = returns-clause-released g c it.0 it.1 it.2 (it.3).0 (it.3).1 in
+    release-spends {T = g.row.T.Denot} {U = g.row.U.Denot} c.args.domain.now _ it.0 it.1 it.2 (it.3).0 c.args.self.sample.subscriber c.args.self.sample.number step.0 step.1 (it.3).1 step.2 _ refl refl live
 
 pub returns-clause-stays : goal.returns-clause-stays
 returns-clause-stays g c =
-    let it = always-shown {T = g.row.T.Denot} {U = g.row.U.Denot} c.domain.inside.state c.args.domain.now c.domain.invariant c.domain.view_is in
-    let has = (sample-parts c.args.domain.now _ c.requires.live).1 in
-    let borrowed = ap (λ (t : State g.row.T.Denot g.row.U.Denot). is_borrowed c.args.self.sample.number (t.mailboxes has.0 c.args.self.sample.subscriber)) (it.2).state ∙ has.1 in
-    let step = returns-clause-released g c it.0 it.1 it.2 has.0 borrowed in
-    release-stays {T = g.row.T.Denot} {U = g.row.U.Denot} c.args.domain.now _ it.0 it.1 it.2 has.0 c.args.self.sample.subscriber c.args.self.sample.number step.0 step.1 step.2 (same-boxes c.domain.inside.state c.give_back.new.state c.args.domain.now c.domain.view_is)
+    let it = sample-shown {T = g.row.T.Denot} {U = g.row.U.Denot} c.domain.inside.state c.args.domain.now c.domain.invariant c.domain.view_is _ c.requires.live in
+    let step = returns-clause-released g c it.0 it.1 it.2 (it.3).0 (it.3).1 in
+    release-stays {T = g.row.T.Denot} {U = g.row.U.Denot} c.args.domain.now _ it.0 it.1 it.2 (it.3).0 c.args.self.sample.subscriber c.args.self.sample.number step.0 step.1 step.2 (same-boxes c.domain.inside.state c.give_back.new.state c.args.domain.now c.domain.view_is)
 
 pub returns-clause-waits : goal.returns-clause-waits
 returns-clause-waits g c =
-    let it = always-shown {T = g.row.T.Denot} {U = g.row.U.Denot} c.domain.inside.state c.args.domain.now c.domain.invariant c.domain.view_is in
-    let has = (sample-parts c.args.domain.now _ c.requires.live).1 in
-    let borrowed = ap (λ (t : State g.row.T.Denot g.row.U.Denot). is_borrowed c.args.self.sample.number (t.mailboxes has.0 c.args.self.sample.subscriber)) (it.2).state ∙ has.1 in
-    let step = returns-clause-released g c it.0 it.1 it.2 has.0 borrowed in
-    release-waits {T = g.row.T.Denot} {U = g.row.U.Denot} c.args.domain.now _ it.0 it.0 it.1 step.0 it.2 step.1 (λ n entry at. at) has.0 c.args.self.sample.subscriber c.args.self.sample.number step.2
+    let it = sample-shown {T = g.row.T.Denot} {U = g.row.U.Denot} c.domain.inside.state c.args.domain.now c.domain.invariant c.domain.view_is _ c.requires.live in
+    let step = returns-clause-released g c it.0 it.1 it.2 (it.3).0 (it.3).1 in
+    release-waits {T = g.row.T.Denot} {U = g.row.U.Denot} c.args.domain.now _ it.0 it.0 it.1 step.0 it.2 step.1 (λ n entry at. at) (it.3).0 c.args.self.sample.subscriber c.args.self.sample.number step.2
 
 pub returns-clause-up_to_date : goal.returns-clause-up_to_date
 returns-clause-up_to_date g c =
-    let it = always-shown {T = g.row.T.Denot} {U = g.row.U.Denot} c.domain.inside.state c.args.domain.now c.domain.invariant c.domain.view_is in
-    let has = (sample-parts c.args.domain.now _ c.requires.live).1 in
-    let borrowed = ap (λ (t : State g.row.T.Denot g.row.U.Denot). is_borrowed c.args.self.sample.number (t.mailboxes has.0 c.args.self.sample.subscriber)) (it.2).state ∙ has.1 in
-    let step = returns-clause-released g c it.0 it.1 it.2 has.0 borrowed in
-    release-leaves {T = g.row.T.Denot} {U = g.row.U.Denot} c.args.domain.now _ it.0 it.0 it.1 step.0 it.2 step.1 has.0 c.args.self.sample.subscriber c.args.self.sample.number step.2
+    let it = sample-shown {T = g.row.T.Denot} {U = g.row.U.Denot} c.domain.inside.state c.args.domain.now c.domain.invariant c.domain.view_is _ c.requires.live in
+    let step = returns-clause-released g c it.0 it.1 it.2 (it.3).0 (it.3).1 in
+    release-leaves {T = g.row.T.Denot} {U = g.row.U.Denot} c.args.domain.now _ it.0 it.0 it.1 step.0 it.2 step.1 (it.3).0 c.args.self.sample.subscriber c.args.self.sample.number step.2
 
 pub returns-clause-loans_left : goal.returns-clause-loans_left
 returns-clause-loans_left g c =
-    let it = always-shown {T = g.row.T.Denot} {U = g.row.U.Denot} c.domain.inside.state c.args.domain.now c.domain.invariant c.domain.view_is in
-    let has = (sample-parts c.args.domain.now _ c.requires.live).1 in
-    let borrowed = ap (λ (t : State g.row.T.Denot g.row.U.Denot). is_borrowed c.args.self.sample.number (t.mailboxes has.0 c.args.self.sample.subscriber)) (it.2).state ∙ has.1 in
-    let step = returns-clause-released g c it.0 it.1 it.2 has.0 borrowed in
-    release-left {T = g.row.T.Denot} {U = g.row.U.Denot} c.args.domain.now _ it.0 it.0 it.1 step.0 it.2 step.1 has.0 c.args.self.sample.subscriber c.args.self.sample.number step.2
+    let it = sample-shown {T = g.row.T.Denot} {U = g.row.U.Denot} c.domain.inside.state c.args.domain.now c.domain.invariant c.domain.view_is _ c.requires.live in
+    let step = returns-clause-released g c it.0 it.1 it.2 (it.3).0 (it.3).1 in
+    release-left {T = g.row.T.Denot} {U = g.row.U.Denot} c.args.domain.now _ it.0 it.0 it.1 step.0 it.2 step.1 (it.3).0 c.args.self.sample.subscriber c.args.self.sample.number step.2

@@ -1,10 +1,8 @@
-use Rattle.std.proofs.Common.{ap, refl, ◌∙◌}
-use Rattle.iox2_store.specs.machine.State.{State}
+use Rattle.std.proofs.Common.{refl}
 use Rattle.iox2_domain.specs.Fields.{keeping}
 use Rattle.iox2_pubsub.specs.Live.{unwritten_key}
-use Rattle.iox2_pubsub.proofs.CallsStay.{always-shown}
+use Rattle.iox2_pubsub.proofs.CallsStay.{loan-shown}
 use Rattle.iox2_pubsub.proofs.DiscardShows.{discard-shows, discard-stays, discard-spends}
-use Rattle.iox2_pubsub.proofs.LiveParts.{loan-parts}
 use Rattle.iox2_pubsub.proofs.LoanHandles.{loan-out}
 use Rattle.iox2_pubsub.proofs.WaitingShown.{discard-waits}
 use Rattle.iox2_pubsub.proofs.UpToDateShown.{discard-leaves}
@@ -22,48 +20,36 @@ returns-clause-discarded g c =
 
 pub returns-clause-spent : goal.returns-clause-spent
 returns-clause-spent g c =
-    let it = always-shown {T = g.row.T.Denot} {U = g.row.U.Denot} c.domain.inside.state c.args.domain.now c.domain.invariant c.domain.view_is in
-    let has = (loan-parts c.args.domain.now _ c.requires.live).1 in
-    let out = ap (λ (t : State g.row.T.Denot g.row.U.Denot). t.loans c.args.self.loan.number) (it.2).state ∙ has.1 in
-    discard-spends {T = g.row.T.Denot} {U = g.row.U.Denot} c.args.domain.now (keeping _ c.discard_loan.new.state) it.0 it.1 it.2 c.args.self.loan.number has.0
-    (returns-clause-discarded g c it.0 it.1 has.0 it.2 out) (unwritten_key c.args.self) refl
+    let it = loan-shown {T = g.row.T.Denot} {U = g.row.U.Denot} c.domain.inside.state c.args.domain.now c.domain.invariant c.domain.view_is _ c.requires.live in
+    discard-spends {T = g.row.T.Denot} {U = g.row.U.Denot} c.args.domain.now (keeping _ c.discard_loan.new.state) it.0 it.1 it.2 c.args.self.loan.number (it.3).0
+    (returns-clause-discarded g c it.0 it.1 (it.3).0 it.2 (it.3).1) (unwritten_key c.args.self) refl
 
 pub returns-clause-stays : goal.returns-clause-stays
 returns-clause-stays g c =
-    let it = always-shown {T = g.row.T.Denot} {U = g.row.U.Denot} c.domain.inside.state c.args.domain.now c.domain.invariant c.domain.view_is in
-    let has = (loan-parts c.args.domain.now _ c.requires.live).1 in
-    let out = ap (λ (t : State g.row.T.Denot g.row.U.Denot). t.loans c.args.self.loan.number) (it.2).state ∙ has.1 in
-    discard-stays {T = g.row.T.Denot} {U = g.row.U.Denot} c.args.domain.now (keeping _ c.discard_loan.new.state) it.0 it.1 it.2 c.args.self.loan.number has.0
-    (returns-clause-discarded g c it.0 it.1 has.0 it.2 out) (same-boxes c.domain.inside.state c.discard_loan.new.state c.args.domain.now c.domain.view_is)
+    let it = loan-shown {T = g.row.T.Denot} {U = g.row.U.Denot} c.domain.inside.state c.args.domain.now c.domain.invariant c.domain.view_is _ c.requires.live in
+    discard-stays {T = g.row.T.Denot} {U = g.row.U.Denot} c.args.domain.now (keeping _ c.discard_loan.new.state) it.0 it.1 it.2 c.args.self.loan.number (it.3).0
+    (returns-clause-discarded g c it.0 it.1 (it.3).0 it.2 (it.3).1) (same-boxes c.domain.inside.state c.discard_loan.new.state c.args.domain.now c.domain.view_is)
 
 pub returns-clause-waits : goal.returns-clause-waits
 returns-clause-waits g c =
-    let it = always-shown {T = g.row.T.Denot} {U = g.row.U.Denot} c.domain.inside.state c.args.domain.now c.domain.invariant c.domain.view_is in
-    let has = (loan-parts c.args.domain.now _ c.requires.live).1 in
-    let out = ap (λ (t : State g.row.T.Denot g.row.U.Denot). t.loans c.args.self.loan.number) (it.2).state ∙ has.1 in
-    discard-waits {T = g.row.T.Denot} {U = g.row.U.Denot} c.args.domain.now (keeping _ c.discard_loan.new.state) it.0 it.1 it.2 c.args.self.loan.number has.0
-    (returns-clause-discarded g c it.0 it.1 has.0 it.2 out)
+    let it = loan-shown {T = g.row.T.Denot} {U = g.row.U.Denot} c.domain.inside.state c.args.domain.now c.domain.invariant c.domain.view_is _ c.requires.live in
+    discard-waits {T = g.row.T.Denot} {U = g.row.U.Denot} c.args.domain.now (keeping _ c.discard_loan.new.state) it.0 it.1 it.2 c.args.self.loan.number (it.3).0
+    (returns-clause-discarded g c it.0 it.1 (it.3).0 it.2 (it.3).1)
 
 pub returns-clause-up_to_date : goal.returns-clause-up_to_date
 returns-clause-up_to_date g c =
-    let it = always-shown {T = g.row.T.Denot} {U = g.row.U.Denot} c.domain.inside.state c.args.domain.now c.domain.invariant c.domain.view_is in
-    let has = (loan-parts c.args.domain.now _ c.requires.live).1 in
-    let out = ap (λ (t : State g.row.T.Denot g.row.U.Denot). t.loans c.args.self.loan.number) (it.2).state ∙ has.1 in
-    discard-leaves {T = g.row.T.Denot} {U = g.row.U.Denot} c.args.domain.now (keeping _ c.discard_loan.new.state) it.0 it.1 it.2 c.args.self.loan.number has.0
-    (returns-clause-discarded g c it.0 it.1 has.0 it.2 out)
+    let it = loan-shown {T = g.row.T.Denot} {U = g.row.U.Denot} c.domain.inside.state c.args.domain.now c.domain.invariant c.domain.view_is _ c.requires.live in
+    discard-leaves {T = g.row.T.Denot} {U = g.row.U.Denot} c.args.domain.now (keeping _ c.discard_loan.new.state) it.0 it.1 it.2 c.args.self.loan.number (it.3).0
+    (returns-clause-discarded g c it.0 it.1 (it.3).0 it.2 (it.3).1)
 
 pub returns-clause-loans_left : goal.returns-clause-loans_left
 returns-clause-loans_left g c =
-    let it = always-shown {T = g.row.T.Denot} {U = g.row.U.Denot} c.domain.inside.state c.args.domain.now c.domain.invariant c.domain.view_is in
-    let has = (loan-parts c.args.domain.now _ c.requires.live).1 in
-    let out = ap (λ (t : State g.row.T.Denot g.row.U.Denot). t.loans c.args.self.loan.number) (it.2).state ∙ has.1 in
+    let it = loan-shown {T = g.row.T.Denot} {U = g.row.U.Denot} c.domain.inside.state c.args.domain.now c.domain.invariant c.domain.view_is _ c.requires.live in
     discard-left {T = g.row.T.Denot} {U = g.row.U.Denot} c.args.domain.now (keeping _ c.discard_loan.new.state) it.0 it.0 it.1 _ it.2
-    (returns-clause-discarded g c it.0 it.1 has.0 it.2 out) c.args.self.loan.number has.0 out refl
+    (returns-clause-discarded g c it.0 it.1 (it.3).0 it.2 (it.3).1) c.args.self.loan.number (it.3).0 (it.3).1 refl
 
 pub returns-clause-given_back : goal.returns-clause-given_back
 returns-clause-given_back g c =
-    let it = always-shown {T = g.row.T.Denot} {U = g.row.U.Denot} c.domain.inside.state c.args.domain.now c.domain.invariant c.domain.view_is in
-    let has = (loan-parts c.args.domain.now _ c.requires.live).1 in
-    let out = ap (λ (t : State g.row.T.Denot g.row.U.Denot). t.loans c.args.self.loan.number) (it.2).state ∙ has.1 in
+    let it = loan-shown {T = g.row.T.Denot} {U = g.row.U.Denot} c.domain.inside.state c.args.domain.now c.domain.invariant c.domain.view_is _ c.requires.live in
     discard-gives {T = g.row.T.Denot} {U = g.row.U.Denot} c.args.domain.now (keeping _ c.discard_loan.new.state) it.0 it.0 it.1 _ it.2
-    (returns-clause-discarded g c it.0 it.1 has.0 it.2 out) c.args.self.loan.number has.0 out c.args.self.loan.publisher has.2 refl
+    (returns-clause-discarded g c it.0 it.1 (it.3).0 it.2 (it.3).1) c.args.self.loan.number (it.3).0 (it.3).1 c.args.self.loan.publisher (it.3).2 refl

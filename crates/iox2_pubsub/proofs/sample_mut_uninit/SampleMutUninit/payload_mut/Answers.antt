@@ -1,4 +1,4 @@
-use Rattle.std.proofs.Common.{[], ◌∷◌, refl, ap, subst, ◌∙◌}
+use Rattle.std.proofs.Common.{Option, [], ◌∷◌, refl, ap, subst, ◌∙◌}
 use Rattle.iox2_domain.specs.Kept.{Kept, state_of}
 use Rattle.iox2_domain.specs.LoanCalls.{HasCell, first_cell_changed}
 use Rattle.iox2_domain.proofs.lemmas.loans.ChangedLoan.{one-cell}
@@ -6,7 +6,7 @@ use Rattle.iox2_pubsub.specs.ChangedLoans.{with_cell}
 use Rattle.iox2_pubsub.specs.Live.{unwritten_key}
 use Rattle.iox2_pubsub.proofs.LiveParts.{unwritten-reads, single-parts}
 use Rattle.iox2_pubsub.proofs.LoanHandles.{unwritten-out, loan-out}
-use Rattle.iox2_pubsub.proofs.LentHandles.{cell-word, cell-there, cell-known, cell-lends, lent-is, lent-shown, lent-unwritten, lent-unwritten-loan, lent-cells, lent-stays, one-changed, lent-left, lent-same-header, lent-same-user-header, lent-waits, lent-leaves}
+use Rattle.iox2_pubsub.proofs.LentHandles.{cell-word, cell-there, cell-known, cell-lends, one-changed, was-lent}
 use Rattle.iox2_pubsub.proofs.sample_mut_uninit.SampleMutUninit.payload_mut.Goals as goal
 
 pub find_live_loan-at-requires-clause-live : goal.find_live_loan-at-requires-clause-live
@@ -20,21 +20,24 @@ invariant_of-domain-lent g c = λ w. (cell-lends {T = g.row.T.Denot} {U = g.row.
 
 pub returns : goal.returns
 returns g c =
-    let known = cell-known {T = g.row.T.Denot} {U = g.row.U.Denot} c.domain.inside.state c.domain.invariant c.args.sample.now.loan.publisher c.args.sample.now.loan.number c.find_live_loan-at.result.book c.find_live_loan-at.result.slot c.find_live_loan-at.ensures (unwritten-out {T = g.row.T.Denot} {U = g.row.U.Denot} _ c.args.domain.now c.domain.view_is c.args.sample.now c.requires.live) (one-cell {T = g.row.T.Denot} {U = g.row.U.Denot} c.domain.inside.state c.domain.invariant c.args.sample.now.loan.publisher c.args.sample.now.loan.number c.find_live_loan-at.result.book c.find_live_loan-at.result.slot c.find_live_loan-at.ensures (ap (λ (k : Kept g.row.T.Denot g.row.U.Denot g.row.F.Denot g.row.G.Denot). (k.config).variant) c.domain.view_is ∙ (single-parts c.args.domain.now c.requires.single_valued).0) (ap (λ (k : Kept g.row.T.Denot g.row.U.Denot g.row.F.Denot g.row.G.Denot). (k.config).units_per_element) c.domain.view_is ∙ (single-parts c.args.domain.now c.requires.single_valued).1)) _ c.cell_at_mut.ensures.value in (
-      (refl, λ w. lent-is {T = g.row.T.Denot} {U = g.row.U.Denot} c.domain.inside.state _ c.domain.invariant c.args.domain.now c.domain.view_is c.args.sample.now.loan.number (c.find_live_loan-at.ensures).loan (c.find_live_loan-at.ensures).is_out (first_cell_changed w) (cell-lends {T = g.row.T.Denot} {U = g.row.U.Denot} c.domain.inside.state c.domain.invariant c.args.sample.now.loan.publisher c.args.sample.now.loan.number c.find_live_loan-at.result.book c.find_live_loan-at.result.slot c.find_live_loan-at.ensures (unwritten-out {T = g.row.T.Denot} {U = g.row.U.Denot} _ c.args.domain.now c.domain.view_is c.args.sample.now c.requires.live) w) (with_cell c.args.domain.now c.args.sample.now.loan.number w) (cell-word c.args.domain.now c.args.sample.now.loan.number w)),
+    let out = unwritten-out {T = g.row.T.Denot} {U = g.row.U.Denot} _ c.args.domain.now c.domain.view_is c.args.sample.now c.requires.live in
+    let one = one-cell {T = g.row.T.Denot} {U = g.row.U.Denot} c.domain.inside.state c.domain.invariant c.args.sample.now.loan.publisher c.args.sample.now.loan.number c.find_live_loan-at.result.book c.find_live_loan-at.result.slot c.find_live_loan-at.ensures (ap (λ (k : Kept g.row.T.Denot g.row.U.Denot g.row.F.Denot g.row.G.Denot). (k.config).variant) c.domain.view_is ∙ (single-parts c.args.domain.now c.requires.single_valued).0) (ap (λ (k : Kept g.row.T.Denot g.row.U.Denot g.row.F.Denot g.row.G.Denot). (k.config).units_per_element) c.domain.view_is ∙ (single-parts c.args.domain.now c.requires.single_valued).1) in
+    let known = cell-known {T = g.row.T.Denot} {U = g.row.U.Denot} c.domain.inside.state c.domain.invariant c.args.sample.now.loan.publisher c.args.sample.now.loan.number c.find_live_loan-at.result.book c.find_live_loan-at.result.slot c.find_live_loan-at.ensures out one _ c.cell_at_mut.ensures.value in
+    let lent = λ (w : Option g.row.T.Denot). was-lent {T = g.row.T.Denot} {U = g.row.U.Denot} c.domain.inside.state _ c.domain.invariant c.args.domain.now c.domain.view_is c.args.sample.now.loan.number (c.find_live_loan-at.ensures).loan (c.find_live_loan-at.ensures).is_out (first_cell_changed w) (cell-lends {T = g.row.T.Denot} {U = g.row.U.Denot} c.domain.inside.state c.domain.invariant c.args.sample.now.loan.publisher c.args.sample.now.loan.number c.find_live_loan-at.result.book c.find_live_loan-at.result.slot c.find_live_loan-at.ensures out w) (with_cell c.args.domain.now c.args.sample.now.loan.number w) (cell-word c.args.domain.now c.args.sample.now.loan.number w) in (
+      (refl, λ w. (lent w).is),
       record {
         writes_back = tt;
         same = refl;
         payload = unwritten-reads c.args.domain.now c.args.sample.now c.cell_at_mut.result.now (subst (λ (k : Kept g.row.T.Denot g.row.U.Denot g.row.F.Denot g.row.G.Denot). HasCell (state_of k) c.args.sample.now.loan.number c.cell_at_mut.result.now) c.domain.view_is known);
-        changes = λ m s w shown. lent-shown {T = g.row.T.Denot} {U = g.row.U.Denot} c.domain.inside.state _ c.domain.invariant c.args.domain.now c.domain.view_is c.args.sample.now.loan.number (c.find_live_loan-at.ensures).loan (c.find_live_loan-at.ensures).is_out (first_cell_changed w) (cell-lends {T = g.row.T.Denot} {U = g.row.U.Denot} c.domain.inside.state c.domain.invariant c.args.sample.now.loan.publisher c.args.sample.now.loan.number c.find_live_loan-at.result.book c.find_live_loan-at.result.slot c.find_live_loan-at.ensures (unwritten-out {T = g.row.T.Denot} {U = g.row.U.Denot} _ c.args.domain.now c.domain.view_is c.args.sample.now c.requires.live) w) (with_cell c.args.domain.now c.args.sample.now.loan.number w) (cell-word c.args.domain.now c.args.sample.now.loan.number w) m s shown;
-        out = λ w. lent-unwritten {T = g.row.T.Denot} {U = g.row.U.Denot} c.domain.inside.state _ c.domain.invariant c.args.domain.now c.domain.view_is c.args.sample.now.loan.number (c.find_live_loan-at.ensures).loan (c.find_live_loan-at.ensures).is_out (first_cell_changed w) (cell-lends {T = g.row.T.Denot} {U = g.row.U.Denot} c.domain.inside.state c.domain.invariant c.args.sample.now.loan.publisher c.args.sample.now.loan.number c.find_live_loan-at.result.book c.find_live_loan-at.result.slot c.find_live_loan-at.ensures (unwritten-out {T = g.row.T.Denot} {U = g.row.U.Denot} _ c.args.domain.now c.domain.view_is c.args.sample.now c.requires.live) w) (with_cell c.args.domain.now c.args.sample.now.loan.number w) (cell-word c.args.domain.now c.args.sample.now.loan.number w) refl refl c.args.sample.now refl c.requires.live;
-        live = λ never w. lent-unwritten-loan {T = g.row.T.Denot} {U = g.row.U.Denot} c.domain.inside.state _ c.domain.invariant c.args.domain.now c.domain.view_is c.args.sample.now.loan.number (c.find_live_loan-at.ensures).loan (c.find_live_loan-at.ensures).is_out (first_cell_changed w) (cell-lends {T = g.row.T.Denot} {U = g.row.U.Denot} c.domain.inside.state c.domain.invariant c.args.sample.now.loan.publisher c.args.sample.now.loan.number c.find_live_loan-at.result.book c.find_live_loan-at.result.slot c.find_live_loan-at.ensures (unwritten-out {T = g.row.T.Denot} {U = g.row.U.Denot} _ c.args.domain.now c.domain.view_is c.args.sample.now c.requires.live) w) (with_cell c.args.domain.now c.args.sample.now.loan.number w) (cell-word c.args.domain.now c.args.sample.now.loan.number w) refl refl c.args.sample.now refl c.requires.live never;
-        reads = λ w. lent-cells {T = g.row.T.Denot} {U = g.row.U.Denot} c.domain.inside.state _ c.domain.invariant c.args.domain.now c.domain.view_is c.args.sample.now.loan.number (c.find_live_loan-at.ensures).loan (c.find_live_loan-at.ensures).is_out (first_cell_changed w) (cell-lends {T = g.row.T.Denot} {U = g.row.U.Denot} c.domain.inside.state c.domain.invariant c.args.sample.now.loan.publisher c.args.sample.now.loan.number c.find_live_loan-at.result.book c.find_live_loan-at.result.slot c.find_live_loan-at.ensures (unwritten-out {T = g.row.T.Denot} {U = g.row.U.Denot} _ c.args.domain.now c.domain.view_is c.args.sample.now c.requires.live) w) (with_cell c.args.domain.now c.args.sample.now.loan.number w) (cell-word c.args.domain.now c.args.sample.now.loan.number w) c.args.sample.now.loan.number (w ∷ []) refl (one-changed _ w (one-cell {T = g.row.T.Denot} {U = g.row.U.Denot} c.domain.inside.state c.domain.invariant c.args.sample.now.loan.publisher c.args.sample.now.loan.number c.find_live_loan-at.result.book c.find_live_loan-at.result.slot c.find_live_loan-at.ensures (ap (λ (k : Kept g.row.T.Denot g.row.U.Denot g.row.F.Denot g.row.G.Denot). (k.config).variant) c.domain.view_is ∙ (single-parts c.args.domain.now c.requires.single_valued).0) (ap (λ (k : Kept g.row.T.Denot g.row.U.Denot g.row.F.Denot g.row.G.Denot). (k.config).units_per_element) c.domain.view_is ∙ (single-parts c.args.domain.now c.requires.single_valued).1)));
-        header = λ w header. lent-same-header {T = g.row.T.Denot} {U = g.row.U.Denot} c.domain.inside.state _ c.domain.invariant c.args.domain.now c.domain.view_is c.args.sample.now.loan.number (c.find_live_loan-at.ensures).loan (c.find_live_loan-at.ensures).is_out (first_cell_changed w) (cell-lends {T = g.row.T.Denot} {U = g.row.U.Denot} c.domain.inside.state c.domain.invariant c.args.sample.now.loan.publisher c.args.sample.now.loan.number c.find_live_loan-at.result.book c.find_live_loan-at.result.slot c.find_live_loan-at.ensures (unwritten-out {T = g.row.T.Denot} {U = g.row.U.Denot} _ c.args.domain.now c.domain.view_is c.args.sample.now c.requires.live) w) (with_cell c.args.domain.now c.args.sample.now.loan.number w) (cell-word c.args.domain.now c.args.sample.now.loan.number w) refl (unwritten_key c.args.sample.now) refl header;
-        user_header = λ w header. lent-same-user-header {T = g.row.T.Denot} {U = g.row.U.Denot} c.domain.inside.state _ c.domain.invariant c.args.domain.now c.domain.view_is c.args.sample.now.loan.number (c.find_live_loan-at.ensures).loan (c.find_live_loan-at.ensures).is_out (first_cell_changed w) (cell-lends {T = g.row.T.Denot} {U = g.row.U.Denot} c.domain.inside.state c.domain.invariant c.args.sample.now.loan.publisher c.args.sample.now.loan.number c.find_live_loan-at.result.book c.find_live_loan-at.result.slot c.find_live_loan-at.ensures (unwritten-out {T = g.row.T.Denot} {U = g.row.U.Denot} _ c.args.domain.now c.domain.view_is c.args.sample.now c.requires.live) w) (with_cell c.args.domain.now c.args.sample.now.loan.number w) (cell-word c.args.domain.now c.args.sample.now.loan.number w) refl (unwritten_key c.args.sample.now) refl header;
-        waits = λ w. lent-waits {T = g.row.T.Denot} {U = g.row.U.Denot} c.domain.inside.state _ c.domain.invariant c.args.domain.now c.domain.view_is c.args.sample.now.loan.number (c.find_live_loan-at.ensures).loan (c.find_live_loan-at.ensures).is_out (first_cell_changed w) (cell-lends {T = g.row.T.Denot} {U = g.row.U.Denot} c.domain.inside.state c.domain.invariant c.args.sample.now.loan.publisher c.args.sample.now.loan.number c.find_live_loan-at.result.book c.find_live_loan-at.result.slot c.find_live_loan-at.ensures (unwritten-out {T = g.row.T.Denot} {U = g.row.U.Denot} _ c.args.domain.now c.domain.view_is c.args.sample.now c.requires.live) w) (with_cell c.args.domain.now c.args.sample.now.loan.number w) (cell-word c.args.domain.now c.args.sample.now.loan.number w);
-        up_to_date = λ w. lent-leaves {T = g.row.T.Denot} {U = g.row.U.Denot} c.domain.inside.state _ c.domain.invariant c.args.domain.now c.domain.view_is c.args.sample.now.loan.number (c.find_live_loan-at.ensures).loan (c.find_live_loan-at.ensures).is_out (first_cell_changed w) (cell-lends {T = g.row.T.Denot} {U = g.row.U.Denot} c.domain.inside.state c.domain.invariant c.args.sample.now.loan.publisher c.args.sample.now.loan.number c.find_live_loan-at.result.book c.find_live_loan-at.result.slot c.find_live_loan-at.ensures (unwritten-out {T = g.row.T.Denot} {U = g.row.U.Denot} _ c.args.domain.now c.domain.view_is c.args.sample.now c.requires.live) w) (with_cell c.args.domain.now c.args.sample.now.loan.number w) (cell-word c.args.domain.now c.args.sample.now.loan.number w);
-        loans_left = λ w. lent-left {T = g.row.T.Denot} {U = g.row.U.Denot} c.domain.inside.state _ c.domain.invariant c.args.domain.now c.domain.view_is c.args.sample.now.loan.number (c.find_live_loan-at.ensures).loan (c.find_live_loan-at.ensures).is_out (first_cell_changed w) (cell-lends {T = g.row.T.Denot} {U = g.row.U.Denot} c.domain.inside.state c.domain.invariant c.args.sample.now.loan.publisher c.args.sample.now.loan.number c.find_live_loan-at.result.book c.find_live_loan-at.result.slot c.find_live_loan-at.ensures (unwritten-out {T = g.row.T.Denot} {U = g.row.U.Denot} _ c.args.domain.now c.domain.view_is c.args.sample.now c.requires.live) w) (with_cell c.args.domain.now c.args.sample.now.loan.number w) (cell-word c.args.domain.now c.args.sample.now.loan.number w);
-        stays = λ w. lent-stays {T = g.row.T.Denot} {U = g.row.U.Denot} c.domain.inside.state _ c.domain.invariant c.args.domain.now c.domain.view_is c.args.sample.now.loan.number (c.find_live_loan-at.ensures).loan (c.find_live_loan-at.ensures).is_out (first_cell_changed w) (cell-lends {T = g.row.T.Denot} {U = g.row.U.Denot} c.domain.inside.state c.domain.invariant c.args.sample.now.loan.publisher c.args.sample.now.loan.number c.find_live_loan-at.result.book c.find_live_loan-at.result.slot c.find_live_loan-at.ensures (unwritten-out {T = g.row.T.Denot} {U = g.row.U.Denot} _ c.args.domain.now c.domain.view_is c.args.sample.now c.requires.live) w) (with_cell c.args.domain.now c.args.sample.now.loan.number w) (cell-word c.args.domain.now c.args.sample.now.loan.number w);
+        changes = λ m s w shown. (lent w).shown m s shown;
+        out = λ w. (lent w).unwritten refl refl c.args.sample.now refl c.requires.live;
+        live = λ never w. record { out = (lent w).unwritten refl refl c.args.sample.now refl c.requires.live; never_waits = ((lent w).stays).never_wait (unwritten_key c.args.sample.now) never };
+        reads = λ w. (lent w).cells (w ∷ []) (one-changed _ w one);
+        header = λ w header. (lent w).same_header refl (unwritten_key c.args.sample.now) refl header;
+        user_header = λ w header. (lent w).same_user_header refl (unwritten_key c.args.sample.now) refl header;
+        waits = λ w. (lent w).waits;
+        up_to_date = λ w. (lent w).up_to_date;
+        loans_left = λ w. (lent w).loans_left;
+        stays = λ w. (lent w).stays;
       },
     )

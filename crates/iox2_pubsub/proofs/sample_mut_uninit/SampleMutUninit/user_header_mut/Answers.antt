@@ -5,7 +5,7 @@ use Rattle.iox2_pubsub.specs.ChangedLoans.{with_user_header}
 use Rattle.iox2_pubsub.specs.Live.{unwritten_key}
 use Rattle.iox2_pubsub.proofs.LiveParts.{loan-user-header}
 use Rattle.iox2_pubsub.proofs.LoanHandles.{loan-out}
-use Rattle.iox2_pubsub.proofs.LentHandles.{user_header-word, header-there, header-known, header-lends, lent-is, lent-header, lent-shown, lent-unwritten, lent-unwritten-loan, lent-stays, lent-left, lent-same-cells, lent-same-header, lent-waits, lent-leaves}
+use Rattle.iox2_pubsub.proofs.LentHandles.{user_header-word, header-there, header-known, header-lends, was-lent}
 use Rattle.iox2_pubsub.proofs.sample_mut_uninit.SampleMutUninit.user_header_mut.Goals as goal
 
 pub find_live_loan-at-requires-clause-live : goal.find_live_loan-at-requires-clause-live
@@ -19,21 +19,22 @@ invariant_of-domain-lent g c = λ w. (header-lends {T = g.row.T.Denot} {U = g.ro
 
 pub returns : goal.returns
 returns g c =
-    let known = header-known {T = g.row.T.Denot} {U = g.row.U.Denot} c.domain.inside.state c.domain.invariant c.args.sample.now.loan.publisher c.args.sample.now.loan.number c.find_live_loan-at.result.book c.find_live_loan-at.result.slot c.find_live_loan-at.ensures _ c.user_header_at_mut.ensures.value in (
-      (refl, λ w. lent-is {T = g.row.T.Denot} {U = g.row.U.Denot} c.domain.inside.state _ c.domain.invariant c.args.domain.now c.domain.view_is c.args.sample.now.loan.number (c.find_live_loan-at.ensures).loan (c.find_live_loan-at.ensures).is_out (user_header_changed w) (header-lends {T = g.row.T.Denot} {U = g.row.U.Denot} c.domain.inside.state c.domain.invariant c.args.sample.now.loan.publisher c.args.sample.now.loan.number c.find_live_loan-at.result.book c.find_live_loan-at.result.slot c.find_live_loan-at.ensures w) (with_user_header c.args.domain.now c.args.sample.now.loan.number w) (user_header-word c.args.domain.now c.args.sample.now.loan.number w)),
+    let known = header-known {T = g.row.T.Denot} {U = g.row.U.Denot} c.domain.inside.state c.domain.invariant c.args.sample.now.loan.publisher c.args.sample.now.loan.number c.find_live_loan-at.result.book c.find_live_loan-at.result.slot c.find_live_loan-at.ensures _ c.user_header_at_mut.ensures.value in
+    let lent = λ (w : g.row.U.Denot). was-lent {T = g.row.T.Denot} {U = g.row.U.Denot} c.domain.inside.state _ c.domain.invariant c.args.domain.now c.domain.view_is c.args.sample.now.loan.number (c.find_live_loan-at.ensures).loan (c.find_live_loan-at.ensures).is_out (user_header_changed w) (header-lends {T = g.row.T.Denot} {U = g.row.U.Denot} c.domain.inside.state c.domain.invariant c.args.sample.now.loan.publisher c.args.sample.now.loan.number c.find_live_loan-at.result.book c.find_live_loan-at.result.slot c.find_live_loan-at.ensures w) (with_user_header c.args.domain.now c.args.sample.now.loan.number w) (user_header-word c.args.domain.now c.args.sample.now.loan.number w) in (
+      (refl, λ w. (lent w).is),
       record {
         writes_back = tt;
         same = refl;
         user_header = loan-user-header c.args.domain.now (unwritten_key c.args.sample.now) c.user_header_at_mut.result.now (subst (λ (k : Kept g.row.T.Denot g.row.U.Denot g.row.F.Denot g.row.G.Denot). HasLoanUserHeader (state_of k) c.args.sample.now.loan.number c.user_header_at_mut.result.now) c.domain.view_is known);
-        changes = λ m s w shown. lent-shown {T = g.row.T.Denot} {U = g.row.U.Denot} c.domain.inside.state _ c.domain.invariant c.args.domain.now c.domain.view_is c.args.sample.now.loan.number (c.find_live_loan-at.ensures).loan (c.find_live_loan-at.ensures).is_out (user_header_changed w) (header-lends {T = g.row.T.Denot} {U = g.row.U.Denot} c.domain.inside.state c.domain.invariant c.args.sample.now.loan.publisher c.args.sample.now.loan.number c.find_live_loan-at.result.book c.find_live_loan-at.result.slot c.find_live_loan-at.ensures w) (with_user_header c.args.domain.now c.args.sample.now.loan.number w) (user_header-word c.args.domain.now c.args.sample.now.loan.number w) m s shown;
-        out = λ w. lent-unwritten {T = g.row.T.Denot} {U = g.row.U.Denot} c.domain.inside.state _ c.domain.invariant c.args.domain.now c.domain.view_is c.args.sample.now.loan.number (c.find_live_loan-at.ensures).loan (c.find_live_loan-at.ensures).is_out (user_header_changed w) (header-lends {T = g.row.T.Denot} {U = g.row.U.Denot} c.domain.inside.state c.domain.invariant c.args.sample.now.loan.publisher c.args.sample.now.loan.number c.find_live_loan-at.result.book c.find_live_loan-at.result.slot c.find_live_loan-at.ensures w) (with_user_header c.args.domain.now c.args.sample.now.loan.number w) (user_header-word c.args.domain.now c.args.sample.now.loan.number w) refl refl c.args.sample.now refl c.requires.live;
-        live = λ never w. lent-unwritten-loan {T = g.row.T.Denot} {U = g.row.U.Denot} c.domain.inside.state _ c.domain.invariant c.args.domain.now c.domain.view_is c.args.sample.now.loan.number (c.find_live_loan-at.ensures).loan (c.find_live_loan-at.ensures).is_out (user_header_changed w) (header-lends {T = g.row.T.Denot} {U = g.row.U.Denot} c.domain.inside.state c.domain.invariant c.args.sample.now.loan.publisher c.args.sample.now.loan.number c.find_live_loan-at.result.book c.find_live_loan-at.result.slot c.find_live_loan-at.ensures w) (with_user_header c.args.domain.now c.args.sample.now.loan.number w) (user_header-word c.args.domain.now c.args.sample.now.loan.number w) refl refl c.args.sample.now refl c.requires.live never;
-        is = λ w. lent-header {T = g.row.T.Denot} {U = g.row.U.Denot} c.domain.inside.state _ c.domain.invariant c.args.domain.now c.domain.view_is c.args.sample.now.loan.number (c.find_live_loan-at.ensures).loan (c.find_live_loan-at.ensures).is_out (user_header_changed w) (header-lends {T = g.row.T.Denot} {U = g.row.U.Denot} c.domain.inside.state c.domain.invariant c.args.sample.now.loan.publisher c.args.sample.now.loan.number c.find_live_loan-at.result.book c.find_live_loan-at.result.slot c.find_live_loan-at.ensures w) (with_user_header c.args.domain.now c.args.sample.now.loan.number w) (user_header-word c.args.domain.now c.args.sample.now.loan.number w) (unwritten_key c.args.sample.now) w refl refl;
-        reads = λ w. lent-same-cells {T = g.row.T.Denot} {U = g.row.U.Denot} c.domain.inside.state _ c.domain.invariant c.args.domain.now c.domain.view_is c.args.sample.now.loan.number (c.find_live_loan-at.ensures).loan (c.find_live_loan-at.ensures).is_out (user_header_changed w) (header-lends {T = g.row.T.Denot} {U = g.row.U.Denot} c.domain.inside.state c.domain.invariant c.args.sample.now.loan.publisher c.args.sample.now.loan.number c.find_live_loan-at.result.book c.find_live_loan-at.result.slot c.find_live_loan-at.ensures w) (with_user_header c.args.domain.now c.args.sample.now.loan.number w) (user_header-word c.args.domain.now c.args.sample.now.loan.number w) refl c.args.sample.now.loan.number refl;
-        header = λ w header. lent-same-header {T = g.row.T.Denot} {U = g.row.U.Denot} c.domain.inside.state _ c.domain.invariant c.args.domain.now c.domain.view_is c.args.sample.now.loan.number (c.find_live_loan-at.ensures).loan (c.find_live_loan-at.ensures).is_out (user_header_changed w) (header-lends {T = g.row.T.Denot} {U = g.row.U.Denot} c.domain.inside.state c.domain.invariant c.args.sample.now.loan.publisher c.args.sample.now.loan.number c.find_live_loan-at.result.book c.find_live_loan-at.result.slot c.find_live_loan-at.ensures w) (with_user_header c.args.domain.now c.args.sample.now.loan.number w) (user_header-word c.args.domain.now c.args.sample.now.loan.number w) refl (unwritten_key c.args.sample.now) refl header;
-        waits = λ w. lent-waits {T = g.row.T.Denot} {U = g.row.U.Denot} c.domain.inside.state _ c.domain.invariant c.args.domain.now c.domain.view_is c.args.sample.now.loan.number (c.find_live_loan-at.ensures).loan (c.find_live_loan-at.ensures).is_out (user_header_changed w) (header-lends {T = g.row.T.Denot} {U = g.row.U.Denot} c.domain.inside.state c.domain.invariant c.args.sample.now.loan.publisher c.args.sample.now.loan.number c.find_live_loan-at.result.book c.find_live_loan-at.result.slot c.find_live_loan-at.ensures w) (with_user_header c.args.domain.now c.args.sample.now.loan.number w) (user_header-word c.args.domain.now c.args.sample.now.loan.number w);
-        up_to_date = λ w. lent-leaves {T = g.row.T.Denot} {U = g.row.U.Denot} c.domain.inside.state _ c.domain.invariant c.args.domain.now c.domain.view_is c.args.sample.now.loan.number (c.find_live_loan-at.ensures).loan (c.find_live_loan-at.ensures).is_out (user_header_changed w) (header-lends {T = g.row.T.Denot} {U = g.row.U.Denot} c.domain.inside.state c.domain.invariant c.args.sample.now.loan.publisher c.args.sample.now.loan.number c.find_live_loan-at.result.book c.find_live_loan-at.result.slot c.find_live_loan-at.ensures w) (with_user_header c.args.domain.now c.args.sample.now.loan.number w) (user_header-word c.args.domain.now c.args.sample.now.loan.number w);
-        loans_left = λ w. lent-left {T = g.row.T.Denot} {U = g.row.U.Denot} c.domain.inside.state _ c.domain.invariant c.args.domain.now c.domain.view_is c.args.sample.now.loan.number (c.find_live_loan-at.ensures).loan (c.find_live_loan-at.ensures).is_out (user_header_changed w) (header-lends {T = g.row.T.Denot} {U = g.row.U.Denot} c.domain.inside.state c.domain.invariant c.args.sample.now.loan.publisher c.args.sample.now.loan.number c.find_live_loan-at.result.book c.find_live_loan-at.result.slot c.find_live_loan-at.ensures w) (with_user_header c.args.domain.now c.args.sample.now.loan.number w) (user_header-word c.args.domain.now c.args.sample.now.loan.number w);
-        stays = λ w. lent-stays {T = g.row.T.Denot} {U = g.row.U.Denot} c.domain.inside.state _ c.domain.invariant c.args.domain.now c.domain.view_is c.args.sample.now.loan.number (c.find_live_loan-at.ensures).loan (c.find_live_loan-at.ensures).is_out (user_header_changed w) (header-lends {T = g.row.T.Denot} {U = g.row.U.Denot} c.domain.inside.state c.domain.invariant c.args.sample.now.loan.publisher c.args.sample.now.loan.number c.find_live_loan-at.result.book c.find_live_loan-at.result.slot c.find_live_loan-at.ensures w) (with_user_header c.args.domain.now c.args.sample.now.loan.number w) (user_header-word c.args.domain.now c.args.sample.now.loan.number w);
+        changes = λ m s w shown. (lent w).shown m s shown;
+        out = λ w. (lent w).unwritten refl refl c.args.sample.now refl c.requires.live;
+        live = λ never w. record { out = (lent w).unwritten refl refl c.args.sample.now refl c.requires.live; never_waits = ((lent w).stays).never_wait (unwritten_key c.args.sample.now) never };
+        is = λ w. (lent w).user_header (unwritten_key c.args.sample.now) w refl refl;
+        reads = λ w. (lent w).same_cells refl;
+        header = λ w header. (lent w).same_header refl (unwritten_key c.args.sample.now) refl header;
+        waits = λ w. (lent w).waits;
+        up_to_date = λ w. (lent w).up_to_date;
+        loans_left = λ w. (lent w).loans_left;
+        stays = λ w. (lent w).stays;
       },
     )

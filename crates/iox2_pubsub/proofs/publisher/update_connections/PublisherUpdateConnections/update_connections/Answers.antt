@@ -10,14 +10,12 @@ use Rattle.iox2_domain.specs.Boxes.{answers_of}
 use Rattle.iox2_pubsub.proofs.KeptAnswers.{publisher-updated}
 use Rattle.iox2_laws.proofs.LoanKeeping.{update_publisher_loans}
 use Rattle.iox2_laws.proofs.PortsStay.{update_publisher_stays}
-use Rattle.iox2_laws.proofs.Waits.{update_publisher_waits}
 use Rattle.iox2_domain.specs.Connects.{UpdatesPublisher}
 use Rattle.iox2_domain.specs.Fields.{keeping}
 use Rattle.iox2_pubsub.specs.UpdateCalls.{returned_failure}
 use Rattle.iox2_pubsub.specs.Live.{No_item, publisher_key}
 use Rattle.iox2_pubsub.proofs.PlacedHandles.{publisher-at-place}
 use Rattle.iox2_pubsub.proofs.CallsStay.{always-shown}
-use Rattle.iox2_pubsub.proofs.StaysBut.{IsSpared}
 use Rattle.iox2_pubsub.proofs.UpdateShown.{publisher-update-shows}
 use Rattle.iox2_pubsub.proofs.UpdatesStay.{updates-stay}
 use Rattle.iox2_pubsub.proofs.WaitingShown.{publisher-update-adds}

@@ -1,4 +1,4 @@
-use Rattle.std.proofs.Common.{◌≡◌, false, refl, subst, sym}
+use Rattle.std.proofs.Common.{List, Option, ◌≡◌, false, refl, subst, sym}
 use Rattle.iox2_store.specs.SingleValues.{is_single_valued}
 use Rattle.iox2_domain.specs.Fields.{kept_of}
 use Rattle.iox2_domain.specs.Kept.{Kept, state_of}
@@ -7,7 +7,7 @@ use Rattle.iox2_pubsub.specs.Live.{unwritten_key}
 use Rattle.iox2_pubsub.proofs.LoanHandles.{unwritten-out, loan-out}
 use Rattle.iox2_pubsub.proofs.SliceParts.{sliced-parts, has-cells}
 use Rattle.iox2_pubsub.specs.ChangedLoans.{with_cells}
-use Rattle.iox2_pubsub.proofs.LentHandles.{cells-word, cells-there, cells-known, cells-lends, lent-is, lent-shown, lent-stays, lent-unwritten, lent-unwritten-loan, lent-left, lent-cells, cells-left, lent-same-header, lent-same-user-header, lent-waits, lent-leaves}
+use Rattle.iox2_pubsub.proofs.LentHandles.{cells-word, cells-there, cells-known, cells-lends, cells-left, was-lent}
 use Rattle.iox2_pubsub.proofs.slice.sample_mut_uninit.SampleMutUninit.payload_mut.Goals as goal
 
 pub find_live_loan-at-requires-clause-live : goal.find_live_loan-at-requires-clause-live
@@ -21,21 +21,23 @@ invariant_of-domain-lent g c = λ w. (cells-lends {T = g.row.T.Denot} {U = g.row
 
 pub returns : goal.returns
 returns g c =
-    let known = cells-known {T = g.row.T.Denot} {U = g.row.U.Denot} c.domain.inside.state c.domain.invariant c.args.sample.now.sample.loan.publisher c.args.sample.now.sample.loan.number c.find_live_loan-at.result.book c.find_live_loan-at.result.slot c.find_live_loan-at.ensures (unwritten-out {T = g.row.T.Denot} {U = g.row.U.Denot} _ c.args.domain.now c.domain.view_is c.args.sample.now.sample c.requires.live) _ c.cells_at_mut.ensures.value in (
-      (refl, λ w. lent-is {T = g.row.T.Denot} {U = g.row.U.Denot} c.domain.inside.state _ c.domain.invariant c.args.domain.now c.domain.view_is c.args.sample.now.sample.loan.number (c.find_live_loan-at.ensures).loan (c.find_live_loan-at.ensures).is_out (cells_changed w) (cells-lends {T = g.row.T.Denot} {U = g.row.U.Denot} c.domain.inside.state c.domain.invariant c.args.sample.now.sample.loan.publisher c.args.sample.now.sample.loan.number c.find_live_loan-at.result.book c.find_live_loan-at.result.slot c.find_live_loan-at.ensures (unwritten-out {T = g.row.T.Denot} {U = g.row.U.Denot} _ c.args.domain.now c.domain.view_is c.args.sample.now.sample c.requires.live) w) (with_cells c.args.domain.now c.args.sample.now.sample.loan.number w) (cells-word c.args.domain.now c.args.sample.now.sample.loan.number w)),
+    let out = unwritten-out {T = g.row.T.Denot} {U = g.row.U.Denot} _ c.args.domain.now c.domain.view_is c.args.sample.now.sample c.requires.live in
+    let known = cells-known {T = g.row.T.Denot} {U = g.row.U.Denot} c.domain.inside.state c.domain.invariant c.args.sample.now.sample.loan.publisher c.args.sample.now.sample.loan.number c.find_live_loan-at.result.book c.find_live_loan-at.result.slot c.find_live_loan-at.ensures out _ c.cells_at_mut.ensures.value in
+    let lent = λ (w : List (Option g.row.T.Denot)). was-lent {T = g.row.T.Denot} {U = g.row.U.Denot} c.domain.inside.state _ c.domain.invariant c.args.domain.now c.domain.view_is c.args.sample.now.sample.loan.number (c.find_live_loan-at.ensures).loan (c.find_live_loan-at.ensures).is_out (cells_changed w) (cells-lends {T = g.row.T.Denot} {U = g.row.U.Denot} c.domain.inside.state c.domain.invariant c.args.sample.now.sample.loan.publisher c.args.sample.now.sample.loan.number c.find_live_loan-at.result.book c.find_live_loan-at.result.slot c.find_live_loan-at.ensures out w) (with_cells c.args.domain.now c.args.sample.now.sample.loan.number w) (cells-word c.args.domain.now c.args.sample.now.sample.loan.number w) in (
+      (refl, λ w. (lent w).is),
       record {
         writes_back = tt;
         same = refl;
         payload = has-cells c.args.domain.now c.args.sample.now.sample.loan.number c.cells_at_mut.result.now (subst (λ (k : Kept g.row.T.Denot g.row.U.Denot g.row.F.Denot g.row.G.Denot). HasCells (state_of k) c.args.sample.now.sample.loan.number c.cells_at_mut.result.now) c.domain.view_is known);
-        changes = λ m s w shown. lent-shown {T = g.row.T.Denot} {U = g.row.U.Denot} c.domain.inside.state _ c.domain.invariant c.args.domain.now c.domain.view_is c.args.sample.now.sample.loan.number (c.find_live_loan-at.ensures).loan (c.find_live_loan-at.ensures).is_out (cells_changed w) (cells-lends {T = g.row.T.Denot} {U = g.row.U.Denot} c.domain.inside.state c.domain.invariant c.args.sample.now.sample.loan.publisher c.args.sample.now.sample.loan.number c.find_live_loan-at.result.book c.find_live_loan-at.result.slot c.find_live_loan-at.ensures (unwritten-out {T = g.row.T.Denot} {U = g.row.U.Denot} _ c.args.domain.now c.domain.view_is c.args.sample.now.sample c.requires.live) w) (with_cells c.args.domain.now c.args.sample.now.sample.loan.number w) (cells-word c.args.domain.now c.args.sample.now.sample.loan.number w) m s shown;
-        out = λ w. lent-unwritten {T = g.row.T.Denot} {U = g.row.U.Denot} c.domain.inside.state _ c.domain.invariant c.args.domain.now c.domain.view_is c.args.sample.now.sample.loan.number (c.find_live_loan-at.ensures).loan (c.find_live_loan-at.ensures).is_out (cells_changed w) (cells-lends {T = g.row.T.Denot} {U = g.row.U.Denot} c.domain.inside.state c.domain.invariant c.args.sample.now.sample.loan.publisher c.args.sample.now.sample.loan.number c.find_live_loan-at.result.book c.find_live_loan-at.result.slot c.find_live_loan-at.ensures (unwritten-out {T = g.row.T.Denot} {U = g.row.U.Denot} _ c.args.domain.now c.domain.view_is c.args.sample.now.sample c.requires.live) w) (with_cells c.args.domain.now c.args.sample.now.sample.loan.number w) (cells-word c.args.domain.now c.args.sample.now.sample.loan.number w) refl refl c.args.sample.now.sample refl c.requires.live;
-        live = λ never w. lent-unwritten-loan {T = g.row.T.Denot} {U = g.row.U.Denot} c.domain.inside.state _ c.domain.invariant c.args.domain.now c.domain.view_is c.args.sample.now.sample.loan.number (c.find_live_loan-at.ensures).loan (c.find_live_loan-at.ensures).is_out (cells_changed w) (cells-lends {T = g.row.T.Denot} {U = g.row.U.Denot} c.domain.inside.state c.domain.invariant c.args.sample.now.sample.loan.publisher c.args.sample.now.sample.loan.number c.find_live_loan-at.result.book c.find_live_loan-at.result.slot c.find_live_loan-at.ensures (unwritten-out {T = g.row.T.Denot} {U = g.row.U.Denot} _ c.args.domain.now c.domain.view_is c.args.sample.now.sample c.requires.live) w) (with_cells c.args.domain.now c.args.sample.now.sample.loan.number w) (cells-word c.args.domain.now c.args.sample.now.sample.loan.number w) refl refl c.args.sample.now.sample refl c.requires.live never;
-        reads = λ w same. lent-cells {T = g.row.T.Denot} {U = g.row.U.Denot} c.domain.inside.state _ c.domain.invariant c.args.domain.now c.domain.view_is c.args.sample.now.sample.loan.number (c.find_live_loan-at.ensures).loan (c.find_live_loan-at.ensures).is_out (cells_changed w) (cells-lends {T = g.row.T.Denot} {U = g.row.U.Denot} c.domain.inside.state c.domain.invariant c.args.sample.now.sample.loan.publisher c.args.sample.now.sample.loan.number c.find_live_loan-at.result.book c.find_live_loan-at.result.slot c.find_live_loan-at.ensures (unwritten-out {T = g.row.T.Denot} {U = g.row.U.Denot} _ c.args.domain.now c.domain.view_is c.args.sample.now.sample c.requires.live) w) (with_cells c.args.domain.now c.args.sample.now.sample.loan.number w) (cells-word c.args.domain.now c.args.sample.now.sample.loan.number w) c.args.sample.now.sample.loan.number w refl (cells-left (state_of (kept_of c.domain.inside.state)) c.args.sample.now.sample.loan.number (c.find_live_loan-at.ensures).loan (c.find_live_loan-at.ensures).is_out c.cells_at_mut.result.now w known same);
-        header = λ w header. lent-same-header {T = g.row.T.Denot} {U = g.row.U.Denot} c.domain.inside.state _ c.domain.invariant c.args.domain.now c.domain.view_is c.args.sample.now.sample.loan.number (c.find_live_loan-at.ensures).loan (c.find_live_loan-at.ensures).is_out (cells_changed w) (cells-lends {T = g.row.T.Denot} {U = g.row.U.Denot} c.domain.inside.state c.domain.invariant c.args.sample.now.sample.loan.publisher c.args.sample.now.sample.loan.number c.find_live_loan-at.result.book c.find_live_loan-at.result.slot c.find_live_loan-at.ensures (unwritten-out {T = g.row.T.Denot} {U = g.row.U.Denot} _ c.args.domain.now c.domain.view_is c.args.sample.now.sample c.requires.live) w) (with_cells c.args.domain.now c.args.sample.now.sample.loan.number w) (cells-word c.args.domain.now c.args.sample.now.sample.loan.number w) refl (unwritten_key c.args.sample.now.sample) refl header;
-        user_header = λ w header. lent-same-user-header {T = g.row.T.Denot} {U = g.row.U.Denot} c.domain.inside.state _ c.domain.invariant c.args.domain.now c.domain.view_is c.args.sample.now.sample.loan.number (c.find_live_loan-at.ensures).loan (c.find_live_loan-at.ensures).is_out (cells_changed w) (cells-lends {T = g.row.T.Denot} {U = g.row.U.Denot} c.domain.inside.state c.domain.invariant c.args.sample.now.sample.loan.publisher c.args.sample.now.sample.loan.number c.find_live_loan-at.result.book c.find_live_loan-at.result.slot c.find_live_loan-at.ensures (unwritten-out {T = g.row.T.Denot} {U = g.row.U.Denot} _ c.args.domain.now c.domain.view_is c.args.sample.now.sample c.requires.live) w) (with_cells c.args.domain.now c.args.sample.now.sample.loan.number w) (cells-word c.args.domain.now c.args.sample.now.sample.loan.number w) refl (unwritten_key c.args.sample.now.sample) refl header;
-        waits = λ w. lent-waits {T = g.row.T.Denot} {U = g.row.U.Denot} c.domain.inside.state _ c.domain.invariant c.args.domain.now c.domain.view_is c.args.sample.now.sample.loan.number (c.find_live_loan-at.ensures).loan (c.find_live_loan-at.ensures).is_out (cells_changed w) (cells-lends {T = g.row.T.Denot} {U = g.row.U.Denot} c.domain.inside.state c.domain.invariant c.args.sample.now.sample.loan.publisher c.args.sample.now.sample.loan.number c.find_live_loan-at.result.book c.find_live_loan-at.result.slot c.find_live_loan-at.ensures (unwritten-out {T = g.row.T.Denot} {U = g.row.U.Denot} _ c.args.domain.now c.domain.view_is c.args.sample.now.sample c.requires.live) w) (with_cells c.args.domain.now c.args.sample.now.sample.loan.number w) (cells-word c.args.domain.now c.args.sample.now.sample.loan.number w);
-        up_to_date = λ w. lent-leaves {T = g.row.T.Denot} {U = g.row.U.Denot} c.domain.inside.state _ c.domain.invariant c.args.domain.now c.domain.view_is c.args.sample.now.sample.loan.number (c.find_live_loan-at.ensures).loan (c.find_live_loan-at.ensures).is_out (cells_changed w) (cells-lends {T = g.row.T.Denot} {U = g.row.U.Denot} c.domain.inside.state c.domain.invariant c.args.sample.now.sample.loan.publisher c.args.sample.now.sample.loan.number c.find_live_loan-at.result.book c.find_live_loan-at.result.slot c.find_live_loan-at.ensures (unwritten-out {T = g.row.T.Denot} {U = g.row.U.Denot} _ c.args.domain.now c.domain.view_is c.args.sample.now.sample c.requires.live) w) (with_cells c.args.domain.now c.args.sample.now.sample.loan.number w) (cells-word c.args.domain.now c.args.sample.now.sample.loan.number w);
-        loans_left = λ w. lent-left {T = g.row.T.Denot} {U = g.row.U.Denot} c.domain.inside.state _ c.domain.invariant c.args.domain.now c.domain.view_is c.args.sample.now.sample.loan.number (c.find_live_loan-at.ensures).loan (c.find_live_loan-at.ensures).is_out (cells_changed w) (cells-lends {T = g.row.T.Denot} {U = g.row.U.Denot} c.domain.inside.state c.domain.invariant c.args.sample.now.sample.loan.publisher c.args.sample.now.sample.loan.number c.find_live_loan-at.result.book c.find_live_loan-at.result.slot c.find_live_loan-at.ensures (unwritten-out {T = g.row.T.Denot} {U = g.row.U.Denot} _ c.args.domain.now c.domain.view_is c.args.sample.now.sample c.requires.live) w) (with_cells c.args.domain.now c.args.sample.now.sample.loan.number w) (cells-word c.args.domain.now c.args.sample.now.sample.loan.number w);
-        stays = λ w. lent-stays {T = g.row.T.Denot} {U = g.row.U.Denot} c.domain.inside.state _ c.domain.invariant c.args.domain.now c.domain.view_is c.args.sample.now.sample.loan.number (c.find_live_loan-at.ensures).loan (c.find_live_loan-at.ensures).is_out (cells_changed w) (cells-lends {T = g.row.T.Denot} {U = g.row.U.Denot} c.domain.inside.state c.domain.invariant c.args.sample.now.sample.loan.publisher c.args.sample.now.sample.loan.number c.find_live_loan-at.result.book c.find_live_loan-at.result.slot c.find_live_loan-at.ensures (unwritten-out {T = g.row.T.Denot} {U = g.row.U.Denot} _ c.args.domain.now c.domain.view_is c.args.sample.now.sample c.requires.live) w) (with_cells c.args.domain.now c.args.sample.now.sample.loan.number w) (cells-word c.args.domain.now c.args.sample.now.sample.loan.number w);
+        changes = λ m s w shown. (lent w).shown m s shown;
+        out = λ w. (lent w).unwritten refl refl c.args.sample.now.sample refl c.requires.live;
+        live = λ never w. record { out = (lent w).unwritten refl refl c.args.sample.now.sample refl c.requires.live; never_waits = ((lent w).stays).never_wait (unwritten_key c.args.sample.now.sample) never };
+        reads = λ w same. (lent w).cells w (cells-left (state_of (kept_of c.domain.inside.state)) c.args.sample.now.sample.loan.number (c.find_live_loan-at.ensures).loan (c.find_live_loan-at.ensures).is_out c.cells_at_mut.result.now w known same);
+        header = λ w header. (lent w).same_header refl (unwritten_key c.args.sample.now.sample) refl header;
+        user_header = λ w header. (lent w).same_user_header refl (unwritten_key c.args.sample.now.sample) refl header;
+        waits = λ w. (lent w).waits;
+        up_to_date = λ w. (lent w).up_to_date;
+        loans_left = λ w. (lent w).loans_left;
+        stays = λ w. (lent w).stays;
       },
     )
