@@ -173,6 +173,47 @@ static void bytes_stay_where_they_are(void) {
   IS(iox2_domain_destroy(&domain), IOX2_OK);
 }
 
+/* Of four messages that are out, or borrowed, at a time, each leads to bytes of its own: what is written to one is read
+ * there alone. Later rounds use slots again. */
+static void each_message_has_bytes_of_its_own(void) {
+  enum { MESSAGES = 4, LEN = 24 };
+  iox2_domain_t domain;
+  iox2_config_t config;
+  iox2_publisher_t publishers[2];
+  iox2_subscriber_t subscriber;
+  iox2_loan_t loans[MESSAGES];
+  iox2_sample_t samples[MESSAGES];
+  iox2_blocked_t blocked;
+  void *written[MESSAGES], *again;
+  const void *read[MESSAGES], *read_again;
+  size_t receivers, len;
+  iox2_config_defaults(&config, 7, LEN, 8);
+  create(&domain, &config);
+  for (int i = 0; i < 2; i++) IS(iox2_publisher_create(&domain, &publishers[i]), IOX2_OK);
+  IS(iox2_subscriber_create(&domain, &subscriber), IOX2_OK);
+  for (uint8_t letter = 'a'; letter < 'a' + 3 * MESSAGES; letter += MESSAGES) {
+    for (int i = 0; i < MESSAGES; i++) IS(iox2_publisher_loan(&domain, &publishers[i % 2], LEN, &loans[i], &written[i]), IOX2_OK);
+    for (int i = 0; i < MESSAGES; i++) memset(written[i], letter + i, LEN);
+    for (int i = 0; i < MESSAGES; i++) {
+      CHECK(are_all(written[i], LEN, (uint8_t)(letter + i)));
+      IS(iox2_loan_payload(&domain, &loans[i], &again, &len), IOX2_OK);
+      CHECK(again == written[i] && len == LEN);
+    }
+    for (int i = 0; i < MESSAGES; i++) IS(iox2_loan_send(&domain, &loans[i], &receivers, &blocked), IOX2_OK);
+    for (int i = 0; i < MESSAGES; i++) IS(iox2_subscriber_receive(&domain, &subscriber, &samples[i], &read[i], &len), IOX2_OK);
+    for (int i = 0; i < MESSAGES; i++) {
+      int of = 0;
+      while (of < MESSAGES - 1 && loans[of].number.low != samples[i].number.low) of++;
+      CHECK(loans[of].number.low == samples[i].number.low && loans[of].publisher.low == samples[i].origin.low);
+      CHECK(read[i] == written[of] && are_all(read[i], LEN, (uint8_t)(letter + of)));
+      IS(iox2_sample_payload(&domain, &samples[i], &read_again, &len), IOX2_OK);
+      CHECK(read_again == read[i] && len == LEN);
+    }
+    for (int i = 0; i < MESSAGES; i++) IS(iox2_sample_release(&domain, &samples[i]), IOX2_OK);
+  }
+  IS(iox2_domain_destroy(&domain), IOX2_OK);
+}
+
 /* Whatever else is lent, however short it is, and also where slots are used again. */
 static void payloads_are_aligned_as_the_settings_say(void) {
   for (size_t alignment = 1; alignment <= 16; alignment *= 2) {
@@ -448,6 +489,7 @@ int main(void) {
   a_message_is_written_and_read_where_it_lies();
   a_message_is_copied();
   bytes_stay_where_they_are();
+  each_message_has_bytes_of_its_own();
   payloads_are_aligned_as_the_settings_say();
   a_blocked_send_is_tried_again_and_given_up();
   ports_are_made_with_options();

@@ -6,7 +6,8 @@
  * line of REPLIES: `pubsub_script` has to print the same for the script. So it is seen too that refused calls
  * change nothing.
  *
- * Each message has eight bytes, which are a number that no other message has. */
+ * Each message has eight bytes, which are a number that no other message has. It is read where it lies as soon as it
+ * is received, which is a line of SCRIPT too. */
 #include "iox2_pubsub.h"
 #include <inttypes.h>
 #include <stdio.h>
@@ -282,6 +283,8 @@ static void receive(iox2_domain_t *domain) {
     if (len != 8) fail("a message has another length");
     reply("sample");
     add(SAMPLE, numbers, command, bytes, number_at(bytes));
+    fprintf(script, "read %zu\n", command);
+    reply_number(number_at(bytes));
   }
 }
 
