@@ -84,6 +84,7 @@ static void slices_have_the_length_of_their_loan() {
   auto domain = made(Config<std::uint16_t[]>(3, 100));
   auto publisher = domain.publisher().expect("a publisher");
   auto subscriber = domain.subscriber().expect("a subscriber");
+  CHECK(publisher.initial_max_slice_len() == 100 && publisher.backpressure_strategy() == IOX2_RETRY_UNTIL_DELIVERED);
   auto loan = publisher.loan_slice(3).expect("a loan");
   CHECK(loan.size() == 3 && loan[0] == 0 && loan[2] == 0);
   loan[1] = 5;
@@ -220,6 +221,7 @@ static void full_buffers_are_passed_over_or_fail_the_send() {
   auto discards = domain.publisher(options).expect("a publisher");
   options.backpressure_handler = IOX2_BACKPRESSURE_DISCARD_DATA_AND_FAIL;
   auto fails = domain.publisher(options).expect("a publisher");
+  CHECK(discards.backpressure_strategy() == IOX2_DISCARD_DATA);
   auto subscriber = domain.subscriber().expect("a subscriber");
   CHECK(discards.send_copy(1)->delivered() == std::size_t(1));
   CHECK(discards.send_copy(2)->delivered() == std::size_t(0));
@@ -253,6 +255,52 @@ static void a_late_subscriber_gets_the_history() {
   CHECK(**subscriber.receive().expect("a receive") == 2);
 }
 
+static void a_header_says_where_a_message_comes_from() {
+  Config<std::uint16_t[]> config(13, 3);
+  config.node_id = {6, 5};
+  auto domain = made(config);
+  auto first = domain.publisher().expect("a publisher");
+  auto second = domain.publisher().expect("a publisher");
+  auto subscriber = domain.subscriber().expect("a subscriber");
+  const std::uint16_t values[3] = {1, 2, 3};
+  for (auto *publisher : {&first, &second}) {
+    CHECK(publisher->send_copy(values, 3).has_value());
+    auto sample = *subscriber.receive().expect("a receive");
+    auto header = sample.header().expect("a header");
+    CHECK(header.node_id == iox2::Id{6, 5} && header.publisher == publisher->id() && header.number_of_elements == 3);
+    sample.release();
+    CHECK(sample.header().error() == Error::NotLive);
+  }
+}
+
+static void connections_and_books_are_counted() {
+  auto domain = made(Config<int>(14));
+  CHECK(domain.connection_count() == 0 && domain.book_count() == 0);
+  auto publisher = domain.publisher().expect("a publisher");
+  auto subscriber = domain.subscriber().expect("a subscriber");
+  CHECK(publisher.send_copy(1).has_value());
+  CHECK(domain.connection_count() == 1 && domain.book_count() == 1);
+  auto sample = *subscriber.receive().expect("a receive");
+  publisher.close();
+  CHECK(!subscriber.receive().expect("a receive") && domain.book_count() == 1);
+  sample.release();
+  subscriber.close();
+  CHECK(domain.connection_count() == 0 && domain.book_count() == 0 && domain.refused_connections() == 0);
+}
+
+static void settings_say_how_many_slots_a_publisher_has() {
+  Config<int> config(15);
+  config.max_subscribers = 2;
+  config.subscriber_max_buffer_size = 3;
+  config.subscriber_max_borrowed_samples = 4;
+  config.history_size = 5;
+  config.publisher_max_loaned_samples = 6;
+  CHECK(config.worst_case_slots() == std::size_t(2 * (3 + 4) + 5 + 6));
+  CHECK(config.worst_case_slots(1) == std::size_t(2 * (3 + 4) + 5 + 1));
+  config.max_subscribers = SIZE_MAX;
+  CHECK(!config.worst_case_slots());
+}
+
 static void errors_have_texts() {
   for (std::uint32_t code = 0; code < 130; code++) CHECK(std::strlen(iox2::text(static_cast<Error>(code))) > 0);
   CHECK(std::string(iox2::text(Error::NotLive)) != iox2::text(Error::OutOfMemory));
@@ -271,6 +319,9 @@ int main() {
   full_buffers_are_passed_over_or_fail_the_send();
   a_publisher_asks_for_fewer_slots();
   a_late_subscriber_gets_the_history();
+  a_header_says_where_a_message_comes_from();
+  connections_and_books_are_counted();
+  settings_say_how_many_slots_a_publisher_has();
   errors_have_texts();
   std::printf("%d passed, %d failed\n", passed, failed);
   return failed != 0;

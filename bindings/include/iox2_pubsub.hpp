@@ -118,6 +118,12 @@ struct Id {
   friend bool operator!=(Id a, Id b) { return !(a == b); }
 };
 
+/* Where a message comes from, and how many values it has. */
+struct Header {
+  Id node_id, publisher;
+  std::size_t number_of_elements;
+};
+
 template <typename P> class Domain;
 template <typename P> class Publisher;
 template <typename P> class Subscriber;
@@ -246,6 +252,16 @@ template <typename P> struct Config : iox2_config_t {
   static constexpr std::size_t bytes(std::size_t values) {
     constexpr std::size_t greatest = std::numeric_limits<std::size_t>::max();
     return values > greatest / sizeof(Element) ? greatest - greatest % alignof(Element) : values * sizeof(Element);
+  }
+
+  /* How many slots a publisher has that is made without options, or none where the number doesn't fit. */
+  std::optional<std::size_t> worst_case_slots() const { return worst_case_slots(publisher_max_loaned_samples); }
+
+  /* The same of one with so many loans. */
+  std::optional<std::size_t> worst_case_slots(std::size_t loans) const {
+    std::size_t slots = 0;
+    if (iox2_worst_case_slots(this, loans, &slots) != IOX2_OK) return std::nullopt;
+    return slots;
   }
 };
 
@@ -401,6 +417,16 @@ public:
   Id subscriber() const { return detail::id_of(sample_.subscriber); }
   Id number() const { return detail::id_of(sample_.number); }
 
+  /* Where the message comes from. */
+  Result<Header> header() const {
+    if (!hold_) return Error::NotLive;
+    iox2_header_t header;
+    std::uint32_t code = iox2_sample_header(hold_.domain(), &sample_, &header);
+    if (code != IOX2_OK) return detail::error_of(code);
+    return Header{detail::id_of(header.node_id), detail::id_of(header.publisher),
+                  static_cast<std::size_t>(header.number_of_elements) / sizeof(Element)};
+  }
+
   /* Gives the message back. */
   void release() {
     if (!hold_) return;
@@ -433,6 +459,12 @@ public:
 
   explicit operator bool() const { return static_cast<bool>(hold_); }
   Id id() const { return detail::id_of(port_.id); }
+  iox2_backpressure_strategy_e backpressure_strategy() const {
+    return static_cast<iox2_backpressure_strategy_e>(port_.backpressure_strategy);
+  }
+
+  /* How many values a message may have. */
+  std::size_t initial_max_slice_len() const { return port_.initial_max_slice_len / sizeof(Element); }
 
   /* Lends a message with its default value. */
   template <typename Q = P, std::enable_if_t<!detail::is_slice<Q>, int> = 0> Result<Loan<P>> loan() {
@@ -619,6 +651,19 @@ public:
     iox2_warning_t warning;
     while (iox2_domain_warning(hold_.domain(), all.size(), &warning) == IOX2_OK) all.push_back(warning);
     return all;
+  }
+
+  /* How many connections the domain has, and how many books of slots: that of each publisher, and that of a closed one
+   * until nobody holds a slot of it. */
+  std::size_t connection_count() const {
+    std::size_t count = 0;
+    iox2_domain_connection_count(hold_.domain(), &count);
+    return count;
+  }
+  std::size_t book_count() const {
+    std::size_t count = 0;
+    iox2_domain_book_count(hold_.domain(), &count);
+    return count;
   }
 
   /* How often memory for a connection was refused. */

@@ -87,6 +87,15 @@ impl<P: Payload + ?Sized> Domain<P> {
         count
     }
 
+    /// How many books of slots the domain has: that of each publisher, and that of a closed one until
+    /// nobody holds a slot of it.
+    pub fn book_count(&self) -> usize {
+        let mut count = 0;
+        // SAFETY: see `Shared::at`.
+        expect(unsafe { sys::iox2_domain_book_count(self.shared.at(), &mut count) });
+        count
+    }
+
     /// How often memory for a connection was refused since the domain was made.
     pub fn refused_connections(&self) -> u64 {
         let mut count = 0;
@@ -127,6 +136,12 @@ impl<P: Payload + ?Sized> DomainBuilder<P> {
             config,
             messages: PhantomData,
         }
+    }
+
+    /// The node that the header of each message names; 0 unless it is set.
+    pub fn node_id(mut self, value: u128) -> Self {
+        self.config.node_id = wide(value);
+        self
     }
 
     /// How many publishers may be open at a time.

@@ -50,6 +50,7 @@
 
 mod domain;
 mod errors;
+mod header;
 mod loan;
 mod numbers;
 mod payload;
@@ -68,6 +69,7 @@ pub use errors::{
     ConnectionFailure, DomainCreateError, LoanError, PublisherCreateError, ReceiveError, SendError,
     SubscriberCreateError,
 };
+pub use header::Header;
 pub use loan::{Loan, LoanUninit};
 pub use payload::Payload;
 pub use port_factory::{DegradationAction, PortFactoryPublisher, PortFactorySubscriber};

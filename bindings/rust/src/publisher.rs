@@ -58,6 +58,14 @@ impl<P: Payload + ?Sized> Publisher<P> {
         number(self.port.id)
     }
 
+    /// What it does at a full buffer, where there is no overflow.
+    pub fn backpressure_strategy(&self) -> BackpressureStrategy {
+        match self.port.backpressure_strategy {
+            0 => BackpressureStrategy::RetryUntilDelivered,
+            _ => BackpressureStrategy::DiscardData,
+        }
+    }
+
     /// Whether a send waits for a subscriber whose buffer is full. Nothing is lent or sent meanwhile.
     pub fn is_blocked(&self) -> bool {
         let mut is_blocked = 0;

@@ -1,6 +1,7 @@
 //! A message that was received.
 
 use crate::domain::expect;
+use crate::header::Header;
 use crate::numbers::number;
 use crate::payload::Payload;
 use crate::shared::Shared;
@@ -46,6 +47,14 @@ impl<P: Payload + ?Sized> Sample<P> {
     /// The number of the message: no other message of the domain has it.
     pub fn number(&self) -> u128 {
         number(self.sample.number)
+    }
+
+    /// Where it comes from.
+    pub fn header(&self) -> Header {
+        let mut header = sys::Header::default();
+        // SAFETY: see `Shared::at`.
+        expect(unsafe { sys::iox2_sample_header(self.shared.at(), &self.sample, &mut header) });
+        Header::of(&header, P::SIZE)
     }
 
     /// The message itself.

@@ -375,6 +375,16 @@ fn full_buffers_are_passed_over_or_fail_the_send() {
         .set_backpressure_handler(BackpressureAction::DiscardDataAndFail)
         .create()
         .unwrap();
+    assert_eq!(
+        [
+            discards.backpressure_strategy(),
+            fails.backpressure_strategy()
+        ],
+        [
+            BackpressureStrategy::DiscardData,
+            BackpressureStrategy::RetryUntilDelivered
+        ]
+    );
     let _subscriber = domain.subscriber().unwrap();
     assert_eq!(discards.send_copy(1).unwrap().delivered(), Some(1));
     assert_eq!(discards.send_copy(2).unwrap().delivered(), Some(0));
@@ -406,6 +416,47 @@ fn a_publisher_asks_for_fewer_slots() {
     let _first = worst_case.loan().unwrap();
     let _second = worst_case.loan().unwrap();
     assert_eq!(worst_case.loan().err(), Some(LoanError::ExceedsMaxLoans));
+}
+
+#[test]
+fn a_header_says_where_a_message_comes_from() {
+    let node = 5 << 64 | 6;
+    let domain = Domain::<[u16]>::slice_builder(19).max_slice_len(3);
+    let domain = domain.node_id(node).create().unwrap();
+    let publishers = [domain.publisher().unwrap(), domain.publisher().unwrap()];
+    let subscriber = domain.subscriber().unwrap();
+    for publisher in &publishers {
+        publisher.send_slice_copy(&[1, 2, 3]).unwrap();
+        let header = subscriber.receive().unwrap().unwrap().header();
+        assert_eq!(
+            (header.node_id(), header.publisher_id()),
+            (node, publisher.id())
+        );
+        assert_eq!(header.number_of_elements(), 3);
+    }
+
+    let domain = Domain::<Pose>::builder(20).create().unwrap();
+    let (publisher, subscriber) = (domain.publisher().unwrap(), domain.subscriber().unwrap());
+    publisher.send_copy(pose(1)).unwrap();
+    let header = subscriber.receive().unwrap().unwrap().header();
+    assert_eq!((header.node_id(), header.number_of_elements()), (0, 1));
+}
+
+#[test]
+fn connections_and_books_are_counted() {
+    let domain = Domain::<u8>::builder(21).create().unwrap();
+    assert_eq!((domain.connection_count(), domain.book_count()), (0, 0));
+    let publisher = domain.publisher().unwrap();
+    let subscriber = domain.subscriber().unwrap();
+    publisher.send_copy(1).unwrap();
+    assert_eq!((domain.connection_count(), domain.book_count()), (1, 1));
+    let sample = subscriber.receive().unwrap().unwrap();
+    drop(publisher);
+    assert!(subscriber.receive().unwrap().is_none());
+    assert_eq!(domain.book_count(), 1);
+    drop((sample, subscriber));
+    assert_eq!((domain.connection_count(), domain.book_count()), (0, 0));
+    assert_eq!(domain.refused_connections(), 0);
 }
 
 #[test]

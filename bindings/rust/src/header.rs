@@ -1,0 +1,39 @@
+//! Where a message comes from.
+
+use crate::numbers::number;
+use crate::sys;
+
+/// Where a message comes from, and how many elements it has.
+#[derive(Clone, Copy, Debug, PartialEq, Eq, Hash)]
+pub struct Header {
+    node_id: u128,
+    publisher_id: u128,
+    number_of_elements: usize,
+}
+
+impl Header {
+    // Of a message whose elements have so many bytes each. One of no size is the only one.
+    pub(crate) fn of(header: &sys::Header, size: usize) -> Header {
+        let bytes = header.number_of_elements as usize;
+        Header {
+            node_id: number(header.node_id),
+            publisher_id: number(header.publisher),
+            number_of_elements: bytes.checked_div(size).unwrap_or(1),
+        }
+    }
+
+    /// The node that the settings of the domain name.
+    pub fn node_id(&self) -> u128 {
+        self.node_id
+    }
+
+    /// The id of the publisher that sent it.
+    pub fn publisher_id(&self) -> u128 {
+        self.publisher_id
+    }
+
+    /// How many values a slice has; 1 of a single value.
+    pub fn number_of_elements(&self) -> usize {
+        self.number_of_elements
+    }
+}
