@@ -1,20 +1,19 @@
 -- What waits in a connection is lost, one slot after the other.
-use Rattle.std.proofs.Common.{◌≡◌, ℕ, Bool, ◌<◌, List, [], length, None, Some, get_or, refl, ap, sym, ◌∙◌, arith}
+use Rattle.std.proofs.Common.{◌≡◌, ℕ, ◌<◌, List, [], length, None, Some, get_or, refl, ap, sym, ◌∙◌, arith}
 use Rattle.std.proofs.lemmas.List.{length-set}
 use Rattle.std.specs.Prelude.{IsSomeAnd}
 use Rattle.slab.specs.Slab.{Slab, ContainsKey, get, Updates, with_value}
 use Rattle.iox2_slots.specs.Link.{Link, IsDropped, borrowed_alone}
 use Rattle.iox2_store.specs.machine.Mailbox.{Mailbox, waiting_dropped}
-use Rattle.iox2_slots.specs.declared.connection.Home.{Home}
 use Rattle.iox2_ends.specs.Mailboxes.{mailbox_of, mailboxes_of, with_box}
 use Rattle.iox2_ends.specs.Homes.{IsApart, fixed_of}
 use Rattle.iox2_ends.specs.Counters.{stands_in, one_holder_less}
 use Rattle.iox2_ends.specs.Recounts.{Recounts}
 use Rattle.iox2_ends.specs.Drops.{DropsFrom, DropsWaiting, EmptiesFrom, DropsAll, RemovesConnection, without_waiting}
 use Rattle.iox2_ends.specs.Reclaims.{IsHeld, ReclaimsFrom}
-use Rattle.iox2_ends.proofs.MailboxChanges.{Updates-with_value, SameHomes-updated, KeepsOthers-updated, mailbox-there, mailboxes-changed}
-use Rattle.iox2_ends.proofs.Counts.{one_if_same, times-cons, get_or-one_holder_less, CountersFollow-changed}
-use Rattle.iox2_ends.proofs.Recounts.{returned-updated}
+use Rattle.iox2_ends.proofs.MailboxChanges.{Updates-with_value, mailbox-there, mailboxes-changed}
+use Rattle.iox2_ends.proofs.Counts.{one_if_same, times-cons, get_or-one_holder_less}
+use Rattle.iox2_ends.proofs.Recounts.{Recounts-one}
 use Rattle.iox2_ends.proofs.ReclaimSteps.{own-at}
 
 -- ---- from one connection
@@ -81,14 +80,7 @@ drops-at p hs hs' slab key c d apart own at r is = record {
       ∙ ap (λ (q : ℕ). with_box (mailboxes_of number slab) q c.home.subscriber (mailbox_of (number q) d)) mine
       ∙ ap (with_box (mailboxes_of number slab) p c.home.subscriber)
       (ap (mailbox_of (number p)) is ∙ ap waiting_dropped (sym (mailbox-there number slab key p c.home.subscriber c apart at mine refl)));
-  recounts = record {
-    homes = SameHomes-updated slab (with_value slab key d) key c d at fixed u;
-    others = KeepsOthers-updated p slab (with_value slab key d) key c (Some d) at mine u;
-    counters = CountersFollow-changed p hs hs' slab.slots key c d at mine (ap (λ (t : Home × ℕ × ℕ × Bool). t.0.publisher) fixed ∙ mine) r.counters;
-    slots = r.slots;
-    in_use = λ n some. omega (arith, r.shrinks n, some);
-    fewer = returned-updated slab (with_value slab key d) key c d at r.fewer u;
-  };
+  recounts = Recounts-one p hs hs' slab key c d at mine fixed r.counters r.slots (λ n some. omega (arith, r.shrinks n, some)) r.fewer;
   shrinks = r.shrinks;
 }
   where
@@ -116,20 +108,8 @@ removes-at p hs hs' old mid new key unused drops gone = record { mid = mid; drop
 
 -- slots that went from one connection went from its publisher's
 pub drops-recount : (p : ℕ) (hs hs' : List ℕ) (slab : Slab Link) (key : ℕ) (c d : Link) → get slab key ≡ Some c → c.home.publisher ≡ p → DropsFrom hs c hs' d → Recounts p hs slab hs' (with_value slab key d)
-drops-recount p hs hs' slab key c d at mine drops = record {
-  homes = SameHomes-updated slab (with_value slab key d) key c d at fixed u;
-  others = KeepsOthers-updated p slab (with_value slab key d) key c (Some d) at mine u;
-  counters = CountersFollow-changed p hs hs' slab.slots key c d at mine (ap (λ (t : Home × ℕ × ℕ × Bool). t.0.publisher) fixed ∙ mine) drops.counters;
-  slots = drops.slots;
-  in_use = λ n some. omega (arith, drops.shrinks n, some);
-  fewer = returned-updated slab (with_value slab key d) key c d at (rw drops.kept (omega arith)) u;
-}
-  where
-    fixed : fixed_of d ≡ fixed_of c
-    fixed = ap fixed_of drops.kept
-
-    u : Updates slab (with_value slab key d) key (Some d)
-    u = Updates-with_value slab key c d at
+drops-recount p hs hs' slab key c d at mine drops =
+    Recounts-one p hs hs' slab key c d at mine (ap fixed_of drops.kept) drops.counters drops.slots (λ n some. omega (arith, drops.shrinks n, some)) (rw drops.kept (omega arith))
 
 -- ---- what waits at a key
 

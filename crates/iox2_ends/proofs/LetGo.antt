@@ -2,7 +2,7 @@
 use Rattle.std.proofs.Common.{◌≡◌, ℕ, ◌<◌, true, List, map, get_or, Some, refl, ap, sym, subst, ◌∙◌, arith}
 use Rattle.std.proofs.lemmas.List.{length-set}
 use Rattle.std.specs.Prelude.{IsSomeAnd}
-use Rattle.slab.specs.Slab.{Slab, get, Updates, with_value}
+use Rattle.slab.specs.Slab.{Slab, get, with_value}
 use Rattle.iox2_slots.specs.Link.{Link, without_borrowed}
 use Rattle.iox2_store.specs.machine.Mailbox.{Mailbox, with_released}
 use Rattle.iox2_store.specs.machine.Numbers.{contains, IsOnce}
@@ -11,10 +11,10 @@ use Rattle.iox2_ends.specs.Homes.{IsApart}
 use Rattle.iox2_ends.specs.Mailboxes.{mailbox_of, mailboxes_of, with_box}
 use Rattle.iox2_ends.specs.Recounts.{Recounts}
 use Rattle.iox2_ends.specs.Takes.{ReleasesSlot}
-use Rattle.iox2_ends.proofs.Counts.{CountersFollow-changed, get_or-one_holder_less}
+use Rattle.iox2_ends.proofs.Counts.{get_or-one_holder_less}
 use Rattle.iox2_ends.proofs.DeliverySteps.{same_link}
-use Rattle.iox2_ends.proofs.MailboxChanges.{Updates-with_value, SameHomes-updated, KeepsOthers-updated, mailbox-there, mailboxes-changed}
-use Rattle.iox2_ends.proofs.Recounts.{returned-updated}
+use Rattle.iox2_ends.proofs.MailboxChanges.{Updates-with_value, mailbox-there, mailboxes-changed}
+use Rattle.iox2_ends.proofs.Recounts.{Recounts-one}
 use Rattle.iox2_ends.proofs.Releases.{mailbox-with_returned, times-without}
 
 module _ (slab : Slab Link) (key slot : ℕ) (c : Link) (at : get slab key ≡ Some c) (borrowed : contains c.borrowed slot ≡ true) where
@@ -43,18 +43,10 @@ module _ (slab : Slab Link) (key slot : ℕ) (c : Link) (at : get slab key ≡ S
   -- and it has one holder less
   pub recounts-left : (holders : List ℕ) → IsOnce c.borrowed → 0 < get_or holders slot 0
       → Recounts c.home.publisher holders slab (one_holder_less slot holders) (with_value slab key left)
-  recounts-left holders once in_use = record {
-    homes = SameHomes-updated slab (with_value slab key left) key c left at refl u;
-    others = KeepsOthers-updated c.home.publisher slab (with_value slab key left) key c (Some left) at refl u;
-    counters = CountersFollow-changed c.home.publisher holders (one_holder_less slot holders) slab.slots key c left at refl refl
-        (λ n. omega (arith, times-without n slot c.borrowed borrowed once, get_or-one_holder_less holders slot n in_use));
-    slots = length-set holders slot _;
-    in_use = λ n some. omega (arith, get_or-one_holder_less holders slot n in_use, some);
-    fewer = returned-updated slab (with_value slab key left) key c left at (omega arith) u;
-  }
-    where
-      u : Updates slab (with_value slab key left) key (Some left)
-      u = Updates-with_value slab key c left at
+  recounts-left holders once in_use =
+      Recounts-one c.home.publisher holders (one_holder_less slot holders) slab key c left at refl refl
+      (λ n. omega (arith, times-without n slot c.borrowed borrowed once, get_or-one_holder_less holders slot n in_use)) (length-set holders slot _)
+      (λ n some. omega (arith, get_or-one_holder_less holders slot n in_use, some)) (omega arith)
 
 -- what is said of the connection at the key is said of the one that stands there
 pub said-there : (slab : Slab Link) (key : ℕ) (c : Link) (P : Link → Type 0) → get slab key ≡ Some c → IsSomeAnd (get slab key) P → P c

@@ -125,12 +125,16 @@ mailboxes-changed number slab new key c d apart at fixed u = fun_ext (λ r. fun_
     | inr away ↦ rw (ne_eqb r c.home.publisher away) (others-stay number slab new c.home.publisher r q apart same (KeepsOthers-updated c.home.publisher slab new key c (Some d) at refl u) away)
   ]
 
+-- what stays but at one argument is the old, written over there
+pub one-put : {X : Type 0} (f g : ℕ → X) (k : ℕ) → ((i : ℕ) → i ≢ k → g i ≡ f i) → g ≡ put_at f k (g k)
+one-put f g k others = fun_ext (λ i. elim (cases_eq i k) [
+  | inl same ↦ ap g same ∙ sym (ap (λ (t : Bool). cond t (g k) (f i)) (eq-eqb i k same))
+  | inr away ↦ others i away ∙ sym (ap (λ (t : Bool). cond t (g k) (f i)) (ne_eqb i k away))
+])
+
 -- a mailbox is written over by itself
 pub put_at-own : {X : Type 0} (f : ℕ → X) (k : ℕ) → f ≡ put_at f k (f k)
-put_at-own f k = fun_ext (λ i. by i (eqb i k) refl) where
-  by : (i : ℕ) (b : Bool) → eqb i k ≡ b → f i ≡ cond b (f k) (f i)
-  by i true e = ap f (eqb-true i k e)
-  by i false e = refl
+put_at-own f k = one-put f f k (λ i away. refl)
 
 pub SameHomes-trans : (a b c : Slab Link) → SameHomes a b → SameHomes b c → SameHomes a c
 SameHomes-trans a b c x y = record { same = λ key. y.same key ∙ x.same key }

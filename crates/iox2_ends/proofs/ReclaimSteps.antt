@@ -1,5 +1,5 @@
 -- A publisher's reclaims, one after the other.
-use Rattle.std.proofs.Common.{◌≡◌, ℕ, Bool, ◌+◌, ◌<◌, List, Option, None, Some, get_or, refl, ap, sym, ◌∙◌, inl, inr, arith}
+use Rattle.std.proofs.Common.{◌≡◌, ℕ, ◌+◌, ◌<◌, List, Option, None, Some, get_or, refl, ap, sym, ◌∙◌, inl, inr, arith}
 use Rattle.std.proofs.lemmas.Bool.{cases_eq}
 use Rattle.std.proofs.lemmas.List.{length-set}
 use Rattle.std.specs.Prelude.{IsSomeAnd}
@@ -7,15 +7,14 @@ use Rattle.slab.specs.Slab.{Slab, get, Updates, with_value}
 use Rattle.iox2_slots.specs.Link.{Link, IsReclaimed}
 use Rattle.iox2_store.specs.machine.Mailbox.{Mailbox}
 use Rattle.iox2_store.specs.machine.Numbers.{put_at}
-use Rattle.iox2_slots.specs.declared.connection.Home.{Home}
 use Rattle.iox2_ends.specs.Mailboxes.{mailbox_of, mailboxes_of, with_box}
 use Rattle.iox2_ends.specs.Homes.{IsApart, IsSenderLinked, fixed_of}
 use Rattle.iox2_ends.specs.Counters.{stands_in, IsCovered, one_holder_less}
 use Rattle.iox2_ends.specs.Recounts.{returned_count}
 use Rattle.iox2_ends.specs.Reclaims.{IsHeld, Reclaims, ReclaimsFrom}
-use Rattle.iox2_ends.proofs.MailboxChanges.{Updates-with_value, SameHomes-updated, KeepsOthers-updated, IsApart-same, mailbox-there, mailboxes-changed, put_at-own}
-use Rattle.iox2_ends.proofs.Counts.{one_if_same, times-cons, get_or-one_holder_less, CountersFollow-changed, IsCovered-follows}
-use Rattle.iox2_ends.proofs.Recounts.{returned-updated, Recounts-trans}
+use Rattle.iox2_ends.proofs.MailboxChanges.{Updates-with_value, IsApart-same, mailbox-there, mailboxes-changed, put_at-own}
+use Rattle.iox2_ends.proofs.Counts.{one_if_same, times-cons, get_or-one_holder_less, IsCovered-follows}
+use Rattle.iox2_ends.proofs.Recounts.{Recounts-one, Recounts-trans}
 use Rattle.iox2_ends.proofs.DeliverySteps.{there, IsSenderLinked-same}
 
 -- a connection that stands at the key is its publisher's
@@ -71,14 +70,7 @@ reclaims-at p hs hs' slab key c d apart own at r = record {
       mailboxes-changed number slab (with_value slab key d) key c d apart at fixed u
       ∙ ap (with_box (mailboxes_of number slab) c.home.publisher c.home.subscriber) (ap (mailbox_of (number c.home.publisher)) r.kept ∙ sym (mailbox-there number slab key c.home.publisher c.home.subscriber c apart at refl refl))
       ∙ with_box-same (mailboxes_of number slab) c.home.publisher c.home.subscriber;
-  recounts = record {
-    homes = SameHomes-updated slab (with_value slab key d) key c d at fixed u;
-    others = KeepsOthers-updated p slab (with_value slab key d) key c (Some d) at mine u;
-    counters = CountersFollow-changed p hs hs' slab.slots key c d at mine (ap (λ (t : Home × ℕ × ℕ × Bool). t.0.publisher) fixed ∙ mine) r.counters;
-    slots = r.slots;
-    in_use = λ n some. omega (arith, r.shrinks n, some);
-    fewer = returned-updated slab (with_value slab key d) key c d at r.fewer u;
-  };
+  recounts = Recounts-one p hs hs' slab key c d at mine fixed r.counters r.slots (λ n some. omega (arith, r.shrinks n, some)) r.fewer;
   shrinks = r.shrinks;
 }
   where

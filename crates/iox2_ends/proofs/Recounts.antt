@@ -1,25 +1,43 @@
 -- Changes of a publisher's connections and counters, one after the other.
-use Rattle.std.proofs.Common.{◌≡◌, ℕ, ◌<◌, ◌≤◌, List, length, Bool, Option, None, Some, get_or, refl, ap, ◌∙◌, inl, inr, arith}
+use Rattle.std.proofs.Common.{◌≡◌, ℕ, ◌+◌, ◌<◌, ◌≤◌, List, length, Bool, Option, None, Some, get_or, refl, ap, ◌∙◌, inl, inr, arith}
 use Rattle.std.proofs.lemmas.Bool.{cases_eq}
 use Rattle.slab.specs.Slab.{Slab, get, Updates, with_value}
 use Rattle.iox2_slots.specs.Link.{Link, IsPut}
+use Rattle.iox2_slots.specs.declared.connection.Home.{Home}
 use Rattle.iox2_slots.specs.declared.connection.PutOutcome.{PutOutcome}
 use Rattle.iox2_slots.specs.declared.connection.PutOutcome.TheVariants.{Taken, Overwrote, Full}
-use Rattle.iox2_ends.specs.Counters.{IsCovered, CanLeave, one_holder_more, recounted}
+use Rattle.iox2_ends.specs.Homes.{fixed_of}
+use Rattle.iox2_ends.specs.Counters.{IsCovered, CanLeave, stands_in, one_holder_more, recounted}
 use Rattle.iox2_ends.specs.Recounts.{Recounts, returned_count}
 use Rattle.iox2_ends.specs.Receivers.{IsReadyToDeliver}
 use Rattle.iox2_ends.specs.declared.sender.ReceiverDetails.{ReceiverDetails}
-use Rattle.iox2_ends.proofs.MailboxChanges.{Updates-with_value, SameHomes-trans, KeepsOthers-trans}
-use Rattle.iox2_ends.proofs.Counts.{CountersFollow-trans, get_or-one_holder_more, get_or-one_holder_less, length-recounted, put-can_leave, put-follows, one_if_other}
+use Rattle.iox2_ends.proofs.MailboxChanges.{Updates-with_value, SameHomes-updated, SameHomes-trans, KeepsOthers-updated, KeepsOthers-trans}
+use Rattle.iox2_ends.proofs.Counts.{CountersFollow-changed, CountersFollow-trans, get_or-one_holder_more, get_or-one_holder_less, length-recounted, put-can_leave, put-follows, one_if_other}
 use Rattle.iox2_ends.proofs.DeliverySteps.{home-of, put-homes, put-others, put-returned, put-home}
 
 -- one connection changed, and no more was given back in it
-pub returned-updated : (slab new : Slab Link) (key : ℕ) (c d : Link) → get slab key ≡ Some c → length d.returned ≤ length c.returned → Updates slab new key (Some d)
+returned-updated : (slab new : Slab Link) (key : ℕ) (c d : Link) → get slab key ≡ Some c → length d.returned ≤ length c.returned → Updates slab new key (Some d)
     → (k : ℕ) → returned_count new k ≤ returned_count slab k
 returned-updated slab new key c d at fewer u k = elim (cases_eq k key) [
   | inl same ↦ rw same (rw (u.changed, at) fewer)
   | inr differs ↦ rw (u.others k differs) (omega arith)
 ]
+
+-- one connection of the publisher changed, and the counters with it
+pub Recounts-one : (p : ℕ) (hs hs' : List ℕ) (slab : Slab Link) (key : ℕ) (c d : Link) → get slab key ≡ Some c → c.home.publisher ≡ p → fixed_of d ≡ fixed_of c
+    → ((n : ℕ) → get_or hs' n 0 + stands_in n c ≡ get_or hs n 0 + stands_in n d) → length hs' ≡ length hs → ((n : ℕ) → 0 < get_or hs' n 0 → 0 < get_or hs n 0)
+    → length d.returned ≤ length c.returned → Recounts p hs slab hs' (with_value slab key d)
+Recounts-one p hs hs' slab key c d at mine fixed counters slots in_use fewer = record {
+  homes = SameHomes-updated slab (with_value slab key d) key c d at fixed u;
+  others = KeepsOthers-updated p slab (with_value slab key d) key c (Some d) at mine u;
+  counters = CountersFollow-changed p hs hs' slab.slots key c d at mine (ap (λ (t : Home × ℕ × ℕ × Bool). t.0.publisher) fixed ∙ mine) counters;
+  slots = slots;
+  in_use = in_use;
+  fewer = returned-updated slab (with_value slab key d) key c d at fewer u;
+}
+  where
+    u : Updates slab (with_value slab key d) key (Some d)
+    u = Updates-with_value slab key c d at
 
 pub Recounts-same : (p : ℕ) (hs : List ℕ) (slab : Slab Link) → Recounts p hs slab hs slab
 Recounts-same p hs slab = record {

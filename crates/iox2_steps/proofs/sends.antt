@@ -5,7 +5,6 @@ pub mod AskedBoxes
 pub mod AnySends
 pub mod SentSlots
 pub mod SendEnded
-pub mod HistoryLeft
 pub mod Trimmed
 pub mod Published
 pub mod GoneOn

@@ -7,6 +7,7 @@ pub mod ConnectionEnds
 pub mod SubscriberSet
 pub mod SameSeats
 pub mod SameEnds
+pub mod SameLinks
 pub mod ChangedMarks
 pub mod Standing
 pub mod OpenPorts

@@ -1,4 +1,5 @@
 -- The slots of a publisher: which are in use, and what lies in them.
+pub mod Holders
 pub mod Messages
 pub mod HeldMessages
 pub mod MessageLists
@@ -8,6 +9,7 @@ pub mod HolderGone
 pub mod LeftConnections
 pub mod SettledBooks
 pub mod LoneLoans
+pub mod OwnSlots
 pub mod Rebooked
 pub mod SlotChanges
 pub mod ConnectionSlots

@@ -19,9 +19,8 @@ use Rattle.iox2_domain.specs.Invariant.{IsDomain, ReceiverHas}
 use Rattle.iox2_domain.specs.Midway.{IsMidway}
 use Rattle.iox2_domain.specs.Reaches.{Reaches, ReachesBut}
 use Rattle.iox2_domain.specs.Closes.{FindsAll, LeavesConnections, LeavesSlots, SomeHasKey, left_subscriber, left_fields}
-use Rattle.iox2_domain.proofs.lemmas.slots.PublisherBooks.{book-there, book-covers}
+use Rattle.iox2_domain.proofs.lemmas.slots.PublisherBooks.{book-there, book-covers, book-counts}
 use Rattle.iox2_domain.proofs.lemmas.fields.OwnKeys.{listed-at}
-use Rattle.iox2_steps.proofs.closes.ClosingPorts.{its-counters}
 use Rattle.iox2_steps.proofs.closes.LeftKeys.{expired-gone}
 use Rattle.iox2_steps.proofs.closes.LeftState.{left-reaches}
 use Rattle.iox2_domain.specs.OpenMarks.{IsUnmarkedSender}
@@ -81,7 +80,7 @@ module _ {T U : Type 0} (f : Fields T U) (sound : IsDomain f) (i : ℕ) (x : Pub
     module _ (c : Book) (is_c : c ≡ with_counters b c.holders) (new : Slab Link) (follow : CountersFollow x.id b.holders f.connections.slots c.holders new.slots) where
       -- the slots of its history still have holders after it left its connections
       pub leaver-history : (slot : ℕ) → times slot (x.history).items ≤ holders_at c slot
-      leaver-history slot = omega (arith, its-counters f sound i x here b at slot, follow.at slot)
+      leaver-history slot = omega (arith, book-counts f sound.parts i x here b at slot, follow.at slot)
 
       -- it is closed, but that nobody may hold a slot of its book
       pub leaver-closed : IsUnmarkedSender f.connections i → x.blocked ≡ None → length c.holders ≡ length b.holders → LeavesConnections x.id f.subscribers f.connections new → (d : Book) → d ≡ with_counters c d.holders → Releases (x.history).items c.holders d.holders

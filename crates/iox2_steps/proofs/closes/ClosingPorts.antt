@@ -1,23 +1,22 @@
 -- Ports that close or are left: where they stand, and what their books count.
-use Rattle.std.proofs.Common.{◌≡◌, ℕ, ◌+◌, cond, get_or, refl, ap, sym, ◌∙◌, arith}
-use Rattle.std.proofs.lemmas.Bool.{eq-eqb, eqb-true}
+use Rattle.std.proofs.Common.{◌≡◌, ℕ, get_or, refl, ap, sym, ◌∙◌}
+use Rattle.std.proofs.lemmas.Bool.{eqb-true}
 use Rattle.std.specs.Prelude.{slice_index}
 use Rattle.std.specs.declared.option.Option.{Option}
 use Rattle.std.specs.declared.option.Option.TheVariants.{None, Some}
 use Rattle.std.specs.Option.{option_map, option_map_or}
-use Rattle.std.specs.List.{sum_by}
 use Rattle.slab.specs.Slab.{get}
-use Rattle.iox2_slots.specs.SlotBook.{Book, holders_at}
+use Rattle.iox2_slots.specs.SlotBook.{Book}
 use Rattle.iox2_store.specs.machine.Records.{Subscriber}
 use Rattle.iox2_ends.specs.LookUp.{look_up}
-use Rattle.iox2_ends.specs.Counters.{times, stands}
-use Rattle.iox2_ends.proofs.LookUps.{look_up-found, look_up-there}
+use Rattle.iox2_ends.proofs.LookUps.{look_up-there}
 use Rattle.iox2_domain.specs.Ports.{PublisherFields, SubscriberFields}
 use Rattle.iox2_domain.specs.Kept.{Named, state_of, is_named}
-use Rattle.iox2_domain.specs.Fields.{Fields, kept_of, subscriber_of, numbers_of, is_book_of}
-use Rattle.iox2_domain.specs.Invariant.{is_publisher, is_subscriber, own_holders, holders_of, is_loan_in, IsDomain}
+use Rattle.iox2_domain.specs.Fields.{Fields, kept_of, subscriber_of, numbers_of}
+use Rattle.iox2_domain.specs.Invariant.{is_subscriber, IsDomain}
 use Rattle.iox2_domain.proofs.lemmas.slots.PublisherBooks.{book-own}
 use Rattle.iox2_domain.proofs.lemmas.containers.LookUps.{look_up-map}
+use Rattle.iox2_domain.proofs.lemmas.slots.Holders.{book-by_id}
 
 module _ {T U : Type 0} (f : Fields T U) (sound : IsDomain f) where
   -- a subscriber that the state has stands somewhere
@@ -35,21 +34,6 @@ module _ {T U : Type 0} (f : Fields T U) (sound : IsDomain f) where
   -- ---- its book
 
   module _ (i : ℕ) (x : PublisherFields) (here : get_or f.publishers i None ≡ Some x) where
-    -- the look-up finds it
-    its-book_found : (b : Book) → get f.books x.book ≡ Some b → look_up (is_book_of x.id) f.books.slots ≡ Some b
-    its-book_found b at = look_up-found (is_book_of x.id) f.books.slots x.book b (sound.parts.books.one_each x.id) at (eq-eqb b.publisher x.id (book-own f sound.parts i x here b at))
-
-    -- it counts how often each slot stands among the loans, in the history and in connections
-    pub its-counters : (b : Book) → get f.books x.book ≡ Some b → (slot : ℕ)
-        → holders_at b slot ≡ times slot x.loans + times slot (x.history).items + sum_by (stands x.id slot) f.connections.slots
-    its-counters b at slot =
-        let now : holders_of f.books x.id slot ≡ holders_at b slot = ap (λ o. option_map_or (λ (c : Book). holders_at c slot) o 0) (its-book_found b at) in
-        let mine : own_holders f x.id slot ≡ times slot x.loans + times slot (x.history).items =
-        ap (λ o. option_map_or (λ (z : PublisherFields). times slot z.loans + times slot (z.history).items) o
-        (option_map_or (λ c. cond (is_loan_in c slot) 1 0) (look_up (is_book_of x.id) f.books.slots) 0))
-        (look_up-found (is_publisher x.id) f.publishers i x (sound.parts.publisher_ids x.id) here (eq-eqb x.id x.id refl)) in
-        omega (arith, now, mine, sound.parts.counted.at x.id slot)
-
     -- the number of each of its slots
     pub its-number : (b : Book) → get f.books x.book ≡ Some b → (slot : ℕ) → numbers_of f.books x.id slot ≡ slice_index b.numbers slot
-    its-number b at slot = ap (λ o. option_map_or (λ (c : Book). slice_index c.numbers slot) o 0) (its-book_found b at)
+    its-number b at slot = ap (λ o. option_map_or (λ (c : Book). slice_index c.numbers slot) o 0) (book-by_id f.books x.book x.id b (sound.parts.books.one_each x.id) at (book-own f sound.parts i x here b at))

@@ -24,7 +24,8 @@ use Rattle.iox2_domain.proofs.lemmas.loans.LoanSlots.{lent-loan, loan-lent}
 use Rattle.iox2_domain.specs.Closes.{LeavesConnections, LeavesSlots}
 use Rattle.iox2_steps.proofs.closes.LeftConnections.{left-sum_own}
 use Rattle.iox2_domain.proofs.lemmas.fields.ConnectionEnds.{publisher-stands}
-use Rattle.iox2_steps.proofs.closes.ClosingPorts.{its-counters, its-number}
+use Rattle.iox2_domain.proofs.lemmas.slots.PublisherBooks.{book-counts}
+use Rattle.iox2_steps.proofs.closes.ClosingPorts.{its-number}
 use Rattle.iox2_steps.proofs.sends.LoanAlone.{loan-once}
 
 module _ {T U : Type 0} (f : Fields T U) (sound : IsDomain f) (i : ℕ) (x : PublisherFields) (here : get_or f.publishers i None ≡ Some x)
@@ -42,7 +43,7 @@ module _ {T U : Type 0} (f : Fields T U) (sound : IsDomain f) (i : ℕ) (x : Pub
     out = contains-map (numbers_of f.books x.id) x.loans slot (times-stands slot x.loans some)
 
     has : HasNumber f.books x.book slot n
-    has = record { book = b; stands = at; in_use = omega (arith, some, its-counters f sound i x here b at slot); number = sym (its-number f sound i x here b at slot) }
+    has = record { book = b; stands = at; in_use = omega (arith, some, book-counts f sound.parts i x here b at slot); number = sym (its-number f sound i x here b at slot) }
 
     by : ((l : Loan T U) × ((state_of (kept_of f)).loans n ≡ Some l) × (l.publisher ≡ x.id))
         ⊎ ((s : BlockedSend) × (((publisher_of f.books f.connections x).port).blocked ≡ Some s) × (s.message ≡ n))
@@ -71,7 +72,7 @@ module _ {T U : Type 0} (f : Fields T U) (sound : IsDomain f) (i : ℕ) (x : Pub
       (slots : LeavesSlots x b.holders f.connections.slots holders new.slots) where
     -- each slot has as many holders as it is a loan and stands in connections
     pub left-counters : (slot : ℕ) → holders_at (with_counters b holders) slot ≡ times slot x.loans + sum_by (stands x.id slot) new.slots
-    left-counters slot = omega (arith, its-counters f sound i x here b at slot, slots.at slot)
+    left-counters slot = omega (arith, book-counts f sound.parts i x here b at slot, slots.at slot)
 
     -- no slot has more holders than before
     pub left-fewer : (slot : ℕ) → holders_at (with_counters b holders) slot ≤ holders_at b slot

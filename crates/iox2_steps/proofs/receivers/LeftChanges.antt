@@ -20,6 +20,7 @@ use Rattle.iox2_domain.proofs.lemmas.fields.Parts.{whole_of}
 use Rattle.iox2_steps.proofs.receivers.LeftEnds.{LeavesReceiver, left_fields, left-parts}
 use Rattle.iox2_steps.proofs.receivers.LeftStates.{left-is, left_port}
 use Rattle.iox2_domain.proofs.lemmas.fields.ConnectionEnds.{subscriber-stands}
+use Rattle.iox2_domain.proofs.lemmas.fields.SameLinks.{linked-same}
 
 -- warnings matter to nothing else
 pub parts-warned : {T U : Type 0} (f : Fields T U) (warnings : WarningRing) → HasParts f → warnings.capacity ≡ warning_limit → HasParts (record f { warnings = warnings })
@@ -27,20 +28,7 @@ parts-warned f warnings parts room = record {
   publisher_ids = parts.publisher_ids;
   subscriber_ids = parts.subscriber_ids;
   apart = parts.apart;
-  linked = record {
-    senders = parts.linked.senders;
-    receivers = parts.linked.receivers;
-    expired = parts.linked.expired;
-    ends = parts.linked.ends;
-    receiver_places = parts.linked.receiver_places;
-    knows = parts.linked.knows;
-    knows_publishers = parts.linked.knows_publishers;
-    sender_rooms = parts.linked.sender_rooms;
-    receiver_rooms = parts.linked.receiver_rooms;
-    limits = parts.linked.limits;
-    returned = parts.linked.returned;
-    marked = parts.linked.marked;
-  };
+  linked = linked-same f f.next_message warnings f.books f.contents parts.linked;
   expired_room = parts.expired_room;
   books = record {
     one_each = parts.books.one_each;

@@ -1,12 +1,11 @@
 -- A publisher with a blocked delivery takes it up: what the delivery needs is there, and what it comes to is the machine's.
-use Rattle.std.proofs.Common.{◌≡◌, ℕ, ◌+◌, ◌<◌, ◌≤◌, cond, List, drop-drop, length, get_or, refl, ap, sym, subst, ◌∙◌, arith}
-use Rattle.std.proofs.lemmas.Bool.{eq-eqb}
+use Rattle.std.proofs.Common.{◌≡◌, ℕ, ◌+◌, ◌<◌, ◌≤◌, List, drop-drop, length, get_or, refl, ap, sym, subst, ◌∙◌, arith}
 use Rattle.std.proofs.lemmas.List.{length-map}
 use Rattle.std.proofs.lemmas.Option.{same_Some}
 use Rattle.std.specs.declared.option.Option.{Option}
 use Rattle.std.specs.declared.option.Option.TheVariants.{None, Some}
 use Rattle.std.specs.declared.time.Duration.{Duration}
-use Rattle.std.specs.Option.{option_map, option_map_or}
+use Rattle.std.specs.Option.{option_map}
 use Rattle.slab.specs.Slab.{get, Slab}
 use Rattle.iox2_slots.specs.Link.{Link}
 use Rattle.iox2_slots.specs.SlotBook.{Book, holders_at}
@@ -15,7 +14,6 @@ use Rattle.iox2_store.specs.machine.Records.{Publisher, BlockedSend, Environment
 use Rattle.iox2_store.specs.machine.Sends.{DeliverAndConclude, Retry, GiveUp, more_retries}
 use Rattle.iox2_store.specs.machine.State.{State}
 use Rattle.iox2_store.specs.machine.WellFormed.{BlockedIsWellFormed}
-use Rattle.iox2_ends.specs.LookUp.{look_up}
 use Rattle.iox2_ends.specs.Counters.{times, HoldsItself}
 use Rattle.iox2_ends.specs.Mailboxes.{sender_ends, subscriber_of_key}
 use Rattle.iox2_ends.specs.Receivers.{HasReclaimed}
@@ -23,19 +21,18 @@ use Rattle.iox2_ends.specs.Recounts.{Recounts}
 use Rattle.iox2_ends.specs.declared.sender.Progress.{Progress}
 use Rattle.iox2_ends.specs.declared.sender.DeliveryOutcome.{DeliveryOutcome}
 use Rattle.iox2_ends.proofs.Counts.{in_range}
-use Rattle.iox2_ends.proofs.LookUps.{look_up-found}
 use Rattle.iox2_ends.proofs.ReclaimedPuts.{own-in_use, own-still}
 use Rattle.iox2_laws.proofs.PlaceLemmas.{occupied_within}
 use Rattle.iox2_domain.specs.declared.publisher_state.BlockedDelivery.{BlockedDelivery}
 use Rattle.iox2_domain.specs.Ports.{PublisherFields}
 use Rattle.iox2_domain.specs.Kept.{state_of}
-use Rattle.iox2_domain.specs.Fields.{Fields, kept_of, publisher_of, numbers_of, is_book_of, blocked_send}
-use Rattle.iox2_domain.specs.Invariant.{IsDomain, is_publisher, own_holders, holders_of, is_loan_in}
+use Rattle.iox2_domain.specs.Fields.{Fields, kept_of, publisher_of, numbers_of, blocked_send}
+use Rattle.iox2_domain.specs.Invariant.{IsDomain}
 use Rattle.iox2_domain.specs.Reaches.{Reaches}
 use Rattle.iox2_domain.specs.Deliveries.{result_of_send}
 use Rattle.iox2_domain.specs.BlockedSends.{CanGoOn, GoesOn, ConcludesAs, RetriesAs, GivesUpAs, waiting_send}
 use Rattle.iox2_domain.proofs.lemmas.fields.ConnectionEnds.{publisher-stands}
-use Rattle.iox2_domain.proofs.lemmas.slots.PublisherBooks.{book-own}
+use Rattle.iox2_domain.proofs.lemmas.slots.PublisherBooks.{book-counts}
 use Rattle.iox2_steps.proofs.updates.HistoryBounds.{held-few}
 use Rattle.iox2_steps.proofs.sends.LoanAlone.{once-times}
 use Rattle.iox2_steps.proofs.sends.GoneOn.{goes-on}
@@ -79,15 +76,8 @@ module _ {T U : Type 0} (f : Fields T U) (sound : IsDomain f) (i : ℕ) (x : Pub
     -- its publisher holds the slot itself
     pub waits-own : HoldsItself x.id w.slot b.holders f.connections.slots
     waits-own =
-        let own = book-own f sound.parts i x here b at in
-        let now : holders_of f.books x.id w.slot ≡ holders_at b w.slot =
-        ap (λ o. option_map_or (λ (c : Book). holders_at c w.slot) o 0) (look_up-found (is_book_of x.id) f.books.slots x.book b (sound.parts.books.one_each x.id) at (eq-eqb b.publisher x.id own)) in
-        let mine : own_holders f x.id w.slot ≡ times w.slot x.loans + times w.slot (x.history).items =
-        ap (λ o. option_map_or (λ (z : PublisherFields). times w.slot z.loans + times w.slot (z.history).items) o
-        (option_map_or (λ c. cond (is_loan_in c w.slot) 1 0) (look_up (is_book_of x.id) f.books.slots) 0))
-        (look_up-found (is_publisher x.id) f.publishers i x (sound.parts.publisher_ids x.id) here (eq-eqb x.id x.id refl)) in
         let lent : 0 < times w.slot x.loans = (sound.parts.plain i x here).lent w waits in
-        record { more = omega (arith, now, mine, sound.parts.counted.at x.id w.slot, lent) }
+        record { more = omega (arith, book-counts f sound.parts i x here b at w.slot, lent) }
 
     pub waits-few : HasReclaimed f.connections x.keys → holders_at b w.slot ≤ length x.keys + 2
     waits-few reclaimed = (held-few f sound i x here b at reclaimed w.slot).0

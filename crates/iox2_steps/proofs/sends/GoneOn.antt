@@ -1,6 +1,6 @@
 -- A blocked send goes on: its message is delivered to the receivers that remain, and it ends or is blocked again.
-use Rattle.std.proofs.Common.{◌≡◌, ◌≢◌, ℕ, ◌+◌, ◌-◌, ◌<◌, ◌≤◌, true, false, cond, List, drop, length, map, get_or, refl, ap, sym, subst, ◌∙◌, inl, inr, ⊎_elim, arith, set-set}
-use Rattle.std.proofs.lemmas.Bool.{cases_eq, ne_eqb, eq-eqb}
+use Rattle.std.proofs.Common.{◌≡◌, ◌≢◌, ℕ, ◌+◌, ◌-◌, ◌<◌, ◌≤◌, true, false, List, drop, map, get_or, refl, ap, sym, subst, ◌∙◌, inl, inr, ⊎_elim, arith, set-set}
+use Rattle.std.proofs.lemmas.Bool.{cases_eq, eq-eqb}
 use Rattle.std.proofs.lemmas.List.{length-set}
 use Rattle.std.specs.Prelude.{slice_index, slice_get, slice_set, nat_lt}
 use Rattle.std.specs.declared.option.Option.{Option}
@@ -24,10 +24,9 @@ use Rattle.iox2_ends.specs.Counters.{times, with_counters, one_holder_less}
 use Rattle.iox2_ends.specs.Deliveries.{end_of}
 use Rattle.iox2_ends.specs.declared.sender.Progress.{Progress}
 use Rattle.iox2_ends.specs.declared.sender.DeliveryOutcome.{DeliveryOutcome}
-use Rattle.iox2_ends.proofs.Counts.{one_if, one_if_same, one_if_other, get_or-one_holder_less}
-use Rattle.iox2_ends.proofs.LookUps.{look_up-found}
+use Rattle.iox2_ends.proofs.Counts.{one_if, one_if_other, get_or-one_holder_less}
 use Rattle.iox2_ends.specs.Mailboxes.{mailboxes_of, sender_ends}
-use Rattle.iox2_ends.proofs.MailboxChanges.{others-stay, both-true}
+use Rattle.iox2_ends.proofs.MailboxChanges.{others-stay, one-put, both-true}
 use Rattle.iox2_laws.proofs.DeliveryLaws.{Delivered, deliver_is}
 use Rattle.iox2_laws.proofs.MailboxLemmas.{contains_in_appended}
 use Rattle.iox2_laws.proofs.PlaceLemmas.{occupant-drop}
@@ -36,8 +35,8 @@ use Rattle.iox2_laws.proofs.SendLaws.{delivery_goes_on_keeps}
 use Rattle.iox2_domain.specs.declared.publisher_state.BlockedDelivery.{BlockedDelivery}
 use Rattle.iox2_domain.specs.Ports.{PublisherFields}
 use Rattle.iox2_domain.specs.Kept.{Lent_message, Sent_message, state_of, entries_of}
-use Rattle.iox2_domain.specs.Fields.{Fields, kept_of, publisher_of, numbers_of, is_book_of, message_of, blocked_send, contents_at}
-use Rattle.iox2_domain.specs.Invariant.{IsDomain, IsOwned, HasParts, HasNumber, LendsBlocked, holders_of, is_lent, is_loan_in, HasLoneLoans}
+use Rattle.iox2_domain.specs.Fields.{Fields, kept_of, publisher_of, numbers_of, message_of, blocked_send, contents_at}
+use Rattle.iox2_domain.specs.Invariant.{IsDomain, IsOwned, HasParts, HasNumber, is_lent, is_loan_in, HasLoneLoans}
 use Rattle.iox2_domain.specs.Deliveries.{DeliversFrom, result_of_send}
 use Rattle.iox2_domain.specs.BlockedSends.{with_outcome, counters_after, CanGoOn, GoesOn, ConcludesAs}
 use Rattle.iox2_domain.proofs.lemmas.fields.Views.{mailboxes-are}
@@ -45,18 +44,19 @@ use Rattle.iox2_domain.proofs.lemmas.fields.ConnectionEnds.{publisher-stands}
 use Rattle.iox2_domain.proofs.lemmas.fields.Parts.{whole_of}
 use Rattle.iox2_domain.proofs.lemmas.fields.SameEnds.{with_connections, same-subscriber_of_key}
 use Rattle.iox2_domain.proofs.lemmas.slots.Messages.{lies_at, message_in-parts, message_at-slot, has_number, entry-there}
-use Rattle.iox2_domain.proofs.lemmas.slots.BookChanges.{KeepsSlots, book-here, holders-here}
+use Rattle.iox2_domain.proofs.lemmas.slots.BookChanges.{KeepsSlots, book-here}
 use Rattle.iox2_domain.proofs.lemmas.slots.HeldMessages.{own-in_use, holders-there}
-use Rattle.iox2_domain.proofs.lemmas.slots.PublisherBooks.{book-own, book-owned}
+use Rattle.iox2_domain.proofs.lemmas.slots.PublisherBooks.{book-own, book-owned, book-counts}
 use Rattle.iox2_domain.proofs.lemmas.slots.Recounts.{back}
 use Rattle.iox2_domain.proofs.lemmas.slots.RecountedFields.{same-numbers}
 use Rattle.iox2_domain.proofs.lemmas.slots.RecountedLoans.{recounted_fields, recounted-kept, parts-recounted, recounted-is, recounted-entries, recounted-keeps}
 use Rattle.iox2_domain.proofs.lemmas.slots.LoneLoans.{IsLoneIn, lone-changed, lone-fewer}
-use Rattle.iox2_domain.proofs.lemmas.slots.Rebooked.{rebooked, rebooked-parts, rebooked-is, rebooked-entries, rebooked-keeps, rebooked-kept}
+use Rattle.iox2_domain.proofs.lemmas.slots.Rebooked.{CanRebook, rebooked, rebooked-parts, rebooked-is, rebooked-entries, rebooked-keeps, rebooked-kept}
 use Rattle.iox2_steps.proofs.sends.LoanAlone.{once-times}
-use Rattle.iox2_steps.proofs.sends.SentSlots.{times-without, map-without}
+use Rattle.iox2_steps.proofs.sends.SentSlots.{times-without-one, map-without}
 use Rattle.iox2_steps.proofs.sends.Published.{match-some, buffers-are}
-use Rattle.iox2_domain.proofs.lemmas.loans.PublisherChanges.{KeepsSettings}
+use Rattle.iox2_domain.proofs.lemmas.loans.PublisherChanges.{other_slots}
+use Rattle.iox2_domain.proofs.lemmas.slots.Holders.{book-by_id}
 use mathlib.Core.Path.{fun_ext}
 
 -- a message that was sent has that mark
@@ -123,19 +123,14 @@ module _ {T U : Type 0} (environment : Environment) (f : Fields T U) (sound : Is
   once = once-times (numbers_of f.books x.id) w.slot x.loans (sound.well_formed.publishers x.id port stands).loans_once
 
   slot-used : 0 < holders_at d.book w.slot
-  slot-used =
-      let held : 0 < holders_of f.books x.id w.slot = own-in_use f sound.parts.counted sound.parts.publisher_ids i w.slot x here (omega (arith, lent)) in
-      let is : holders_of f.books x.id w.slot ≡ holders_at d.book w.slot =
-      ap (λ o. option_map_or (λ (c : Book). holders_at c w.slot) o 0) (look_up-found (is_book_of x.id) f.books.slots x.book d.book (sound.parts.books.one_each x.id) d.stands (eq-eqb (d.book).publisher x.id own)) in
-      omega (arith, held, is)
+  slot-used = omega (arith, lent, book-counts f sound.parts i x here d.book d.stands w.slot)
 
   has : HasNumber f.books x.book w.slot n
   has = record {
     book = d.book;
     stands = d.stands;
     in_use = slot-used;
-    number = sym (ap (λ o. option_map_or (λ (c : Book). slice_index c.numbers w.slot) o 0)
-        (look_up-found (is_book_of x.id) f.books.slots x.book d.book (sound.parts.books.one_each x.id) d.stands (eq-eqb (d.book).publisher x.id own)));
+    number = sym (ap (λ o. option_map_or (λ (c : Book). slice_index c.numbers w.slot) o 0) (book-by_id f.books x.book x.id d.book (sound.parts.books.one_each x.id) d.stands own));
   }
 
   -- its message was sent
@@ -155,9 +150,7 @@ module _ {T U : Type 0} (environment : Environment) (f : Fields T U) (sound : Is
 
   -- it is in use after the delivery
   used-still : 0 < holders_at book w.slot
-  used-still =
-      let some : 0 < holders_of mid.books x.id w.slot = own-in_use mid parts.counted parts.publisher_ids i w.slot x here (omega (arith, lent)) in
-      omega (arith, some, holders-here (with_connections f d.connections d.recounts.homes) x.book d.book book d.stands keeps sound.parts.books.one_each x.id w.slot own)
+  used-still = omega (arith, lent, book-counts mid parts i x here book book-stands w.slot)
 
   -- the other slots of loans have other numbers
   only : (r : ℕ) → 0 < times r x.loans → numbers_of f.books x.id r ≡ n → r ≡ w.slot
@@ -167,117 +160,71 @@ module _ {T U : Type 0} (environment : Environment) (f : Fields T U) (sound : Is
 
   -- ---- the publisher and its counters afterwards
 
-  settings : (o : DeliveryOutcome) → KeepsSettings x (with_outcome o w.slot x)
-  settings (DeliveryOutcome.Complete count has_failed) = record {
-    id = refl;
-    book = refl;
-    max_loaned_samples = refl;
-    slots = refl;
-    strategy = refl;
-    backpressure_handler = refl;
-    degradation_handler = refl;
-    allocation = refl;
-    initial_max_slice_len = refl;
-    loan_room = omega arith;
-    history_room = refl;
-    key_room = omega arith;
-  }
-  settings (DeliveryOutcome.Suspended progress) = record {
-    id = refl;
-    book = refl;
-    max_loaned_samples = refl;
-    slots = refl;
-    strategy = refl;
-    backpressure_handler = refl;
-    degradation_handler = refl;
-    allocation = refl;
-    initial_max_slice_len = refl;
-    loan_room = omega arith;
-    history_room = refl;
-    key_room = omega arith;
-  }
-
-  same-keys : (o : DeliveryOutcome) → (with_outcome o w.slot x).keys ≡ x.keys
-  same-keys (DeliveryOutcome.Complete count has_failed) = refl
-  same-keys (DeliveryOutcome.Suspended progress) = refl
-
-  lends : (o : DeliveryOutcome) → LendsBlocked x → LendsBlocked (with_outcome o w.slot x)
-  lends (DeliveryOutcome.Complete count has_failed) had c e = absurd cc
-  lends (DeliveryOutcome.Suspended progress) had c e = subst (λ (slot : ℕ). 0 < times slot x.loans) (slot-is c e) lent where
-    slot-is : (c : BlockedDelivery) → Some (record { slot = w.slot; progress = progress }) ≡ Some c → w.slot ≡ c.slot
-    slot-is c e = ap (λ (o : Option BlockedDelivery). option_map_or (λ (v : BlockedDelivery). v.slot) o 0) e
-
   less : (r : ℕ) → get_or (one_holder_less w.slot book.holders) r 0 + one_if r w.slot ≡ holders_at book r
   less r = get_or-one_holder_less book.holders w.slot r used-still
-
-  long : (o : DeliveryOutcome) → length (counters_after o w.slot book.holders) ≡ length book.holders
-  long (DeliveryOutcome.Complete count has_failed) = length-set book.holders w.slot _
-  long (DeliveryOutcome.Suspended progress) = refl
 
   fewer : (o : DeliveryOutcome) (r : ℕ) → get_or (counters_after o w.slot book.holders) r 0 ≤ holders_at book r
   fewer (DeliveryOutcome.Complete count has_failed) r = omega (arith, less r)
   fewer (DeliveryOutcome.Suspended progress) r = omega arith
 
-  was-used : (o : DeliveryOutcome) (r : ℕ) → 0 < get_or (counters_after o w.slot book.holders) r 0 → 0 < holders_at book r
-  was-used o r some = omega (arith, some, fewer o r)
-
-  without-slot : (r : ℕ) → times r (without w.slot x.loans) + one_if r w.slot ≡ times r x.loans
-  without-slot r = elim (cases_eq r w.slot) [
-    | inl is ↦
-        let e : times r (without w.slot x.loans) + times w.slot x.loans ≡ times r x.loans =
-        sym (ap (λ t. times r (without w.slot x.loans) + cond t (times w.slot x.loans) 0) (eq-eqb r w.slot is)) ∙ times-without r w.slot x.loans in
-        omega (arith, e, once, lent, ap (λ (k : ℕ). one_if k w.slot) is, one_if_same w.slot)
-    | inr away ↦
-        let e : times r (without w.slot x.loans) + 0 ≡ times r x.loans =
-        sym (ap (λ t. times r (without w.slot x.loans) + cond t (times w.slot x.loans) 0) (ne_eqb r w.slot away)) ∙ times-without r w.slot x.loans in
-        omega (arith, e, one_if_other r w.slot away)
-  ]
-
-  counts : (o : DeliveryOutcome) (r : ℕ) → times r (with_outcome o w.slot x).loans + times r ((with_outcome o w.slot x).history).items + holders_at book r
-      ≡ times r x.loans + times r (x.history).items + get_or (counters_after o w.slot book.holders) r 0
-  counts (DeliveryOutcome.Complete count has_failed) r = omega (arith, less r, without-slot r)
-  counts (DeliveryOutcome.Suspended progress) r = refl
-
-  -- no loan lies in a slot that goes out of use
-  stays-lent : (o : DeliveryOutcome) (r m : ℕ) (l : Loan T U) → get_or (counters_after o w.slot book.holders) r 0 ≡ 0 → lies_at mid x.book r ≡ Some (Lent_message m l) → ⊥
-  stays-lent o r m l none lying = elim (cases_eq r w.slot) [
-    | inl same ↦
+  -- a loan lies in another slot, which is in use
+  lent-other : (r m : ℕ) (l : Loan T U) → lies_at mid x.book r ≡ Some (Lent_message m l) → (r ≢ w.slot) × (0 < holders_at book r)
+  lent-other r m l lying = (
+    λ same.
         let lay : lies_at f x.book r ≡ Some (Lent_message m l) = back f sound.parts x.id x.book d.book d.stands own d.holders d.connections d.recounts x.book r (Lent_message m l) lying in
-        absurd (let both : Some (Lent_message m l) ≡ Some (Sent_message n sent.0) = sym lay ∙ ap (λ j. lies_at f x.book j) same ∙ lies in cc)
-    | inr away ↦
-        let in_use : 0 < holders_at book r =
-        (message_in-parts book (contents_at f.contents x.book) r (Lent_message m l) (sym (message_at-slot f.contents mid.books x.book r book book-stands) ∙ lying)).in_use in
-        absurd (apart o none in_use away)
-  ] where
-    apart : (o : DeliveryOutcome) → get_or (counters_after o w.slot book.holders) r 0 ≡ 0 → 0 < holders_at book r → r ≢ w.slot → ⊥
-    apart (DeliveryOutcome.Complete count has_failed) none in_use away = absurd (let e = less r in let z = one_if_other r w.slot away in omega arith)
-    apart (DeliveryOutcome.Suspended progress) none in_use away = absurd (omega (arith, none, in_use))
+        absurd (let both : Some (Lent_message m l) ≡ Some (Sent_message n sent.0) = sym lay ∙ ap (λ j. lies_at f x.book j) same ∙ lies in cc),
+    (message_in-parts book (contents_at f.contents x.book) r (Lent_message m l) (sym (message_at-slot f.contents mid.books x.book r book book-stands) ∙ lying)).in_use,
+  )
+
+  can-conclude : (o : DeliveryOutcome) → CanRebook mid x (with_outcome o w.slot x) book (counters_after o w.slot book.holders)
+  can-conclude (DeliveryOutcome.Complete count has_failed) = record {
+    settings = other_slots x (without w.slot x.loans) (x.history).items None;
+    keys = refl;
+    lends = λ had c e. absurd cc;
+    slots = length-set book.holders w.slot _;
+    used = λ r some. omega (arith, some, less r);
+    counts = λ r. omega (arith, less r, times-without-one r w.slot x.loans (omega (arith, once, lent)));
+    lent = λ r m l none lying. let other = lent-other r m l lying in absurd (omega (arith, less r, none, other.1, one_if_other r w.slot other.0));
+  }
+  can-conclude (DeliveryOutcome.Suspended progress) = record {
+    settings = other_slots x x.loans (x.history).items (Some (record { slot = w.slot; progress = progress }));
+    keys = refl;
+    lends = λ had c e. subst (λ (slot : ℕ). 0 < times slot x.loans) (ap (λ (o : Option BlockedDelivery). option_map_or (λ (v : BlockedDelivery). v.slot) o 0) e) lent;
+    slots = refl;
+    used = λ r some. some;
+    counts = λ r. refl;
+    lent = λ r m l none lying. absurd (omega (arith, none, (lent-other r m l lying).1));
+  }
 
   -- ---- the fields afterwards
 
+  abbrev changed : PublisherFields
+  changed = with_outcome outcome w.slot x
+
+  abbrev counters : List ℕ
+  counters = counters_after outcome w.slot book.holders
+
   abbrev after : Fields T U
-  after = rebooked mid parts i x here book book-stands own (with_outcome outcome w.slot x) (settings outcome) (same-keys outcome) (lends outcome)
-      (counters_after outcome w.slot book.holders) (long outcome) (was-used outcome) (counts outcome) (stays-lent outcome)
+  after = rebooked mid i x changed book counters
 
   parts-after : HasParts after
-  parts-after = rebooked-parts mid parts i x here book book-stands own (with_outcome outcome w.slot x) (settings outcome) (same-keys outcome) (lends outcome)
-      (counters_after outcome w.slot book.holders) (long outcome) (was-used outcome) (counts outcome) (stays-lent outcome)
+  parts-after = rebooked-parts mid parts i x changed here book book-stands own counters (can-conclude outcome)
 
   lone-after : HasLoneLoans after.books
   lone-after =
       subst HasLoneLoans (sym (ap (λ (books : List (Option Book)). let slab : Slab Book = record f.books { slots = books } in slab)
-      (set-set f.books.slots x.book (Some book) (Some (with_counters book (counters_after outcome w.slot book.holders))))))
-      (lone-changed f.books x.book d.book (with_counters book (counters_after outcome w.slot book.holders)) d.stands sound.lone one)
+      (set-set f.books.slots x.book (Some book) (Some (with_counters book (counters))))))
+      (lone-changed f.books x.book d.book (with_counters book (counters)) d.stands sound.lone one)
     where
-      one : (r : ℕ) → IsLoneIn d.book r → IsLoneIn (with_counters book (counters_after outcome w.slot book.holders)) r
+      one : (r : ℕ) → IsLoneIn d.book r → IsLoneIn (with_counters book (counters)) r
       one r had = elim (cases_eq r w.slot) [
         | inl same ↦ λ loan. absurd (unlent r same loan)
-        | inr away ↦ lone-fewer d.book (with_counters book (counters_after outcome w.slot book.holders)) r refl (omega (arith, fewer outcome r, d.alone.others r away)) had
+        | inr away ↦ lone-fewer d.book (with_counters book (counters)) r refl (omega (arith, fewer outcome r, d.alone.others r away)) had
       ] where
-        unlent : (r : ℕ) → r ≡ w.slot → is_loan_in (with_counters book (counters_after outcome w.slot book.holders)) r ≡ true → ⊥
+        unlent : (r : ℕ) → r ≡ w.slot → is_loan_in (with_counters book (counters)) r ≡ true → ⊥
         unlent r same loan =
             let mark : slice_get (d.book).marks r ≡ Some Sent = ap (slice_get (d.book).marks) same ∙ marked in
-            absurd (let no : false ≡ true = sym (ap (λ o. option_map_or is_lent o false) mark) ∙ (both-true (nat_lt 0 (holders_at (with_counters book (counters_after outcome w.slot book.holders)) r)) (option_map_or is_lent (slice_get (d.book).marks r) false) loan).1 in cc)
+            absurd (let no : false ≡ true = sym (ap (λ o. option_map_or is_lent o false) mark) ∙ (both-true (nat_lt 0 (holders_at (with_counters book (counters)) r)) (option_map_or is_lent (slice_get (d.book).marks r) false) loan).1 in cc)
 
   -- ---- the state afterwards
 
@@ -317,8 +264,7 @@ module _ {T U : Type 0} (environment : Environment) (f : Fields T U) (sound : Is
 
   after-is : state_of (kept_of after) ≡ record s { mailboxes = boxes; publishers = put_at s.publishers x.id (Some (change how port)) }
   after-is =
-      rebooked-is mid parts i x here book book-stands own (with_outcome outcome w.slot x) (settings outcome) (same-keys outcome) (lends outcome)
-      (counters_after outcome w.slot book.holders) (long outcome) (was-used outcome) (counts outcome) (stays-lent outcome)
+      rebooked-is mid parts i x changed here book book-stands own counters (can-conclude outcome)
       ∙ ap (λ (z : Publisher). record (state_of (kept_of mid)) { publishers = put_at (state_of (kept_of mid)).publishers x.id (Some z) }) (sender-is outcome)
       ∙ ap (λ (t : State T U). record t { publishers = put_at t.publishers x.id (Some (change how port)) }) mid-is
 
@@ -327,10 +273,7 @@ module _ {T U : Type 0} (environment : Environment) (f : Fields T U) (sound : Is
       others-stay (numbers_of f.books) f.connections d.connections x.id q r sound.parts.apart d.recounts.homes d.recounts.others away ∙ sym (mailboxes-are f q r)
 
   boxes-are : boxes ≡ put_at s.mailboxes x.id (boxes x.id)
-  boxes-are = fun_ext (λ q. fun_ext (λ r. elim (cases_eq q x.id) [
-    | inl same ↦ ap (λ p. boxes p r) same ∙ sym (ap (λ t. (cond t (boxes x.id) (s.mailboxes q)) r) (eq-eqb q x.id same))
-    | inr away ↦ other-boxes q r away ∙ sym (ap (λ t. (cond t (boxes x.id) (s.mailboxes q)) r) (ne_eqb q x.id away))
-  ]))
+  boxes-are = one-put s.mailboxes boxes x.id (λ q away. fun_ext (λ r. other-boxes q r away))
 
   -- as the machine writes it
   after-shown : state_of (kept_of after) ≡ record s { mailboxes = put_at s.mailboxes x.id (boxes x.id); publishers = put_at s.publishers x.id (option_map (change how) (s.publishers x.id)) }
@@ -419,8 +362,7 @@ module _ {T U : Type 0} (environment : Environment) (f : Fields T U) (sound : Is
       let kept : entries_of (kept_of mid) m ≡ Some old.0 =
       recounted-keeps f sound x.id x.book d.book d.stands own d.holders d.connections d.recounts q m old.0 (subst (λ t. IsHeldMessage t q m) (sym mid-is) in_mid) old.1 in (
         old.0,
-        rebooked-keeps mid parts i x here book book-stands own (with_outcome outcome w.slot x) (settings outcome) (same-keys outcome) (lends outcome)
-            (counters_after outcome w.slot book.holders) (long outcome) (was-used outcome) (counts outcome) (stays-lent outcome) q m old.0 is kept,
+        rebooked-keeps mid parts i x changed here book book-stands own counters (can-conclude outcome) q m old.0 is kept,
         old.2,
       )
 
@@ -428,14 +370,12 @@ module _ {T U : Type 0} (environment : Environment) (f : Fields T U) (sound : Is
   gone-on : ConcludesAs environment f after x n start elapsed (result_of_send outcome)
   gone-on = record {
     agrees = whole_of after parts-after lone-after
-        (rebooked-kept mid parts i x here book book-stands own (with_outcome outcome w.slot x) (settings outcome) (same-keys outcome) (lends outcome)
-        (counters_after outcome w.slot book.holders) (long outcome) (was-used outcome) (counts outcome) (stays-lent outcome) owned
+        (rebooked-kept mid parts i x changed here book book-stands own counters (can-conclude outcome) owned
         (recounted-kept f sound x.id x.book d.book d.stands own d.holders d.connections d.recounts owned))
         well entries-after;
     concludes = concludes;
     entries = λ m entry e. recounted-entries f sound x.id x.book d.book d.stands own d.holders d.connections d.recounts m entry
-        (rebooked-entries mid parts i x here book book-stands own (with_outcome outcome w.slot x) (settings outcome) (same-keys outcome) (lends outcome)
-        (counters_after outcome w.slot book.holders) (long outcome) (was-used outcome) (counts outcome) (stays-lent outcome) m entry e);
+        (rebooked-entries mid parts i x changed here book book-stands own counters (can-conclude outcome) m entry e);
   }
 
   -- with the fields that the code makes of those after the delivery

@@ -1,27 +1,25 @@
 -- A loan's slot stands once among its publisher's loans, and has one holder.
-use Rattle.std.proofs.Common.{◌≡◌, ◌≢◌, ℕ, ◌+◌, ◌<◌, ◌≤◌, true, false, cond, eqb, List, [], ◌∷◌, map, get_or, refl, ap, sym, subst, ◌∙◌, inl, inr, arith}
+use Rattle.std.proofs.Common.{◌≡◌, ◌≢◌, ℕ, ◌<◌, ◌≤◌, true, false, eqb, List, [], ◌∷◌, map, get_or, refl, ap, sym, subst, ◌∙◌, inl, inr, arith}
 use Rattle.std.proofs.lemmas.Bool.{cases_eq, eq-eqb, or_parts}
 use Rattle.std.specs.declared.option.Option.TheVariants.{None, Some}
-use Rattle.std.specs.Option.{option_map, option_map_or}
+use Rattle.std.specs.Option.{option_map}
 use Rattle.slab.specs.Slab.{get}
 use Rattle.iox2_slots.specs.SlotBook.{Book, holders_at}
 use Rattle.iox2_store.specs.machine.Numbers.{contains, IsOnce}
 use Rattle.iox2_store.specs.machine.Records.{Loan}
 use Rattle.iox2_store.specs.machine.WellFormed.{LoanIsWellFormed}
-use Rattle.iox2_ends.specs.LookUp.{look_up}
 use Rattle.iox2_ends.specs.Counters.{times, HoldsItself}
 use Rattle.iox2_ends.specs.Mailboxes.{sender_ends}
-use Rattle.iox2_ends.proofs.LookUps.{look_up-found}
 use Rattle.iox2_ends.proofs.Counts.{one_if, times-cons, one_if_other}
 use Rattle.iox2_domain.specs.Ports.{PublisherFields}
 use Rattle.iox2_domain.specs.declared.publisher_state.BlockedDelivery.{BlockedDelivery}
 use Rattle.iox2_domain.specs.Kept.{Lent_message, state_of}
-use Rattle.iox2_domain.specs.Fields.{Fields, kept_of, publisher_of, numbers_of, is_book_of, contents_at, blocked_send}
-use Rattle.iox2_domain.specs.Invariant.{IsDomain, is_publisher, own_holders, holders_of, is_loan_in}
+use Rattle.iox2_domain.specs.Fields.{Fields, kept_of, publisher_of, numbers_of, contents_at, blocked_send}
+use Rattle.iox2_domain.specs.Invariant.{IsDomain, is_loan_in}
 use Rattle.iox2_domain.proofs.lemmas.fields.ConnectionEnds.{publisher-stands}
 use Rattle.iox2_domain.proofs.lemmas.slots.Messages.{lies_at, message_in-parts, message_at-book, message_at-slot, has_number, loan-found}
-use Rattle.iox2_domain.proofs.lemmas.loans.LoanSlots.{number-at, holders-at, loan-lent}
-use Rattle.iox2_domain.proofs.lemmas.slots.PublisherBooks.{book-own}
+use Rattle.iox2_domain.proofs.lemmas.loans.LoanSlots.{number-at, loan-lent}
+use Rattle.iox2_domain.proofs.lemmas.slots.PublisherBooks.{book-own, book-counts}
 use Rattle.iox2_domain.proofs.lemmas.slots.HeldMessages.{slot_numbered, own-in_use, holders-there}
 use Rattle.iox2_domain.proofs.lemmas.slots.RecountedLoans.{loan-publisher}
 use Rattle.iox2_domain.proofs.lemmas.slots.LoneLoans.{is-loan}
@@ -115,10 +113,4 @@ module _ {T U : Type 0} (f : Fields T U) (sound : IsDomain f) (i : ℕ) (x : Pub
   -- which its publisher is itself
   pub loan-own : (b : Book) → get f.books x.book ≡ Some b → HoldsItself x.id slot b.holders f.connections.slots
   loan-own b at =
-      let own = book-own f sound.parts i x here b at in
-      let now : holders_of f.books x.id slot ≡ holders_at b slot = ap (λ (p : ℕ). holders_of f.books p slot) (sym own) ∙ holders-at f sound x.book slot b at in
-      let mine : own_holders f x.id slot ≡ times slot x.loans + times slot (x.history).items =
-      ap (λ o. option_map_or (λ (z : PublisherFields). times slot z.loans + times slot (z.history).items) o
-      (option_map_or (λ c. cond (is_loan_in c slot) 1 0) (look_up (is_book_of x.id) f.books.slots) 0))
-      (look_up-found (is_publisher x.id) f.publishers i x (sound.parts.publisher_ids x.id) here (eq-eqb x.id x.id refl)) in
-      record { more = omega (arith, now, mine, sound.parts.counted.at x.id slot, loan-once) }
+      record { more = omega (arith, book-counts f sound.parts i x here b at slot, loan-once) }

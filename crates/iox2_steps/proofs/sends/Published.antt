@@ -23,7 +23,7 @@ use Rattle.iox2_ends.specs.LookUp.{look_up, IsOnly}
 use Rattle.iox2_ends.proofs.LookUps.{look_up-found}
 use Rattle.iox2_ends.specs.Mailboxes.{mailboxes_of}
 use Rattle.iox2_ends.specs.Receivers.{buffers_of, buffer_if_open, has_id}
-use Rattle.iox2_ends.proofs.MailboxChanges.{others-stay, both-true}
+use Rattle.iox2_ends.proofs.MailboxChanges.{others-stay, one-put, both-true}
 use Rattle.iox2_laws.proofs.Altered.{same_state}
 use Rattle.iox2_laws.proofs.DeliveryLaws.{Delivered, deliver_is}
 use Rattle.iox2_laws.proofs.MailboxLemmas.{contains_in_appended}
@@ -33,17 +33,17 @@ use Rattle.iox2_laws.proofs.SendLaws.{publish_keeps}
 use Rattle.iox2_domain.specs.Ports.{PublisherFields, SubscriberFields}
 use Rattle.iox2_domain.specs.Kept.{Named, Lent_message, Sent_message, state_of, entries_of, is_named, entry_in, KeptMessage}
 use Rattle.iox2_domain.specs.Fields.{Fields, kept_of, publisher_of, subscriber_of, numbers_of, blocked_send, contents_at}
-use Rattle.iox2_domain.specs.Invariant.{IsDomain, IsOwned, KeepsBooks, HasNumber, details_of, is_publisher, is_subscriber, holders_of, HasLoneLoans, HasParts, LendsBlocked, is_lent}
+use Rattle.iox2_domain.specs.Invariant.{IsDomain, IsOwned, KeepsBooks, HasNumber, details_of, is_publisher, is_subscriber, HasLoneLoans, HasParts, is_lent}
 use Rattle.iox2_domain.specs.Deliveries.{SendsSlot, Publishes, with_loan_out, with_remembered, pushed, leaving, with_sent, with_left, with_send_ended, DeliversFrom, with_send_blocked, result_of_send}
 use Rattle.iox2_domain.proofs.lemmas.containers.LookUps.{look_up-map}
 use Rattle.iox2_domain.proofs.lemmas.fields.Views.{mailboxes-are, unblocked}
 use Rattle.iox2_domain.proofs.lemmas.fields.ConnectionEnds.{publisher-stands}
 use Rattle.iox2_domain.proofs.lemmas.slots.Messages.{lies_at, in_use_within, has_number, entry-found, message_in-parts, message_at-slot, entry-there}
 use Rattle.iox2_domain.proofs.lemmas.fields.Parts.{whole_of}
-use Rattle.iox2_domain.proofs.lemmas.slots.BookChanges.{KeepsSlots, book-here, holders-here, numbers-same}
+use Rattle.iox2_domain.proofs.lemmas.slots.BookChanges.{KeepsSlots, book-here, numbers-same}
 use Rattle.iox2_domain.proofs.lemmas.fields.SameEnds.{with_connections, same-subscriber_of_key}
-use Rattle.iox2_domain.proofs.lemmas.slots.HeldMessages.{own-in_use, held-message-slot}
-use Rattle.iox2_domain.proofs.lemmas.slots.PublisherBooks.{book-own, book-owned}
+use Rattle.iox2_domain.proofs.lemmas.slots.HeldMessages.{held-message-slot}
+use Rattle.iox2_domain.proofs.lemmas.slots.PublisherBooks.{book-own, book-owned, book-counts}
 use Rattle.iox2_domain.proofs.lemmas.slots.Recounts.{back, forth}
 use Rattle.iox2_domain.proofs.lemmas.slots.RecountedFields.{same-numbers}
 use Rattle.iox2_domain.proofs.lemmas.slots.RecountedLoans.{recounted_fields, recounted-kept, parts-recounted, recounted-is, recounted-entries, recounted-keeps}
@@ -51,17 +51,17 @@ use Rattle.iox2_steps.proofs.sends.LoanAlone.{loan-is, loan-of, loan-slot, loan-
 use Rattle.iox2_steps.proofs.sends.SendEnded.{ended, lies-sent, others-lie, only-slot, sent-there, others-same, ended-entries, ended-is, ended-parts}
 use Rattle.iox2_steps.proofs.sends.Trimmed.{Trims, trims}
 use Rattle.iox2_domain.proofs.lemmas.slots.NumbersInUse.{contains-map}
-use Rattle.iox2_domain.proofs.lemmas.loans.PublisherChanges.{changed-kept_books, changed-here, KeepsSettings}
+use Rattle.iox2_domain.proofs.lemmas.loans.PublisherChanges.{changed-kept_books, changed-here, other_slots}
 use Rattle.iox2_domain.proofs.lemmas.slots.LoneLoans.{lone-sent, IsLoneIn, lone-fewer}
 use Rattle.iox2_ends.specs.Deliveries.{begun, end_of}
 use Rattle.iox2_ends.specs.declared.sender.Progress.{Progress}
 use Rattle.iox2_ends.specs.declared.sender.DeliveryOutcome.{DeliveryOutcome}
-use Rattle.iox2_ends.proofs.Counts.{one_if, one_if_same, one_if_other, get_or-one_holder_more}
+use Rattle.iox2_ends.proofs.Counts.{one_if, one_if_other, get_or-one_holder_more}
 use Rattle.circular_buffer.proofs.Places.{slice_get-set_same}
 use Rattle.iox2_slots.specs.declared.slots.mark.SlotMark.TheVariants.{Sent}
 use Rattle.iox2_domain.specs.declared.publisher_state.BlockedDelivery.{BlockedDelivery}
-use Rattle.iox2_domain.proofs.lemmas.slots.Rebooked.{rebooked, rebooked-parts, rebooked-is, rebooked-entries, rebooked-lone, rebooked-back, rebooked-forth, rebooked-number, rebooked-numbered}
-use Rattle.iox2_steps.proofs.sends.SentSlots.{times-without}
+use Rattle.iox2_domain.proofs.lemmas.slots.Rebooked.{CanRebook, rebooked, rebooked-parts, rebooked-is, rebooked-entries, rebooked-lone, rebooked-back, rebooked-forth, rebooked-number, rebooked-numbered}
+use Rattle.iox2_steps.proofs.sends.SentSlots.{times-without-one}
 use Rattle.iox2_steps.proofs.updates.SenderWalk.{put_at-twice}
 use mathlib.Core.Path.{fun_ext}
 use Rattle.iox2_domain.proofs.lemmas.fields.KeptBooks.{kept-own}
@@ -124,9 +124,7 @@ module _ {T U : Type 0} (environment : Environment) (f : Fields T U) (sound : Is
   once = loan-once f sound i x here slot n l lies
 
   in_use : 0 < holders_at book slot
-  in_use =
-      let some : 0 < holders_of mid.books x.id slot = own-in_use mid parts.counted parts.publisher_ids i slot x here (omega (arith, once)) in
-      omega (arith, some, holders-here (with_connections f d.connections d.recounts.homes) x.book d.book book d.stands keeps sound.parts.books.one_each x.id slot own)
+  in_use = omega (arith, once, book-counts mid parts i x here book book-stands slot)
 
   is_in_use : IsInUse book slot
   is_in_use = record { in_bounds = in_use_within {T = T} {U = U} book [] slot in_use; in_use = in_use }
@@ -326,18 +324,15 @@ module _ {T U : Type 0} (environment : Environment) (f : Fields T U) (sound : Is
   other-boxes q r away =
       others-stay (numbers_of f.books) f.connections d.connections x.id q r sound.parts.apart d.recounts.homes d.recounts.others away ∙ sym (mailboxes-are f q r)
 
-  boxes-are : (q r : ℕ) → boxes q r ≡ put_at s.mailboxes x.id (boxes x.id) q r
-  boxes-are q r = elim (cases_eq q x.id) [
-    | inl same ↦ ap (λ p. boxes p r) same ∙ sym (ap (λ t. (cond t (boxes x.id) (s.mailboxes q)) r) (eq-eqb q x.id same))
-    | inr away ↦ other-boxes q r away ∙ sym (ap (λ t. (cond t (boxes x.id) (s.mailboxes q)) r) (ne_eqb q x.id away))
-  ]
+  boxes-are : boxes ≡ put_at s.mailboxes x.id (boxes x.id)
+  boxes-are = one-put s.mailboxes boxes x.id (λ q away. fun_ext (λ r. other-boxes q r away))
 
   ended-state : state_of (kept_of after) ≡ send_ended (with_mailboxes (published s x.id n) x.id (boxes x.id)) x.id n
   ended-state =
       after-is
       ∙ same_state (record s { mailboxes = boxes; publishers = put_at s.publishers x.id (Some sender); loans = put_at s.loans n None })
       (send_ended (with_mailboxes (published s x.id n) x.id (boxes x.id)) x.id n)
-      refl refl refl (λ _. refl) publishers-are (λ _. refl) boxes-are refl refl refl
+      refl refl refl (λ _. refl) publishers-are (λ _. refl) (λ q r. ap (λ (m : ℕ → ℕ → Mailbox). m q r) boxes-are) refl refl refl
 
   -- ---- the machine's step
 
@@ -492,67 +487,37 @@ module _ {T U : Type 0} (environment : Environment) (f : Fields T U) (sound : Is
     abbrev more_holders : List ℕ
     more_holders = one_holder_more slot book.holders
 
-    relent-settings : KeepsSettings remembering relender
-    relent-settings = record {
-      id = refl;
-      book = refl;
-      max_loaned_samples = refl;
-      slots = refl;
-      strategy = refl;
-      backpressure_handler = refl;
-      degradation_handler = refl;
-      allocation = refl;
-      initial_max_slice_len = refl;
-      loan_room = omega arith;
-      history_room = refl;
-      key_room = omega arith;
-    }
-
-    relent-lends : LendsBlocked remembering → LendsBlocked relender
-    relent-lends had c e = subst (λ (r : ℕ). 0 < times r x.loans) (ap (λ (o : Option BlockedDelivery). option_map_or (λ (v : BlockedDelivery). v.slot) o 0) e) (omega (arith, once))
-
     more : (r : ℕ) → get_or more_holders r 0 ≡ holders_at book r + one_if r slot
     more r = get_or-one_holder_more book.holders slot r is_in_use.in_bounds
 
-    relent-used : (r : ℕ) → 0 < get_or more_holders r 0 → 0 < holders_at (with_sent slot book) r
-    relent-used r some = elim (cases_eq r slot) [
-      | inl same ↦ subst (λ (k : ℕ). 0 < holders_at book k) (sym same) in_use
-      | inr away ↦ omega (arith, some, more r, one_if_other r slot away)
-    ]
-
-    relent-counts : (r : ℕ) → times r relender.loans + times r (relender.history).items + holders_at (with_sent slot book) r
-        ≡ times r remembering.loans + times r (remembering.history).items + get_or more_holders r 0
-    relent-counts r = omega (arith, more r, fewer-loans)
-      where
-        fewer-loans : times r (without slot x.loans) + one_if r slot ≡ times r x.loans
-        fewer-loans = elim (cases_eq r slot) [
-          | inl is ↦
-              let e : times r (without slot x.loans) + times slot x.loans ≡ times r x.loans =
-              sym (ap (λ t. times r (without slot x.loans) + cond t (times slot x.loans) 0) (eq-eqb r slot is)) ∙ times-without r slot x.loans in
-              omega (arith, e, once, ap (λ (k : ℕ). one_if k slot) is, one_if_same slot)
-          | inr away ↦
-              let e : times r (without slot x.loans) + 0 ≡ times r x.loans =
-              sym (ap (λ t. times r (without slot x.loans) + cond t (times slot x.loans) 0) (ne_eqb r slot away)) ∙ times-without r slot x.loans in
-              omega (arith, e, one_if_other r slot away)
-        ]
-
-    relent-lent : (r m : ℕ) (k : Loan T U) → get_or more_holders r 0 ≡ 0 → lies_at remembered x.book r ≡ Some (Lent_message m k) → ⊥
-    relent-lent r m k none lying =
-        let used : 0 < holders_at book r =
-        (message_in-parts (with_sent slot book) (contents_at f.contents x.book) r (Lent_message m k) (sym (message_at-slot f.contents remembered.books x.book r (with_sent slot book) book-remembered) ∙ lying)).in_use in
-        absurd (let e = more r in omega arith)
+    can-relend : CanRebook remembered remembering relender (with_sent slot book) more_holders
+    can-relend = record {
+      settings = other_slots remembering x.loans (remembering.history).items (Some waiting);
+      keys = refl;
+      lends = λ had c e. subst (λ (r : ℕ). 0 < times r x.loans) (ap (λ (o : Option BlockedDelivery). option_map_or (λ (v : BlockedDelivery). v.slot) o 0) e) (omega (arith, once));
+      slots = length-set book.holders slot _;
+      used = λ r some. elim (cases_eq r slot) [
+        | inl same ↦ subst (λ (k : ℕ). 0 < holders_at book k) (sym same) in_use
+        | inr away ↦ omega (arith, some, more r, one_if_other r slot away)
+      ];
+      counts = λ r. omega (arith, more r, times-without-one r slot x.loans once);
+      lent = λ r m k none lying.
+          let used : 0 < holders_at book r =
+          (message_in-parts (with_sent slot book) (contents_at f.contents x.book) r (Lent_message m k) (sym (message_at-slot f.contents remembered.books x.book r (with_sent slot book) book-remembered) ∙ lying)).in_use in
+          absurd (omega (arith, used, none, more r));
+    }
 
     abbrev relent : Fields T U
-    relent = rebooked remembered parts-remembered i remembering stands-remembered (with_sent slot book) book-remembered own relender relent-settings refl relent-lends more_holders (length-set book.holders slot _) relent-used relent-counts relent-lent
+    relent = rebooked remembered i remembering relender (with_sent slot book) more_holders
 
     parts-relent : HasParts relent
-    parts-relent = rebooked-parts remembered parts-remembered i remembering stands-remembered (with_sent slot book) book-remembered own relender relent-settings refl relent-lends more_holders (length-set book.holders slot _) relent-used relent-counts relent-lent
+    parts-relent = rebooked-parts remembered parts-remembered i remembering relender stands-remembered (with_sent slot book) book-remembered own more_holders can-relend
 
     abbrev relent_book : Book
     relent_book = with_counters (with_sent slot book) more_holders
 
     lone-relent : HasLoneLoans relent.books
-    lone-relent = rebooked-lone remembered parts-remembered i remembering stands-remembered (with_sent slot book) book-remembered own relender relent-settings refl relent-lends more_holders (length-set book.holders slot _) relent-used relent-counts relent-lent one lone-remembered where
+    lone-relent = rebooked-lone remembered parts-remembered i remembering relender stands-remembered (with_sent slot book) book-remembered own more_holders can-relend one lone-remembered where
       one : (r : ℕ) → IsLoneIn (with_sent slot book) r → IsLoneIn relent_book r
       one r had = elim (cases_eq r slot) [
         | inl same ↦ λ loan.
@@ -585,7 +550,7 @@ module _ {T U : Type 0} (environment : Environment) (f : Fields T U) (sound : Is
 
     relent-is : state_of (kept_of relent) ≡ with_port relent_port
     relent-is =
-        rebooked-is remembered parts-remembered i remembering stands-remembered (with_sent slot book) book-remembered own relender relent-settings refl relent-lends more_holders (length-set book.holders slot _) relent-used relent-counts relent-lent
+        rebooked-is remembered parts-remembered i remembering relender stands-remembered (with_sent slot book) book-remembered own more_holders can-relend
         ∙ ap (λ (z : Publisher). record (state_of (kept_of remembered)) { publishers = put_at (state_of (kept_of remembered)).publishers x.id (Some z) }) relender-port
         ∙ ap (λ (t : State T U). record t { publishers = put_at t.publishers x.id (Some relent_port) }) remembered-is
         ∙ ap (λ (ps : ℕ → Option Publisher). record s { mailboxes = boxes; publishers = ps; loans = put_at s.loans n None }) (put_at-twice s.publishers x.id (Some rememberer) (Some relent_port))
@@ -595,7 +560,7 @@ module _ {T U : Type 0} (environment : Environment) (f : Fields T U) (sound : Is
 
     leaves-relent : (oldest m : ℕ) (k : Loan T U) → slice_get ((x.history).items ++ slot ∷ []) 0 ≡ Some oldest → lies_at relent x.book oldest ≡ Some (Lent_message m k) → ⊥
     leaves-relent oldest m k first lying = leaves-sent oldest m k first
-        (rebooked-back remembered parts-remembered i remembering stands-remembered (with_sent slot book) book-remembered own relender relent-settings refl relent-lends more_holders (length-set book.holders slot _) relent-used relent-counts relent-lent x.book oldest (Lent_message m k) lying)
+        (rebooked-back remembered parts-remembered i remembering relender stands-remembered (with_sent slot book) book-remembered own more_holders can-relend x.book oldest (Lent_message m k) lying)
 
     abbrev stopped : Fields T U
     stopped = with_send_blocked mid i x slot progress book
@@ -641,7 +606,7 @@ module _ {T U : Type 0} (environment : Environment) (f : Fields T U) (sound : Is
     blocked-state =
         stopped-is
         ∙ same_state (with_port stopped_port) (send_blocked (with_mailboxes (published s x.id n) x.id (boxes x.id)) x.id b)
-        refl refl refl (λ _. refl) (publishers-changed (λ v. record v { blocked = Some b }) stopped_port refl) (λ _. refl) boxes-are refl refl refl
+        refl refl refl (λ _. refl) (publishers-changed (λ v. record v { blocked = Some b }) stopped_port refl) (λ _. refl) (λ q r. ap (λ (m : ℕ → ℕ → Mailbox). m q r) boxes-are) refl refl refl
 
     publishes-blocked : Publish environment s x.id n (state_of (kept_of stopped)) Blocked_send
     publishes-blocked = publishes-so (state_of (kept_of stopped)) Blocked_send
@@ -652,9 +617,9 @@ module _ {T U : Type 0} (environment : Environment) (f : Fields T U) (sound : Is
     relent-keeps : (m : ℕ) (entry : Entry T U) → entries_of (kept_of remembered) m ≡ Some entry → entries_of (kept_of relent) m ≡ Some entry
     relent-keeps m entry e =
         let there = entry-there remembered m entry e in
-        entry-found relent (rebooked-numbered remembered parts-remembered i remembering stands-remembered (with_sent slot book) book-remembered own relender relent-settings refl relent-lends more_holders (length-set book.holders slot _) relent-used relent-counts relent-lent)
+        entry-found relent (rebooked-numbered remembered parts-remembered i remembering relender stands-remembered (with_sent slot book) book-remembered own more_holders can-relend)
         there.0 there.1 m entry
-        (rebooked-forth remembered parts-remembered i remembering stands-remembered (with_sent slot book) book-remembered own relender relent-settings refl relent-lends more_holders (length-set book.holders slot _) relent-used relent-counts relent-lent
+        (rebooked-forth remembered parts-remembered i remembering relender stands-remembered (with_sent slot book) book-remembered own more_holders can-relend
         there.0 there.1 (Sent_message m entry) (still there.0 there.1 there.2) there.2)
       where
         still : (k r : ℕ) → lies_at remembered k r ≡ Some (Sent_message m entry) → k ≡ x.book → 0 < get_or more_holders r 0
@@ -664,7 +629,7 @@ module _ {T U : Type 0} (environment : Environment) (f : Fields T U) (sound : Is
             omega (arith, used, more r)
 
     relent-number : (k r m : ℕ) (has : HasNumber relent.books k r m) → (old : HasNumber remembered.books k r m) × ((old.book).publisher ≡ (has.book).publisher)
-    relent-number = rebooked-number remembered parts-remembered i remembering stands-remembered (with_sent slot book) book-remembered own relender relent-settings refl relent-lends more_holders (length-set book.holders slot _) relent-used relent-counts relent-lent
+    relent-number = rebooked-number remembered parts-remembered i remembering relender stands-remembered (with_sent slot book) book-remembered own more_holders can-relend
 
     stopped-publishes : Publishes environment f stopped x.id n l Blocked_send
     stopped-publishes = record {
@@ -675,7 +640,7 @@ module _ {T U : Type 0} (environment : Environment) (f : Fields T U) (sound : Is
       publishes = publishes-blocked;
       loans = ap (λ (t : State T U). t.loans) blocked-state;
       entries = λ m entry e. entries-new m entry
-          (rebooked-entries remembered parts-remembered i remembering stands-remembered (with_sent slot book) book-remembered own relender relent-settings refl relent-lends more_holders (length-set book.holders slot _) relent-used relent-counts relent-lent m entry (trim-relent.entries m entry e));
+          (rebooked-entries remembered parts-remembered i remembering relender stands-remembered (with_sent slot book) book-remembered own more_holders can-relend m entry (trim-relent.entries m entry e));
     }
 
     pub blocked-publishes : (h : Fields T U) (c : Book) → get g.books x.book ≡ Some c → h ≡ with_send_blocked g i x slot progress c → Publishes environment f h x.id n l Blocked_send

@@ -1,33 +1,27 @@
 -- The send of a loan has ended: its slot has a message, which the history holds in place of the user.
 use Rattle.std.proofs.Common.{◌≡◌, ◌≢◌, ℕ, ◌+◌, ◌<◌, Bool, true, false, cond, eqb, suc, List, [], ◌∷◌, ◌++◌, length, map, get_or, refl, ap, sym, subst, ◌∙◌, inl, inr, ◌⊎◌, arith}
-use Rattle.std.proofs.lemmas.Bool.{cases_eq, ne_eqb, eq-eqb}
+use Rattle.std.proofs.lemmas.Bool.{cases_eq, eq-eqb}
 use Rattle.std.proofs.lemmas.List.{length-set, map-append}
 use Rattle.std.specs.Prelude.{slice_index, slice_set}
 use Rattle.std.specs.declared.option.Option.{Option}
 use Rattle.std.specs.declared.option.Option.TheVariants.{None, Some}
-use Rattle.std.specs.Option.{option_map, option_map_or}
-use Rattle.std.specs.List.{sum_by}
 use Rattle.slab.specs.Slab.{get, with_value}
 use Rattle.iox2_store.specs.machine.Loans.{entry_of}
 use Rattle.iox2_slots.specs.SlotBook.{Book, IsAligned, IsInUse, holders_at}
 use Rattle.iox2_store.specs.machine.Numbers.{put_at, without}
-use Rattle.iox2_store.specs.machine.Records.{Entry, Loan, Publisher}
-use Rattle.iox2_store.specs.machine.State.{State}
-use Rattle.iox2_ends.specs.LookUp.{look_up}
+use Rattle.iox2_store.specs.machine.Records.{Entry, Loan}
 use Rattle.iox2_ends.specs.Counters.{times, stands}
-use Rattle.iox2_ends.proofs.Counts.{one_if, one_if_same, one_if_other, times_push}
-use Rattle.iox2_ends.proofs.LookUps.{look_up-found}
-use Rattle.iox2_ends.specs.Mailboxes.{sender_ends}
+use Rattle.iox2_ends.proofs.Counts.{times_push}
 use Rattle.iox2_domain.specs.Ports.{PublisherFields}
 use Rattle.iox2_domain.specs.Kept.{KeptMessage, Lent_message, Sent_message, state_of, entries_of, is_numbered, message_numbered, loan_in, entry_in}
-use Rattle.iox2_domain.specs.Fields.{Fields, kept_of, publisher_of, numbers_of, is_book_of, message_in, contents_at, blocked_send}
-use Rattle.iox2_domain.specs.Invariant.{IsCounted, IsNumbered, HasNumber, HasShape, HasShapes, is_publisher, own_holders, holders_of, is_loan_in, HasParts}
+use Rattle.iox2_domain.specs.Fields.{Fields, kept_of, publisher_of, numbers_of, message_in, contents_at}
+use Rattle.iox2_domain.specs.Invariant.{IsNumbered, HasNumber, HasShape, HasShapes, HasParts}
 use Rattle.iox2_domain.specs.Deliveries.{with_remembered, with_sent}
-use Rattle.iox2_domain.proofs.lemmas.fields.NamedBooks.{names-books}
 use Rattle.iox2_domain.proofs.lemmas.slots.Messages.{lies_at, message_at-book, message_at-slot, has_number, loan-there, entry-there, ChangesSlot, message_numbered-others}
-use Rattle.iox2_domain.proofs.lemmas.slots.BookChanges.{book-after, with_book, book-here, book-others, book-was, holders-here, other-book, numbers-same, book-state, books-changed, linked-book}
-use Rattle.iox2_domain.proofs.lemmas.loans.PublisherChanges.{KeepsSettings, changed-ids_apart, changed-is, changed-linked_same, changed-books, changed-room, changed-plain, changed-own}
-use Rattle.iox2_steps.proofs.sends.SentSlots.{times-without, map-without, sent-keeps, sent-others, LiesWritten, written-loan, sent-lies, sent-is, values-of}
+use Rattle.iox2_domain.proofs.lemmas.slots.BookChanges.{book-here, book-others, book-was}
+use Rattle.iox2_domain.proofs.lemmas.loans.PublisherChanges.{KeepsSettings, other_slots}
+use Rattle.iox2_domain.proofs.lemmas.slots.OwnSlots.{own-is, own-parts}
+use Rattle.iox2_steps.proofs.sends.SentSlots.{times-without-one, map-without, sent-keeps, sent-others, LiesWritten, written-loan, sent-lies, sent-is, values-of}
 use mathlib.Core.Path.{fun_ext}
 
 module _ {T U : Type 0} (f : Fields T U) (parts : HasParts f) (i : ℕ) (x : PublisherFields) (here : get_or f.publishers i None ≡ Some x)
@@ -37,25 +31,8 @@ module _ {T U : Type 0} (f : Fields T U) (parts : HasParts f) (i : ℕ) (x : Pub
   abbrev pub ended : Fields T U
   ended = record f { publishers = slice_set f.publishers i (Some (with_remembered slot x)); books = with_value f.books x.book (with_sent slot b) }
 
-  -- with the book alone changed
-  abbrev between : Fields T U
-  between = with_book f x.book (with_sent slot b)
-
   keeps : KeepsSettings x (with_remembered slot x)
-  keeps = record {
-    id = refl;
-    book = refl;
-    max_loaned_samples = refl;
-    slots = refl;
-    strategy = refl;
-    backpressure_handler = refl;
-    degradation_handler = refl;
-    allocation = refl;
-    initial_max_slice_len = refl;
-    loan_room = omega arith;
-    history_room = refl;
-    key_room = omega arith;
-  }
+  keeps = other_slots x (without slot x.loans) ((x.history).items ++ slot ∷ []) x.blocked
 
   -- ---- slots and messages
 
@@ -181,76 +158,17 @@ module _ {T U : Type 0} (f : Fields T U) (parts : HasParts f) (i : ℕ) (x : Pub
         loans = put_at (state_of (kept_of f)).loans n None;
       }
   ended-is only is =
-      changed-is between i x (with_remembered slot x) here refl parts.publisher_ids
-      ∙ ap (λ (s : State T U). record s {
-        publishers = put_at s.publishers x.id (Some ((publisher_of between.books f.connections (with_remembered slot x)).port));
-      }) (book-state f x.book b (with_sent slot b) at (sent-keeps b slot) parts.books.one_each)
-      ∙ ap (λ (loans : ℕ → Option (Loan T U)). record (state_of (kept_of f)) {
-        publishers = put_at (state_of (kept_of f)).publishers x.id (Some ((publisher_of between.books f.connections (with_remembered slot x)).port));
-        loans = loans;
-      }) ended-loans
-      ∙ ap (λ (y : Publisher). record (state_of (kept_of f)) {
-        publishers = put_at (state_of (kept_of f)).publishers x.id (Some y);
+      own-is f parts i x here b at mine (with_remembered slot x) keeps (with_sent slot b) (sent-keeps b slot) (put_at (state_of (kept_of f)).loans n None) ended-loans
+      ∙ (λ t. record (state_of (kept_of f)) {
+        publishers = put_at (state_of (kept_of f)).publishers x.id
+            (Some (record (publisher_of f.books f.connections x).port { loans = map-without (numbers_of f.books x.id) slot n is x.loans only t; history = remembered t }));
         loans = put_at (state_of (kept_of f)).loans n None;
-      }) port
+      })
     where
       remembered : map (numbers_of f.books x.id) ((x.history).items ++ slot ∷ []) ≡ map (numbers_of f.books x.id) (x.history).items ++ n ∷ []
       remembered = map-append (numbers_of f.books x.id) (x.history).items (slot ∷ []) ∙ ap (λ (m : ℕ). map (numbers_of f.books x.id) (x.history).items ++ m ∷ []) is
 
-      port : (publisher_of between.books f.connections (with_remembered slot x)).port
-          ≡ record (publisher_of f.books f.connections x).port { loans = without n (map (numbers_of f.books x.id) x.loans); history = map (numbers_of f.books x.id) (x.history).items ++ n ∷ [] }
-      port =
-          (λ t. record (publisher_of f.books f.connections (with_remembered slot x)).port {
-            loans = map (numbers-same f x.book b (with_sent slot b) at (sent-keeps b slot) parts.books.one_each t x.id) (without slot x.loans);
-            history = map (numbers-same f x.book b (with_sent slot b) at (sent-keeps b slot) parts.books.one_each t x.id) ((x.history).items ++ slot ∷ []);
-            blocked = option_map (blocked_send (numbers-same f x.book b (with_sent slot b) at (sent-keeps b slot) parts.books.one_each t x.id) (sender_ends f.connections x.keys)) x.blocked;
-          })
-          ∙ (λ t. record (publisher_of f.books f.connections x).port { loans = map-without (numbers_of f.books x.id) slot n is x.loans only t; history = remembered t })
-
   -- ---- the parts
-
-  -- what the publisher itself has of the slot, or what is out of one that is gone
-  abbrev own : (s : ℕ) → Option PublisherFields → Option Book → ℕ
-  own s o book =
-      option_map_or (λ (z : PublisherFields). times s z.loans + times s (z.history).items) o
-      (option_map_or (λ c. cond (is_loan_in c s) 1 0) book 0)
-
-  ended-counted : IsCounted ended
-  ended-counted = record { at = λ p s. elim (cases_eq p x.id) [ inl is ↦ rw is (its s) | inr away ↦ others p s away ] } where
-    its : (s : ℕ) → holders_of ended.books x.id s ≡ own_holders ended x.id s + sum_by (stands x.id s) f.connections.slots
-    its s =
-        let now : holders_of ended.books x.id s ≡ holders_at (with_sent slot b) s = holders-here f x.book b (with_sent slot b) at (sent-keeps b slot) parts.books.one_each x.id s mine in
-        let then : holders_of f.books x.id s ≡ holders_at b s =
-        ap (λ o. option_map_or (λ (c : Book). holders_at c s) o 0) (look_up-found (is_book_of x.id) f.books.slots x.book b (parts.books.one_each x.id) at (eq-eqb b.publisher x.id mine)) in
-        let has : own_holders f x.id s ≡ times s x.loans + times s (x.history).items =
-        ap (λ o. own s o (look_up (is_book_of x.id) f.books.slots)) (look_up-found (is_publisher x.id) f.publishers i x (parts.publisher_ids x.id) here (eq-eqb x.id x.id refl)) in
-        let left : own_holders ended x.id s ≡ times s (without slot x.loans) + times s ((x.history).items ++ slot ∷ []) =
-        changed-own between i x (with_remembered slot x) here refl parts.publisher_ids x.id s
-        ∙ ap (λ t. cond t (times s (without slot x.loans) + times s ((x.history).items ++ slot ∷ [])) (own_holders between x.id s)) (eq-eqb x.id x.id refl) in
-        omega (arith, now, then, has, left, parts.counted.at x.id s, times_push s (x.history).items slot, fewer s)
-      where
-        fewer : (s : ℕ) → times s (without slot x.loans) + one_if s slot ≡ times s x.loans
-        fewer s = elim (cases_eq s slot) [
-          | inl is ↦
-              let e : times s (without slot x.loans) + times slot x.loans ≡ times s x.loans =
-              sym (ap (λ t. times s (without slot x.loans) + cond t (times slot x.loans) 0) (eq-eqb s slot is)) ∙ times-without s slot x.loans in
-              omega (arith, e, once, ap (λ (k : ℕ). one_if k slot) is, one_if_same slot)
-          | inr away ↦
-              let e : times s (without slot x.loans) + 0 ≡ times s x.loans =
-              sym (ap (λ t. times s (without slot x.loans) + cond t (times slot x.loans) 0) (ne_eqb s slot away)) ∙ times-without s slot x.loans in
-              omega (arith, e, one_if_other s slot away)
-        ]
-
-    others : (p s : ℕ) → p ≢ x.id → holders_of ended.books p s ≡ own_holders ended p s + sum_by (stands p s) f.connections.slots
-    others p s away =
-        let book : look_up (is_book_of p) ended.books.slots ≡ look_up (is_book_of p) f.books.slots =
-        other-book f x.book b (with_sent slot b) at (sent-keeps b slot) parts.books.one_each p (ne_eqb b.publisher p (λ same. away (sym same ∙ mine))) in
-        let now : holders_of ended.books p s ≡ holders_of f.books p s = ap (λ o. option_map_or (λ (c : Book). holders_at c s) o 0) book in
-        let left : own_holders ended p s ≡ own_holders between p s =
-        changed-own between i x (with_remembered slot x) here refl parts.publisher_ids p s
-        ∙ ap (λ t. cond t (times s (without slot x.loans) + times s ((x.history).items ++ slot ∷ [])) (own_holders between p s)) (ne_eqb x.id p (λ same. away (sym same))) in
-        let same : own_holders between p s ≡ own_holders f p s = ap (own s (look_up (is_publisher p) f.publishers)) book in
-        omega (arith, now, left, same, parts.counted.at p s)
 
   ended-shapes : HasShapes ended
   ended-shapes = record { at = λ k s c m stands e. shape k s m (message_at-slot f.contents ended.books k s c stands ∙ e) } where
@@ -286,23 +204,13 @@ module _ {T U : Type 0} (f : Fields T U) (parts : HasParts f) (i : ℕ) (x : Pub
 
   -- the fields agree with one another
   pub ended-parts : HasParts ended
-  ended-parts = record {
-    publisher_ids = changed-ids_apart f i x (with_remembered slot x) here refl parts.publisher_ids;
-    subscriber_ids = parts.subscriber_ids;
-    apart = parts.apart;
-    linked = changed-linked_same between i x (with_remembered slot x) here refl (linked-book f x.book b (with_sent slot b) at (sent-keeps b slot) parts.linked) keeps.key_room refl;
-    expired_room = parts.expired_room;
-    books = changed-books between i x (with_remembered slot x) here refl (books-changed f x.book b (with_sent slot b) at (sent-keeps b slot) parts.books aligned) keeps;
-    names = names-books f.books _ f.connections (book-after f x.book b (with_sent slot b) at (sent-keeps b slot)) parts.names;
-    counted = ended-counted;
-    numbered = ended-numbered;
-    publisher_room = changed-room f i x (with_remembered slot x) here refl parts.publisher_room keeps;
-    warning_room = parts.warning_room;
-    shapes = ended-shapes;
-    forms = parts.forms;
-    plain = changed-plain f i x (with_remembered slot x) here refl parts.plain keeps (λ has d e. absurd (let no : None ≡ Some d = sym free ∙ e in cc));
-  }
+  ended-parts =
+      own-parts f parts i x here b at mine (with_remembered slot x) keeps (with_sent slot b) (sent-keeps b slot) counts refl
+      (λ has d e. absurd (let no : None ≡ Some d = sym free ∙ e in cc)) aligned ended-numbered ended-shapes
     where
+      counts : (s : ℕ) → times s (without slot x.loans) + times s ((x.history).items ++ slot ∷ []) + holders_at b s ≡ times s x.loans + times s (x.history).items + holders_at b s
+      counts s = omega (arith, times_push s (x.history).items slot, times-without-one s slot x.loans once)
+
       aligned : IsAligned (with_sent slot b)
       aligned =
           let old : IsAligned b = (parts.books.books x.book b at).aligned in

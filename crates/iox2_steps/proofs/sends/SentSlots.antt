@@ -25,7 +25,7 @@ use Rattle.iox2_domain.proofs.lemmas.slots.BookChanges.{KeepsSlots}
 -- ---- lists of slots
 
 -- a slot that is taken out doesn't stand there, and the others do as often as before
-pub times-without : (s slot : ℕ) (slots : List ℕ) → times s (without slot slots) + cond (eqb s slot) (times slot slots) 0 ≡ times s slots
+times-without : (s slot : ℕ) (slots : List ℕ) → times s (without slot slots) + cond (eqb s slot) (times slot slots) 0 ≡ times s slots
 times-without s slot [] = by (eqb s slot) where
   by : (t : Bool) → 0 + cond {A = ℕ} t 0 0 ≡ 0
   by true = refl
@@ -62,6 +62,19 @@ times-without s slot (x ∷ xs) = elim (cases_eq x slot) [
       let there : times slot (x ∷ xs) ≡ times slot xs = let e = times-cons slot x xs in let z = one_if_other slot x (λ e. away (sym e)) in omega arith in
       ap (λ (k : ℕ). times s (without slot (x ∷ xs)) + cond (eqb s slot) k 0) there
       ∙ omega (arith, kept, rest, times-cons s x xs)
+
+-- where it stood once it is one less
+pub times-without-one : (s slot : ℕ) (slots : List ℕ) → times slot slots ≡ 1 → times s (without slot slots) + one_if s slot ≡ times s slots
+times-without-one s slot slots once = elim (cases_eq s slot) [
+  | inl same ↦
+      let e : times s (without slot slots) + times slot slots ≡ times s slots =
+      sym (ap (λ t. times s (without slot slots) + cond t (times slot slots) 0) (eq-eqb s slot same)) ∙ times-without s slot slots in
+      omega (arith, e, once, ap (λ (k : ℕ). one_if k slot) same, one_if_same slot)
+  | inr away ↦
+      let e : times s (without slot slots) + 0 ≡ times s slots =
+      sym (ap (λ t. times s (without slot slots) + cond t (times slot slots) 0) (ne_eqb s slot away)) ∙ times-without s slot slots in
+      omega (arith, e, one_if_other s slot away)
+]
 
 -- numbers of the other slots are the other numbers, where no other slot has the number
 pub map-without : (number : ℕ → ℕ) (slot n : ℕ) → number slot ≡ n → (slots : List ℕ) → ((s : ℕ) → 0 < times s slots → number s ≡ n → s ≡ slot)

@@ -1,24 +1,29 @@
 -- A history that is one message too long loses its oldest.
-use Rattle.std.proofs.Common.{◌≡◌, ℕ, ◌+◌, ◌-◌, ◌<◌, ◌≤◌, Bool, true, false, cond, List, [], ◌∷◌, ◌++◌, length, drop, map, get_or, refl, ap, sym, subst, ◌∙◌, arith}
-use Rattle.std.proofs.lemmas.Bool.{ltb-true, ltb-false}
-use Rattle.std.proofs.lemmas.List.{set-get_or, length-append, length-map}
+use Rattle.std.proofs.Common.{◌≡◌, ℕ, ◌+◌, ◌-◌, ◌<◌, ◌≤◌, Bool, true, false, cond, List, [], ◌∷◌, ◌++◌, length, drop, map, get_or, refl, ap, sym, subst, ◌∙◌, inl, inr, arith}
+use Rattle.std.proofs.lemmas.Bool.{cases_eq, ltb-true, ltb-false}
+use Rattle.std.proofs.lemmas.List.{set-get_or, length-set, length-append, length-map}
 use Rattle.std.specs.Prelude.{slice_set, slice_get, nat_lt}
 use Rattle.std.specs.declared.option.Option.{Option}
 use Rattle.std.specs.declared.option.Option.TheVariants.{None, Some}
 use Rattle.slab.specs.Slab.{Slab, get, with_value}
 use Rattle.circular_buffer.specs.Buffer.{Buffer, buffer, keep_last}
-use Rattle.iox2_slots.specs.SlotBook.{Book}
+use Rattle.iox2_slots.specs.SlotBook.{Book, holders_at}
 use Rattle.iox2_store.specs.machine.Numbers.{put_at, last_n}
 use Rattle.iox2_store.specs.machine.Records.{Entry, Loan, Publisher}
 use Rattle.iox2_store.specs.Stored.{IsHeldMessage}
+use Rattle.iox2_ends.specs.Counters.{times, one_holder_less}
+use Rattle.iox2_ends.proofs.Counts.{one_if, one_if_same, one_if_other, times-cons, get_or-one_holder_less}
 use Rattle.iox2_ends.proofs.MailboxChanges.{put_at-own}
 use Rattle.iox2_domain.specs.Ports.{PublisherFields}
 use Rattle.iox2_domain.specs.Kept.{Lent_message, state_of, entries_of}
-use Rattle.iox2_domain.specs.Fields.{Fields, kept_of, publisher_of, numbers_of}
+use Rattle.iox2_domain.specs.Fields.{Fields, kept_of, publisher_of, numbers_of, contents_at}
 use Rattle.iox2_domain.specs.Invariant.{HasNumber, HasLoneLoans, HasParts}
 use Rattle.iox2_domain.specs.Deliveries.{with_left}
-use Rattle.iox2_domain.proofs.lemmas.slots.Messages.{lies_at}
-use Rattle.iox2_steps.proofs.sends.HistoryLeft.{left, left-parts, left-lone, left-is, left-entries, left-keeps, was-number}
+use Rattle.iox2_domain.proofs.lemmas.slots.Messages.{lies_at, message_in-parts, message_at-slot}
+use Rattle.iox2_domain.proofs.lemmas.slots.PublisherBooks.{book-counts}
+use Rattle.iox2_domain.proofs.lemmas.slots.LoneLoans.{lone-counters}
+use Rattle.iox2_domain.proofs.lemmas.slots.Rebooked.{CanRebook, rebooked, rebooked-parts, rebooked-is, rebooked-entries, rebooked-keeps, rebooked-number}
+use Rattle.iox2_domain.proofs.lemmas.loans.PublisherChanges.{other_slots}
 
 -- ---- lists
 
@@ -103,30 +108,59 @@ module _ {T U : Type 0} (e : Fields T U) (parts : HasParts e) (i : ℕ) (z : Pub
 
   -- the oldest is lost
   module _ (full : length items ≡ capacity) (oldest : ℕ) (rest : List ℕ) (split : items ++ slot ∷ [] ≡ oldest ∷ rest) (size : length rest ≡ length items) where
-    sent : (n : ℕ) (l : Loan T U) → lies_at e z.book oldest ≡ Some (Lent_message n l) → ⊥
-    sent n l lies = is_sent oldest n l (ap (λ (xs : List ℕ). slice_get xs 0) split) lies
+    abbrev shorter : PublisherFields
+    shorter = record z { history = buffer rest (z.history).capacity }
 
-    less : Fields T U
-    less = left e parts i z here b at mine oldest rest (all ∙ split) sent
+    abbrev holders : List ℕ
+    holders = one_holder_less oldest b.holders
+
+    -- how often a slot stands in the history
+    counts : (s : ℕ) → times s (z.history).items ≡ one_if s oldest + times s rest
+    counts s = ap (times s) (all ∙ split) ∙ times-cons s oldest rest
+
+    oldest-in_use : 0 < holders_at b oldest
+    oldest-in_use = omega (arith, book-counts e parts i z here b at oldest, counts oldest, one_if_same oldest)
+
+    less : (s : ℕ) → get_or holders s 0 + one_if s oldest ≡ holders_at b s
+    less s = get_or-one_holder_less b.holders oldest s oldest-in_use
+
+    can-lose : CanRebook e z shorter b holders
+    can-lose = record {
+      settings = other_slots z z.loans rest z.blocked;
+      keys = refl;
+      lends = λ has. has;
+      slots = length-set b.holders oldest _;
+      used = λ s some. omega (arith, some, less s);
+      counts = λ s. omega (arith, counts s, less s);
+      lent = λ s n l none lies. elim (cases_eq s oldest) [
+        | inl same ↦ is_sent oldest n l (ap (λ (xs : List ℕ). slice_get xs 0) split) (ap (λ k. lies_at e z.book k) (sym same) ∙ lies)
+        | inr away ↦
+            let used : 0 < holders_at b s = (message_in-parts b (contents_at e.contents z.book) s (Lent_message n l) (sym (message_at-slot e.contents e.books z.book s b at) ∙ lies)).in_use in
+            absurd (omega (arith, used, none, less s, one_if_other s oldest away))
+      ];
+    }
+
+    abbrev less_one : Fields T U
+    less_one = rebooked e i z shorter b holders
 
     rest-is : keep_last capacity (items ++ slot ∷ []) ≡ rest
     rest-is = ap (last_n capacity) split ∙ last-long capacity oldest rest (size ∙ full)
 
-    shorter-is : trimmed (Some oldest) ≡ left e parts i z here b at mine oldest rest (all ∙ split) sent
+    shorter-is : trimmed (Some oldest) ≡ less_one
     shorter-is =
         (λ t. record (trimmed (Some oldest)) { publishers = slice_set e.publishers i (Some (record z { history = buffer (rest-is t) capacity })) })
         ∙ (λ t. record (trimmed (Some oldest)) { publishers = slice_set e.publishers i (Some (record z { history = buffer rest (ap (λ (h : Buffer ℕ). h.capacity) (sym long) t) })) })
 
-    lost : Trims e (left e parts i z here b at mine oldest rest (all ∙ split) sent) z.id capacity port
+    lost : Trims e less_one z.id capacity port
     lost = record {
-      parts = left-parts e parts i z here b at mine oldest rest (all ∙ split) sent;
-      lone = left-lone e parts i z here b at mine oldest rest (all ∙ split) sent lone;
+      parts = rebooked-parts e parts i z shorter here b at mine holders can-lose;
+      lone = lone-counters e.books z.book b holders at lone (λ s. omega (arith, less s));
       state =
-          left-is e parts i z here b at mine oldest rest (all ∙ split) sent
+          rebooked-is e parts i z shorter here b at mine holders can-lose
           ∙ (λ t. record (state_of (kept_of e)) { publishers = put_at (state_of (kept_of e)).publishers z.id (Some (record port { history = sym numbers-left t })) });
-      entries = left-entries e parts i z here b at mine oldest rest (all ∙ split) sent;
-      keeps = left-keeps e parts i z here b at mine oldest rest (all ∙ split) sent;
-      numbers = was-number e parts i z here b at mine oldest rest (all ∙ split) sent;
+      entries = rebooked-entries e parts i z shorter here b at mine holders can-lose;
+      keeps = rebooked-keeps e parts i z shorter here b at mine holders can-lose;
+      numbers = rebooked-number e parts i z shorter here b at mine holders can-lose;
     } where
       numbers-left : last_n capacity port.history ≡ map (numbers_of e.books z.id) rest
       numbers-left =

@@ -4,7 +4,7 @@ use Rattle.std.proofs.lemmas.Bool.{cases_eq, ne_eqb, eq-eqb}
 use Rattle.std.proofs.lemmas.List.{map-append}
 use Rattle.std.specs.declared.option.Option.{Option}
 use Rattle.std.specs.declared.option.Option.TheVariants.{None, Some}
-use Rattle.std.specs.Option.{option_map, option_map_or}
+use Rattle.std.specs.Option.{option_map}
 use Rattle.std.specs.List.{sum_by}
 use Rattle.slab.specs.Slab.{get}
 use Rattle.iox2_slots.specs.Link.{Link}
@@ -14,24 +14,21 @@ use Rattle.iox2_store.specs.machine.Numbers.{IsOnce}
 use Rattle.iox2_store.specs.machine.Records.{Publisher}
 use Rattle.iox2_store.specs.machine.State.{State}
 use Rattle.iox2_store.specs.machine.WellFormed.{LeadsTo}
-use Rattle.iox2_ends.specs.LookUp.{look_up}
 use Rattle.iox2_ends.specs.Counters.{times, stands, stands_in}
 use Rattle.iox2_ends.specs.Homes.{IsSenders}
 use Rattle.iox2_ends.specs.Mailboxes.{mailbox_of, subscriber_of_key}
 use Rattle.iox2_ends.specs.Receivers.{HasReclaimed}
 use Rattle.iox2_ends.proofs.Empties.{sum-keys}
 use Rattle.iox2_ends.proofs.Histories.{times-append}
-use Rattle.iox2_ends.proofs.LookUps.{look_up-found}
 use Rattle.iox2_ends.proofs.MailboxChanges.{mailbox-there, is_between-own}
 use Rattle.iox2_domain.specs.Ports.{PublisherFields}
 use Rattle.iox2_domain.specs.Kept.{state_of}
-use Rattle.iox2_domain.specs.Fields.{Fields, kept_of, publisher_of, numbers_of, is_book_of}
-use Rattle.iox2_domain.specs.Invariant.{IsDomain, is_publisher, own_holders, holders_of, is_loan_in}
+use Rattle.iox2_domain.specs.Fields.{Fields, kept_of, publisher_of, numbers_of}
+use Rattle.iox2_domain.specs.Invariant.{IsDomain}
 use Rattle.iox2_domain.proofs.lemmas.fields.ConnectionEnds.{publisher-stands, occupant-sender_ends}
 use Rattle.iox2_domain.proofs.lemmas.fields.Standing.{one-publisher, some_is}
 use Rattle.iox2_domain.proofs.lemmas.fields.Views.{mailboxes-are}
-use Rattle.iox2_domain.proofs.lemmas.slots.HeldMessages.{own-in_use}
-use Rattle.iox2_domain.proofs.lemmas.slots.PublisherBooks.{book-own}
+use Rattle.iox2_domain.proofs.lemmas.slots.PublisherBooks.{book-counts}
 use Rattle.iox2_steps.proofs.sends.LoanAlone.{once-times}
 
 module _ {T U : Type 0} (f : Fields T U) (sound : IsDomain f) (i : ℕ) (x : PublisherFields) (here : get_or f.publishers i None ≡ Some x)
@@ -45,17 +42,10 @@ module _ {T U : Type 0} (f : Fields T U) (sound : IsDomain f) (i : ℕ) (x : Pub
   present : s.publishers x.id ≡ Some P
   present = publisher-stands f sound.parts i x here
 
-  mine : b.publisher ≡ x.id
-  mine = book-own f sound.parts i x here b at
-
-  counts : (slot : ℕ) → holders_of f.books x.id slot ≡ holders_at b slot
-  counts slot = ap (λ o. option_map_or (λ (e : Book). holders_at e slot) o 0) (look_up-found (is_book_of x.id) f.books.slots x.book b (sound.parts.books.one_each x.id) at (eq-eqb b.publisher x.id mine))
-
   -- each slot of the history has a holder
   pub remembered-in_use : (slot : ℕ) → 0 < times slot (x.history).items → 0 < holders_at b slot
   remembered-in_use slot some =
-      let held : 0 < holders_of f.books x.id slot = own-in_use f sound.parts.counted sound.parts.publisher_ids i slot x here (omega (arith, some)) in
-      omega (arith, held, counts slot)
+      omega (arith, some, book-counts f sound.parts i x here b at slot)
 
   -- ---- how often a slot stands in one connection
 
@@ -125,15 +115,11 @@ module _ {T U : Type 0} (f : Fields T U) (sound : IsDomain f) (i : ℕ) (x : Pub
     -- so a slot has few holders
     pub held-few : (slot : ℕ) → (holders_at b slot ≤ length x.keys + 2) × (times slot (x.history).items ≤ 1)
     held-few slot =
-        let own : own_holders f x.id slot ≡ times slot x.loans + times slot (x.history).items =
-        ap (λ o. option_map_or (λ (z : PublisherFields). times slot z.loans + times slot (z.history).items) o
-        (option_map_or (λ e. cond (is_loan_in e slot) 1 0) (look_up (is_book_of x.id) f.books.slots) 0))
-        (look_up-found (is_publisher x.id) f.publishers i x (sound.parts.publisher_ids x.id) here (eq-eqb x.id x.id refl)) in
         let u = sound.well_formed.publishers x.id P present in
         let lent : times slot x.loans ≤ 1 = once-times (numbers_of f.books x.id) slot x.loans u.loans_once in
         let remembered : times slot (x.history).items ≤ 1 = once-times (numbers_of f.books x.id) slot (x.history).items u.history_once in
         let standing : sum_by (stands x.id slot) f.connections.slots ≤ length x.keys = sum-keys (stands x.id slot) refl x.keys f.connections.slots (few slot) (known slot) in
-        (omega (arith, counts slot, own, lent, remembered, standing, sound.parts.counted.at x.id slot), remembered)
+        (omega (arith, book-counts f sound.parts i x here b at slot, lent, remembered, standing), remembered)
 
     pub remembered-fits : length x.keys < 2 ^ 63 → (slot : ℕ) → holders_at b slot + times slot (x.history).items < 2 ^ 64
     remembered-fits short slot = omega (arith, (held-few slot).0, (held-few slot).1, short)

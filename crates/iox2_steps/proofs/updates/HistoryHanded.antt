@@ -1,9 +1,8 @@
 -- The last messages of a publisher's history wait in a connection in which no slot stood.
-use Rattle.std.proofs.Common.{◌≡◌, ℕ, zero, suc, ◌+◌, ◌-◌, ◌<◌, ◌≤◌, true, false, ◌&&◌, List, [], ◌∷◌, length, drop, map, get_or, refl, ap, sym, subst, ◌∙◌, inl, inr, arith}
-use Rattle.std.proofs.lemmas.Bool.{cases_eq, eq-eqb, lt-ltb}
+use Rattle.std.proofs.Common.{◌≡◌, ℕ, zero, suc, ◌+◌, ◌-◌, ◌<◌, true, false, ◌&&◌, List, [], ◌∷◌, length, drop, map, get_or, refl, ap, sym, subst, ◌∙◌, inl, inr, arith}
+use Rattle.std.proofs.lemmas.Bool.{eq-eqb, lt-ltb}
 use Rattle.std.proofs.lemmas.List.{length-map, drop-map}
 use Rattle.std.specs.Prelude.{slice_get, nat_lt}
-use Rattle.std.specs.declared.option.Option.{Option}
 use Rattle.std.specs.declared.option.Option.TheVariants.{None, Some}
 use Rattle.std.specs.Option.{option_map_or}
 use Rattle.slab.specs.Slab.{Slab, get, with_value}
@@ -19,10 +18,9 @@ use Rattle.iox2_slots.specs.declared.slots.mark.SlotMark.{SlotMark}
 use Rattle.iox2_slots.specs.declared.slots.mark.SlotMark.TheVariants.{Unwritten, Written, Sent}
 use Rattle.iox2_ends.specs.Counters.{times, stands_in, with_counters}
 use Rattle.iox2_ends.specs.Mailboxes.{mailbox_of, mailboxes_of, with_box}
-use Rattle.iox2_ends.specs.Recounts.{Recounts, returned_count}
-use Rattle.iox2_ends.proofs.Counts.{CountersFollow-changed}
+use Rattle.iox2_ends.specs.Recounts.{Recounts}
 use Rattle.iox2_ends.proofs.Histories.{times-last}
-use Rattle.iox2_ends.proofs.MailboxChanges.{Updates-with_value, SameHomes-updated, KeepsOthers-updated, mailboxes-changed, mailbox-there, both-true}
+use Rattle.iox2_ends.proofs.MailboxChanges.{Updates-with_value, mailboxes-changed, mailbox-there, both-true}
 use Rattle.iox2_laws.proofs.NumberLemmas.{contains_in_append, contains_in_last_n}
 use Rattle.iox2_laws.proofs.Puts.{at_each}
 use Rattle.iox2_domain.specs.Ports.{PublisherFields}
@@ -40,6 +38,7 @@ use Rattle.iox2_domain.proofs.lemmas.slots.NumbersInUse.{contains-map, times-sta
 use Rattle.iox2_domain.proofs.lemmas.slots.PublisherBooks.{book-own, book-owned}
 use Rattle.iox2_domain.proofs.lemmas.slots.RecountedLoans.{recounted_fields, recounted-kept, parts-recounted, recounted-is, recounted-entries, recounted-keeps}
 use Rattle.iox2_steps.proofs.updates.HistoryBounds.{remembered-in_use}
+use Rattle.iox2_ends.proofs.Recounts.{Recounts-one}
 use mathlib.Core.Path.{fun_ext}
 
 -- numbers of the last slots are the last numbers
@@ -78,14 +77,7 @@ module _ {T U : Type 0} (f : Fields T U) (sound : IsDomain f) (i : ℕ) (x : Pub
   connections = with_value f.connections key filled
 
   pub recounts : Recounts x.id b.holders f.connections holders connections
-  recounts = record {
-    homes = SameHomes-updated f.connections connections key c filled there refl (Updates-with_value f.connections key c filled there);
-    others = KeepsOthers-updated x.id f.connections connections key c (Some filled) there its (Updates-with_value f.connections key c filled there);
-    counters = CountersFollow-changed x.id b.holders holders f.connections.slots key c filled there its its (λ slot. follows slot);
-    slots = long;
-    in_use = λ slot some. used slot some;
-    fewer = λ k. same-returned k;
-  } where
+  recounts = Recounts-one x.id b.holders holders f.connections key c filled there its refl follows long used (omega arith) where
     absent : (slot : ℕ) (xs : List ℕ) → length xs ≡ 0 → times slot xs ≡ 0
     absent slot [] e = refl
     absent slot (y ∷ ys) e = absurd (omega arith)
@@ -104,18 +96,6 @@ module _ {T U : Type 0} (f : Fields T U) (sound : IsDomain f) (i : ℕ) (x : Pub
       by : (n : ℕ) → times slot (x.history).items ≡ n → 0 < get_or b.holders slot 0
       by zero e = omega (arith, some, e, counters slot, times-last slot c.buffer (x.history).items)
       by (suc n) e = remembered-in_use f sound i x here b at slot (omega (arith, e))
-
-    returned : Option Link → ℕ
-    returned o = option_map_or (λ (d : Link). length d.returned) o 0
-
-    same-returned : (k : ℕ) → returned_count connections k ≤ returned_count f.connections k
-    same-returned k = elim (cases_eq k key) [
-      | inl same ↦
-          let now : returned_count connections k ≡ length c.returned = ap (λ (j : ℕ). returned_count connections j) same ∙ ap returned (Updates-with_value f.connections key c filled there).changed in
-          let then : returned_count f.connections k ≡ length c.returned = ap (λ (j : ℕ). returned_count f.connections j) same ∙ ap returned there in
-          omega (arith, now, then)
-      | inr away ↦ let alike : returned_count connections k ≡ returned_count f.connections k = ap returned ((Updates-with_value f.connections key c filled there).others k away) in omega (arith, alike)
-    ]
 
   abbrev pub handed : Fields T U
   handed = recounted_fields f sound x.id x.book b at mine holders connections recounts

@@ -19,7 +19,7 @@ use Rattle.iox2_slots.specs.declared.slots.mark.SlotMark.TheVariants.{Unwritten,
 use Rattle.iox2_laws.proofs.LoanLaws.{with_loan_keeps}
 use Rattle.iox2_domain.specs.Kept.{KeptMessage, Lent_message, Sent_message, header_of, state_of, entries_of, is_numbered, loan_in, entry_in, message_numbered, loan_changed}
 use Rattle.iox2_domain.specs.Fields.{Fields, kept_of, message_of, message_in}
-use Rattle.iox2_domain.specs.Invariant.{IsDomain, IsLinked, HasShape, HasShapes, is_lent}
+use Rattle.iox2_domain.specs.Invariant.{IsDomain, HasShape, HasShapes, is_lent}
 use Rattle.iox2_domain.specs.LoanSlots.{LiesInSlot}
 use Rattle.iox2_domain.specs.Reaches.{Reaches}
 use Rattle.iox2_domain.specs.Shows.{KeepsEntries}
@@ -30,6 +30,7 @@ use Rattle.iox2_domain.proofs.lemmas.slots.Messages.{LiesIn, lies_at, message_in
 use Rattle.iox2_domain.proofs.lemmas.slots.SlotChanges.{slot-forms, with_slot, marked, marked-keeps, renewed, slot-books, slot-numbered, slot-counted, slot-state, others-lie, slot-lies, others-found, slot-found}
 use Rattle.iox2_domain.proofs.lemmas.fields.Views.{held-before}
 use Rattle.iox2_domain.proofs.lemmas.slots.LoneLoans.{lone-marked}
+use Rattle.iox2_domain.proofs.lemmas.fields.SameLinks.{linked-same}
 use mathlib.Core.Path.{fun_ext}
 
 -- ---- what lies in a loan's slot
@@ -230,7 +231,7 @@ module _ {T U : Type 0} (f : Fields T U) (sound : IsDomain f) (p n key slot : â„
           publisher_ids = sound.parts.publisher_ids;
           subscriber_ids = sound.parts.subscriber_ids;
           apart = sound.parts.apart;
-          linked = linked;
+          linked = linked-same f f.next_message f.warnings with_change.books with_change.contents sound.parts.linked;
           expired_room = sound.parts.expired_room;
           books = slot-books f sound key slot at.book at.stands cs at_c mark g change.room;
           names = names-books f.books _ f.connections
@@ -254,22 +255,6 @@ module _ {T U : Type 0} (f : Fields T U) (sound : IsDomain f) (p n key slot : â„
         lent Unwritten is = refl
         lent Written is = refl
         lent Sent is = absurd cc
-
-        linked : IsLinked with_change
-        linked = record {
-          senders = sound.parts.linked.senders;
-          receivers = sound.parts.linked.receivers;
-          expired = sound.parts.linked.expired;
-          ends = sound.parts.linked.ends;
-          receiver_places = sound.parts.linked.receiver_places;
-          knows = sound.parts.linked.knows;
-          knows_publishers = sound.parts.linked.knows_publishers;
-          sender_rooms = sound.parts.linked.sender_rooms;
-          receiver_rooms = sound.parts.linked.receiver_rooms;
-          limits = sound.parts.linked.limits;
-          returned = sound.parts.linked.returned;
-          marked = sound.parts.linked.marked;
-        }
 
       -- the step
       pub change-reaches : Reaches f with_change (with_loan state n (Some changed))

@@ -26,7 +26,7 @@ use Rattle.iox2_domain.specs.Ports.{PublisherFields, slot_length}
 use Rattle.iox2_domain.specs.Kept.{KeptMessage, Lent_message, state_of}
 use Rattle.iox2_store.specs.machine.Environments.{ample_memory}
 use Rattle.iox2_domain.specs.Fields.{Fields, kept_of, publisher_of, numbers_of, is_book_of}
-use Rattle.iox2_domain.specs.Invariant.{IsDomain, IsOwned, IsLinked, IsBook, HasBook, HasBooks, IsCounted, HasShape, HasShapes, is_publisher, own_holders, holders_of, is_loan_in}
+use Rattle.iox2_domain.specs.Invariant.{IsDomain, IsOwned, IsBook, HasBook, HasBooks, IsCounted, HasShape, HasShapes, is_publisher, own_holders, holders_of, is_loan_in}
 use Rattle.iox2_domain.specs.Reaches.{Reaches}
 use Rattle.iox2_domain.specs.Shows.{KeepsEntries}
 use Rattle.iox2_domain.proofs.lemmas.fields.NamedBooks.{names-books}
@@ -40,6 +40,7 @@ use Rattle.iox2_domain.proofs.lemmas.slots.SlotChanges.{forms-changed}
 use Rattle.iox2_domain.proofs.lemmas.loans.Taken.{taken-after, CanTakeSlot, with_taken, taken_book, taken_books, begun, begun_contents, lent, next_header, taken-stands, others-stand, begun-has, others-have, taken-one_each, taken-found, taken-holders, taken-numbered, taken-entries, lent-lies, others-lie, length-with_changed, room-with_changed, taken-lone}
 use Rattle.iox2_domain.proofs.lemmas.loans.Granted.{lender, with_granted, granted-is, taken-is, lends-granted}
 use Rattle.iox2_domain.proofs.lemmas.fields.Views.{held-before}
+use Rattle.iox2_domain.proofs.lemmas.fields.SameLinks.{linked-same}
 
 module _ {T U : Type 0} (f : Fields T U) (sound : IsDomain f) (i : ℕ) (x : PublisherFields) (at : get_or f.publishers i None ≡ Some x)
     (slot : ℕ) (can : CanTakeSlot f x slot) (user_header : U) (len : ℕ) (one : (f.config).variant ≡ FixedSize → len ≡ 1) where
@@ -269,7 +270,7 @@ module _ {T U : Type 0} (f : Fields T U) (sound : IsDomain f) (i : ℕ) (x : Pub
         publisher_ids = changed-ids_apart mid i x new_lender at refl sound.parts.publisher_ids;
         subscriber_ids = sound.parts.subscriber_ids;
         apart = sound.parts.apart;
-        linked = changed-linked_same mid i x new_lender at refl linked keeps.key_room refl;
+        linked = changed-linked_same mid i x new_lender at refl (linked-same f mid.next_message f.warnings mid.books mid.contents sound.parts.linked) keeps.key_room refl;
         expired_room = sound.parts.expired_room;
         books = changed-books mid i x new_lender at refl taken-books keeps;
         names = names-books f.books _ f.connections (taken-after f sound x slot can user_header len) sound.parts.names;
@@ -286,22 +287,7 @@ module _ {T U : Type 0} (f : Fields T U) (sound : IsDomain f) (i : ℕ) (x : Pub
       lone = taken-lone f sound x slot can user_header len;
       well_formed = rw (granted-is f sound i x at slot can user_header len) granted-well_formed;
       entries = changed-entries mid i x new_lender at refl sound.parts.publisher_ids taken-keeps_entries refl refl;
-    } where
-      linked : IsLinked mid
-      linked = record {
-        senders = sound.parts.linked.senders;
-        receivers = sound.parts.linked.receivers;
-        expired = sound.parts.linked.expired;
-        ends = sound.parts.linked.ends;
-        receiver_places = sound.parts.linked.receiver_places;
-        knows = sound.parts.linked.knows;
-        knows_publishers = sound.parts.linked.knows_publishers;
-        sender_rooms = sound.parts.linked.sender_rooms;
-        receiver_rooms = sound.parts.linked.receiver_rooms;
-        limits = sound.parts.linked.limits;
-        returned = sound.parts.linked.returned;
-        marked = sound.parts.linked.marked;
-      }
+    }
 
     -- the loan's step
     pub granted-reaches : Reaches f granted (loan_granted user_header state x.id machine len machine.segments)

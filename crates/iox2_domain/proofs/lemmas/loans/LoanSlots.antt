@@ -1,12 +1,11 @@
 -- Where the loans of a publisher lie.
-use Rattle.std.proofs.Common.{◌≡◌, ℕ, zero, suc, ◌+◌, ◌<◌, List, [], ◌∷◌, length, map, Bool, MatchOption, not, eqb, true, false, cond, get_or, refl, ap, sym, subst, ◌∙◌, arith, inl, inr}
-use Rattle.std.proofs.lemmas.Bool.{eq-eqb, eqb-true, true≢false}
+use Rattle.std.proofs.Common.{◌≡◌, ℕ, zero, suc, ◌+◌, ◌<◌, List, [], ◌∷◌, length, map, Bool, MatchOption, not, eqb, true, false, get_or, refl, ap, sym, subst, ◌∙◌, arith, inl, inr}
+use Rattle.std.proofs.lemmas.Bool.{eqb-true, true≢false}
 use Rattle.std.specs.Prelude.{slice_get, slice_index, is_some}
 use Rattle.std.proofs.lemmas.List.{get_or_default}
 use Rattle.std.specs.declared.option.Option.{Option}
 use Rattle.std.specs.declared.option.Option.TheVariants.{None, Some}
 use Rattle.std.specs.Option.{option_map_or}
-use Rattle.std.specs.List.{sum_by}
 use Rattle.slab.specs.Slab.{get, ContainsKey}
 use Rattle.iox2_store.specs.machine.Numbers.{contains}
 use Rattle.iox2_store.specs.machine.SingleCalls.{HoldsLoan}
@@ -15,20 +14,20 @@ use Rattle.iox2_contents.specs.SlotContents.{ContentState}
 use Rattle.iox2_store.specs.machine.Records.{Loan}
 use Rattle.iox2_slots.specs.declared.slots.mark.SlotMark.{SlotMark}
 use Rattle.iox2_slots.specs.declared.slots.mark.SlotMark.TheVariants.{Unwritten, Written, Sent}
-use Rattle.iox2_ends.specs.LookUp.{look_up}
 use Rattle.iox2_ends.specs.Counters.{times, stands}
 use Rattle.iox2_ends.proofs.Counts.{one_if, one_if_same, times-cons}
 use Rattle.iox2_laws.proofs.NumberLemmas.{contains_in_cons}
-use Rattle.iox2_ends.proofs.LookUps.{look_up-found}
 use Rattle.iox2_ends.proofs.MailboxChanges.{within_if_some}
 use Rattle.iox2_domain.specs.declared.message_slots.MessageSlot.{MessageSlot}
 use Rattle.iox2_domain.specs.Ports.{PublisherFields}
 use Rattle.iox2_domain.specs.Kept.{KeptMessage, Lent_message, Sent_message, state_of}
-use Rattle.iox2_domain.specs.Fields.{Fields, kept_of, publisher_of, numbers_of, is_book_of, message_of, message_in, contents_at}
-use Rattle.iox2_domain.specs.Invariant.{IsDomain, is_publisher, is_lent, holders_of, own_holders, is_loan_in}
+use Rattle.iox2_domain.specs.Fields.{Fields, kept_of, publisher_of, numbers_of, message_of, message_in, contents_at}
+use Rattle.iox2_domain.specs.Invariant.{IsDomain, is_lent, holders_of}
 use Rattle.iox2_domain.specs.LoanSlots.{IsLoanSlot, IsInNoSlot, HasNoLoan, LendsAt, LiesInSlot}
 use Rattle.iox2_domain.proofs.lemmas.fields.ConnectionEnds.{publisher-stands}
 use Rattle.iox2_domain.proofs.lemmas.slots.Messages.{LiesIn, message_in-parts, held-message, message_at-book, message_at-slot, in_use_within, loan-there, loan-found}
+use Rattle.iox2_domain.proofs.lemmas.slots.Holders.{book-by_id, book-holders}
+use Rattle.iox2_domain.proofs.lemmas.slots.PublisherBooks.{book-counts}
 
 module _ {T U : Type 0} where
   -- the message in a slot in which a loan lies is that loan
@@ -84,14 +83,11 @@ module _ {T U : Type 0} (f : Fields T U) (sound : IsDomain f) where
   -- the number of a slot in the book at the key
   pub number-at : (key slot : ℕ) (b : Book) → get f.books key ≡ Some b → numbers_of f.books b.publisher slot ≡ slice_index b.numbers slot
   number-at key slot b stands =
-      ap (λ o. option_map_or (λ (c : Book). slice_index c.numbers slot) o 0)
-      (look_up-found (is_book_of b.publisher) f.books.slots key b (sound.parts.books.one_each b.publisher) stands (eq-eqb b.publisher b.publisher refl))
+      ap (λ o. option_map_or (λ (c : Book). slice_index c.numbers slot) o 0) (book-by_id f.books key b.publisher b (sound.parts.books.one_each b.publisher) stands refl)
 
   -- how many hold a slot of the book at the key
   pub holders-at : (key slot : ℕ) (b : Book) → get f.books key ≡ Some b → holders_of f.books b.publisher slot ≡ holders_at b slot
-  holders-at key slot b stands =
-      ap (λ o. option_map_or (λ (c : Book). holders_at c slot) o 0)
-      (look_up-found (is_book_of b.publisher) f.books.slots key b (sound.parts.books.one_each b.publisher) stands (eq-eqb b.publisher b.publisher refl))
+  holders-at key slot b stands = book-holders f.books key b.publisher b (sound.parts.books.one_each b.publisher) stands refl slot
 
   -- a publisher's book is its own
   pub book-its : (i : ℕ) (x : PublisherFields) (b : Book) → get_or f.publishers i None ≡ Some x → get f.books x.book ≡ Some b → b.publisher ≡ x.id
@@ -107,12 +103,7 @@ module _ {T U : Type 0} (f : Fields T U) (sound : IsDomain f) where
   loans-in_use i j x b at here its lt =
       let slot : ℕ = slice_index x.loans j in
       let some : 0 < times slot x.loans = times-some x.loans j lt in
-      let counted : holders_of f.books x.id slot ≡ own_holders f x.id slot + sum_by (stands x.id slot) f.connections.slots = sound.parts.counted.at x.id slot in
-      let found : look_up (is_publisher x.id) f.publishers ≡ Some x = look_up-found (is_publisher x.id) f.publishers i x (sound.parts.publisher_ids x.id) at (eq-eqb x.id x.id refl) in
-      let own : own_holders f x.id slot ≡ times slot x.loans + times slot x.history.items =
-      ap (λ o. option_map_or (λ (z : PublisherFields). times slot z.loans + times slot (z.history).items) o (option_map_or (λ c. cond (is_loan_in c slot) 1 0) (look_up (is_book_of x.id) f.books.slots) 0)) found in
-      let same : holders_of f.books x.id slot ≡ holders_at b slot = ap (λ p. holders_of f.books p slot) (sym its) ∙ holders-at x.book slot b here in
-      omega arith
+      omega (arith, some, book-counts f sound.parts i x at b here slot)
 
   -- a loan that is out lies in some slot of its publisher
   pub loan-lies : (p n : ℕ) → HoldsLoan (state_of (kept_of f)) p n

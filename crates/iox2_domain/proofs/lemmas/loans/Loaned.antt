@@ -42,6 +42,18 @@ module _ {T U : Type 0} (is_default : U → Type 0) (f mid : Fields T U) (sound 
   pub may-lend : LoanDecided mid checks len i None → CanGrant mid checks len i
   may-lend free = subst (λ (o : Option PublisherFields). IsSomeAnd o (λ z. CanGrant mid checks len i)) at_mid free
 
+  -- its publisher is the one that asked
+  asker : (can : CanGrant mid checks len i) → can.publisher ≡ x
+  asker can = let found : Some can.publisher ≡ Some x = sym can.stands ∙ at_mid in cc
+
+  short : LoanDecided mid checks len i None → (checks && is_static x.allocation && nat_lt x.initial_max_slice_len len) ≡ false
+  short free =
+      let can = may-lend free in
+      subst (λ (z : PublisherFields). (checks && is_static z.allocation && nat_lt z.initial_max_slice_len len) ≡ false) (asker can) can.short
+
+  few : LoanDecided mid checks len i None → length x.loans < x.max_loaned_samples
+  few free = let can = may-lend free in subst (λ (z : PublisherFields). length z.loans < z.max_loaned_samples) (asker can) can.few
+
   -- a slot is lent
   pub loan-lent : ((mid.config).variant ≡ FixedSize → len ≡ 1) → LoanDecided mid checks len i None → (loan : LoanAt) (new : Fields T U)
       → IsSomeAnd (get_or mid.publishers i None) (λ z. Lends is_default mid i z loan.slot len new)
@@ -52,21 +64,6 @@ module _ {T U : Type 0} (is_default : U → Type 0) (f mid : Fields T U) (sound 
     where
       its : Lends is_default mid i x loan.slot len new
       its = subst (λ (o : Option PublisherFields). IsSomeAnd o (λ z. Lends is_default mid i z loan.slot len new)) at_mid lends
-
-      can : CanGrant mid checks len i
-      can = may-lend free
-
-      short : (checks && is_static x.allocation && nat_lt x.initial_max_slice_len len) ≡ false
-      short =
-          let found : Some can.publisher ≡ Some x = sym can.stands ∙ at_mid in
-          let is : can.publisher ≡ x = cc in
-          subst (λ (z : PublisherFields). (checks && is_static z.allocation && nat_lt z.initial_max_slice_len len) ≡ false) is can.short
-
-      few : length x.loans < x.max_loaned_samples
-      few =
-          let found : Some can.publisher ≡ Some x = sym can.stands ∙ at_mid in
-          let is : can.publisher ≡ x = cc in
-          subst (λ (z : PublisherFields). length z.loans < z.max_loaned_samples) is can.few
 
       machine-same : (publisher_of mid.books mid.connections x).port ≡ (publisher_of f.books f.connections x).port
       machine-same =
@@ -82,8 +79,8 @@ module _ {T U : Type 0} (is_default : U → Type 0) (f mid : Fields T U) (sound 
       both : Step (state_of (kept_of f)) ((publisher_of f.books f.connections x).port)
       both = subst (λ (s : State T U). Step s ((publisher_of f.books f.connections x).port)) reached.state
           (subst (Step (state_of (kept_of mid))) machine-same (
-            lent-grants mid reached.agrees i x at_mid checks len short one few can.more is_default loan.slot new its,
-            lent-reaches mid reached.agrees i x at_mid checks len short one few can.more is_default loan.slot new its,
+            lent-grants mid reached.agrees i x at_mid checks len (short free) one (few free) (may-lend free).more is_default loan.slot new its,
+            lent-reaches mid reached.agrees i x at_mid checks len (short free) one (few free) (may-lend free).more is_default loan.slot new its,
           ))
 
   -- it is the publisher's loan, of the next message
@@ -101,22 +98,7 @@ module _ {T U : Type 0} (is_default : U → Type 0) (f mid : Fields T U) (sound 
   loan-lies one free loan new named lends =
       let names = subst (λ (o : Option PublisherFields). IsSomeAnd o (λ z. IsNamed mid z loan)) at_mid named in
       rw (names.publisher, names.number, names.book)
-      (lent-in_slot mid reached.agrees i x at_mid checks len short one few can.more is_default loan.slot new its)
+      (lent-in_slot mid reached.agrees i x at_mid checks len (short free) one (few free) (may-lend free).more is_default loan.slot new its)
     where
       its : Lends is_default mid i x loan.slot len new
       its = subst (λ (o : Option PublisherFields). IsSomeAnd o (λ z. Lends is_default mid i z loan.slot len new)) at_mid lends
-
-      can : CanGrant mid checks len i
-      can = may-lend free
-
-      short : (checks && is_static x.allocation && nat_lt x.initial_max_slice_len len) ≡ false
-      short =
-          let found : Some can.publisher ≡ Some x = sym can.stands ∙ at_mid in
-          let is : can.publisher ≡ x = cc in
-          subst (λ (z : PublisherFields). (checks && is_static z.allocation && nat_lt z.initial_max_slice_len len) ≡ false) is can.short
-
-      few : length x.loans < x.max_loaned_samples
-      few =
-          let found : Some can.publisher ≡ Some x = sym can.stands ∙ at_mid in
-          let is : can.publisher ≡ x = cc in
-          subst (λ (z : PublisherFields). length z.loans < z.max_loaned_samples) is can.few

@@ -1,11 +1,11 @@
 -- The record of one publisher changes at its place.
-use Rattle.std.proofs.Common.{◌≡◌, ◌≢◌, ℕ, zero, suc, ◌+◌, ◌≤◌, ◌<◌, List, [], ◌∷◌, map, Bool, true, false, cond, eqb, get_or, slice_set, refl, ap, sym, subst, ◌∙◌, inl, inr, ◌⊎◌, arith}
+use Rattle.std.proofs.Common.{◌≡◌, ◌≢◌, ℕ, zero, suc, le_refl, ◌+◌, ◌≤◌, ◌<◌, List, [], ◌∷◌, map, Bool, true, false, cond, eqb, get_or, slice_set, refl, ap, sym, subst, ◌∙◌, inl, inr, ◌⊎◌, arith}
 use Rattle.std.proofs.lemmas.Bool.{cases_eq, eqb-true}
 use Rattle.std.specs.declared.option.Option.{Option}
 use Rattle.std.specs.declared.option.Option.TheVariants.{None, Some}
 use Rattle.std.specs.Option.{option_map, option_map_or}
 use Rattle.slab.specs.Slab.{Slab, get}
-use Rattle.circular_buffer.specs.Buffer.{Buffer}
+use Rattle.circular_buffer.specs.Buffer.{Buffer, buffer}
 use Rattle.iox2_slots.specs.Link.{Link}
 use Rattle.iox2_slots.specs.SlotBook.{Book}
 use Rattle.iox2_store.specs.machine.Numbers.{put_at}
@@ -16,6 +16,7 @@ use Rattle.iox2_ends.specs.Homes.{IsSenderLinked}
 use Rattle.std.proofs.lemmas.List.{get_or-set_same, get_or-set_other}
 use Rattle.iox2_ends.proofs.MailboxChanges.{within_if_some}
 use Rattle.iox2_ends.proofs.LookUps.{look_up-changed, look_up-found}
+use Rattle.iox2_domain.specs.declared.publisher_state.BlockedDelivery.{BlockedDelivery}
 use Rattle.iox2_domain.specs.Ports.{PublisherFields}
 use Rattle.iox2_domain.specs.Kept.{Named, state_of, port_named, ids, is_named}
 use Rattle.iox2_domain.specs.Fields.{Fields, kept_of, publisher_of, is_book_of, numbers_of}
@@ -44,6 +45,24 @@ pub record KeepsSettings (x y : PublisherFields) : Type 0 where
   pub loan_room : x.loan_room ≤ y.loan_room
   pub history_room : (y.history).capacity ≡ (x.history).capacity
   pub key_room : x.key_room ≤ y.key_room
+
+-- other slots of its own change no setting of a publisher
+pub other_slots : (x : PublisherFields) (loans items : List ℕ) (blocked : Option BlockedDelivery)
+    → KeepsSettings x (record x { loans = loans; history = buffer items (x.history).capacity; blocked = blocked })
+other_slots x loans items blocked = record {
+  id = refl;
+  book = refl;
+  max_loaned_samples = refl;
+  slots = refl;
+  strategy = refl;
+  backpressure_handler = refl;
+  degradation_handler = refl;
+  allocation = refl;
+  initial_max_slice_len = refl;
+  loan_room = le_refl x.loan_room;
+  history_room = refl;
+  key_room = le_refl x.key_room;
+}
 
 -- ---- lists with a record at each place
 

@@ -17,6 +17,7 @@ use Rattle.iox2_domain.specs.Ports.{PublisherFields}
 use Rattle.iox2_domain.specs.Kept.{state_of, port_named, ids, stands_between, box_if_any}
 use Rattle.iox2_domain.specs.Fields.{Fields, kept_of, publisher_of, between_of, is_book_of, numbers_of, blocked_send}
 use Rattle.iox2_domain.specs.Invariant.{IsLinked, HasBook, HasBooks, holders_of}
+use Rattle.iox2_domain.proofs.lemmas.fields.SameLinks.{linked-same}
 use mathlib.Core.Path.{fun_ext}
 
 -- the fields with this book at the key
@@ -172,17 +173,4 @@ module _ {T U : Type 0} (f : Fields T U) (key : ℕ) (b d : Book) (at : get f.bo
 
   -- ports and connections don't see it
   pub linked-book : IsLinked f → IsLinked (with_book f key d)
-  linked-book linked = record {
-    senders = linked.senders;
-    receivers = linked.receivers;
-    expired = linked.expired;
-    ends = linked.ends;
-    receiver_places = linked.receiver_places;
-    knows = linked.knows;
-    knows_publishers = linked.knows_publishers;
-    sender_rooms = linked.sender_rooms;
-    receiver_rooms = linked.receiver_rooms;
-    limits = linked.limits;
-    returned = linked.returned;
-    marked = linked.marked;
-  }
+  linked-book linked = linked-same f f.next_message f.warnings (with_value f.books key d) f.contents linked

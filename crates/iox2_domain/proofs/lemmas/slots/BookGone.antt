@@ -19,12 +19,13 @@ use Rattle.iox2_ends.proofs.MailboxChanges.{within_if_some}
 use Rattle.iox2_domain.specs.Ports.{PublisherFields}
 use Rattle.iox2_domain.specs.Kept.{state_of, entries_of, entry_in, loan_in, message_numbered, port_named, ids, stands_between, box_if_any}
 use Rattle.iox2_domain.specs.Fields.{Fields, kept_of, kept_book, map_from, is_book_of, numbers_of, message_in, messages_in, contents_at, publisher_of, between_of, blocked_send}
-use Rattle.iox2_domain.specs.Invariant.{HasLoneLoans, HasNumber, HasBook, HasBooks, IsBook, IsLinked, NamesBooks, IsNumbered, IsCounted, HasShapes, HasForms, IsOwned, IsLeft, KeepsBooks, holders_of, own_holders, is_publisher, is_loan_in, HasParts}
+use Rattle.iox2_domain.specs.Invariant.{HasLoneLoans, HasNumber, HasBook, HasBooks, IsBook, NamesBooks, IsNumbered, IsCounted, HasShapes, HasForms, IsOwned, IsLeft, KeepsBooks, holders_of, own_holders, is_publisher, is_loan_in, HasParts}
 use Rattle.iox2_domain.specs.LeftBooks.{with_book_gone}
 use Rattle.iox2_domain.proofs.lemmas.containers.LookUps.{look_up-removed, IsOnly-removed}
 use Rattle.iox2_domain.proofs.lemmas.slots.MessageLists.{look_up-nothing_there, found_in, numbered-same}
 use Rattle.iox2_domain.proofs.lemmas.slots.Messages.{map_from_zero-at}
 use Rattle.iox2_domain.proofs.lemmas.slots.Renumbered.{map-alike}
+use Rattle.iox2_domain.proofs.lemmas.fields.SameLinks.{linked-same}
 use mathlib.Core.Path.{fun_ext}
 
 module _ {T U : Type 0} (f : Fields T U) (parts : HasParts f) (key : ℕ) (b : Book) (at : get f.books key ≡ Some b)
@@ -226,29 +227,13 @@ module _ {T U : Type 0} (f : Fields T U) (parts : HasParts f) (key : ℕ) (b : B
     ];
   }
 
-  linked : IsLinked after
-  linked = record {
-    senders = parts.linked.senders;
-    receivers = parts.linked.receivers;
-    expired = parts.linked.expired;
-    ends = parts.linked.ends;
-    receiver_places = parts.linked.receiver_places;
-    knows = parts.linked.knows;
-    knows_publishers = parts.linked.knows_publishers;
-    sender_rooms = parts.linked.sender_rooms;
-    receiver_rooms = parts.linked.receiver_rooms;
-    limits = parts.linked.limits;
-    returned = parts.linked.returned;
-    marked = parts.linked.marked;
-  }
-
   -- the fields agree with one another
   pub gone-parts : HasParts after
   gone-parts = record {
     publisher_ids = parts.publisher_ids;
     subscriber_ids = parts.subscriber_ids;
     apart = parts.apart;
-    linked = linked;
+    linked = linked-same f f.next_message f.warnings after.books after.contents parts.linked;
     expired_room = parts.expired_room;
     books = has_books;
     names = names;

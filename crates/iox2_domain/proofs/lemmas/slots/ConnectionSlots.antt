@@ -10,10 +10,10 @@ use Rattle.iox2_slots.specs.SlotBook.{Book, holders_at}
 use Rattle.iox2_ends.specs.Counters.{times, IsCovered}
 use Rattle.iox2_ends.specs.LookUp.{look_up}
 use Rattle.iox2_ends.proofs.Counts.{one_if, one_if_same, times-cons, counter_if_stands}
-use Rattle.iox2_ends.proofs.LookUps.{look_up-found}
 use Rattle.iox2_slots.proofs.LinkLemmas.{contains-from}
 use Rattle.iox2_domain.specs.Fields.{Fields, is_book_of, numbers_of}
-use Rattle.iox2_domain.specs.Invariant.{IsDomain, holders_of}
+use Rattle.iox2_domain.specs.Invariant.{IsDomain}
+use Rattle.iox2_domain.proofs.lemmas.slots.Holders.{book-by_id, book-holders}
 
 -- an element of a list stands there at least once
 pub times-some : (slot : ℕ) (slots : List ℕ) → Contains slots slot → 0 < times slot slots
@@ -28,7 +28,7 @@ times-some slot slots has = by slots (contains-from slots slot has) where
 module _ {T U : Type 0} (f : Fields T U) (sound : IsDomain f) (key book : ℕ) (c : Link) (b : Book) (at : get f.connections key ≡ Some c) (at_b : get f.books book ≡ Some b)
     (its : b.publisher ≡ c.home.publisher) where
   found-book : look_up (is_book_of c.home.publisher) f.books.slots ≡ Some b
-  found-book = look_up-found (is_book_of c.home.publisher) f.books.slots book b (sound.parts.books.one_each c.home.publisher) at_b (eq-eqb b.publisher c.home.publisher its)
+  found-book = book-by_id f.books book c.home.publisher b (sound.parts.books.one_each c.home.publisher) at_b its
 
   -- the book has the numbers of the connection's slots
   pub book-numbers : (slot : ℕ) → numbers_of f.books c.home.publisher slot ≡ slice_index b.numbers slot
@@ -36,10 +36,7 @@ module _ {T U : Type 0} (f : Fields T U) (sound : IsDomain f) (key book : ℕ) (
 
   book-covers : IsCovered c.home.publisher b.holders f.connections.slots
   book-covers = record {
-    at = λ slot.
-        let counted = sound.parts.counted.at c.home.publisher slot in
-        let here : holders_of f.books c.home.publisher slot ≡ holders_at b slot = ap (λ o. option_map_or (λ (d : Book). holders_at d slot) o 0) found-book in
-        omega (arith, counted, here);
+    at = λ slot. omega (arith, sound.parts.counted.at c.home.publisher slot, book-holders f.books book c.home.publisher b (sound.parts.books.one_each c.home.publisher) at_b its slot);
   }
 
   -- a slot that waits is in use

@@ -1,6 +1,6 @@
 -- Whatever stands in a loan, a history or a connection is a slot in use, in which its message lies.
-use Rattle.std.proofs.Common.{◌≡◌, ℕ, ◌+◌, ◌<◌, ◌≤◌, true, cond, eqb, List, [], ◌∷◌, map, get_or, refl, ap, sym, subst, ◌∙◌, inl, inr, arith}
-use Rattle.std.proofs.lemmas.Bool.{eqb-true, eq-eqb}
+use Rattle.std.proofs.Common.{◌≡◌, ℕ, ◌+◌, ◌<◌, ◌≤◌, true, eqb, List, [], ◌∷◌, map, get_or, refl, ap, sym, subst, ◌∙◌, inl, inr, arith}
+use Rattle.std.proofs.lemmas.Bool.{eqb-true}
 use Rattle.std.proofs.lemmas.List.Sums.{get_or-le-sum_by}
 use Rattle.std.specs.Prelude.{slice_index}
 use Rattle.std.specs.declared.option.Option.{Option}
@@ -17,7 +17,7 @@ use Rattle.iox2_store.specs.Stored.{IsHeldMessage, In_history, In_mailbox, In_bl
 use Rattle.iox2_ends.specs.LookUp.{look_up, IsOnly}
 use Rattle.iox2_ends.specs.Counters.{times, stands_in, stands}
 use Rattle.iox2_ends.specs.Mailboxes.{is_between, mailbox_if_any, sender_ends}
-use Rattle.iox2_ends.proofs.LookUps.{look_up-there, look_up-found}
+use Rattle.iox2_ends.proofs.LookUps.{look_up-there}
 use Rattle.iox2_ends.proofs.MailboxChanges.{within_if_some, both-true}
 use Rattle.iox2_ends.proofs.Counts.{times-cons, one_if_same, stands-own}
 use Rattle.iox2_laws.proofs.NumberLemmas.{contains_in_append, contains_in_cons}
@@ -25,9 +25,10 @@ use Rattle.iox2_domain.specs.Ports.{PublisherFields}
 use Rattle.iox2_domain.specs.declared.publisher_state.BlockedDelivery.{BlockedDelivery}
 use Rattle.iox2_domain.specs.Kept.{Named, state_of, is_named}
 use Rattle.iox2_domain.specs.Fields.{Fields, kept_of, publisher_of, is_book_of, numbers_of, blocked_send}
-use Rattle.iox2_domain.specs.Invariant.{IsCounted, HasNumber, is_publisher, own_holders, holders_of, is_loan_in, IsPlain}
+use Rattle.iox2_domain.specs.Invariant.{IsCounted, HasNumber, is_publisher, holders_of, IsPlain}
 use Rattle.iox2_domain.proofs.lemmas.containers.LookUps.{look_up-map}
 use Rattle.iox2_domain.proofs.lemmas.fields.Views.{mailboxes-are}
+use Rattle.iox2_domain.proofs.lemmas.slots.Holders.{own-slots}
 
 -- a number of a list of slots belongs to one that stands there
 pub slot_numbered : (number : ℕ → ℕ) (n : ℕ) (slots : List ℕ) → contains (map number slots) n ≡ true → (slot : ℕ) × (0 < times slot slots) × (number slot ≡ n)
@@ -65,11 +66,7 @@ module _ {T U : Type 0} (f : Fields T U) where
     -- a slot that is a publisher's loan or in its history has a holder
     pub own-in_use : (i slot : ℕ) (x : PublisherFields) → get_or f.publishers i None ≡ Some x → 0 < times slot x.loans + times slot (x.history).items → 0 < holders_of f.books x.id slot
     own-in_use i slot x at some =
-        let own : own_holders f x.id slot ≡ times slot x.loans + times slot (x.history).items =
-        ap (λ o. option_map_or (λ (z : PublisherFields). times slot z.loans + times slot (z.history).items) o
-        (option_map_or (λ b. cond (is_loan_in b slot) 1 0) (look_up (is_book_of x.id) f.books.slots) 0))
-        (look_up-found (is_publisher x.id) f.publishers i x (ids x.id) at (eq-eqb x.id x.id refl)) in
-        omega (arith, counted.at x.id slot, own, some)
+        omega (arith, counted.at x.id slot, own-slots f ids i x at slot, some)
 
     -- a slot that stands in a connection has a holder
     pub standing-in_use : (key slot : ℕ) (c : Link) → get f.connections key ≡ Some c → 0 < stands_in slot c → 0 < holders_of f.books c.home.publisher slot

@@ -1,25 +1,24 @@
 -- A publisher that stands somewhere, with its book and its connections; and the books of connections.
-use Rattle.std.proofs.Common.{◌≡◌, ℕ, zero, suc, ◌<◌, List, [], ◌∷◌, length, get_or, refl, ap, sym, ◌∙◌, arith}
-use Rattle.std.proofs.lemmas.Bool.{eq-eqb}
+use Rattle.std.proofs.Common.{◌≡◌, ℕ, zero, suc, ◌+◌, ◌<◌, List, [], ◌∷◌, length, get_or, refl, ap, sym, ◌∙◌, arith}
 use Rattle.std.specs.declared.option.Option.{Option}
 use Rattle.std.specs.declared.option.Option.TheVariants.{None, Some}
-use Rattle.std.specs.Option.{option_map_or}
+use Rattle.std.specs.List.{sum_by}
 use Rattle.slab.specs.Slab.{get, ContainsKey}
 use Rattle.iox2_slots.specs.Link.{Link}
 use Rattle.iox2_slots.specs.SlotBook.{Book, holders_at}
-use Rattle.iox2_ends.specs.Counters.{IsCovered}
+use Rattle.iox2_ends.specs.Counters.{IsCovered, times, stands}
 use Rattle.iox2_ends.specs.Reclaims.{IsHeld}
 use Rattle.iox2_ends.specs.Homes.{IsSenderLinked}
-use Rattle.iox2_ends.proofs.LookUps.{look_up-found}
 use Rattle.iox2_ends.proofs.MailboxChanges.{within_if_some}
 use Rattle.iox2_ends.proofs.ReclaimedPuts.{held-at}
 use Rattle.iox2_domain.specs.Ports.{PublisherFields}
-use Rattle.iox2_domain.specs.Fields.{Fields, is_book_of}
-use Rattle.iox2_domain.specs.Invariant.{IsBookOf, IsOwned, HasBook, holders_of, HasParts}
+use Rattle.iox2_domain.specs.Fields.{Fields}
+use Rattle.iox2_domain.specs.Invariant.{IsBookOf, IsOwned, HasBook, HasParts}
+use Rattle.iox2_domain.proofs.lemmas.slots.Holders.{book-holders, own-slots}
 
-module _ {T U : Type 0} (f : Fields T U) (parts : HasParts f) (i : ℕ) (x : PublisherFields) (stands : get_or f.publishers i None ≡ Some x) where
+module _ {T U : Type 0} (f : Fields T U) (parts : HasParts f) (i : ℕ) (x : PublisherFields) (here : get_or f.publishers i None ≡ Some x) where
   its_book : HasBook f x
-  its_book = parts.books.publishers i x stands
+  its_book = parts.books.publishers i x here
 
   -- its book is there
   pub book-there : ContainsKey f.books x.book
@@ -31,20 +30,21 @@ module _ {T U : Type 0} (f : Fields T U) (parts : HasParts f) (i : ℕ) (x : Pub
 
   -- and it has its book
   pub book-owned : IsOwned f.publishers x.book x.id
-  book-owned = record { place = i; publisher = x; stands = stands; is_its = refl; has = refl }
+  book-owned = record { place = i; publisher = x; stands = here; is_its = refl; has = refl }
 
   -- its places lead to its connections
   pub sender-linked : IsSenderLinked x.id f.connections x.keys
-  sender-linked = parts.linked.senders i x stands
+  sender-linked = parts.linked.senders i x here
 
-  -- its book counts each place where a slot of it stands
+  -- its book counts how often each slot stands among the loans, in the history and in connections
+  pub book-counts : (b : Book) → get f.books x.book ≡ Some b → (slot : ℕ)
+      → holders_at b slot ≡ times slot x.loans + times slot (x.history).items + sum_by (stands x.id slot) f.connections.slots
+  book-counts b at slot = omega (arith, book-holders f.books x.book x.id b (parts.books.one_each x.id) at (book-own b at) slot, own-slots f parts.publisher_ids i x here slot, parts.counted.at x.id slot)
+
+  -- which covers those in connections
   pub book-covers : (b : Book) → get f.books x.book ≡ Some b → IsCovered x.id b.holders f.connections.slots
   book-covers b at = record {
-    at = λ slot.
-        let found : holders_of f.books x.id slot ≡ holders_at b slot =
-        ap (λ o. option_map_or (λ (c : Book). holders_at c slot) o 0)
-        (look_up-found (is_book_of x.id) f.books.slots x.book b (parts.books.one_each x.id) at (eq-eqb b.publisher x.id (book-own b at))) in
-        omega (arith, found, parts.counted.at x.id slot);
+    at = λ slot. omega (arith, book-counts b at slot);
   }
 
 -- the connections of a domain have their books, which hold what stands in them
@@ -61,11 +61,7 @@ module _ {T U : Type 0} (f : Fields T U) (parts : HasParts f) (key : ℕ) (c : L
       let is : its-book.book ≡ b = cc in
       let its : b.publisher ≡ c.home.publisher = ap (λ (d : Book). d.publisher) (sym is) ∙ its-book.is_its in
       held-at c.home.publisher b.holders f.connections key c (record {
-        at = λ slot.
-            let here : holders_of f.books c.home.publisher slot ≡ holders_at b slot =
-            ap (λ o. option_map_or (λ (d : Book). holders_at d slot) o 0)
-            (look_up-found (is_book_of c.home.publisher) f.books.slots c.home.book b (parts.books.one_each c.home.publisher) at_b (eq-eqb b.publisher c.home.publisher its)) in
-            omega (arith, parts.counted.at c.home.publisher slot, here);
+        at = λ slot. omega (arith, parts.counted.at c.home.publisher slot, book-holders f.books c.home.book c.home.publisher b (parts.books.one_each c.home.publisher) at_b its slot);
       }) at refl
 
 -- what was read at a place is what stands there

@@ -34,6 +34,7 @@ use Rattle.iox2_domain.proofs.lemmas.slots.BookChanges.{KeepsSlots, books-apart,
 use Rattle.iox2_domain.proofs.lemmas.slots.HeldMessages.{slot_numbered, own-in_use, lies_with}
 use Rattle.iox2_domain.proofs.lemmas.slots.RecountedFields as fields
 use Rattle.iox2_domain.proofs.lemmas.slots.Recounts.{OwnStays, recounted-consistent}
+use Rattle.iox2_domain.proofs.lemmas.slots.Holders.{book-by_id, book-holders}
 
 -- the publisher of a loan is that of the book in which it lies
 pub loan-publisher : {T U : Type 0} (b : Book) (contents : List (ContentState T U)) (slot n : ℕ) (l : Loan T U) → LiesIn b contents slot (Lent_message n l) → l.publisher ≡ b.publisher
@@ -62,7 +63,7 @@ module _ {T U : Type 0} (f : Fields T U) (parts : HasParts f) (lone : HasLoneLoa
   keeps = record { publisher = refl; node = refl; numbers = refl; slots = r.slots }
 
   is-its : look_up (is_book_of p) f.books.slots ≡ Some b
-  is-its = look_up-found (is_book_of p) f.books.slots key b (parts.books.one_each p) at (eq-eqb b.publisher p mine)
+  is-its = book-by_id f.books key p b (parts.books.one_each p) at mine
 
   -- what the publisher itself has of the slot, or what is out of one that is gone
   abbrev own_of : (slot : ℕ) → Option PublisherFields → Option Book → ℕ
@@ -77,7 +78,7 @@ module _ {T U : Type 0} (f : Fields T U) (parts : HasParts f) (lone : HasLoneLoa
     by true loan =
         let both = both-true _ _ loan in
         let one : holders_at b slot ≡ 1 = lone.at key slot b at loan in
-        let holders_are : holders_of f.books p slot ≡ holders_at b slot = ap (λ o. option_map_or (λ (c : Book). holders_at c slot) o 0) is-its in
+        let holders_are : holders_of f.books p slot ≡ holders_at b slot = book-holders f.books key p b (parts.books.one_each p) at mine slot in
         let own_are : own_holders f p slot ≡ 1 =
         ap (λ o. own_of slot o (look_up (is_book_of p) f.books.slots)) gone
         ∙ ap (λ o. own_of slot None o) is-its

@@ -30,10 +30,12 @@ use Rattle.iox2_laws.proofs.Sizes.{size_is, size_le}
 use Rattle.iox2_domain.specs.Ports.{PublisherFields}
 use Rattle.iox2_domain.specs.Kept.{state_of}
 use Rattle.iox2_domain.specs.Fields.{Fields, kept_of, publisher_of, is_book_of, numbers_of}
-use Rattle.iox2_domain.specs.Invariant.{IsDomain, HasBook, is_publisher, own_holders, holders_of, is_loan_in}
+use Rattle.iox2_domain.specs.Invariant.{IsDomain, HasBook, is_publisher, holders_of}
 use Rattle.iox2_domain.proofs.lemmas.fields.ConnectionEnds.{publisher-stands}
 use Rattle.iox2_domain.proofs.lemmas.fields.Views.{mailboxes-are}
 use Rattle.iox2_domain.proofs.lemmas.slots.NumbersInUse.{used, used-there, used-has, used-once, HasApart, length-used_free, length-used_all, times-there, times-stands, contains-map, contains-map_there, sum_by-positive}
+use Rattle.iox2_domain.proofs.lemmas.slots.Holders.{book-by_id, book-holders}
+use Rattle.iox2_domain.proofs.lemmas.slots.PublisherBooks.{book-counts}
 
 module _ {T U : Type 0} (f : Fields T U) (sound : IsDomain f) where
   -- a slot that stands in a connection has a holder
@@ -49,29 +51,20 @@ module _ {T U : Type 0} (f : Fields T U) (sound : IsDomain f) where
     its_book = sound.parts.books.publishers i x at
 
     -- it is found by the publisher's id
-    pub book-found : look_up (is_book_of x.id) f.books.slots ≡ Some its_book.book
-    book-found =
-        look_up-found (is_book_of x.id) f.books.slots x.book its_book.book (sound.parts.books.one_each x.id) its_book.stands
-        (eq-eqb (its_book.book).publisher x.id its_book.is_its)
+    found : look_up (is_book_of x.id) f.books.slots ≡ Some its_book.book
+    found = book-by_id f.books x.book x.id its_book.book (sound.parts.books.one_each x.id) its_book.stands its_book.is_its
 
     -- the number of a slot is the one in the book
     pub numbers-are : (slot : ℕ) → numbers_of f.books x.id slot ≡ slice_index (its_book.book).numbers slot
-    numbers-are slot = ap (λ o. option_map_or (λ (b : Book). slice_index b.numbers slot) o 0) book-found
+    numbers-are slot = ap (λ o. option_map_or (λ (b : Book). slice_index b.numbers slot) o 0) found
 
     -- the holders of a slot are those in the book
     pub holders-are : (slot : ℕ) → holders_of f.books x.id slot ≡ holders_at its_book.book slot
-    holders-are slot = ap (λ o. option_map_or (λ b. holders_at b slot) o 0) book-found
-
-    -- what the publisher itself has
-    pub own-are : (slot : ℕ) → own_holders f x.id slot ≡ times slot x.loans + times slot (x.history).items
-    own-are slot =
-        ap (λ o. option_map_or (λ (z : PublisherFields). times slot z.loans + times slot (z.history).items) o
-        (option_map_or (λ b. cond (is_loan_in b slot) 1 0) (look_up (is_book_of x.id) f.books.slots) 0))
-        (look_up-found (is_publisher x.id) f.publishers i x (sound.parts.publisher_ids x.id) at (eq-eqb x.id x.id refl))
+    holders-are slot = book-holders f.books x.book x.id its_book.book (sound.parts.books.one_each x.id) its_book.stands its_book.is_its slot
 
     -- each slot has as many holders as there are places where it stands
     pub slot-counted : (slot : ℕ) → holders_at its_book.book slot ≡ times slot x.loans + times slot (x.history).items + sum_by (stands x.id slot) f.connections.slots
-    slot-counted slot = sym (holders-are slot) ∙ sound.parts.counted.at x.id slot ∙ ap (λ n. n + sum_by (stands x.id slot) f.connections.slots) (own-are slot)
+    slot-counted = book-counts f sound.parts i x at its_book.book its_book.stands
 
     -- a slot among the loans has a holder
     pub loan-in_use : (slot : ℕ) → contains x.loans slot ≡ true → 0 < holders_at its_book.book slot
