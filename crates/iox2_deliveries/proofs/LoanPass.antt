@@ -1,5 +1,5 @@
 -- A loan by a publisher that first reclaimed slots where none of its book was free.
-use Rattle.std.proofs.Common.{◌≡◌, ◌<◌, ◌≤◌, ℕ, ◌+◌, ◌*◌, ◌^◌, ◌&&◌, nat_lt, Bool, true, false, All, List, None, Some, Ok, Err, length, get_or, set-set, slice_set, refl, ap, sym, subst, ◌∙◌}
+use Rattle.std.proofs.Common.{◌≡◌, ◌<◌, ◌≤◌, ℕ, ◌+◌, ◌*◌, ◌^◌, ◌&&◌, nat_lt, Bool, true, false, All, List, None, Some, Ok, Err, length, get_or, set-set, slice_set, refl, ap, sym, subst, ◌∙◌, arith}
 use Rattle.std.proofs.lemmas.List.{set-get_or}
 use Rattle.std.specs.declared.option.Option.{Option}
 use Rattle.std.specs.Option.{option_map}
@@ -16,6 +16,7 @@ use Rattle.iox2_slots.specs.SlotBook.{Book, TakesFreeSlot, header_in}
 use Rattle.iox2_ends.specs.Counters.{with_counters}
 use Rattle.iox2_ends.specs.Receivers.{HasReclaimed}
 use Rattle.iox2_ends.specs.Reclaims.{Reclaims}
+use Rattle.iox2_ends.proofs.Recounts.{Recounts-same}
 use Rattle.iox2_domain.specs.Fields.{Fields, kept_of}
 use Rattle.iox2_domain.specs.Invariant.{IsDomain}
 use Rattle.iox2_domain.specs.Kept.{state_of}
@@ -29,6 +30,14 @@ use Rattle.iox2_domain.proofs.lemmas.loans.LendingSteps.{lends-from, lent-fits, 
 use Rattle.iox2_domain.proofs.lemmas.loans.Lent.{decided-long, decided-limited, decided-full, decided-failed, decided-free}
 use Rattle.iox2_domain.proofs.lemmas.loans.Loaned.{loan-refused, loan-lent, loan-lies}
 use Rattle.iox2_domain.proofs.lemmas.slots.ReclaimSteps.{publisher-reclaims}
+
+-- where nothing is reclaimed
+pub reclaims-nothing : (p : ℕ) (hs : List ℕ) (slab : Slab Link) → Reclaims p hs slab hs slab
+reclaims-nothing p hs slab = record {
+  mailboxes = λ number. refl;
+  recounts = Recounts-same p hs slab;
+  shrinks = λ slot. omega arith;
+}
 
 module _ {T U : Type 0} (before f : Fields T U) (same : f ≡ before) (agrees : IsDomain before) (i : ℕ) (x : PublisherFields) (at : get_or f.publishers i None ≡ Some x)
     (b book : Book) (its : get f.books x.book ≡ Some b) (links : Slab Link) (is : book ≡ with_counters b book.holders)

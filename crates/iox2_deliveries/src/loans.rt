@@ -53,13 +53,13 @@ pub fn loan<T: Drop, U: Default + Drop>(
     };
     let key = publisher.book;
     let book = &mut state.books[key];
-    reclaim_if_full(publisher, &mut state.connections, book);
     if is_too_long(publisher, checks_length, len) {
         return Err(LoanError::ExceedsMaxLoanSize);
     }
     if publisher.loans.len() >= publisher.max_loaned_samples {
         return Err(LoanError::ExceedsMaxLoans);
     }
+    reclaim_if_full(publisher, &mut state.connections, book);
     if book.is_full() {
         return Err(LoanError::OutOfMemory);
     }

@@ -5,7 +5,7 @@ use Rattle.iox2_domain.specs.Invariant.{IsDomain}
 use Rattle.iox2_domain.specs.Lending.{lending}
 use Rattle.iox2_domain.proofs.lemmas.slots.PublisherBooks.{read-there, book-there, sender-linked, book-covers}
 use Rattle.iox2_domain.proofs.lemmas.loans.LendingSteps.{contents-within, named-seen}
-use Rattle.iox2_deliveries.proofs.LoanPass.{refused-long, refused-limited, refused-full, refused-last, lent-short_units, lent-length, lent-room, granted, granted-lies}
+use Rattle.iox2_deliveries.proofs.LoanPass.{reclaims-nothing, refused-long, refused-limited, refused-full, refused-last, lent-short_units, lent-length, lent-room, granted, granted-lies}
 use Rattle.iox2_deliveries.proofs.loans.loan.Goals as goal
 
 pub unreachable-requires : goal.unreachable-requires
@@ -74,7 +74,7 @@ lend-requires g c =
 pub returns-then-is_too_long-clause-reaches : goal.returns-then-is_too_long-clause-reaches
 returns-then-is_too_long-clause-reaches g c = refused-long {T = g.row.T.Denot} {U = g.row.U.Denot} _ _ c.state.view_is c.requires.agrees c.args.place _
     (read-there _ c.args.place _ _ (ap (λ (f : Fields g.row.T.Denot g.row.U.Denot). slice_index_or f.publishers c.args.place None) c.state.view_is ∙ c.requires.stands.1) c.index_mut.ensures.value ∙ c.in-Some.is ∙ ap Some (sym c.publisher.view_is))
-    _ _ c.index_mut-book.ensures.value _ c.reclaim_if_full.ensures.book _ c.publisher.view_is c.reclaim_if_full.ensures.reclaims c.args.checks_length c.args.len
+    _ _ c.index_mut-book.ensures.value _ refl _ c.publisher.view_is (reclaims-nothing _ _ _) c.args.checks_length c.args.len
     g.U.Default.is_default (sym c.if-is_too_long.ensures)
 
 pub returns-then-len-publisher-clause-reaches : goal.returns-then-len-publisher-clause-reaches
@@ -82,7 +82,7 @@ returns-then-len-publisher-clause-reaches g c =
     let long : vec_len c.publisher.inside.loans ≡ length c.publisher.inside.loans.items = search rules in
     refused-limited {T = g.row.T.Denot} {U = g.row.U.Denot} _ _ c.state.view_is c.requires.agrees c.args.place _
     (read-there _ c.args.place _ _ (ap (λ (f : Fields g.row.T.Denot g.row.U.Denot). slice_index_or f.publishers c.args.place None) c.state.view_is ∙ c.requires.stands.1) c.index_mut.ensures.value ∙ c.in-Some.is ∙ ap Some (sym c.publisher.view_is))
-    _ _ c.index_mut-book.ensures.value _ c.reclaim_if_full.ensures.book _ c.publisher.view_is c.reclaim_if_full.ensures.reclaims c.args.checks_length c.args.len
+    _ _ c.index_mut-book.ensures.value _ refl _ c.publisher.view_is (reclaims-nothing _ _ _) c.args.checks_length c.args.len
     (sym c.if-is_too_long.ensures) g.U.Default.is_default (omega (arith, c.if-len-publisher.true, c.len.ensures, long))
 
 pub returns-then-is_full-clause-reaches : goal.returns-then-is_full-clause-reaches
