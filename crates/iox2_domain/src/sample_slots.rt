@@ -112,11 +112,11 @@ impl<T: Drop, U: Default + Drop> DomainState<T, U> {
         })
     }
 
-    /// Where the message lies that the subscriber has borrowed, and `None` where it hasn't. Every
-    /// connection is gone through.
+    // Where the message lies that the subscriber has borrowed, and `None` where it hasn't. Every
+    // connection is gone through.
     #[cold]
     #[inline(never)]
-    pub fn find_sample(&self, subscriber: UniqueSubscriberId, number: u128) -> Option<SampleSlot>
+    fn find_sample(&self, subscriber: UniqueSubscriberId, number: u128) -> Option<SampleSlot>
         requires { IsDomain self.now }
         ensures { MatchOption result (HoldsSample (state_of (kept_of self.now)) subscriber number → ⊥) (LiesBorrowed self.now subscriber number) }
     {
