@@ -107,14 +107,6 @@ impl<T: Drop, U: Default + Drop> DomainState<T, U> {
         find_live_place(&self.publishers, id.value(), hint)
     }
 
-    /// The place of a subscriber that stands. It is looked for at the hint first.
-    pub fn find_live_subscriber(&self, id: UniqueSubscriberId, hint: usize) -> usize
-        requires { look_up (is_subscriber id) self.now.subscribers ≡ None → ⊥ }
-        ensures { (y : SubscriberFields) × (slice_index_or self.now.subscribers result None ≡ Some y) × (y.id ≡ id) }
-    {
-        find_live_place(&self.subscribers, id.value(), hint)
-    }
-
     /// The place of the subscriber with an id, and `None` where there is none. It is looked for at
     /// the hint first.
     pub fn find_subscriber(&self, id: UniqueSubscriberId, hint: usize) -> Option<usize>

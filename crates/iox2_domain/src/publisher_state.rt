@@ -1,5 +1,5 @@
 //! What a domain has of a publisher.
-ghost use Rattle.std.specs.Prelude.{◌≡◌, ◌<◌, ◌≤◌, [], length, slice_get, vec_capacity, IfOk, MatchOption, Some};
+ghost use Rattle.std.specs.Prelude.{◌≡◌, ◌<◌, ◌≤◌, [], length, vec_capacity, IfOk};
 ghost use Rattle.iox2_store.specs.machine.Numbers.{without};
 ghost use Rattle.iox2_ends.specs.Counters.{times};
 
@@ -11,6 +11,7 @@ use crate::ports::Port;
 use circular_buffer::HeapCircularBuffer;
 use iox2_ends::receiver::key_in;
 use iox2_ends::sender::Progress;
+use iox2_slots::place_of;
 use iox2_store::{
     BackpressureAction, BackpressureHandler, BackpressureStrategy, DegradationAction,
     ServiceConfig, UniquePublisherId,
@@ -215,24 +216,6 @@ fn search_and_remove(slots: &mut Vec<usize>, slot: usize)
     if let Some(place) = place_of(slots, slot) {
         slots.remove(place);
     }
-}
-
-// A place at which a slot stands. It is looked for from both ends, since either the oldest or the
-// newest loans end first.
-#[inline(never)]
-fn place_of(slots: &[usize], slot: usize) -> Option<usize>
-    ensures { MatchOption result (times slot slots.now ≡ 0) (λ place. slice_get slots.now place ≡ Some slot) }
-{
-    for place in 0..slots.len() {
-        if slots[place] == slot {
-            return Some(place);
-        }
-        let from_end = slots.len() - 1 - place;
-        if slots[from_end] == slot {
-            return Some(from_end);
-        }
-    }
-    None
 }
 
 impl Port for PublisherState {

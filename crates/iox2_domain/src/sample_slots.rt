@@ -40,7 +40,8 @@ pub struct SampleSlot {
     pub slot: usize,
 }
 
-// The borrowed slot with a number.
+// The borrowed slot with a number. It is looked for from both ends, since either the oldest or the
+// newest samples are released first.
 fn find_borrowed(connection: &Connection, book: &SlotBook, number: u128) -> Option<usize>
     requires { (slot : ℕ) → Contains connection.now.borrowed slot → slot < length book.now.holders }
     ensures { MatchOption result (HasNoneNumbered connection.now book.now number) (IsNumberedSlot connection.now book.now number) }
@@ -50,6 +51,10 @@ fn find_borrowed(connection: &Connection, book: &SlotBook, number: u128) -> Opti
         let slot = borrowed[index];
         if book.number(slot) == number {
             return Some(slot);
+        }
+        let from_end = borrowed[borrowed.len() - 1 - index];
+        if book.number(from_end) == number {
+            return Some(from_end);
         }
     }
     None
@@ -112,11 +117,11 @@ impl<T: Drop, U: Default + Drop> DomainState<T, U> {
         })
     }
 
-    /// Where the message lies that the subscriber has borrowed, and `None` where it hasn't. Every
-    /// connection is gone through.
+    // Where the message lies that the subscriber has borrowed, and `None` where it hasn't. Every
+    // connection is gone through.
     #[cold]
     #[inline(never)]
-    pub fn find_sample(&self, subscriber: UniqueSubscriberId, number: u128) -> Option<SampleSlot>
+    fn find_sample(&self, subscriber: UniqueSubscriberId, number: u128) -> Option<SampleSlot>
         requires { IsDomain self.now }
         ensures { MatchOption result (HoldsSample (state_of (kept_of self.now)) subscriber number → ⊥) (LiesBorrowed self.now subscriber number) }
     {

@@ -20,5 +20,5 @@ module _ {F G : Type 0} where
   has_box boxes = is_some boxes.backpressure || is_some boxes.degradation
 
   -- Where there is any box, there is room for one port's more.
-  abbrev pub HasRoomFor : PortBoxes F G → KeptBoxes F G → Type 0
-  HasRoomFor boxes kept = IsTrue (has_box boxes) → length kept.boxes < kept.room
+  abbrev pub HasRoomForBoxes : PortBoxes F G → KeptBoxes F G → Type 0
+  HasRoomForBoxes boxes kept = IsTrue (has_box boxes) → length kept.boxes < kept.room

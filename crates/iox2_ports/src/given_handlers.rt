@@ -3,7 +3,7 @@ ghost use Rattle.std.specs.Prelude.{◌≡◌, ◌≢◌, ℕ, OnOk};
 ghost use Rattle.iox2_domain.specs.Boxes.{box_of, boxes_of, degradation_box_of};
 ghost use Rattle.iox2_domain.specs.Handlers.{handler_if_any};
 ghost use Rattle.iox2_ends.specs.Handlers.{marks_of};
-ghost use Rattle.iox2_ports.specs.Handlers.{HasRoomFor, custom_box, has_box};
+ghost use Rattle.iox2_ports.specs.Handlers.{HasRoomForBoxes, custom_box, has_box};
 
 use iox2_domain::{Boxes, HandlerMark, PortBoxes};
 use iox2_store::{BackpressureAction, BackpressureHandler};
@@ -45,7 +45,7 @@ pub(crate) fn reserve_for<F: Drop, G: Drop>(
     boxes: &PortBoxes<F, G>,
 ) -> Result<(), AllocError>
     ensures same { (kept.new).boxes ≡ (kept.old).boxes }
-    ensures room { OnOk result (HasRoomFor boxes.now kept.new) }
+    ensures room { OnOk result (HasRoomForBoxes boxes.now kept.new) }
 {
     if has_box(boxes) {
         kept.reserve_one()
@@ -56,7 +56,7 @@ pub(crate) fn reserve_for<F: Drop, G: Drop>(
 
 /// Keeps the boxes for the port with this id, if there are any. It takes no memory.
 pub(crate) fn keep_boxes<F: Drop, G: Drop>(kept: &mut Boxes<F, G>, id: u128, boxes: PortBoxes<F, G>)
-    requires { HasRoomFor boxes kept.old }
+    requires { HasRoomForBoxes boxes kept.old }
     ensures backpressure { box_of id (kept.new).boxes ≡ boxes.backpressure }
     ensures degradation { degradation_box_of id (kept.new).boxes ≡ boxes.degradation }
     ensures others { (port : ℕ) → port ≢ id → boxes_of port (kept.new).boxes ≡ boxes_of port (kept.old).boxes }

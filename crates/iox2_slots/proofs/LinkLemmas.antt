@@ -1,26 +1,14 @@
 -- What a connection's calls are to the lists of its slots.
-use Rattle.std.proofs.Common.{◌≡◌, ℕ, zero, suc, ◌+◌, ◌<◌, ◌==◌, Bool, List, [], ◌∷◌, ◌++◌, ◌-◌, true, false, length, drop, take, refl, Option, Some, None, get_or, arith, ap, sym, subst, ◌∙◌, inl, inr, eqb, eq-eqb, Contains, lt-ltb, position, ⊎_elim}
+use Rattle.std.proofs.Common.{◌≡◌, ℕ, zero, suc, ◌+◌, ◌<◌, ◌==◌, List, [], ◌∷◌, ◌++◌, ◌-◌, true, false, length, drop, take, refl, Option, Some, None, get_or, arith, ap, sym, subst, ◌∙◌, cond, eqb, eq-eqb, Contains, ⊎_elim}
 use Rattle.std.proofs.Math.Seq.{take-suc, take-length}
-use Rattle.std.proofs.lemmas.Bool.{cases_lt, eqb-true, false≢true, ne_eqb, or_cases, or_left, or_right, or_parts}
+use Rattle.std.proofs.lemmas.Bool.{false≢true, ne_eqb, or_cases, or_left, or_right, or_parts}
 use Rattle.std.proofs.lemmas.Option.{slice_get_within, get_or_from_slice_get}
-use Rattle.std.proofs.lemmas.List.Sums.{fails_before_first}
 use Rattle.std.proofs.lemmas.List.{length-append}
-use Rattle.std.specs.List.{position_or_len}
-use Rattle.std.specs.Prelude.{remove, slice_get}
+use Rattle.std.proofs.lemmas.List.Sums.{sum_by-cons}
+use Rattle.std.specs.Prelude.{count_by, remove, slice_get}
 use Rattle.iox2_slots.specs.Link.{Link, IsPut, IsTaken, IsDropped, IsReclaimed}
 use Rattle.iox2_store.specs.machine.Numbers.{contains, without, IsOnce}
 use Rattle.iox2_slots.specs.declared.connection.PutOutcome.TheVariants.{Overwrote}
-
--- the first place of a number that stands in a list
-pub position_of_contained : (xs : List ℕ) (x : ℕ) → Contains xs x → (position_or_len (λ y. y == x) xs < length xs) × (position (λ y. y == x) xs ≡ Some (position_or_len (λ y. y == x) xs))
-position_of_contained xs x at =
-    let within : position_or_len (λ y. y == x) xs < length xs =
-    elim (cases_lt (position_or_len (λ y. y == x) xs) (length xs)) [
-      | inl below ↦ below
-      | inr past ↦
-          absurd (false≢true (sym (fails_before_first (λ y. y == x) xs at.0 x (omega arith)) ∙ eq-eqb (get_or xs at.0 x) x at.2))
-    ] in
-    (within, rw (lt-ltb _ _ within) refl)
 
 -- the first waiting slot of a ring was borrowed
 pub taken_first : (c d : Link) (xs : List ℕ) (slot : ℕ) → c.waiting ≡ xs → Some slot ≡ slice_get xs 0 → d ≡ record c { waiting = drop 1 xs; borrowed = c.borrowed ++ slot ∷ [] } → IsTaken c (Some slot) d
@@ -62,22 +50,29 @@ contains-from (x ∷ xs) n h = by h.0 h.1 h.2 (λ k below at. contains-from xs n
   by zero below at later = or_left (eqb x n) (contains xs n) (eq-eqb x n at)
   by (suc k) below at later = or_right (eqb x n) (contains xs n) (later k (omega arith) at)
 
--- the first place of the slot is taken out
-first-out : (slot : ℕ) (xs : List ℕ) → contains xs slot ≡ true → IsOnce xs → remove xs (position_or_len (λ y. y == slot) xs) ≡ without slot xs
-first-out slot [] h once = absurd (false≢true h)
-first-out slot (x ∷ xs) h once = by (eqb x slot) refl (λ r. first-out slot xs r once.1) where
-  one : (n : ℕ) → 1 + n ≡ suc n
-  one n = omega arith
+-- what stands at a place passes the test for it
+contains-at : (xs : List ℕ) (place n : ℕ) → slice_get xs place ≡ Some n → contains xs n ≡ true
+contains-at [] place n at = absurd cc
+contains-at (x ∷ xs) zero n at = let same : x ≡ n = cc in or_left (eqb x n) (contains xs n) (eq-eqb x n same)
+contains-at (x ∷ xs) (suc k) n at = or_right (eqb x n) (contains xs n) (contains-at xs k n at)
 
-  by : (b : Bool) → eqb x slot ≡ b → (contains xs slot ≡ true → remove xs (position_or_len (λ y. y == slot) xs) ≡ without slot xs)
-      → remove (x ∷ xs) (position_or_len (λ y. y == slot) (x ∷ xs)) ≡ without slot (x ∷ xs)
-  by true e later = rw (e) (sym (without-absent slot xs (ap (contains xs) (sym (eqb-true x slot e)) ∙ once.0)))
-  by false e later =
-      let rest : contains xs slot ≡ true = ⊎_elim (λ same. absurd (false≢true (sym e ∙ same))) (λ r. r) (or_cases (eqb x slot) (contains xs slot) h) in
-      rw (e, one (position_or_len (λ y. eqb y slot) xs)) (ap (λ r. x ∷ r) (later rest))
+-- what stands in a list is counted
+pub counted-there : (xs : List ℕ) (n : ℕ) → contains xs n ≡ true → count_by (λ other. other == n) xs ≡ 0 → ⊥
+counted-there [] n h none = false≢true h
+counted-there (x ∷ xs) n h none =
+    let all : count_by (λ other. other == n) (x ∷ xs) ≡ cond (eqb x n) 1 0 + count_by (λ other. other == n) xs = sum_by-cons (λ (y : ℕ). cond (eqb y n) 1 0) x xs in
+    ⊎_elim (λ same. let one : cond {A = ℕ} (eqb x n) 1 0 ≡ 1 = ap (λ t. cond {A = ℕ} t 1 0) same in omega (arith, all, one, none))
+    (λ later. counted-there xs n later (omega (arith, all, none))) (or_cases (eqb x n) (contains xs n) h)
 
-pub removed-first : (slot : ℕ) (xs : List ℕ) → Contains xs slot → IsOnce xs → remove xs (position_or_len (λ y. y == slot) xs) ≡ without slot xs
-removed-first slot xs h once = first-out slot xs (contains-from xs slot h) once
+-- the slot at a place is taken out
+pub removed-at : (slot : ℕ) (xs : List ℕ) (place : ℕ) → slice_get xs place ≡ Some slot → IsOnce xs → remove xs place ≡ without slot xs
+removed-at slot [] place at once = absurd cc
+removed-at slot (x ∷ xs) zero at once =
+    let same : x ≡ slot = cc in
+    rw (eq-eqb x slot same) (sym (without-absent slot xs (ap (contains xs) (sym same) ∙ once.0)))
+removed-at slot (x ∷ xs) (suc k) at once =
+    let apart : eqb x slot ≡ false = ne_eqb x slot (λ same. false≢true (sym once.0 ∙ ap (contains xs) same ∙ contains-at xs k slot at)) in
+    rw apart (ap (λ r. x ∷ r) (removed-at slot xs k at once.1))
 
 contains-last : (xs : List ℕ) (n : ℕ) → contains (xs ++ n ∷ []) n ≡ true
 contains-last [] n = or_left (eqb n n) (contains [] n) (eq-eqb n n refl)

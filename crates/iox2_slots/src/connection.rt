@@ -1,5 +1,5 @@
 //! What lies between one publisher and one subscriber: numbers of the publisher's slots.
-ghost use Rattle.std.specs.Prelude.{◌≡◌, ◌+◌, ◌-◌, ◌<◌, ◌≤◌, ◌==◌, ◌↔◌, length, position, slice_get, Some, Contains, IfOk, IsTrue};
+ghost use Rattle.std.specs.Prelude.{◌≡◌, ◌+◌, ◌-◌, ◌<◌, ◌≤◌, ◌==◌, ◌↔◌, count_by, length, slice_get, Some, Contains, IfOk, IsTrue, MatchOption};
 ghost use Rattle.iox2_slots.specs.Link.{load, empty_link, has_slots, has_borrowed_slots, can_borrow, with_returned, without_borrowed, IsBounded};
 ghost use Rattle.iox2_store.specs.machine.Numbers.{without, IsOnce};
 ghost use Rattle.std.specs.Vec.{vec_capacity};
@@ -35,11 +35,22 @@ pub enum PutOutcome {
     Full,
 }
 
-/// The first position at which a slot stands.
-fn position_of(slots: &[usize], slot: usize) -> Option<usize>
-    ensures { result ≡ position (λ other. other == slot) slots.now }
+/// A place at which a slot stands. It is looked for from both ends, since either the oldest or the
+/// newest slots go first.
+#[inline(never)]
+pub fn place_of(slots: &[usize], slot: usize) -> Option<usize>
+    ensures { MatchOption result (count_by (λ other. other == slot) slots.now ≡ 0) (λ place. slice_get slots.now place ≡ Some slot) }
 {
-    slots.iter().position(|other| *other == slot)
+    for place in 0..slots.len() {
+        if slots[place] == slot {
+            return Some(place);
+        }
+        let from_end = slots.len() - 1 - place;
+        if slots[from_end] == slot {
+            return Some(from_end);
+        }
+    }
+    None
 }
 
 /// Whether the slot stands last.
@@ -74,8 +85,8 @@ fn search_and_take_out(slots: &mut Vec<usize>, slot: usize)
     ensures len { length slots.new.items + 1 ≡ length slots.old.items }
     ensures capacity { vec_capacity slots.new ≡ vec_capacity slots.old }
 {
-    if let Some(position) = position_of(slots, slot) {
-        slots.remove(position);
+    if let Some(place) = place_of(slots, slot) {
+        slots.remove(place);
     }
 }
 

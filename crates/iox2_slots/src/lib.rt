@@ -4,5 +4,5 @@
 mod connection;
 mod slots;
 
-pub use connection::{Connection, Home, PutOutcome};
+pub use connection::{Connection, Home, PutOutcome, place_of};
 pub use slots::{SlotBook, SlotMark};

@@ -13,14 +13,3 @@ pub enum AllocationStrategy {
     /// As `BestFit`, with that length rounded up to a power of two.
     PowerOfTwo,
 }
-
-/// Whether a publisher's memory can grow.
-///
-/// iceoryx2's `port::DataSegmentType` (`src/port/details/data_segment.rs`).
-#[derive(Debug, Clone, Copy, PartialEq, Eq)]
-pub enum DataSegmentType {
-    /// It can: a loan that finds no room may get a new segment.
-    Dynamic,
-    /// It is one segment, made with the publisher.
-    Static,
-}

@@ -2,8 +2,8 @@
 //! of its cause in parentheses.
 //!
 //! So iceoryx2 prints them (`Display` of each, beside its declaration).
-ghost use Rattle.std.specs.Prelude.{◌≡◌, ◌++◌, Some, codes};
-ghost use Rattle.iox2_store.specs.ErrorTexts.{connection_failure_name, connection_failure_text, creation_error_name, loan_error_name, loan_error_text, open_error_name, publisher_create_error_name, publisher_create_error_text, receive_error_name, receive_error_text, send_error_name, send_error_text, subscriber_create_error_name, subscriber_create_error_text};
+ghost use Rattle.std.specs.Prelude.{◌≡◌, Some};
+ghost use Rattle.iox2_store.specs.ErrorTexts.{connection_failure_name, connection_failure_text, loan_error_name, loan_error_text, publisher_create_error_name, publisher_create_error_text, receive_error_text, send_error_text, subscriber_create_error_name, subscriber_create_error_text};
 
 use super::{
     ConnectionFailure, LoanError, PublisherCreateError, ReceiveError, SendError,

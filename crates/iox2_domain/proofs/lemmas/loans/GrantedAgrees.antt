@@ -1,11 +1,11 @@
 -- A domain's fields agree with one loan more.
-use Rattle.std.proofs.Common.{◌≡◌, ℕ, ◌+◌, ◌*◌, ◌<◌, ◌≤◌, le_refl, List, [], ◌∷◌, ◌++◌, length, Bool, true, false, cond, eqb, get_or, refl, ap, sym, subst, ◌∙◌, inl, inr, arith}
+use Rattle.std.proofs.Common.{◌≡◌, ℕ, ◌+◌, ◌*◌, ◌<◌, ◌≤◌, List, [], ◌∷◌, ◌++◌, length, Bool, true, false, cond, eqb, get_or, refl, ap, sym, subst, ◌∙◌, inl, inr, arith}
 use Rattle.std.proofs.lemmas.Bool.{cases_eq, eqb-true}
 use Rattle.std.proofs.lemmas.List.{length-map, length-set, length-replicate}
 use Rattle.std.specs.declared.option.Option.{Option}
 use Rattle.std.specs.declared.option.Option.TheVariants.{None, Some}
 use Rattle.std.specs.Option.{option_map_or}
-use Rattle.std.specs.Prelude.{IsSomeAnd}
+use Rattle.std.specs.Prelude.{IsSomeAnd, max}
 use Rattle.std.specs.List.{All, sum_by}
 use Rattle.slab.specs.Slab.{get}
 use Rattle.iox2_store.specs.machine.Limits.{last_number}
@@ -35,7 +35,7 @@ use Rattle.iox2_domain.proofs.lemmas.fields.KeptBooks.{kept-own}
 use Rattle.iox2_domain.proofs.lemmas.fields.ConnectionEnds.{publisher-stands}
 use Rattle.iox2_domain.proofs.lemmas.slots.SlotsInUse.{its_book, slot-counted, size-free}
 use Rattle.iox2_domain.proofs.lemmas.slots.Messages.{lies_at, message_at-book, message_at-slot}
-use Rattle.iox2_domain.proofs.lemmas.loans.PublisherChanges.{KeepsSettings, changed-ids_apart, look_up-publisher, changed-linked_same, changed-books, changed-room, changed-plain, changed-kept_books, changed-entries}
+use Rattle.iox2_domain.proofs.lemmas.loans.PublisherChanges.{KeepsSettings, other_slots, changed-ids_apart, look_up-publisher, changed-linked_same, changed-books, changed-room, changed-plain, changed-kept_books, changed-entries}
 use Rattle.iox2_domain.proofs.lemmas.slots.SlotChanges.{forms-changed}
 use Rattle.iox2_domain.proofs.lemmas.loans.Taken.{taken-after, CanTakeSlot, with_taken, taken_book, taken_books, begun, begun_contents, lent, next_header, taken-stands, others-stand, begun-has, others-have, taken-one_each, taken-found, taken-holders, taken-numbered, taken-entries, lent-lies, others-lie, length-with_changed, room-with_changed, taken-lone}
 use Rattle.iox2_domain.proofs.lemmas.loans.Granted.{lender, with_granted, granted-is, taken-is, lends-granted}
@@ -67,20 +67,7 @@ module _ {T U : Type 0} (f : Fields T U) (sound : IsDomain f) (i : ℕ) (x : Pub
   granted = with_granted f sound i x at slot can user_header len
 
   keeps : KeepsSettings x new_lender
-  keeps = record {
-    id = refl;
-    book = refl;
-    max_loaned_samples = refl;
-    slots = refl;
-    strategy = refl;
-    backpressure_handler = refl;
-    degradation_handler = refl;
-    allocation = refl;
-    initial_max_slice_len = refl;
-    loan_room = le_refl x.loan_room;
-    history_room = refl;
-    key_room = le_refl x.key_room;
-  }
+  keeps = other_slots x (x.loans ++ slot ∷ []) (max x.longest_granted len) (x.history).items x.blocked
 
   -- ---- books
 

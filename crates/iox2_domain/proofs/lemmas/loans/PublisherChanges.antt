@@ -47,9 +47,9 @@ pub record KeepsSettings (x y : PublisherFields) : Type 0 where
   pub key_room : x.key_room ≤ y.key_room
 
 -- other slots of its own change no setting of a publisher
-pub other_slots : (x : PublisherFields) (loans items : List ℕ) (blocked : Option BlockedDelivery)
-    → KeepsSettings x (record x { loans = loans; history = buffer items (x.history).capacity; blocked = blocked })
-other_slots x loans items blocked = record {
+pub other_slots : (x : PublisherFields) (loans : List ℕ) (longest : ℕ) (items : List ℕ) (blocked : Option BlockedDelivery)
+    → KeepsSettings x (record x { loans = loans; longest_granted = longest; history = buffer items (x.history).capacity; blocked = blocked })
+other_slots x loans longest items blocked = record {
   id = refl;
   book = refl;
   max_loaned_samples = refl;
