@@ -37,7 +37,8 @@ fn remember(publisher: &mut PublisherState, book: &mut SlotBook, slot: usize)
 
 // The loan in a slot was delivered, and its message enters the history. Either it is out no more, or its
 // publisher waits for a receiver, and there is one holder more for the history. Each of the two says how
-// the send ended, so that nothing is asked again behind them.
+// the send ended, so that nothing is asked again behind them. The progress is copied field by field: a copy
+// of the whole takes what lies between its fields too, which would be cleared at each message.
 #[inline(always)]
 fn conclude(
     publisher: &mut PublisherState,
@@ -66,7 +67,15 @@ fn conclude(
         }
         DeliveryOutcome::Suspended(progress) => {
             book.hold(slot);
-            publisher.blocked = Some(BlockedDelivery { slot, progress });
+            publisher.blocked = Some(BlockedDelivery {
+                slot,
+                progress: Progress {
+                    place: progress.place,
+                    retries: progress.retries,
+                    count: progress.count,
+                    has_failed: progress.has_failed,
+                },
+            });
             remember(publisher, book, slot);
             SendEnd::Blocked
         }

@@ -11,4 +11,4 @@ mod sends;
 
 pub use questions::has_samples_at;
 pub use receipts::{give_back, receive_at};
-pub use sends::send_loan;
+pub use sends::{is_ready, send_unready};

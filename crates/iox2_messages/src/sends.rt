@@ -11,13 +11,15 @@ ghost use Rattle.iox2_domain.specs.SentLoans.{IsLeftLoan, IsNotUpdated, IsReadyT
 ghost use Rattle.iox2_store.specs.machine.State.{is_blocked};
 ghost use Rattle.iox2_deliveries.specs.SendEnds.{IsNotLost, end_result};
 
-use iox2_deliveries::{SendEnd, discard_loan, has_handler_at, send_ready, send_unasked};
+use iox2_deliveries::{SendEnd, discard_loan, send_ready};
 use iox2_domain::{Boxes, DomainState, LoanAt};
 use iox2_store::{BackpressureFn, ConnectionFailure, DegradationFn, UniquePublisherId};
 use iox2_updates::update_publisher;
 
-// Whether the loan lies where its handle says, and its publisher is due for no update.
-fn is_ready<T: Drop, U: Default + Drop>(state: &DomainState<T, U>, loan: &LoanAt) -> bool
+/// Whether a publisher's written loan lies where its handle says, and its publisher is due for no update:
+/// so it may be sent at once, where its publisher has no handler.
+#[inline(always)]
+pub fn is_ready<T: Drop, U: Default + Drop>(state: &DomainState<T, U>, loan: &LoanAt) -> bool
     requires agrees { IsDomain state.now }
     requires live { HoldsWritten (state_of (kept_of state.now)) loan.now.publisher loan.now.number }
     ensures { IsTrue result → IsReadyToSend fixed_handlers state.now state.now loan.now.publisher loan.now.number loan.now.place loan.now.slot }
@@ -116,29 +118,24 @@ fn loan_sought(publisher: UniquePublisherId, number: u128) -> LoanAt
     }
 }
 
-/// Sends a publisher's written loan to its receivers, and returns how that ended. The publisher's
+/// Sends a publisher's written loan, ready or not, and returns how that ended. The publisher's
 /// connections are updated first; where that fails, the loan is given back, and no message was sent.
 /// Of a publisher that is gone the loan is lost. The loan is out no more afterwards, unless the send
 /// is blocked. A publisher that has a box for a handler asks the one that it has among these boxes.
 ///
-/// The boxes are handed on in one call alone, so that where they lie isn't on the path of a message
-/// of a publisher without a handler.
-///
-/// iceoryx2's `PublisherSharedState::send_sample` (`src/port/publisher.rs`).
+/// The end has a place of its own here: one in the caller would be cleared at each message.
 #[inline(always)]
-pub fn send_loan<T: Drop, U: Default + Drop, F: BackpressureFn, G: DegradationFn>(
+pub fn send_unready<T: Drop, U: Default + Drop, F: BackpressureFn, G: DegradationFn>(
     state: &mut DomainState<T, U>,
     boxes: &Boxes<F, G>,
-    loan: LoanAt,
+    publisher: UniquePublisherId,
+    number: u128,
 ) -> SendEnd
     requires agrees { IsDomain state.old }
-    requires live { HoldsWritten (state_of (kept_of state.old)) loan.publisher loan.number }
-    requires unblocked { is_blocked (state_of (kept_of state.old)) loan.publisher ≡ false }
-    ensures sends { SendsLoan (answers_of F.allows G.allows (boxes.now).boxes) state.old state.new loan.number (end_result result) }
-    ensures kept { HoldsPublisher (state_of (kept_of state.old)) loan.publisher → IsNotLost result }
+    requires live { HoldsWritten (state_of (kept_of state.old)) publisher number }
+    requires unblocked { is_blocked (state_of (kept_of state.old)) publisher ≡ false }
+    ensures sends { SendsLoan (answers_of F.allows G.allows (boxes.now).boxes) state.old state.new number (end_result result) }
+    ensures kept { HoldsPublisher (state_of (kept_of state.old)) publisher → IsNotLost result }
 {
-    if is_ready(state, &loan) && !has_handler_at(state, loan.place) {
-        return send_unasked(state, loan.place, loan.slot);
-    }
-    update_and_send(state, boxes, loan.publisher, loan.number)
+    update_and_send(state, boxes, publisher, number)
 }

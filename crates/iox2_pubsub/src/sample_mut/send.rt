@@ -1,15 +1,24 @@
 //! A message is sent.
-ghost use Rattle.std.specs.Prelude.{◌≡◌, IfErr, IfOk, IsOk, ◌+◌};
-ghost use Rattle.iox2_deliveries.specs.SendEnds.{end_result};
+ghost use Rattle.std.specs.Prelude.{◌≡◌, ◌⊎◌, IfErr, IfOk, IsOk, ◌+◌, false};
+ghost use Rattle.iox2_store.specs.machine.SingleCalls.{HoldsPublisher};
+ghost use Rattle.iox2_store.specs.machine.State.{is_blocked};
+ghost use Rattle.iox2_domain.specs.Boxes.{answers_of};
+ghost use Rattle.iox2_domain.specs.Fields.{kept_of};
+ghost use Rattle.iox2_domain.specs.Invariant.{IsDomain};
+ghost use Rattle.iox2_domain.specs.Kept.{state_of};
+ghost use Rattle.iox2_domain.specs.LoanCalls.{HoldsWritten};
+ghost use Rattle.iox2_domain.specs.SentLoans.{SendsLoan};
+ghost use Rattle.iox2_deliveries.specs.SendEnds.{IsNotLost, end_result};
+ghost use Rattle.iox2_deliveries.specs.declared.send_end.SendEnd.{SendEnd};
 ghost use Rattle.iox2_pubsub.specs.SendCalls.{IfBlocked, result_of_send};
 
 use crate::blocked_send::BlockedSend;
 use crate::domain::Domain;
 use crate::sample_mut::SampleMut;
 use crate::send_outcome::SendOutcome;
-use iox2_deliveries::SendEnd;
-use iox2_domain::LoanAt;
-use iox2_messages::send_loan;
+use iox2_deliveries::{SendEnd, has_handler_at, send_unasked};
+use iox2_domain::{Boxes, DomainState, LoanAt};
+use iox2_messages::{is_ready, send_unready};
 use iox2_store::{BackpressureFn, DegradationFn, SendError};
 
 impl SampleMut {
@@ -84,8 +93,39 @@ impl SampleMut {
                 slot: loan.slot,
             },
         };
-        outcome_of(blocked, send_loan(&mut domain.state, &domain.boxes, loan))
+        send_loan(&mut domain.state, &domain.boxes, loan, blocked)
     }
+}
+
+// Sends a publisher's written loan to its receivers, once the publisher's connections are updated. Where the
+// send is blocked, what came of it has this handle.
+//
+// The outcome is made in each branch: behind both, the compiler would ask anew how the send ended. The boxes
+// are handed on in one call alone, so that where they lie isn't on the path of a message of a publisher
+// without a handler.
+//
+// iceoryx2's `PublisherSharedState::send_sample` (`src/port/publisher.rs`).
+#[inline(always)]
+fn send_loan<T: Drop, U: Default + Drop, F: BackpressureFn, G: DegradationFn>(
+    state: &mut DomainState<T, U>,
+    boxes: &Boxes<F, G>,
+    loan: LoanAt,
+    blocked: BlockedSend,
+) -> Result<SendOutcome, SendError>
+    requires agrees { IsDomain state.old }
+    requires live { HoldsWritten (state_of (kept_of state.old)) loan.publisher loan.number }
+    requires unblocked { is_blocked (state_of (kept_of state.old)) loan.publisher ≡ false }
+    ensures ends { (end : SendEnd) × SendsLoan (answers_of F.allows G.allows (boxes.now).boxes) state.old state.new loan.number (end_result end)
+        × (HoldsPublisher (state_of (kept_of state.old)) loan.publisher → IsNotLost end) × (result_of_send result ≡ end_result end) }
+    ensures blocked { IfOk result (λ came. IfBlocked came (λ it. it ≡ blocked)) }
+{
+    if is_ready(state, &loan) && !has_handler_at(state, loan.place) {
+        return outcome_of(blocked, send_unasked(state, loan.place, loan.slot));
+    }
+    outcome_of(
+        blocked,
+        send_unready(state, boxes, loan.publisher, loan.number),
+    )
 }
 
 /// What came of a send that ended so. Where it is blocked it has this handle.

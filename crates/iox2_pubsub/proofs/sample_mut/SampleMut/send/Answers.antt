@@ -18,8 +18,8 @@ use Rattle.iox2_domain.specs.Shows.{Shows}
 use Rattle.iox2_pubsub.proofs.SendShown.{machine-sends, steady-ok, never-unconnected-here, only-error, handler-error, either-error, fails-send, never-waits-send, never-fails-here, is-delivered, is-blocked, sent-entry, sent-shown}
 use Rattle.iox2_pubsub.specs.Live.{lender_key, written_key}
 use Rattle.iox2_pubsub.specs.SendCalls.{result_of_send}
-use Rattle.iox2_pubsub.proofs.CallsStay.{loan-shown, sent-stays, send-spends}
-use Rattle.iox2_pubsub.proofs.LiveParts.{loan-parts, publisher-parts, written-parts, unblocked-parts, unblocked-test, blocked-live}
+use Rattle.iox2_pubsub.proofs.CallsStay.{always-shown, sent-stays, send-spends}
+use Rattle.iox2_pubsub.proofs.LiveParts.{publisher-parts, written-parts, unblocked-parts, unblocked-test, blocked-live}
 use Rattle.iox2_pubsub.proofs.WaitingShown.{send-adds, send-brings}
 use Rattle.iox2_pubsub.proofs.UpToDateShown.{send-leaves}
 use Rattle.iox2_pubsub.proofs.ConnectionsShown.{serves}
@@ -37,68 +37,71 @@ pub returns-clause-sent : goal.returns-clause-sent
 returns-clause-sent g c = λ m s l shown out.
     let before = subst (λ (k : Kept g.row.T.Denot g.row.U.Denot g.row.F.Denot g.row.G.Denot). Shows k m s) (sym c.domain.view_is) shown in
     let after : State g.row.T.Denot g.row.U.Denot = state_of (kept_of c.send_loan.new.state) in
-    let sends : Send (answers_of g.F.BackpressureFn.allows g.G.DegradationFn.allows c.domain.inside.boxes.boxes) s c.args.self.loan.number l after (end_result c.send_loan.result) =
-    machine-sends (answers_of g.F.BackpressureFn.allows g.G.DegradationFn.allows c.domain.inside.boxes.boxes) c.domain.inside.state c.send_loan.new.state c.args.self.loan.number (end_result c.send_loan.result) c.send_loan.ensures.sends m s l before out in (
+    let sends : Send (answers_of g.F.BackpressureFn.allows g.G.DegradationFn.allows c.domain.inside.boxes.boxes) s c.args.self.loan.number l after (end_result c.send_loan.ensures.ends.0) =
+    machine-sends (answers_of g.F.BackpressureFn.allows g.G.DegradationFn.allows c.domain.inside.boxes.boxes) c.domain.inside.state c.send_loan.new.state c.args.self.loan.number (end_result c.send_loan.ensures.ends.0) c.send_loan.ensures.ends.1 m s l before out in (
       after,
-      sent-shown (answers_of g.F.BackpressureFn.allows g.G.DegradationFn.allows c.domain.inside.boxes.boxes) c.domain.inside.state c.send_loan.new.state c.args.self.loan.number (end_result c.send_loan.result) c.send_loan.ensures.sends m s l before out
-          c.outcome_of.result (sym c.outcome_of.ensures.same),
-      subst (Send (answers_of g.F.BackpressureFn.allows g.G.DegradationFn.allows c.args.domain.now.boxes.publishers) s c.args.self.loan.number l after) (sym c.outcome_of.ensures.same)
-          (subst (λ (boxes : List (PortBox g.row.F.Denot g.row.G.Denot)). Send (answers_of g.F.BackpressureFn.allows g.G.DegradationFn.allows boxes) s c.args.self.loan.number l after (end_result c.send_loan.result))
+      sent-shown (answers_of g.F.BackpressureFn.allows g.G.DegradationFn.allows c.domain.inside.boxes.boxes) c.domain.inside.state c.send_loan.new.state c.args.self.loan.number (end_result c.send_loan.ensures.ends.0) c.send_loan.ensures.ends.1 m s l before out
+          c.send_loan.result (sym c.send_loan.ensures.ends.3),
+      subst (Send (answers_of g.F.BackpressureFn.allows g.G.DegradationFn.allows c.args.domain.now.boxes.publishers) s c.args.self.loan.number l after) (sym c.send_loan.ensures.ends.3)
+          (subst (λ (boxes : List (PortBox g.row.F.Denot g.row.G.Denot)). Send (answers_of g.F.BackpressureFn.allows g.G.DegradationFn.allows boxes) s c.args.self.loan.number l after (end_result c.send_loan.ensures.ends.0))
           (ap (λ (k : Kept g.row.T.Denot g.row.U.Denot g.row.F.Denot g.row.G.Denot). k.boxes.publishers) c.domain.view_is) sends),
     )
 
 pub returns-clause-spent : goal.returns-clause-spent
 returns-clause-spent g c = λ live.
-    let it = loan-shown {T = g.row.T.Denot} {U = g.row.U.Denot} c.domain.inside.state c.args.domain.now c.domain.invariant c.domain.view_is _ c.requires.live.live in
-    let step = returns-clause-sent g c it.0 it.1 (it.3).0 it.2 (it.3).1 in
-    send-spends {T = g.row.T.Denot} {U = g.row.U.Denot} c.args.domain.now _ it.0 it.1 it.2 (answers_of g.F.BackpressureFn.allows g.G.DegradationFn.allows c.args.domain.now.boxes.publishers) (written_key c.args.self) (it.3).0 (result_of_send c.outcome_of.result) _ step.0 step.1 step.2 live
+    let it = always-shown {T = g.row.T.Denot} {U = g.row.U.Denot} c.domain.inside.state c.args.domain.now c.domain.invariant c.domain.view_is in
+    let has = (written-parts c.args.domain.now c.args.self c.requires.live).1 in
+    let step = returns-clause-sent g c it.0 it.1 has.0 it.2 (ap (λ (t : State g.row.T.Denot g.row.U.Denot). t.loans c.args.self.loan.number) (it.2).state ∙ has.1) in
+    send-spends {T = g.row.T.Denot} {U = g.row.U.Denot} c.args.domain.now _ it.0 it.1 it.2 (answers_of g.F.BackpressureFn.allows g.G.DegradationFn.allows c.args.domain.now.boxes.publishers) (written_key c.args.self) has.0 (result_of_send c.send_loan.result) _ step.0 step.1 step.2 live
 
 pub returns-clause-stays : goal.returns-clause-stays
 returns-clause-stays g c =
-    let it = loan-shown {T = g.row.T.Denot} {U = g.row.U.Denot} c.domain.inside.state c.args.domain.now c.domain.invariant c.domain.view_is _ c.requires.live.live in
-    let step = returns-clause-sent g c it.0 it.1 (it.3).0 it.2 (it.3).1 in
-    sent-stays {T = g.row.T.Denot} {U = g.row.U.Denot} c.args.domain.now _ it.0 it.1 it.2 (answers_of g.F.BackpressureFn.allows g.G.DegradationFn.allows c.args.domain.now.boxes.publishers) c.args.self (it.3).0 (it.3).1 (it.3).2
+    let it = always-shown {T = g.row.T.Denot} {U = g.row.U.Denot} c.domain.inside.state c.args.domain.now c.domain.invariant c.domain.view_is in
+    let has = (written-parts c.args.domain.now c.args.self c.requires.live).1 in
+    let out = ap (λ (t : State g.row.T.Denot g.row.U.Denot). t.loans c.args.self.loan.number) (it.2).state ∙ has.1 in
+    let step = returns-clause-sent g c it.0 it.1 has.0 it.2 out in
+    sent-stays {T = g.row.T.Denot} {U = g.row.U.Denot} c.args.domain.now _ it.0 it.1 it.2 (answers_of g.F.BackpressureFn.allows g.G.DegradationFn.allows c.args.domain.now.boxes.publishers) c.args.self has.0 out has.2
     (λ x at. (unblocked-parts c.args.domain.now (written_key c.args.self) c.requires.unblocked).1 x
-    (sym (ap (λ (t : State g.row.T.Denot g.row.U.Denot). t.publishers c.args.self.loan.publisher) (it.2).state) ∙ ap (it.1).publishers (sym (it.3).2) ∙ at))
-    c.outcome_of.result step.0 step.1 step.2 (same-boxes c.domain.inside.state c.send_loan.new.state c.args.domain.now c.domain.view_is)
+    (sym (ap (λ (t : State g.row.T.Denot g.row.U.Denot). t.publishers c.args.self.loan.publisher) (it.2).state) ∙ ap (it.1).publishers (sym has.2) ∙ at))
+    c.send_loan.result step.0 step.1 step.2 (same-boxes c.domain.inside.state c.send_loan.new.state c.args.domain.now c.domain.view_is)
 
 pub returns-clause-ok : goal.returns-clause-ok
 returns-clause-ok g c = λ lent never.
     let has = (written-parts c.args.domain.now c.args.self c.requires.live).1 in
     let before = subst (λ (k : Kept g.row.T.Denot g.row.U.Denot g.row.F.Denot g.row.G.Denot). HoldsWritten (state_of k) c.args.self.loan.publisher c.args.self.loan.number) (sym c.domain.view_is) has in
-    steady-ok c.send_loan.result
-    (c.send_loan.ensures.kept
+    steady-ok c.send_loan.ensures.ends.0
+    (c.send_loan.ensures.ends.2
     (subst (λ (k : Kept g.row.T.Denot g.row.U.Denot g.row.F.Denot g.row.G.Denot). HoldsPublisher (state_of k) c.args.self.loan.publisher) (sym c.domain.view_is)
     (publisher-parts c.args.domain.now (lender_key (written_key c.args.self)) lent).2))
     (never-fails-here {T = g.row.T.Denot} {U = g.row.U.Denot} (answers_of g.F.BackpressureFn.allows g.G.DegradationFn.allows c.domain.inside.boxes.boxes) c.args.domain.now c.domain.inside.state c.send_loan.new.state c.domain.view_is c.args.self.loan.number c.args.self.loan.publisher never
-    (end_result c.send_loan.result) c.send_loan.ensures.sends
-    (ap (λ (l : Loan g.row.T.Denot g.row.U.Denot). l.publisher) (same_Some _ before.0 (sym c.send_loan.ensures.sends.out ∙ before.1)) ∙ before.2))
+    (end_result c.send_loan.ensures.ends.0) c.send_loan.ensures.ends.1
+    (ap (λ (l : Loan g.row.T.Denot g.row.U.Denot). l.publisher) (same_Some _ before.0 (sym c.send_loan.ensures.ends.1.out ∙ before.1)) ∙ before.2))
     (never-unconnected-here {T = g.row.T.Denot} {U = g.row.U.Denot} (answers_of g.F.BackpressureFn.allows g.G.DegradationFn.allows c.domain.inside.boxes.boxes) c.args.domain.now c.domain.inside.state c.send_loan.new.state c.domain.view_is c.args.self.loan.number c.args.self.loan.publisher never
-    (end_result c.send_loan.result) c.send_loan.ensures.sends (ap (λ (l : Loan g.row.T.Denot g.row.U.Denot). l.publisher) (same_Some _ before.0 (sym c.send_loan.ensures.sends.out ∙ before.1)) ∙ before.2))
-    c.outcome_of.result c.outcome_of.ensures.same
+    (end_result c.send_loan.ensures.ends.0) c.send_loan.ensures.ends.1 (ap (λ (l : Loan g.row.T.Denot g.row.U.Denot). l.publisher) (same_Some _ before.0 (sym c.send_loan.ensures.ends.1.out ∙ before.1)) ∙ before.2))
+    c.send_loan.result c.send_loan.ensures.ends.3
 
 pub returns-clause-errors : goal.returns-clause-errors
 returns-clause-errors g c =
     let has = (written-parts c.args.domain.now c.args.self c.requires.live).1 in
     let before = subst (λ (k : Kept g.row.T.Denot g.row.U.Denot g.row.F.Denot g.row.G.Denot). HoldsWritten (state_of k) c.args.self.loan.publisher c.args.self.loan.number) (sym c.domain.view_is) has in
-    let its = ap (λ (l : Loan g.row.T.Denot g.row.U.Denot). l.publisher) (same_Some _ before.0 (sym c.send_loan.ensures.sends.out ∙ before.1)) ∙ before.2 in
-    fails-send c.args.domain.now (written_key c.args.self) c.outcome_of.result
-    (either-error {T = g.row.T.Denot} {U = g.row.U.Denot} (answers_of g.F.BackpressureFn.allows g.G.DegradationFn.allows c.domain.inside.boxes.boxes) c.domain.inside.state c.send_loan.new.state c.args.self.loan.number c.args.self.loan.publisher c.send_loan.result
-    c.send_loan.ensures.kept c.send_loan.ensures.sends its c.outcome_of.result c.outcome_of.ensures.same)
+    let its = ap (λ (l : Loan g.row.T.Denot g.row.U.Denot). l.publisher) (same_Some _ before.0 (sym c.send_loan.ensures.ends.1.out ∙ before.1)) ∙ before.2 in
+    fails-send c.args.domain.now (written_key c.args.self) c.send_loan.result
+    (either-error {T = g.row.T.Denot} {U = g.row.U.Denot} (answers_of g.F.BackpressureFn.allows g.G.DegradationFn.allows c.domain.inside.boxes.boxes) c.domain.inside.state c.send_loan.new.state c.args.self.loan.number c.args.self.loan.publisher c.send_loan.ensures.ends.0
+    c.send_loan.ensures.ends.2 c.send_loan.ensures.ends.1 its c.send_loan.result c.send_loan.ensures.ends.3)
     (λ lent.
-    handler-error c.send_loan.result
-    (c.send_loan.ensures.kept
+    handler-error c.send_loan.ensures.ends.0
+    (c.send_loan.ensures.ends.2
     (subst (λ (k : Kept g.row.T.Denot g.row.U.Denot g.row.F.Denot g.row.G.Denot). HoldsPublisher (state_of k) c.args.self.loan.publisher) (sym c.domain.view_is)
     (publisher-parts c.args.domain.now (lender_key (written_key c.args.self)) lent).2))
-    c.outcome_of.result c.outcome_of.ensures.same)
+    c.send_loan.result c.send_loan.ensures.ends.3)
     (λ never.
-    only-error {T = g.row.T.Denot} {U = g.row.U.Denot} (answers_of g.F.BackpressureFn.allows g.G.DegradationFn.allows c.domain.inside.boxes.boxes) c.domain.inside.state c.send_loan.new.state c.args.self.loan.number c.args.self.loan.publisher c.send_loan.result
-    c.send_loan.ensures.kept c.send_loan.ensures.sends its
+    only-error {T = g.row.T.Denot} {U = g.row.U.Denot} (answers_of g.F.BackpressureFn.allows g.G.DegradationFn.allows c.domain.inside.boxes.boxes) c.domain.inside.state c.send_loan.new.state c.args.self.loan.number c.args.self.loan.publisher c.send_loan.ensures.ends.0
+    c.send_loan.ensures.ends.2 c.send_loan.ensures.ends.1 its
     (never-fails-here {T = g.row.T.Denot} {U = g.row.U.Denot} (answers_of g.F.BackpressureFn.allows g.G.DegradationFn.allows c.domain.inside.boxes.boxes) c.args.domain.now c.domain.inside.state c.send_loan.new.state c.domain.view_is c.args.self.loan.number c.args.self.loan.publisher never
-    (end_result c.send_loan.result) c.send_loan.ensures.sends its)
+    (end_result c.send_loan.ensures.ends.0) c.send_loan.ensures.ends.1 its)
     (never-unconnected-here {T = g.row.T.Denot} {U = g.row.U.Denot} (answers_of g.F.BackpressureFn.allows g.G.DegradationFn.allows c.domain.inside.boxes.boxes) c.args.domain.now c.domain.inside.state c.send_loan.new.state c.domain.view_is c.args.self.loan.number c.args.self.loan.publisher never
-    (end_result c.send_loan.result) c.send_loan.ensures.sends its)
-    c.outcome_of.result c.outcome_of.ensures.same)
+    (end_result c.send_loan.ensures.ends.0) c.send_loan.ensures.ends.1 its)
+    c.send_loan.result c.send_loan.ensures.ends.3)
 
 pub send_loan-requires-clause-unblocked : goal.send_loan-requires-clause-unblocked
 send_loan-requires-clause-unblocked g c =
@@ -107,68 +110,87 @@ send_loan-requires-clause-unblocked g c =
 
 pub returns-clause-delivered : goal.returns-clause-delivered
 returns-clause-delivered g c = λ never.
-    let it = loan-shown {T = g.row.T.Denot} {U = g.row.U.Denot} c.domain.inside.state c.args.domain.now c.domain.invariant c.domain.view_is _ c.requires.live.live in
-    let step = returns-clause-sent g c it.0 it.1 (it.3).0 it.2 (it.3).1 in
-    is-delivered c.outcome_of.result (λ blocked.
-    never-waits-send {T = g.row.T.Denot} {U = g.row.U.Denot} (answers_of g.F.BackpressureFn.allows g.G.DegradationFn.allows c.args.domain.now.boxes.publishers) c.args.domain.now (written_key c.args.self) it.0 it.1 it.2 never c.args.self.loan.number (it.3).0 (it.3).1 (sym (it.3).2) step.0
-    (subst (Send (answers_of g.F.BackpressureFn.allows g.G.DegradationFn.allows c.args.domain.now.boxes.publishers) it.1 c.args.self.loan.number (it.3).0 step.0) blocked step.2))
+    let it = always-shown {T = g.row.T.Denot} {U = g.row.U.Denot} c.domain.inside.state c.args.domain.now c.domain.invariant c.domain.view_is in
+    let has = (written-parts c.args.domain.now c.args.self c.requires.live).1 in
+    let out = ap (λ (t : State g.row.T.Denot g.row.U.Denot). t.loans c.args.self.loan.number) (it.2).state ∙ has.1 in
+    let step = returns-clause-sent g c it.0 it.1 has.0 it.2 out in
+    is-delivered c.send_loan.result (λ blocked.
+    never-waits-send {T = g.row.T.Denot} {U = g.row.U.Denot} (answers_of g.F.BackpressureFn.allows g.G.DegradationFn.allows c.args.domain.now.boxes.publishers) c.args.domain.now (written_key c.args.self) it.0 it.1 it.2 never c.args.self.loan.number has.0 out (sym has.2) step.0
+    (subst (Send (answers_of g.F.BackpressureFn.allows g.G.DegradationFn.allows c.args.domain.now.boxes.publishers) it.1 c.args.self.loan.number has.0 step.0) blocked step.2))
 
 pub returns-clause-blocked : goal.returns-clause-blocked
 returns-clause-blocked g c =
-    let it = loan-shown {T = g.row.T.Denot} {U = g.row.U.Denot} c.domain.inside.state c.args.domain.now c.domain.invariant c.domain.view_is _ c.requires.live.live in
-    let step = returns-clause-sent g c it.0 it.1 (it.3).0 it.2 (it.3).1 in
-    is-blocked {T = g.row.T.Denot} {U = g.row.U.Denot} (keeping _ c.send_loan.new.state) (written_key c.args.self) _ refl c.outcome_of.result c.outcome_of.ensures.blocked (λ blocked.
+    let it = always-shown {T = g.row.T.Denot} {U = g.row.U.Denot} c.domain.inside.state c.args.domain.now c.domain.invariant c.domain.view_is in
+    let parts = written-parts c.args.domain.now c.args.self c.requires.live in
+    let has = parts.1 in
+    let out = ap (λ (t : State g.row.T.Denot g.row.U.Denot). t.loans c.args.self.loan.number) (it.2).state ∙ has.1 in
+    let step = returns-clause-sent g c it.0 it.1 has.0 it.2 out in
+    is-blocked {T = g.row.T.Denot} {U = g.row.U.Denot} (keeping _ c.send_loan.new.state) (written_key c.args.self) _ refl c.send_loan.result c.send_loan.ensures.blocked (λ blocked.
     blocked-live (keeping _ c.send_loan.new.state) (written_key c.args.self) (
-      (loan-parts c.args.domain.now _ c.requires.live.live).0 ∙ sym (ap (λ (k : ServiceConfig). k.service_id) (returns-clause-stays g c).settings),
-      subst (λ (p : ℕ). HoldsBlocked (state_of (kept_of c.send_loan.new.state)) p c.args.self.loan.number) (it.3).2
-          (subst (λ (t : State g.row.T.Denot g.row.U.Denot). HoldsBlocked t ((it.3).0).publisher c.args.self.loan.number) (step.1).state
-          (send_waits_with (answers_of g.F.BackpressureFn.allows g.G.DegradationFn.allows c.args.domain.now.boxes.publishers) it.1 c.args.self.loan.number (it.3).0 step.0 _ step.2 blocked)),
+      parts.0 ∙ sym (ap (λ (k : ServiceConfig). k.service_id) (returns-clause-stays g c).settings),
+      subst (λ (p : ℕ). HoldsBlocked (state_of (kept_of c.send_loan.new.state)) p c.args.self.loan.number) has.2
+          (subst (λ (t : State g.row.T.Denot g.row.U.Denot). HoldsBlocked t has.0.publisher c.args.self.loan.number) (step.1).state
+          (send_waits_with (answers_of g.F.BackpressureFn.allows g.G.DegradationFn.allows c.args.domain.now.boxes.publishers) it.1 c.args.self.loan.number has.0 step.0 _ step.2 blocked)),
     ))
 
 pub returns-clause-adds : goal.returns-clause-adds
 returns-clause-adds g c =
-    let it = loan-shown {T = g.row.T.Denot} {U = g.row.U.Denot} c.domain.inside.state c.args.domain.now c.domain.invariant c.domain.view_is _ c.requires.live.live in
-    let step = returns-clause-sent g c it.0 it.1 (it.3).0 it.2 (it.3).1 in
-    send-adds {T = g.row.T.Denot} {U = g.row.U.Denot} c.args.domain.now _ it.0 _ it.1 step.0 it.2 step.1 (answers_of g.F.BackpressureFn.allows g.G.DegradationFn.allows c.args.domain.now.boxes.publishers) c.args.self.loan.number (it.3).0 (result_of_send c.outcome_of.result) step.2
+    let it = always-shown {T = g.row.T.Denot} {U = g.row.U.Denot} c.domain.inside.state c.args.domain.now c.domain.invariant c.domain.view_is in
+    let has = (written-parts c.args.domain.now c.args.self c.requires.live).1 in
+    let out = ap (λ (t : State g.row.T.Denot g.row.U.Denot). t.loans c.args.self.loan.number) (it.2).state ∙ has.1 in
+    let step = returns-clause-sent g c it.0 it.1 has.0 it.2 out in
+    send-adds {T = g.row.T.Denot} {U = g.row.U.Denot} c.args.domain.now _ it.0 _ it.1 step.0 it.2 step.1 (answers_of g.F.BackpressureFn.allows g.G.DegradationFn.allows c.args.domain.now.boxes.publishers) c.args.self.loan.number has.0 (result_of_send c.send_loan.result) step.2
 
 pub returns-clause-brings : goal.returns-clause-brings
 returns-clause-brings g c = λ subscriber values no_history none reads.
-    let it = loan-shown {T = g.row.T.Denot} {U = g.row.U.Denot} c.domain.inside.state c.args.domain.now c.domain.invariant c.domain.view_is _ c.requires.live.live in
-    let step = returns-clause-sent g c it.0 it.1 (it.3).0 it.2 (it.3).1 in
-    send-brings {T = g.row.T.Denot} {U = g.row.U.Denot} c.args.domain.now _ it.0 _ it.1 step.0 it.2 step.1 (answers_of g.F.BackpressureFn.allows g.G.DegradationFn.allows c.args.domain.now.boxes.publishers) c.args.self.loan.number (it.3).0 (result_of_send c.outcome_of.result)
-    (λ entry. sent-entry it.0 c.args.self.loan.number (it.3).0 c.outcome_of.result ((it.2).unsent c.args.self.loan.number (it.3).0 (it.3).1) entry) (it.3).1 step.2 subscriber values no_history none reads
+    let it = always-shown {T = g.row.T.Denot} {U = g.row.U.Denot} c.domain.inside.state c.args.domain.now c.domain.invariant c.domain.view_is in
+    let has = (written-parts c.args.domain.now c.args.self c.requires.live).1 in
+    let out = ap (λ (t : State g.row.T.Denot g.row.U.Denot). t.loans c.args.self.loan.number) (it.2).state ∙ has.1 in
+    let step = returns-clause-sent g c it.0 it.1 has.0 it.2 out in
+    send-brings {T = g.row.T.Denot} {U = g.row.U.Denot} c.args.domain.now _ it.0 _ it.1 step.0 it.2 step.1 (answers_of g.F.BackpressureFn.allows g.G.DegradationFn.allows c.args.domain.now.boxes.publishers) c.args.self.loan.number has.0 (result_of_send c.send_loan.result)
+    (λ entry. sent-entry it.0 c.args.self.loan.number has.0 c.send_loan.result ((it.2).unsent c.args.self.loan.number has.0 out) entry) out step.2 subscriber values no_history none reads
 
 pub returns-clause-up_to_date : goal.returns-clause-up_to_date
 returns-clause-up_to_date g c =
-    let it = loan-shown {T = g.row.T.Denot} {U = g.row.U.Denot} c.domain.inside.state c.args.domain.now c.domain.invariant c.domain.view_is _ c.requires.live.live in
-    let step = returns-clause-sent g c it.0 it.1 (it.3).0 it.2 (it.3).1 in
-    send-leaves {T = g.row.T.Denot} {U = g.row.U.Denot} c.args.domain.now _ it.0 _ it.1 step.0 it.2 step.1 (answers_of g.F.BackpressureFn.allows g.G.DegradationFn.allows c.args.domain.now.boxes.publishers) c.args.self.loan.number (it.3).0 (result_of_send c.outcome_of.result) step.2
+    let it = always-shown {T = g.row.T.Denot} {U = g.row.U.Denot} c.domain.inside.state c.args.domain.now c.domain.invariant c.domain.view_is in
+    let has = (written-parts c.args.domain.now c.args.self c.requires.live).1 in
+    let out = ap (λ (t : State g.row.T.Denot g.row.U.Denot). t.loans c.args.self.loan.number) (it.2).state ∙ has.1 in
+    let step = returns-clause-sent g c it.0 it.1 has.0 it.2 out in
+    send-leaves {T = g.row.T.Denot} {U = g.row.U.Denot} c.args.domain.now _ it.0 _ it.1 step.0 it.2 step.1 (answers_of g.F.BackpressureFn.allows g.G.DegradationFn.allows c.args.domain.now.boxes.publishers) c.args.self.loan.number has.0 (result_of_send c.send_loan.result) step.2
 
 pub returns-clause-loans_left : goal.returns-clause-loans_left
 returns-clause-loans_left g c =
-    let it = loan-shown {T = g.row.T.Denot} {U = g.row.U.Denot} c.domain.inside.state c.args.domain.now c.domain.invariant c.domain.view_is _ c.requires.live.live in
-    let step = returns-clause-sent g c it.0 it.1 (it.3).0 it.2 (it.3).1 in
-    send-left {T = g.row.T.Denot} {U = g.row.U.Denot} c.args.domain.now _ it.0 _ it.1 step.0 it.2 step.1 (answers_of g.F.BackpressureFn.allows g.G.DegradationFn.allows c.args.domain.now.boxes.publishers) c.args.self.loan.number (it.3).0 (it.3).1 c.args.self.loan.publisher (it.3).2 (result_of_send c.outcome_of.result) step.2
+    let it = always-shown {T = g.row.T.Denot} {U = g.row.U.Denot} c.domain.inside.state c.args.domain.now c.domain.invariant c.domain.view_is in
+    let has = (written-parts c.args.domain.now c.args.self c.requires.live).1 in
+    let out = ap (λ (t : State g.row.T.Denot g.row.U.Denot). t.loans c.args.self.loan.number) (it.2).state ∙ has.1 in
+    let step = returns-clause-sent g c it.0 it.1 has.0 it.2 out in
+    send-left {T = g.row.T.Denot} {U = g.row.U.Denot} c.args.domain.now _ it.0 _ it.1 step.0 it.2 step.1 (answers_of g.F.BackpressureFn.allows g.G.DegradationFn.allows c.args.domain.now.boxes.publishers) c.args.self.loan.number has.0 out c.args.self.loan.publisher has.2 (result_of_send c.send_loan.result) step.2
 
 pub returns-clause-given_back : goal.returns-clause-given_back
 returns-clause-given_back g c = λ ends.
-    let it = loan-shown {T = g.row.T.Denot} {U = g.row.U.Denot} c.domain.inside.state c.args.domain.now c.domain.invariant c.domain.view_is _ c.requires.live.live in
-    let step = returns-clause-sent g c it.0 it.1 (it.3).0 it.2 (it.3).1 in
-    send-gives {T = g.row.T.Denot} {U = g.row.U.Denot} c.args.domain.now _ it.0 _ it.1 step.0 it.2 step.1 (answers_of g.F.BackpressureFn.allows g.G.DegradationFn.allows c.args.domain.now.boxes.publishers) c.args.self.loan.number (it.3).0 (it.3).1 c.args.self.loan.publisher (it.3).2 (result_of_send c.outcome_of.result) (sent-free c.outcome_of.result ends) step.2
+    let it = always-shown {T = g.row.T.Denot} {U = g.row.U.Denot} c.domain.inside.state c.args.domain.now c.domain.invariant c.domain.view_is in
+    let has = (written-parts c.args.domain.now c.args.self c.requires.live).1 in
+    let out = ap (λ (t : State g.row.T.Denot g.row.U.Denot). t.loans c.args.self.loan.number) (it.2).state ∙ has.1 in
+    let step = returns-clause-sent g c it.0 it.1 has.0 it.2 out in
+    send-gives {T = g.row.T.Denot} {U = g.row.U.Denot} c.args.domain.now _ it.0 _ it.1 step.0 it.2 step.1 (answers_of g.F.BackpressureFn.allows g.G.DegradationFn.allows c.args.domain.now.boxes.publishers) c.args.self.loan.number has.0 out c.args.self.loan.publisher has.2 (result_of_send c.send_loan.result) (sent-free c.send_loan.result ends) step.2
 
 pub returns-clause-serves : goal.returns-clause-serves
 returns-clause-serves g c = λ subscriber values connected reads.
-    let it = loan-shown {T = g.row.T.Denot} {U = g.row.U.Denot} c.domain.inside.state c.args.domain.now c.domain.invariant c.domain.view_is _ c.requires.live.live in
-    let step = returns-clause-sent g c it.0 it.1 (it.3).0 it.2 (it.3).1 in
-    serves {T = g.row.T.Denot} {U = g.row.U.Denot} c.args.domain.now _ it.0 it.1 (answers_of g.F.BackpressureFn.allows g.G.DegradationFn.allows c.args.domain.now.boxes.publishers) it.2 c.args.self.loan.number (it.3).0 c.args.self.loan.publisher c.outcome_of.result step.0 step.1 step.2
-    ((it.2).unsent c.args.self.loan.number (it.3).0 (it.3).1) (it.3).1 (it.3).2 (unblocked-test c.args.domain.now (written_key c.args.self) c.requires.unblocked) subscriber values connected reads
+    let it = always-shown {T = g.row.T.Denot} {U = g.row.U.Denot} c.domain.inside.state c.args.domain.now c.domain.invariant c.domain.view_is in
+    let has = (written-parts c.args.domain.now c.args.self c.requires.live).1 in
+    let out = ap (λ (t : State g.row.T.Denot g.row.U.Denot). t.loans c.args.self.loan.number) (it.2).state ∙ has.1 in
+    let step = returns-clause-sent g c it.0 it.1 has.0 it.2 out in
+    serves {T = g.row.T.Denot} {U = g.row.U.Denot} c.args.domain.now _ it.0 it.1 (answers_of g.F.BackpressureFn.allows g.G.DegradationFn.allows c.args.domain.now.boxes.publishers) it.2 c.args.self.loan.number has.0 c.args.self.loan.publisher c.send_loan.result step.0 step.1 step.2
+    ((it.2).unsent c.args.self.loan.number has.0 out) out has.2 (unblocked-test c.args.domain.now (written_key c.args.self) c.requires.unblocked) subscriber values connected reads
 
 pub returns-clause-arrives : goal.returns-clause-arrives
 returns-clause-arrives g c = λ subscriber values none connected reads.
-    let it = loan-shown {T = g.row.T.Denot} {U = g.row.U.Denot} c.domain.inside.state c.args.domain.now c.domain.invariant c.domain.view_is _ c.requires.live.live in
-    let step = returns-clause-sent g c it.0 it.1 (it.3).0 it.2 (it.3).1 in
+    let it = always-shown {T = g.row.T.Denot} {U = g.row.U.Denot} c.domain.inside.state c.args.domain.now c.domain.invariant c.domain.view_is in
+    let has = (written-parts c.args.domain.now c.args.self c.requires.live).1 in
+    let out = ap (λ (t : State g.row.T.Denot g.row.U.Denot). t.loans c.args.self.loan.number) (it.2).state ∙ has.1 in
+    let step = returns-clause-sent g c it.0 it.1 has.0 it.2 out in
     send-arrives {T = g.row.T.Denot} {U = g.row.U.Denot} c.args.domain.now _ it.0 _ it.1 step.0 it.2 step.1
-    subscriber c.args.self.loan.publisher values none c.outcome_of.result (returns-clause-serves g c subscriber values connected reads)
+    subscriber c.args.self.loan.publisher values none c.send_loan.result (returns-clause-serves g c subscriber values connected reads)
 
 pub returns-clause-joins : goal.returns-clause-joins
 returns-clause-joins g c = λ subscriber values earlier all its room connected reads.
@@ -177,11 +199,13 @@ returns-clause-joins g c = λ subscriber values earlier all its room connected r
     let out = ap (λ (t : State g.row.T.Denot g.row.U.Denot). t.loans c.args.self.loan.number) (it.2).state ∙ has.1 in
     let step = returns-clause-sent g c it.0 it.1 has.0 it.2 out in
     send-joins {T = g.row.T.Denot} {U = g.row.U.Denot} c.args.domain.now _ it.0 _ it.1 step.0 it.2 step.1
-    subscriber c.args.self.loan.publisher values earlier all its room c.outcome_of.result (returns-clause-serves g c subscriber values connected reads)
+    subscriber c.args.self.loan.publisher values earlier all its room c.send_loan.result (returns-clause-serves g c subscriber values connected reads)
 
 pub returns-clause-others : goal.returns-clause-others
 returns-clause-others g c =
-    let it = loan-shown {T = g.row.T.Denot} {U = g.row.U.Denot} c.domain.inside.state c.args.domain.now c.domain.invariant c.domain.view_is _ c.requires.live.live in
-    let step = returns-clause-sent g c it.0 it.1 (it.3).0 it.2 (it.3).1 in
-    others-send {T = g.row.T.Denot} {U = g.row.U.Denot} c.args.domain.now _ it.0 it.1 it.2 (answers_of g.F.BackpressureFn.allows g.G.DegradationFn.allows c.args.domain.now.boxes.publishers) c.args.self.loan.number (it.3).0 c.args.self.loan.publisher
-    c.outcome_of.result step.0 step.1 step.2 ((it.2).unsent c.args.self.loan.number (it.3).0 (it.3).1) (it.3).2
+    let it = always-shown {T = g.row.T.Denot} {U = g.row.U.Denot} c.domain.inside.state c.args.domain.now c.domain.invariant c.domain.view_is in
+    let has = (written-parts c.args.domain.now c.args.self c.requires.live).1 in
+    let out = ap (λ (t : State g.row.T.Denot g.row.U.Denot). t.loans c.args.self.loan.number) (it.2).state ∙ has.1 in
+    let step = returns-clause-sent g c it.0 it.1 has.0 it.2 out in
+    others-send {T = g.row.T.Denot} {U = g.row.U.Denot} c.args.domain.now _ it.0 it.1 it.2 (answers_of g.F.BackpressureFn.allows g.G.DegradationFn.allows c.args.domain.now.boxes.publishers) c.args.self.loan.number has.0 c.args.self.loan.publisher
+    c.send_loan.result step.0 step.1 step.2 ((it.2).unsent c.args.self.loan.number has.0 out) has.2
