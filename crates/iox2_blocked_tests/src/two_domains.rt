@@ -1,6 +1,6 @@
 //! Two domains in which the same calls were made, so that the same numbers are live in both: each holds
 //! its own handles alone, and none that was spent, also where what that named was used again.
-ghost use Rattle.iox2_pubsub.specs.Live.{IsSingleValued, IsUnwrittenLoan};
+ghost use Rattle.iox2_pubsub.specs.Live.{IsSingleValued, IsUnwritten};
 
 use crate::waiting_publishers::{
     assert_ready, assert_single_valued, block, blocked_again, close_publisher, close_subscriber,
@@ -126,7 +126,7 @@ fn loans_held(first: &Service, second: &Service, keys: [Key; 2]) -> [[bool; 2]; 
 
 // An unwritten loan.
 fn lent(rt: &impl Abort, domain: &mut Service, publisher: &Publisher) -> SampleMutUninit
-    ensures loan { IsUnwrittenLoan domain.new result }
+    ensures loan { IsUnwritten domain.new result }
     ensures single_valued { IsSingleValued domain.new }
 {
     assert_single_valued(rt, domain);
