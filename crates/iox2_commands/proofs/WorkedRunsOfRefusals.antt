@@ -15,7 +15,7 @@ use Rattle.iox2_store.specs.machine.Environments.{fixed_handlers}
 use Rattle.iox2_commands.specs.Runs.{Run, only_defaults}
 use Rattle.iox2_commands.specs.declared.command.Command.TheVariants.{CreatePublisher, CreateSubscriber, SendCopy, Receive, Read}
 use Rattle.iox2_commands.specs.declared.reply.Reply.TheVariants.{PublisherMade, SubscriberMade, Delivered, Sample, NoSample, Cell}
-use Rattle.iox2_commands.proofs.WorkedRunDomains.{domain}
+use Rattle.iox2_commands.proofs.WorkedRunDomains.{domain, ◌▸◌}
 
 -- Memory for a connection is refused to a new subscriber, which is made all the same, and that is counted. Its publisher
 -- connects by the next send, and it receives the message after its own next update.
@@ -30,153 +30,14 @@ unconnected_subscriber_connects_later = (
   _ ∷ _ ∷ _ ∷ _ ∷ _ ∷ _ ∷ _ ∷ [],
   _,
   _,
-  (
-    0,
-    0,
-    refl,
-    refl,
-    _,
-    (_, None, (_, None, (_, (refl, refl), refl), refl), refl),
-    refl,
-    refl,
-    (
-      0,
-      0,
-      refl,
-      refl,
-      _,
-      (
-        _,
-        None,
-        (
-          _,
-          None,
-          (
-            _,
-            (
-              _,
-              None,
-              None,
-              (_, None, None, inr (refl, _, (Warn, tt, refl, refl, refl), refl), (refl, refl), refl),
-              (
-                _,
-                None,
-                None,
-                (refl, refl),
-                (refl, refl),
-                refl,
-              ),
-              refl,
-            ),
-            refl,
-          ),
-          refl,
-        ),
-        refl,
-      ),
-      refl,
-      refl,
-      (
-        0,
-        0,
-        refl,
-        refl,
-        _,
-        (
-          _,
-          None,
-          (_, (refl, refl), refl),
-          (
-            _,
-            Delivered_to 1,
-            (
-              _,
-              None,
-              (_, (_, None, None, inl (refl, refl), (refl, refl), refl), refl),
-              (
-                Complete 1 false,
-                _,
-                (Accepted, _, (_, (refl, refl), refl), (refl, refl)),
-                (refl, refl),
-              ),
-            ),
-            refl,
-          ),
-        ),
-        refl,
-        refl,
-        (
-          0,
-          0,
-          refl,
-          refl,
-          _,
-          (_, No_sample, (_, None, (refl, refl), (refl, refl)), refl),
-          refl,
-          refl,
-          (
-            0,
-            0,
-            refl,
-            refl,
-            _,
-            (_, None, (_, None, (_, (_, None, None, inl (refl, refl), (refl, refl), refl), refl), refl), refl),
-            refl,
-            refl,
-            (
-              0,
-              0,
-              refl,
-              refl,
-              _,
-              (
-                _,
-                Got_sample 1 1,
-                (
-                  _,
-                  None,
-                  (
-                    _,
-                    (
-                      _,
-                      None,
-                      None,
-                      (_, None, None, inl (refl, refl), (_, None, None, inl (refl, refl), (refl, refl), refl), refl),
-                      (
-                        _,
-                        None,
-                        None,
-                        (refl, refl),
-                        (_, None, None, (refl, refl), (refl, refl), refl),
-                        refl,
-                      ),
-                      refl,
-                    ),
-                    refl,
-                  ),
-                  ((refl, refl), _, ([], refl, refl), refl),
-                ),
-                refl,
-              ),
-              refl,
-              refl,
-              (
-                0,
-                0,
-                refl,
-                refl,
-                _,
-                refl,
-                refl,
-                refl,
-                (refl, refl),
-              ),
-            ),
-          ),
-        ),
-      ),
-    ),
-  ),
+  (_, (_, None, (_, None, (_, (refl, refl), refl), refl), refl), refl, refl) ▸
+      (_, (_, None, (_, None, (_, (_, None, None, (_, None, None, inr (refl, _, (Warn, tt, refl, refl, refl), refl), (refl, refl), refl), (_, None, None, (refl, refl), (refl, refl), refl), refl), refl), refl), refl), refl, refl) ▸
+      (_, (_, None, (_, (refl, refl), refl), (_, Delivered_to 1, (_, None, (_, (_, None, None, inl (refl, refl), (refl, refl), refl), refl), (Complete 1 false, _, (Accepted, _, (_, (refl, refl), refl), (refl, refl)), (refl, refl))), refl)), refl, refl) ▸
+      (_, (_, No_sample, (_, None, (refl, refl), (refl, refl)), refl), refl, refl) ▸
+      (_, (_, None, (_, None, (_, (_, None, None, inl (refl, refl), (refl, refl), refl), refl), refl), refl), refl, refl) ▸
+      (_, (_, Got_sample 1 1, (_, None, (_, (_, None, None, (_, None, None, inl (refl, refl), (_, None, None, inl (refl, refl), (refl, refl), refl), refl), (_, None, None, (refl, refl), (_, None, None, (refl, refl), (refl, refl), refl), refl), refl), refl), ((refl, refl), _, ([], refl, refl), refl)), refl), refl, refl) ▸
+      (_, refl, refl, refl) ▸
+      (refl, refl),
   refl,
 )
 
@@ -193,172 +54,14 @@ unconnected_publisher_connects_later = (
   _ ∷ _ ∷ _ ∷ _ ∷ _ ∷ _ ∷ _ ∷ _ ∷ [],
   _,
   _,
-  (
-    0,
-    0,
-    refl,
-    refl,
-    _,
-    (_, None, (_, None, (_, (_, None, None, (refl, refl), (refl, refl), refl), refl), refl), refl),
-    refl,
-    refl,
-    (
-      0,
-      0,
-      refl,
-      refl,
-      _,
-      (
-        _,
-        None,
-        (
-          _,
-          Some (FailedToEstablishConnection OutOfMemory),
-          (
-            _,
-            (
-              _,
-              Some (FailedToEstablishConnection OutOfMemory),
-              None,
-              inr (
-                refl,
-                _,
-                (
-                  DegradeAndFail,
-                  tt,
-                  refl,
-                  refl,
-                  refl,
-                ),
-                refl,
-              ),
-              (refl, refl),
-              refl,
-            ),
-            refl,
-          ),
-          refl,
-        ),
-        refl,
-      ),
-      refl,
-      refl,
-      (
-        0,
-        0,
-        refl,
-        refl,
-        _,
-        (_, None, (_, (refl, refl), refl), (_, Delivered_to 0, (_, None, (refl, refl), (Complete 0 false, _, (refl, refl), (refl, refl))), refl)),
-        refl,
-        refl,
-        (
-          0,
-          0,
-          refl,
-          refl,
-          _,
-          (
-            _,
-            No_sample,
-            (
-              _,
-              None,
-              (
-                _,
-                (_, None, None, (_, None, None, inl (refl, refl), (refl, refl), refl), (_, None, None, (refl, refl), (refl, refl), refl), refl),
-                refl,
-              ),
-              (refl, refl),
-            ),
-            refl,
-          ),
-          refl,
-          refl,
-          (
-            0,
-            0,
-            refl,
-            refl,
-            _,
-            (
-              _,
-              None,
-              (
-                _,
-                None,
-                (
-                  _,
-                  (_, None, None, (_, None, None, inl (refl, refl), (refl, refl), refl), (_, None, None, (refl, refl), (refl, refl), refl), refl),
-                  refl,
-                ),
-                refl,
-              ),
-              refl,
-            ),
-            refl,
-            refl,
-            (
-              0,
-              0,
-              refl,
-              refl,
-              _,
-              (
-                _,
-                None,
-                (_, (refl, refl), refl),
-                (
-                  _,
-                  Delivered_to 2,
-                  (
-                    _,
-                    None,
-                    (
-                      _,
-                      (
-                        _,
-                        None,
-                        None,
-                        inl (refl, refl),
-                        (_, None, None, inl (refl, refl), (refl, refl), refl),
-                        refl,
-                      ),
-                      refl,
-                    ),
-                    (Complete 2 false, _, (Accepted, _, (_, (refl, refl), refl), (Accepted, _, (_, (refl, refl), refl), (refl, refl))), (refl, refl)),
-                  ),
-                  refl,
-                ),
-              ),
-              refl,
-              refl,
-              (
-                0,
-                0,
-                refl,
-                refl,
-                _,
-                (_, Got_sample 2 2, (_, None, (refl, refl), ((refl, refl), _, ([], refl, refl), refl)), refl),
-                refl,
-                refl,
-                (
-                  0,
-                  0,
-                  refl,
-                  refl,
-                  _,
-                  refl,
-                  refl,
-                  refl,
-                  (refl, refl),
-                ),
-              ),
-            ),
-          ),
-        ),
-      ),
-    ),
-  ),
+  (_, (_, None, (_, None, (_, (_, None, None, (refl, refl), (refl, refl), refl), refl), refl), refl), refl, refl) ▸
+      (_, (_, None, (_, Some (FailedToEstablishConnection OutOfMemory), (_, (_, Some (FailedToEstablishConnection OutOfMemory), None, inr (refl, _, (DegradeAndFail, tt, refl, refl, refl), refl), (refl, refl), refl), refl), refl), refl), refl, refl) ▸
+      (_, (_, None, (_, (refl, refl), refl), (_, Delivered_to 0, (_, None, (refl, refl), (Complete 0 false, _, (refl, refl), (refl, refl))), refl)), refl, refl) ▸
+      (_, (_, No_sample, (_, None, (_, (_, None, None, (_, None, None, inl (refl, refl), (refl, refl), refl), (_, None, None, (refl, refl), (refl, refl), refl), refl), refl), (refl, refl)), refl), refl, refl) ▸
+      (_, (_, None, (_, None, (_, (_, None, None, (_, None, None, inl (refl, refl), (refl, refl), refl), (_, None, None, (refl, refl), (refl, refl), refl), refl), refl), refl), refl), refl, refl) ▸
+      (_, (_, None, (_, (refl, refl), refl), (_, Delivered_to 2, (_, None, (_, (_, None, None, inl (refl, refl), (_, None, None, inl (refl, refl), (refl, refl), refl), refl), refl), (Complete 2 false, _, (Accepted, _, (_, (refl, refl), refl), (Accepted, _, (_, (refl, refl), refl), (refl, refl))), (refl, refl))), refl)), refl, refl) ▸
+      (_, (_, Got_sample 2 2, (_, None, (refl, refl), ((refl, refl), _, ([], refl, refl), refl)), refl), refl, refl) ▸
+      (_, refl, refl, refl) ▸
+      (refl, refl),
   refl,
 )
