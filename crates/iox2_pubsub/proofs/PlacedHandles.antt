@@ -130,6 +130,14 @@ module _ {T U F G : Type 0} {boxes : DomainBoxes F G} (f : Fields T U) (sound : 
         ((sound.parts).publisher_ids it.id).one i it.place found.0 there.0 found.1 there.1 (eq-eqb found.0.id it.id found.2) (eq-eqb there.0.id it.id there.2),
   )
 
+  -- and where its record stands there, and only there
+  pub publisher-hinted : (it : PublisherHandle) → it.service_id ≡ (f.config).service_id
+      → ((x : PublisherFields) × (get_or f.publishers it.place None ≡ Some x) × (x.id ≡ it.id)) ↔ (IsPublisherKey kept (publisher_key it) × IsPlacedPublisher kept it)
+  publisher-hinted it service = (
+    λ at. (publisher-in it service (present-publisher f it.id sound it.place at.0 at.1 at.2) it.place at).0 refl,
+    λ live. publisher-there it live.0 live.1,
+  )
+
   pub subscriber-in : (it : SubscriberHandle) → it.service_id ≡ (f.config).service_id → HoldsSubscriber (shown f) it.id
       → (i : ℕ) → (y : SubscriberFields) × (get_or f.subscribers i None ≡ Some y) × (y.id ≡ it.id) → (i ≡ it.place) ↔ IsLiveSubscriber kept it
   subscriber-in it service holds i found = (

@@ -38,6 +38,10 @@ sample_named parts = record { service_id = parts.service_id; port = parts.subscr
 abbrev pub publisher_parts : Publisher → PublisherParts
 publisher_parts it = record { service_id = it.service_id; id = it.id; place = it.place; strategy = it.strategy; initial_max_slice_len = it.initial_max_slice_len }
 
+-- The handle of a publisher that has these numbers.
+abbrev pub publisher_with : PublisherParts → Publisher
+publisher_with parts = record { service_id = parts.service_id; id = parts.id; place = parts.place; strategy = parts.strategy; initial_max_slice_len = parts.initial_max_slice_len }
+
 -- The subscriber's numbers.
 abbrev pub subscriber_parts : Subscriber → SubscriberParts
 subscriber_parts it = record { service_id = it.service_id; id = it.id; place = it.place; buffer_size = it.buffer_size }

@@ -51,12 +51,22 @@ fn a_publisher_is_had_again_until_it_is_closed(rt: HostRuntime) {
         has_publisher(&domain, &unknown),
         has_publisher(&other, &parts),
     ];
+    let placed = [
+        domain.is_publisher_at_hint(&parts),
+        domain.is_publisher_at_hint(&astray),
+        domain.is_publisher_at_hint(&unknown),
+        other.is_publisher_at_hint(&parts),
+    ];
     close_publisher(&rt, &mut domain, &astray);
-    let after = has_publisher(&domain, &parts);
+    let after = [
+        has_publisher(&domain, &parts),
+        domain.is_publisher_at_hint(&parts),
+    ];
     drop(other);
     drop(domain);
     assert!(rt; before == [true, true, false, false]);
-    assert!(rt; !after);
+    assert!(rt; placed == [true, false, false, false]);
+    assert!(rt; after == [false, false]);
 }
 
 // Whether a subscriber with the numbers stands in the domain.

@@ -1,15 +1,28 @@
 //! Whether what numbers name is where they say that it is looked for first. Nothing is searched, so
 //! that a caller can go one way where it is, which is mostly so, and another where it isn't.
-ghost use Rattle.std.specs.Prelude.{◌≡◌, IsTrue};
+ghost use Rattle.std.specs.Prelude.{◌≡◌, ◌↔◌, IsTrue};
 
 use crate::domain::Domain;
-use crate::parts::hints::{has_loan_at_hint, has_sample_at_hint, has_subscriber_at_hint};
-use crate::parts::{LoanParts, SampleParts, SubscriberParts};
-use iox2_store::{BackpressureFn, DegradationFn, UniqueSubscriberId};
+use crate::parts::hints::{
+    has_loan_at_hint, has_publisher_at_hint, has_sample_at_hint, has_subscriber_at_hint,
+};
+use crate::parts::{LoanParts, PublisherParts, SampleParts, SubscriberParts};
+use iox2_store::{BackpressureFn, DegradationFn, UniquePublisherId, UniqueSubscriberId};
 
 impl<T: Drop, U: Default + Drop, F: BackpressureFn, G: DegradationFn> Domain<T, U, F, G> {
-    ghost use Rattle.iox2_pubsub.specs.Live.{IsLoanKey, IsSampleKey, IsSubscriberKey};
-    ghost use Rattle.iox2_pubsub.specs.Parts.{loan_named, sample_named, subscriber_named};
+    ghost use Rattle.iox2_pubsub.specs.Live.{IsLoanKey, IsPlacedPublisher, IsPublisherKey, IsSampleKey, IsSubscriberKey};
+    ghost use Rattle.iox2_pubsub.specs.Parts.{loan_named, publisher_named, publisher_with, sample_named, subscriber_named};
+
+    /// Whether the publisher with these numbers wasn't closed, and stands at the place that they name.
+    /// This library's own.
+    pub fn is_publisher_at_hint(&self, parts: &PublisherParts) -> bool
+        ensures { IsTrue result ↔ (IsPublisherKey self.now (publisher_named parts.now) × IsPlacedPublisher self.now (publisher_with parts.now)) }
+    {
+        if parts.service_id != self.state.config().service_id {
+            return false;
+        }
+        has_publisher_at_hint(&self.state, UniquePublisherId::new(parts.id), parts.place)
+    }
 
     /// Whether the subscriber with these numbers wasn't closed, and stands at the place that they name.
     /// This library's own.

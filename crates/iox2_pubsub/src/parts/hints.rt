@@ -27,6 +27,20 @@ pub(crate) fn find_open_publisher<T: Drop, U: Default + Drop>(
     state.find_publisher(id, place)
 }
 
+/// Whether a publisher has this id, wasn't closed and stands at the place.
+pub(crate) fn has_publisher_at_hint<T: Drop, U: Default + Drop>(
+    state: &DomainState<T, U>,
+    id: UniquePublisherId,
+    place: usize,
+) -> bool
+    ensures { IsTrue result ↔ (x : PublisherFields) × (slice_index_or state.now.publishers place None ≡ Some x) × (x.id ≡ id) }
+{
+    let Some(Some(publisher)) = state.publishers.get(place) else {
+        return false;
+    };
+    publisher.id.value() == id.value()
+}
+
 /// The place of the subscriber with this id, where it wasn't closed. It is looked for at the place
 /// first.
 pub(crate) fn find_open_subscriber<T: Drop, U: Default + Drop>(
