@@ -2,3 +2,4 @@ mod Values
 mod DomainBoxSteps
 mod BecomesSteps
 mod CreationSteps
+mod LoanSteps

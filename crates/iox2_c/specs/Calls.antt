@@ -2,19 +2,26 @@
 use Rattle.std.specs.Prelude.{ℕ, true, ◌≡◌, ◌⊎◌}
 use Rattle.std.specs.declared.result.Result.{Result}
 use Rattle.std.specs.declared.result.Result.TheVariants.{Err, Ok}
+use Rattle.iox2_store.specs.declared.errors.LoanError.{LoanError}
 use Rattle.iox2_store.specs.declared.errors.PublisherCreateError.{PublisherCreateError}
 use Rattle.iox2_store.specs.declared.key.Key.{Key}
 use Rattle.iox2_pubsub.specs.declared.slice.publisher.Publisher.{Publisher}
+use Rattle.iox2_pubsub.specs.declared.slice.sample_mut.SampleMut.{SampleMut}
 use Rattle.iox2_pubsub.specs.Handles.{as_publisher, publisher_id}
 use Rattle.iox2_pubsub.specs.Live.{HasMark, IsLoanKey, IsPublisherKey, IsUnblocked}
 use Rattle.iox2_c.specs.Serving.{KeptBytes}
 
--- ---- creations
+-- ---- creations and loans
 
 -- What came of a publisher, by its id.
 abbrev pub publisher_made : Result Publisher PublisherCreateError → Result ℕ PublisherCreateError
 publisher_made (Ok it) = Ok (publisher_id (as_publisher it))
 publisher_made (Err error) = Err error
+
+-- What came of a loan, without its handle.
+abbrev pub loan_made : Result SampleMut LoanError → Result (Unit {0}) LoanError
+loan_made (Ok it) = Ok tt
+loan_made (Err error) = Err error
 
 -- ---- refusals, which change nothing: 2 where nothing live is named, and 7 where an earlier send of the publisher waits
 

@@ -8,3 +8,4 @@ pub mod Settings
 pub mod Calls
 pub mod Warnings
 pub mod Steps
+pub mod Returns

@@ -3,6 +3,7 @@
 ghost use Rattle.std.specs.Prelude.{◌≡◌};
 ghost use Rattle.iox2_c.specs.Codes.{strategy_numbered};
 ghost use Rattle.iox2_c.specs.Numbers.{IsHeader, named_loan, named_publisher, named_sample, named_subscriber, wide};
+ghost use Rattle.iox2_pubsub.specs.Live.{lender_key};
 ghost use Rattle.iox2_pubsub.specs.Parts.{loan_named, publisher_named, sample_named, subscriber_named};
 
 use crate::config::{strategy_number, strategy_of};
@@ -36,6 +37,17 @@ impl Wide {
         ensures { result ≡ wide self.now }
     {
         self.low as u128 + self.high as u128 * HALF
+    }
+
+    // The same number. Its halves are read one by one, since the compiler copies a whole struct by way
+    // of the stack.
+    fn copied(&self) -> Wide
+        ensures { result ≡ self.now }
+    {
+        Wide {
+            low: self.low,
+            high: self.high,
+        }
     }
 }
 
@@ -155,6 +167,22 @@ impl LoanNumbers {
         LoanNumbers {
             service_id: Wide::of(parts.service_id),
             publisher: Wide::of(parts.publisher),
+            number: Wide::of(parts.number),
+            place: parts.place,
+            book: parts.book,
+            slot: parts.slot,
+        }
+    }
+
+    /// The numbers of a loan that the publisher with these numbers lent. The service's and the
+    /// publisher's are taken from there.
+    pub fn lent_by(lender: &PublisherNumbers, parts: &LoanParts) -> LoanNumbers
+        requires { lender_key (loan_named parts.now) ≡ named_publisher lender.now }
+        ensures { named_loan result ≡ loan_named parts.now }
+    {
+        LoanNumbers {
+            service_id: lender.service_id.copied(),
+            publisher: lender.id.copied(),
             number: Wide::of(parts.number),
             place: parts.place,
             book: parts.book,

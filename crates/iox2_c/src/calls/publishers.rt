@@ -1,17 +1,16 @@
 //! The calls of publishers.
-ghost use Rattle.std.specs.Prelude.{ℕ, ◌≡◌, ◌≢◌, ◌<◌, ◌≤◌, ◌⊎◌, Err, IfErr, IfOk, MatchResult, None, Ok, Some};
+ghost use Rattle.std.specs.Prelude.{ℕ, ◌≡◌, ◌≢◌, ◌<◌, ◌⊎◌, Err, IfErr, IfOk, None, Ok, Some};
 ghost use Rattle.iox2_store.specs.declared.errors.LoanError.{LoanError};
 ghost use Rattle.iox2_store.specs.declared.errors.PublisherCreateError.{PublisherCreateError};
-ghost use Rattle.iox2_store.specs.machine.Ports.{CreatePublisher};
-ghost use Rattle.iox2_domain.specs.Boxes.{answers_of};
 ghost use Rattle.iox2_pubsub.specs.Factories.{with_slots};
 ghost use Rattle.iox2_pubsub.specs.Handles.{max_slice_len_of, strategy_of as handle_strategy};
-ghost use Rattle.iox2_pubsub.specs.Handles.{as_publisher, publisher_id};
-ghost use Rattle.iox2_pubsub.specs.Live.{A_loan, A_publisher, IsLoanKey, IsNewIn, IsPublisherKey, IsReadyPublisher, No_item, Stays, publisher_key, publisher_port};
-ghost use Rattle.iox2_c.specs.Calls.{IsOut, IsReady, RefusesPublisher, publisher_made};
+ghost use Rattle.iox2_pubsub.specs.Handles.{as_publisher, as_written, publisher_id};
+ghost use Rattle.iox2_pubsub.specs.Live.{A_publisher, IsNewIn, IsPublisherKey, IsReadyPublisher, IsWritten, No_item, Stays, lender_key, publisher_key, publisher_port, written_key, written_loan};
+ghost use Rattle.iox2_c.specs.Calls.{IsReady, RefusesPublisher, loan_made, publisher_made};
 ghost use Rattle.iox2_c.specs.Codes.{code_of, loan_code, publisher_code, slots_numbered, strategy_numbered};
 ghost use Rattle.iox2_c.specs.Numbers.{named_loan, named_publisher, wide};
-ghost use Rattle.iox2_c.specs.Serving.{ServesBut};
+ghost use Rattle.iox2_c.specs.Returns.{LoanReturns};
+ghost use Rattle.iox2_c.specs.Serving.{IsOfBytes, ServesBut};
 ghost use Rattle.iox2_c.specs.Settings.{AreOptions, ReadsSettings, plain_publisher_settings, publisher_settings, unasked_settings};
 ghost use Rattle.iox2_c.specs.Steps.{ClosesPublisher, CreatesPublisher, Lends};
 
@@ -24,8 +23,8 @@ use crate::starts::start_to_write;
 use crate::status::{
     INVALID_SETTINGS, NOT_LIVE, OK, PUBLISHER_IS_BLOCKED, loan_status, publisher_status,
 };
-use iox2_pubsub::PublisherCreateError;
-use iox2_pubsub::slice::{PortFactoryPublisher, Publisher};
+use iox2_pubsub::slice::{PortFactoryPublisher, Publisher, SampleMut};
+use iox2_pubsub::{LoanError, PublisherCreateError};
 
 // A factory of publishers without an override.
 type Factory = PortFactoryPublisher<NoHandler, NoHandler>;
@@ -197,14 +196,25 @@ pub fn loan(
     out: &mut LoanNumbers,
     payload: &mut *mut u8,
 ) -> u32
-    ensures code { result ≡ 1 → ⊥ }
-    ensures lends { result ≡ 0 → Lends service.old.domain service.new.domain (wide (numbers.now).id) len (Ok tt) }
-    ensures errors { 10 ≤ result → (error : LoanError) × (result ≡ loan_code error) × Lends service.old.domain service.new.domain (wide (numbers.now).id) len (Err error) }
-    ensures why { 1 < result → result < 10 → RefusesPublisher service.old.domain (named_publisher numbers.now) result × (service.new ≡ service.old) }
-    ensures out { result ≡ 0 → IsOut service.new.domain (named_loan out.new) }
-    ensures new { result ≡ 0 → IsNewIn service.old.domain (A_loan (wide (out.new).number)) }
-    ensures same { 0 < result → out.new ≡ out.old }
-    ensures stays { ServesBut No_item service.old service.new }
+    ensures { LoanReturns numbers.now len service.old service.new out.old out.new result }
+{
+    if service.domain.is_publisher_at_hint(&numbers.parts()) {
+        loan_named(service, numbers, len, out, payload)
+    } else {
+        loan_elsewhere(service, numbers, len, out, payload)
+    }
+}
+
+// The same. What was found before of the publisher isn't tested again here.
+#[inline(always)]
+fn loan_named(
+    service: &mut Service,
+    numbers: &PublisherNumbers,
+    len: usize,
+    out: &mut LoanNumbers,
+    payload: &mut *mut u8,
+) -> u32
+    ensures { LoanReturns numbers.now len service.old service.new out.old out.new result }
 {
     let publisher = match ready_publisher(&service.domain, numbers) {
         Ok(publisher) => publisher,
@@ -212,10 +222,72 @@ pub fn loan(
     };
     let lent = publisher.loan_slice(&mut service.domain, len);
     publisher.disown();
+    tell_lent(service, numbers, lent, out, payload)
+}
+
+// The same, where the publisher is sought.
+#[cold]
+#[inline(never)]
+fn loan_elsewhere(
+    service: &mut Service,
+    numbers: &PublisherNumbers,
+    len: usize,
+    out: &mut LoanNumbers,
+    payload: &mut *mut u8,
+) -> u32
+    ensures { LoanReturns numbers.now len service.old service.new out.old out.new result }
+{
+    let publisher = match ready_publisher(&service.domain, numbers) {
+        Ok(publisher) => publisher,
+        Err(code) => return code,
+    };
+    let lent = lend_zeros(&mut service.domain, &publisher, len);
+    publisher.disown();
+    tell_lent(service, numbers, lent, out, payload)
+}
+
+// Lends as `loan_slice` does, with a closure of its own: the compiler inlines what fills a loan where
+// one place calls it with this closure, and so it does in `loan_named` with that of `loan_slice`.
+fn lend_zeros(
+    domain: &mut BytesDomain,
+    publisher: &Publisher,
+    len: usize,
+) -> Result<SampleMut, LoanError>
+    requires ready { IsReadyPublisher domain.old (as_publisher publisher.now) }
+    requires bytes { IsOfBytes domain.old }
+    ensures lends { Lends domain.old domain.new (publisher_id (as_publisher publisher.now)) len (loan_made result) }
+    ensures out { IfOk result (λ it. IsWritten domain.new (as_written it)) }
+    ensures new { IfOk result (λ it. IsNewIn domain.old (written_loan (as_written it))) }
+    ensures lender { IfOk result (λ it. lender_key (written_key (as_written it)) ≡ publisher_key (as_publisher publisher.now)) }
+    ensures stays { Stays domain.old domain.new }
+{
+    match publisher.loan_slice_uninit(domain, len) {
+        Ok(loan) => Ok(loan.write_from_fn(domain, |_| 0)),
+        Err(error) => Err(error),
+    }
+}
+
+// What came of a loan: its code, and where it was granted its numbers and where its bytes lie. The ids
+// that it shares with its publisher stand in that one's numbers, so that they aren't kept while a loan
+// is filled.
+#[inline(always)]
+fn tell_lent(
+    service: &Service,
+    numbers: &PublisherNumbers,
+    lent: Result<SampleMut, LoanError>,
+    out: &mut LoanNumbers,
+    payload: &mut *mut u8,
+) -> u32
+    requires out { IfOk lent (λ it. IsWritten service.now.domain (as_written it)) }
+    requires lender { IfOk lent (λ it. lender_key (written_key (as_written it)) ≡ named_publisher numbers.now) }
+    ensures code { result ≡ code_of loan_code lent }
+    ensures named { IfOk lent (λ it. named_loan out.new ≡ written_key (as_written it)) }
+    ensures same { IfErr lent (λ _. out.new ≡ out.old) }
+{
     match lent {
         Ok(loan) => {
             *payload = start_to_write(loan.payload(&service.domain));
-            *out = LoanNumbers::of(loan.into_inner().into_parts());
+            *out = LoanNumbers::lent_by(numbers, &loan.into_inner().into_parts());
             OK
         }
         Err(error) => loan_status(error),
