@@ -2,9 +2,10 @@
 ghost use Rattle.std.specs.Prelude.{ℕ, List, drop, length, take, ◌≡◌, ◌≢◌, ◌<◌, ◌≤◌, ◌⊎◌, IfNone, IfSome};
 ghost use Rattle.iox2_store.specs.declared.header.Header.{Header};
 ghost use Rattle.iox2_pubsub.specs.Handles.{as_sample, origin_of, receiver_of, sample_number};
-ghost use Rattle.iox2_pubsub.specs.Live.{A_sample, IsLiveSample, IsSampleKey, SampleHasHeader, received_sample, sample_key};
+ghost use Rattle.iox2_pubsub.specs.Live.{IsLiveSample, IsSampleKey, SampleHasHeader, received_sample, sample_key};
 ghost use Rattle.iox2_pubsub.specs.Slices.{SampleHasValues};
 ghost use Rattle.iox2_c.specs.Numbers.{IsHeader, named_sample, wide};
+ghost use Rattle.iox2_c.specs.Returns.{ReleaseReturns};
 ghost use Rattle.iox2_c.specs.Serving.{ServesBut};
 ghost use Rattle.iox2_c.specs.Steps.{Releases};
 
@@ -137,12 +138,7 @@ pub fn header(service: &Service, numbers: &SampleNumbers, out: &mut HeaderNumber
 
 /// Gives a message back.
 pub fn release(service: &mut Service, numbers: &SampleNumbers) -> u32
-    ensures code { (result ≡ 0) ⊎ ((result ≡ 2) × (IsSampleKey service.old.domain (named_sample numbers.now) → ⊥)) }
-    ensures live { result ≡ 0 → IsSampleKey service.old.domain (named_sample numbers.now) }
-    ensures releases { result ≡ 0 → Releases service.old.domain service.new.domain (wide (numbers.now).subscriber) (wide (numbers.now).number) }
-    ensures spent { IsSampleKey service.new.domain (named_sample numbers.now) → ⊥ }
-    ensures refused { 0 < result → service.new ≡ service.old }
-    ensures stays { ServesBut (A_sample (wide (numbers.now).subscriber) (wide (numbers.now).number)) service.old service.new }
+    ensures { ReleaseReturns numbers.now service.old service.new result }
 {
     if service.domain.is_sample_at_hint(&numbers.parts()) {
         release_named(service, numbers)
@@ -154,12 +150,7 @@ pub fn release(service: &mut Service, numbers: &SampleNumbers) -> u32
 // The same. What was found before of the sample isn't tested again here.
 #[inline(always)]
 fn release_named(service: &mut Service, numbers: &SampleNumbers) -> u32
-    ensures code { (result ≡ 0) ⊎ ((result ≡ 2) × (IsSampleKey service.old.domain (named_sample numbers.now) → ⊥)) }
-    ensures live { result ≡ 0 → IsSampleKey service.old.domain (named_sample numbers.now) }
-    ensures releases { result ≡ 0 → Releases service.old.domain service.new.domain (wide (numbers.now).subscriber) (wide (numbers.now).number) }
-    ensures spent { IsSampleKey service.new.domain (named_sample numbers.now) → ⊥ }
-    ensures refused { 0 < result → service.new ≡ service.old }
-    ensures stays { ServesBut (A_sample (wide (numbers.now).subscriber) (wide (numbers.now).number)) service.old service.new }
+    ensures { ReleaseReturns numbers.now service.old service.new result }
 {
     let Some(sample) = live_sample(&service.domain, numbers) else {
         return NOT_LIVE;
@@ -172,12 +163,7 @@ fn release_named(service: &mut Service, numbers: &SampleNumbers) -> u32
 #[cold]
 #[inline(never)]
 fn release_elsewhere(service: &mut Service, numbers: &SampleNumbers) -> u32
-    ensures code { (result ≡ 0) ⊎ ((result ≡ 2) × (IsSampleKey service.old.domain (named_sample numbers.now) → ⊥)) }
-    ensures live { result ≡ 0 → IsSampleKey service.old.domain (named_sample numbers.now) }
-    ensures releases { result ≡ 0 → Releases service.old.domain service.new.domain (wide (numbers.now).subscriber) (wide (numbers.now).number) }
-    ensures spent { IsSampleKey service.new.domain (named_sample numbers.now) → ⊥ }
-    ensures refused { 0 < result → service.new ≡ service.old }
-    ensures stays { ServesBut (A_sample (wide (numbers.now).subscriber) (wide (numbers.now).number)) service.old service.new }
+    ensures { ReleaseReturns numbers.now service.old service.new result }
 {
     release_named(service, numbers)
 }

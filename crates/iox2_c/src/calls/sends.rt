@@ -3,14 +3,15 @@ ghost use Rattle.std.specs.Prelude.{◌≡◌, ◌≢◌, ◌<◌, ◌⊎◌, na
 ghost use Rattle.std.specs.declared.result.Result.{Result};
 ghost use Rattle.iox2_store.specs.declared.errors.SendError.{SendError};
 ghost use Rattle.iox2_pubsub.specs.declared.send_outcome.SendOutcome.{SendOutcome};
-ghost use Rattle.iox2_pubsub.specs.Live.{A_blocked_send, A_sent_copy, A_sent_loan, IsBlockedKey, IsLoanKey, IsReadyPublisher, StaysBut, blocked_key};
+ghost use Rattle.iox2_pubsub.specs.Live.{A_blocked_send, A_sent_copy, IsBlockedKey, IsReadyPublisher, StaysBut, blocked_key};
 ghost use Rattle.iox2_pubsub.specs.Handles.{as_publisher, publisher_id};
 ghost use Rattle.iox2_pubsub.specs.SendCalls.{IfBlocked, spent_by_copy};
-ghost use Rattle.iox2_c.specs.Calls.{IsOut, IsReady, RefusesPublisher, RefusesSend};
+ghost use Rattle.iox2_c.specs.Calls.{RefusesPublisher};
 ghost use Rattle.iox2_c.specs.Codes.{receivers_of, sent_code};
 ghost use Rattle.iox2_c.specs.Numbers.{named_loan, named_publisher, wide};
+ghost use Rattle.iox2_c.specs.Returns.{SendReturns, TellsSent};
 ghost use Rattle.iox2_c.specs.Serving.{IsOfBytes, ServesBut};
-ghost use Rattle.iox2_c.specs.Steps.{GivesUp, Retries, SendsCopy, SendsLoan};
+ghost use Rattle.iox2_c.specs.Steps.{GivesUp, Retries, SendsCopy};
 
 use crate::calls::loans::written_loan;
 use crate::calls::publishers::ready_publisher;
@@ -27,10 +28,7 @@ fn tell(
     receivers: &mut usize,
     blocked: &mut LoanNumbers,
 ) -> u32
-    ensures code { result ≡ sent_code sent }
-    ensures receivers { receivers.new ≡ receivers_of receivers.old sent }
-    ensures blocked { IfOk sent (λ outcome. IfBlocked outcome (λ it. named_loan blocked.new ≡ blocked_key it)) }
-    ensures same { result ≢ 6 → blocked.new ≡ blocked.old }
+    ensures { TellsSent sent receivers.old receivers.new blocked.old blocked.new result }
 {
     match sent {
         Ok(SendOutcome::Delivered(count)) => {
@@ -55,10 +53,7 @@ fn tell_of(
     blocked: &mut LoanNumbers,
 ) -> u32
     requires named { IfOk sent (λ outcome. IfBlocked outcome (λ it. blocked_key it ≡ named_loan numbers.now)) }
-    ensures code { result ≡ sent_code sent }
-    ensures receivers { receivers.new ≡ receivers_of receivers.old sent }
-    ensures blocked { IfOk sent (λ outcome. IfBlocked outcome (λ it. named_loan blocked.new ≡ blocked_key it)) }
-    ensures same { result ≢ 6 → blocked.new ≡ blocked.old }
+    ensures { TellsSent sent receivers.old receivers.new blocked.old blocked.new result }
 {
     match sent {
         Ok(SendOutcome::Delivered(count)) => {
@@ -81,14 +76,7 @@ pub fn send(
     receivers: &mut usize,
     blocked: &mut LoanNumbers,
 ) -> u32
-    ensures code { result ≡ 1 → ⊥ }
-    ensures sent { result ≢ 2 → result ≢ 7 → (outcome : Result SendOutcome SendError) × (result ≡ sent_code outcome) × (receivers.new ≡ receivers_of receivers.old outcome) × SendsLoan service.old.domain service.new.domain (wide (numbers.now).number) outcome }
-    ensures why { (result ≡ 2) ⊎ (result ≡ 7) → RefusesSend service.old.domain (named_loan numbers.now) result × (service.new ≡ service.old) }
-    ensures waits { result ≡ 6 → IsBlockedKey service.new.domain (named_loan blocked.new) × (named_loan blocked.new ≡ named_loan numbers.now) }
-    ensures spent { result ≢ 2 → result ≢ 7 → IsLoanKey service.new.domain (named_loan numbers.now) → ⊥ }
-    ensures same { result ≢ 6 → blocked.new ≡ blocked.old }
-    ensures same_count { (result ≡ 2) ⊎ (result ≡ 7) → receivers.new ≡ receivers.old }
-    ensures stays { ServesBut (A_sent_loan (wide (numbers.now).number) (wide (numbers.now).publisher) (nat_eq result 6)) service.old service.new }
+    ensures { SendReturns numbers.now service.old service.new receivers.old receivers.new blocked.old blocked.new result }
 {
     if service.domain.is_loan_at_hint(&numbers.parts()) {
         send_named(service, numbers, receivers, blocked)
@@ -105,14 +93,7 @@ fn send_named(
     receivers: &mut usize,
     blocked: &mut LoanNumbers,
 ) -> u32
-    ensures code { result ≡ 1 → ⊥ }
-    ensures sent { result ≢ 2 → result ≢ 7 → (outcome : Result SendOutcome SendError) × (result ≡ sent_code outcome) × (receivers.new ≡ receivers_of receivers.old outcome) × SendsLoan service.old.domain service.new.domain (wide (numbers.now).number) outcome }
-    ensures why { (result ≡ 2) ⊎ (result ≡ 7) → RefusesSend service.old.domain (named_loan numbers.now) result × (service.new ≡ service.old) }
-    ensures waits { result ≡ 6 → IsBlockedKey service.new.domain (named_loan blocked.new) × (named_loan blocked.new ≡ named_loan numbers.now) }
-    ensures spent { result ≢ 2 → result ≢ 7 → IsLoanKey service.new.domain (named_loan numbers.now) → ⊥ }
-    ensures same { result ≢ 6 → blocked.new ≡ blocked.old }
-    ensures same_count { (result ≡ 2) ⊎ (result ≡ 7) → receivers.new ≡ receivers.old }
-    ensures stays { ServesBut (A_sent_loan (wide (numbers.now).number) (wide (numbers.now).publisher) (nat_eq result 6)) service.old service.new }
+    ensures { SendReturns numbers.now service.old service.new receivers.old receivers.new blocked.old blocked.new result }
 {
     let Some(loan) = written_loan(&service.domain, numbers) else {
         return NOT_LIVE;
@@ -134,14 +115,7 @@ fn send_elsewhere(
     receivers: &mut usize,
     blocked: &mut LoanNumbers,
 ) -> u32
-    ensures code { result ≡ 1 → ⊥ }
-    ensures sent { result ≢ 2 → result ≢ 7 → (outcome : Result SendOutcome SendError) × (result ≡ sent_code outcome) × (receivers.new ≡ receivers_of receivers.old outcome) × SendsLoan service.old.domain service.new.domain (wide (numbers.now).number) outcome }
-    ensures why { (result ≡ 2) ⊎ (result ≡ 7) → RefusesSend service.old.domain (named_loan numbers.now) result × (service.new ≡ service.old) }
-    ensures waits { result ≡ 6 → IsBlockedKey service.new.domain (named_loan blocked.new) × (named_loan blocked.new ≡ named_loan numbers.now) }
-    ensures spent { result ≢ 2 → result ≢ 7 → IsLoanKey service.new.domain (named_loan numbers.now) → ⊥ }
-    ensures same { result ≢ 6 → blocked.new ≡ blocked.old }
-    ensures same_count { (result ≡ 2) ⊎ (result ≡ 7) → receivers.new ≡ receivers.old }
-    ensures stays { ServesBut (A_sent_loan (wide (numbers.now).number) (wide (numbers.now).publisher) (nat_eq result 6)) service.old service.new }
+    ensures { SendReturns numbers.now service.old service.new receivers.old receivers.new blocked.old blocked.new result }
 {
     send_named(service, numbers, receivers, blocked)
 }

@@ -9,6 +9,7 @@ ghost use Rattle.iox2_pubsub.specs.Slices.{SampleHasValues};
 ghost use Rattle.iox2_pubsub.specs.Live.{A_sample, A_subscriber, IsLiveSubscriber, IsNewIn, IsSampleKey, IsSubscriberKey, No_item, subscriber_key};
 ghost use Rattle.iox2_c.specs.Codes.{code_of, receive_code, subscriber_code};
 ghost use Rattle.iox2_c.specs.Numbers.{named_sample, named_subscriber, wide};
+ghost use Rattle.iox2_c.specs.Returns.{ReceiveReturns};
 ghost use Rattle.iox2_c.specs.Serving.{ServesBut};
 ghost use Rattle.iox2_c.specs.Settings.{plain_subscriber_settings, subscriber_settings};
 ghost use Rattle.iox2_c.specs.Steps.{ClosesSubscriber, CreatesSubscriber, Receives, ReceivesCopy};
@@ -129,17 +130,7 @@ pub fn receive(
     payload: &mut *const u8,
     len: &mut usize,
 ) -> u32
-    ensures code { result ≡ 1 → ⊥ }
-    ensures received { result ≡ 0 → Receives service.old.domain service.new.domain (wide (numbers.now).id) (Got_sample (wide (out.new).origin) (wide (out.new).number)) }
-    ensures nothing { result ≡ 3 → Receives service.old.domain service.new.domain (wide (numbers.now).id) No_sample }
-    ensures errors { 3 < result → (error : ReceiveError) × (result ≡ receive_code error) × Receives service.old.domain service.new.domain (wide (numbers.now).id) (Receive_error error) }
-    ensures not_live { result ≡ 2 → (IsSubscriberKey service.old.domain (named_subscriber numbers.now) → ⊥) × (service.new ≡ service.old) }
-    ensures live { result ≡ 0 → IsSampleKey service.new.domain (named_sample out.new) }
-    ensures new { result ≡ 0 → IsNewIn service.old.domain (A_sample (wide (out.new).subscriber) (wide (out.new).number)) }
-    ensures length { result ≡ 0 → (values : List ℕ) → SampleHasValues service.new.domain (named_sample out.new) values → len.new ≡ length values }
-    ensures same { 0 < result → out.new ≡ out.old }
-    ensures same_length { 0 < result → len.new ≡ len.old }
-    ensures stays { ServesBut No_item service.old service.new }
+    ensures { ReceiveReturns numbers.now service.old service.new out.old out.new len.old len.new result }
 {
     if service.domain.is_subscriber_at_hint(&numbers.parts()) {
         receive_named(service, numbers, out, payload, len)
@@ -157,17 +148,7 @@ fn receive_named(
     payload: &mut *const u8,
     len: &mut usize,
 ) -> u32
-    ensures code { result ≡ 1 → ⊥ }
-    ensures received { result ≡ 0 → Receives service.old.domain service.new.domain (wide (numbers.now).id) (Got_sample (wide (out.new).origin) (wide (out.new).number)) }
-    ensures nothing { result ≡ 3 → Receives service.old.domain service.new.domain (wide (numbers.now).id) No_sample }
-    ensures errors { 3 < result → (error : ReceiveError) × (result ≡ receive_code error) × Receives service.old.domain service.new.domain (wide (numbers.now).id) (Receive_error error) }
-    ensures not_live { result ≡ 2 → (IsSubscriberKey service.old.domain (named_subscriber numbers.now) → ⊥) × (service.new ≡ service.old) }
-    ensures live { result ≡ 0 → IsSampleKey service.new.domain (named_sample out.new) }
-    ensures new { result ≡ 0 → IsNewIn service.old.domain (A_sample (wide (out.new).subscriber) (wide (out.new).number)) }
-    ensures length { result ≡ 0 → (values : List ℕ) → SampleHasValues service.new.domain (named_sample out.new) values → len.new ≡ length values }
-    ensures same { 0 < result → out.new ≡ out.old }
-    ensures same_length { 0 < result → len.new ≡ len.old }
-    ensures stays { ServesBut No_item service.old service.new }
+    ensures { ReceiveReturns numbers.now service.old service.new out.old out.new len.old len.new result }
 {
     let Some(subscriber) = live_subscriber(&service.domain, numbers) else {
         return NOT_LIVE;
@@ -197,17 +178,7 @@ fn receive_elsewhere(
     payload: &mut *const u8,
     len: &mut usize,
 ) -> u32
-    ensures code { result ≡ 1 → ⊥ }
-    ensures received { result ≡ 0 → Receives service.old.domain service.new.domain (wide (numbers.now).id) (Got_sample (wide (out.new).origin) (wide (out.new).number)) }
-    ensures nothing { result ≡ 3 → Receives service.old.domain service.new.domain (wide (numbers.now).id) No_sample }
-    ensures errors { 3 < result → (error : ReceiveError) × (result ≡ receive_code error) × Receives service.old.domain service.new.domain (wide (numbers.now).id) (Receive_error error) }
-    ensures not_live { result ≡ 2 → (IsSubscriberKey service.old.domain (named_subscriber numbers.now) → ⊥) × (service.new ≡ service.old) }
-    ensures live { result ≡ 0 → IsSampleKey service.new.domain (named_sample out.new) }
-    ensures new { result ≡ 0 → IsNewIn service.old.domain (A_sample (wide (out.new).subscriber) (wide (out.new).number)) }
-    ensures length { result ≡ 0 → (values : List ℕ) → SampleHasValues service.new.domain (named_sample out.new) values → len.new ≡ length values }
-    ensures same { 0 < result → out.new ≡ out.old }
-    ensures same_length { 0 < result → len.new ≡ len.old }
-    ensures stays { ServesBut No_item service.old service.new }
+    ensures { ReceiveReturns numbers.now service.old service.new out.old out.new len.old len.new result }
 {
     receive_named(service, numbers, out, payload, len)
 }

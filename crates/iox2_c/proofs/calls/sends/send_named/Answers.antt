@@ -1,4 +1,4 @@
-use Rattle.std.proofs.Common.{ap, subst}
+use Rattle.std.proofs.Common.{rules, ap, subst}
 use Rattle.std.specs.declared.result.Result.{Result}
 use Rattle.iox2_store.specs.declared.errors.SendError.{SendError}
 use Rattle.iox2_pubsub.specs.declared.send_outcome.SendOutcome.{SendOutcome}
@@ -7,12 +7,21 @@ use Rattle.iox2_c.specs.Serving.{KeptBytes, Serving}
 use Rattle.iox2_c.specs.Steps.{SendsLoan}
 use Rattle.iox2_c.proofs.calls.sends.send_named.Goals as goal
 
-pub returns-clause-sent : goal.returns-clause-sent
-returns-clause-sent c = λ two seven.
-    let sent : Result SendOutcome SendError = c.send-sent.result in (
-      sent,
-      c.tell_of.ensures.code,
-      c.tell_of.ensures.receivers,
-      subst (λ (old : KeptBytes). SendsLoan old c.send-sent.new.domain (wide c.args.numbers.now.number) sent) (ap (λ (s : Serving). s.domain) c.service.view_is)
-          (subst (λ n. SendsLoan c.service.inside.domain c.send-sent.new.domain n sent) c.in-Some.ensures.number c.send-sent.ensures.sent),
-    )
+pub returns : goal.returns
+returns c =
+    let sent : Result SendOutcome SendError = c.send-sent.result in record {
+      never = search rules;
+      sent = λ two seven. (
+        sent,
+        c.tell_of.ensures.code_is,
+        c.tell_of.ensures.receivers,
+        subst (λ (old : KeptBytes). SendsLoan old c.send-sent.new.domain (wide c.args.numbers.now.number) sent) (ap (λ (s : Serving). s.domain) c.service.view_is)
+            (subst (λ n. SendsLoan c.service.inside.domain c.send-sent.new.domain n sent) c.in-Some.ensures.number c.send-sent.ensures.sent),
+      );
+      why = search rules;
+      waits = search rules;
+      spent = search rules;
+      same = c.tell_of.ensures.same;
+      same_count = search rules;
+      stays = search rules;
+    }

@@ -1,4 +1,4 @@
-use Rattle.std.proofs.Common.{◌≡◌, ℕ, ◌≤◌, refl, ap, sym, subst, ◌∙◌, arith}
+use Rattle.std.proofs.Common.{rules, ◌≡◌, ℕ, ◌≤◌, refl, ap, sym, subst, ◌∙◌, arith}
 use Rattle.std.specs.declared.option.Option.{Option}
 use Rattle.std.specs.declared.result.Result.TheVariants.{Ok}
 use Rattle.iox2_store.specs.declared.key.Key.{Key}
@@ -20,44 +20,65 @@ named : (inside old new : KeptBytes) (q p : ℕ) (was is : ReceiveResult) → in
 named inside old new q p was is same id result step =
     subst (λ (k : KeptBytes). Receives k new p is) same (subst (λ (r : ℕ). Receives inside new r is) id (subst (Receives inside new q) result step))
 
-pub returns-clause-received : goal.returns-clause-received
-returns-clause-received c = elim c.match-received.branch [
-  | in-Ok-Some w ↦ λ ok.
+pub returns : goal.returns
+returns c = elim c.match-received.branch [
+  | in-Ok-Some w ↦
       let origin = ap (λ (n : SampleNumbers). wide n.origin) w.out-is ∙ w.of.ensures.origin ∙ ap (λ (p : SampleParts). p.origin) w.into_parts.ensures ∙ ap (λ (s : Sample). s.origin) w.into_inner.ensures in
       let number =
       ap (λ (n : SampleNumbers). wide n.number) w.out-is ∙ ap (λ (k : Key). k.message) w.of.ensures.named ∙ ap (λ (p : SampleParts). p.number) w.into_parts.ensures
       ∙ ap (λ (s : Sample). s.sample.number) w.into_inner.ensures in
-      named c.service.inside.domain c.args.service.now.domain c.receive-received.new.domain _ (wide c.args.numbers.now.id) _ _
-      (ap (λ (s : Serving). s.domain) c.service.view_is) c.in-Some.ensures.id
-      (ap (λ (o : Option SliceSample). received_slice (Ok o)) w.in-Ok-Some.field-0-is
-      ∙ ap (λ (o : ℕ). Got_sample o w.in-Ok-Some.sample.sample.sample.number) (sym origin) ∙ ap (Got_sample (wide (c.match-received.out).origin)) (sym number))
-      w.in-Ok-Some.ensures.receives
-  | in-Ok-None w ↦ λ ok. absurd (omega (arith, ok, w.result-is))
-  | in-Err w ↦ λ ok.
-      let high : 30 ≤ c.match-received.result = subst (λ (n : ℕ). 30 ≤ n) (sym (w.result-is ∙ w.receive_status.ensures)) (receive-code-high w.in-Err.error) in
-      absurd (omega (arith, ok, high))
-]
-
-pub returns-clause-nothing : goal.returns-clause-nothing
-returns-clause-nothing c = elim c.match-received.branch [
-  | in-Ok-Some w ↦ λ none. absurd (omega (arith, none, w.result-is))
-  | in-Ok-None w ↦ λ none.
-      named c.service.inside.domain c.args.service.now.domain c.receive-received.new.domain _ (wide c.args.numbers.now.id) _ No_sample
-      (ap (λ (s : Serving). s.domain) c.service.view_is) c.in-Some.ensures.id (ap (λ (o : Option SliceSample). received_slice (Ok o)) w.in-Ok-None.field-0-is)
-      w.in-Ok-None.ensures.receives
-  | in-Err w ↦ λ none.
-      let high : 30 ≤ c.match-received.result = subst (λ (n : ℕ). 30 ≤ n) (sym (w.result-is ∙ w.receive_status.ensures)) (receive-code-high w.in-Err.error) in
-      absurd (omega (arith, none, high))
-]
-
-pub returns-clause-errors : goal.returns-clause-errors
-returns-clause-errors c = elim c.match-received.branch [
-  | in-Ok-Some w ↦ λ high. absurd (omega (arith, high, w.result-is))
-  | in-Ok-None w ↦ λ high. absurd (omega (arith, high, w.result-is))
-  | in-Err w ↦ λ high. (
-    w.in-Err.error,
-    w.result-is ∙ w.receive_status.ensures,
-    named c.service.inside.domain c.args.service.now.domain c.receive-received.new.domain _ (wide c.args.numbers.now.id) _ (Receive_error w.in-Err.error)
-        (ap (λ (s : Serving). s.domain) c.service.view_is) c.in-Some.ensures.id refl w.in-Err.ensures.receives,
-  )
+      let ok = w.result-is in record {
+        never = λ one. absurd (omega (arith, ok, one));
+        received = λ _.
+            named c.service.inside.domain c.args.service.now.domain c.receive-received.new.domain _ (wide c.args.numbers.now.id) _ _
+            (ap (λ (s : Serving). s.domain) c.service.view_is) c.in-Some.ensures.id
+            (ap (λ (o : Option SliceSample). received_slice (Ok o)) w.in-Ok-Some.field-0-is
+            ∙ ap (λ (o : ℕ). Got_sample o w.in-Ok-Some.sample.sample.sample.number) (sym origin) ∙ ap (Got_sample (wide (c.match-received.out).origin)) (sym number))
+            w.in-Ok-Some.ensures.receives;
+        nothing = λ none. absurd (omega (arith, ok, none));
+        errors = λ high. absurd (omega (arith, ok, high));
+        not_live = λ two. absurd (omega (arith, ok, two));
+        live = search rules;
+        fresh = search rules;
+        length_is = search rules;
+        same = λ high. absurd (omega (arith, ok, high));
+        same_length = λ high. absurd (omega (arith, ok, high));
+        stays = search rules;
+      }
+  | in-Ok-None w ↦
+      let none = w.result-is in record {
+        never = λ one. absurd (omega (arith, none, one));
+        received = λ ok. absurd (omega (arith, none, ok));
+        nothing = λ _.
+            named c.service.inside.domain c.args.service.now.domain c.receive-received.new.domain _ (wide c.args.numbers.now.id) _ No_sample
+            (ap (λ (s : Serving). s.domain) c.service.view_is) c.in-Some.ensures.id (ap (λ (o : Option SliceSample). received_slice (Ok o)) w.in-Ok-None.field-0-is)
+            w.in-Ok-None.ensures.receives;
+        errors = λ high. absurd (omega (arith, none, high));
+        not_live = λ two. absurd (omega (arith, none, two));
+        live = λ ok. absurd (omega (arith, none, ok));
+        fresh = λ ok. absurd (omega (arith, none, ok));
+        length_is = λ ok. absurd (omega (arith, none, ok));
+        same = λ _. w.out-is;
+        same_length = λ _. w.len-is;
+        stays = search rules;
+      }
+  | in-Err w ↦
+      let high : 30 ≤ c.match-received.result = subst (λ (n : ℕ). 30 ≤ n) (sym (w.result-is ∙ w.receive_status.ensures)) (receive-code-high w.in-Err.error) in record {
+        never = λ one. absurd (omega (arith, high, one));
+        received = λ ok. absurd (omega (arith, high, ok));
+        nothing = λ none. absurd (omega (arith, high, none));
+        errors = λ _. (
+          w.in-Err.error,
+          w.result-is ∙ w.receive_status.ensures,
+          named c.service.inside.domain c.args.service.now.domain c.receive-received.new.domain _ (wide c.args.numbers.now.id) _ (Receive_error w.in-Err.error)
+              (ap (λ (s : Serving). s.domain) c.service.view_is) c.in-Some.ensures.id refl w.in-Err.ensures.receives,
+        );
+        not_live = λ two. absurd (omega (arith, high, two));
+        live = λ ok. absurd (omega (arith, high, ok));
+        fresh = λ ok. absurd (omega (arith, high, ok));
+        length_is = λ ok. absurd (omega (arith, high, ok));
+        same = λ _. w.out-is;
+        same_length = λ _. w.len-is;
+        stays = search rules;
+      }
 ]
