@@ -3,3 +3,4 @@ mod DomainBoxSteps
 mod BecomesSteps
 mod CreationSteps
 mod LoanSteps
+mod TextsOfErrors

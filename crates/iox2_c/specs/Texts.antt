@@ -1,14 +1,21 @@
 -- The texts of codes and of warnings' kinds, by their numbers. An error's is the one that is printed.
-use Rattle.std.specs.Prelude.{ℕ, List, [], ◌∷◌, ◌++◌, ◌/◌, codes, cond, nat_eq}
+use Rattle.std.specs.Prelude.{ℕ, List, [], ◌∷◌, ◌++◌, ◌/◌, ◌≡◌, codes, cond, nat_eq}
 use Rattle.iox2_store.specs.ErrorTexts.{connection_failure_text, loan_error_text, publisher_create_error_text, receive_error_text, send_error_text, subscriber_create_error_text}
+use Rattle.iox2_store.specs.declared.errors.LoanError.{LoanError}
 use Rattle.iox2_store.specs.declared.errors.LoanError.TheVariants as loan
 use Rattle.iox2_store.specs.declared.errors.ZeroCopyCreationError.TheVariants as creation
 use Rattle.iox2_store.specs.declared.errors.SharedMemoryOpenError.TheVariants as opening
+use Rattle.iox2_store.specs.declared.errors.ConnectionFailure.{ConnectionFailure}
 use Rattle.iox2_store.specs.declared.errors.ConnectionFailure.TheVariants as connection
+use Rattle.iox2_store.specs.declared.errors.SendError.{SendError}
 use Rattle.iox2_store.specs.declared.errors.SendError.TheVariants as send
+use Rattle.iox2_store.specs.declared.errors.ReceiveError.{ReceiveError}
 use Rattle.iox2_store.specs.declared.errors.ReceiveError.TheVariants as receive
+use Rattle.iox2_store.specs.declared.errors.PublisherCreateError.{PublisherCreateError}
 use Rattle.iox2_store.specs.declared.errors.PublisherCreateError.TheVariants as publisher
+use Rattle.iox2_store.specs.declared.errors.SubscriberCreateError.{SubscriberCreateError}
 use Rattle.iox2_store.specs.declared.errors.SubscriberCreateError.TheVariants as subscriber
+use Rattle.iox2_c.specs.Codes.{failure_code, loan_code, publisher_code, receive_code, send_code, subscriber_code}
 
 -- Nothing has this number.
 abbrev pub unknown_text : List ℕ
@@ -104,3 +111,19 @@ text_numbered n =
 -- A text with the zero byte that ends it for C.
 abbrev pub ended : List ℕ → List ℕ
 ended text = text ++ (0 ∷ [])
+
+-- ---- the texts of errors
+
+-- A send that lent nothing has the code of the loan's error, and so its text.
+abbrev pub text_of_send_error : SendError → List ℕ
+text_of_send_error (send.LoanError refusal) = loan_error_text refusal
+text_of_send_error error = send_error_text error
+
+-- Where the code is that of an error, this is the error's text, with the zero byte.
+pub record IsTextOfErrors (code : ℕ) (text : List ℕ) : Type 0 where
+  pub loan : (error : LoanError) → code ≡ loan_code error → text ≡ ended (loan_error_text error)
+  pub send : (error : SendError) → code ≡ send_code error → text ≡ ended (text_of_send_error error)
+  pub receive : (error : ReceiveError) → code ≡ receive_code error → text ≡ ended (receive_error_text error)
+  pub update : (failure : ConnectionFailure) → code ≡ failure_code failure → text ≡ ended (connection_failure_text failure)
+  pub publisher : (error : PublisherCreateError) → code ≡ publisher_code error → text ≡ ended (publisher_create_error_text error)
+  pub subscriber : (error : SubscriberCreateError) → code ≡ subscriber_code error → text ≡ ended (subscriber_create_error_text error)

@@ -1,10 +1,12 @@
 //! The texts of codes. Each ends in a zero byte, as C's do.
 ghost use Rattle.std.specs.Prelude.{◌≡◌};
-ghost use Rattle.iox2_c.specs.Texts.{call_text, ended, failure_text, loan_text, publisher_text, receive_text, send_text, subscriber_text, text_numbered, warning_text};
+ghost use Rattle.iox2_c.specs.Texts.{IsTextOfErrors, call_text, ended, failure_text, loan_text, publisher_text, receive_text, send_text, subscriber_text, text_numbered, warning_text};
 
 /// The text of a code, or of the kind of a warning.
+#[tactic(auto, using(crate::proofs::TextsOfErrors::texts_of_errors))]
 pub fn text_of(code: u32) -> &'static [u8]
-    ensures { result.now ≡ ended (text_numbered code) }
+    ensures text { result.now ≡ ended (text_numbered code) }
+    ensures errors { IsTextOfErrors code result.now }
 {
     match code / 10 {
         0 => text_of_call(code),
