@@ -3,8 +3,7 @@ ghost use Rattle.std.specs.Prelude.{ℕ, ◌≡◌, ◌≢◌, ◌<◌, ◌⊎�
 ghost use Rattle.iox2_store.specs.declared.errors.LoanError.{LoanError};
 ghost use Rattle.iox2_store.specs.declared.errors.PublisherCreateError.{PublisherCreateError};
 ghost use Rattle.iox2_pubsub.specs.Factories.{with_slots};
-ghost use Rattle.iox2_pubsub.specs.Handles.{max_slice_len_of, strategy_of as handle_strategy};
-ghost use Rattle.iox2_pubsub.specs.Handles.{as_publisher, as_written, publisher_id};
+ghost use Rattle.iox2_pubsub.specs.Handles.{max_slice_len_of, strategy_of as handle_strategy, as_publisher, as_written, publisher_id};
 ghost use Rattle.iox2_pubsub.specs.Live.{A_publisher, IsNewIn, IsPublisherKey, IsReadyPublisher, IsWritten, No_item, Stays, lender_key, publisher_key, publisher_port, written_key, written_loan};
 ghost use Rattle.iox2_c.specs.Calls.{IsReady, RefusesPublisher, loan_made, publisher_made};
 ghost use Rattle.iox2_c.specs.Codes.{code_of, loan_code, publisher_code, slots_numbered, strategy_numbered};

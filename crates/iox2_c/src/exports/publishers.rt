@@ -1,6 +1,5 @@
 //! The exports of publishers.
-ghost use Rattle.std.specs.Prelude.{◌≡◌, ◌<◌, ◌↔◌, None};
-ghost use Rattle.std.specs.Prelude.{◌≢◌, ◌≤◌, ◌⊎◌, Err, IfSome, Ok};
+ghost use Rattle.std.specs.Prelude.{◌≡◌, ◌<◌, ◌↔◌, None, ◌≢◌, ◌≤◌, ◌⊎◌, Err, IfSome, Ok};
 ghost use Rattle.iox2_store.specs.declared.errors.LoanError.{LoanError};
 ghost use Rattle.iox2_store.specs.declared.errors.PublisherCreateError.{PublisherCreateError};
 ghost use Rattle.iox2_pubsub.specs.Live.{A_loan, A_publisher, IsNewIn, IsPublisherKey, No_item};

@@ -1,6 +1,5 @@
 //! The exports of questions.
-ghost use Rattle.std.specs.Prelude.{◌≡◌, ◌<◌, ◌↔◌, None};
-ghost use Rattle.std.specs.Prelude.{Bool, cond, length, slice_get, ◌≤◌, ◌⊎◌, IfOk, IfSome};
+ghost use Rattle.std.specs.Prelude.{◌≡◌, ◌<◌, ◌↔◌, None, Bool, cond, length, slice_get, ◌≤◌, ◌⊎◌, IfOk, IfSome};
 ghost use Rattle.std.specs.declared.result.Result.{Result};
 ghost use Rattle.std.specs.List.{count_by};
 ghost use Rattle.std.specs.Option.{is_some};

@@ -1,6 +1,5 @@
 //! The exports of sends.
-ghost use Rattle.std.specs.Prelude.{◌≡◌, ◌<◌, ◌↔◌, None};
-ghost use Rattle.std.specs.Prelude.{nat_eq, ◌≢◌, ◌⊎◌};
+ghost use Rattle.std.specs.Prelude.{◌≡◌, ◌<◌, ◌↔◌, None, nat_eq, ◌≢◌, ◌⊎◌};
 ghost use Rattle.std.specs.declared.result.Result.{Result};
 ghost use Rattle.iox2_store.specs.declared.errors.SendError.{SendError};
 ghost use Rattle.iox2_pubsub.specs.declared.send_outcome.SendOutcome.{SendOutcome};

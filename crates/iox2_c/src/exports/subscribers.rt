@@ -1,6 +1,5 @@
 //! The exports of subscribers.
-ghost use Rattle.std.specs.Prelude.{◌≡◌, ◌<◌, ◌↔◌, None};
-ghost use Rattle.std.specs.Prelude.{ℕ, List, length, take, ◌≢◌, ◌≤◌, ◌⊎◌, Err, Ok};
+ghost use Rattle.std.specs.Prelude.{◌≡◌, ◌<◌, ◌↔◌, None, ℕ, List, length, take, ◌≢◌, ◌≤◌, ◌⊎◌, Err, Ok};
 ghost use Rattle.iox2_store.specs.declared.errors.ReceiveError.{ReceiveError};
 ghost use Rattle.iox2_store.specs.machine.Receives.{Got_sample, No_sample, Receive_error};
 ghost use Rattle.iox2_store.specs.declared.errors.SubscriberCreateError.{SubscriberCreateError};

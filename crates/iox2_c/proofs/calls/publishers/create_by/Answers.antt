@@ -1,7 +1,6 @@
-use Rattle.std.proofs.Common.{◌≡◌, ◌∙◌, ℕ, Bool, ap, cond, false, subst, sym, true, None, Option, Some}
+use Rattle.std.proofs.Common.{◌∙◌, ℕ, subst, sym, Option}
 use Rattle.iox2_pubsub.specs.Factories.{with_slots}
 use Rattle.iox2_c.specs.Calls.{publisher_made}
-use Rattle.iox2_c.specs.Codes.{slots_numbered}
 use Rattle.iox2_c.specs.Steps.{CreatesPublisher}
 use Rattle.iox2_c.proofs.CreationSteps.{by-id, slots-asked, slots-left}
 use Rattle.iox2_c.proofs.calls.publishers.create_by.Goals as goal
