@@ -1,14 +1,16 @@
 -- What a call does to the domain that C owns.
-use Rattle.std.proofs.Common.{◌≡◌, ◌≤◌, sym, subst, arith}
+use Rattle.std.proofs.Common.{◌≡◌, ◌≤◌, ℕ, sym, subst, arith}
 use Rattle.std.specs.declared.option.Option.{Option}
 use Rattle.std.specs.declared.option.Option.TheVariants.{Some}
 use Rattle.iox2_store.specs.declared.errors.LoanError.{LoanError}
 use Rattle.iox2_store.specs.declared.errors.LoanError.TheVariants.{OutOfMemory, ExceedsMaxLoans, ExceedsMaxLoanSize, InternalFailure}
 use Rattle.iox2_store.specs.declared.errors.ReceiveError.{ReceiveError}
 use Rattle.iox2_store.specs.declared.errors.ReceiveError.TheVariants.{ExceedsMaxBorrows, ConnectionFailure as Not_connected}
+use Rattle.iox2_store.specs.machine.Receives.{ReceiveResult}
 use Rattle.iox2_c.specs.Boxed.{Becomes, Turns}
 use Rattle.iox2_c.specs.Codes.{loan_code, receive_code}
 use Rattle.iox2_c.specs.Serving.{KeptBytes, Serving}
+use Rattle.iox2_c.specs.Steps.{Receives}
 
 -- a domain that is taken out, changed and put back
 pub becomes : (P : KeptBytes → KeptBytes → Type 0) (old new : Option Serving) (a b : Serving) → old ≡ Some a → new ≡ Some b → P a.domain b.domain → Becomes P old new
@@ -17,6 +19,14 @@ becomes P old new a b was is step = subst (λ (o : Option Serving). Becomes P o 
 -- the same with its lengths
 pub turns : (P : Serving → Serving → Type 0) (old new : Option Serving) (a b : Serving) → old ≡ Some a → new ≡ Some b → P a b → Turns P old new
 turns P old new a b was is step = subst (λ (o : Option Serving). Turns P o new) (sym was) (b, is, step)
+
+-- a step in the domain that was opened, by a port's id, is one in the domain, by its numbers
+pub moved : (Step : KeptBytes → ℕ → Type 0) (inside old : KeptBytes) (q p : ℕ) → inside ≡ old → q ≡ p → Step inside q → Step old p
+moved Step inside old q p same id step = subst (λ (k : KeptBytes). Step k p) same (subst (Step inside) id step)
+
+-- and so with a receive, whose result is the same by its numbers
+pub receives-moved : (inside old new : KeptBytes) (q p : ℕ) (was is : ReceiveResult) → inside ≡ old → q ≡ p → was ≡ is → Receives inside new q was → Receives old new p is
+receives-moved inside old new q p was is same id result step = moved (λ k r. Receives k new r is) inside old q p same id (subst (Receives inside new q) result step)
 
 -- codes of errors are high
 pub loan-code-high : (error : LoanError) → 10 ≤ loan_code error

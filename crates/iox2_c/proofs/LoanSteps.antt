@@ -19,7 +19,7 @@ use Rattle.iox2_c.specs.Serving.{KeptBytes, Serving, ServesBut}
 use Rattle.iox2_c.specs.Steps.{BytesState, Lends}
 use Rattle.iox2_c.specs.declared.numbers.LoanNumbers.{LoanNumbers}
 use Rattle.iox2_c.specs.declared.numbers.PublisherNumbers.{PublisherNumbers}
-use Rattle.iox2_c.proofs.BecomesSteps.{loan-code-high}
+use Rattle.iox2_c.proofs.BecomesSteps.{loan-code-high, moved}
 
 -- what a publisher says of it is said without its handle
 pub lent-told : (old new : KeptBytes) (id len : ℕ) (made : Result SampleMut LoanError)
@@ -35,7 +35,7 @@ module _ (numbers : PublisherNumbers) (len : ℕ) (old new : Serving) (before af
       → IfOk made (λ it. named_loan after ≡ written_key (as_written it)) → IfErr made (λ _. after ≡ before) → ServesBut No_item old new → LoanReturns numbers len old new before after code
   loan-asked inside id (Ok it) same by step written fresh zero named kept stays = record {
     never = λ one. absurd (omega (arith, zero, one));
-    lends = λ ok. subst (λ (k : KeptBytes). Lends k new.domain (wide numbers.id) len (Ok tt)) same (subst (λ (p : ℕ). Lends inside new.domain p len (Ok tt)) by step);
+    lends = λ ok. moved (λ k p. Lends k new.domain p len (Ok tt)) inside old.domain id (wide numbers.id) same by step;
     errors = λ high. absurd (omega (arith, zero, high));
     why = λ high low. absurd (omega (arith, zero, high));
     out = λ ok. record {
@@ -50,7 +50,7 @@ module _ (numbers : PublisherNumbers) (len : ℕ) (old new : Serving) (before af
       let high = loan-code-high error in record {
         never = λ one. absurd (omega (arith, is, high, one));
         lends = λ ok. absurd (omega (arith, is, high, ok));
-        errors = λ _. (error, is, subst (λ (k : KeptBytes). Lends k new.domain (wide numbers.id) len (Err error)) same (subst (λ (p : ℕ). Lends inside new.domain p len (Err error)) by step));
+        errors = λ _. (error, is, moved (λ k p. Lends k new.domain p len (Err error)) inside old.domain id (wide numbers.id) same by step);
         why = λ _ low. absurd (omega (arith, is, high, low));
         out = λ ok. absurd (omega (arith, is, high, ok));
         fresh = λ ok. absurd (omega (arith, is, high, ok));

@@ -1,30 +1,24 @@
-use Rattle.std.proofs.Common.{◌≡◌, ℕ, ap, subst, ◌∙◌}
-use Rattle.std.specs.declared.result.Result.{Result}
+use Rattle.std.proofs.Common.{ap, ◌∙◌}
 use Rattle.std.specs.declared.result.Result.TheVariants.{Ok, Err}
-use Rattle.iox2_store.specs.declared.errors.ConnectionFailure.{ConnectionFailure}
 use Rattle.iox2_c.specs.Numbers.{wide}
-use Rattle.iox2_c.specs.Serving.{KeptBytes, Serving}
+use Rattle.iox2_c.specs.Serving.{Serving}
 use Rattle.iox2_c.specs.Steps.{UpdatesPublisher}
+use Rattle.iox2_c.proofs.BecomesSteps.{moved}
 use Rattle.iox2_c.proofs.calls.questions.update_publisher.Goals as goal
 use Rattle.iox2_c.proofs.calls.questions.update_publisher.Goals.{in-Ok-updated, in-Err-updated}
-
--- a step of the port is one of the numbers
-named : (inside old new : KeptBytes) (q p : ℕ) (answer : Result (Unit {0}) ConnectionFailure) → inside ≡ old → q ≡ p → UpdatesPublisher inside new q answer → UpdatesPublisher old new p answer
-named inside old new q p answer same id step =
-    subst (λ (k : KeptBytes). UpdatesPublisher k new p answer) same (subst (λ (r : ℕ). UpdatesPublisher inside new r answer) id step)
 
 pub returns-clause-updates : goal.returns-clause-updates
 returns-clause-updates c = elim c.match-updated.branch [
   | in-Ok-updated w ↦ λ live. (
     Ok tt,
     w.result-is,
-    named c.service.inside.domain c.args.service.now.domain c.update_connections-updated.new.domain _ (wide c.args.numbers.now.id) (Ok tt)
+    moved (λ k p. UpdatesPublisher k c.update_connections-updated.new.domain p (Ok tt)) c.service.inside.domain c.args.service.now.domain _ (wide c.args.numbers.now.id)
         (ap (λ (s : Serving). s.domain) c.service.view_is) c.in-Ok.ensures.id w.in-Ok-updated.ensures.updates,
   )
   | in-Err-updated w ↦ λ live. (
     Err w.in-Err-updated.failure,
     w.result-is ∙ w.failure_status.ensures,
-    named c.service.inside.domain c.args.service.now.domain c.update_connections-updated.new.domain _ (wide c.args.numbers.now.id) (Err w.in-Err-updated.failure)
+    moved (λ k p. UpdatesPublisher k c.update_connections-updated.new.domain p (Err w.in-Err-updated.failure)) c.service.inside.domain c.args.service.now.domain _ (wide c.args.numbers.now.id)
         (ap (λ (s : Serving). s.domain) c.service.view_is) c.in-Ok.ensures.id w.in-Err-updated.ensures.updates,
   )
 ]

@@ -3,7 +3,7 @@ use Rattle.std.specs.Prelude.{IfSome}
 use Rattle.std.specs.declared.option.Option.{Option}
 use Rattle.std.specs.declared.result.Result.TheVariants.{Ok}
 use Rattle.iox2_store.specs.declared.key.Key.{Key}
-use Rattle.iox2_store.specs.machine.Receives.{Got_sample, No_sample, ReceiveResult, Receive_error}
+use Rattle.iox2_store.specs.machine.Receives.{Got_sample, No_sample, Receive_error}
 use Rattle.iox2_pubsub.specs.Handles.{as_sample, as_subscriber, origin_of, receiver_of, sample_number, subscriber_id}
 use Rattle.iox2_pubsub.specs.Live.{IsLiveSample, sample_key}
 use Rattle.iox2_pubsub.specs.ReceivedSamples.{received_slice}
@@ -11,12 +11,8 @@ use Rattle.iox2_pubsub.specs.declared.slice.sample.Sample.{Sample as SliceSample
 use Rattle.iox2_c.specs.Numbers.{wide}
 use Rattle.iox2_c.specs.Serving.{KeptBytes, Serving}
 use Rattle.iox2_c.specs.Steps.{Receives}
+use Rattle.iox2_c.proofs.BecomesSteps.{receives-moved}
 use Rattle.iox2_c.proofs.calls.subscribers.receive_copy.Goals as goal
-
--- a step of the subscriber is one of the numbers
-named : (inside old new : KeptBytes) (q p : ℕ) (was is : ReceiveResult) → inside ≡ old → q ≡ p → was ≡ is → Receives inside new q was → Receives old new p is
-named inside old new q p was is same id result step =
-    subst (λ (k : KeptBytes). Receives k new p is) same (subst (λ (r : ℕ). Receives inside new r is) id (subst (Receives inside new q) result step))
 
 -- the sample's subscriber is the one that received it
 receiver : (c : goal.After-slice_known-in-Ok-Some-1) → receiver_of (as_sample c.in-Ok-Some.sample) ≡ subscriber_id (as_subscriber c.in-Some.subscriber)
@@ -30,7 +26,7 @@ returns-in-Ok-Some-clause-copied c = λ ok. (
   record {
     received = c.receive-received.new.domain;
     receives =
-        named c.service.inside.domain c.args.service.now.domain c.receive-received.new.domain _ (receiver_of (as_sample c.in-Ok-Some.sample)) _ _
+        receives-moved c.service.inside.domain c.args.service.now.domain c.receive-received.new.domain _ (receiver_of (as_sample c.in-Ok-Some.sample)) _ _
         (ap (λ (s : Serving). s.domain) c.service.view_is) (sym (receiver c)) (ap (λ (o : Option SliceSample). received_slice (Ok o)) c.in-Ok-Some.field-0-is) c.in-Ok-Some.ensures.receives;
     live = subst (λ (o : Option SliceSample). IfSome o (λ it. IsLiveSample c.receive-received.new.domain (as_sample it))) c.in-Ok-Some.field-0-is c.in-Ok-Some.ensures.live;
     reads = c.copy_out.ensures.copied ok;
@@ -42,7 +38,7 @@ pub returns-in-Ok-Some-clause-kept : goal.returns-in-Ok-Some-clause-kept
 returns-in-Ok-Some-clause-kept c = λ small.
     subst (λ (k : KeptBytes). Receives c.args.service.now.domain k (wide c.args.numbers.now.id) (Got_sample (wide c.copy_out.new.out.origin) (wide c.copy_out.new.out.number)))
     (sym (ap (λ (s : Serving). s.domain) (c.copy_out.ensures.kept small)))
-    (named c.service.inside.domain c.args.service.now.domain c.receive-received.new.domain _ (wide c.args.numbers.now.id) _ _
+    (receives-moved c.service.inside.domain c.args.service.now.domain c.receive-received.new.domain _ (wide c.args.numbers.now.id) _ _
     (ap (λ (s : Serving). s.domain) c.service.view_is) c.in-Some.ensures.id
     (ap (λ (o : Option SliceSample). received_slice (Ok o)) c.in-Ok-Some.field-0-is
     ∙ ap (λ (o : ℕ). Got_sample o (sample_number (as_sample c.in-Ok-Some.sample))) (sym (c.copy_out.ensures.origin small))
@@ -50,13 +46,13 @@ returns-in-Ok-Some-clause-kept c = λ small.
 
 pub returns-in-Ok-None-clause-nothing : goal.returns-in-Ok-None-clause-nothing
 returns-in-Ok-None-clause-nothing c = λ none.
-    named c.service.inside.domain c.args.service.now.domain c.receive-received.new.domain _ (wide c.args.numbers.now.id) _ No_sample
+    receives-moved c.service.inside.domain c.args.service.now.domain c.receive-received.new.domain _ (wide c.args.numbers.now.id) _ No_sample
     (ap (λ (s : Serving). s.domain) c.service.view_is) c.in-Some.ensures.id (ap (λ (o : Option SliceSample). received_slice (Ok o)) c.in-Ok-None.field-0-is) c.in-Ok-None.ensures.receives
 
 pub returns-in-Err-clause-errors : goal.returns-in-Err-clause-errors
 returns-in-Err-clause-errors c = λ high other. (
   c.in-Err.error,
   c.receive_status.ensures,
-  named c.service.inside.domain c.args.service.now.domain c.receive-received.new.domain _ (wide c.args.numbers.now.id) _ (Receive_error c.in-Err.error)
+  receives-moved c.service.inside.domain c.args.service.now.domain c.receive-received.new.domain _ (wide c.args.numbers.now.id) _ (Receive_error c.in-Err.error)
       (ap (λ (s : Serving). s.domain) c.service.view_is) c.in-Some.ensures.id refl c.in-Err.ensures.receives,
 )

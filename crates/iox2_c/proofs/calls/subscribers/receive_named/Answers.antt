@@ -1,24 +1,18 @@
-use Rattle.std.proofs.Common.{rules, ◌≡◌, ℕ, ◌≤◌, refl, ap, sym, subst, ◌∙◌, arith}
+use Rattle.std.proofs.Common.{rules, ℕ, ◌≤◌, refl, ap, sym, subst, ◌∙◌, arith}
 use Rattle.std.specs.declared.option.Option.{Option}
 use Rattle.std.specs.declared.result.Result.TheVariants.{Ok}
 use Rattle.iox2_store.specs.declared.key.Key.{Key}
-use Rattle.iox2_store.specs.machine.Receives.{Got_sample, No_sample, ReceiveResult, Receive_error}
+use Rattle.iox2_store.specs.machine.Receives.{Got_sample, No_sample, Receive_error}
 use Rattle.iox2_pubsub.specs.ReceivedSamples.{received_slice}
 use Rattle.iox2_pubsub.specs.declared.parts.SampleParts.{SampleParts}
 use Rattle.iox2_pubsub.specs.declared.sample.Sample.{Sample}
 use Rattle.iox2_pubsub.specs.declared.slice.sample.Sample.{Sample as SliceSample}
 use Rattle.iox2_c.specs.Numbers.{wide}
 use Rattle.iox2_c.specs.declared.numbers.SampleNumbers.{SampleNumbers}
-use Rattle.iox2_c.specs.Serving.{KeptBytes, Serving}
-use Rattle.iox2_c.specs.Steps.{Receives}
-use Rattle.iox2_c.proofs.BecomesSteps.{receive-code-high}
+use Rattle.iox2_c.specs.Serving.{Serving}
+use Rattle.iox2_c.proofs.BecomesSteps.{receive-code-high, receives-moved}
 use Rattle.iox2_c.proofs.calls.subscribers.receive_named.Goals as goal
 use Rattle.iox2_c.proofs.calls.subscribers.receive_named.Goals.{in-Ok-Some, in-Ok-None, in-Err}
-
--- a step of the subscriber is one of the numbers
-named : (inside old new : KeptBytes) (q p : ℕ) (was is : ReceiveResult) → inside ≡ old → q ≡ p → was ≡ is → Receives inside new q was → Receives old new p is
-named inside old new q p was is same id result step =
-    subst (λ (k : KeptBytes). Receives k new p is) same (subst (λ (r : ℕ). Receives inside new r is) id (subst (Receives inside new q) result step))
 
 pub returns : goal.returns
 returns c = elim c.match-received.branch [
@@ -30,7 +24,7 @@ returns c = elim c.match-received.branch [
       let ok = w.result-is in record {
         never = λ one. absurd (omega (arith, ok, one));
         received = λ _.
-            named c.service.inside.domain c.args.service.now.domain c.receive-received.new.domain _ (wide c.args.numbers.now.id) _ _
+            receives-moved c.service.inside.domain c.args.service.now.domain c.receive-received.new.domain _ (wide c.args.numbers.now.id) _ _
             (ap (λ (s : Serving). s.domain) c.service.view_is) c.in-Some.ensures.id
             (ap (λ (o : Option SliceSample). received_slice (Ok o)) w.in-Ok-Some.field-0-is
             ∙ ap (λ (o : ℕ). Got_sample o w.in-Ok-Some.sample.sample.sample.number) (sym origin) ∙ ap (Got_sample (wide (c.match-received.out).origin)) (sym number))
@@ -50,7 +44,7 @@ returns c = elim c.match-received.branch [
         never = λ one. absurd (omega (arith, none, one));
         received = λ ok. absurd (omega (arith, none, ok));
         nothing = λ _.
-            named c.service.inside.domain c.args.service.now.domain c.receive-received.new.domain _ (wide c.args.numbers.now.id) _ No_sample
+            receives-moved c.service.inside.domain c.args.service.now.domain c.receive-received.new.domain _ (wide c.args.numbers.now.id) _ No_sample
             (ap (λ (s : Serving). s.domain) c.service.view_is) c.in-Some.ensures.id (ap (λ (o : Option SliceSample). received_slice (Ok o)) w.in-Ok-None.field-0-is)
             w.in-Ok-None.ensures.receives;
         errors = λ high. absurd (omega (arith, none, high));
@@ -70,7 +64,7 @@ returns c = elim c.match-received.branch [
         errors = λ _. (
           w.in-Err.error,
           w.result-is ∙ w.receive_status.ensures,
-          named c.service.inside.domain c.args.service.now.domain c.receive-received.new.domain _ (wide c.args.numbers.now.id) _ (Receive_error w.in-Err.error)
+          receives-moved c.service.inside.domain c.args.service.now.domain c.receive-received.new.domain _ (wide c.args.numbers.now.id) _ (Receive_error w.in-Err.error)
               (ap (λ (s : Serving). s.domain) c.service.view_is) c.in-Some.ensures.id refl w.in-Err.ensures.receives,
         );
         not_live = λ two. absurd (omega (arith, high, two));
