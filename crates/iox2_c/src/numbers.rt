@@ -174,8 +174,8 @@ impl LoanNumbers {
         }
     }
 
-    /// The numbers of a loan that the publisher with these numbers lent: what they share is taken from
-    /// the publisher's.
+    /// The numbers of a loan that the publisher with these numbers lent. The service's and the
+    /// publisher's are taken from there.
     pub fn lent_by(lender: &PublisherNumbers, parts: &LoanParts) -> LoanNumbers
         requires { lender_key (loan_named parts.now) ≡ named_publisher lender.now }
         ensures { named_loan result ≡ loan_named parts.now }
@@ -184,7 +184,7 @@ impl LoanNumbers {
             service_id: lender.service_id.copied(),
             publisher: lender.id.copied(),
             number: Wide::of(parts.number),
-            place: lender.place,
+            place: parts.place,
             book: parts.book,
             slot: parts.slot,
         }

@@ -266,8 +266,9 @@ fn lend_zeros(
     }
 }
 
-// What came of a loan: its code, and where it was granted its numbers and where its bytes lie. What it
-// has of its publisher stands in that one's numbers, so that none of it is kept while a loan is filled.
+// What came of a loan: its code, and where it was granted its numbers and where its bytes lie. The ids
+// that it shares with its publisher stand in that one's numbers, so that they aren't kept while a loan
+// is filled.
 #[inline(always)]
 fn tell_lent(
     service: &Service,
