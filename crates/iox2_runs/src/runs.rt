@@ -162,7 +162,7 @@ pub fn run<T: Copy + Default + Drop, U: Copy + Default + Drop, F: BackpressureFn
     domain: &mut Domain<T, U, F, G>,
     commands: Vec<Command<T, U>>,
 ) -> Result<Vec<Reply<T, U>>, Vec<Command<T, U>>>
-    requires { All IsSupportedCommand commands.items }
+    requires supported { All IsSupportedCommand commands.items }
     ensures ran { IfOk result (λ replies. (m : Messages T U) (s : State T U) → Shows domain.old m s
         → (events : List (Event T U)) × (m' : Messages T U) × (s' : State T U) × Shows domain.new m' s'
         × Run fixed_handlers (defaults_of T.is_default U.is_default) m s commands.items replies.items events m' s'

@@ -1,16 +1,11 @@
-//! Tests of the calls of `iox2_pubsub` on single values, on slices and on a caller's own bytes, which call
-//! its public items as a user does. It holds nothing else: a crate with tests is proved twice, so the
-//! libraries have none.
+//! Tests of the calls of `iox2_pubsub` on single values, which call its public items as a user does. It
+//! holds nothing else: a crate with tests is proved twice, so the libraries have none.
 #![tactic(auto)]
 
-#[cfg(test)]
-mod allocations;
 #[cfg(test)]
 mod closes;
 #[cfg(test)]
 mod copies;
-#[cfg(test)]
-mod custom_payloads;
 #[cfg(test)]
 mod degradation_boxes;
 #[cfg(test)]
@@ -41,10 +36,6 @@ mod questions;
 mod samples;
 #[cfg(test)]
 mod sends;
-#[cfg(test)]
-mod slice_fixtures;
-#[cfg(test)]
-mod slices;
 #[cfg(test)]
 mod stays;
 #[cfg(test)]

@@ -43,13 +43,22 @@ pub(crate) fn carry_out_all(
     let Ok(mut domain) = Domain::<u64, u64>::new(alloc, config) else {
         return Err(Failure::OutOfMemory);
     };
-    let Ok(replies) = run(alloc, &mut domain, words) else {
-        return Err(Failure::OutOfMemory);
-    };
-    Ok(Ran {
-        replies,
-        refused_connections: domain.refused_connections(),
-    })
+    match run(alloc, &mut domain, words) {
+        Ok(replies) => Ok(Ran {
+            replies,
+            refused_connections: domain.refused_connections(),
+        }),
+        Err(given) => Err(why_handed_back(given.as_slice(), commands)),
+    }
+}
+
+// Why `run` hands commands back: it was refused memory, and these are the commands that it was given.
+fn why_handed_back(given: &[Command<u64, u64>], commands: &[Command<u64, u64>]) -> Failure {
+    if given == commands {
+        Failure::OutOfMemory
+    } else {
+        Failure::OtherCommands
+    }
 }
 
 /// What the model says of a run.

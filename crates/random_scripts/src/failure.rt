@@ -18,6 +18,8 @@ pub(crate) enum Failure {
     NoRule,
     /// A script has a word that `run` doesn't carry out.
     NoWord,
+    /// `run` hands back other commands than it was given.
+    OtherCommands,
     /// Memory is refused.
     OutOfMemory,
     /// The arguments can't be read, or a line can't be printed.
@@ -37,6 +39,7 @@ impl Failure {
                 "a reply is of a kind that crates/random_scripts/src/tally.rt doesn't count: it has to be added there",
             Failure::NoRule => "the model has no rule for a command",
             Failure::NoWord => "a script has a word that isn't carried out yet",
+            Failure::OtherCommands => "run handed back other commands than it was given",
             Failure::OutOfMemory => "out of memory",
             Failure::InputOutput => "arguments or output failed",
         }
@@ -45,7 +48,7 @@ impl Failure {
     /// The exit status.
     pub(crate) fn status(self) -> u8 {
         match self {
-            Failure::Refuted | Failure::NeverMet | Failure::NoKind => 1,
+            Failure::Refuted | Failure::NeverMet | Failure::NoKind | Failure::OtherCommands => 1,
             Failure::Usage => 2,
             Failure::OutOfMemory => 3,
             Failure::InputOutput => 4,

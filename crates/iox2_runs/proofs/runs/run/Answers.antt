@@ -28,7 +28,7 @@ carry_out-reply-requires-clause-supported g c =
     let x = c.command-item.result in
     let inside : i < length c.args.commands.items = omega (arith, ap length c.deref-command-items.ensures.value, c.loop-command-test.true) in
     let here : x ≡ get_or c.args.commands.items i x = c.command-item.is ∙ ap (λ (ys : List (Command g.row.T.Denot g.row.U.Denot)). get_or ys i x) c.deref-command-items.ensures.value in
-    subst IsSupportedCommand (sym here) (All-get_or IsSupportedCommand c.args.commands.items i x inside c.requires)
+    subst IsSupportedCommand (sym here) (All-get_or IsSupportedCommand c.args.commands.items i x inside c.requires.supported)
 
 pub carry_out-reply-requires-clause-keeps : goal.carry_out-reply-requires-clause-keeps
 carry_out-reply-requires-clause-keeps g c =

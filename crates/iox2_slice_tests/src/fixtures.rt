@@ -1,4 +1,5 @@
-//! What tests of slices start from, and the calls that they make, as in `fixtures`.
+//! What tests of slices start from, and the calls that they make. Those below the line test at run time
+//! what they ask of their handles.
 
 ghost use Rattle.std.specs.Prelude.{◌≡◌, List, Option, None, length};
 ghost use Rattle.iox2_store.specs.declared.degradation.DegradationAction.TheVariants.{Warn};

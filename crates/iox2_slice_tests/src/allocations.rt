@@ -1,6 +1,6 @@
 //! Which publishers are made, by how their memory is to grow.
 
-use crate::slice_fixtures::slice_factory;
+use crate::fixtures::slice_factory;
 use iox2_fixtures::{Reading, Station, factory_for, settings};
 use iox2_pubsub::{Domain, PortFactoryPublisher, slice};
 use iox2_store::{AllocationStrategy, PublisherCreateError, ServiceConfig, TypeVariant};

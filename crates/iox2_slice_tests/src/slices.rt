@@ -5,7 +5,7 @@ ghost use Rattle.iox2_store.specs.declared.service_config.TypeVariant.TheVariant
 ghost use Rattle.iox2_pubsub.specs.Slices.{IsSliced};
 ghost use Rattle.iox2_pubsub.specs.Live.{IsUnwritten, IsWritten, Stays};
 
-use crate::slice_fixtures::{
+use crate::fixtures::{
     assert_live, assert_ready, assert_sliced, close_publisher, close_subscriber, lend_defaults,
     lend_slice, receive_slice, send_slice, slice_factory, slice_publisher, slice_subscriber,
 };

@@ -3,7 +3,7 @@ ghost use Rattle.std.specs.Prelude.{◌≡◌};
 ghost use Rattle.iox2_store.specs.declared.service_config.TypeVariant.TheVariants.{Dynamic};
 ghost use Rattle.iox2_pubsub.specs.Slices.{IsSliced};
 
-use crate::slice_fixtures::{assert_live, send_slice, slice_publisher, slice_subscriber};
+use crate::fixtures::{assert_live, send_slice, slice_publisher, slice_subscriber};
 use iox2_fixtures::settings;
 use iox2_pubsub::{CustomHeaderMarker, CustomPayloadMarker, Domain};
 use iox2_store::{LoanError, ServiceConfig, TypeVariant};
