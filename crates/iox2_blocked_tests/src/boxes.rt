@@ -5,7 +5,7 @@ ghost use Rattle.iox2_store.specs.declared.backpressure.BackpressureAction.TheVa
 use crate::blocked_slices::slices;
 use crate::handlers::failed;
 use crate::waiting_publishers::{
-    block, blocked, close_publisher, close_subscriber, deliver, delivered, given_up,
+    block, blocked, blocked_again, close_publisher, close_subscriber, deliver, delivered, given_up,
     has_blocked_send, next_reading, retry, send, subscriber_of, waiting_domain,
 };
 use iox2_fixtures::{Reading, Station};
@@ -14,7 +14,9 @@ use iox2_pubsub::{
     BackpressureStrategy, DegradationFn, Domain, Publisher, SendError,
 };
 use std::alloc::Global;
+use std::cell::Cell;
 use std::process::Abort;
+use std::rc::Rc;
 use std::time::Duration;
 
 // Tries a delivery again so many times, and fails it then.
@@ -139,6 +141,61 @@ fn each_publisher_asks_its_own_box(rt: HostRuntime) {
     assert!(rt; of_hasty == SendError::UnableToDeliver);
     assert!(rt; of_patient == SendError::UnableToDeliver);
     assert!(rt; [first, second, third, fourth] == [1, 1, 1, 0]);
+}
+
+// Counts how often it is asked, and tries a delivery again each time.
+#[derive(Drop)]
+struct Counting {
+    asked: Rc<Cell<u64>>,
+}
+
+impl BackpressureFn for Counting {
+    ghost allows = { λ _ _ action. action ≡ Retry };
+
+    fn call(&self, _: &BackpressureInfo) -> BackpressureAction {
+        self.asked.set(self.asked.get().wrapping_add(1));
+        BackpressureAction::Retry
+    }
+}
+
+// A publisher whose box counts how often it is asked.
+fn counted_publisher(
+    rt: &impl Abort,
+    alloc: Global,
+    domain: &mut Domain<Reading, Station>,
+    asked: &Rc<Cell<u64>>,
+) -> Publisher {
+    let asked = asked.clone().expect(rt, "memory");
+    let counting: Box<dyn BackpressureFn> = Box::new(alloc, Counting { asked }).expect(
+        rt, "memory",
+    );
+    let factory = domain
+        .publisher_builder()
+        .set_backpressure_handler(BackpressureHandler::Custom(counting));
+    factory.create(domain).expect(rt, "a publisher")
+}
+
+// No contract says how often a box is asked.
+#[test]
+fn a_box_is_asked_once_at_each_try(rt: HostRuntime) {
+    let asked = Rc::new(rt.alloc(), Cell::new(0u64)).expect(&rt, "memory");
+    let mut domain = waiting_domain(&rt, rt.alloc());
+    let subscriber = subscriber_of(&rt, &mut domain, 1);
+    let publisher = counted_publisher(&rt, rt.alloc(), &mut domain, &asked);
+    let first = deliver(&rt, &mut domain, &publisher, 1);
+    let with_room = asked.get();
+    let waiting = block(&rt, &mut domain, &publisher, 2);
+    let when_sent = asked.get();
+    let waiting = blocked_again(&rt, &mut domain, waiting);
+    let when_tried = asked.get();
+    let second = given_up(&rt, &mut domain, waiting);
+    let in_the_end = asked.get();
+    publisher.disown();
+    subscriber.disown();
+    drop(domain);
+    drop(asked);
+    assert!(rt; [first, second] == [1, 0]);
+    assert!(rt; [with_room, when_sent, when_tried, in_the_end] == [0, 1, 2, 2]);
 }
 
 // The domain's handlers are of this type, and not boxed.

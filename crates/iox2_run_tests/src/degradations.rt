@@ -6,6 +6,7 @@ use iox2_domain::{Boxes, HandlerMark, PortBoxes, degradation_answer};
 use iox2_store::{
     BackpressureFn, DegradationAction, DegradationCause, DegradationFn, DegradationInfo,
 };
+use std::cell::Cell;
 
 // Does without this subscriber's connections, and fails each call that can't make another.
 #[derive(Drop)]
@@ -55,4 +56,36 @@ fn the_box_of_the_port_is_asked(rt: HostRuntime) {
     assert!(rt; fixed == DegradationAction::Ignore);
     assert!(rt; without == DegradationAction::Warn);
     assert!(rt; removed == DegradationAction::Warn);
+}
+
+// Counts how often it is asked, and does without the connection.
+#[derive(Drop)]
+struct Counting<'a> {
+    asked: &'a Cell<u64>,
+}
+
+impl DegradationFn for Counting<'_> {
+    ghost allows = { λ _ _ _ action. action ≡ Ignore };
+
+    fn call(&self, _: DegradationCause, _: &DegradationInfo) -> DegradationAction {
+        self.asked.set(self.asked.get().wrapping_add(1));
+        DegradationAction::Ignore
+    }
+}
+
+// No contract says how often a box is asked.
+#[test]
+fn a_box_is_asked_once_about_a_refused_connection(rt: HostRuntime) {
+    let asked = Cell::new(0u64);
+    let mut boxes: Boxes<Box<dyn BackpressureFn>, Counting<'_>> = Boxes::new(rt.alloc());
+    boxes.reserve_one().expect(&rt, "memory");
+    let its = PortBoxes {
+        backpressure: None,
+        degradation: Some(Counting { asked: &asked }),
+    };
+    boxes.add(5, its);
+    let answer = degradation_answer(HandlerMark::Custom, &boxes, 5, &refused(2));
+    drop(boxes);
+    assert!(rt; answer == DegradationAction::Ignore);
+    assert!(rt; asked.get() == 1);
 }

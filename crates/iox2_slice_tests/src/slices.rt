@@ -13,6 +13,7 @@ use iox2_fixtures::settings;
 use iox2_pubsub::slice::{Publisher, SampleMut, SampleMutUninit, Subscriber};
 use iox2_pubsub::{DegradationHandler, Domain, UpdateConnections};
 use iox2_store::{DegradationAction, LoanError, PublisherCreateError, ServiceConfig, TypeVariant};
+use std::cell::Cell;
 use std::process::Abort;
 
 /// A payload that is neither `Copy` nor `Clone`.
@@ -310,6 +311,23 @@ fn a_loan_of_a_slice_keeps_what_is_written_into_it(rt: HostRuntime) {
     assert!(rt; [header, kept] == [6, 6]);
     assert!(rt; elements == 3);
     assert!(rt; read == [Some(0), Some(7), Some(14)]);
+}
+
+// No contract says that the function isn't called again behind the last element.
+#[test]
+fn a_function_is_called_once_for_each_element(rt: HostRuntime) {
+    let mut domain: Domain<Tag, Tag> = Domain::new(rt.alloc(), slices()).expect(&rt, "a domain");
+    let publisher = slice_publisher(&rt, &mut domain, 4);
+    let loan = lend_slice(&rt, &mut domain, &publisher, 3);
+    publisher.disown();
+    let calls = Cell::new(0u64);
+    let message = loan.write_from_fn(&mut domain, |index| {
+        calls.set(calls.get().wrapping_add(1));
+        Tag(index as u64)
+    });
+    message.disown();
+    drop(domain);
+    assert!(rt; calls.get() == 3);
 }
 
 // The subscriber has the id 1, and the publisher 2.
