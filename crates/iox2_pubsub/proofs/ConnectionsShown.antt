@@ -18,7 +18,7 @@ use Rattle.iox2_store.specs.declared.errors.PublisherCreateError.{PublisherCreat
 use Rattle.iox2_domain.specs.Kept.{Kept, state_of, entries_of}
 use Rattle.iox2_domain.specs.Shows.{Shows}
 use Rattle.iox2_pubsub.specs.ConnectedPorts.{Connects}
-use Rattle.iox2_pubsub.specs.Live.{ConnectionsStay, HasItsBuffer, IsConnected, IsFull, IsServed, IsUpToDate, NoneRefused, payloads_from, waiting, IsSubscriberKey, subscriber_key}
+use Rattle.iox2_pubsub.specs.Live.{ConnectionsStay, IsConnected, IsFull, IsServed, IsUpToDate, NoneRefused, payloads_from, waiting, IsSubscriberKey, subscriber_key}
 use Rattle.iox2_pubsub.specs.SendCalls.{IsDelivered, Sends, messages_after}
 use Rattle.iox2_pubsub.specs.declared.send_outcome.SendOutcome.{SendOutcome}
 use Rattle.iox2_pubsub.specs.declared.send_outcome.SendOutcome.TheVariants.{Delivered, Blocked}

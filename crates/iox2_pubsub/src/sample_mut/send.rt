@@ -1,5 +1,5 @@
 //! A message is sent.
-ghost use Rattle.std.specs.Prelude.{◌≡◌, ◌⊎◌, IfErr, IfOk, IsOk, ◌+◌, false};
+ghost use Rattle.std.specs.Prelude.{◌≡◌, IfErr, IfOk, IsOk, ◌+◌, false};
 ghost use Rattle.iox2_store.specs.machine.SingleCalls.{HoldsPublisher};
 ghost use Rattle.iox2_store.specs.machine.State.{is_blocked};
 ghost use Rattle.iox2_domain.specs.Boxes.{answers_of};
