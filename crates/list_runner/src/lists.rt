@@ -38,27 +38,41 @@ fn is_granted(reply: &Reply<u64, ()>) -> bool {
     )
 }
 
-/// Prints how many slots a publisher needs and how long the list is, and runs it on a new domain.
+/// Prints how many slots a publisher needs and how long the list is, and runs it on a new domain. Where
+/// some command isn't granted, prints the first one and how many connections were refused memory.
 pub(crate) fn fill(rt: &HostRuntime, sizes: &Sizes) -> Result<(), Failure> {
     let slots = worst_case_slots(&sizes.config, sizes.loans).ok_or(Failure::TooManySlots)?;
     println!(rt; "{slots} slots")?;
     let commands = filling(rt.alloc(), sizes)?;
     println!(rt; "{} commands", commands.len())?;
-    let count = refused(&replies_of(rt.alloc(), sizes, commands)?);
+    let (replies, refused_connections) = outcome_of(rt.alloc(), sizes, commands)?;
+    let count = refused(&replies);
     println!(rt; "{count} skipped or refused")?;
     if count == 0 {
-        Ok(())
-    } else {
-        Err(Failure::Refused)
+        return Ok(());
     }
+    print_first_refused(rt, &replies)?;
+    println!(rt; "refused connections: {refused_connections}")?;
+    Err(Failure::Refused)
 }
 
-// The replies of a new domain.
-fn replies_of(
+// Prints the first command that was skipped or refused, or received nothing, with its reply.
+fn print_first_refused(rt: &HostRuntime, replies: &[Reply<u64, ()>]) -> io::Result<()> {
+    for position in 0..replies.len() {
+        let reply = &replies[position];
+        if !is_granted(reply) {
+            return println!(rt; "command {}: {reply:?}", position.saturating_add(1));
+        }
+    }
+    Ok(())
+}
+
+// The replies of a new domain, and how many of its connections were refused memory.
+fn outcome_of(
     alloc: Global,
     sizes: &Sizes,
     commands: Vec<Command<u64, ()>>,
-) -> Result<Vec<Reply<u64, ()>>, Failure>
+) -> Result<(Vec<Reply<u64, ()>>, u64), Failure>
     requires { All IsSupportedCommand commands.items }
 {
     let Ok(mut domain) = Domain::<u64, ()>::new(alloc, sizes.config) else {
@@ -67,7 +81,7 @@ fn replies_of(
     let Ok(replies) = run(alloc, &mut domain, commands) else {
         return Err(Failure::OutOfMemory);
     };
-    Ok(replies)
+    Ok((replies, domain.refused_connections()))
 }
 
 /// Has two runs of the list compared. Prints how many commands were skipped or refused in each run

@@ -77,6 +77,18 @@ fn create_subscriber(
         .create(domain)
 }
 
+/// Prints which port was made, and how many connections there are.
+pub(crate) fn print_port(
+    rt: &HostRuntime,
+    domain: &Service,
+    side: &str,
+    id: u128,
+) -> Result<(), Failure> {
+    println!(rt; "{side} {id}")?;
+    println!(rt; "connections {}", domain.connection_count())?;
+    Ok(())
+}
+
 /// Sends a value, and prints how many subscribers took it.
 pub(crate) fn send(
     rt: &HostRuntime,

@@ -3,7 +3,7 @@ ghost use Rattle.iox2_pubsub.specs.Live.{IsLiveSubscriber, IsReadyPublisher, IsS
 
 use crate::answer::{Handler, Service};
 use crate::failure::Failure;
-use crate::ports::{made_publisher, made_subscriber, receive, send};
+use crate::ports::{made_publisher, made_subscriber, print_port, receive, send};
 use iox2_pubsub::{Publisher, Subscriber};
 
 /// A publisher meets a subscriber that comes later. A value is sent and received, and after another
@@ -32,7 +32,7 @@ fn meet_subscriber(
     requires single_valued { IsSingleValued domain.old }
     requires publisher { IsReadyPublisher domain.old publisher.now }
 {
-    println!(rt; "publisher {}", publisher.id().value())?;
+    print_port(rt, domain, "publisher", publisher.id().value())?;
     let subscriber = made_subscriber(rt, domain, handler)?;
     let outcome = send_one(rt, domain, publisher, &subscriber, last);
     subscriber.disown();
@@ -50,11 +50,11 @@ fn send_one(
     requires publisher { IsReadyPublisher domain.old publisher.now }
     requires subscriber { IsLiveSubscriber domain.old subscriber.now }
 {
-    println!(rt; "subscriber {}", subscriber.id().value())?;
+    print_port(rt, domain, "subscriber", subscriber.id().value())?;
     send(rt, domain, publisher, 1)?;
     receive(rt, domain, subscriber)?;
     let another = made_publisher(rt, domain, last)?;
-    let printed = println!(rt; "publisher {}", another.id().value());
+    let printed = print_port(rt, domain, "publisher", another.id().value());
     another.disown();
     printed?;
     receive(rt, domain, subscriber)
@@ -86,7 +86,7 @@ fn meet_publisher(
     requires single_valued { IsSingleValued domain.old }
     requires subscriber { IsLiveSubscriber domain.old subscriber.now }
 {
-    println!(rt; "subscriber {}", subscriber.id().value())?;
+    print_port(rt, domain, "subscriber", subscriber.id().value())?;
     let publisher = made_publisher(rt, domain, handler)?;
     let outcome = send_two(rt, domain, &publisher, subscriber, last);
     publisher.disown();
@@ -104,11 +104,11 @@ fn send_two(
     requires publisher { IsReadyPublisher domain.old publisher.now }
     requires subscriber { IsLiveSubscriber domain.old subscriber.now }
 {
-    println!(rt; "publisher {}", publisher.id().value())?;
+    print_port(rt, domain, "publisher", publisher.id().value())?;
     send(rt, domain, publisher, 1)?;
     receive(rt, domain, subscriber)?;
     let another = made_subscriber(rt, domain, last)?;
-    let printed = println!(rt; "subscriber {}", another.id().value());
+    let printed = print_port(rt, domain, "subscriber", another.id().value());
     another.disown();
     printed?;
     send(rt, domain, publisher, 2)?;
