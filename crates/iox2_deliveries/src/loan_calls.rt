@@ -45,6 +45,7 @@ pub fn write_loan<T: Drop, U: Default + Drop>(
 }
 
 // The same, wherever the loan lies.
+#[cold]
 #[inline(never)]
 fn search_and_write<T: Drop, U: Default + Drop>(
     state: &mut DomainState<T, U>,
