@@ -7,7 +7,7 @@ use Rattle.script_runner.proofs.SupportedCommands.{All-supported}
 use Rattle.script_runner.proofs.replies.play.Goals as goal
 
 pub run-requires : goal.run-requires
-run-requires g c = All-supported _ _ c.in_ok-script.ensures.ok.names
+run-requires g c = record { supported = All-supported _ _ c.in_ok-script.ensures.ok.names }
 
 pub returns-clause-ok : goal.returns-clause-ok
 returns-clause-ok g c =
