@@ -40,8 +40,7 @@ pub struct SampleSlot {
     pub slot: usize,
 }
 
-// The borrowed slot with a number. It is looked for from both ends, since either the oldest or the
-// newest samples are released first.
+// The borrowed slot with a number.
 fn find_borrowed(connection: &Connection, book: &SlotBook, number: u128) -> Option<usize>
     requires { (slot : ℕ) → Contains connection.now.borrowed slot → slot < length book.now.holders }
     ensures { MatchOption result (HasNoneNumbered connection.now book.now number) (IsNumberedSlot connection.now book.now number) }
@@ -51,10 +50,6 @@ fn find_borrowed(connection: &Connection, book: &SlotBook, number: u128) -> Opti
         let slot = borrowed[index];
         if book.number(slot) == number {
             return Some(slot);
-        }
-        let from_end = borrowed[borrowed.len() - 1 - index];
-        if book.number(from_end) == number {
-            return Some(from_end);
         }
     }
     None
