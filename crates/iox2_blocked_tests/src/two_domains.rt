@@ -1,25 +1,18 @@
 //! Two domains in which the same calls were made, so that the same numbers are live in both: each holds
 //! its own handles alone, and none that was spent, also where what that named was used again.
-ghost use Rattle.iox2_pubsub.specs.Live.{IsSingleValued, IsUnwritten};
+ghost use Rattle.iox2_pubsub.specs.Live.{IsSingleValued, IsUnwritten, IsWritten};
 
 use crate::waiting_publishers::{
     assert_ready, assert_single_valued, block, blocked_again, close_publisher, close_subscriber,
     deliver, delivered, given_up, release, subscriber_of, take, waiting_publisher,
 };
 use iox2_fixtures::{Reading, Station, settings};
-use iox2_pubsub::{Domain, Publisher, SampleMutUninit};
+use iox2_pubsub::{Domain, Publisher, SampleMut, SampleMutUninit};
 use iox2_store::{Key, ServiceConfig};
 use std::alloc::Global;
 use std::process::Abort;
 
 type Service = Domain<Reading, Station>;
-
-// Of the keys of two handles with the same numbers, the first domain holds the first one, and the second
-// domain the second one.
-const APART: [[bool; 2]; 2] = [[true, false], [false, true]];
-
-// The first handle was spent.
-const SPENT: [[bool; 2]; 2] = [[false, false], [false, true]];
 
 // A domain of one publisher and one subscriber, of this service.
 fn domain_of(rt: &impl Abort, alloc: Global, service_id: u128) -> Service {
@@ -38,91 +31,135 @@ fn publisher_of(rt: &impl Abort, domain: &mut Service, slots: usize) -> Publishe
     factory.create(domain).expect(rt, "a publisher")
 }
 
-// Asserts that the two keys name the same in their services, 1 and 2.
-fn assert_alike(rt: &impl Abort, keys: [Key; 2]) {
-    let [first, second] = keys;
-    assert!(rt; first.service_id == 1);
+// ---- what is asked
+
+// What a key is asked as.
+#[derive(Clone, Copy)]
+enum Kind {
+    Publisher,
+    Subscriber,
+    Loan,
+    Sample,
+    BlockedSend,
+}
+
+fn is_held(kind: Kind, domain: &Service, key: Key) -> bool {
+    match kind {
+        Kind::Publisher => domain.holds_publisher(key),
+        Kind::Subscriber => domain.holds_subscriber(key),
+        Kind::Loan => domain.holds_loan(key),
+        Kind::Sample => domain.holds_sample(key),
+        Kind::BlockedSend => domain.holds_blocked(key),
+    }
+}
+
+fn are_held(kind: Kind, domain: &Service, [own, twin]: [Key; 2]) -> [bool; 2] {
+    [is_held(kind, domain, own), is_held(kind, domain, twin)]
+}
+
+// The key of a handle of the first domain, and what that domain answered of it and of the key of its
+// twin: before the handle was spent, then, and once what it named was used again.
+struct Answers {
+    key: Key,
+    before: [bool; 2],
+    spent: [bool; 2],
+    later: [bool; 2],
+    is_next_held: bool,
+}
+
+// Asserts that both keys have the same numbers in their services, 1 and 2, that the first domain held
+// its own until it was spent, and that the second one holds its own alone.
+fn assert_apart(rt: &impl Abort, kind: Kind, answers: Answers, second: &Service, twin: Key) {
+    let Answers {
+        key,
+        before,
+        spent,
+        later,
+        is_next_held,
+    } = answers;
+    assert!(rt; key.service_id == 1);
     assert!(rt;
-        second
-            == Key {
-                service_id: 2,
-                ..first
-            }
+        twin == Key {
+            service_id: 2,
+            ..key
+        }
     );
+    assert!(rt; before == [true, false]);
+    assert!(rt; spent == [false, false]);
+    assert!(rt; later == [false, false]);
+    assert!(rt; is_next_held);
+    assert!(rt; are_held(kind, second, [key, twin]) == [false, true]);
 }
 
 // ---- publishers and subscribers
 
-fn publishers_held(first: &Service, second: &Service, keys: [Key; 2]) -> [[bool; 2]; 2] {
-    let [one, other] = keys;
-    [
-        [first.holds_publisher(one), second.holds_publisher(one)],
-        [first.holds_publisher(other), second.holds_publisher(other)],
-    ]
+// The key of a publisher, which stays.
+fn publisher_key(rt: &impl Abort, domain: &mut Service) -> Key {
+    let publisher = waiting_publisher(rt, domain);
+    let key = publisher.key();
+    publisher.disown();
+    key
+}
+
+fn close_a_publisher(rt: &impl Abort, domain: &mut Service, twin: Key) -> Answers {
+    let publisher = waiting_publisher(rt, domain);
+    let key = publisher.key();
+    let before = are_held(Kind::Publisher, domain, [key, twin]);
+    close_publisher(rt, domain, publisher);
+    let spent = are_held(Kind::Publisher, domain, [key, twin]);
+    let next = publisher_key(rt, domain);
+    Answers {
+        key,
+        before,
+        spent,
+        later: are_held(Kind::Publisher, domain, [key, twin]),
+        is_next_held: domain.holds_publisher(next),
+    }
 }
 
 #[test]
 fn a_domain_holds_its_own_publisher_until_it_is_closed(rt: HostRuntime) {
     let mut first = domain_of(&rt, rt.alloc(), 1);
     let mut second = domain_of(&rt, rt.alloc(), 2);
-    let publisher = waiting_publisher(&rt, &mut first);
-    let twin = waiting_publisher(&rt, &mut second);
-    let keys = [publisher.key(), twin.key()];
-    let before = publishers_held(&first, &second, keys);
-    close_publisher(&rt, &mut first, publisher);
-    let closed = publishers_held(&first, &second, keys);
-    let next = waiting_publisher(&rt, &mut first);
-    let later = publishers_held(&first, &second, keys);
-    let is_next_held = first.holds_publisher(next.key());
-    next.disown();
-    twin.disown();
-    assert_alike(&rt, keys);
-    assert!(rt; before == APART);
-    assert!(rt; [closed, later] == [SPENT, SPENT]);
-    assert!(rt; is_next_held);
+    let twin = publisher_key(&rt, &mut second);
+    let answers = close_a_publisher(&rt, &mut first, twin);
+    assert_apart(&rt, Kind::Publisher, answers, &second, twin);
 }
 
-fn subscribers_held(first: &Service, second: &Service, keys: [Key; 2]) -> [[bool; 2]; 2] {
-    let [one, other] = keys;
-    [
-        [first.holds_subscriber(one), second.holds_subscriber(one)],
-        [
-            first.holds_subscriber(other),
-            second.holds_subscriber(other),
-        ],
-    ]
+// The key of a subscriber, which stays.
+fn subscriber_key(rt: &impl Abort, domain: &mut Service) -> Key {
+    let subscriber = subscriber_of(rt, domain, 1);
+    let key = subscriber.key();
+    subscriber.disown();
+    key
+}
+
+fn close_a_subscriber(rt: &impl Abort, domain: &mut Service, twin: Key) -> Answers {
+    let subscriber = subscriber_of(rt, domain, 1);
+    let key = subscriber.key();
+    let before = are_held(Kind::Subscriber, domain, [key, twin]);
+    close_subscriber(rt, domain, subscriber);
+    let spent = are_held(Kind::Subscriber, domain, [key, twin]);
+    let next = subscriber_key(rt, domain);
+    Answers {
+        key,
+        before,
+        spent,
+        later: are_held(Kind::Subscriber, domain, [key, twin]),
+        is_next_held: domain.holds_subscriber(next),
+    }
 }
 
 #[test]
 fn a_domain_holds_its_own_subscriber_until_it_is_closed(rt: HostRuntime) {
     let mut first = domain_of(&rt, rt.alloc(), 1);
     let mut second = domain_of(&rt, rt.alloc(), 2);
-    let subscriber = subscriber_of(&rt, &mut first, 1);
-    let twin = subscriber_of(&rt, &mut second, 1);
-    let keys = [subscriber.key(), twin.key()];
-    let before = subscribers_held(&first, &second, keys);
-    close_subscriber(&rt, &mut first, subscriber);
-    let closed = subscribers_held(&first, &second, keys);
-    let next = subscriber_of(&rt, &mut first, 1);
-    let later = subscribers_held(&first, &second, keys);
-    let is_next_held = first.holds_subscriber(next.key());
-    next.disown();
-    twin.disown();
-    assert_alike(&rt, keys);
-    assert!(rt; before == APART);
-    assert!(rt; [closed, later] == [SPENT, SPENT]);
-    assert!(rt; is_next_held);
+    let twin = subscriber_key(&rt, &mut second);
+    let answers = close_a_subscriber(&rt, &mut first, twin);
+    assert_apart(&rt, Kind::Subscriber, answers, &second, twin);
 }
 
-// ---- loans
-
-fn loans_held(first: &Service, second: &Service, keys: [Key; 2]) -> [[bool; 2]; 2] {
-    let [one, other] = keys;
-    [
-        [first.holds_loan(one), second.holds_loan(one)],
-        [first.holds_loan(other), second.holds_loan(other)],
-    ]
-}
+// ---- loans, of publishers of one slot
 
 // An unwritten loan.
 fn lent(rt: &impl Abort, domain: &mut Service, publisher: &Publisher) -> SampleMutUninit
@@ -134,80 +171,89 @@ fn lent(rt: &impl Abort, domain: &mut Service, publisher: &Publisher) -> SampleM
     publisher.loan_uninit(domain).expect(rt, "a loan")
 }
 
-// Lends, and leaves the loan out. Returns its key.
-fn lent_key(rt: &impl Abort, domain: &mut Service, publisher: &Publisher) -> Key {
+// The key of a loan, which stays out.
+fn loan_key(rt: &impl Abort, domain: &mut Service, publisher: &Publisher) -> Key {
     let loan = lent(rt, domain, publisher);
     let key = loan.key();
     loan.disown();
     key
 }
 
-// The publishers have one slot each.
+fn discard_a_loan(rt: &impl Abort, domain: &mut Service, twin: Key) -> Answers {
+    let publisher = publisher_of(rt, domain, 1);
+    let loan = lent(rt, domain, &publisher);
+    let key = loan.key();
+    let before = are_held(Kind::Loan, domain, [key, twin]);
+    loan.discard(domain);
+    let spent = are_held(Kind::Loan, domain, [key, twin]);
+    let next = loan_key(rt, domain, &publisher);
+    publisher.disown();
+    Answers {
+        key,
+        before,
+        spent,
+        later: are_held(Kind::Loan, domain, [key, twin]),
+        is_next_held: domain.holds_loan(next),
+    }
+}
+
 #[test]
 fn a_domain_holds_its_own_loan_until_it_is_given_back(rt: HostRuntime) {
     let mut first = domain_of(&rt, rt.alloc(), 1);
     let mut second = domain_of(&rt, rt.alloc(), 2);
-    let publisher = publisher_of(&rt, &mut first, 1);
-    let twin = publisher_of(&rt, &mut second, 1);
-    let twin_key = lent_key(&rt, &mut second, &twin);
-    let loan = lent(&rt, &mut first, &publisher);
-    let keys = [loan.key(), twin_key];
-    let before = loans_held(&first, &second, keys);
-    loan.discard(&mut first);
-    let given_back = loans_held(&first, &second, keys);
-    let next = lent_key(&rt, &mut first, &publisher);
-    let later = loans_held(&first, &second, keys);
-    let is_next_held = first.holds_loan(next);
+    let publisher = publisher_of(&rt, &mut second, 1);
+    let twin = loan_key(&rt, &mut second, &publisher);
     publisher.disown();
-    twin.disown();
-    assert_alike(&rt, keys);
-    assert!(rt; before == APART);
-    assert!(rt; [given_back, later] == [SPENT, SPENT]);
-    assert!(rt; is_next_held);
+    let answers = discard_a_loan(&rt, &mut first, twin);
+    assert_apart(&rt, Kind::Loan, answers, &second, twin);
 }
 
-// The publishers have one slot each, and no subscriber.
+// A written loan.
+fn written(rt: &impl Abort, domain: &mut Service, publisher: &Publisher) -> SampleMut
+    ensures loan { IsWritten domain.new result }
+    ensures single_valued { IsSingleValued domain.new }
+{
+    let loan = lent(rt, domain, publisher);
+    loan.write_payload(domain, Reading { celsius: 20 })
+}
+
+// The domain has no subscriber.
+fn send_a_loan(rt: &impl Abort, domain: &mut Service, twin: Key) -> Answers {
+    let publisher = publisher_of(rt, domain, 1);
+    let loan = written(rt, domain, &publisher);
+    let key = loan.key();
+    let before = are_held(Kind::Loan, domain, [key, twin]);
+    assert!(rt; !loan.is_blocked(domain));
+    assert!(rt; delivered(rt, loan.send(domain)) == 0);
+    let spent = are_held(Kind::Loan, domain, [key, twin]);
+    let next = loan_key(rt, domain, &publisher);
+    publisher.disown();
+    Answers {
+        key,
+        before,
+        spent,
+        later: are_held(Kind::Loan, domain, [key, twin]),
+        is_next_held: domain.holds_loan(next),
+    }
+}
+
 #[test]
 fn a_domain_holds_its_own_written_loan_until_it_is_sent(rt: HostRuntime) {
     let mut first = domain_of(&rt, rt.alloc(), 1);
     let mut second = domain_of(&rt, rt.alloc(), 2);
-    let publisher = publisher_of(&rt, &mut first, 1);
-    let twin = publisher_of(&rt, &mut second, 1);
-    let loan = lent(&rt, &mut second, &twin);
-    let written = loan.write_payload(&mut second, Reading { celsius: 20 });
-    let twin_key = written.key();
-    written.disown();
-    let loan = lent(&rt, &mut first, &publisher);
-    let written = loan.write_payload(&mut first, Reading { celsius: 20 });
-    let keys = [written.key(), twin_key];
-    let before = loans_held(&first, &second, keys);
-    assert!(rt; !written.is_blocked(&first));
-    let takers = delivered(&rt, written.send(&mut first));
-    let sent = loans_held(&first, &second, keys);
-    let next = lent_key(&rt, &mut first, &publisher);
-    let later = loans_held(&first, &second, keys);
-    let is_next_held = first.holds_loan(next);
+    let publisher = publisher_of(&rt, &mut second, 1);
+    let loan = written(&rt, &mut second, &publisher);
+    let twin = loan.key();
+    loan.disown();
     publisher.disown();
-    twin.disown();
-    assert_alike(&rt, keys);
-    assert!(rt; before == APART);
-    assert!(rt; takers == 0);
-    assert!(rt; [sent, later] == [SPENT, SPENT]);
-    assert!(rt; is_next_held);
+    let answers = send_a_loan(&rt, &mut first, twin);
+    assert_apart(&rt, Kind::Loan, answers, &second, twin);
 }
 
-// ---- samples
+// ---- samples, of publishers of one slot
 
-fn samples_held(first: &Service, second: &Service, keys: [Key; 2]) -> [[bool; 2]; 2] {
-    let [one, other] = keys;
-    [
-        [first.holds_sample(one), second.holds_sample(one)],
-        [first.holds_sample(other), second.holds_sample(other)],
-    ]
-}
-
-// A publisher of one slot, and the key of a sample of it that stays borrowed.
-fn borrowed_key(rt: &impl Abort, domain: &mut Service) -> Key {
+// The key of a sample, which stays borrowed.
+fn sample_key(rt: &impl Abort, domain: &mut Service) -> Key {
     let subscriber = subscriber_of(rt, domain, 1);
     let publisher = publisher_of(rt, domain, 1);
     deliver(rt, domain, &publisher, 20);
@@ -219,44 +265,43 @@ fn borrowed_key(rt: &impl Abort, domain: &mut Service) -> Key {
     key
 }
 
-// The publishers have one slot each.
+fn release_a_sample(rt: &impl Abort, domain: &mut Service, twin: Key) -> Answers {
+    let subscriber = subscriber_of(rt, domain, 1);
+    let publisher = publisher_of(rt, domain, 1);
+    deliver(rt, domain, &publisher, 20);
+    let sample = take(rt, domain, &subscriber);
+    let key = sample.key();
+    let before = are_held(Kind::Sample, domain, [key, twin]);
+    release(rt, domain, sample);
+    let spent = are_held(Kind::Sample, domain, [key, twin]);
+    deliver(rt, domain, &publisher, 21);
+    let next = take(rt, domain, &subscriber);
+    let later = are_held(Kind::Sample, domain, [key, twin]);
+    let is_next_held = domain.holds_sample(next.key());
+    next.disown();
+    publisher.disown();
+    subscriber.disown();
+    Answers {
+        key,
+        before,
+        spent,
+        later,
+        is_next_held,
+    }
+}
+
 #[test]
 fn a_domain_holds_its_own_sample_until_it_is_released(rt: HostRuntime) {
     let mut first = domain_of(&rt, rt.alloc(), 1);
     let mut second = domain_of(&rt, rt.alloc(), 2);
-    let twin_key = borrowed_key(&rt, &mut second);
-    let subscriber = subscriber_of(&rt, &mut first, 1);
-    let publisher = publisher_of(&rt, &mut first, 1);
-    deliver(&rt, &mut first, &publisher, 20);
-    let sample = take(&rt, &mut first, &subscriber);
-    let keys = [sample.key(), twin_key];
-    let before = samples_held(&first, &second, keys);
-    release(&rt, &mut first, sample);
-    let released = samples_held(&first, &second, keys);
-    deliver(&rt, &mut first, &publisher, 21);
-    let next = take(&rt, &mut first, &subscriber);
-    let later = samples_held(&first, &second, keys);
-    let is_next_held = first.holds_sample(next.key());
-    next.disown();
-    publisher.disown();
-    subscriber.disown();
-    assert_alike(&rt, keys);
-    assert!(rt; before == APART);
-    assert!(rt; [released, later] == [SPENT, SPENT]);
-    assert!(rt; is_next_held);
+    let twin = sample_key(&rt, &mut second);
+    let answers = release_a_sample(&rt, &mut first, twin);
+    assert_apart(&rt, Kind::Sample, answers, &second, twin);
 }
 
-// ---- blocked sends
+// ---- blocked sends, of publishers of two slots, of which one has a message that waits
 
-fn sends_held(first: &Service, second: &Service, keys: [Key; 2]) -> [[bool; 2]; 2] {
-    let [one, other] = keys;
-    [
-        [first.holds_blocked(one), second.holds_blocked(one)],
-        [first.holds_blocked(other), second.holds_blocked(other)],
-    ]
-}
-
-// The key of a send that stays blocked, of a publisher of two slots.
+// The key of a send, which stays blocked.
 fn blocked_key(rt: &impl Abort, domain: &mut Service) -> Key {
     let subscriber = subscriber_of(rt, domain, 1);
     let publisher = publisher_of(rt, domain, 2);
@@ -269,31 +314,37 @@ fn blocked_key(rt: &impl Abort, domain: &mut Service) -> Key {
     key
 }
 
-// The publishers have two slots each, of which one has a message that waits.
+fn end_a_blocked_send(rt: &impl Abort, domain: &mut Service, twin: Key) -> Answers {
+    let subscriber = subscriber_of(rt, domain, 1);
+    let publisher = publisher_of(rt, domain, 2);
+    deliver(rt, domain, &publisher, 20);
+    let waiting = block(rt, domain, &publisher, 21);
+    let key = waiting.key();
+    assert!(rt; are_held(Kind::BlockedSend, domain, [key, twin]) == [true, false]);
+    let waiting = blocked_again(rt, domain, waiting);
+    let before = are_held(Kind::BlockedSend, domain, [key, twin]);
+    assert!(rt; given_up(rt, domain, waiting) == 0);
+    let spent = are_held(Kind::BlockedSend, domain, [key, twin]);
+    let next = block(rt, domain, &publisher, 22);
+    let later = are_held(Kind::BlockedSend, domain, [key, twin]);
+    let is_next_held = domain.holds_blocked(next.key());
+    next.disown();
+    publisher.disown();
+    subscriber.disown();
+    Answers {
+        key,
+        before,
+        spent,
+        later,
+        is_next_held,
+    }
+}
+
 #[test]
 fn a_domain_holds_its_own_blocked_send_until_it_ends(rt: HostRuntime) {
     let mut first = domain_of(&rt, rt.alloc(), 1);
     let mut second = domain_of(&rt, rt.alloc(), 2);
-    let twin_key = blocked_key(&rt, &mut second);
-    let subscriber = subscriber_of(&rt, &mut first, 1);
-    let publisher = publisher_of(&rt, &mut first, 2);
-    deliver(&rt, &mut first, &publisher, 20);
-    let waiting = block(&rt, &mut first, &publisher, 21);
-    let keys = [waiting.key(), twin_key];
-    let before = sends_held(&first, &second, keys);
-    let waiting = blocked_again(&rt, &mut first, waiting);
-    let retried = sends_held(&first, &second, keys);
-    let takers = given_up(&rt, &mut first, waiting);
-    let given_up = sends_held(&first, &second, keys);
-    let next = block(&rt, &mut first, &publisher, 22);
-    let later = sends_held(&first, &second, keys);
-    let is_next_held = first.holds_blocked(next.key());
-    next.disown();
-    publisher.disown();
-    subscriber.disown();
-    assert_alike(&rt, keys);
-    assert!(rt; [before, retried] == [APART, APART]);
-    assert!(rt; takers == 0);
-    assert!(rt; [given_up, later] == [SPENT, SPENT]);
-    assert!(rt; is_next_held);
+    let twin = blocked_key(&rt, &mut second);
+    let answers = end_a_blocked_send(&rt, &mut first, twin);
+    assert_apart(&rt, Kind::BlockedSend, answers, &second, twin);
 }
