@@ -126,8 +126,8 @@ pub record IsBook {T U : Type 0} (b : Book) (contents : Option (List (ContentSta
   pub aligned : IsAligned b
   pub shaped : IsSomeAnd contents (λ cs. length cs ≡ length b.holders)
 
--- The publisher's book names the domain's node. It has at least its slots, and no more where its memory doesn't grow. Each has room for the publisher's
--- first longest slice, and for one element at least.
+-- The publisher's book names the domain's node. It has at least its slots, and no more where its memory doesn't grow.
+-- Each has room for the publisher's first longest slice, and for one element at least.
 pub record HasBook {T U : Type 0} (f : Fields T U) (x : PublisherFields) : Type 0 where
   pub book : Book
   pub stands : get f.books x.book ≡ Some book

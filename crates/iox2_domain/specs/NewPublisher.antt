@@ -80,8 +80,8 @@ module _ {T U : Type 0} where
 abbrev pub subscriber_due : SubscriberFields → SubscriberFields
 subscriber_due y = record y { is_due = true }
 
--- A book of so many slots of the publisher, which names its node. None of the slots is in use, and their contents, each with room for so many elements,
--- which lie in lists where they are to.
+-- A book of so many slots of the publisher, which names its node. None of the slots is in use, and their contents,
+-- each with room for so many elements, lie in lists where they are to.
 pub record IsNewSegment {T U : Type 0} (book : Book) (contents : List (ContentState T U)) (node publisher slots room : ℕ) (in_lists : Bool) : Type 0 where
   pub is_its : book.publisher ≡ publisher
   pub names_node : book.node ≡ node

@@ -1,9 +1,10 @@
 //! What lies between one publisher and one subscriber: numbers of the publisher's slots.
-ghost use Rattle.std.specs.Prelude.{◌≡◌, ◌+◌, ◌-◌, ◌<◌, ◌≤◌, ◌==◌, ◌↔◌, count_by, length, slice_get, Some, Contains, IfOk, IsTrue, MatchOption};
+ghost use Rattle.std.specs.Prelude.{◌≡◌, ◌+◌, ◌-◌, ◌<◌, ◌≤◌, ◌↔◌, length, slice_get, Some, Contains, IfOk, IsTrue};
 ghost use Rattle.iox2_slots.specs.Link.{load, empty_link, has_slots, has_borrowed_slots, can_borrow, with_returned, without_borrowed, IsBounded};
 ghost use Rattle.iox2_store.specs.machine.Numbers.{without, IsOnce};
 ghost use Rattle.std.specs.Vec.{vec_capacity};
 
+use crate::place::place_of;
 use circular_buffer::HeapCircularBuffer;
 use std::alloc::{AllocError, Global};
 use std::marker::Model;
@@ -33,24 +34,6 @@ pub enum PutOutcome {
     Overwrote(usize),
     /// There was no room, and nothing has changed.
     Full,
-}
-
-/// A place at which a slot stands. It is looked for from both ends, since either the oldest or the
-/// newest slots go first.
-#[inline(never)]
-pub fn place_of(slots: &[usize], slot: usize) -> Option<usize>
-    ensures { MatchOption result (count_by (λ other. other == slot) slots.now ≡ 0) (λ place. slice_get slots.now place ≡ Some slot) }
-{
-    for place in 0..slots.len() {
-        if slots[place] == slot {
-            return Some(place);
-        }
-        let from_end = slots.len() - 1 - place;
-        if slots[from_end] == slot {
-            return Some(from_end);
-        }
-    }
-    None
 }
 
 /// Whether the slot stands last.

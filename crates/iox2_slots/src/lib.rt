@@ -2,7 +2,9 @@
 #![tactic(auto)]
 
 mod connection;
+mod place;
 mod slots;
 
-pub use connection::{Connection, Home, PutOutcome, place_of};
+pub use connection::{Connection, Home, PutOutcome};
+pub use place::place_of;
 pub use slots::{SlotBook, SlotMark};
