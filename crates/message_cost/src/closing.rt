@@ -51,18 +51,25 @@ impl Closing {
 /// where something is refused.
 pub fn close_all(alloc: Global, closing: &Closing) -> Option<usize> {
     let mut domain = Domain::<u64, ()>::new(alloc, closing.config()).ok()?;
-    let receivers = create_receivers(alloc, &mut domain, closing.subscribers)?;
-    let senders = create_senders(alloc, &mut domain, closing.publishers)?;
+    close_all_in(alloc, &mut domain, closing)
+}
+
+// The same in a domain that takes these ports and messages.
+fn close_all_in(alloc: Global, domain: &mut Domain<u64, ()>, closing: &Closing) -> Option<usize>
+    requires { IsSingleValued domain.old }
+{
+    let receivers = create_receivers(alloc, domain, closing.subscribers)?;
+    let senders = create_senders(alloc, domain, closing.publishers)?;
     if closing.is_known {
-        update_all(&mut domain, &receivers)?;
+        update_all(domain, &receivers)?;
     }
-    send_all(&mut domain, &senders, closing.messages)?;
+    send_all(domain, &senders, closing.messages)?;
     Some(if closing.publishers_first {
-        let closed = close_publishers(&mut domain, senders);
-        closed.saturating_add(close_subscribers(&mut domain, receivers))
+        let closed = close_publishers(domain, senders);
+        closed.saturating_add(close_subscribers(domain, receivers))
     } else {
-        let closed = close_subscribers(&mut domain, receivers);
-        closed.saturating_add(close_publishers(&mut domain, senders))
+        let closed = close_subscribers(domain, receivers);
+        closed.saturating_add(close_publishers(domain, senders))
     })
 }
 

@@ -23,15 +23,20 @@ use report::{compare, report_day};
 use series::exchange;
 
 fn main(rt: HostRuntime) -> Result<(), Failure> {
-    let mut domain = Domain::<Reading, ()>::new(rt.alloc(), ServiceConfig::new(1))?;
-    let subscriber = domain.subscriber_builder().create(&mut domain)?;
-    let outcome = run(&rt, &mut domain, &subscriber);
-    subscriber.close(&mut domain);
-    outcome?;
+    report_readings(&rt)?;
     if let Some(temperatures) = exchange(rt.alloc())? {
         println!(rt; "{temperatures} temperatures in a series")?;
     }
     Ok(())
+}
+
+// Makes the domain and its display, and reports to it.
+fn report_readings(rt: &HostRuntime) -> Result<(), Failure> {
+    let mut domain = Domain::<Reading, ()>::new(rt.alloc(), ServiceConfig::new(1))?;
+    let subscriber = domain.subscriber_builder().create(&mut domain)?;
+    let outcome = run(rt, &mut domain, &subscriber);
+    subscriber.close(&mut domain);
+    outcome
 }
 
 // Makes the publisher of a thermometer indoors, with up to two loans out at a time, and reports with
