@@ -53,30 +53,17 @@ fn is_held(kind: Kind, domain: &Service, key: Key) -> bool {
     }
 }
 
-fn are_held(kind: Kind, domain: &Service, [own, twin]: [Key; 2]) -> [bool; 2] {
-    [is_held(kind, domain, own), is_held(kind, domain, twin)]
+// Asserts which of the two keys the domain holds.
+fn assert_held(rt: &impl Abort, kind: Kind, domain: &Service, keys: [Key; 2], held: [bool; 2]) {
+    let [first, second] = keys;
+    assert!(rt; is_held(kind, domain, first) == held[0]);
+    assert!(rt; is_held(kind, domain, second) == held[1]);
 }
 
-// The key of a handle of the first domain, and what that domain answered of it and of the key of its
-// twin: before the handle was spent, then, and once what it named was used again.
-struct Answers {
-    key: Key,
-    before: [bool; 2],
-    spent: [bool; 2],
-    later: [bool; 2],
-    is_next_held: bool,
-}
-
-// Asserts that both keys have the same numbers in their services, 1 and 2, that the first domain held
-// its own until it was spent, and that the second one holds its own alone.
-fn assert_apart(rt: &impl Abort, kind: Kind, answers: Answers, second: &Service, twin: Key) {
-    let Answers {
-        key,
-        before,
-        spent,
-        later,
-        is_next_held,
-    } = answers;
+// Asserts that the two keys have the same numbers in their services, 1 and 2, and that the second domain
+// holds its own alone.
+fn assert_apart(rt: &impl Abort, kind: Kind, second: &Service, keys: [Key; 2]) {
+    let [key, twin] = keys;
     assert!(rt; key.service_id == 1);
     assert!(rt;
         twin == Key {
@@ -84,11 +71,7 @@ fn assert_apart(rt: &impl Abort, kind: Kind, answers: Answers, second: &Service,
             ..key
         }
     );
-    assert!(rt; before == [true, false]);
-    assert!(rt; spent == [false, false]);
-    assert!(rt; later == [false, false]);
-    assert!(rt; is_next_held);
-    assert!(rt; are_held(kind, second, [key, twin]) == [false, true]);
+    assert_held(rt, kind, second, keys, [false, true]);
 }
 
 // ---- publishers and subscribers
@@ -101,20 +84,17 @@ fn publisher_key(rt: &impl Abort, domain: &mut Service) -> Key {
     key
 }
 
-fn close_a_publisher(rt: &impl Abort, domain: &mut Service, twin: Key) -> Answers {
+// Closes a publisher, which the domain holds until then, and makes another. Returns the key of the first.
+fn close_a_publisher(rt: &impl Abort, domain: &mut Service, twin: Key) -> Key {
     let publisher = waiting_publisher(rt, domain);
     let key = publisher.key();
-    let before = are_held(Kind::Publisher, domain, [key, twin]);
+    assert_held(rt, Kind::Publisher, domain, [key, twin], [true, false]);
     close_publisher(rt, domain, publisher);
-    let spent = are_held(Kind::Publisher, domain, [key, twin]);
+    assert_held(rt, Kind::Publisher, domain, [key, twin], [false, false]);
     let next = publisher_key(rt, domain);
-    Answers {
-        key,
-        before,
-        spent,
-        later: are_held(Kind::Publisher, domain, [key, twin]),
-        is_next_held: domain.holds_publisher(next),
-    }
+    assert_held(rt, Kind::Publisher, domain, [key, twin], [false, false]);
+    assert!(rt; is_held(Kind::Publisher, domain, next));
+    key
 }
 
 #[test]
@@ -122,8 +102,8 @@ fn a_domain_holds_its_own_publisher_until_it_is_closed(rt: HostRuntime) {
     let mut first = domain_of(&rt, rt.alloc(), 1);
     let mut second = domain_of(&rt, rt.alloc(), 2);
     let twin = publisher_key(&rt, &mut second);
-    let answers = close_a_publisher(&rt, &mut first, twin);
-    assert_apart(&rt, Kind::Publisher, answers, &second, twin);
+    let key = close_a_publisher(&rt, &mut first, twin);
+    assert_apart(&rt, Kind::Publisher, &second, [key, twin]);
 }
 
 // The key of a subscriber, which stays.
@@ -134,20 +114,17 @@ fn subscriber_key(rt: &impl Abort, domain: &mut Service) -> Key {
     key
 }
 
-fn close_a_subscriber(rt: &impl Abort, domain: &mut Service, twin: Key) -> Answers {
+// Closes a subscriber, which the domain holds until then, and makes another. Returns the key of the first.
+fn close_a_subscriber(rt: &impl Abort, domain: &mut Service, twin: Key) -> Key {
     let subscriber = subscriber_of(rt, domain, 1);
     let key = subscriber.key();
-    let before = are_held(Kind::Subscriber, domain, [key, twin]);
+    assert_held(rt, Kind::Subscriber, domain, [key, twin], [true, false]);
     close_subscriber(rt, domain, subscriber);
-    let spent = are_held(Kind::Subscriber, domain, [key, twin]);
+    assert_held(rt, Kind::Subscriber, domain, [key, twin], [false, false]);
     let next = subscriber_key(rt, domain);
-    Answers {
-        key,
-        before,
-        spent,
-        later: are_held(Kind::Subscriber, domain, [key, twin]),
-        is_next_held: domain.holds_subscriber(next),
-    }
+    assert_held(rt, Kind::Subscriber, domain, [key, twin], [false, false]);
+    assert!(rt; is_held(Kind::Subscriber, domain, next));
+    key
 }
 
 #[test]
@@ -155,8 +132,8 @@ fn a_domain_holds_its_own_subscriber_until_it_is_closed(rt: HostRuntime) {
     let mut first = domain_of(&rt, rt.alloc(), 1);
     let mut second = domain_of(&rt, rt.alloc(), 2);
     let twin = subscriber_key(&rt, &mut second);
-    let answers = close_a_subscriber(&rt, &mut first, twin);
-    assert_apart(&rt, Kind::Subscriber, answers, &second, twin);
+    let key = close_a_subscriber(&rt, &mut first, twin);
+    assert_apart(&rt, Kind::Subscriber, &second, [key, twin]);
 }
 
 // ---- loans, of publishers of one slot
@@ -179,22 +156,19 @@ fn loan_key(rt: &impl Abort, domain: &mut Service, publisher: &Publisher) -> Key
     key
 }
 
-fn discard_a_loan(rt: &impl Abort, domain: &mut Service, twin: Key) -> Answers {
+// Gives back a loan, which the domain holds until then, and lends again. Returns the key of the first.
+fn discard_a_loan(rt: &impl Abort, domain: &mut Service, twin: Key) -> Key {
     let publisher = publisher_of(rt, domain, 1);
     let loan = lent(rt, domain, &publisher);
     let key = loan.key();
-    let before = are_held(Kind::Loan, domain, [key, twin]);
+    assert_held(rt, Kind::Loan, domain, [key, twin], [true, false]);
     loan.discard(domain);
-    let spent = are_held(Kind::Loan, domain, [key, twin]);
+    assert_held(rt, Kind::Loan, domain, [key, twin], [false, false]);
     let next = loan_key(rt, domain, &publisher);
     publisher.disown();
-    Answers {
-        key,
-        before,
-        spent,
-        later: are_held(Kind::Loan, domain, [key, twin]),
-        is_next_held: domain.holds_loan(next),
-    }
+    assert_held(rt, Kind::Loan, domain, [key, twin], [false, false]);
+    assert!(rt; is_held(Kind::Loan, domain, next));
+    key
 }
 
 #[test]
@@ -204,8 +178,8 @@ fn a_domain_holds_its_own_loan_until_it_is_given_back(rt: HostRuntime) {
     let publisher = publisher_of(&rt, &mut second, 1);
     let twin = loan_key(&rt, &mut second, &publisher);
     publisher.disown();
-    let answers = discard_a_loan(&rt, &mut first, twin);
-    assert_apart(&rt, Kind::Loan, answers, &second, twin);
+    let key = discard_a_loan(&rt, &mut first, twin);
+    assert_apart(&rt, Kind::Loan, &second, [key, twin]);
 }
 
 // A written loan.
@@ -217,24 +191,21 @@ fn written(rt: &impl Abort, domain: &mut Service, publisher: &Publisher) -> Samp
     loan.write_payload(domain, Reading { celsius: 20 })
 }
 
-// The domain has no subscriber.
-fn send_a_loan(rt: &impl Abort, domain: &mut Service, twin: Key) -> Answers {
+// Sends a written loan to nobody, which the domain holds until then, and lends again. Returns the key of the
+// first.
+fn send_a_loan(rt: &impl Abort, domain: &mut Service, twin: Key) -> Key {
     let publisher = publisher_of(rt, domain, 1);
     let loan = written(rt, domain, &publisher);
     let key = loan.key();
-    let before = are_held(Kind::Loan, domain, [key, twin]);
+    assert_held(rt, Kind::Loan, domain, [key, twin], [true, false]);
     assert!(rt; !loan.is_blocked(domain));
     assert!(rt; delivered(rt, loan.send(domain)) == 0);
-    let spent = are_held(Kind::Loan, domain, [key, twin]);
+    assert_held(rt, Kind::Loan, domain, [key, twin], [false, false]);
     let next = loan_key(rt, domain, &publisher);
     publisher.disown();
-    Answers {
-        key,
-        before,
-        spent,
-        later: are_held(Kind::Loan, domain, [key, twin]),
-        is_next_held: domain.holds_loan(next),
-    }
+    assert_held(rt, Kind::Loan, domain, [key, twin], [false, false]);
+    assert!(rt; is_held(Kind::Loan, domain, next));
+    key
 }
 
 #[test]
@@ -246,8 +217,8 @@ fn a_domain_holds_its_own_written_loan_until_it_is_sent(rt: HostRuntime) {
     let twin = loan.key();
     loan.disown();
     publisher.disown();
-    let answers = send_a_loan(&rt, &mut first, twin);
-    assert_apart(&rt, Kind::Loan, answers, &second, twin);
+    let key = send_a_loan(&rt, &mut first, twin);
+    assert_apart(&rt, Kind::Loan, &second, [key, twin]);
 }
 
 // ---- samples, of publishers of one slot
@@ -265,29 +236,24 @@ fn sample_key(rt: &impl Abort, domain: &mut Service) -> Key {
     key
 }
 
-fn release_a_sample(rt: &impl Abort, domain: &mut Service, twin: Key) -> Answers {
+// Releases a sample, which the domain holds until then, and has another. Returns the key of the first.
+fn release_a_sample(rt: &impl Abort, domain: &mut Service, twin: Key) -> Key {
     let subscriber = subscriber_of(rt, domain, 1);
     let publisher = publisher_of(rt, domain, 1);
     deliver(rt, domain, &publisher, 20);
     let sample = take(rt, domain, &subscriber);
     let key = sample.key();
-    let before = are_held(Kind::Sample, domain, [key, twin]);
+    assert_held(rt, Kind::Sample, domain, [key, twin], [true, false]);
     release(rt, domain, sample);
-    let spent = are_held(Kind::Sample, domain, [key, twin]);
+    assert_held(rt, Kind::Sample, domain, [key, twin], [false, false]);
     deliver(rt, domain, &publisher, 21);
     let next = take(rt, domain, &subscriber);
-    let later = are_held(Kind::Sample, domain, [key, twin]);
-    let is_next_held = domain.holds_sample(next.key());
+    assert_held(rt, Kind::Sample, domain, [key, twin], [false, false]);
+    assert!(rt; is_held(Kind::Sample, domain, next.key()));
     next.disown();
     publisher.disown();
     subscriber.disown();
-    Answers {
-        key,
-        before,
-        spent,
-        later,
-        is_next_held,
-    }
+    key
 }
 
 #[test]
@@ -295,8 +261,8 @@ fn a_domain_holds_its_own_sample_until_it_is_released(rt: HostRuntime) {
     let mut first = domain_of(&rt, rt.alloc(), 1);
     let mut second = domain_of(&rt, rt.alloc(), 2);
     let twin = sample_key(&rt, &mut second);
-    let answers = release_a_sample(&rt, &mut first, twin);
-    assert_apart(&rt, Kind::Sample, answers, &second, twin);
+    let key = release_a_sample(&rt, &mut first, twin);
+    assert_apart(&rt, Kind::Sample, &second, [key, twin]);
 }
 
 // ---- blocked sends, of publishers of two slots, of which one has a message that waits
@@ -314,30 +280,26 @@ fn blocked_key(rt: &impl Abort, domain: &mut Service) -> Key {
     key
 }
 
-fn end_a_blocked_send(rt: &impl Abort, domain: &mut Service, twin: Key) -> Answers {
+// Gives up a blocked send, which the domain holds until then, and has another blocked. Returns the key of
+// the first.
+fn end_a_blocked_send(rt: &impl Abort, domain: &mut Service, twin: Key) -> Key {
     let subscriber = subscriber_of(rt, domain, 1);
     let publisher = publisher_of(rt, domain, 2);
     deliver(rt, domain, &publisher, 20);
     let waiting = block(rt, domain, &publisher, 21);
     let key = waiting.key();
-    assert!(rt; are_held(Kind::BlockedSend, domain, [key, twin]) == [true, false]);
+    assert_held(rt, Kind::BlockedSend, domain, [key, twin], [true, false]);
     let waiting = blocked_again(rt, domain, waiting);
-    let before = are_held(Kind::BlockedSend, domain, [key, twin]);
+    assert_held(rt, Kind::BlockedSend, domain, [key, twin], [true, false]);
     assert!(rt; given_up(rt, domain, waiting) == 0);
-    let spent = are_held(Kind::BlockedSend, domain, [key, twin]);
+    assert_held(rt, Kind::BlockedSend, domain, [key, twin], [false, false]);
     let next = block(rt, domain, &publisher, 22);
-    let later = are_held(Kind::BlockedSend, domain, [key, twin]);
-    let is_next_held = domain.holds_blocked(next.key());
+    assert_held(rt, Kind::BlockedSend, domain, [key, twin], [false, false]);
+    assert!(rt; is_held(Kind::BlockedSend, domain, next.key()));
     next.disown();
     publisher.disown();
     subscriber.disown();
-    Answers {
-        key,
-        before,
-        spent,
-        later,
-        is_next_held,
-    }
+    key
 }
 
 #[test]
@@ -345,6 +307,6 @@ fn a_domain_holds_its_own_blocked_send_until_it_ends(rt: HostRuntime) {
     let mut first = domain_of(&rt, rt.alloc(), 1);
     let mut second = domain_of(&rt, rt.alloc(), 2);
     let twin = blocked_key(&rt, &mut second);
-    let answers = end_a_blocked_send(&rt, &mut first, twin);
-    assert_apart(&rt, Kind::BlockedSend, answers, &second, twin);
+    let key = end_a_blocked_send(&rt, &mut first, twin);
+    assert_apart(&rt, Kind::BlockedSend, &second, [key, twin]);
 }
