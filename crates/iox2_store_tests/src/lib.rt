@@ -13,6 +13,8 @@ mod errors;
 #[cfg(test)]
 mod handlers;
 #[cfg(test)]
+mod places;
+#[cfg(test)]
 mod plain_types;
 #[cfg(test)]
 mod settings;
