@@ -32,14 +32,15 @@ impl Model {
             Command::CreatePublisher {
                 loans,
                 strategy,
+                allocation,
                 initial_max_slice_len,
                 override_slots,
                 degradation,
                 backpressure,
-                ..
             } => {
                 let wanted = Wanted {
                     loans,
+                    allocation,
                     max_slice_len: initial_max_slice_len,
                     asked_slots: override_slots,
                     when_full: when_full(strategy, backpressure),

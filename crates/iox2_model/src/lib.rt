@@ -17,6 +17,7 @@ mod ports;
 mod receives;
 mod records;
 mod releases;
+mod segments;
 mod sender;
 mod subscriber_update;
 

@@ -3,7 +3,7 @@ use crate::error::ModelError;
 use crate::model::{Model, Outcome};
 use crate::records::{Loan, Made};
 use iox2_commands::Reply;
-use iox2_store::{LoanError, SendError, TypeVariant};
+use iox2_store::{AllocationStrategy, LoanError, SendError, TypeVariant};
 
 impl Model {
     // The publisher of whom a loan may be asked, where messages are of this variant. It waits for no
@@ -13,15 +13,6 @@ impl Model {
             return None;
         }
         self.unblocked_at(of)
-    }
-
-    /// The greatest length of a loan of the publisher that the command at this position made; 0 where
-    /// it made none that is live.
-    pub fn max_slice_len_at(&self, of: usize) -> usize {
-        match self.publisher_at(of).and_then(|p| self.publisher(p)) {
-            Some(publisher) => publisher.max_slice_len,
-            None => 0,
-        }
     }
 
     // A loan with this in each of its cells, or the refusal.
@@ -35,20 +26,22 @@ impl Model {
         let Some(publisher) = self.publisher_mut(p) else {
             return Err(ModelError::NoRule);
         };
-        if len > publisher.max_slice_len {
+        let is_static = publisher.segments.allocation == AllocationStrategy::Static;
+        if is_static && len > publisher.segments.len {
             return Ok(Err(LoanError::ExceedsMaxLoanSize));
         }
         if publisher.loans.len() >= publisher.max_loaned_samples {
             return Ok(Err(LoanError::ExceedsMaxLoans));
         }
-        let slots = publisher.slots;
-        if self.held_count(p)? >= slots {
-            return Ok(Err(LoanError::OutOfMemory));
+        if let Err(refusal) = self.make_room(p, len)? {
+            return Ok(Err(refusal));
         }
         let Some(publisher) = self.publisher_mut(p) else {
             return Err(ModelError::NoRule);
         };
         publisher.loans.push(message)?;
+        let segment = publisher.segments.made;
+        self.segments.push(segment)?;
         let mut cells = Vec::new(self.alloc);
         for _ in 0..len {
             cells.push(cell)?;
@@ -61,33 +54,6 @@ impl Model {
         }))?;
         self.entries.push(None)?;
         Ok(Ok(message))
-    }
-
-    // How many messages and loans have a slot of the publisher's: its loans, its history, and what
-    // waits or is borrowed in the mailboxes that it has an end to.
-    fn held_count(&self, p: usize) -> Result<usize, ModelError> {
-        let Some(publisher) = self.publisher(p) else {
-            return Err(ModelError::NoRule);
-        };
-        let mut is_held = Vec::new(self.alloc);
-        for _ in 0..self.loans.len() {
-            is_held.push(false)?;
-        }
-        mark(&mut is_held, publisher.loans.as_slice());
-        mark(&mut is_held, publisher.history.as_slice());
-        for end in publisher.ends.as_slice() {
-            if let Some(mailbox) = end.and_then(|q| self.mailboxes.get(p, q)) {
-                mark(&mut is_held, mailbox.waiting());
-                mark(&mut is_held, mailbox.borrowed());
-            }
-        }
-        let mut count = 0usize;
-        for held in is_held.as_slice() {
-            if *held {
-                count = count.saturating_add(1);
-            }
-        }
-        Ok(count)
     }
 
     // A loan of a single value with this in its cell is asked for.
@@ -222,14 +188,5 @@ impl Model {
         }
         loan.is_written = true;
         Reply::Done
-    }
-}
-
-// Marks these numbers.
-fn mark(marks: &mut Vec<bool>, numbers: &[usize]) {
-    for number in numbers {
-        if let Some(place) = marks.get_mut(*number) {
-            *place = true;
-        }
     }
 }

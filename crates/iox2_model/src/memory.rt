@@ -1,4 +1,4 @@
-/// Whether memory is refused to a connection or a port that needs it: never, or once.
+/// Whether memory is refused to a connection, a port or a segment that needs it: never, or once.
 #[derive(Debug, Clone, Copy, PartialEq, Eq)]
 pub struct Memory {
     // How often it is granted before it is refused; nothing where it isn't refused any more.

@@ -19,6 +19,8 @@ pub struct Model {
     // By number: loans in a user's hands, and messages that were sent. None has the number 0.
     pub(crate) loans: Vec<Option<Loan>>,
     pub(crate) entries: Vec<Option<Entry>>,
+    // By number: in which of its publisher's segments the message lies, counted from 1.
+    pub(crate) segments: Vec<usize>,
     pub(crate) mailboxes: Mailboxes,
     pub(crate) publisher_places: Vec<Option<usize>>,
     pub(crate) subscriber_places: Vec<Option<usize>>,
@@ -52,6 +54,7 @@ impl Model {
             subscribers: Vec::new(alloc),
             loans: Vec::new(alloc),
             entries: Vec::new(alloc),
+            segments: Vec::new(alloc),
             mailboxes: Mailboxes::new(alloc),
             publisher_places: Vec::new(alloc),
             subscriber_places: Vec::new(alloc),
@@ -61,6 +64,7 @@ impl Model {
         model.subscribers.push(None)?;
         model.loans.push(None)?;
         model.entries.push(None)?;
+        model.segments.push(0)?;
         Ok(model)
     }
 
@@ -74,7 +78,7 @@ impl Model {
         self.refused_connections
     }
 
-    /// How often a port or a connection asked for memory.
+    /// How often a port, a connection or a segment asked for memory.
     pub fn questions(&self) -> usize {
         self.memory.questions()
     }

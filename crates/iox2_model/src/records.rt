@@ -1,4 +1,4 @@
-use iox2_store::DegradationAction;
+use iox2_store::{AllocationStrategy, DegradationAction};
 use std::alloc::Global;
 
 // A publisher that wasn't closed.
@@ -7,8 +7,7 @@ pub(crate) struct Publisher {
     pub(crate) place: usize,
     pub(crate) slots: usize,
     pub(crate) max_loaned_samples: usize,
-    // The greatest length of a loan.
-    pub(crate) max_slice_len: usize,
+    pub(crate) segments: Segments,
     pub(crate) loans: Vec<usize>,
     // The last messages sent, oldest first.
     pub(crate) history: Vec<usize>,
@@ -29,7 +28,11 @@ impl Publisher {
             place,
             slots,
             max_loaned_samples: wanted.loans,
-            max_slice_len: wanted.max_slice_len,
+            segments: Segments {
+                allocation: wanted.allocation,
+                len: wanted.max_slice_len,
+                made: 1,
+            },
             loans: Vec::new(alloc),
             history: Vec::new(alloc),
             ends: Vec::new(alloc),
@@ -41,11 +44,22 @@ impl Publisher {
     }
 }
 
+// The segments of a publisher's slots, of which new loans lie in the last.
+#[derive(Clone, Copy)]
+pub(crate) struct Segments {
+    pub(crate) allocation: AllocationStrategy,
+    // The greatest length of a loan in the last one.
+    pub(crate) len: usize,
+    // How many were made, the first included.
+    pub(crate) made: usize,
+}
+
 // What a command says of a publisher.
 #[derive(Clone, Copy)]
 pub(crate) struct Wanted {
     pub(crate) loans: usize,
-    // The greatest length of a loan.
+    pub(crate) allocation: AllocationStrategy,
+    // The greatest length of a loan in the first segment.
     pub(crate) max_slice_len: usize,
     // So many slots are asked for in place of the worst case.
     pub(crate) asked_slots: Option<usize>,

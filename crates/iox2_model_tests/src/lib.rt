@@ -4,3 +4,5 @@
 
 #[cfg(test)]
 mod blocked_sends;
+#[cfg(test)]
+mod growing_publishers;

@@ -78,11 +78,19 @@ fn make_publisher(chance: &mut Chance) -> Command<u64, u64> {
     Command::CreatePublisher {
         loans,
         strategy: strategy(chance),
-        allocation: AllocationStrategy::Static,
+        allocation: allocation(chance),
         initial_max_slice_len: chance.below(9),
         override_slots: override_slots(chance),
         degradation: degradation(chance),
         backpressure: handler(chance),
+    }
+}
+
+fn allocation(chance: &mut Chance) -> AllocationStrategy {
+    match chance.below(4) {
+        0 => AllocationStrategy::BestFit,
+        1 => AllocationStrategy::PowerOfTwo,
+        _ => AllocationStrategy::Static,
     }
 }
 
@@ -208,13 +216,14 @@ fn loan(chance: &mut Chance, model: &Model, config: &ServiceConfig) -> Command<u
     }
 }
 
-// The length is one that the publisher lends, or one more.
+// The length is one that the publisher lends, some more, or one for which no segment fits.
 fn loan_slice(chance: &mut Chance, model: &Model, of: usize) -> Command<u64, u64> {
     let greatest = model.max_slice_len_at(of);
-    let len = if chance.one_in(12) {
-        greatest.saturating_add(1)
-    } else {
-        chance.up_to(greatest)
+    let len = match chance.below(24) {
+        0 => greatest.saturating_add(1),
+        1 => greatest.saturating_add(chance.below(24)),
+        2 if model.exceeds_any_segment_at(of, usize::MAX) => usize::MAX,
+        _ => chance.up_to(greatest),
     };
     Command::LoanSlice { of, len }
 }

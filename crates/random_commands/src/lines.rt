@@ -1,6 +1,8 @@
 //! Scripts as text.
 use iox2_commands::Command;
-use iox2_store::{BackpressureStrategy, DegradationAction, ServiceConfig, TypeVariant};
+use iox2_store::{
+    AllocationStrategy, BackpressureStrategy, DegradationAction, ServiceConfig, TypeVariant,
+};
 use std::alloc::{AllocError, Global};
 use std::fmt::Write;
 
@@ -61,6 +63,7 @@ fn push_line(
         Command::CreatePublisher {
             loans,
             strategy,
+            allocation: AllocationStrategy::Static,
             override_slots: None,
             degradation: DegradationAction::Warn,
             backpressure: None,

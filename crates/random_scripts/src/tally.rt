@@ -7,7 +7,7 @@ use iox2_pubsub::{
 use iox2_runs::{Command, Reply};
 
 // The kinds of replies that the words can give with ample memory.
-const KINDS: [&str; 33] = [
+const KINDS: [&str; 34] = [
     "Done",
     "Skipped",
     "PublisherMade",
@@ -20,6 +20,7 @@ const KINDS: [&str; 33] = [
     "LoanRefused(ExceedsMaxLoans)",
     "LoanRefused(ExceedsMaxLoanSize)",
     "LoanRefused(OutOfMemory)",
+    "LoanRefused(InternalFailure)",
     "Delivered to none",
     "Delivered to one",
     "Delivered to 2 to 64",
@@ -44,19 +45,19 @@ const KINDS: [&str; 33] = [
 ];
 
 // The position of the count of all other replies, which no command should have.
-const OTHER: usize = 33;
+const OTHER: usize = 34;
 
 /// How often each kind of reply was met.
 #[derive(Drop)]
 pub(crate) struct Tally {
-    counts: [u64; 34],
+    counts: [u64; 35],
     words: WordTally,
 }
 
 impl Tally {
     pub(crate) fn new() -> Tally {
         Tally {
-            counts: [0; 34],
+            counts: [0; 35],
             words: WordTally::new(),
         }
     }
@@ -113,15 +114,16 @@ fn kind_of(reply: &Reply<u64, u64>) -> usize {
         Reply::LoanRefused(LoanError::ExceedsMaxLoans) => 9,
         Reply::LoanRefused(LoanError::ExceedsMaxLoanSize) => 10,
         Reply::LoanRefused(LoanError::OutOfMemory) => 11,
-        Reply::Delivered(0) => 12,
-        Reply::Delivered(1) => 13,
-        Reply::Delivered(2..=64) => 14,
-        Reply::Delivered(_) => 15,
-        Reply::Blocked => 16,
-        Reply::SendRefused(SendError::ConnectionBrokenSinceSenderNoLongerExists) => 17,
-        Reply::SendRefused(SendError::LoanError(LoanError::ExceedsMaxLoans)) => 18,
-        Reply::SendRefused(SendError::LoanError(LoanError::OutOfMemory)) => 19,
-        Reply::SendRefused(SendError::UnableToDeliver) => 20,
+        Reply::LoanRefused(LoanError::InternalFailure) => 12,
+        Reply::Delivered(0) => 13,
+        Reply::Delivered(1) => 14,
+        Reply::Delivered(2..=64) => 15,
+        Reply::Delivered(_) => 16,
+        Reply::Blocked => 17,
+        Reply::SendRefused(SendError::ConnectionBrokenSinceSenderNoLongerExists) => 18,
+        Reply::SendRefused(SendError::LoanError(LoanError::ExceedsMaxLoans)) => 19,
+        Reply::SendRefused(SendError::LoanError(LoanError::OutOfMemory)) => 20,
+        Reply::SendRefused(SendError::UnableToDeliver) => 21,
         _ => kind_of_use(reply),
     }
 }
@@ -129,18 +131,18 @@ fn kind_of(reply: &Reply<u64, u64>) -> usize {
 // The same for what is received and read.
 fn kind_of_use(reply: &Reply<u64, u64>) -> usize {
     match *reply {
-        Reply::UpdateRefused(_) => 21,
-        Reply::Sample(_) => 22,
-        Reply::NoSample => 23,
-        Reply::ReceiveRefused(ReceiveError::ExceedsMaxBorrows) => 24,
-        Reply::ReceiveRefused(ReceiveError::ConnectionFailure(_)) => 25,
-        Reply::Has(false) => 26,
-        Reply::Has(true) => 27,
-        Reply::Cell(None) => 28,
-        Reply::Cell(Some(_)) => 29,
-        Reply::Unwritten => 30,
-        Reply::Header(_) => 31,
-        Reply::UserHeader(_) => 32,
+        Reply::UpdateRefused(_) => 22,
+        Reply::Sample(_) => 23,
+        Reply::NoSample => 24,
+        Reply::ReceiveRefused(ReceiveError::ExceedsMaxBorrows) => 25,
+        Reply::ReceiveRefused(ReceiveError::ConnectionFailure(_)) => 26,
+        Reply::Has(false) => 27,
+        Reply::Has(true) => 28,
+        Reply::Cell(None) => 29,
+        Reply::Cell(Some(_)) => 30,
+        Reply::Unwritten => 31,
+        Reply::Header(_) => 32,
+        Reply::UserHeader(_) => 33,
         _ => OTHER,
     }
 }
