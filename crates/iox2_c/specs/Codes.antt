@@ -4,6 +4,8 @@ use Rattle.std.specs.declared.option.Option.{Option}
 use Rattle.std.specs.declared.option.Option.TheVariants.{None, Some}
 use Rattle.std.specs.declared.result.Result.{Result}
 use Rattle.std.specs.declared.result.Result.TheVariants.{Ok, Err}
+use Rattle.iox2_store.specs.declared.allocation.AllocationStrategy.{AllocationStrategy}
+use Rattle.iox2_store.specs.declared.allocation.AllocationStrategy.TheVariants.{BestFit, PowerOfTwo, Static}
 use Rattle.iox2_store.specs.declared.backpressure.BackpressureStrategy.{BackpressureStrategy}
 use Rattle.iox2_store.specs.declared.backpressure.BackpressureStrategy.TheVariants.{RetryUntilDelivered, DiscardData}
 use Rattle.iox2_store.specs.declared.backpressure.BackpressureAction.{BackpressureAction}
@@ -97,6 +99,10 @@ handler_numbered n =
 -- What is done where memory for a connection is refused, by its number: 0 stands for nothing, and 2 for a failure of the call.
 abbrev pub degradation_numbered : ℕ → DegradationAction
 degradation_numbered n = cond (nat_eq n 0) Ignore (cond (nat_eq n 2) DegradeAndFail Warn)
+
+-- How a publisher's memory grows, by its number: 0 stands for one that doesn't.
+abbrev pub allocation_numbered : ℕ → AllocationStrategy
+allocation_numbered n = cond (nat_eq n 1) BestFit (cond (nat_eq n 2) PowerOfTwo Static)
 
 -- For how many slots a publisher asks: 0 stands for no override, which leaves it the worst case.
 abbrev pub slots_numbered : ℕ → Option ℕ

@@ -5,7 +5,7 @@ use Rattle.iox2_store.specs.declared.service_config.TypeVariant.TheVariants.{Dyn
 use Rattle.iox2_store.specs.declared.allocation.AllocationStrategy.TheVariants.{Static}
 use Rattle.iox2_store.specs.machine.Ports.{default_publisher_settings, default_subscriber_settings}
 use Rattle.iox2_store.specs.machine.Records.{Fixed, PublisherSettings, SubscriberSettings}
-use Rattle.iox2_c.specs.Codes.{degradation_numbered, handler_numbered, slots_numbered, strategy_numbered}
+use Rattle.iox2_c.specs.Codes.{allocation_numbered, degradation_numbered, handler_numbered, slots_numbered, strategy_numbered}
 use Rattle.iox2_c.specs.Numbers.{wide}
 use Rattle.iox2_c.specs.Serving.{KeptBytes, Serving}
 use Rattle.iox2_c.specs.declared.config.Config.{Config}
@@ -42,7 +42,7 @@ settings_of it = record {
   publisher_allocation_strategy = Static;
 }
 
--- The settings of the domain, but that its publishers have memory that doesn't grow, as C's always have.
+-- The settings of the domain, but that its publishers have memory that doesn't grow, as C's have without options.
 abbrev pub settings_in : KeptBytes → ServiceConfig
 settings_in kept = record (kept.config) { publisher_allocation_strategy = Static }
 
@@ -61,6 +61,7 @@ abbrev pub unasked_settings : ServiceConfig → PublisherOptions → PublisherSe
 unasked_settings config it = record (default_publisher_settings config) {
   max_loaned_samples = it.max_loaned_samples;
   backpressure_strategy = strategy_numbered it.backpressure_strategy;
+  allocation_strategy = allocation_numbered it.allocation_strategy;
   initial_max_slice_len = it.initial_max_slice_len;
   degradation_handler = Fixed (degradation_numbered it.degradation);
   backpressure_handler = handler_numbered it.backpressure_handler;
@@ -74,13 +75,16 @@ publisher_settings config it = record (unasked_settings config it) { asked_slots
 abbrev pub subscriber_settings : SubscriberOptions → SubscriberSettings
 subscriber_settings it = record { buffer_size = it.buffer_size; degradation_handler = Fixed (degradation_numbered it.degradation) }
 
--- A publisher can have the options where payloads are aligned so: its messages are of whole units, and each number has a meaning.
+-- A publisher can have the options where payloads are aligned so: its messages are of whole units, each number has a meaning, and
+-- memory that grows begins with some.
 pub record AreOptions (alignment : ℕ) (it : PublisherOptions) : Type 0 where
   pub aligned : 0 < alignment
   pub whole : it.initial_max_slice_len % alignment ≡ 0
   pub strategy : it.backpressure_strategy < 2
   pub handler : it.backpressure_handler < 5
   pub degradation : it.degradation < 3
+  pub allocation : it.allocation_strategy < 3
+  pub begins : (it.allocation_strategy ≡ 0) ⊎ (0 < it.initial_max_slice_len)
 
 -- The numbers of a publisher say what its settings do of its messages' length and of its strategy.
 pub record ReadsSettings (it : PublisherNumbers) (given : PublisherSettings) : Type 0 where

@@ -4,12 +4,15 @@ ghost use Rattle.iox2_store.specs.machine.Ports.{default_publisher_settings, def
 ghost use Rattle.iox2_store.specs.machine.Records.{Fixed};
 ghost use Rattle.iox2_ends.specs.Handlers.{marks_of};
 ghost use Rattle.iox2_pubsub.specs.Factories.{answer_of};
-ghost use Rattle.iox2_c.specs.Codes.{degradation_numbered, handler_numbered};
+ghost use Rattle.iox2_c.specs.Codes.{allocation_numbered, degradation_numbered, handler_numbered};
 ghost use Rattle.iox2_c.specs.Settings.{AreOptions, publisher_settings, settings_of, subscriber_settings};
 
 use crate::config::Config;
 use crate::handlers::NoHandler;
-use iox2_pubsub::{BackpressureAction, BackpressureHandler, DegradationAction, DegradationHandler};
+use iox2_pubsub::{
+    AllocationStrategy, BackpressureAction, BackpressureHandler, DegradationAction,
+    DegradationHandler,
+};
 
 /// What one publisher has.
 #[repr(C)]
@@ -17,7 +20,7 @@ use iox2_pubsub::{BackpressureAction, BackpressureHandler, DegradationAction, De
 pub struct PublisherOptions {
     /// How many loans may be out at a time.
     pub max_loaned_samples: usize,
-    /// How many bytes a message may have.
+    /// How many bytes a message may have, as long as memory isn't to grow.
     pub initial_max_slice_len: usize,
     /// For how many slots it asks, or 0 for the worst case.
     pub preallocated_samples: usize,
@@ -27,8 +30,8 @@ pub struct PublisherOptions {
     pub backpressure_handler: u32,
     /// What it does where memory for a connection is refused, as a number.
     pub degradation: u32,
-    /// Nothing.
-    pub reserved: u32,
+    /// How its memory grows, as a number.
+    pub allocation_strategy: u32,
 }
 
 impl PublisherOptions {
@@ -43,7 +46,7 @@ impl PublisherOptions {
             backpressure_strategy: config.backpressure_strategy,
             backpressure_handler: 0,
             degradation: 1,
-            reserved: 0,
+            allocation_strategy: 0,
         }
     }
 
@@ -56,6 +59,8 @@ impl PublisherOptions {
             && self.backpressure_strategy < 2
             && self.backpressure_handler < 5
             && self.degradation < 3
+            && self.allocation_strategy < 3
+            && (self.allocation_strategy == 0 || self.initial_max_slice_len > 0)
     }
 
     /// The handler of full buffers, if there is one.
@@ -70,6 +75,17 @@ impl PublisherOptions {
             _ => return None,
         };
         Some(BackpressureHandler::Fixed(action))
+    }
+}
+
+/// How memory grows: not at all, but for the numbers of others.
+pub fn allocation_of(number: u32) -> AllocationStrategy
+    ensures { result ≡ allocation_numbered number }
+{
+    match number {
+        1 => AllocationStrategy::BestFit,
+        2 => AllocationStrategy::PowerOfTwo,
+        _ => AllocationStrategy::Static,
     }
 }
 

@@ -14,7 +14,7 @@ use Rattle.iox2_store.specs.machine.Delivery.{DeliveryEnd, Complete, Suspended}
 use Rattle.iox2_store.specs.machine.PublisherUpdate.{UpdatePublisher}
 use Rattle.iox2_store.specs.machine.SubscriberUpdate.{UpdateSubscriber}
 use Rattle.iox2_store.specs.machine.Loans.{GrantLoan, is_static, loan_granted, loan_discarded}
-use Rattle.iox2_store.specs.machine.LoansLeft.{CanLend}
+use Rattle.iox2_store.specs.machine.LoansLeft.{CanLend, LendsValues}
 use Rattle.iox2_store.specs.machine.Ports.{CreatePublisher, CreateSubscriber, FirstPublisherUpdate, FirstSubscriberUpdate, with_new_publisher, with_new_subscriber, new_publisher, with_failure_warning, slots_for, publisher_closed, subscriber_shut, subscriber_closed}
 use Rattle.iox2_store.specs.machine.Receives.{ReceiveResult, Got_sample, No_sample, Receive_error, TakeSample, Receive}
 use Rattle.iox2_store.specs.machine.Releases.{place_freed, unborrowed, subscriber_pruned, is_unused, freed_if_unused, released}
@@ -29,6 +29,7 @@ use Rattle.iox2_store.specs.declared.errors.SubscriberCreateError.{SubscriberCre
 use Rattle.iox2_store.specs.declared.warning.Warning.{Warning}
 use Rattle.iox2_store.specs.declared.warning.Warning.TheVariants.{PublisherPartlyConnected, SubscriberPartlyConnected}
 use Rattle.iox2_store.specs.declared.service_config.ServiceConfig.{ServiceConfig}
+use Rattle.iox2_store.specs.declared.service_config.TypeVariant.TheVariants.{FixedSize}
 use Rattle.iox2_laws.proofs.Cases.{by_option, by_bool}
 use Rattle.iox2_laws.proofs.CallCases.{grant_cases, publisher_cases, subscriber_cases}
 use Rattle.iox2_laws.proofs.NumberLemmas.{length-without}
@@ -64,6 +65,12 @@ changed_terms f i change keeps p x e =
     at_each f i (option_map change (f i)) (λ k v. f k ≡ Some x → Kept_at x v) p (λ here old. (change x, ap (option_map change) old, keeps x)) (λ apart old. (x, old, same_terms x)) e
 
 module _ {T U : Type 0} where
+  -- a publisher with the same terms lends single values as before
+  values_kept : (s s' : State T U) (x x' : Publisher) → s'.config ≡ s.config → x'.allocation_strategy ≡ x.allocation_strategy → x'.initial_max_slice_len ≡ x.initial_max_slice_len
+      → LendsValues s x → LendsValues s' x'
+  values_kept s s' x x' config allocation longest lends = λ grows single.
+      subst (λ (n : ℕ). 1 ≤ n) (sym longest) (lends (sym (ap is_static allocation) ∙ grows) (sym (ap (λ (c : ServiceConfig). c.variant) config) ∙ single))
+
   -- ---- what leaves all of them
 
   -- Each publisher keeps its terms and its loans, and no message number is used.
@@ -182,10 +189,12 @@ module _ {T U : Type 0} where
       let kept : LoansKept (with_new_publisher s given place) s' = made_kept environment s given place s' makes.2 in
       (place, kept.publishers s.next_port (new_publisher s given place) (put_at-same s.publishers s.next_port (Some (new_publisher s given place))), kept.config))
 
-  -- A publisher that was made has all of its loans left, where it is static and has the worst case of slots.
-  pub created_lends : (environment : Environment) (s : State T U) (given : PublisherSettings) (s' : State T U) → is_static given.allocation_strategy ≡ true
+  -- A publisher that was made has all of its loans left, where it has the worst case of slots, and lends single values where
+  -- messages are such.
+  pub created_lends : (environment : Environment) (s : State T U) (given : PublisherSettings) (s' : State T U)
+      → (is_static given.allocation_strategy ≡ false → (s.config).variant ≡ FixedSize → 1 ≤ given.initial_max_slice_len)
       → worst_case s.config given.max_loaned_samples ≤ slots_for s.config given → CreatePublisher environment s given s' None → CanLend s' s.next_port given.max_loaned_samples
-  created_lends environment s given s' static slots h =
+  created_lends environment s given s' values slots h =
       let made = created_stands environment s given s' h in
       let there = made.1 in
       let terms : KeepsTerms (new_publisher s given made.0) there.0 = there.2 in
@@ -193,10 +202,10 @@ module _ {T U : Type 0} where
       record {
         port = there.0;
         stands = there.1;
-        static = ap is_static terms.allocation ∙ static;
         slots = subst (λ (k : ℕ). worst_case s'.config (there.0).max_loaned_samples ≤ k) (sym terms.slots)
             (subst (λ (k : ℕ). worst_case s'.config k ≤ slots_for s.config given) (sym terms.most) (subst (λ (c : ServiceConfig). worst_case c given.max_loaned_samples ≤ slots_for s.config given) (sym made.2) slots));
         few = omega (arith, none, terms.most);
+        values = values_kept s s' (new_publisher s given made.0) there.0 made.2 terms.allocation terms.longest values;
       }
 
   -- It lends slices of as many elements as it was asked for.
@@ -233,10 +242,10 @@ module _ {T U : Type 0} where
       record {
         port = there.0;
         stands = there.1;
-        static = ap is_static terms.allocation ∙ can.static;
         slots = subst (λ (k : ℕ). worst_case s'.config (there.0).max_loaned_samples ≤ k) (sym terms.slots)
             (subst (λ (k : ℕ). worst_case s'.config k ≤ (can.port).slots) (sym terms.most) (subst (λ (c : ServiceConfig). worst_case c (can.port).max_loaned_samples ≤ (can.port).slots) (sym h.config) can.slots));
         few = omega (arith, loans, terms.most, can.few);
+        values = values_kept s s' can.port there.0 h.config terms.allocation terms.longest can.values;
       }
 
   -- another publisher's close
@@ -244,9 +253,9 @@ module _ {T U : Type 0} where
   closed_lends s p x i n away can = record {
     port = can.port;
     stands = publisher_closed_others s p x i away ∙ can.stands;
-    static = can.static;
     slots = can.slots;
     few = can.few;
+    values = can.values;
   }
 
   -- ---- a loan is granted
@@ -270,9 +279,9 @@ module _ {T U : Type 0} where
         record {
           port = record x { loans = x.loans ++ s.next_message ∷ []; longest_granted = max x.longest_granted len; segments = segments };
           stands = put_at-same s.publishers p _;
-          static = ap (λ (z : Publisher). is_static z.allocation_strategy) same ∙ can.static;
           slots = subst (λ (z : Publisher). worst_case s.config z.max_loaned_samples ≤ z.slots) (sym same) can.slots;
           few = omega (arith, length-append x.loans (s.next_message ∷ []), of_x);
+          values = subst (λ (z : Publisher). LendsValues s z) (sym same) can.values;
         };
     longest = λ y at. (
       record x { loans = x.loans ++ s.next_message ∷ []; longest_granted = max x.longest_granted len; segments = segments },
@@ -440,10 +449,10 @@ module _ {T U : Type 0} where
       record {
         port = there.0;
         stands = there.1;
-        static = ap is_static there.2 ∙ can.static;
         slots = subst (λ (k : ℕ). worst_case s'.config (there.0).max_loaned_samples ≤ k) (sym there.4)
             (subst (λ (k : ℕ). worst_case s'.config k ≤ (can.port).slots) (sym there.3) (subst (λ (c : ServiceConfig). worst_case c (can.port).max_loaned_samples ≤ (can.port).slots) (sym h.config) can.slots));
         few = omega (arith, one, left, there.3, can.few);
+        values = values_kept s s' can.port there.0 h.config there.2 there.6 can.values;
       }
 
   -- so where the loan was in its user's hands
@@ -466,14 +475,14 @@ module _ {T U : Type 0} where
       record {
         port = there.0;
         stands = there.1;
-        static = ap is_static terms.allocation ∙ can.static;
         slots = subst (λ (k : ℕ). worst_case s'.config (there.0).max_loaned_samples ≤ k) (sym terms.slots)
             (subst (λ (k : ℕ). worst_case s'.config k ≤ (can.port).slots) (sym terms.most) (subst (λ (c : ServiceConfig). worst_case c (can.port).max_loaned_samples ≤ (can.port).slots) (sym h.config) can.slots));
         few = omega (arith, loans, terms.most, can.few);
+        values = values_kept s s' can.port there.0 h.config terms.allocation terms.longest can.values;
       }
 
 -- fewer than may be taken may be taken
 pub lends_fewer : {T U : Type 0} (s : State T U) (p n more : ℕ) → n ≤ more → CanLend s p more → CanLend s p n
 lends_fewer s p n more low can =
     let few : length (can.port).loans + more ≤ (can.port).max_loaned_samples = can.few in
-    record { port = can.port; stands = can.stands; static = can.static; slots = can.slots; few = omega arith }
+    record { port = can.port; stands = can.stands; slots = can.slots; few = omega arith; values = can.values }

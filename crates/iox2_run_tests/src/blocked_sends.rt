@@ -1,5 +1,4 @@
 //! Runs in which sends wait for a full subscriber.
-ghost use Rattle.iox2_runs.specs.Supported.{IsSupportedCommand};
 
 use crate::runs::{CREATE_SUBSCRIBER, replies_to_numbers};
 use crate::steps::{check, publisher_made, retry, sample_of, set_payload, subscriber_made};
@@ -25,7 +24,6 @@ pub(crate) fn service(max_subscribers: usize, history_size: usize) -> ServiceCon
 
 // The command that makes a publisher that waits, with so many loans of two elements at most.
 fn waiting_publisher(loans: usize) -> Command<u64, u8>
-    ensures { IsSupportedCommand result }
 {
     Command::CreatePublisher {
         loans,

@@ -1,8 +1,4 @@
 //! Two ports, a sample and a loan end in every order, and nothing is left of them.
-ghost use Rattle.std.specs.Prelude.{IfOk};
-ghost use Rattle.std.specs.List.{All};
-ghost use Rattle.iox2_runs.specs.Supported.{IsSupportedCommand};
-
 use crate::runs::{CREATE_SUBSCRIBER, create_publisher, replies_to_numbers};
 use iox2_fixtures::settings;
 use iox2_pubsub::Domain;
@@ -50,7 +46,6 @@ const RELEASE: usize = 2;
 const NO_ORDER: Order = [ENDINGS; ENDINGS];
 
 fn ending(index: usize) -> Command<u64, u8>
-    ensures { IsSupportedCommand result }
 {
     match index {
         0 => Command::Close { of: 0 },
@@ -65,7 +60,6 @@ const READ: Command<u64, u8> = Command::Read { of: 5, at: 0 };
 
 /// A message is received and a loan is out. Then the four end, and the message is read before each.
 fn commands_in_order(alloc: Global, order: Order) -> Result<Vec<Command<u64, u8>>, AllocError>
-    ensures { IfOk result (λ commands. All IsSupportedCommand commands.items) }
 {
     let commands = [
         CREATE_SUBSCRIBER,
@@ -89,7 +83,6 @@ fn commands_in_order(alloc: Global, order: Order) -> Result<Vec<Command<u64, u8>
 
 /// The next two ports carry a message.
 fn next_commands(alloc: Global) -> Result<Vec<Command<u64, u8>>, AllocError>
-    ensures { IfOk result (λ commands. All IsSupportedCommand commands.items) }
 {
     let commands = [
         create_publisher(2),

@@ -1,8 +1,6 @@
 //! Two runs of commands that differ in what one subscriber does.
-ghost use Rattle.std.specs.Prelude.{◌≡◌, true, IfOk};
-ghost use Rattle.std.specs.List.{All};
+ghost use Rattle.std.specs.Prelude.{◌≡◌, true};
 ghost use Rattle.iox2_commands.specs.Refusals.{TellNoRefusal};
-ghost use Rattle.iox2_runs.specs.Supported.{IsSupportedCommand};
 
 use iox2_fixtures::settings;
 use iox2_pubsub::Domain;
@@ -38,15 +36,12 @@ pub(crate) const PUBLISHER: Command<u64, u8> = Command::CreatePublisher {
 
 // The command, or nothing in its place.
 fn if_kept(is_kept: bool, command: Command<u64, u8>) -> Command<u64, u8>
-    requires { IsSupportedCommand command }
-    ensures { IsSupportedCommand result }
 {
     if is_kept { command } else { Command::Nothing }
 }
 
 // Two messages are sent to two subscribers. In between the first subscriber receives one, or doesn't.
 fn two_messages(alloc: Global, receives: bool) -> Result<Commands, AllocError>
-    ensures { IfOk result (λ commands. All IsSupportedCommand commands.items) }
 {
     let commands = [
         SUBSCRIBER,
@@ -69,7 +64,6 @@ fn two_messages(alloc: Global, receives: bool) -> Result<Commands, AllocError>
 // The first subscriber is closed, before which it may receive a message and release it. A new one
 // takes its place.
 fn close_of_another(alloc: Global, receives: bool, releases: bool) -> Result<Commands, AllocError>
-    ensures { IfOk result (λ commands. All IsSupportedCommand commands.items) }
 {
     let commands = [
         SUBSCRIBER,
@@ -95,7 +89,6 @@ fn close_of_another(alloc: Global, receives: bool, releases: bool) -> Result<Com
 
 // The second subscriber is closed while it has a sample, before which the first one may receive too.
 fn close_with_a_sample(alloc: Global, other_receives: bool) -> Result<Commands, AllocError>
-    ensures { IfOk result (λ commands. All IsSupportedCommand commands.items) }
 {
     let commands = [
         SUBSCRIBER,
@@ -127,8 +120,6 @@ fn compared(
     commands: Commands,
     reduced: Commands,
 ) -> (Replies, Replies)
-    requires commands { All IsSupportedCommand commands.items }
-    requires reduced { All IsSupportedCommand reduced.items }
 {
     let config = ServiceConfig {
         max_subscribers: 2,
@@ -283,8 +274,6 @@ fn after_many_subscribers(
     alloc: Global,
     last: &[Command<u64, u8>],
 ) -> Vec<Command<u64, u8>>
-    requires { All IsSupportedCommand last.now }
-    ensures { All IsSupportedCommand result.items }
 {
     let mut commands = Vec::from_array(alloc, [SUBSCRIBER; 33]).expect(rt, "subscribers");
     commands.extend_from_slice(last).expect(rt, "commands");

@@ -1,5 +1,4 @@
 //! Runs in which a publisher's handler answers at a full buffer.
-ghost use Rattle.iox2_runs.specs.Supported.{IsSupportedCommand};
 
 use crate::blocked_sends::service;
 use crate::runs::CREATE_SUBSCRIBER;
@@ -26,7 +25,6 @@ const STRATEGIES: [BackpressureStrategy; 2] = [
 // The command that makes a publisher with one loan of two elements at most, whose handler always
 // answers so.
 fn handled_publisher(strategy: BackpressureStrategy, action: BackpressureAction) -> Command<u64, u8>
-    ensures { IsSupportedCommand result }
 {
     Command::CreatePublisher {
         loans: 1,

@@ -1,6 +1,6 @@
 use iox2_laws::{fresh_is_well_formed, holds_at_most_worst_case, size_is_length};
 use iox2_runs::{
-    alike_states_stay_alike, calls_leave_others_views, every_list_runs, filling_is_supported,
+    alike_states_stay_alike, calls_leave_others_views, every_list_runs,
     loans_are_granted, reached_states_hold_at_most_worst_case, reads_give_what_was_sent,
     receives_in_order, runs_without_refusals_are_ample, samples_name_their_publisher,
     steps_keep_well_formed, steps_lift, subscribers_are_isolated,
@@ -35,5 +35,4 @@ fn laws_of_runs_stand_at_concrete_types() {
     runs_without_refusals_are_ample::<u64, u8>();
     subscribers_are_isolated_without_refusals::<u64, u8>();
     views_stay_alike_without_refusals::<u64, u8>();
-    filling_is_supported::<u64, u8>();
 }

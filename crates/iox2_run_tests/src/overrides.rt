@@ -1,5 +1,4 @@
 //! Runs in which a publisher's override says how many slots it has.
-ghost use Rattle.iox2_runs.specs.Supported.{IsSupportedCommand};
 
 use crate::blocked_sends::service;
 use crate::runs::CREATE_SUBSCRIBER;
@@ -16,7 +15,6 @@ use std::process::Abort;
 // The command that makes a publisher with three loans of two elements at most, whose override asks
 // for so many slots.
 fn overridden_publisher(slots: usize) -> Command<u64, u8>
-    ensures { IsSupportedCommand result }
 {
     Command::CreatePublisher {
         loans: 3,

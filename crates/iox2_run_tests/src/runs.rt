@@ -1,9 +1,7 @@
 ghost use Rattle.std.specs.Prelude.{IfOk, ℕ};
-ghost use Rattle.std.specs.List.{All};
 ghost use Rattle.iox2_commands.specs.Runs.{only_defaults};
 ghost use Rattle.iox2_domain.specs.Shows.{Shows};
 ghost use Rattle.iox2_runs.specs.DomainRuns.{RunsOnDomain};
-ghost use Rattle.iox2_runs.specs.Supported.{IsSupportedCommand};
 ghost use Rattle.iox2_store.specs.machine.State.{State, Messages};
 
 use crate::steps::{check, publisher_made, sample_of, subscriber_made};
@@ -23,7 +21,6 @@ pub(crate) const CREATE_SUBSCRIBER: Command<u64, u8> = Command::CreateSubscriber
 
 /// The command that makes a publisher with so many loans.
 pub(crate) fn create_publisher(loans: usize) -> Command<u64, u8>
-    ensures { IsSupportedCommand result }
 {
     Command::CreatePublisher {
         loans,
@@ -42,7 +39,6 @@ pub(crate) fn replies_to_numbers(
     domain: &mut Domain<u64, u8>,
     commands: Vec<Command<u64, u8>>,
 ) -> Result<Vec<Reply<u64, u8>>, Vec<Command<u64, u8>>>
-    requires { All IsSupportedCommand commands.items }
     ensures { IfOk result (λ replies. (m : Messages ℕ ℕ) (s : State ℕ ℕ) → Shows domain.old m s → RunsOnDomain (only_defaults 0 0) domain.new m s commands.items replies.items) }
 {
     let replies = run(alloc, domain, commands)?;
@@ -55,7 +51,6 @@ fn replies_without_headers(
     domain: &mut Domain<u64, ()>,
     commands: Vec<Command<u64, ()>>,
 ) -> Result<Vec<Reply<u64, ()>>, Vec<Command<u64, ()>>>
-    requires { All IsSupportedCommand commands.items }
     ensures { IfOk result (λ replies. (m : Messages ℕ (Unit {0})) (s : State ℕ (Unit {0})) → Shows domain.old m s → RunsOnDomain (only_defaults 0 tt) domain.new m s commands.items replies.items) }
 {
     let replies = run(alloc, domain, commands)?;

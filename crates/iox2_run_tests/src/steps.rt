@@ -1,8 +1,4 @@
 //! Runs as lists of steps: each command beside the reply that it has to get.
-ghost use Rattle.std.specs.Prelude.{IfOk};
-ghost use Rattle.std.specs.List.{All};
-ghost use Rattle.iox2_runs.specs.Supported.{IsSupportedCommand};
-
 use crate::runs::replies_to_numbers;
 use iox2_pubsub::{Domain, Warning};
 use iox2_runs::{Command, Reply};
@@ -25,7 +21,6 @@ pub(crate) struct Told {
 
 /// The commands of a run on a new domain get their replies. Returns what the domain tells then.
 pub(crate) fn check(rt: &impl Abort, alloc: Global, config: ServiceConfig, steps: &[Step]) -> Told
-    requires { All (λ step. IsSupportedCommand step.0) steps.now }
 {
     let mut domain: Domain<u64, u8> = Domain::new(alloc, config).expect(rt, "a domain");
     let commands = commands_of(alloc, steps).expect(rt, "commands");
@@ -44,8 +39,6 @@ pub(crate) fn check(rt: &impl Abort, alloc: Global, config: ServiceConfig, steps
 
 // The commands of the steps.
 fn commands_of(alloc: Global, steps: &[Step]) -> Result<Vec<Command<u64, u8>>, AllocError>
-    requires { All (λ step. IsSupportedCommand step.0) steps.now }
-    ensures { IfOk result (λ commands. All IsSupportedCommand commands.items) }
 {
     let mut commands = Vec::new(alloc);
     for step in steps {
@@ -56,7 +49,6 @@ fn commands_of(alloc: Global, steps: &[Step]) -> Result<Vec<Command<u64, u8>>, A
 
 /// The command that tries a blocked send again, so many milliseconds after it was blocked.
 pub(crate) fn retry(of: usize, millis: u64) -> Command<u64, u8>
-    ensures { IsSupportedCommand result }
 {
     Command::Retry {
         of,
@@ -66,14 +58,12 @@ pub(crate) fn retry(of: usize, millis: u64) -> Command<u64, u8>
 
 /// The command that writes a cell of an unwritten loan.
 pub(crate) fn write_cell(of: usize, at: usize, value: u64) -> Command<u64, u8>
-    ensures { IsSupportedCommand result }
 {
     Command::WriteCell { of, at, value }
 }
 
 /// The command that changes a value of a written loan.
 pub(crate) fn set_payload(of: usize, at: usize, value: u64) -> Command<u64, u8>
-    ensures { IsSupportedCommand result }
 {
     Command::SetPayload { of, at, value }
 }

@@ -1,6 +1,6 @@
 use iox2_fixtures::settings;
 use iox2_pubsub::Domain;
-use iox2_runs::{Command, Reply, filling_is_supported, run, worst_case_commands};
+use iox2_runs::{Command, Reply, run, worst_case_commands};
 use iox2_store::{
     AllocationStrategy, BackpressureStrategy, DegradationAction, LoanError, ServiceConfig,
     TypeVariant, UniquePublisherId, UniqueSubscriberId, worst_case_slots,
@@ -135,7 +135,6 @@ fn replies_to_list(
     let Ok(mut domain) = Domain::<u64, u8>::new(alloc, *config) else {
         return None;
     };
-    filling_is_supported::<u64, u8>();
     let Ok(replies) = run(alloc, &mut domain, commands) else {
         return None;
     };

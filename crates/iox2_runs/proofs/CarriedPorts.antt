@@ -4,7 +4,7 @@ use Rattle.iox2_store.specs.machine.Limits.{buffer_limit}
 use Rattle.iox2_store.specs.machine.Records.{PublisherSettings, SubscriberSettings, Fixed, Environment}
 use Rattle.iox2_store.specs.machine.State.{State, Messages}
 use Rattle.iox2_store.specs.machine.Ports.{CreatePublisher, CreateSubscriber}
-use Rattle.iox2_store.specs.declared.allocation.AllocationStrategy.TheVariants.{Static}
+use Rattle.iox2_store.specs.declared.allocation.AllocationStrategy.{AllocationStrategy}
 use Rattle.iox2_store.specs.declared.backpressure.BackpressureAction.{BackpressureAction}
 use Rattle.iox2_store.specs.declared.backpressure.BackpressureStrategy.{BackpressureStrategy}
 use Rattle.iox2_store.specs.declared.degradation.DegradationAction.{DegradationAction}
@@ -37,47 +37,47 @@ abbrev pub given_for : (limit : ℕ) → Option ℕ → DegradationAction → Su
 given_for limit buffer degradation = record { buffer_size = elim buffer [ None ↦ limit | Some asked ↦ asked ]; degradation_handler = Fixed degradation }
 
 -- what the command says of a publisher
-abbrev pub settings_of : {T U : Type 0} → (loans : ℕ) → BackpressureStrategy → (len : ℕ) (asked : Option ℕ) → DegradationAction → Option BackpressureAction → State T U → PublisherSettings
-settings_of loans strategy len asked degradation backpressure s = publisher_settings (s.config).variant loans strategy Static len asked degradation backpressure
+abbrev pub settings_of : {T U : Type 0} → (loans : ℕ) → BackpressureStrategy → AllocationStrategy → (len : ℕ) (asked : Option ℕ) → DegradationAction → Option BackpressureAction → State T U → PublisherSettings
+settings_of loans strategy allocation len asked degradation backpressure s = publisher_settings (s.config).variant loans strategy allocation len asked degradation backpressure
 
 module _ {T U F G : Type 0} (old : Domain T U F G) where
   -- what a factory was told is what the command says, where messages are single values
-  pub fixed-settings : (loans : ℕ) (strategy : BackpressureStrategy) (len : ℕ) (asked : Option ℕ) (degradation : DegradationAction) (backpressure : Option BackpressureAction) (told : PublisherSettings)
-      → told ≡ static_publisher (record { max_loaned_samples = loans; strategy = strategy; degradation = mark.Fixed degradation; initial_max_slice_len = 1 }) (fixed_handler backpressure) → (old.config).variant ≡ FixedSize
-      → (m : Messages T U) (s : State T U) → Shows old m s → with_slots told asked ≡ settings_of loans strategy len asked degradation backpressure s
-  fixed-settings loans strategy len asked degradation backpressure told is variant = λ m s shown.
-      ap (λ (given : PublisherSettings). with_slots given asked) is ∙ ap (λ (v : TypeVariant). publisher_settings v loans strategy Static len asked degradation backpressure) (sym (ap (λ (t : State T U). (t.config).variant) shown.state ∙ variant))
+  pub fixed-settings : (loans : ℕ) (strategy : BackpressureStrategy) (allocation : AllocationStrategy) (len : ℕ) (asked : Option ℕ) (degradation : DegradationAction) (backpressure : Option BackpressureAction) (told : PublisherSettings)
+      → told ≡ record (static_publisher (record { max_loaned_samples = loans; strategy = strategy; degradation = mark.Fixed degradation; initial_max_slice_len = 1 }) (fixed_handler backpressure)) { allocation_strategy = allocation } → (old.config).variant ≡ FixedSize
+      → (m : Messages T U) (s : State T U) → Shows old m s → with_slots told asked ≡ settings_of loans strategy allocation len asked degradation backpressure s
+  fixed-settings loans strategy allocation len asked degradation backpressure told is variant = λ m s shown.
+      ap (λ (given : PublisherSettings). with_slots given asked) is ∙ ap (λ (v : TypeVariant). publisher_settings v loans strategy allocation len asked degradation backpressure) (sym (ap (λ (t : State T U). (t.config).variant) shown.state ∙ variant))
 
   -- and so where they are slices
-  pub slice-settings : (loans : ℕ) (strategy : BackpressureStrategy) (len : ℕ) (asked : Option ℕ) (degradation : DegradationAction) (backpressure : Option BackpressureAction) (told : PublisherSettings)
-      → told ≡ static_publisher (record { max_loaned_samples = loans; strategy = strategy; degradation = mark.Fixed degradation; initial_max_slice_len = len }) (fixed_handler backpressure) → (old.config).variant ≡ Dynamic
-      → (m : Messages T U) (s : State T U) → Shows old m s → with_slots told asked ≡ settings_of loans strategy len asked degradation backpressure s
-  slice-settings loans strategy len asked degradation backpressure told is variant = λ m s shown.
-      ap (λ (given : PublisherSettings). with_slots given asked) is ∙ ap (λ (v : TypeVariant). publisher_settings v loans strategy Static len asked degradation backpressure) (sym (ap (λ (t : State T U). (t.config).variant) shown.state ∙ variant))
+  pub slice-settings : (loans : ℕ) (strategy : BackpressureStrategy) (allocation : AllocationStrategy) (len : ℕ) (asked : Option ℕ) (degradation : DegradationAction) (backpressure : Option BackpressureAction) (told : PublisherSettings)
+      → told ≡ record (static_publisher (record { max_loaned_samples = loans; strategy = strategy; degradation = mark.Fixed degradation; initial_max_slice_len = len }) (fixed_handler backpressure)) { allocation_strategy = allocation } → (old.config).variant ≡ Dynamic
+      → (m : Messages T U) (s : State T U) → Shows old m s → with_slots told asked ≡ settings_of loans strategy allocation len asked degradation backpressure s
+  slice-settings loans strategy allocation len asked degradation backpressure told is variant = λ m s shown.
+      ap (λ (given : PublisherSettings). with_slots given asked) is ∙ ap (λ (v : TypeVariant). publisher_settings v loans strategy allocation len asked degradation backpressure) (sym (ap (λ (t : State T U). (t.config).variant) shown.state ∙ variant))
 
 module _ {T U F G : Type 0} (environment : Environment) (defaults : Defaults T U) (old new : Domain T U F G) (table : List Made) where
-  pub publisher_carried : (loans : ℕ) (strategy : BackpressureStrategy) (len : ℕ) (asked : Option ℕ) (degradation : DegradationAction) (backpressure : Option BackpressureAction) (h : PublisherHandle) (id : ℕ)
-      → ((m : Messages T U) (s : State T U) → Shows old m s → (s' : State T U) × Shows new m s' × ((h.id ≡ s.next_port) × CreatePublisher environment s (settings_of loans strategy len asked degradation backpressure s) s' None))
+  pub publisher_carried : (loans : ℕ) (strategy : BackpressureStrategy) (allocation : AllocationStrategy) (len : ℕ) (asked : Option ℕ) (degradation : DegradationAction) (backpressure : Option BackpressureAction) (h : PublisherHandle) (id : ℕ)
+      → ((m : Messages T U) (s : State T U) → Shows old m s → (s' : State T U) × Shows new m s' × ((h.id ≡ s.next_port) × CreatePublisher environment s (settings_of loans strategy allocation len asked degradation backpressure s) s' None))
       → h.service_id ≡ (new.config).service_id → id ≡ h.id
-      → Carries environment defaults old new table (PublisherCommand loans strategy Static len asked degradation backpressure) (PublisherMade id) table (MadePublisher h)
-  publisher_carried loans strategy len asked degradation backpressure h id creates service same = λ m s handles events shown w default_value default_header is_value is_header.
+      → Carries environment defaults old new table (PublisherCommand loans strategy allocation len asked degradation backpressure) (PublisherMade id) table (MadePublisher h)
+  publisher_carried loans strategy allocation len asked degradation backpressure h id creates service same = λ m s handles events shown w default_value default_header is_value is_header.
       let made = creates m s shown in
       let create = (made.2).1 in
-      let Arrives : (a b : ℕ) → Type 0 = λ a b. Comes environment defaults (Shows new) m s handles events (PublisherCommand loans strategy Static len asked degradation backpressure) (PublisherMade a)
+      let Arrives : (a b : ℕ) → Type 0 = λ a b. Comes environment defaults (Shows new) m s handles events (PublisherCommand loans strategy allocation len asked degradation backpressure) (PublisherMade a)
       (map entry_for table ++ Publisher_entry h.service_id b ∷ []) in
       subst (λ (a : ℕ). Arrives a h.id) (sym (made.2).0 ∙ sym same) (subst (Arrives s.next_port) (sym (made.2).0)
-      (publisher_comes environment defaults (Shows new) m s handles events (map entry_for table) w default_value default_header is_value is_header loans strategy Static len asked degradation backpressure
-      made.0 create (create_publisher_advances environment s (settings_of loans strategy len asked degradation backpressure s) made.0 None create).next_message made.1 h.service_id
+      (publisher_comes environment defaults (Shows new) m s handles events (map entry_for table) w default_value default_header is_value is_header loans strategy allocation len asked degradation backpressure
+      made.0 create (create_publisher_advances environment s (settings_of loans strategy allocation len asked degradation backpressure s) made.0 None create).next_message made.1 h.service_id
       (service ∙ sym (ap (λ (t : State T U). (t.config).service_id) (made.1).state))))
 
-  pub publisher_denied : (loans : ℕ) (strategy : BackpressureStrategy) (len : ℕ) (asked : Option ℕ) (degradation : DegradationAction) (backpressure : Option BackpressureAction) (e : PublisherCreateError)
-      → ((m : Messages T U) (s : State T U) → Shows old m s → (s' : State T U) × Shows new m s' × CreatePublisher environment s (settings_of loans strategy len asked degradation backpressure s) s' (Some e))
-      → Carries environment defaults old new table (PublisherCommand loans strategy Static len asked degradation backpressure) (PublisherRefused e) table Nothing
-  publisher_denied loans strategy len asked degradation backpressure e refuses = λ m s handles events shown w default_value default_header is_value is_header.
+  pub publisher_denied : (loans : ℕ) (strategy : BackpressureStrategy) (allocation : AllocationStrategy) (len : ℕ) (asked : Option ℕ) (degradation : DegradationAction) (backpressure : Option BackpressureAction) (e : PublisherCreateError)
+      → ((m : Messages T U) (s : State T U) → Shows old m s → (s' : State T U) × Shows new m s' × CreatePublisher environment s (settings_of loans strategy allocation len asked degradation backpressure s) s' (Some e))
+      → Carries environment defaults old new table (PublisherCommand loans strategy allocation len asked degradation backpressure) (PublisherRefused e) table Nothing
+  publisher_denied loans strategy allocation len asked degradation backpressure e refuses = λ m s handles events shown w default_value default_header is_value is_header.
       let refused = refuses m s shown in
       let create = refused.2 in
-      publisher_refused_comes environment defaults (Shows new) m s handles events (map entry_for table) w default_value default_header is_value is_header loans strategy Static len asked degradation backpressure
-      refused.0 e create (create_publisher_advances environment s (settings_of loans strategy len asked degradation backpressure s) refused.0 (Some e) create).next_message refused.1
+      publisher_refused_comes environment defaults (Shows new) m s handles events (map entry_for table) w default_value default_header is_value is_header loans strategy allocation len asked degradation backpressure
+      refused.0 e create (create_publisher_advances environment s (settings_of loans strategy allocation len asked degradation backpressure s) refused.0 (Some e) create).next_message refused.1
 
   pub subscriber_carried : (buffer : Option ℕ) (degradation : DegradationAction) (given : SubscriberSettings) → given ≡ given_for (buffer_limit old.config) buffer degradation
       → (h : SubscriberHandle) (id : ℕ)

@@ -18,7 +18,6 @@ pub mod CarriedUpdates
 pub mod LeavingSteps
 pub mod CarriedCloses
 pub mod ComparedRuns
-pub mod FillingSupported
 pub mod TableCopies
 pub mod TablePassed
 pub mod TableBlocked

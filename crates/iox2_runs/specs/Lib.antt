@@ -1,5 +1,4 @@
 pub mod Tables
-pub mod Supported
 pub mod RunSteps
 pub mod Rooms
 pub mod SendReplies

@@ -1,10 +1,8 @@
 //! Two runs, each on a domain of its own.
 ghost use Rattle.std.specs.Prelude.{IfSome};
-ghost use Rattle.std.specs.List.{All};
 ghost use Rattle.iox2_commands.specs.OneDefault.{HasOneDefault};
 ghost use Rattle.iox2_runs.specs.Carries.{defaults_of};
 ghost use Rattle.iox2_runs.specs.Compared.{RanAfresh, AreCompared};
-ghost use Rattle.iox2_runs.specs.Supported.{IsSupportedCommand};
 
 use crate::runs::run;
 use iox2_commands::{Command, Reply};
@@ -19,8 +17,8 @@ use std::alloc::Global;
 /// receives, questions and updates, and what releases or reads their samples, with `Nothing` in
 /// place of each. Then that subscriber isn't felt to be slower or faster: if its own receives get
 /// the same replies in both runs, it sees the same after each number of commands in both, and reads
-/// of its samples get the same replies. So it is where each publisher has as many slots as
-/// `worst_case_slots` says and never waits for a receiver, each other subscriber that is closed has
+/// of its samples get the same replies. So it is where no publisher's memory is to grow, and each has
+/// as many slots as `worst_case_slots` says and never waits for a receiver, each other subscriber that is closed has
 /// released all its samples before, in both runs, and neither run was refused memory: no port was
 /// refused for want of it, and `refused_connections` of both domains is 0.
 ///
@@ -41,8 +39,6 @@ pub fn compare_runs<
         (Domain<T, U, F, G>, Vec<Reply<T, U>>),
     ),
 >
-    requires supported { All IsSupportedCommand commands.items }
-    requires supported_reduced { All IsSupportedCommand reduced.items }
     ensures { IfSome result (λ ends. HasOneDefault (defaults_of T.is_default U.is_default)
         → (default_value : T) (default_header : U) → T.is_default default_value → U.is_default default_header
         → AreCompared default_value default_header config.now commands.items reduced.items ends.0.0 ends.0.1.items ends.1.0 ends.1.1.items) }
@@ -63,7 +59,6 @@ fn run_afresh<
     config: &ServiceConfig,
     commands: Vec<Command<T, U>>,
 ) -> Option<(Domain<T, U, F, G>, Vec<Reply<T, U>>)>
-    requires supported { All IsSupportedCommand commands.items }
     ensures { IfSome result (λ end. RanAfresh (defaults_of T.is_default U.is_default) config.now commands.items end.0 end.1.items) }
 {
     let Ok(mut domain) = Domain::with_handlers(alloc, *config) else {

@@ -2,7 +2,6 @@
 #![tactic(auto)]
 
 mod compare;
-mod laws;
 mod runs;
 
 pub use compare::compare_runs;
@@ -15,5 +14,4 @@ pub use iox2_commands::{
     worst_case_of_slots_grants,
 };
 pub use iox2_worst_case::{worst_case_commands, worst_case_is_least, worst_case_is_reached};
-pub use laws::filling_is_supported;
 pub use runs::run;

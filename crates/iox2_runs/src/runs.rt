@@ -1,6 +1,5 @@
 //! Runs of commands on a domain.
 ghost use Rattle.std.specs.Prelude.{◌≡◌, List, IfOk, IfErr};
-ghost use Rattle.std.specs.List.{All};
 ghost use Rattle.iox2_store.specs.machine.Environments.{fixed_handlers};
 ghost use Rattle.iox2_store.specs.machine.State.{State, Messages};
 ghost use Rattle.iox2_domain.specs.Shows.{Shows};
@@ -13,7 +12,6 @@ ghost use Rattle.iox2_commands.specs.Points.{GrantsLoans};
 ghost use Rattle.iox2_commands.specs.RunLaws.{IsFaithful};
 ghost use Rattle.iox2_commands.specs.Runs.{Run, only_defaults};
 ghost use Rattle.iox2_runs.specs.DomainRuns.{RunsOnDomain};
-ghost use Rattle.iox2_runs.specs.Supported.{IsSupportedCommand};
 ghost use Rattle.iox2_runs.specs.declared.runs.made.Made.TheVariants.{Nothing};
 
 mod blocked_sends;
@@ -67,24 +65,24 @@ fn carry_out<
     table: &mut Vec<Made>,
     command: Command<T, U>,
 ) -> (Reply<T, U>, Made)
-    requires supported { IsSupportedCommand command }
-    requires keeps { IsLiveTable domain.old table.old.items }
+    requires { IsLiveTable domain.old table.old.items }
     ensures { CarriesOut fixed_handlers (defaults_of T.is_default U.is_default) domain.old domain.new table.old table.new command result.0 result.1 }
 {
     match command {
         Command::CreatePublisher {
             loans,
             strategy,
+            allocation,
             initial_max_slice_len,
             override_slots,
             degradation,
             backpressure,
-            ..
         } => ports::create_publisher(
             domain,
             table,
             loans,
             strategy,
+            allocation,
             initial_max_slice_len,
             override_slots,
             degradation,
@@ -154,15 +152,13 @@ fn carry_out<
 /// is taken first. Where it is refused the commands are handed back, and none was carried out.
 ///
 /// A publisher follows its strategy at a full buffer, or the backpressure handler that its command
-/// names. So far a publisher has one segment, with as many slots as it needs or as its command asks
-/// for. The domain may have messages of either variant: those of `FixedSize` are single values, those
+/// names. It has as many slots in a segment as it needs, or as its command asks for. The domain may have messages of either variant: those of `FixedSize` are single values, those
 /// of `Dynamic` slices.
 pub fn run<T: Copy + Default + Drop, U: Copy + Default + Drop, F: BackpressureFn, G: DegradationFn>(
     alloc: Global,
     domain: &mut Domain<T, U, F, G>,
     commands: Vec<Command<T, U>>,
 ) -> Result<Vec<Reply<T, U>>, Vec<Command<T, U>>>
-    requires supported { All IsSupportedCommand commands.items }
     ensures ran { IfOk result (λ replies. (m : Messages T U) (s : State T U) → Shows domain.old m s
         → (events : List (Event T U)) × (m' : Messages T U) × (s' : State T U) × Shows domain.new m' s'
         × Run fixed_handlers (defaults_of T.is_default U.is_default) m s commands.items replies.items events m' s'

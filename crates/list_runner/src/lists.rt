@@ -1,12 +1,8 @@
 //! Runs of the list that fills every slot.
-ghost use Rattle.std.specs.Prelude.{IfOk};
-ghost use Rattle.std.specs.List.{All};
-ghost use Rattle.iox2_runs.specs.Supported.{IsSupportedCommand};
-
 use crate::failure::Failure;
 use crate::sizes::Sizes;
 use iox2_pubsub::{Domain, worst_case_slots};
-use iox2_runs::{Command, Reply, compare_runs, filling_is_supported, run, worst_case_commands};
+use iox2_runs::{Command, Reply, compare_runs, run, worst_case_commands};
 use std::alloc::Global;
 use std::io;
 
@@ -14,9 +10,7 @@ type End = (Domain<u64, ()>, Vec<Reply<u64, ()>>);
 
 // The list, in which each message is 0.
 fn filling(alloc: Global, sizes: &Sizes) -> Result<Vec<Command<u64, ()>>, Failure>
-    ensures { IfOk result (λ commands. All IsSupportedCommand commands.items) }
 {
-    filling_is_supported::<u64, ()>();
     worst_case_commands(alloc, &sizes.config, sizes.loans, 0, None).ok_or(Failure::TooLong)
 }
 
@@ -73,7 +67,6 @@ fn outcome_of(
     sizes: &Sizes,
     commands: Vec<Command<u64, ()>>,
 ) -> Result<(Vec<Reply<u64, ()>>, u64), Failure>
-    requires { All IsSupportedCommand commands.items }
 {
     let Ok(mut domain) = Domain::<u64, ()>::new(alloc, sizes.config) else {
         return Err(Failure::OutOfMemory);

@@ -2,7 +2,6 @@
 use crate::chance::Chance;
 use crate::moods::Wish;
 use crate::positions::{any, live, live_or_any};
-use crate::words::is_word;
 use iox2_commands::Command;
 use iox2_model::{Kind, Model};
 use iox2_store::{
@@ -11,23 +10,8 @@ use iox2_store::{
 };
 use std::time::Duration;
 
-// A command that does what is wished, where it is a word that exists.
-pub(crate) fn draw_word(
-    chance: &mut Chance,
-    model: &Model,
-    config: &ServiceConfig,
-    wish: Wish,
-) -> Command<u64, u64> {
-    for _ in 0..16 {
-        let command = draw_command(chance, model, config, wish);
-        if is_word(&command) {
-            return command;
-        }
-    }
-    Command::Nothing
-}
-
-fn draw_command(
+// A command that does what is wished.
+pub(crate) fn draw_command(
     chance: &mut Chance,
     model: &Model,
     config: &ServiceConfig,

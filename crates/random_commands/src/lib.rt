@@ -10,9 +10,7 @@ mod moods;
 mod positions;
 mod scripts;
 mod sizes;
-mod words;
 
 pub use fewer::without;
 pub use lines::script_text;
 pub use scripts::{Script, draw_script};
-pub use words::is_word;

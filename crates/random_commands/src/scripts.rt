@@ -1,6 +1,6 @@
 //! Whole scripts.
 use crate::chance::Chance;
-use crate::commands::draw_word;
+use crate::commands::draw_command;
 use crate::moods::{Mood, draw_mood, draw_wish};
 use crate::sizes::draw_config;
 use iox2_commands::Command;
@@ -46,7 +46,7 @@ fn draw_commands(
             mood = draw_mood(chance);
         }
         let wish = draw_wish(chance, mood);
-        let command = draw_word(chance, &model, config, wish);
+        let command = draw_command(chance, &model, config, wish);
         commands.push(command)?;
         match model.carry_out(command, None) {
             Ok(_) => {}

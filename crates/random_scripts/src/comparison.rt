@@ -1,29 +1,10 @@
 //! The replies of a run, and what the model says of them.
-ghost use Rattle.std.specs.Prelude.{IfOk};
-ghost use Rattle.std.specs.List.{All};
-ghost use Rattle.iox2_runs.specs.Supported.{IsSupportedCommand};
-
 use crate::difference::Difference;
 use crate::failure::Failure;
 use iox2_model::{Memory, Model, ModelError};
 use iox2_pubsub::{Domain, ServiceConfig};
 use iox2_runs::{Command, Reply, run};
-use random_commands::is_word;
 use std::alloc::Global;
-
-// The commands, where each is a word that exists.
-fn words(alloc: Global, commands: &[Command<u64, u64>]) -> Result<Vec<Command<u64, u64>>, Failure>
-    ensures { IfOk result (λ words. All IsSupportedCommand words.items) }
-{
-    let mut words = Vec::with_capacity(alloc, commands.len())?;
-    for command in commands {
-        if !is_word(command) {
-            return Err(Failure::NoWord);
-        }
-        words.push(*command)?;
-    }
-    Ok(words)
-}
 
 /// What became of the commands of a script.
 #[derive(Drop)]
@@ -39,11 +20,11 @@ pub(crate) fn carry_out_all(
     config: ServiceConfig,
     commands: &[Command<u64, u64>],
 ) -> Result<Ran, Failure> {
-    let words = words(alloc, commands)?;
+    let list = Vec::from_slice(alloc, commands)?;
     let Ok(mut domain) = Domain::<u64, u64>::new(alloc, config) else {
         return Err(Failure::OutOfMemory);
     };
-    match run(alloc, &mut domain, words) {
+    match run(alloc, &mut domain, list) {
         Ok(replies) => Ok(Ran {
             replies,
             refused_connections: domain.refused_connections(),

@@ -16,8 +16,6 @@ pub(crate) enum Failure {
     NoKind,
     /// The model has no rule for a command.
     NoRule,
-    /// A script has a word that `run` doesn't carry out.
-    NoWord,
     /// `run` hands back other commands than it was given.
     OtherCommands,
     /// Memory is refused.
@@ -38,7 +36,6 @@ impl Failure {
             Failure::NoKind =>
                 "a reply is of a kind that crates/random_scripts/src/tally.rt doesn't count: it has to be added there",
             Failure::NoRule => "the model has no rule for a command",
-            Failure::NoWord => "a script has a word that isn't carried out yet",
             Failure::OtherCommands => "run handed back other commands than it was given",
             Failure::OutOfMemory => "out of memory",
             Failure::InputOutput => "arguments or output failed",
@@ -52,7 +49,7 @@ impl Failure {
             Failure::Usage => 2,
             Failure::OutOfMemory => 3,
             Failure::InputOutput => 4,
-            Failure::NoRule | Failure::NoWord => 5,
+            Failure::NoRule => 5,
         }
     }
 }

@@ -1,3 +1,2 @@
 pub mod Endings
-pub mod SupportedCommands
 pub mod Writing

@@ -16,7 +16,7 @@ ghost use Rattle.iox2_c.specs.Steps.{ClosesPublisher, CreatesPublisher, Lends};
 use crate::config::strategy_of;
 use crate::handlers::NoHandler;
 use crate::numbers::{LoanNumbers, PublisherNumbers};
-use crate::options::{PublisherOptions, degradation_of};
+use crate::options::{PublisherOptions, allocation_of, degradation_of};
 use crate::service::{BytesDomain, Service};
 use crate::starts::start_to_write;
 use crate::status::{
@@ -68,7 +68,7 @@ fn tell(made: Result<Publisher, PublisherCreateError>, out: &mut PublisherNumber
     }
 }
 
-// A factory of publishers with these options, which have the worst case of slots.
+// A factory of publishers with these options, which have the worst case of slots in a segment.
 fn factory_with(service: &Service, options: &PublisherOptions) -> Factory
     ensures { result.settings ≡ unasked_settings (service.now.domain).config options.now }
 {
@@ -76,6 +76,7 @@ fn factory_with(service: &Service, options: &PublisherOptions) -> Factory
         .domain
         .slice_publisher_builder()
         .max_loaned_samples(options.max_loaned_samples)
+        .allocation_strategy(allocation_of(options.allocation_strategy))
         .initial_max_slice_len(options.initial_max_slice_len)
         .backpressure_strategy(strategy_of(options.backpressure_strategy))
         .set_degradation_handler(degradation_of(options.degradation));

@@ -1,7 +1,6 @@
 //! Commands that make ports.
 ghost use Rattle.std.specs.declared.option.Option.TheVariants.{None};
 ghost use Rattle.iox2_store.specs.machine.Environments.{fixed_handlers};
-ghost use Rattle.iox2_store.specs.declared.allocation.AllocationStrategy.TheVariants.{Static};
 ghost use Rattle.iox2_runs.specs.Leaves.{Leaves};
 ghost use Rattle.iox2_runs.specs.Carries.{IsLiveTable, Carries, defaults_of};
 ghost use Rattle.iox2_commands.specs.declared.command.Command.TheVariants.{CreatePublisher, CreateSubscriber};
@@ -11,11 +10,12 @@ use super::publishers::make_publisher;
 use iox2_commands::Reply;
 use iox2_pubsub::{DegradationHandler, Domain};
 use iox2_store::{
-    BackpressureAction, BackpressureFn, BackpressureStrategy, DegradationAction, DegradationFn,
+    AllocationStrategy, BackpressureAction, BackpressureFn, BackpressureStrategy,
+    DegradationAction, DegradationFn,
 };
 
-/// Makes a publisher with so many loans, with that strategy, for slices up to that length, with an
-/// override that asks for so many slots where there is one, with that answer to a refused connection,
+/// Makes a publisher with so many loans, with that strategy, with memory that grows so and is for
+/// slices up to that length at first, with an override that asks for so many slots where there is one, with that answer to a refused connection,
 /// and with a handler that answers so where there is one, and returns it too.
 pub(crate) fn create_publisher<
     T: Default + Drop,
@@ -27,6 +27,7 @@ pub(crate) fn create_publisher<
     table: &[Made],
     loans: usize,
     strategy: BackpressureStrategy,
+    allocation: AllocationStrategy,
     len: usize,
     asked_slots: Option<usize>,
     degradation: DegradationAction,
@@ -34,13 +35,14 @@ pub(crate) fn create_publisher<
 ) -> (Reply<T, U>, Made)
     requires { IsLiveTable domain.old table.now }
     ensures carries { Carries fixed_handlers (defaults_of T.is_default U.is_default) domain.old domain.new table.now
-        (CreatePublisher loans strategy Static len asked_slots degradation backpressure) result.0 table.now result.1 }
+        (CreatePublisher loans strategy allocation len asked_slots degradation backpressure) result.0 table.now result.1 }
     ensures leaves { Leaves domain.old domain.new table.now table.now result.1 }
 {
     match make_publisher(
         domain,
         loans,
         strategy,
+        allocation,
         len,
         asked_slots,
         degradation,

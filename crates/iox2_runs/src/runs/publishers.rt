@@ -4,7 +4,6 @@ ghost use Rattle.std.specs.declared.option.Option.TheVariants.{None, Some};
 ghost use Rattle.iox2_store.specs.machine.Environments.{fixed_handlers};
 ghost use Rattle.iox2_store.specs.machine.Ports.{CreatePublisher};
 ghost use Rattle.iox2_store.specs.machine.State.{State, Messages};
-ghost use Rattle.iox2_store.specs.declared.allocation.AllocationStrategy.TheVariants.{Static};
 ghost use Rattle.iox2_domain.specs.Boxes.{answers_of};
 ghost use Rattle.iox2_domain.specs.Handlers.{fixed_handler};
 ghost use Rattle.iox2_domain.specs.NewPublisher.{static_publisher};
@@ -21,22 +20,24 @@ use iox2_store::{
     BackpressureStrategy, DegradationAction, DegradationFn, PublisherCreateError, TypeVariant,
 };
 
-// A factory of publishers of single values, with so many loans and that answer to a refused
-// connection, which follow the strategy, or the handler with that answer where there is one.
+// A factory of publishers of single values, with so many loans, memory that grows so and that answer
+// to a refused connection, which follow the strategy, or the handler with that answer where there is
+// one.
 fn value_factory<T: Drop, U: Default + Drop, F: BackpressureFn, G: DegradationFn>(
     domain: &Domain<T, U, F, G>,
     loans: usize,
     strategy: BackpressureStrategy,
+    allocation: AllocationStrategy,
     degradation: DegradationAction,
     backpressure: Option<BackpressureAction>,
 ) -> PortFactoryPublisher<F, G>
-    ensures { result.settings ≡ static_publisher (record { max_loaned_samples = loans; strategy = strategy; degradation = Fixed degradation; initial_max_slice_len = 1 }) (fixed_handler backpressure) }
+    ensures { result.settings ≡ record (static_publisher (record { max_loaned_samples = loans; strategy = strategy; degradation = Fixed degradation; initial_max_slice_len = 1 }) (fixed_handler backpressure)) { allocation_strategy = allocation } }
 {
     let factory = domain
         .publisher_builder()
         .max_loaned_samples(loans)
         .backpressure_strategy(strategy)
-        .allocation_strategy(AllocationStrategy::Static)
+        .allocation_strategy(allocation)
         .set_degradation_handler(DegradationHandler::Fixed(degradation));
     match backpressure {
         Some(action) => factory.set_backpressure_handler(BackpressureHandler::Fixed(action)),
@@ -44,22 +45,23 @@ fn value_factory<T: Drop, U: Default + Drop, F: BackpressureFn, G: DegradationFn
     }
 }
 
-// The same for publishers of slices, each of whose loans may have so many elements.
+// The same for publishers of slices, whose first slots have room for so many elements.
 fn slice_factory<T: Drop, U: Default + Drop, F: BackpressureFn, G: DegradationFn>(
     domain: &Domain<T, U, F, G>,
     loans: usize,
     strategy: BackpressureStrategy,
+    allocation: AllocationStrategy,
     len: usize,
     degradation: DegradationAction,
     backpressure: Option<BackpressureAction>,
 ) -> slice::PortFactoryPublisher<F, G>
-    ensures { result.settings ≡ static_publisher (record { max_loaned_samples = loans; strategy = strategy; degradation = Fixed degradation; initial_max_slice_len = len }) (fixed_handler backpressure) }
+    ensures { result.settings ≡ record (static_publisher (record { max_loaned_samples = loans; strategy = strategy; degradation = Fixed degradation; initial_max_slice_len = len }) (fixed_handler backpressure)) { allocation_strategy = allocation } }
 {
     let factory = domain
         .slice_publisher_builder()
         .max_loaned_samples(loans)
         .backpressure_strategy(strategy)
-        .allocation_strategy(AllocationStrategy::Static)
+        .allocation_strategy(allocation)
         .initial_max_slice_len(len)
         .set_degradation_handler(DegradationHandler::Fixed(degradation));
     match backpressure {
@@ -165,14 +167,15 @@ fn create_slices<T: Drop, U: Default + Drop, F: BackpressureFn, G: DegradationFn
     }
 }
 
-/// Makes a publisher with so many loans, with an override that asks for so many slots where there is
-/// one, and with that answer to a refused connection, which follows the strategy, or the handler with
-/// that answer where there is one. Where messages are slices, each of its loans may have so many
-/// elements.
+/// Makes a publisher with so many loans and memory that grows so, with an override that asks for so
+/// many slots where there is one, and with that answer to a refused connection, which follows the
+/// strategy, or the handler with that answer where there is one. Where messages are slices, its first
+/// slots have room for so many elements.
 pub(crate) fn make_publisher<T: Drop, U: Default + Drop, F: BackpressureFn, G: DegradationFn>(
     domain: &mut Domain<T, U, F, G>,
     loans: usize,
     strategy: BackpressureStrategy,
+    allocation: AllocationStrategy,
     len: usize,
     asked_slots: Option<usize>,
     degradation: DegradationAction,
@@ -181,19 +184,27 @@ pub(crate) fn make_publisher<T: Drop, U: Default + Drop, F: BackpressureFn, G: D
     ensures creates { (m : Messages T U) (s : State T U) → Shows domain.old m s → (s' : State T U) × Shows domain.new m s'
         × MatchResult result
         (λ publisher. (publisher.id ≡ s.next_port)
-        × CreatePublisher fixed_handlers s (publisher_settings (s.config).variant loans strategy Static len asked_slots degradation backpressure) s' None)
-        (λ e. CreatePublisher fixed_handlers s (publisher_settings (s.config).variant loans strategy Static len asked_slots degradation backpressure) s' (Some e)) }
+        × CreatePublisher fixed_handlers s (publisher_settings (s.config).variant loans strategy allocation len asked_slots degradation backpressure) s' None)
+        (λ e. CreatePublisher fixed_handlers s (publisher_settings (s.config).variant loans strategy allocation len asked_slots degradation backpressure) s' (Some e)) }
     ensures ready { IfOk result (λ publisher. IsReadyPublisher domain.new publisher) }
     ensures new { IfOk result (λ publisher. IsNewIn domain.old (publisher_port publisher)) }
     ensures stays { Stays domain.old domain.new }
 {
     match domain.variant() {
         TypeVariant::FixedSize => {
-            let factory = value_factory(domain, loans, strategy, degradation, backpressure);
+            let factory = value_factory(domain, loans, strategy, allocation, degradation, backpressure);
             create_values(domain, factory, asked_slots)
         }
         TypeVariant::Dynamic => {
-            let factory = slice_factory(domain, loans, strategy, len, degradation, backpressure);
+            let factory = slice_factory(
+                domain,
+                loans,
+                strategy,
+                allocation,
+                len,
+                degradation,
+                backpressure,
+            );
             let publisher = create_slices(domain, factory, asked_slots)?;
             Ok(publisher.into_inner())
         }

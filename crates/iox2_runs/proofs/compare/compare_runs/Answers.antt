@@ -4,6 +4,6 @@ use Rattle.iox2_runs.proofs.compare.compare_runs.Goals as goal
 pub returns : goal.returns
 returns g c = λ one_default default_value default_header is_value is_header.
     compared {T = g.row.T.Denot} {U = g.row.U.Denot} default_value default_header c.args.config.now c.args.commands.items c.args.reduced.items
-    c.in_ok-first.first.0 c.in_ok-first.first.1.items c.in_ok-second.second.0 c.in_ok-second.second.1.items c.requires.supported c.requires.supported_reduced
+    c.in_ok-first.first.0 c.in_ok-first.first.1.items c.in_ok-second.second.0 c.in_ok-second.second.1.items
     (c.in_ok-first.ensures one_default default_value default_header is_value is_header)
     (c.in_ok-second.ensures one_default default_value default_header is_value is_header)

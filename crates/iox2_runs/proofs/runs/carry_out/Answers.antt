@@ -7,17 +7,17 @@ use Rattle.iox2_runs.proofs.LeavingSteps.{leaves-all}
 use Rattle.iox2_runs.proofs.runs.carry_out.Goals as goal
 
 pub create_publisher-requires : goal.create_publisher-requires
-create_publisher-requires g c = rw c.deref.ensures.value c.requires.keeps
+create_publisher-requires g c = rw c.deref.ensures.value c.requires
 
 pub returns-in-CreatePublisher : goal.returns-in-CreatePublisher
 returns-in-CreatePublisher g c = record {
-  carries = let told = rw c.in-CreatePublisher.is at c.requires.supported in rw (c.in-CreatePublisher.is, told, sym c.deref.ensures.value) c.create_publisher.ensures.carries;
+  carries = rw (c.in-CreatePublisher.is, sym c.deref.ensures.value) c.create_publisher.ensures.carries;
   leaves = rw (sym c.deref.ensures.value) c.create_publisher.ensures.leaves;
   room = record { len = refl; capacity = refl };
 }
 
 pub create_subscriber-requires : goal.create_subscriber-requires
-create_subscriber-requires g c = rw c.deref-in-CreateSubscriber.ensures.value c.requires.keeps
+create_subscriber-requires g c = rw c.deref-in-CreateSubscriber.ensures.value c.requires
 
 pub returns-in-CreateSubscriber : goal.returns-in-CreateSubscriber
 returns-in-CreateSubscriber g c = record {
@@ -27,7 +27,7 @@ returns-in-CreateSubscriber g c = record {
 }
 
 pub loan_uninit-requires : goal.loan_uninit-requires
-loan_uninit-requires g c = rw c.deref-in-LoanUninit.ensures.value c.requires.keeps
+loan_uninit-requires g c = rw c.deref-in-LoanUninit.ensures.value c.requires
 
 pub returns-in-LoanUninit : goal.returns-in-LoanUninit
 returns-in-LoanUninit g c = record {
@@ -37,7 +37,7 @@ returns-in-LoanUninit g c = record {
 }
 
 pub loan-requires : goal.loan-requires
-loan-requires g c = rw c.deref-in-Loan.ensures.value c.requires.keeps
+loan-requires g c = rw c.deref-in-Loan.ensures.value c.requires
 
 pub returns-in-Loan : goal.returns-in-Loan
 returns-in-Loan g c = record {
@@ -47,7 +47,7 @@ returns-in-Loan g c = record {
 }
 
 pub loan_slice-requires : goal.loan_slice-requires
-loan_slice-requires g c = c.requires.keeps
+loan_slice-requires g c = c.requires
 
 pub returns-in-LoanSlice : goal.returns-in-LoanSlice
 returns-in-LoanSlice g c = record {
@@ -57,7 +57,7 @@ returns-in-LoanSlice g c = record {
 }
 
 pub write_cell-requires : goal.write_cell-requires
-write_cell-requires g c = c.requires.keeps
+write_cell-requires g c = c.requires
 
 pub returns-in-WriteCell : goal.returns-in-WriteCell
 returns-in-WriteCell g c = record {
@@ -67,7 +67,7 @@ returns-in-WriteCell g c = record {
 }
 
 pub write_all-requires : goal.write_all-requires
-write_all-requires g c = c.requires.keeps
+write_all-requires g c = c.requires
 
 pub returns-in-WriteAll : goal.returns-in-WriteAll
 returns-in-WriteAll g c = record {
@@ -77,7 +77,7 @@ returns-in-WriteAll g c = record {
 }
 
 pub assume_init-requires : goal.assume_init-requires
-assume_init-requires g c = c.requires.keeps
+assume_init-requires g c = c.requires
 
 pub returns-in-AssumeInit : goal.returns-in-AssumeInit
 returns-in-AssumeInit g c = record {
@@ -87,7 +87,7 @@ returns-in-AssumeInit g c = record {
 }
 
 pub write_header-requires : goal.write_header-requires
-write_header-requires g c = c.requires.keeps
+write_header-requires g c = c.requires
 
 pub returns-in-WriteHeader : goal.returns-in-WriteHeader
 returns-in-WriteHeader g c = record {
@@ -97,7 +97,7 @@ returns-in-WriteHeader g c = record {
 }
 
 pub set_payload-requires : goal.set_payload-requires
-set_payload-requires g c = c.requires.keeps
+set_payload-requires g c = c.requires
 
 pub returns-in-SetPayload : goal.returns-in-SetPayload
 returns-in-SetPayload g c = record {
@@ -107,7 +107,7 @@ returns-in-SetPayload g c = record {
 }
 
 pub send-requires : goal.send-requires
-send-requires g c = c.requires.keeps
+send-requires g c = c.requires
 
 pub returns-in-Send : goal.returns-in-Send
 returns-in-Send g c = record {
@@ -117,7 +117,7 @@ returns-in-Send g c = record {
 }
 
 pub send_copy-requires : goal.send_copy-requires
-send_copy-requires g c = rw c.deref-in-SendCopy.ensures.value c.requires.keeps
+send_copy-requires g c = rw c.deref-in-SendCopy.ensures.value c.requires
 
 pub returns-in-SendCopy : goal.returns-in-SendCopy
 returns-in-SendCopy g c = record {
@@ -127,7 +127,7 @@ returns-in-SendCopy g c = record {
 }
 
 pub discard-requires : goal.discard-requires
-discard-requires g c = c.requires.keeps
+discard-requires g c = c.requires
 
 pub returns-in-Discard : goal.returns-in-Discard
 returns-in-Discard g c = record {
@@ -137,7 +137,7 @@ returns-in-Discard g c = record {
 }
 
 pub retry-requires : goal.retry-requires
-retry-requires g c = c.requires.keeps
+retry-requires g c = c.requires
 
 pub returns-in-Retry : goal.returns-in-Retry
 returns-in-Retry g c = record {
@@ -147,7 +147,7 @@ returns-in-Retry g c = record {
 }
 
 pub give_up-requires : goal.give_up-requires
-give_up-requires g c = c.requires.keeps
+give_up-requires g c = c.requires
 
 pub returns-in-GiveUp : goal.returns-in-GiveUp
 returns-in-GiveUp g c = record {
@@ -157,7 +157,7 @@ returns-in-GiveUp g c = record {
 }
 
 pub update-requires : goal.update-requires
-update-requires g c = rw c.deref-in-Update.ensures.value c.requires.keeps
+update-requires g c = rw c.deref-in-Update.ensures.value c.requires
 
 pub returns-in-Update : goal.returns-in-Update
 returns-in-Update g c = record {
@@ -167,7 +167,7 @@ returns-in-Update g c = record {
 }
 
 pub receive-requires : goal.receive-requires
-receive-requires g c = rw c.deref-in-Receive.ensures.value c.requires.keeps
+receive-requires g c = rw c.deref-in-Receive.ensures.value c.requires
 
 pub returns-in-Receive : goal.returns-in-Receive
 returns-in-Receive g c = record {
@@ -177,7 +177,7 @@ returns-in-Receive g c = record {
 }
 
 pub has_samples-requires : goal.has_samples-requires
-has_samples-requires g c = rw c.deref-in-HasSamples.ensures.value c.requires.keeps
+has_samples-requires g c = rw c.deref-in-HasSamples.ensures.value c.requires
 
 pub returns-in-HasSamples : goal.returns-in-HasSamples
 returns-in-HasSamples g c = record {
@@ -187,7 +187,7 @@ returns-in-HasSamples g c = record {
 }
 
 pub read-requires : goal.read-requires
-read-requires g c = c.requires.keeps
+read-requires g c = c.requires
 
 pub returns-in-Read : goal.returns-in-Read
 returns-in-Read g c = record {
@@ -197,7 +197,7 @@ returns-in-Read g c = record {
 }
 
 pub read_header-requires : goal.read_header-requires
-read_header-requires g c = rw c.deref-in-ReadHeader.ensures.value c.requires.keeps
+read_header-requires g c = rw c.deref-in-ReadHeader.ensures.value c.requires
 
 pub returns-in-ReadHeader : goal.returns-in-ReadHeader
 returns-in-ReadHeader g c = record {
@@ -207,7 +207,7 @@ returns-in-ReadHeader g c = record {
 }
 
 pub read_user_header-requires : goal.read_user_header-requires
-read_user_header-requires g c = rw c.deref-in-ReadUserHeader.ensures.value c.requires.keeps
+read_user_header-requires g c = rw c.deref-in-ReadUserHeader.ensures.value c.requires
 
 pub returns-in-ReadUserHeader : goal.returns-in-ReadUserHeader
 returns-in-ReadUserHeader g c = record {
@@ -217,7 +217,7 @@ returns-in-ReadUserHeader g c = record {
 }
 
 pub release-requires : goal.release-requires
-release-requires g c = c.requires.keeps
+release-requires g c = c.requires
 
 pub returns-in-Release : goal.returns-in-Release
 returns-in-Release g c = record {
@@ -227,7 +227,7 @@ returns-in-Release g c = record {
 }
 
 pub close-requires : goal.close-requires
-close-requires g c = c.requires.keeps
+close-requires g c = c.requires
 
 pub returns-in-Close : goal.returns-in-Close
 returns-in-Close g c = record {

@@ -1,9 +1,7 @@
 use Rattle.std.proofs.Common.{◌≡◌, ◌<◌, ◌+◌, arith, length, List, [], ◌∷◌, ◌++◌, take, get_or, refl, sym, ap, subst, ◌∙◌}
 use Rattle.std.proofs.lemmas.List.{take_more, take_all}
-use Rattle.std.proofs.lemmas.List.Elements.{All-get_or}
 use Rattle.iox2_store.specs.machine.Environments.{fixed_handlers}
 use Rattle.iox2_runs.specs.Carries.{defaults_of}
-use Rattle.iox2_runs.specs.Supported.{IsSupportedCommand}
 use Rattle.iox2_commands.specs.declared.command.Command.{Command}
 use Rattle.iox2_runs.proofs.RunLoop.{has_run_none, has_run_more, still_keeps, is_run, runs_on_domain}
 use Rattle.iox2_pubsub.proofs.StaysBut.{stays-itself}
@@ -22,16 +20,8 @@ loop-command-init g c = record {
   reply_room = omega (arith, c.in-Ok.ensures.capacity, c.len.ensures);
 }
 
-pub carry_out-reply-requires-clause-supported : goal.carry_out-reply-requires-clause-supported
-carry_out-reply-requires-clause-supported g c =
-    let i = c.loop-command.command-index in
-    let x = c.command-item.result in
-    let inside : i < length c.args.commands.items = omega (arith, ap length c.deref-command-items.ensures.value, c.loop-command-test.true) in
-    let here : x ≡ get_or c.args.commands.items i x = c.command-item.is ∙ ap (λ (ys : List (Command g.row.T.Denot g.row.U.Denot)). get_or ys i x) c.deref-command-items.ensures.value in
-    subst IsSupportedCommand (sym here) (All-get_or IsSupportedCommand c.args.commands.items i x inside c.requires.supported)
-
-pub carry_out-reply-requires-clause-keeps : goal.carry_out-reply-requires-clause-keeps
-carry_out-reply-requires-clause-keeps g c =
+pub carry_out-reply-requires : goal.carry_out-reply-requires
+carry_out-reply-requires g c =
     still_keeps {T = g.row.T.Denot} {U = g.row.U.Denot} fixed_handlers (defaults_of g.T.Default.is_default g.U.Default.is_default) c.args.domain.now c.loop-command.domain _ _ c.loop-command.table.items
     c.shows_a_state.ensures.0 c.shows_a_state.ensures.1 c.shows_a_state.ensures.2 c.loop-command.invariant.ran c.loop-command.invariant.placed
 

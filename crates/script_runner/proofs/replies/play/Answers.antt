@@ -3,11 +3,7 @@ use Rattle.circular_buffer.specs.Buffer.{Buffer}
 use Rattle.iox2_store.specs.declared.warning.Warning.{Warning}
 use Rattle.iox2_store.specs.machine.State.{State, fresh, no_messages}
 use Rattle.script_text.specs.Warnings.{warning_lines}
-use Rattle.script_runner.proofs.SupportedCommands.{All-supported}
 use Rattle.script_runner.proofs.replies.play.Goals as goal
-
-pub run-requires : goal.run-requires
-run-requires g c = record { supported = All-supported _ _ c.in_ok-script.ensures.ok.names }
 
 pub returns-clause-ok : goal.returns-clause-ok
 returns-clause-ok g c =

@@ -8,12 +8,12 @@ use Rattle.iox2_runs.proofs.runs.ports.create_publisher.Goals as goal
 
 pub returns-in-Ok-clause-carries : goal.returns-in-Ok-clause-carries
 returns-in-Ok-clause-carries g c =
-    publisher_carried {T = g.row.T.Denot} {U = g.row.U.Denot} fixed_handlers _ c.args.domain.now c.make_publisher.new.domain c.args.table.now c.args.loans c.args.strategy c.args.len c.args.asked_slots c.args.degradation c.args.backpressure c.in-Ok.publisher c.id.result
+    publisher_carried {T = g.row.T.Denot} {U = g.row.U.Denot} fixed_handlers _ c.args.domain.now c.make_publisher.new.domain c.args.table.now c.args.loans c.args.strategy c.args.allocation c.args.len c.args.asked_slots c.args.degradation c.args.backpressure c.in-Ok.publisher c.id.result
     c.in-Ok.ensures.creates (publisher-parts {T = g.row.T.Denot} {U = g.row.U.Denot} c.make_publisher.new.domain _ c.in-Ok.ensures.ready.there).1 c.id.ensures
 
 pub returns-in-Err-clause-carries : goal.returns-in-Err-clause-carries
 returns-in-Err-clause-carries g c =
-    publisher_denied {T = g.row.T.Denot} {U = g.row.U.Denot} fixed_handlers _ c.args.domain.now c.make_publisher.new.domain c.args.table.now c.args.loans c.args.strategy c.args.len c.args.asked_slots c.args.degradation c.args.backpressure c.in-Err.error c.in-Err.ensures.creates
+    publisher_denied {T = g.row.T.Denot} {U = g.row.U.Denot} fixed_handlers _ c.args.domain.now c.make_publisher.new.domain c.args.table.now c.args.loans c.args.strategy c.args.allocation c.args.len c.args.asked_slots c.args.degradation c.args.backpressure c.in-Err.error c.in-Err.ensures.creates
 
 pub returns-in-Ok-clause-leaves : goal.returns-in-Ok-clause-leaves
 returns-in-Ok-clause-leaves g c =
