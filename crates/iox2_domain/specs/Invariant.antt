@@ -1,5 +1,5 @@
 -- What always holds of the fields of a domain.
-use Rattle.std.specs.Prelude.{◌≡◌, ◌≢◌, ◌⊎◌, ℕ, Bool, true, false, ◌+◌, ◌*◌, ◌^◌, ◌<◌, ◌≤◌, ◌==◌, ◌&&◌, cond, List, [], length, map, nat_lt, sum_by, slice_get, slice_index, slice_index_or, Contains, IsSomeAnd}
+use Rattle.std.specs.Prelude.{◌≡◌, ◌≢◌, ◌⊎◌, ℕ, Bool, true, false, ◌+◌, ◌*◌, ◌<◌, ◌≤◌, ◌==◌, ◌&&◌, cond, List, [], length, map, nat_lt, sum_by, slice_get, slice_index, slice_index_or, Contains, IsSomeAnd}
 use Rattle.std.specs.List.{All}
 use Rattle.std.specs.declared.option.Option.{Option}
 use Rattle.std.specs.declared.option.Option.TheVariants.{None, Some}
@@ -12,7 +12,6 @@ use Rattle.iox2_slots.specs.SlotBook.{Book, IsAligned, holders_at}
 use Rattle.iox2_contents.specs.SlotContents.{ContentState}
 use Rattle.iox2_store.specs.machine.Loans.{is_static}
 use Rattle.iox2_store.specs.machine.WellFormed.{IsWellFormed}
-use Rattle.iox2_store.specs.declared.allocation.AllocationStrategy.TheVariants.{PowerOfTwo}
 use Rattle.iox2_store.specs.declared.service_config.ServiceConfig.{ServiceConfig}
 use Rattle.iox2_store.specs.declared.service_config.TypeVariant.TheVariants.{FixedSize}
 use Rattle.iox2_slots.specs.declared.slots.mark.SlotMark.{SlotMark}
@@ -256,14 +255,13 @@ pub record HasForms {T U : Type 0} (c : ServiceConfig) (contents : List (Option 
 abbrev pub LendsBlocked : PublisherFields → Type 0
 LendsBlocked x = (b : BlockedDelivery) → x.blocked ≡ Some b → 0 < times b.slot x.loans
 
--- A static publisher has its first segment alone. The current segment is no shorter than the first one and than each loan
--- that was granted where memory grows; that of a publisher which grows by powers of two is the first one, or has the
--- length of such a power.
+-- A static publisher has its first segment alone. The current segment is no shorter than the first one, and where memory
+-- grows no shorter than any loan that was granted. It has some slot where the publisher may have a loan.
 pub record HasSegment (x : PublisherFields) : Type 0 where
   pub static : is_static x.allocation ≡ true → (x.segment_start ≡ 0) × (x.segment_length ≡ x.initial_max_slice_len)
   pub first : x.initial_max_slice_len ≤ x.segment_length
   pub longest : is_static x.allocation ≡ false → x.longest_granted ≤ x.segment_length
-  pub power : x.allocation ≡ PowerOfTwo → (x.segment_length ≡ x.initial_max_slice_len) ⊎ ((exponent : ℕ) × (x.segment_length ≡ 2 ^ exponent))
+  pub some : 0 < x.max_loaned_samples → 0 < x.slots
 
 -- The publisher has a current segment, and the slot of its blocked delivery is a loan of its.
 pub record IsPlain (x : PublisherFields) : Type 0 where
