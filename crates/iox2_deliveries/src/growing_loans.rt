@@ -1,18 +1,14 @@
 //! A publisher whose memory grows lends the slots of its current segment.
-ghost use Rattle.std.specs.Prelude.{◌≡◌, ◌<◌, ◌≤◌, ◌→◌, ℕ, true, false, length, slice_index_or, None, Some, IfOk, IsSomeAnd, MatchBool};
-ghost use Rattle.std.specs.List.{All, drop};
+ghost use Rattle.std.specs.Prelude.{◌≡◌, ◌<◌, ◌≤◌, true, false, length, slice_index_or, None, Some, IfOk, IsSomeAnd};
+ghost use Rattle.std.specs.Bool.{MatchBool};
 ghost use Rattle.iox2_store.specs.machine.Limits.{last_number};
 ghost use Rattle.iox2_store.specs.machine.Loans.{is_static};
 ghost use Rattle.iox2_store.specs.declared.service_config.TypeVariant.TheVariants.{FixedSize};
-ghost use Rattle.iox2_ends.specs.Receivers.{HasReclaimed};
-ghost use Rattle.iox2_domain.specs.Fields.{kept_of};
 ghost use Rattle.iox2_domain.specs.Growth.{HasFreeSlot, HasNoSlot};
 ghost use Rattle.iox2_domain.specs.Invariant.{IsDomain};
-ghost use Rattle.iox2_domain.specs.Kept.{state_of};
 ghost use Rattle.iox2_domain.specs.Lending.{IsNamed, Lends, LoanReaches};
 ghost use Rattle.iox2_domain.specs.LoanSlots.{LiesInSlot};
 ghost use Rattle.iox2_domain.specs.Ports.{PublisherFields};
-ghost use Rattle.iox2_domain.specs.Reaches.{Reaches};
 
 use crate::growth::grow;
 use crate::loans::start;

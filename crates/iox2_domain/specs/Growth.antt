@@ -1,8 +1,8 @@
 -- A publisher makes a further segment, which becomes its current one.
-use Rattle.std.specs.Prelude.{◌≡◌, ◌⊎◌, ℕ, Bool, true, false, ◌+◌, ◌*◌, ◌<◌, ◌≤◌, List, length, slice_get, slice_index_or, slice_set, Result, MatchResult, ◌==◌}
+use Rattle.std.specs.Prelude.{◌≡◌, ◌⊎◌, ℕ, Bool, true, false, ◌+◌, ◌*◌, ◌<◌, ◌≤◌, List, drop, length, slice_get, slice_index_or, slice_set, Result, MatchResult, ◌==◌}
 use Rattle.std.specs.declared.option.Option.{Option}
 use Rattle.std.specs.declared.option.Option.TheVariants.{None, Some}
-use Rattle.std.specs.List.{All, drop}
+use Rattle.std.specs.List.{All}
 use Rattle.slab.specs.Slab.{get, with_value}
 use Rattle.iox2_store.specs.SingleValues.{is_single_valued}
 use Rattle.iox2_store.specs.machine.Limits.{segment_fits, segment_limit}
