@@ -1,7 +1,7 @@
 -- What contracts see of the contents of a publisher's slots.
-use Rattle.std.specs.Prelude.{◌≡◌, ℕ, Bool, List, [], length, map, replicate, slice_get, slice_set, is_some, IsSomeAnd}
+use Rattle.std.specs.Prelude.{◌≡◌, ℕ, Bool, true, false, List, [], ◌++◌, length, map, replicate, slice_get, slice_set, is_some, IsSomeAnd}
 use Rattle.std.specs.Bool.{MatchBool}
-use Rattle.std.specs.List.{list_all, refill}
+use Rattle.std.specs.List.{All, list_all, refill}
 use Rattle.std.specs.declared.option.Option.{Option}
 use Rattle.std.specs.declared.option.Option.TheVariants.{None, Some}
 use Rattle.std.specs.Option.{option_map, option_map_or, option_and_then}
@@ -75,6 +75,22 @@ module _ {T U : Type 0} where
   -- The first of the slot's values.
   abbrev pub first_value_at : List (ContentState T U) → (slot : ℕ) → Option T
   first_value_at contents slot = option_and_then (λ content. slice_get content.values 0) (slice_get contents slot)
+
+  -- So many slots more stand behind the old ones, each with room for so many elements, which lie in lists where they are to.
+  pub record AddsSlots (old new : List (ContentState T U)) (more room : ℕ) (in_lists : Bool) : Type 0 where
+    pub added : List (ContentState T U)
+    pub count : length added ≡ more
+    pub rooms : All (λ content. content.room ≡ room) added
+    pub forms : in_lists ≡ true → All (λ content. content.is_in_place ≡ false) added
+    pub grown : new ≡ old ++ added
+
+  -- The content of a slot became another one, which lies in place or in lists as it did. Nothing else changes.
+  pub record ClearsSlot (old new : List (ContentState T U)) (slot : ℕ) : Type 0 where
+    pub content : ContentState T U
+    pub had : ContentState T U
+    pub there : slice_get old slot ≡ Some had
+    pub form : content.is_in_place ≡ had.is_in_place
+    pub cleared : new ≡ slice_set old slot content
 
   -- In the slot starts a loan of that length, with a default user header. Nothing else changes.
   pub record StartsLoan (is_default : U → Type 0) (old new : List (ContentState T U)) (slot len : ℕ) : Type 0 where

@@ -62,6 +62,14 @@ impl<T: Drop, U: Default + Drop> Content<T, U> {
         self.payload.start(len);
     }
 
+    /// Drops what the slot had, and gives up its room.
+    pub(crate) fn clear(&mut self, alloc: Global)
+        ensures { self.new.is_in_place ≡ self.old.is_in_place }
+    {
+        self.user_header = U::default();
+        self.payload.clear(alloc);
+    }
+
     /// Writes the value of a loan of one element.
     pub(crate) fn write_payload(&mut self, value: T)
         requires { length self.old.cells ≡ 1 }

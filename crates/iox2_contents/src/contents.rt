@@ -1,9 +1,9 @@
 //! The contents of a publisher's slots.
-ghost use Rattle.std.specs.Prelude.{◌≡◌, ◌<◌, ◌≤◌, List, [], ◌∷◌, length, true, false, Some, IfOk};
+ghost use Rattle.std.specs.Prelude.{◌≡◌, ◌<◌, ◌≤◌, List, [], ◌∷◌, length, true, false, Some, IfOk, OnOk, OnErr};
 ghost use Rattle.std.specs.Borrow.{sem};
 ghost use Rattle.std.specs.List.{All};
 ghost use Rattle.iox2_contents.specs.SlotCalls.{AnswersInOrder};
-ghost use Rattle.iox2_contents.specs.SlotContents.{SomeAt, WritesValues, AssumesWritten, StartsLoan, with_changed, written_content, user_header_at, cells_at, values_at, first_cell_at, first_value_at};
+ghost use Rattle.iox2_contents.specs.SlotContents.{SomeAt, AddsSlots, ClearsSlot, WritesValues, AssumesWritten, StartsLoan, with_changed, written_content, user_header_at, cells_at, values_at, first_cell_at, first_value_at};
 
 use crate::content::Content;
 use std::alloc::{AllocError, Global};
@@ -12,8 +12,8 @@ use std::marker::Model;
 /// What a publisher's users write and its subscribers' users read: for each slot the user header
 /// and the payload.
 ///
-/// A payload stays in its slot until the next loan starts there or the contents go, and is dropped
-/// then.
+/// A payload stays in its slot until the next loan starts there, the slot is cleared, or the
+/// contents go, and is dropped then.
 #[derive(Drop)]
 pub struct Contents<T, U> {
     slots: Vec<Content<T, U>>,
@@ -31,7 +31,8 @@ impl<T, U> Model for Contents<T, U> {
 impl<T: Drop, U: Default + Drop> Contents<T, U> {
     /// The contents of so many slots, each with room for so many elements. Each has a default user
     /// header, no cells and no values. With room for one element a slot has it in place, and else in
-    /// lists of its own. Fails where memory runs out; no other call on contents takes memory.
+    /// lists of its own. Fails where memory runs out; but for `grow` no other call on contents takes
+    /// memory.
     pub fn new(alloc: Global, slots: usize, room: usize, in_lists: bool) -> Result<Self, AllocError>
         ensures len { IfOk result (λ contents. length contents ≡ slots) }
         ensures default { IfOk result (All (λ content. U.is_default content.user_header)) }
@@ -44,6 +45,30 @@ impl<T: Drop, U: Default + Drop> Contents<T, U> {
             contents.push_reserved(Content::new(alloc, room, in_lists)?);
         }
         Ok(Contents { slots: contents })
+    }
+
+    /// So many slots more, each with room for so many elements, behind those that are there. Fails
+    /// where memory is refused; the contents then stay as they are.
+    pub fn grow(
+        &mut self,
+        alloc: Global,
+        more: usize,
+        room: usize,
+        in_lists: bool,
+    ) -> Result<(), AllocError>
+        ensures grown { OnOk result (AddsSlots self.old self.new more room in_lists) }
+        ensures refused { OnErr result (self.new ≡ self.old) }
+    {
+        let mut added = Contents::new(alloc, more, room, in_lists)?;
+        self.slots.append(&mut added.slots)
+    }
+
+    /// Drops what lies in the slot, which is of no loan or message any more, and gives up its room.
+    pub fn clear(&mut self, alloc: Global, slot: usize)
+        requires { slot < length self.old }
+        ensures { ClearsSlot self.old self.new slot }
+    {
+        self.slots[slot].clear(alloc);
     }
 
     /// Makes the slot an unwritten loan of this length, which must fit the slot's room. What lay in

@@ -54,6 +54,12 @@ impl<T: Drop> Elements<T> {
         self.cells = push_unwritten(take_empty(&mut self.cells), len);
     }
 
+    /// Drops what was there, with its memory.
+    pub(crate) fn give_up(&mut self, alloc: Global) {
+        self.cells = Vec::new(alloc);
+        self.values = Vec::new(alloc);
+    }
+
     /// Writes the value of a single cell.
     pub(crate) fn write(&mut self, value: T)
         requires { length self.old.cells ≡ 1 }

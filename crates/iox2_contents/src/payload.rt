@@ -52,6 +52,16 @@ impl<T: Drop> Payload<T> {
         }
     }
 
+    /// Drops what was there, and gives up the room of lists.
+    pub(crate) fn clear(&mut self, alloc: Global)
+        ensures { is_in_place self.new ≡ is_in_place self.old }
+    {
+        match self {
+            Payload::Elements(elements) => elements.give_up(alloc),
+            _ => *self = Payload::Empty,
+        }
+    }
+
     /// Writes the value of a single cell.
     pub(crate) fn write(&mut self, value: T)
         requires { length (cells_of self.old) ≡ 1 }

@@ -9,6 +9,8 @@ mod blocked_sends;
 mod contents;
 mod deliveries;
 mod discards;
+mod growing_loans;
+mod growth;
 mod loan_calls;
 mod loans;
 mod reclaims;

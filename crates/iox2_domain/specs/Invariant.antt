@@ -12,7 +12,6 @@ use Rattle.iox2_slots.specs.SlotBook.{Book, IsAligned, holders_at}
 use Rattle.iox2_contents.specs.SlotContents.{ContentState}
 use Rattle.iox2_store.specs.machine.Loans.{is_static}
 use Rattle.iox2_store.specs.machine.WellFormed.{IsWellFormed}
-use Rattle.iox2_store.specs.declared.allocation.AllocationStrategy.TheVariants.{Static}
 use Rattle.iox2_store.specs.declared.service_config.ServiceConfig.{ServiceConfig}
 use Rattle.iox2_store.specs.declared.service_config.TypeVariant.TheVariants.{FixedSize}
 use Rattle.iox2_slots.specs.declared.slots.mark.SlotMark.{SlotMark}
@@ -43,11 +42,11 @@ is_subscriber q y = y.id == q
 abbrev pub details_of : SubscriberFields → ReceiverDetails
 details_of y = record { port_id = y.id; buffer_size = y.buffer; is_open = y.is_open }
 
--- No call that can't fail has to make room for the publisher. The size of its slots fits a machine word.
+-- No call that can't fail has to make room for the publisher. The size of its current segment fits a machine word.
 pub record HasPublisherRoom (config : ServiceConfig) (x : PublisherFields) : Type 0 where
   pub loans : x.max_loaned_samples ≤ x.loan_room
   pub history : (x.history).capacity ≡ config.history_size
-  pub size : segment_fits config x.slots x.initial_max_slice_len ≡ true
+  pub size : segment_fits config x.slots x.segment_length ≡ true
 
 -- ---- connections
 
@@ -126,16 +125,19 @@ pub record IsBook {T U : Type 0} (b : Book) (contents : Option (List (ContentSta
   pub aligned : IsAligned b
   pub shaped : IsSomeAnd contents (λ cs. length cs ≡ length b.holders)
 
--- The publisher's book names the domain's node. It has at least its slots, and no more where its memory doesn't grow.
--- Each has room for the publisher's first longest slice, and for one element at least.
+-- From this slot on each has room for so many units.
+pub record HasRoomFrom {T U : Type 0} (start units : ℕ) (contents : List (ContentState T U)) : Type 0 where
+  pub at : (slot : ℕ) (content : ContentState T U) → start ≤ slot → slice_get contents slot ≡ Some content → units ≤ content.room
+
+-- The publisher's book names the domain's node. Its last slots are the current segment, and each of these has room for a
+-- slice of the segment's length, and for one element at least.
 pub record HasBook {T U : Type 0} (f : Fields T U) (x : PublisherFields) : Type 0 where
   pub book : Book
   pub stands : get f.books x.book ≡ Some book
   pub is_its : book.publisher ≡ x.id
   pub node : book.node ≡ (f.config).node_id
-  pub slots : x.slots ≤ length book.holders
-  pub no_more : is_static x.allocation ≡ true → length book.holders ≡ x.slots
-  pub room : IsSomeAnd (slice_index_or f.contents x.book None) (All (λ content. slot_length x.initial_max_slice_len * (f.config).units_per_element ≤ content.room))
+  pub slots : length book.holders ≡ x.segment_start + x.slots
+  pub room : IsSomeAnd (slice_index_or f.contents x.book None) (HasRoomFrom x.segment_start (slot_length x.segment_length * (f.config).units_per_element))
 
 -- Each book has its contents, and each publisher its book. Nothing else has contents.
 pub record HasBooks {T U : Type 0} (f : Fields T U) : Type 0 where
@@ -247,16 +249,24 @@ pub record HasShapes {T U : Type 0} (f : Fields T U) : Type 0 where
 pub record HasForms {T U : Type 0} (c : ServiceConfig) (contents : List (Option (List (ContentState T U)))) : Type 0 where
   pub at : is_single_valued c ≡ false → (key : ℕ) (cs : List (ContentState T U)) → slice_index_or contents key None ≡ Some cs → All (λ content. content.is_in_place ≡ false) cs
 
--- ---- what isn't there yet
+-- ---- a publisher's segments, and its blocked delivery
 
 -- The slot of a publisher's blocked delivery is a loan of its that is out.
 abbrev pub LendsBlocked : PublisherFields → Type 0
 LendsBlocked x = (b : BlockedDelivery) → x.blocked ≡ Some b → 0 < times b.slot x.loans
 
--- The publisher has one segment, and the slot of its blocked delivery is a loan of its.
+-- A static publisher has its first segment alone. The current segment is no shorter than the first one, and where memory
+-- grows no shorter than any loan that was granted. It has some slot where the publisher may have a loan.
+pub record HasSegment (x : PublisherFields) : Type 0 where
+  pub static : is_static x.allocation ≡ true → (x.segment_start ≡ 0) × (x.segment_length ≡ x.initial_max_slice_len)
+  pub first : x.initial_max_slice_len ≤ x.segment_length
+  pub longest : is_static x.allocation ≡ false → x.longest_granted ≤ x.segment_length
+  pub some : 0 < x.max_loaned_samples → 0 < x.slots
+
+-- The publisher has a current segment, and the slot of its blocked delivery is a loan of its.
 pub record IsPlain (x : PublisherFields) : Type 0 where
   pub lent : LendsBlocked x
-  pub allocation : x.allocation ≡ Static
+  pub segment : HasSegment x
 
 -- ---- the whole
 

@@ -13,7 +13,10 @@ use Rattle.iox2_store.specs.declared.errors.LoanError.{LoanError}
 use Rattle.iox2_store.specs.declared.header.Header.{Header}
 use Rattle.iox2_store.specs.declared.service_config.ServiceConfig.{ServiceConfig}
 use Rattle.iox2_slots.specs.declared.slots.mark.SlotMark.TheVariants.{Unwritten}
-use Rattle.iox2_store.specs.machine.Environments.{ample_memory}
+use Rattle.iox2_store.specs.machine.Environments.{ample_memory, fixed_handlers}
+use Rattle.iox2_store.specs.machine.Records.{Publisher, Environment}
+use Rattle.iox2_store.specs.declared.allocation.AllocationStrategy.{AllocationStrategy}
+use Rattle.iox2_store.specs.declared.allocation.AllocationStrategy.TheVariants.{Static, BestFit, PowerOfTwo}
 use Rattle.iox2_domain.specs.Kept.{state_of}
 use Rattle.iox2_domain.specs.Reaches.{Reaches}
 use Rattle.iox2_domain.specs.Fields.{Fields, kept_of, publisher_of}
@@ -33,12 +36,24 @@ with_taken_slot book slot number header = record book {
   holders = slice_set book.holders slot 1;
 }
 
--- The publisher with the slot among its loans, of so many elements.
-abbrev pub lending : (len slot : ℕ) → PublisherFields → PublisherFields
-lending len slot x = record x { loans = x.loans ++ slot ∷ []; longest_granted = max x.longest_granted len }
+-- The publisher with the slot among its loans, of so many elements, and with so many segments.
+abbrev pub lending : (len slot segments : ℕ) → PublisherFields → PublisherFields
+lending len slot segments x = record x { loans = x.loans ++ slot ∷ []; longest_granted = max x.longest_granted len; segments = segments }
+
+-- Memory is never refused to a loan of a static publisher, and may be where its memory grows.
+abbrev pub memory_for : AllocationStrategy → Environment
+memory_for Static = ample_memory
+memory_for BestFit = fixed_handlers
+memory_for PowerOfTwo = fixed_handlers
+
+-- The same of a publisher, if there is one.
+abbrev pub memory_if_any : Option Publisher → Environment
+memory_if_any None = ample_memory
+memory_if_any (Some x) = memory_for x.allocation_strategy
 
 module _ {T U : Type 0} where
-  -- The publisher at the place has fewer loans out than it may have, some slot of its book is free, and a number is left.
+  -- The static publisher at the place has fewer loans out than it may have, some slot of its book is free, and a number is
+  -- left.
   pub record CanGrant (f : Fields T U) (checks : Bool) (len place : ℕ) : Type 0 where
     pub publisher : PublisherFields
     pub book : Book
@@ -48,6 +63,7 @@ module _ {T U : Type 0} where
     pub some_free : All (λ n. 0 < n) book.holders → ⊥
     pub more : f.next_message < last_number
     pub short : (checks && is_static publisher.allocation && nat_lt publisher.initial_max_slice_len len) ≡ false
+    pub static : is_static publisher.allocation ≡ true
 
   -- A loan of a single value by the publisher at the place is refused for this reason, or a slot may be lent.
   abbrev pub LoanDecided : Fields T U → (checks : Bool) → (len place : ℕ) → Option LoanError → Type 0
@@ -62,8 +78,8 @@ module _ {T U : Type 0} where
     pub default : is_default user_header
     pub started : new ≡ Some (with_changed contents slot (unwritten_content user_header len))
 
-  -- The publisher at the place lends a slot that was free, for the message with the next number.
-  pub record Lends (is_default : U → Type 0) (old : Fields T U) (place : ℕ) (x : PublisherFields) (slot len : ℕ) (new : Fields T U) : Type 0 where
+  -- The publisher at the place lends a slot that was free, for the message with the next number. It has so many segments then.
+  pub record Lends (is_default : U → Type 0) (old : Fields T U) (place : ℕ) (x : PublisherFields) (slot len segments : ℕ) (new : Fields T U) : Type 0 where
     pub book : Book
     pub stood : get old.books x.book ≡ Some book
     pub within : slot < length book.holders
@@ -74,7 +90,7 @@ module _ {T U : Type 0} where
       next_message = old.next_message + 1;
       books = with_value old.books x.book (with_taken_slot book slot old.next_message (header_for old.config x.id len));
       contents = slice_set old.contents x.book started;
-      publishers = slice_set old.publishers place (Some (lending len slot x));
+      publishers = slice_set old.publishers place (Some (lending len slot segments x));
     }
 
   -- The loan is the publisher's, of the message with the next number, in the publisher's book.
@@ -83,21 +99,26 @@ module _ {T U : Type 0} where
     pub number : loan.number ≡ old.next_message
     pub book : loan.book ≡ x.book
 
-  -- A publisher is asked for a loan of a single value: it lends a slot, or refuses, and then nothing changes in the state.
+  -- A publisher is asked for a loan: it lends a slot, with the segments that it has or with one more, or refuses, and then
+  -- nothing changes in the state.
   abbrev pub LoanReaches : {A : Type 0} → (is_default : U → Type 0) → (checks : Bool) → (len : ℕ) → Fields T U → PublisherFields → Result A LoanError → Fields T U → Type 0
   LoanReaches is_default checks len f x result f' =
       MatchResult result
-      (λ _. (user_header : U) × is_default user_header
-      × GrantLoan ample_memory user_header checks len (state_of (kept_of f)) x.id
-      (loan_granted user_header (state_of (kept_of f)) x.id ((publisher_of f.books f.connections x).port) len x.segments) None
-      × Reaches f f' (loan_granted user_header (state_of (kept_of f)) x.id ((publisher_of f.books f.connections x).port) len x.segments))
-      (λ e. ((user_header : U) → GrantLoan ample_memory user_header checks len (state_of (kept_of f)) x.id (state_of (kept_of f)) (Some e))
+      (λ _. (user_header : U) × is_default user_header × (segments : ℕ)
+      × GrantLoan (memory_for x.allocation) user_header checks len (state_of (kept_of f)) x.id
+      (loan_granted user_header (state_of (kept_of f)) x.id ((publisher_of f.books f.connections x).port) len segments) None
+      × Reaches f f' (loan_granted user_header (state_of (kept_of f)) x.id ((publisher_of f.books f.connections x).port) len segments))
+      (λ e. ((user_header : U) → GrantLoan (memory_for x.allocation) user_header checks len (state_of (kept_of f)) x.id (state_of (kept_of f)) (Some e))
       × Reaches f f' (state_of (kept_of f)))
 
-  -- The publisher p is asked for a loan of a single value: it is granted, with a default user header, or refused for this
+  -- Memory may be refused to a loan of the publisher p only where its memory grows.
+  abbrev pub loan_memory : State T U → (p : ℕ) → Environment
+  loan_memory s p = memory_if_any (s.publishers p)
+
+  -- The publisher p is asked for a loan: it is granted, with a default user header, or refused for this
   -- reason, and then nothing changes.
   abbrev pub LoanCall : {A : Type 0} → (is_default : U → Type 0) → (checks : Bool) → (len : ℕ) → State T U → (p : ℕ) → Result A LoanError → State T U → Type 0
   LoanCall is_default checks len s p result s' =
       MatchResult result
-      (λ _. (user_header : U) × is_default user_header × GrantLoan ample_memory user_header checks len s p s' None)
-      (λ e. (s' ≡ s) × ((user_header : U) → GrantLoan ample_memory user_header checks len s p s' (Some e)))
+      (λ _. (user_header : U) × is_default user_header × GrantLoan (loan_memory s p) user_header checks len s p s' None)
+      (λ e. (s' ≡ s) × ((user_header : U) → GrantLoan (loan_memory s p) user_header checks len s p s' (Some e)))

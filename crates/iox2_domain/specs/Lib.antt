@@ -14,6 +14,7 @@ pub mod SampleSlots
 pub mod Receipts
 pub mod Questions
 pub mod Lending
+pub mod Growth
 pub mod Updates
 pub mod Departures
 pub mod Midway

@@ -11,6 +11,7 @@ use Rattle.iox2_store.specs.machine.Limits.{last_number}
 use Rattle.iox2_store.specs.machine.Records.{PublisherSettings, Handler}
 use Rattle.iox2_slots.specs.SlotBook.{Book, IsAligned}
 use Rattle.iox2_contents.specs.SlotContents.{ContentState}
+use Rattle.iox2_store.specs.declared.allocation.AllocationStrategy.{AllocationStrategy}
 use Rattle.iox2_store.specs.declared.allocation.AllocationStrategy.TheVariants.{Static}
 use Rattle.iox2_store.specs.declared.backpressure.BackpressureAction.{BackpressureAction}
 use Rattle.iox2_store.specs.declared.backpressure.BackpressureStrategy.{BackpressureStrategy}
@@ -36,6 +37,10 @@ static_publisher given handler = record {
   backpressure_handler = handler;
 }
 
+-- The same of one whose memory grows so.
+abbrev pub growing_publisher : PublisherOptions → Option (Handler BackpressureAction) → AllocationStrategy → PublisherSettings
+growing_publisher given handler allocation = record (static_publisher given handler) { allocation_strategy = allocation }
+
 -- Those of one without handlers, which warns where it can't make a connection.
 abbrev pub plain_publisher : (max_loaned_samples : ℕ) → BackpressureStrategy → (initial_max_slice_len : ℕ) → PublisherSettings
 plain_publisher max_loaned_samples strategy initial_max_slice_len =
@@ -60,6 +65,8 @@ entering_publisher id place book given slots loan_room history key_room = record
   initial_max_slice_len = given.initial_max_slice_len;
   longest_granted = 0;
   segments = 1;
+  segment_start = 0;
+  segment_length = given.initial_max_slice_len;
   loans = [];
   loan_room = loan_room;
   history = history;

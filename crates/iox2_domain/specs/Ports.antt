@@ -22,6 +22,8 @@ pub record PublisherFields : Type 0 where
   pub initial_max_slice_len : ℕ
   pub longest_granted : ℕ
   pub segments : ℕ
+  pub segment_start : ℕ  -- the first slot of its current segment, which is the last
+  pub segment_length : ℕ  -- the length for which that segment was made
   pub loans : List ℕ  -- the slots of the loans that are out
   pub loan_room : ℕ  -- so many fit with no allocation
   pub history : Buffer ℕ  -- the slots of the last messages sent
@@ -42,9 +44,9 @@ pub record SubscriberFields : Type 0 where
   pub expired_room : ℕ  -- so many fit with no allocation
   pub is_due : Bool
 
--- How many elements each slot of a publisher has room for: as many as its first longest slice has, and one at least.
-abbrev pub slot_length : (initial_max_slice_len : ℕ) → ℕ
-slot_length initial_max_slice_len = max 1 initial_max_slice_len
+-- How many elements each slot of a segment of that length has room for: as many, and one at least.
+abbrev pub slot_length : (segment_length : ℕ) → ℕ
+slot_length segment_length = max 1 segment_length
 
 -- The publisher, due for an update.
 abbrev pub due : PublisherFields → PublisherFields

@@ -13,8 +13,8 @@ use iox2_ends::receiver::key_in;
 use iox2_ends::sender::Progress;
 use iox2_slots::place_of;
 use iox2_store::{
-    BackpressureAction, BackpressureHandler, BackpressureStrategy, DegradationAction,
-    ServiceConfig, UniquePublisherId,
+    AllocationStrategy, BackpressureAction, BackpressureHandler, BackpressureStrategy,
+    DegradationAction, ServiceConfig, UniquePublisherId,
 };
 use std::alloc::{AllocError, Global};
 use std::marker::Model;
@@ -29,8 +29,8 @@ pub struct BlockedDelivery {
 }
 
 /// A publisher that wasn't closed. It knows its slots by their numbers in its book, and its
-/// connections by their keys. Its memory is static, so that it has one segment and never another:
-/// both are constants of its view.
+/// connections by their keys. It lends slots of its current segment alone, which is its last: the
+/// last slots of its book, from one on.
 ///
 /// iceoryx2's `PublisherSharedState` (`src/port/publisher.rs`) and `Sender`
 /// (`src/port/details/sender.rs`).
@@ -46,8 +46,16 @@ pub struct PublisherState {
     pub backpressure_handler: Option<HandlerMark<BackpressureAction>>,
     // What answers for it where it can't make a connection.
     pub degradation: HandlerMark<DegradationAction>,
+    // How its memory grows.
+    pub allocation: AllocationStrategy,
     pub initial_max_slice_len: usize,
     longest_granted: usize,
+    // How many segments it has made.
+    pub segments: usize,
+    // The first slot of the current segment.
+    pub segment_start: usize,
+    // The length for which the current segment was made.
+    pub segment_length: usize,
     // The slots of the loans that are out, by rising number of the message.
     pub loans: Vec<usize>,
     // The slots of the last messages sent.
@@ -61,7 +69,6 @@ pub struct PublisherState {
 
 impl Model for PublisherState {
     ghost use Rattle.std.specs.Prelude.{vec_capacity};
-    ghost use Rattle.iox2_store.specs.declared.allocation.AllocationStrategy.TheVariants.{Static};
     ghost use Rattle.iox2_domain.specs.Handlers.{handler_if_any, handler_of};
     ghost use Rattle.iox2_domain.specs.Ports.{PublisherFields};
 
@@ -76,10 +83,12 @@ impl Model for PublisherState {
       strategy = x.strategy;
       backpressure_handler = handler_if_any x.backpressure_handler;
       degradation_handler = handler_of x.degradation;
-      allocation = Static;
+      allocation = x.allocation;
       initial_max_slice_len = x.initial_max_slice_len;
       longest_granted = x.longest_granted;
-      segments = 1;
+      segments = x.segments;
+      segment_start = x.segment_start;
+      segment_length = x.segment_length;
       loans = x.loans.items;
       loan_room = vec_capacity x.loans;
       history = x.history;
@@ -96,11 +105,11 @@ impl PublisherState {
     ghost use Rattle.std.specs.Prelude.{true};
     ghost use Rattle.iox2_store.specs.machine.Limits.{segment_fits};
     ghost use Rattle.iox2_domain.specs.Handlers.{handler_if_any};
-    ghost use Rattle.iox2_domain.specs.NewPublisher.{entering_publisher, static_publisher};
+    ghost use Rattle.iox2_domain.specs.NewPublisher.{entering_publisher, growing_publisher};
 
     /// A publisher that enters at a place, with a book at a key of so many slots for messages of so
-    /// many elements, and with room for all the loans and the history that it may get. It makes no
-    /// further segment.
+    /// many elements, and with room for all the loans and the history that it may get. These slots
+    /// are its first segment.
     pub fn new(
         alloc: Global,
         config: &ServiceConfig,
@@ -109,10 +118,11 @@ impl PublisherState {
         book: usize,
         given: &PublisherOptions,
         handler: Option<HandlerMark<BackpressureAction>>,
+        allocation: AllocationStrategy,
         slots: usize,
     ) -> Result<Self, AllocError>
         requires { segment_fits config.now slots given.now.initial_max_slice_len ≡ true }
-        ensures enters { IfOk result (λ x. x ≡ entering_publisher id place book (static_publisher given.now (handler_if_any handler)) slots x.loan_room (buffer [] (config.now).history_size) x.key_room) }
+        ensures enters { IfOk result (λ x. x ≡ entering_publisher id place book (growing_publisher given.now (handler_if_any handler) allocation) slots x.loan_room (buffer [] (config.now).history_size) x.key_room) }
         ensures room { IfOk result (HasPublisherRoom config.now) }
     {
         let loans = Vec::with_capacity(alloc, given.max_loaned_samples)?;
@@ -126,8 +136,12 @@ impl PublisherState {
             strategy: given.strategy,
             backpressure_handler: handler,
             degradation: given.degradation,
+            allocation,
             initial_max_slice_len: given.initial_max_slice_len,
             longest_granted: 0,
+            segments: 1,
+            segment_start: 0,
+            segment_length: given.initial_max_slice_len,
             loans,
             history,
             keys: Vec::new(alloc),
@@ -176,7 +190,7 @@ impl PublisherState {
     /// The slot is a loan that is out, of so many elements.
     pub fn lend(&mut self, slot: usize, len: usize)
         requires { length self.old.loans < self.old.loan_room }
-        ensures { self.new ≡ lending len slot self.old }
+        ensures { self.new ≡ lending len slot self.old.segments self.old }
     {
         self.loans.push_reserved(slot);
         if self.longest_granted < len {

@@ -1,5 +1,6 @@
 //! The units of elements.
-ghost use Rattle.std.specs.Prelude.{◌≡◌, ◌*◌, ◌^◌, ◌<◌};
+ghost use Rattle.std.specs.Prelude.{◌≡◌, ◌*◌, ◌^◌, ◌<◌, IsTrue, SomeIff};
+ghost use Rattle.iox2_store.specs.machine.Limits.{fits};
 
 /// How many units so many elements have.
 #[inline(always)]
@@ -8,4 +9,14 @@ pub fn units_of(len: usize, units_per_element: usize) -> usize
     ensures { result ≡ len * units_per_element }
 {
     len * units_per_element
+}
+
+/// The size of so many slots of so many elements of so many units. `None` where it doesn't fit `usize`.
+pub fn segment_size(slots: usize, len: usize, units: usize) -> Option<usize>
+    ensures { SomeIff result (IsTrue (fits (slots * len * units))) (slots * len * units) }
+{
+    if units == 0 {
+        return Some(0);
+    }
+    slots.checked_mul(len)?.checked_mul(units)
 }

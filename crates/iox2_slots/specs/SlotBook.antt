@@ -1,5 +1,5 @@
 -- What contracts see of a publisher's book: plain lists, with an entry for each slot.
-use Rattle.std.specs.Prelude.{◌≡◌, ℕ, ◌<◌, List, length, slice_index, slice_set}
+use Rattle.std.specs.Prelude.{◌≡◌, ℕ, ◌<◌, List, ◌++◌, length, replicate, slice_index, slice_set}
 use Rattle.iox2_store.specs.declared.header.Header.{Header}
 use Rattle.iox2_slots.specs.declared.slots.mark.SlotMark.{SlotMark}
 use Rattle.iox2_slots.specs.declared.slots.mark.SlotMark.TheVariants.{Unwritten}
@@ -52,3 +52,12 @@ pub record TakesFreeSlot (old new : Book) (slot number : ℕ) (header : Header) 
     marks = slice_set old.marks slot Unwritten;
     holders = slice_set old.holders slot 1;
   }
+
+-- The book with so many slots more behind its own, none of which is in use.
+abbrev pub with_more_slots : (more : ℕ) → Book → Book
+with_more_slots more book = record book {
+  numbers = book.numbers ++ replicate more 0;
+  headers = book.headers ++ replicate more (header_in book 0);
+  marks = book.marks ++ replicate more Unwritten;
+  holders = book.holders ++ replicate more 0;
+}

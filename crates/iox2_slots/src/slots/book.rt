@@ -1,5 +1,5 @@
 //! The book of a publisher's slots.
-ghost use Rattle.std.specs.Prelude.{◌≡◌, ◌+◌, ◌-◌, ◌<◌, ◌≤◌, ◌^◌, ◌↔◌, length, slice_get, slice_set, replicate, vec_capacity, Some, IsTrue, IsNone, IfSome, IfNone, IfOk};
+ghost use Rattle.std.specs.Prelude.{◌≡◌, ◌+◌, ◌-◌, ◌<◌, ◌≤◌, ◌^◌, ◌↔◌, length, drop, slice_get, slice_index, slice_set, replicate, vec_capacity, Some, IsTrue, IsNone, IfSome, IfNone, IfOk};
 ghost use Rattle.std.specs.List.{All};
 ghost use Rattle.iox2_slots.specs.SlotFree.{HasFree};
 
@@ -53,7 +53,7 @@ impl Model for SlotBook {
 }
 
 impl SlotBook {
-    ghost use Rattle.iox2_slots.specs.SlotBook.{IsAligned, IsInUse, IsUsedFor, TakesFreeSlot, header_in, holders_at, with_holders};
+    ghost use Rattle.iox2_slots.specs.SlotBook.{IsAligned, IsInUse, IsUsedFor, TakesFreeSlot, header_in, holders_at, with_holders, with_more_slots};
 
     /// The book of a new publisher of this node, with so many slots, all of them free. Fails where memory runs
     /// out; no other call on a book takes memory.
@@ -105,6 +105,59 @@ impl SlotBook {
         taken.holders = 1;
         taken.mark = SlotMark::Unwritten;
         Some(slot)
+    }
+
+    /// Gives a free slot from this one on to the message with this number and so many elements, as
+    /// `take` does. `None` if each of these has a holder; the book then stays as it is.
+    #[tactic(auto, using(crate::proofs::LaterSlots::taking_from))]
+    pub fn take_from(&mut self, start: usize, number: u128, len: u64) -> Option<usize>
+        ensures none { IsNone result ↔ All (λ n. 0 < n) (drop start self.old.holders) }
+        ensures refused { IfNone result (self.new ≡ self.old) }
+        ensures taken { IfSome result (λ slot. TakesFreeSlot self.old self.new slot number (header_in self.old len)) }
+        ensures from { IfSome result (λ slot. start ≤ slot) }
+        ensures aligned { IsAligned self.new }
+    {
+        let place = last_from(&self.free, start)?;
+        let slot = self.free.remove(place);
+        let taken = &mut self.slots[slot];
+        taken.number = number;
+        taken.header.number_of_elements = len;
+        taken.holders = 1;
+        taken.mark = SlotMark::Unwritten;
+        Some(slot)
+    }
+
+    /// The same book with so many slots more behind its own, all of them free. Fails where memory is
+    /// refused.
+    pub fn grown(&self, alloc: Global, more: usize) -> Result<Self, AllocError>
+        ensures { IfOk result (λ book. book ≡ with_more_slots more self.now) }
+    {
+        let header = Header {
+            node_id: self.node,
+            publisher_id: self.publisher,
+            number_of_elements: 0,
+        };
+        let unused = Slot {
+            number: 0,
+            header,
+            holders: 0,
+            mark: SlotMark::Unwritten,
+        };
+        let count = self.slots.len();
+        let mut slots = Vec::from_slice(alloc, &self.slots)?;
+        slots.try_reserve(more)?;
+        let mut free = Vec::with_capacity(alloc, slots.capacity())?;
+        free.extend_from_slice(&self.free)?;
+        for slot in count..count + more {
+            slots.push_reserved(unused);
+            free.push_reserved(slot);
+        }
+        Ok(SlotBook {
+            node: self.node,
+            publisher: self.publisher,
+            slots,
+            free,
+        })
     }
 
     /// Counts one holder more of a slot that has one.
@@ -205,12 +258,33 @@ impl SlotBook {
         self.free.is_empty()
     }
 
+    /// Whether every slot from this one on has a holder, so that none of them can be taken.
+    pub fn is_full_from(&self, start: usize) -> bool
+        ensures { IsTrue result ↔ All (λ n. 0 < n) (drop start self.now.holders) }
+    {
+        last_from(&self.free, start).is_none()
+    }
+
     /// Whether no slot has a holder, so that the book may go.
     pub fn is_unused(&self) -> bool
         ensures { IsTrue result ↔ All (λ n. n ≡ 0) self.now.holders }
     {
         self.free.len() == self.slots.len()
     }
+}
+
+// The last place at which a slot from this one on stands in a list. The newest are looked at first.
+fn last_from(slots: &[usize], start: usize) -> Option<usize>
+    ensures none { IfNone result (All (λ slot. slot < start) slots.now) }
+    ensures there { IfSome result (λ place. (place < length slots.now) × (start ≤ slice_index slots.now place)) }
+{
+    for passed in 0..slots.len() {
+        let place = slots.len() - 1 - passed;
+        if slots[place] >= start {
+            return Some(place);
+        }
+    }
+    None
 }
 
 // The free slots where none of so many is in use.

@@ -1,0 +1,70 @@
+-- A publisher makes a further segment, which becomes its current one.
+use Rattle.std.specs.Prelude.{◌≡◌, ◌⊎◌, ℕ, Bool, true, false, ◌+◌, ◌*◌, ◌<◌, ◌≤◌, List, drop, length, slice_get, slice_index_or, slice_set, Result, MatchResult, ◌==◌}
+use Rattle.std.specs.declared.option.Option.{Option}
+use Rattle.std.specs.declared.option.Option.TheVariants.{None, Some}
+use Rattle.std.specs.List.{All}
+use Rattle.slab.specs.Slab.{get, with_value}
+use Rattle.iox2_store.specs.SingleValues.{is_single_valued}
+use Rattle.iox2_store.specs.machine.Limits.{segment_fits, segment_limit}
+use Rattle.iox2_store.specs.declared.errors.LoanError.{LoanError}
+use Rattle.iox2_store.specs.declared.errors.LoanError.TheVariants.{OutOfMemory, InternalFailure}
+use Rattle.iox2_slots.specs.SlotBook.{Book, holders_at, with_more_slots}
+use Rattle.iox2_contents.specs.SlotContents.{ContentState}
+use Rattle.iox2_domain.specs.Fields.{Fields}
+use Rattle.iox2_domain.specs.Invariant.{HasRoomFrom}
+use Rattle.iox2_domain.specs.Ports.{PublisherFields, slot_length}
+
+-- The publisher with a current segment of that length, from that slot on.
+abbrev pub with_segment : (start length : ℕ) → PublisherFields → PublisherFields
+with_segment start length x = record x { segment_start = start; segment_length = length }
+
+module _ {T U : Type 0} where
+  -- In the slots before this one that nobody holds lies nothing of use any more. What lies elsewhere stays.
+  pub record ClearsUnused (book : Book) (end : ℕ) (old new : List (ContentState T U)) : Type 0 where
+    pub count : length new ≡ length old
+    pub kept : (slot : ℕ) → (0 < holders_at book slot) ⊎ (end ≤ slot) → slice_get new slot ≡ slice_get old slot
+    pub forms : All (λ content. content.is_in_place ≡ false) old → All (λ content. content.is_in_place ≡ false) new
+
+  -- Behind the slots of this book are so many more, each with room for so many units, which lie in lists where they are to.
+  -- What lies in slots in use stays.
+  pub record GrowsContents (book : Book) (more units : ℕ) (in_lists : Bool) (old new : List (ContentState T U)) : Type 0 where
+    pub count : length new ≡ length old + more
+    pub kept : (slot : ℕ) → 0 < holders_at book slot → slice_get new slot ≡ slice_get old slot
+    pub room : HasRoomFrom (length old) units new
+    pub forms : in_lists ≡ true → All (λ content. content.is_in_place ≡ false) old → All (λ content. content.is_in_place ≡ false) new
+
+  -- The publisher at the place has a current segment of that length, which lies behind the slots that it had. Nothing else
+  -- changes.
+  pub record Grows (f : Fields T U) (place : ℕ) (x : PublisherFields) (len : ℕ) (f' : Fields T U) : Type 0 where
+    pub book : Book
+    pub stood : get f.books x.book ≡ Some book
+    pub contents : List (ContentState T U)
+    pub had : slice_index_or f.contents x.book None ≡ Some contents
+    pub grown : List (ContentState T U)
+    pub grows : GrowsContents book x.slots (slot_length len * (f.config).units_per_element) (is_single_valued f.config == false) contents grown
+    pub fits : segment_fits f.config x.slots len ≡ true
+    pub longer : x.segment_length ≤ len
+    pub is : f' ≡ record f {
+      books = with_value f.books x.book (with_more_slots x.slots book);
+      contents = slice_set f.contents x.book (Some grown);
+      publishers = slice_set f.publishers place (Some (with_segment (length book.holders) len x));
+    }
+
+  -- The publisher at the place has a new current segment, which is long enough for so many elements; or it has made all
+  -- segments that it may make, or memory is refused or the size doesn't fit, and then nothing changes.
+  abbrev pub MayGrow : {A : Type 0} → Fields T U → (place : ℕ) → PublisherFields → (len : ℕ) → Result A LoanError → Fields T U → Type 0
+  MayGrow f place x len result f' =
+      MatchResult result
+      (λ _. (x.segments < segment_limit) × (longest : ℕ) × (len ≤ longest) × Grows f place x longest f')
+      (λ e. (f' ≡ f) × ((e ≡ InternalFailure) ⊎ ((e ≡ OutOfMemory) × (x.segments ≡ segment_limit))))
+
+  -- The current segment of the publisher at the place has a free slot, and is long enough for so many elements.
+  pub record HasFreeSlot (f : Fields T U) (x : PublisherFields) (len : ℕ) : Type 0 where
+    pub book : Book
+    pub stands : get f.books x.book ≡ Some book
+    pub some_free : All (λ n. 0 < n) (drop x.segment_start book.holders) → ⊥
+    pub long : len ≤ x.segment_length
+
+  -- Each slot of the publisher's current segment has a holder, or the segment is too short for so many elements.
+  abbrev pub HasNoSlot : Fields T U → PublisherFields → (len : ℕ) → Type 0
+  HasNoSlot f x len = (x.segment_length < len) ⊎ ((book : Book) × (get f.books x.book ≡ Some book) × All (λ n. 0 < n) (drop x.segment_start book.holders))
