@@ -66,7 +66,7 @@ changed_terms f i change keeps p x e =
 
 module _ {T U : Type 0} where
   -- a publisher with the same terms lends single values as before
-  values_kept : (s s' : State T U) (x x' : Publisher) → s'.config ≡ s.config → x'.allocation_strategy ≡ x.allocation_strategy → x'.initial_max_slice_len ≡ x.initial_max_slice_len
+  pub values_kept : (s s' : State T U) (x x' : Publisher) → s'.config ≡ s.config → x'.allocation_strategy ≡ x.allocation_strategy → x'.initial_max_slice_len ≡ x.initial_max_slice_len
       → LendsValues s x → LendsValues s' x'
   values_kept s s' x x' config allocation longest lends = λ grows single.
       subst (λ (n : ℕ). 1 ≤ n) (sym longest) (lends (sym (ap is_static allocation) ∙ grows) (sym (ap (λ (c : ServiceConfig). c.variant) config) ∙ single))
@@ -216,6 +216,15 @@ module _ {T U : Type 0} where
       let there = made.1 in
       let terms : KeepsTerms (new_publisher s given made.0) there.0 = there.2 in
       (there.0, there.1, terms.longest)
+
+  -- Its memory grows as it was asked for.
+  pub created_grows : (environment : Environment) (s : State T U) (given : PublisherSettings) (s' : State T U) → CreatePublisher environment s given s' None
+      → (x : Publisher) × (s'.publishers s.next_port ≡ Some x) × (x.allocation_strategy ≡ given.allocation_strategy)
+  created_grows environment s given s' h =
+      let made = created_stands environment s given s' h in
+      let there = made.1 in
+      let terms : KeepsTerms (new_publisher s given made.0) there.0 = there.2 in
+      (there.0, there.1, terms.allocation)
 
   pub create_subscriber_kept : (environment : Environment) (s : State T U) (given : SubscriberSettings) (s' : State T U) (refusal : Option SubscriberCreateError)
       → CreateSubscriber environment s given s' refusal → LoansKept s s'

@@ -11,8 +11,7 @@ ghost use Rattle.iox2_domain.specs.Boxes.{answers_of, box_of, boxes_of, degradat
 ghost use Rattle.iox2_domain.specs.Handlers.{handler_if_any};
 ghost use Rattle.iox2_ends.specs.Handlers.{marks_of};
 ghost use Rattle.iox2_ports.specs.Handlers.{custom_box};
-ghost use Rattle.iox2_ports.specs.Settings.{settings_with, static_with};
-ghost use Rattle.std.specs.declared.option.Option.{Option};
+ghost use Rattle.iox2_ports.specs.Settings.{settings_with};
 ghost use Rattle.iox2_store.specs.declared.warning.Warning.TheVariants.{PublisherPartlyConnected};
 ghost use Rattle.iox2_domain.specs.FirstUpdates.{PublisherFirstUpdates, failure_warned};
 ghost use Rattle.iox2_domain.specs.WarningRing.{warning_ring};
@@ -27,8 +26,8 @@ use iox2_domain::{
     free_place, make_all_due, put_at_place,
 };
 use iox2_store::{
-    AllocationStrategy, BackpressureAction, BackpressureFn, BackpressureHandler, ConnectionFailure,
-    DegradationFn, PublisherCreateError, UniqueNodeId, UniquePublisherId, Warning,
+    BackpressureAction, BackpressureFn, BackpressureHandler, ConnectionFailure, DegradationFn,
+    PublisherCreateError, UniqueNodeId, UniquePublisherId, Warning,
 };
 use iox2_updates::update_publisher;
 
@@ -76,8 +75,8 @@ fn place_for_publisher<T: Drop, U: Default + Drop>(
     }
 }
 
-// A publisher with these options and so many slots enters at the place that it has, and every
-// subscriber is due for an update. Returns its id, which was the next.
+// A publisher with these options and so many slots, which are its first segment, enters at the place
+// that it has, and every subscriber is due for an update. Returns its id, which was the next.
 //
 // Where memory is refused it doesn't enter, and no id is used.
 fn admit_publisher<T: Drop, U: Default + Drop>(
@@ -85,16 +84,17 @@ fn admit_publisher<T: Drop, U: Default + Drop>(
     place: usize,
     given: &PublisherOptions,
     handler: Option<HandlerMark<BackpressureAction>>,
+    segments: SegmentOptions,
     slots: usize,
 ) -> Result<UniquePublisherId, PublisherCreateError>
     requires agrees { IsDomain state.old }
     requires has_place { place_for_publisher state.old ≡ Ok place }
+    requires slots { slots ≡ slots_for (state.old).config (settings_with given.now None segments) }
     requires size { segment_fits (state.old).config slots given.now.initial_max_slice_len ≡ true }
     ensures stands { OnOk result ((x : PublisherFields) × (slice_index_or state.new.publishers place None ≡ Some x) × (x.id ≡ state.old.next_port) × (x.blocked ≡ None)) }
     ensures id { IfOk result (λ id. id ≡ state.old.next_port) }
     ensures step { MatchResult result
-        (λ _. (asked : Option ℕ) → slots ≡ slots_for (state.old).config (static_with given.now (handler_if_any handler) asked)
-        → Reaches state.old state.new (with_new_publisher (state_of (kept_of state.old)) (static_with given.now (handler_if_any handler) asked) place))
+        (λ _. Reaches state.old state.new (with_new_publisher (state_of (kept_of state.old)) (settings_with given.now (handler_if_any handler) segments) place))
         (λ e. Reaches state.old state.new (state_of (kept_of state.old)) × ((e ≡ UnableToCreateDataSegment) ⊎ (e ≡ FailedToDeployThreadsafetyPolicy))) }
 {
     let id = UniquePublisherId::new(state.next_port);
@@ -113,6 +113,7 @@ fn admit_publisher<T: Drop, U: Default + Drop>(
         key,
         given,
         handler,
+        segments.allocation,
         slots,
     );
     let Ok(publisher) = entering else {
@@ -133,12 +134,10 @@ fn admit_publisher<T: Drop, U: Default + Drop>(
 /// Makes a publisher with these options, and connects it with the subscribers that there are; it is
 /// warned where that fails. Where a receiver is full, the handler answers, or without one it follows
 /// the strategy. Where a connection can't be made, its options say what answers, or the box does that
-/// is handed in. Boxes are kept among the boxes. Returns its id, which was the next, and its place. So
-/// far only static segments are made.
+/// is handed in. Boxes are kept among the boxes. Returns its id, which was the next, and its place.
 ///
 /// `UnableToCreatePortTag` where no id is left, then `ExceedsMaxSupportedPublishers` where no
-/// place is free, then `UnableToCreateDataSegment` where the segment's size doesn't fit `usize`, and
-/// where its memory is to grow.
+/// place is free, then `UnableToCreateDataSegment` where the segment's size doesn't fit `usize`.
 /// After that `UnableToCreateDataSegment` or `FailedToDeployThreadsafetyPolicy` where memory for
 /// the segment or for the port and its boxes is refused. No id is used then, and nothing changes that
 /// can be seen.
@@ -153,7 +152,6 @@ pub fn create_publisher<T: Drop, U: Default + Drop, F: BackpressureFn, G: Degrad
     requires { IsDomain state.old }
     ensures id { IfOk result (λ port. port.id ≡ state.old.next_port) }
     ensures stands { IfOk result (λ port. (x : PublisherFields) × (slice_index_or state.new.publishers port.place None ≡ Some x) × (x.id ≡ port.id)) }
-    ensures is_static { OnOk result (segments.allocation ≡ AllocationStrategy.Static) }
     ensures boxed { IfOk result (λ port. box_of port.id (boxes.new).boxes ≡ custom_box handler) }
     ensures degrades { IfOk result (λ port. degradation_box_of port.id (boxes.new).boxes ≡ degradation) }
     ensures others { (port : ℕ) → port ≢ state.old.next_port → boxes_of port (boxes.new).boxes ≡ boxes_of port (boxes.old).boxes }
@@ -163,10 +161,7 @@ pub fn create_publisher<T: Drop, U: Default + Drop, F: BackpressureFn, G: Degrad
         × Reaches state.old state.new (state_of (kept_of state.old))) }
 {
     let place = place_for_publisher(state)?;
-    let Some(slots) = first_segment(&state.config, given, segments.asked_slots) else {
-        return Err(PublisherCreateError::UnableToCreateDataSegment);
-    };
-    let AllocationStrategy::Static = segments.allocation else {
+    let Some(slots) = first_segment(&state.config, given, segments) else {
         return Err(PublisherCreateError::UnableToCreateDataSegment);
     };
     let mark = mark_of(&handler);
@@ -177,7 +172,7 @@ pub fn create_publisher<T: Drop, U: Default + Drop, F: BackpressureFn, G: Degrad
     let Ok(()) = reserve_for(boxes, &its) else {
         return Err(PublisherCreateError::FailedToDeployThreadsafetyPolicy);
     };
-    let id = admit_publisher(state, place, given, mark, slots)?;
+    let id = admit_publisher(state, place, given, mark, segments, slots)?;
     keep_boxes(boxes, id.value(), its);
     update_first(state, boxes, place, id);
     Ok(PortAt { id, place })

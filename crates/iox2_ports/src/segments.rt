@@ -1,15 +1,15 @@
 //! The memory of a publisher: a book of its slots, and their contents at the book's key.
 ghost use Rattle.std.specs.Prelude.{◌≡◌, ◌*◌, ◌<◌, true, None, Some, IfOk, OnOk, OnErr, IsTrue, SomeIff};
 ghost use Rattle.slab.specs.Slab.{Updates, get};
-ghost use Rattle.iox2_store.specs.machine.Limits.{fits, segment_fits};
+ghost use Rattle.iox2_store.specs.machine.Limits.{segment_fits};
 ghost use Rattle.iox2_store.specs.machine.Ports.{first_segment_fits, slots_for};
 ghost use Rattle.iox2_domain.specs.NewPublisher.{IsNewSegment};
 ghost use Rattle.iox2_domain.specs.Ports.{slot_length};
 ghost use Rattle.iox2_domain.specs.Placed.{placed};
-ghost use Rattle.iox2_ports.specs.Settings.{static_with};
+ghost use Rattle.iox2_ports.specs.Settings.{settings_with};
 
 use iox2_contents::Contents;
-use iox2_domain::{PublisherOptions, put_at_place, reserve_place, units_of};
+use iox2_domain::{PublisherOptions, put_at_place, reserve_place, segment_size, units_of};
 use iox2_slots::SlotBook;
 use iox2_store::{
     AllocationStrategy, ServiceConfig, UniqueNodeId, UniquePublisherId, worst_case_slots,
@@ -26,33 +26,23 @@ pub struct SegmentOptions {
     pub asked_slots: Option<usize>,
 }
 
-/// How many slots the first segment of a publisher with these options has, for which so many are
-/// asked: no more than the worst case, and at least one where that isn't none. `None` where the worst
-/// case or the size of the slots doesn't fit `usize`.
+/// How many slots each segment of a publisher with these options has: no more than the worst case,
+/// and at least one where that isn't none. `None` where the worst case or the size of the first
+/// segment doesn't fit `usize`.
 pub(crate) fn first_segment(
     config: &ServiceConfig,
     given: &PublisherOptions,
-    asked: Option<usize>,
+    segments: SegmentOptions,
 ) -> Option<usize>
-    ensures { SomeIff result (IsTrue (first_segment_fits config.now (static_with given.now None asked))) (slots_for config.now (static_with given.now None asked)) }
+    ensures { SomeIff result (IsTrue (first_segment_fits config.now (settings_with given.now None segments))) (slots_for config.now (settings_with given.now None segments)) }
 {
     let worst = worst_case_slots(config, given.max_loaned_samples)?;
-    let slots = match asked {
+    let slots = match segments.asked_slots {
         Some(asked) => worst.min(asked.max(1)),
         None => worst,
     };
     segment_size(slots, given.initial_max_slice_len, config.units_per_element)?;
     Some(slots)
-}
-
-// The size of so many slots of so many elements of so many units. `None` where it doesn't fit `usize`.
-fn segment_size(slots: usize, len: usize, units: usize) -> Option<usize>
-    ensures { SomeIff result (IsTrue (fits (slots * len * units))) (slots * len * units) }
-{
-    if units == 0 {
-        return Some(0);
-    }
-    slots.checked_mul(len)?.checked_mul(units)
 }
 
 /// The room that each of so many slots needs for so many elements, and for one at least. Where there

@@ -2,7 +2,6 @@
 use Rattle.std.proofs.Common.{◌≡◌, Bool, ℕ, ◌<◌, List, [], refl, true, false, sym, ap, subst, ◌∙◌, Option, None, Some, Result, Ok, Err, inl, inr, arith}
 use Rattle.std.specs.Prelude.{◌≢◌}
 use Rattle.std.proofs.lemmas.Bool.{cases_eq, ne_eqb, true≢false}
-use Rattle.iox2_store.specs.machine.Environments.{ample_memory}
 use Rattle.iox2_store.specs.machine.Loans.{entry_of}
 use Rattle.iox2_store.specs.machine.Mailbox.{is_borrowed}
 use Rattle.iox2_store.specs.machine.Numbers.{put_at, contains}
@@ -36,7 +35,7 @@ use Rattle.iox2_domain.specs.Boxes.{DomainBoxes}
 use Rattle.iox2_domain.specs.Fields.{Fields, kept_of, keeping}
 use Rattle.iox2_domain.specs.Invariant.{IsDomain}
 use Rattle.iox2_domain.specs.Kept.{Kept, state_of, entries_of}
-use Rattle.iox2_domain.specs.Lending.{LoanCall}
+use Rattle.iox2_domain.specs.Lending.{LoanCall, loan_memory}
 use Rattle.iox2_domain.specs.Shows.{Shows}
 use Rattle.iox2_pubsub.specs.Live.{Item, IsOtherLoan, IsPublisherKey, IsSubscriberKey, IsLoanKey, IsSampleKey, IsUnblocked, No_item, A_publisher, A_subscriber, A_loan, A_sample, IsOtherSample, IsBlockedKey, A_sent_loan, StaysBut, Stays, IsNewIn, unwritten_key, written_key}
 use Rattle.iox2_pubsub.specs.declared.sample_mut.SampleMut.{SampleMut}
@@ -182,10 +181,10 @@ module _ {T U F G : Type 0} (old new : Kept T U F G) (m : Messages T U) (s : Sta
   -- a loan is granted, or refused
   pub loan-stays : {A : Type 0} (is_default : U → Type 0) (checks : Bool) (len p : ℕ) (answer : Result A LoanError) (s' : State T U) → Shows new m s' → LoanCall is_default checks len s p answer s' → BoxesStayBut No_item old new → Stays old new
   loan-stays is_default checks len p (Ok a) s' shown' h boxes =
-      let stay : PortsStay s s' = grant_loan_stays ample_memory h.0 checks len s p s' None h.2 in
-      let next = loan_next ample_memory s h.0 checks len p s' h.2 in
+      let stay : PortsStay s s' = grant_loan_stays (loan_memory s p) h.0 checks len s p s' None h.2 in
+      let next = loan_next (loan_memory s p) s h.0 checks len p s' h.2 in
       stays-between No_item old new m m s s' shown shown' (λ n entry at. at) (ports-remain _ s s' stay.remain) (λ n l at _. next.others n (shown.well_formed.loans n l at).below ∙ at)
-      (λ i j n at _. same_borrowed s s' stay i j n ∙ at) (grant_loan_waits (IsSpared No_item) ample_memory h.0 checks len s p s' None h.2) (none-spared _ old s s' (λ _. tt)) boxes
+      (λ i j n at _. same_borrowed s s' stay i j n ∙ at) (grant_loan_waits (IsSpared No_item) (loan_memory s p) h.0 checks len s p s' None h.2) (none-spared _ old s s' (λ _. tt)) boxes
   loan-stays is_default checks len p (Err e) s' shown' h boxes =
       quiet boxes s' shown' (subst (PortsStay s) (sym h.0) (ports_stay_themselves s)) (ap (λ (t : State T U). t.loans) h.0) (subst (Waits (IsSpared No_item) s) (sym h.0) (waits_itself (IsSpared No_item) s))
 

@@ -3,9 +3,8 @@ use Rattle.std.proofs.Common.{◌≡◌, ℕ, Bool, ◌+◌, ◌≤◌, ◌<◌,
 use Rattle.std.specs.Prelude.{◌≢◌, IfOk, OnErr}
 use Rattle.std.specs.declared.time.Duration.{Duration}
 use Rattle.std.proofs.lemmas.Bool.{cases_eq}
-use Rattle.iox2_store.specs.machine.Environments.{ample_memory}
 use Rattle.iox2_store.specs.machine.Limits.{last_number, worst_case}
-use Rattle.iox2_store.specs.machine.Loans.{is_static, loan_discarded}
+use Rattle.iox2_store.specs.machine.Loans.{loan_discarded}
 use Rattle.iox2_store.specs.machine.LoansLeft.{CanLend}
 use Rattle.iox2_store.specs.machine.Ports.{CreatePublisher, CreateSubscriber, slots_for, publisher_closed, subscriber_closed}
 use Rattle.iox2_store.specs.machine.PublisherUpdate.{UpdatePublisher}
@@ -22,12 +21,11 @@ use Rattle.iox2_store.specs.declared.errors.PublisherCreateError.{PublisherCreat
 use Rattle.iox2_store.specs.declared.errors.SubscriberCreateError.{SubscriberCreateError}
 use Rattle.iox2_store.specs.declared.service_config.ServiceConfig.{ServiceConfig}
 use Rattle.iox2_laws.proofs.PortsClose.{publisher_closed_others}
-use Rattle.iox2_laws.proofs.LoansLeft.{KeepsTerms, LoansKept, LoanTaken, LoanEnds, set_kept, update_publisher_kept, update_subscriber_kept, receive_kept, released_kept, subscriber_closed_kept, create_publisher_kept, created_lends, created_longest, create_subscriber_kept, kept_itself, kept_lends, closed_lends, loan_taken, discarded_ends, send_ends, send_blocked_kept, retry_ends, retry_blocked_kept, give_up_ends, give_up_blocked_kept, ended_lends, waited_lends, others_lend, lends_fewer}
+use Rattle.iox2_laws.proofs.LoansLeft.{KeepsTerms, values_kept, LoansKept, LoanTaken, LoanEnds, set_kept, update_publisher_kept, update_subscriber_kept, receive_kept, released_kept, subscriber_closed_kept, create_publisher_kept, created_grows, created_lends, created_longest, create_subscriber_kept, kept_itself, kept_lends, closed_lends, loan_taken, discarded_ends, send_ends, send_blocked_kept, retry_ends, retry_blocked_kept, give_up_ends, give_up_blocked_kept, ended_lends, waited_lends, others_lend, lends_fewer}
 use Rattle.iox2_domain.specs.Kept.{Kept, state_of}
-use Rattle.iox2_domain.specs.Lending.{LoanCall}
-use Rattle.iox2_store.specs.declared.allocation.AllocationStrategy.TheVariants.{Static}
+use Rattle.iox2_domain.specs.Lending.{LoanCall, loan_memory}
 use Rattle.iox2_domain.specs.Shows.{Shows}
-use Rattle.iox2_pubsub.specs.LoansLeft.{LendsUpTo, HasLoansLeft, HasNumbersLeft, NumbersLeftStay, LoansLeftStay, OthersLoansLeftStay, HasOneMoreLeft, TakesOneLeft}
+use Rattle.iox2_pubsub.specs.LoansLeft.{GrowsBy, LendsFirst, LendsUpTo, HasLoansLeft, HasNumbersLeft, NumbersLeftStay, LoansLeftStay, OthersLoansLeftStay, HasOneMoreLeft, TakesOneLeft}
 use Rattle.iox2_pubsub.specs.SendCalls.{IsDelivered, result_of_send}
 use Rattle.iox2_pubsub.specs.declared.publisher.Publisher.{Publisher}
 use Rattle.iox2_pubsub.specs.declared.send_outcome.SendOutcome.{SendOutcome}
@@ -115,15 +113,24 @@ module _ {T U F G : Type 0} (old new : Kept T U F G) (m m' : Messages T U) (s s'
   pub subscriber-creation-left : (environment : Environment) (given : SubscriberSettings) (refusal : Option SubscriberCreateError) → CreateSubscriber environment s given s' refusal → LoansLeftStay old new
   subscriber-creation-left environment given refusal h = all-left (create_subscriber_kept environment s given s' refusal h)
 
-  -- a static publisher with the worst case of slots
-  pub created-left : (environment : Environment) (given : PublisherSettings) → given.allocation_strategy ≡ Static → worst_case s.config given.max_loaned_samples ≤ slots_for s.config given
+  -- a publisher with the worst case of slots, which lends single values where messages are such
+  pub created-left : (environment : Environment) (given : PublisherSettings) → LendsFirst s.config given → worst_case s.config given.max_loaned_samples ≤ slots_for s.config given
       → (publisher : Publisher) → publisher.id ≡ s.next_port → publisher.initial_max_slice_len ≡ given.initial_max_slice_len
       → CreatePublisher environment s given s' None → HasLoansLeft new publisher given.max_loaned_samples
-  created-left environment given static slots publisher its long made =
+  created-left environment given values slots publisher its long made =
       let longest = created_longest environment s given s' made in
       lends-from new m' s' shown' publisher given.max_loaned_samples
-      (subst (λ (p : ℕ). CanLend s' p given.max_loaned_samples) (sym its) (created_lends environment s given s' (ap is_static static) slots made))
+      (subst (λ (p : ℕ). CanLend s' p given.max_loaned_samples) (sym its) (created_lends environment s given s' values slots made))
       (longest.0, ap s'.publishers its ∙ longest.1, longest.2 ∙ sym long)
+
+  -- its memory grows as it was asked for
+  pub created-grows : (environment : Environment) (given : PublisherSettings) (publisher : Publisher) → publisher.id ≡ s.next_port → CreatePublisher environment s given s' None
+      → GrowsBy new publisher given.allocation_strategy
+  unfolding GrowsBy
+  created-grows environment given publisher its made =
+      let grows = created_grows environment s given s' made in
+      subst (λ (t : State T U). (x : MachinePublisher) × (t.publishers publisher.id ≡ Some x) × (x.allocation_strategy ≡ given.allocation_strategy)) shown'.state
+      (grows.0, ap s'.publishers its ∙ grows.1, grows.2)
 
   -- a call that changes nothing
   pub same-left : s' ≡ s → LoansLeftStay old new
@@ -132,7 +139,7 @@ module _ {T U F G : Type 0} (old new : Kept T U F G) (m m' : Messages T U) (s s'
   -- a loan is granted, or refused
   pub loan-takes : {A : Type 0} (is_default : U → Type 0) (checks : Bool) (len : ℕ) (publisher : Publisher) (answer : Result A LoanError) → LoanCall is_default checks len s publisher.id answer s' → TakesOneLeft publisher old new
   loan-takes is_default checks len publisher (Ok a) h =
-      let taken : LoanTaken publisher.id s s' = loan_taken ample_memory h.0 checks len s publisher.id s' h.2 in record {
+      let taken : LoanTaken publisher.id s s' = loan_taken (loan_memory s publisher.id) h.0 checks len s publisher.id s' h.2 in record {
         loans = λ n left.
             let was = lends-at old m s shown publisher (n + 1) left in
             let there = taken.longest (was.1).0 (was.1).1 in
@@ -143,9 +150,9 @@ module _ {T U F G : Type 0} (old new : Kept T U F G) (m m' : Messages T U) (s s'
             lends-from new m' s' shown' other n (record {
               port = can.port;
               stands = taken.others other.id away ∙ can.stands;
-              static = can.static;
               slots = subst (λ (c : ServiceConfig). worst_case c (can.port).max_loaned_samples ≤ (can.port).slots) (sym taken.config) can.slots;
               few = can.few;
+              values = values_kept s s' can.port can.port taken.config refl refl can.values;
             }) ((was.1).0, taken.others other.id away ∙ (was.1).1, (was.1).2);
         numbers = λ n left. numbers-out new n (fewer_numbers new.next_message old.next_message n last_number
             (sym (next-at new m' s' shown') ∙ taken.numbers ∙ ap (λ (k : ℕ). k + 1) (next-at old m s shown)) (numbers-in old (n + 1) left));

@@ -6,7 +6,7 @@ use Rattle.std.proofs.lemmas.Option.{same_Some}
 use Rattle.std.specs.declared.option.Option.{Option}
 use Rattle.std.specs.declared.option.Option.TheVariants.{None, Some}
 use Rattle.std.specs.Prelude.{IsSomeAnd, IsErrAnd}
-use Rattle.iox2_store.specs.machine.Loans.{loan_granted}
+use Rattle.iox2_store.specs.machine.Loans.{GrantLoan, loan_granted}
 use Rattle.iox2_store.specs.machine.Numbers.{put_at}
 use Rattle.iox2_store.specs.machine.Records.{Loan, Publisher}
 use Rattle.iox2_store.specs.machine.State.{State, Messages}
@@ -21,9 +21,11 @@ use Rattle.iox2_domain.specs.Ports.{PublisherFields}
 use Rattle.iox2_domain.specs.Kept.{Kept, state_of}
 use Rattle.iox2_domain.specs.Boxes.{DomainBoxes}
 use Rattle.iox2_domain.specs.Fields.{Fields, kept_of, publisher_of, keeping}
-use Rattle.iox2_domain.specs.Lending.{IsNamed, LoanReaches, LoanCall, header_for}
+use Rattle.iox2_domain.specs.Invariant.{IsDomain}
+use Rattle.iox2_domain.specs.Lending.{IsNamed, LoanReaches, LoanCall, header_for, loan_memory, memory_for, memory_if_any}
 use Rattle.iox2_domain.specs.declared.loan_slots.LoanAt.{LoanAt}
 use Rattle.iox2_domain.specs.Shows.{Shows}
+use Rattle.iox2_domain.proofs.lemmas.fields.ConnectionEnds.{publisher-stands}
 use Rattle.iox2_domain.proofs.lemmas.fields.ReachesShows.{reaches-shows, reaches-shows-same}
 
 module _ {T U : Type 0} (f : Fields T U) where
@@ -33,13 +35,19 @@ module _ {T U : Type 0} (f : Fields T U) where
   abbrev machine : PublisherFields → Publisher
   machine x = (publisher_of f.books f.connections x).port
 
-  module _ (is_default : U → Type 0) (checks : Bool) (len : ℕ) (new : Fields T U) (x : PublisherFields) (m : Messages T U) (s : State T U) (shown : Shows (kept_of f) m s) where
+  module _ (is_default : U → Type 0) (checks : Bool) (len : ℕ) (new : Fields T U) (x : PublisherFields) (stands : state.publishers x.id ≡ Some (machine x))
+      (m : Messages T U) (s : State T U) (shown : Shows (kept_of f) m s) where
+    -- whether memory may be refused is known of the publisher that stands there
+    asked_there : (user_header : U) (s' : State T U) (refusal : Option LoanError) → GrantLoan (memory_for x.allocation) user_header checks len state x.id s' refusal
+        → GrantLoan (loan_memory state x.id) user_header checks len state x.id s' refusal
+    asked_there user_header s' refusal h = subst (λ (o : Option Publisher). GrantLoan (memory_if_any o) user_header checks len state x.id s' refusal) (sym stands) h
+
     -- a loan that is refused changes nothing
     pub refused-shows : (A : Type 0) (e : LoanError) → LoanReaches {A = LoanAt} is_default checks len f x (Err e) new
         → (s' : State T U) × Shows (kept_of new) m s' × LoanCall {A = A} is_default checks len s x.id (Err e) s'
     refused-shows A e reaches =
         subst (λ (t : State T U). (s' : State T U) × Shows (kept_of new) m s' × LoanCall {A = A} is_default checks len t x.id (Err e) s')
-        (sym shown.state) (state, reaches-shows-same f new m s state shown reaches.1 (ap (λ (t : State T U). t.next_message) (sym shown.state)) (ap (λ (t : State T U). t.loans) (sym shown.state)), (refl, reaches.0))
+        (sym shown.state) (state, reaches-shows-same f new m s state shown reaches.1 (ap (λ (t : State T U). t.next_message) (sym shown.state)) (ap (λ (t : State T U). t.loans) (sym shown.state)), (refl, λ user_header. asked_there user_header state (Some e) (reaches.0 user_header)))
 
     -- no message was sent under the number of the new loan, or of an older one
     none_sent : (lent : Loan T U) (n : ℕ) (l : Loan T U) → put_at state.loans f.next_message (Some lent) n ≡ Some l → m n ≡ None
@@ -54,14 +62,14 @@ module _ {T U : Type 0} (f : Fields T U) where
     pub granted-shows : (A : Type 0) (loan : LoanAt) (answer : A) → LoanReaches {A = LoanAt} is_default checks len f x (Ok loan) new
         → (s' : State T U) × Shows (kept_of new) m s' × LoanCall {A = A} is_default checks len s x.id (Ok answer) s'
     granted-shows A loan answer reaches =
-        let s' : State T U = loan_granted reaches.0 state x.id (machine x) len x.segments in
+        let s' : State T U = loan_granted reaches.0 state x.id (machine x) len reaches.2 in
         subst (λ (t : State T U). (s' : State T U) × Shows (kept_of new) m s' × LoanCall {A = A} is_default checks len t x.id (Ok answer) s')
         (sym shown.state) (
           s',
-          reaches-shows f new m s s' shown reaches.3
+          reaches-shows f new m s s' shown reaches.4
               (let next : s.next_message ≡ f.next_message = ap (λ (t : State T U). t.next_message) shown.state in omega arith)
               (λ n l found. none_sent _ n l found),
-          (reaches.0, reaches.1, reaches.2),
+          (reaches.0, reaches.1, asked_there reaches.0 s' None reaches.3),
         )
 
   -- the new loan
@@ -79,21 +87,25 @@ module _ {T U : Type 0} (f : Fields T U) where
       → (reaches : LoanReaches {A = LoanAt} is_default checks len f x (Ok loan) new) → (state_of (kept_of new)).loans loan.number ≡ Some (lent_loan x reaches.0 len)
   granted-out is_default checks len new x loan names reaches =
       ap (state_of (kept_of new)).loans names.number
-      ∙ ap (λ (t : State T U). t.loans f.next_message) reaches.3.state
+      ∙ ap (λ (t : State T U). t.loans f.next_message) reaches.4.state
       ∙ ap (λ b. cond b (Some (lent_loan x reaches.0 len)) (state.loans f.next_message)) (eq-eqb f.next_message f.next_message refl)
 
   -- and isn't written
   granted-live : {F G : Type 0} {boxes : DomainBoxes F G} (is_default : U → Type 0) (checks : Bool) (len : ℕ) (new : Fields T U) (x : PublisherFields) (loan : SampleMutUninit) → loan.service_id ≡ (f.config).service_id
       → IsNamed f x loan.loan → LoanReaches {A = LoanAt} is_default checks len f x (Ok loan.loan) new → IsUnwritten (keeping boxes new) loan
   granted-live {F} {G} {boxes} is_default checks len new x loan its names reaches =
-      unwritten-live (keeping boxes new) loan (its ∙ ap (λ (t : State T U). (t.config).service_id) (sym reaches.3.state))
+      unwritten-live (keeping boxes new) loan (its ∙ ap (λ (t : State T U). (t.config).service_id) (sym reaches.4.state))
       (lent_loan x reaches.0 len, granted-out is_default checks len new x loan.loan names reaches, sym names.publisher, refl)
 
-module _ {T U : Type 0} (is_default : U → Type 0) (checks : Bool) (len : ℕ) (f new : Fields T U) (i p : ℕ) (answer : Result LoanAt LoanError)
+module _ {T U : Type 0} (is_default : U → Type 0) (checks : Bool) (len : ℕ) (f new : Fields T U) (sound : IsDomain f) (i p : ℕ) (answer : Result LoanAt LoanError)
     (stands : (x : PublisherFields) × (get_or f.publishers i None ≡ Some x) × (x.id ≡ p))
     (reaches : IsSomeAnd (get_or f.publishers i None) (λ z. LoanReaches is_default checks len f z answer new)) where
   its : LoanReaches is_default checks len f stands.0 answer new
   its = subst (λ (o : Option PublisherFields). IsSomeAnd o (λ z. LoanReaches is_default checks len f z answer new)) stands.1 reaches
+
+  -- the publisher as the machine has it
+  there : (state f).publishers (stands.0).id ≡ Some (machine f stands.0)
+  there = publisher-stands f sound.parts i stands.0 stands.1
 
   -- a loan that was refused
   pub err-shown : {F G : Type 0} {boxes : DomainBoxes F G} (A : Type 0) (e : LoanError) → answer ≡ Err e → (r : Result A LoanError) → IsErrAnd r (λ e'. e' ≡ e) → (kept : Kept T U F G) → keeping boxes f ≡ kept
@@ -101,7 +113,7 @@ module _ {T U : Type 0} (is_default : U → Type 0) (checks : Bool) (len : ℕ) 
   err-shown {F} {G} A e is (Ok a) same kept view m s shown = absurd same
   err-shown {F} {G} A e is (Err e') same kept view m s shown =
       subst (λ (q : ℕ). (s' : State T U) × Shows (kept_of new) m s' × LoanCall {A = A} is_default checks len s q (Err e') s') stands.2
-      (refused-shows f is_default checks len new stands.0 m s (subst (λ (k : Kept T U F G). Shows k m s) (sym view) shown) A e'
+      (refused-shows f is_default checks len new stands.0 there m s (subst (λ (k : Kept T U F G). Shows k m s) (sym view) shown) A e'
       (subst (λ (r : Result LoanAt LoanError). LoanReaches is_default checks len f stands.0 r new) (is ∙ ap Err (sym same)) its))
 
   -- a loan that was granted
@@ -109,7 +121,7 @@ module _ {T U : Type 0} (is_default : U → Type 0) (checks : Bool) (len : ℕ) 
       → (m : Messages T U) (s : State T U) → Shows kept m s → (s' : State T U) × Shows (kept_of new) m s' × LoanCall {A = A} is_default checks len s p (Ok a) s'
   ok-shown {F} {G} A a loan is kept view m s shown =
       subst (λ (q : ℕ). (s' : State T U) × Shows (kept_of new) m s' × LoanCall {A = A} is_default checks len s q (Ok a) s') stands.2
-      (granted-shows f is_default checks len new stands.0 m s (subst (λ (k : Kept T U F G). Shows k m s) (sym view) shown) A loan a
+      (granted-shows f is_default checks len new stands.0 there m s (subst (λ (k : Kept T U F G). Shows k m s) (sym view) shown) A loan a
       (subst (λ (r : Result LoanAt LoanError). LoanReaches is_default checks len f stands.0 r new) is its))
 
   -- it is out

@@ -2,7 +2,6 @@
 use Rattle.std.proofs.Common.{◌≡◌, ℕ, refl, sym, ap, subst, Bool, Option, None, Result, Ok, Err}
 use Rattle.std.specs.Prelude.{OnOk}
 use Rattle.std.specs.declared.time.Duration.{Duration}
-use Rattle.iox2_store.specs.machine.Environments.{ample_memory}
 use Rattle.iox2_store.specs.machine.Loans.{loan_discarded}
 use Rattle.iox2_store.specs.machine.Ports.{CreateSubscriber}
 use Rattle.iox2_store.specs.machine.PublisherUpdate.{UpdatePublisher}
@@ -18,7 +17,7 @@ use Rattle.iox2_store.specs.declared.errors.ReceiveError.{ReceiveError}
 use Rattle.iox2_store.specs.declared.errors.SubscriberCreateError.{SubscriberCreateError}
 use Rattle.iox2_laws.proofs.UpToDate.{IsUpdated, UpdatedStay, same_subscribers, grant_loan_subscribers, update_publisher_subscribers, send_subscribers, retry_subscribers, give_up_subscribers, update_subscriber_updated, update_leaves_updated, receive_updated, receive_leaves_updated, released_updated, create_subscriber_updated}
 use Rattle.iox2_domain.specs.Kept.{Kept}
-use Rattle.iox2_domain.specs.Lending.{LoanCall}
+use Rattle.iox2_domain.specs.Lending.{LoanCall, loan_memory}
 use Rattle.iox2_domain.specs.Questions.{IsAnswer}
 use Rattle.iox2_domain.specs.Shows.{Shows}
 use Rattle.iox2_pubsub.specs.ConnectedPorts.{Connects}
@@ -72,7 +71,7 @@ module _ {T U F G : Type 0} (old new : Kept T U F G) (m m' : Messages T U) (s s'
   }
 
   pub loan-leaves : {A : Type 0} (is_default : U → Type 0) (checks : Bool) (len p : ℕ) (answer : Result A LoanError) → LoanCall is_default checks len s p answer s' → UpToDateStay old new
-  loan-leaves is_default checks len p (Ok a) h = stay (same_subscribers s s' (grant_loan_subscribers ample_memory h.0 checks len s p s' None h.2)) (grant-connections ample_memory h.0 checks len s p s' None h.2) (grant-room ample_memory h.0 checks len s p s' None h.2)
+  loan-leaves is_default checks len p (Ok a) h = stay (same_subscribers s s' (grant_loan_subscribers (loan_memory s p) h.0 checks len s p s' None h.2)) (grant-connections (loan_memory s p) h.0 checks len s p s' None h.2) (grant-room (loan_memory s p) h.0 checks len s p s' None h.2)
   loan-leaves is_default checks len p (Err e) h = stay (same_subscribers s s' (ap (λ (t : State T U). t.subscribers) h.0)) (stays-itself s s' h.0) (room-itself s s' h.0)
 
   pub send-leaves : (environment : Environment) (n : ℕ) (l : Loan T U) (result : SendResult) → Send environment s n l s' result → UpToDateStay old new

@@ -6,7 +6,6 @@ use Rattle.std.specs.List.{AllByRecursion, filter_map}
 use Rattle.std.specs.Option.{option_map_or}
 use Rattle.std.proofs.lemmas.Bool.{cases_eq}
 use Rattle.std.proofs.lemmas.List.{append-nil}
-use Rattle.iox2_store.specs.machine.Environments.{ample_memory}
 use Rattle.iox2_store.specs.machine.Loans.{entry_of, loan_discarded}
 use Rattle.iox2_store.specs.machine.Mailbox.{numbers_in}
 use Rattle.iox2_store.specs.machine.Numbers.{contains}
@@ -26,7 +25,7 @@ use Rattle.iox2_store.specs.declared.errors.LoanError.{LoanError}
 use Rattle.iox2_store.specs.declared.errors.PublisherCreateError.{PublisherCreateError}
 use Rattle.iox2_store.specs.declared.errors.SubscriberCreateError.{SubscriberCreateError}
 use Rattle.iox2_domain.specs.Kept.{Kept, state_of, entries_of}
-use Rattle.iox2_domain.specs.Lending.{LoanCall}
+use Rattle.iox2_domain.specs.Lending.{LoanCall, loan_memory}
 use Rattle.iox2_domain.specs.Questions.{IsAnswer}
 use Rattle.iox2_domain.specs.Shows.{Shows}
 use Rattle.iox2_laws.proofs.MailboxLemmas.{has_numbers-contains}
@@ -169,7 +168,7 @@ module _ {T U F G : Type 0} (old new : Kept T U F G) (m m' : Messages T U) (s s'
 
   -- a loan is granted, or refused
   pub loan-waits : AreKept → {A : Type 0} (is_default : U → Type 0) (checks : Bool) (len p : ℕ) (answer : Result A LoanError) → LoanCall is_default checks len s p answer s' → WaitingStays old new
-  loan-waits sent is_default checks len p (Ok a) h = payloads-stay sent (grant_loan_waits ample_memory h.0 checks len s p s' None h.2)
+  loan-waits sent is_default checks len p (Ok a) h = payloads-stay sent (grant_loan_waits (loan_memory s p) h.0 checks len s p s' None h.2)
   loan-waits sent is_default checks len p (Err e) h = payloads-stay sent (subst (SameWaits s) (sym h.0) (same_itself s))
 
   -- a sample is released

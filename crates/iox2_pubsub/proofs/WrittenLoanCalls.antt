@@ -5,25 +5,25 @@ use Rattle.std.proofs.lemmas.Bool.{eq-eqb}
 use Rattle.std.specs.declared.option.Option.{Option}
 use Rattle.std.specs.Option.{MatchOption}
 use Rattle.std.specs.Prelude.{IfErr}
-use Rattle.iox2_store.specs.machine.Environments.{ample_memory}
 use Rattle.iox2_store.specs.machine.Loans.{GrantLoan, written}
 use Rattle.iox2_store.specs.machine.Records.{Environment, Loan}
 use Rattle.iox2_store.specs.machine.SingleCalls.{GrantWrittenLoan, GrantDefaultSlice, WriteAllFrom}
 use Rattle.iox2_store.specs.machine.State.{State, Messages, with_loan}
 use Rattle.iox2_store.specs.declared.errors.LoanError.{LoanError}
 use Rattle.iox2_store.specs.declared.errors.SendError.{SendError}
+use Rattle.iox2_domain.specs.Lending.{loan_memory}
 use Rattle.iox2_pubsub.specs.SendCalls.{IsOfHandler, Sends, messages_after}
 use Rattle.iox2_pubsub.specs.WrittenLoans.{SendsCopy, SendsGranted}
 use Rattle.iox2_pubsub.specs.declared.send_outcome.SendOutcome.{SendOutcome}
 
 module _ {T U : Type 0} (s mid : State T U) (p n : ℕ) (next : n ≡ s.next_message) (l : Loan T U) (out : mid.loans n ≡ Some l) (value : T) (user_header : U)
-    (grants : GrantLoan ample_memory user_header false 1 s p mid None) where
+    (grants : GrantLoan (loan_memory s p) user_header false 1 s p mid None) where
   -- the state with the value in the loan
   abbrev pub with_value : State T U
   with_value = with_loan mid n (Some (written l value))
 
   -- the loan that is granted is written
-  pub written-grants : GrantWrittenLoan ample_memory value user_header false 1 s p with_value None
+  pub written-grants : GrantWrittenLoan (loan_memory s p) value user_header false 1 s p with_value None
   written-grants = (
     mid,
     grants,
@@ -55,13 +55,13 @@ module _ {T U : Type 0} (s mid : State T U) (p n : ℕ) (next : n ≡ s.next_mes
   copy-sent environment is_default default m number same (Err e) failed s' sends = inl (failed, copy-granted environment is_default default m number same (Err e) s' sends)
 
 -- a loan that is refused is refused with any value
-pub written-refused : {T U : Type 0} (s s' : State T U) (p : ℕ) (e : LoanError) → ((user_header : U) → GrantLoan ample_memory user_header false 1 s p s' (Some e))
-    → (value : T) (user_header : U) → GrantWrittenLoan ample_memory value user_header false 1 s p s' (Some e)
+pub written-refused : {T U : Type 0} (s s' : State T U) (p : ℕ) (e : LoanError) → ((user_header : U) → GrantLoan (loan_memory s p) user_header false 1 s p s' (Some e))
+    → (value : T) (user_header : U) → GrantWrittenLoan (loan_memory s p) value user_header false 1 s p s' (Some e)
 written-refused s s' p e refused value user_header = (s', refused user_header, refl)
 
 -- a slice that is granted and written has these default values
 pub default-grants : {T U : Type 0} (s mid s' : State T U) (p n : ℕ) → n ≡ s.next_message → (l : Loan T U) → mid.loans n ≡ Some l → (IsValue : T → Type 0) (values : List T) → All IsValue values
-    → (user_header : U) (len : ℕ) → GrantLoan ample_memory user_header true len s p mid None → WriteAllFrom mid n l values s' → GrantDefaultSlice ample_memory IsValue values user_header len s p s' None
+    → (user_header : U) (len : ℕ) → GrantLoan (loan_memory s p) user_header true len s p mid None → WriteAllFrom mid n l values s' → GrantDefaultSlice (loan_memory s p) IsValue values user_header len s p s' None
 default-grants {T} {U} s mid s' p n next l out IsValue values all user_header len grants writes = (
   all,
   (
@@ -73,6 +73,6 @@ default-grants {T} {U} s mid s' p n next l out IsValue values all user_header le
 )
 
 -- one that is refused is refused with any default values
-pub default-refused : {T U : Type 0} (s s' : State T U) (p : ℕ) (e : LoanError) (IsValue : T → Type 0) (len : ℕ) → ((user_header : U) → GrantLoan ample_memory user_header true len s p s' (Some e))
-    → (values : List T) (user_header : U) → All IsValue values → GrantDefaultSlice ample_memory IsValue values user_header len s p s' (Some e)
+pub default-refused : {T U : Type 0} (s s' : State T U) (p : ℕ) (e : LoanError) (IsValue : T → Type 0) (len : ℕ) → ((user_header : U) → GrantLoan (loan_memory s p) user_header true len s p s' (Some e))
+    → (values : List T) (user_header : U) → All IsValue values → GrantDefaultSlice (loan_memory s p) IsValue values user_header len s p s' (Some e)
 default-refused s s' p e IsValue len refused values user_header all = (all, (s', refused user_header, refl))

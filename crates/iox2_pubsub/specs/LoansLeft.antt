@@ -1,23 +1,36 @@
 -- How many loans a publisher may still take, and how many message numbers a domain has left.
-use Rattle.std.specs.Prelude.{ℕ, ◌≡◌, ◌≢◌, ◌+◌, ◌≤◌}
+use Rattle.std.specs.Prelude.{ℕ, false, ◌≡◌, ◌≢◌, ◌+◌, ◌≤◌}
 use Rattle.std.specs.declared.option.Option.TheVariants.{Some}
 use Rattle.iox2_store.specs.machine.Limits.{last_number}
+use Rattle.iox2_store.specs.machine.Loans.{is_static}
 use Rattle.iox2_store.specs.machine.LoansLeft.{CanLend}
-use Rattle.iox2_store.specs.machine.Records.{Publisher as MachinePublisher}
+use Rattle.iox2_store.specs.machine.Records.{Publisher as MachinePublisher, PublisherSettings}
 use Rattle.iox2_store.specs.machine.State.{State}
+use Rattle.iox2_store.specs.declared.allocation.AllocationStrategy.{AllocationStrategy}
+use Rattle.iox2_store.specs.declared.service_config.ServiceConfig.{ServiceConfig}
+use Rattle.iox2_store.specs.declared.service_config.TypeVariant.TheVariants.{FixedSize}
 use Rattle.iox2_domain.specs.Kept.{Kept, state_of}
 use Rattle.iox2_pubsub.specs.declared.publisher.Publisher.{Publisher}
 
+-- A publisher with these settings lends single values, where messages are such, from its first segment, if its memory grows.
+abbrev pub LendsFirst : ServiceConfig → PublisherSettings → Type 0
+LendsFirst c given = is_static given.allocation_strategy ≡ false → c.variant ≡ FixedSize → 1 ≤ given.initial_max_slice_len
+
 module _ {T U : Type 0} where
-  -- The publisher p stands, and lends slices of up to so many elements.
+  -- The publisher p stands, and its first segment is for slices of up to so many elements.
   abbrev pub LendsUpTo : State T U → (p longest : ℕ) → Type 0
   LendsUpTo s p longest = (x : MachinePublisher) × (s.publishers p ≡ Some x) × (x.initial_max_slice_len ≡ longest)
 
 module _ {T U F G : Type 0} where
-  -- The publisher wasn't closed, lends slices of up to as many elements as its handle says, and can't be refused n loans more
-  -- for want of a slot or for its limit of loans.
+  -- The publisher wasn't closed, was made for slices of as many elements as its handle says, and can't be refused n loans more
+  -- that aren't longer, for want of a slot or of memory, or for its limit of loans.
   unfoldable pub HasLoansLeft : Kept T U F G → Publisher → (n : ℕ) → Type 0
   HasLoansLeft domain publisher n = CanLend (state_of domain) publisher.id n × LendsUpTo (state_of domain) publisher.id publisher.initial_max_slice_len
+
+  -- The publisher wasn't closed, and its memory grows by this strategy: not at all, where that is `Static`. Then no loan of its
+  -- takes memory.
+  unfoldable pub GrowsBy : Kept T U F G → Publisher → AllocationStrategy → Type 0
+  GrowsBy domain publisher strategy = (x : MachinePublisher) × ((state_of domain).publishers publisher.id ≡ Some x) × (x.allocation_strategy ≡ strategy)
 
   -- The domain has numbers for at least n messages more.
   unfoldable pub HasNumbersLeft : Kept T U F G → (n : ℕ) → Type 0

@@ -21,8 +21,8 @@ pub use custom_markers::{CustomHeaderMarker, CustomPayloadMarker};
 pub use domain::Domain;
 pub use iox2_store::{
     AllocationStrategy, BackpressureAction, BackpressureFn, BackpressureHandler, BackpressureInfo,
-    BackpressureStrategy, ConnectionFailure, DegradationAction, DegradationCause, DegradationFn,
-    DegradationHandler, DegradationInfo, DomainCreateError, Header, Key, LoanError,
+    BackpressureStrategy, ConnectionFailure, DataSegmentType, DegradationAction, DegradationCause,
+    DegradationFn, DegradationHandler, DegradationInfo, DomainCreateError, Header, Key, LoanError,
     PublisherCreateError, ReceiveError, SendError, ServiceConfig, SharedMemoryOpenError,
     SubscriberCreateError, TypeVariant, UniqueNodeId, UniquePublisherId, UniqueSubscriberId,
     Warning, ZeroCopyCreationError, worst_case_slots,

@@ -7,7 +7,7 @@ use Rattle.std.specs.declared.result.Result.TheVariants.{Ok, Err}
 use Rattle.iox2_store.specs.SingleValues.{is_single_valued}
 use Rattle.iox2_store.specs.machine.Records.{Environment, Loan}
 use Rattle.iox2_store.specs.machine.State.{State, Messages}
-use Rattle.iox2_store.specs.machine.Environments.{ample_memory, fixed_handlers}
+use Rattle.iox2_store.specs.machine.Environments.{fixed_handlers}
 use Rattle.iox2_store.specs.machine.Numbers.{put_at}
 use Rattle.iox2_store.specs.machine.Loans.{entry_of}
 use Rattle.iox2_store.specs.machine.Sends.{Send, SendResult, Delivered_to, Blocked_send, Send_error}
@@ -17,6 +17,7 @@ use Rattle.iox2_store.specs.declared.errors.LoanError.{LoanError}
 use Rattle.iox2_store.specs.declared.errors.SendError.{SendError}
 use Rattle.iox2_store.specs.declared.errors.SendError.TheVariants.{ConnectionError, UnableToDeliver}
 use Rattle.iox2_domain.specs.Kept.{Kept as Domain}
+use Rattle.iox2_domain.specs.Lending.{loan_memory}
 use Rattle.iox2_domain.specs.Shows.{Shows}
 use Rattle.iox2_store.specs.declared.key.Key.{Key}
 use Rattle.iox2_pubsub.specs.Live.{IsBlockedSend, blocked_key, lender_key, publisher_key}
@@ -140,7 +141,7 @@ module _ {T U F G : Type 0} (defaults : Defaults T U) (old new : Domain T U F G)
   pub default_carried : (h : PublisherHandle) (h' : SampleMut) → slice_index_or table of Nothing ≡ MadePublisher h → ((m : Messages T U) (s : State T U) → Shows old m s → IsUnblocked s h.id)
       → is_single_valued old.config ≡ true
       → ((m : Messages T U) (s : State T U) → Shows old m s → (s' : State T U) × Shows new m s'
-      × ((value : T) × defaults.IsDefaultValue value × (header : U) × defaults.IsDefaultHeader header × GrantWrittenLoan ample_memory value header false 1 s h.id s' None))
+      × ((value : T) × defaults.IsDefaultValue value × (header : U) × defaults.IsDefaultHeader header × GrantWrittenLoan (loan_memory s h.id) value header false 1 s h.id s' None))
       → h'.service_id ≡ (new.config).service_id → h'.loan.publisher ≡ h.id → h'.loan.number ≡ old.next_message
       → Carries fixed_handlers defaults old new table (LoanDefault of) Loaned table (Written h')
   default_carried h h' at free single lends service publisher number = λ m s handles events shown w default_value default_header is_value is_header.
@@ -151,19 +152,19 @@ module _ {T U F G : Type 0} (defaults : Defaults T U) (old new : Domain T U F G)
       subst (λ (k : TableEntry). Comes fixed_handlers defaults (Shows new) m s handles events (LoanDefault of) Loaned (map entry_for table ++ k ∷ [])) made
       (default_comes fixed_handlers defaults (Shows new) m s handles events (map entry_for table) w default_value default_header is_value is_header of h.service_id h.id
       (entry-stands table of (MadePublisher h) at (λ e. let clash : MadePublisher h ≡ Nothing = e in cc)) (free m s shown) (ap (λ (t : State T U). is_single_valued t.config) shown.state ∙ single)
-      loan.0 loan.1 loan.2 loan.3 lent.0 (written_any fixed_handlers loan.0 loan.2 s h.id lent.0 None loan.4) lent.1
+      loan.0 loan.1 loan.2 loan.3 lent.0 (written_any (loan_memory s h.id) loan.0 loan.2 s h.id lent.0 None loan.4) lent.1
       h'.service_id (service ∙ sym (ap (λ (t : State T U). (t.config).service_id) (lent.1).state)))
 
   pub default_denied : (h : PublisherHandle) (e : LoanError) → slice_index_or table of Nothing ≡ MadePublisher h → ((m : Messages T U) (s : State T U) → Shows old m s → IsUnblocked s h.id)
       → is_single_valued old.config ≡ true
       → ((m : Messages T U) (s : State T U) → Shows old m s → (s' : State T U) × Shows new m s'
-      × ((s' ≡ s) × ((value : T) (header : U) → GrantWrittenLoan ample_memory value header false 1 s h.id s' (Some e))))
+      × ((s' ≡ s) × ((value : T) (header : U) → GrantWrittenLoan (loan_memory s h.id) value header false 1 s h.id s' (Some e))))
       → Carries fixed_handlers defaults old new table (LoanDefault of) (LoanRefused e) table Nothing
   default_denied h e at free single refuses = λ m s handles events shown w default_value default_header is_value is_header.
       let refused = refuses m s shown in
       default_refused_comes fixed_handlers defaults (Shows new) m s handles events (map entry_for table) w default_value default_header is_value is_header of h.service_id h.id
       (entry-stands table of (MadePublisher h) at (λ e. let clash : MadePublisher h ≡ Nothing = e in cc)) (free m s shown) (ap (λ (t : State T U). is_single_valued t.config) shown.state ∙ single)
-      refused.0 e (written_any fixed_handlers default_value default_header s h.id refused.0 (Some e) ((refused.2).1 default_value default_header)) refused.1
+      refused.0 e (written_any (loan_memory s h.id) default_value default_header s h.id refused.0 (Some e) ((refused.2).1 default_value default_header)) refused.1
 
   -- ---- a copy
 
@@ -196,7 +197,7 @@ module _ {T U F G : Type 0} (environment : Environment) (defaults : Defaults T U
       let it = sent.3 in
       copied-by environment defaults new table of h value m s handles events w default_value default_header is_value is_header
       (entry-stands table of (MadePublisher h) at (λ e. let clash : MadePublisher h ≡ Nothing = e in cc)) (free m s shown) (ap (λ (t : State T U). is_single_valued t.config) shown.state ∙ single)
-      it.user_header it.default it.granted (written_any fixed_handlers value it.user_header s h.id it.granted None it.grants) it.loan it.out outcome blocked sent.1 it.sends
+      it.user_header it.default it.granted (written_any (loan_memory s h.id) value it.user_header s h.id it.granted None it.grants) it.loan it.out outcome blocked sent.1 it.sends
       (subst (λ (k : Messages T U). Shows new k sent.1) it.messages sent.2)
 
   pub copy_denied : (h : PublisherHandle) (value : T) (error : SendError) → slice_index_or table of Nothing ≡ MadePublisher h → ((m : Messages T U) (s : State T U) → Shows old m s → IsUnblocked s h.id)
@@ -211,7 +212,7 @@ module _ {T U F G : Type 0} (environment : Environment) (defaults : Defaults T U
       elim came.3 [
         | inl failed ↦
             let it = failed.1 in
-            let granted = written_any fixed_handlers value it.user_header s h.id it.granted None it.grants in
+            let granted = written_any (loan_memory s h.id) value it.user_header s h.id it.granted None it.grants in
             elim failed.0 [
               | inl undelivered ↦
                   subst (λ (e : SendError). Comes fixed_handlers defaults (Shows new) m s handles events (SendCopy of value) (SendRefused e) (map entry_for table ++ No_entry ∷ [])) (sym undelivered)
@@ -230,7 +231,7 @@ module _ {T U F G : Type 0} (environment : Environment) (defaults : Defaults T U
             subst (λ (e : SendError). Comes fixed_handlers defaults (Shows new) m s handles events (SendCopy of value) (SendRefused e) (map entry_for table ++ No_entry ∷ [])) (sym it.is)
             (copy_refused_comes fixed_handlers defaults (Shows new) m s handles events (map entry_for table) w default_value default_header is_value is_header of h.service_id h.id value
             (entry-stands table of (MadePublisher h) at (λ e. let clash : MadePublisher h ≡ Nothing = e in cc)) (free m s shown) (ap (λ (t : State T U). is_single_valued t.config) shown.state ∙ single)
-            came.1 it.reason (written_any fixed_handlers value default_header s h.id came.1 (Some it.reason) (it.refused value default_header))
+            came.1 it.reason (written_any (loan_memory s h.id) value default_header s h.id came.1 (Some it.reason) (it.refused value default_header))
             (subst (λ (k : Messages T U). Shows new k came.1) it.messages came.2))
       ]
 

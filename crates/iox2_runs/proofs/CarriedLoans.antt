@@ -6,7 +6,7 @@ use Rattle.std.specs.declared.result.Result.TheVariants.{Ok, Err}
 use Rattle.iox2_store.specs.SingleValues.{is_single_valued}
 use Rattle.iox2_store.specs.machine.Records.{Loan, Environment}
 use Rattle.iox2_store.specs.machine.State.{State, Messages, with_loan}
-use Rattle.iox2_store.specs.machine.Environments.{ample_memory, fixed_handlers}
+use Rattle.iox2_store.specs.machine.Environments.{fixed_handlers}
 use Rattle.iox2_store.specs.machine.Loans.{GrantLoan, written, entry_of}
 use Rattle.iox2_store.specs.machine.Sends.{Send, SendResult, Delivered_to, Blocked_send, Send_error}
 use Rattle.iox2_store.specs.declared.errors.LoanError.{LoanError}
@@ -15,6 +15,7 @@ use Rattle.iox2_store.specs.declared.errors.SendError.TheVariants.{ConnectionBro
 use Rattle.iox2_laws.proofs.Waits.{send_waits}
 use Rattle.iox2_domain.specs.Kept.{Kept as Domain}
 use Rattle.iox2_store.specs.declared.key.Key.{Key}
+use Rattle.iox2_domain.specs.Lending.{loan_memory}
 use Rattle.iox2_domain.specs.Shows.{Shows}
 use Rattle.iox2_pubsub.specs.Live.{IsBlockedSend, blocked_key, written_key}
 use Rattle.iox2_pubsub.specs.SendCalls.{FailsSend, IfBlocked, IsOfHandler, Sends, messages_after, result_of_send}
@@ -92,33 +93,33 @@ module _ {T U F G : Type 0} (environment : Environment) (defaults : Defaults T U
   pub loan_carried : table' ≡ table → (h : PublisherHandle) (h' : SampleMutUninit) → slice_index_or table of Nothing ≡ MadePublisher h → ((m : Messages T U) (s : State T U) → Shows old m s → IsUnblocked s h.id)
       → is_single_valued old.config ≡ true
       → ((m : Messages T U) (s : State T U) → Shows old m s → (s' : State T U) × Shows new m s'
-      × ((header : U) × defaults.IsDefaultHeader header × GrantLoan ample_memory header false 1 s h.id s' None))
+      × ((header : U) × defaults.IsDefaultHeader header × GrantLoan (loan_memory s h.id) header false 1 s h.id s' None))
       → h'.service_id ≡ (new.config).service_id → h'.loan.publisher ≡ h.id → h'.loan.number ≡ old.next_message
-      → Carries environment defaults old new table (LoanUninit of) Loaned table' (Unwritten h')
+      → Carries fixed_handlers defaults old new table (LoanUninit of) Loaned table' (Unwritten h')
   loan_carried is h h' at free single lends service publisher number = λ m s handles events shown w default_value default_header is_value is_header.
       let lent = lends m s shown in
       let loan = lent.2 in
       let made : Unwritten_entry h'.service_id h.id s.next_message ≡ entry_for (Unwritten h') =
       λ i. Unwritten_entry h'.service_id (sym publisher i) ((ap (λ (t : State T U). t.next_message) shown.state ∙ sym number) i) in
-      subst (λ (t : List Made). Comes environment defaults (Shows new) m s handles events (LoanUninit of) Loaned (map entry_for t ++ entry_for (Unwritten h') ∷ [])) (sym is)
-      (subst (λ (k : TableEntry). Comes environment defaults (Shows new) m s handles events (LoanUninit of) Loaned (map entry_for table ++ k ∷ [])) made
-      (loan_comes environment defaults (Shows new) m s handles events (map entry_for table) w default_value default_header is_value is_header of h.service_id h.id
+      subst (λ (t : List Made). Comes fixed_handlers defaults (Shows new) m s handles events (LoanUninit of) Loaned (map entry_for t ++ entry_for (Unwritten h') ∷ [])) (sym is)
+      (subst (λ (k : TableEntry). Comes fixed_handlers defaults (Shows new) m s handles events (LoanUninit of) Loaned (map entry_for table ++ k ∷ [])) made
+      (loan_comes fixed_handlers defaults (Shows new) m s handles events (map entry_for table) w default_value default_header is_value is_header of h.service_id h.id
       (entry-stands table of (MadePublisher h) at (λ e. let clash : MadePublisher h ≡ Nothing = e in cc)) (free m s shown)
       (ap (λ (t : State T U). is_single_valued t.config) shown.state ∙ single)
-      loan.0 loan.1 lent.0 (loan_any environment loan.0 false 1 s h.id lent.0 None loan.2) lent.1
+      loan.0 loan.1 lent.0 (loan_any (loan_memory s h.id) loan.0 false 1 s h.id lent.0 None loan.2) lent.1
       h'.service_id (service ∙ sym (ap (λ (t : State T U). (t.config).service_id) (lent.1).state))))
 
   pub loan_denied : table' ≡ table → (h : PublisherHandle) (e : LoanError) → slice_index_or table of Nothing ≡ MadePublisher h → ((m : Messages T U) (s : State T U) → Shows old m s → IsUnblocked s h.id)
       → is_single_valued old.config ≡ true
-      → ((m : Messages T U) (s : State T U) → Shows old m s → (s' : State T U) × Shows new m s' × ((s' ≡ s) × ((header : U) → GrantLoan ample_memory header false 1 s h.id s' (Some e))))
-      → Carries environment defaults old new table (LoanUninit of) (LoanRefused e) table' Nothing
+      → ((m : Messages T U) (s : State T U) → Shows old m s → (s' : State T U) × Shows new m s' × ((s' ≡ s) × ((header : U) → GrantLoan (loan_memory s h.id) header false 1 s h.id s' (Some e))))
+      → Carries fixed_handlers defaults old new table (LoanUninit of) (LoanRefused e) table' Nothing
   loan_denied is h e at free single refuses = λ m s handles events shown w default_value default_header is_value is_header.
       let refused = refuses m s shown in
-      subst (λ (t : List Made). Comes environment defaults (Shows new) m s handles events (LoanUninit of) (LoanRefused e) (map entry_for t ++ No_entry ∷ [])) (sym is)
-      (loan_refused_comes environment defaults (Shows new) m s handles events (map entry_for table) w default_value default_header is_value is_header of h.service_id h.id
+      subst (λ (t : List Made). Comes fixed_handlers defaults (Shows new) m s handles events (LoanUninit of) (LoanRefused e) (map entry_for t ++ No_entry ∷ [])) (sym is)
+      (loan_refused_comes fixed_handlers defaults (Shows new) m s handles events (map entry_for table) w default_value default_header is_value is_header of h.service_id h.id
       (entry-stands table of (MadePublisher h) at (λ e. let clash : MadePublisher h ≡ Nothing = e in cc)) (free m s shown)
       (ap (λ (t : State T U). is_single_valued t.config) shown.state ∙ single)
-      default_header is_header refused.0 e (loan_any environment default_header false 1 s h.id refused.0 (Some e) ((refused.2).1 default_header)) refused.1)
+      default_header is_header refused.0 e (loan_any (loan_memory s h.id) default_header false 1 s h.id refused.0 (Some e) ((refused.2).1 default_header)) refused.1)
 
   -- ---- a send
 

@@ -1,11 +1,12 @@
 -- Loans of slices, with what a run holds.
 use Rattle.std.proofs.Common.{◌≡◌, ℕ, true, false, List, [], ◌∷◌, ◌++◌, map, refl, sym, ap, subst, ◌∙◌, None, Some}
 use Rattle.std.specs.Prelude.{slice_index_or}
-use Rattle.iox2_store.specs.machine.Environments.{ample_memory, fixed_handlers}
+use Rattle.iox2_store.specs.machine.Environments.{fixed_handlers}
 use Rattle.iox2_store.specs.machine.Loans.{GrantLoan}
 use Rattle.iox2_store.specs.machine.State.{State, Messages}
 use Rattle.iox2_store.specs.declared.errors.LoanError.{LoanError}
 use Rattle.iox2_domain.specs.Kept.{Kept as Domain}
+use Rattle.iox2_domain.specs.Lending.{loan_memory}
 use Rattle.iox2_domain.specs.Shows.{Shows}
 use Rattle.iox2_pubsub.specs.declared.publisher.Publisher.{Publisher as PublisherHandle}
 use Rattle.iox2_pubsub.specs.declared.sample_mut_uninit.SampleMutUninit.{SampleMutUninit}
@@ -50,7 +51,7 @@ module _ {T U F G : Type 0} (defaults : Defaults T U) (old new : Domain T U F G)
     -- the loan is granted
     pub slice_carried : (h' : SampleMutUninit)
         → ((m : Messages T U) (s : State T U) → Shows old m s → (s' : State T U) × Shows new m s'
-        × ((header : U) × defaults.IsDefaultHeader header × GrantLoan ample_memory header true len s h.id s' None))
+        × ((header : U) × defaults.IsDefaultHeader header × GrantLoan (loan_memory s h.id) header true len s h.id s' None))
         → h'.service_id ≡ (new.config).service_id → h'.loan.publisher ≡ h.id → h'.loan.number ≡ old.next_message
         → Carries fixed_handlers defaults old new table (LoanSlice of len) Loaned table' (Unwritten h')
     slice_carried h' lends service publisher number = λ m s handles events shown w default_value default_header is_value is_header.
@@ -63,12 +64,12 @@ module _ {T U F G : Type 0} (defaults : Defaults T U) (old new : Domain T U F G)
         (slice_comes fixed_handlers defaults (Shows new) m s handles events (map entry_for table) w default_value default_header is_value is_header of len h.service_id h.id
         (entry-stands table of (MadePublisher h) at (λ e. let clash : MadePublisher h ≡ Nothing = e in cc)) (free m s shown)
         (ap (λ (t : State T U). has_slices t.config) shown.state ∙ slices)
-        loan.0 loan.1 lent.0 (loan_any fixed_handlers loan.0 true len s h.id lent.0 None loan.2) lent.1
+        loan.0 loan.1 lent.0 (loan_any (loan_memory s h.id) loan.0 true len s h.id lent.0 None loan.2) lent.1
         h'.service_id (service ∙ sym (ap (λ (t : State T U). (t.config).service_id) (lent.1).state))))
 
     -- or refused
     pub slice_denied : (e : LoanError)
-        → ((m : Messages T U) (s : State T U) → Shows old m s → (s' : State T U) × Shows new m s' × ((s' ≡ s) × ((header : U) → GrantLoan ample_memory header true len s h.id s' (Some e))))
+        → ((m : Messages T U) (s : State T U) → Shows old m s → (s' : State T U) × Shows new m s' × ((s' ≡ s) × ((header : U) → GrantLoan (loan_memory s h.id) header true len s h.id s' (Some e))))
         → Carries fixed_handlers defaults old new table (LoanSlice of len) (LoanRefused e) table' Nothing
     slice_denied e refuses = λ m s handles events shown w default_value default_header is_value is_header.
         let refused = refuses m s shown in
@@ -76,4 +77,4 @@ module _ {T U F G : Type 0} (defaults : Defaults T U) (old new : Domain T U F G)
         (slice_refused_comes fixed_handlers defaults (Shows new) m s handles events (map entry_for table) w default_value default_header is_value is_header of len h.service_id h.id
         (entry-stands table of (MadePublisher h) at (λ e. let clash : MadePublisher h ≡ Nothing = e in cc)) (free m s shown)
         (ap (λ (t : State T U). has_slices t.config) shown.state ∙ slices)
-        default_header is_header refused.0 e (loan_any fixed_handlers default_header true len s h.id refused.0 (Some e) ((refused.2).1 default_header)) refused.1)
+        default_header is_header refused.0 e (loan_any (loan_memory s h.id) default_header true len s h.id refused.0 (Some e) ((refused.2).1 default_header)) refused.1)

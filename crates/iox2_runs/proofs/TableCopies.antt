@@ -3,7 +3,7 @@ use Rattle.std.proofs.Common.{◌≡◌, ℕ, ◌+◌, ◌≤◌, ◌<◌, true,
 use Rattle.std.specs.Prelude.{MatchOption, slice_get}
 use Rattle.std.proofs.lemmas.Option.{none-some, same_Some}
 use Rattle.std.proofs.lemmas.Bool.{ne_eqb}
-use Rattle.iox2_store.specs.machine.Environments.{ample_memory}
+use Rattle.iox2_store.specs.machine.Environments.{fixed_handlers}
 use Rattle.iox2_store.specs.machine.Loans.{written, entry_of}
 use Rattle.iox2_store.specs.machine.Numbers.{put_at}
 use Rattle.iox2_store.specs.machine.Records.{Loan, Environment}
@@ -86,10 +86,10 @@ pub copied-refused : {T U : Type 0} (environment : Environment) (s : State T U) 
     → GrantWrittenLoan environment value header false 1 s p s' (Some e) → s' ≡ s
 copied-refused environment s p value header s' e h = h.2 ∙ loan_refused environment s header false 1 p h.0 e h.1
 
--- a loan that is granted or refused where memory is ample is so anywhere
-pub written_any : {T U : Type 0} (environment : Environment) (value : T) (header : U) (s : State T U) (p : ℕ) (s' : State T U) (refusal : Option LoanError)
-    → GrantWrittenLoan ample_memory value header false 1 s p s' refusal → GrantWrittenLoan environment value header false 1 s p s' refusal
-written_any environment value header s p s' refusal h = (h.0, loan_any environment header false 1 s p h.0 refusal h.1, h.2)
+-- a loan that is granted or refused is so where memory may be refused
+pub written_any : {T U : Type 0} (given : Environment) (value : T) (header : U) (s : State T U) (p : ℕ) (s' : State T U) (refusal : Option LoanError)
+    → GrantWrittenLoan given value header false 1 s p s' refusal → GrantWrittenLoan fixed_handlers value header false 1 s p s' refusal
+written_any given value header s p s' refusal h = (h.0, loan_any given header false 1 s p h.0 refusal h.1, h.2)
 
 module _ {T U : Type 0} (environment : Environment) (defaults : Defaults T U) (Shown : Messages T U → State T U → Type 0) (m : Messages T U) (s : State T U) (handles : List Handle)
     (events : List (Event T U)) (table : List TableEntry) (w : IsTable s handles events table) (default_value : T) (default_header : U)

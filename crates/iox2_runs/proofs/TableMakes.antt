@@ -7,7 +7,7 @@ use Rattle.iox2_store.specs.SingleValues.{is_single_valued}
 use Rattle.iox2_store.specs.machine.Limits.{buffer_limit}
 use Rattle.iox2_store.specs.machine.Records.{Custom, Loan, Publisher, Subscriber, Environment, PublisherSettings, SubscriberSettings, Fixed}
 use Rattle.iox2_store.specs.machine.State.{State, Messages}
-use Rattle.iox2_store.specs.machine.Environments.{ample_memory}
+use Rattle.iox2_store.specs.machine.Environments.{fixed_handlers}
 use Rattle.iox2_store.specs.machine.Loans.{GrantLoan, StaticLoan, DynamicLoan, limit_error, is_static}
 use Rattle.iox2_store.specs.machine.Ports.{FirstPublisherUpdate, FirstSubscriberUpdate, CreatePublisher, CreateSubscriber, with_new_publisher, with_new_subscriber, new_subscriber}
 use Rattle.iox2_store.specs.declared.allocation.AllocationStrategy.{AllocationStrategy}
@@ -300,29 +300,29 @@ module _ {T U : Type 0} (environment : Environment) (defaults : Defaults T U) (S
       denied_comes (LoanSlice of len) p header is_default true len s' e h
       (at_some _ _ _ (p, found.0) (slice_named s (unblocked_at s handles of) slices ∙ found.1) (s', Some e, h, refl)) shown
 
--- a loan that is granted or refused where memory is ample is so anywhere
-pub loan_any : {T U : Type 0} (environment : Environment) (header : U) (checks_length : Bool) (len : ℕ) (s : State T U) (p : ℕ) (s' : State T U) (refusal : Option LoanError)
-    → GrantLoan ample_memory header checks_length len s p s' refusal → GrantLoan environment header checks_length len s p s' refusal
-loan_any {T} {U} environment header checks_length len s p s' refusal h = by_publisher (s.publishers p) h where
-  dynamic : (x : Publisher) (refusal : Option LoanError) → DynamicLoan ample_memory header s p x len s' refusal → DynamicLoan environment header s p x len s' refusal
+-- a loan that is granted or refused is so where memory may be refused
+pub loan_any : {T U : Type 0} (given : Environment) (header : U) (checks_length : Bool) (len : ℕ) (s : State T U) (p : ℕ)
+    (s' : State T U) (refusal : Option LoanError) → GrantLoan given header checks_length len s p s' refusal → GrantLoan fixed_handlers header checks_length len s p s' refusal
+loan_any {T} {U} given header checks_length len s p s' refusal h = by_publisher (s.publishers p) h where
+  dynamic : (x : Publisher) (refusal : Option LoanError) → DynamicLoan given header s p x len s' refusal → DynamicLoan fixed_handlers header s p x len s' refusal
   dynamic x None h = h
   dynamic x (Some OutOfMemory) h = h
-  dynamic x (Some InternalFailure) h = (h.0, ⊎_elim (λ end. inl end) (λ other. inr (⊎_elim (λ refused. absurd refused) (λ none. inr none) other.0, other.1)) h.1)
+  dynamic x (Some InternalFailure) h = (h.0, ⊎_elim (λ end. inl end) (λ other. inr (⊎_elim (λ refused. inl tt) (λ none. inr none) other.0, other.1)) h.1)
   dynamic x (Some ExceedsMaxLoans) h = h
   dynamic x (Some ExceedsMaxLoanSize) h = h
 
   by_limit : (x : Publisher) (o : Option LoanError)
-      → MatchOption o (MatchBool (is_static x.allocation_strategy) (StaticLoan header s p x len s' refusal) (DynamicLoan ample_memory header s p x len s' refusal)) (λ limit. (s' ≡ s) × (refusal ≡ Some limit))
-      → MatchOption o (MatchBool (is_static x.allocation_strategy) (StaticLoan header s p x len s' refusal) (DynamicLoan environment header s p x len s' refusal)) (λ limit. (s' ≡ s) × (refusal ≡ Some limit))
+      → MatchOption o (MatchBool (is_static x.allocation_strategy) (StaticLoan header s p x len s' refusal) (DynamicLoan given header s p x len s' refusal)) (λ limit. (s' ≡ s) × (refusal ≡ Some limit))
+      → MatchOption o (MatchBool (is_static x.allocation_strategy) (StaticLoan header s p x len s' refusal) (DynamicLoan fixed_handlers header s p x len s' refusal)) (λ limit. (s' ≡ s) × (refusal ≡ Some limit))
   by_limit x (Some limit) h = h
   by_limit x None h = by_kind (is_static x.allocation_strategy) h where
-    by_kind : (b : Bool) → MatchBool b (StaticLoan header s p x len s' refusal) (DynamicLoan ample_memory header s p x len s' refusal)
-        → MatchBool b (StaticLoan header s p x len s' refusal) (DynamicLoan environment header s p x len s' refusal)
+    by_kind : (b : Bool) → MatchBool b (StaticLoan header s p x len s' refusal) (DynamicLoan given header s p x len s' refusal)
+        → MatchBool b (StaticLoan header s p x len s' refusal) (DynamicLoan fixed_handlers header s p x len s' refusal)
     by_kind true h = h
     by_kind false h = dynamic x refusal h
 
   by_publisher : (o : Option Publisher)
-      → MatchOption o ⊥ (λ x. MatchOption (limit_error checks_length x len) (MatchBool (is_static x.allocation_strategy) (StaticLoan header s p x len s' refusal) (DynamicLoan ample_memory header s p x len s' refusal)) (λ limit. (s' ≡ s) × (refusal ≡ Some limit)))
-      → MatchOption o ⊥ (λ x. MatchOption (limit_error checks_length x len) (MatchBool (is_static x.allocation_strategy) (StaticLoan header s p x len s' refusal) (DynamicLoan environment header s p x len s' refusal)) (λ limit. (s' ≡ s) × (refusal ≡ Some limit)))
+      → MatchOption o ⊥ (λ x. MatchOption (limit_error checks_length x len) (MatchBool (is_static x.allocation_strategy) (StaticLoan header s p x len s' refusal) (DynamicLoan given header s p x len s' refusal)) (λ limit. (s' ≡ s) × (refusal ≡ Some limit)))
+      → MatchOption o ⊥ (λ x. MatchOption (limit_error checks_length x len) (MatchBool (is_static x.allocation_strategy) (StaticLoan header s p x len s' refusal) (DynamicLoan fixed_handlers header s p x len s' refusal)) (λ limit. (s' ≡ s) × (refusal ≡ Some limit)))
   by_publisher None h = h
   by_publisher (Some x) h = by_limit x (limit_error checks_length x len) h

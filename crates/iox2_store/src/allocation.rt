@@ -7,9 +7,20 @@
 pub enum AllocationStrategy {
     /// It doesn't grow: such a loan is refused.
     Static,
-    /// By a segment with room for slices of the length that is asked for, or of the length that
-    /// fits so far if that is longer.
+    /// By a segment of as many slots as the first, each with room for slices of the length that is
+    /// asked for, or of the length that fits so far if that is longer. There are at most 255 segments.
     BestFit,
     /// As `BestFit`, with that length rounded up to a power of two.
     PowerOfTwo,
+}
+
+/// Whether a publisher's memory can grow. No call takes or returns one.
+///
+/// iceoryx2's `DataSegmentType` (`src/port/details/data_segment.rs`).
+#[derive(Debug, Clone, Copy, PartialEq, Eq)]
+pub enum DataSegmentType {
+    /// It grows where a loan finds no room.
+    Dynamic,
+    /// It is allocated once.
+    Static,
 }

@@ -15,7 +15,7 @@ mod service_config;
 mod warning;
 mod worst_case;
 
-pub use allocation::AllocationStrategy;
+pub use allocation::{AllocationStrategy, DataSegmentType};
 pub use backpressure::{
     BackpressureAction, BackpressureFn, BackpressureInfo, BackpressureStrategy,
     BackpressureToReceiverAction,

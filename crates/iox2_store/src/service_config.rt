@@ -57,8 +57,7 @@ pub struct ServiceConfig {
     pub publisher_max_loaned_samples: usize,
     /// What a publisher does at a full buffer, where its factory sets no strategy.
     pub backpressure_strategy: BackpressureStrategy,
-    /// How a publisher's memory grows, where its factory sets no strategy. So far none grows: a
-    /// publisher that isn't to be static is refused.
+    /// How a publisher's memory grows, where its factory sets no strategy.
     pub publisher_allocation_strategy: AllocationStrategy,
 }
 

@@ -1,5 +1,5 @@
 //! The factory of publishers.
-ghost use Rattle.std.specs.Prelude.{◌≡◌, ◌≤◌, true, false, None, Some, IfOk, OnErr, OnOk, MatchResult};
+ghost use Rattle.std.specs.Prelude.{◌≡◌, ◌≤◌, true, false, None, Some, IfOk, OnErr, MatchResult};
 ghost use Rattle.iox2_store.specs.declared.degradation.DegradationAction.TheVariants.{Warn};
 ghost use Rattle.iox2_domain.specs.Boxes.{answers_of};
 ghost use Rattle.iox2_store.specs.machine.Records.{Fixed};
@@ -7,7 +7,7 @@ ghost use Rattle.iox2_store.specs.machine.Limits.{worst_case};
 ghost use Rattle.iox2_store.specs.machine.Ports.{CreatePublisher, slots_for};
 ghost use Rattle.iox2_store.specs.machine.State.{State, Messages};
 ghost use Rattle.iox2_pubsub.specs.Live.{ConnectionsStay, IsConnected, IsNewIn, IsReadyPublisher, NeverFails, NeverWaits, NoneRefused, RoomStays, Stays, degradation_box, handler_box, publisher_key, publisher_port, waiting, WaitingStays, IsSubscriberKey, subscriber_key};
-ghost use Rattle.iox2_pubsub.specs.LoansLeft.{HasLoansLeft, LoansLeftStay};
+ghost use Rattle.iox2_pubsub.specs.LoansLeft.{GrowsBy, HasLoansLeft, LendsFirst, LoansLeftStay};
 ghost use Rattle.iox2_domain.specs.NewPublisher.{plain_publisher};
 ghost use Rattle.iox2_domain.specs.Handlers.{handler_of, may_fail, may_fail_update};
 ghost use Rattle.iox2_ends.specs.Handlers.{marks_of};
@@ -168,8 +168,8 @@ impl<F: BackpressureFn, G: DegradationFn, O: Drop> PortFactoryPublisher<F, G, O>
         }
     }
 
-    /// Sets how the memory of the publisher grows. So far none grows: `create` makes static
-    /// publishers alone, and refuses others with `UnableToCreateDataSegment`.
+    /// Sets how the memory of the publisher grows. A static one refuses a loan where each of its slots
+    /// is in use; any other makes further slots for it, up to 254 times.
     ///
     /// iceoryx2's `PortFactoryPublisher::allocation_strategy`
     /// (`src/service/port_factory/publisher.rs`), of slices alone.
@@ -243,8 +243,7 @@ impl<F: BackpressureFn, G: DegradationFn> PortFactoryPublisher<F, G> {
     ///
     /// Fails, in this order, with `UnableToCreatePortTag` where the domain has no ids left, with
     /// `ExceedsMaxSupportedPublishers` where as many publishers are open as may be, with
-    /// `UnableToCreateDataSegment` where the number of slots or their size doesn't fit `usize`, and
-    /// so far where the publisher isn't to be static.
+    /// `UnableToCreateDataSegment` where the number of slots or their size doesn't fit `usize`.
     /// After these, where memory is refused: with `UnableToCreateDataSegment` if it was for the
     /// slots, with `FailedToDeployThreadsafetyPolicy` if it was for the publisher's state or its boxes.
     /// No id is then used, and the domain stays as it is.
@@ -259,7 +258,7 @@ impl<F: BackpressureFn, G: DegradationFn> PortFactoryPublisher<F, G> {
             × MatchResult result
             (λ publisher. (publisher_id publisher ≡ s.next_port) × CreatePublisher (answers_of F.allows G.allows (domain.new.boxes).publishers) s self.settings s' None)
             (λ e. CreatePublisher (answers_of F.allows G.allows (domain.new.boxes).publishers) s self.settings s' (Some e)) }
-        ensures is_static { OnOk result (self.settings.allocation_strategy ≡ AllocationStrategy.Static) }
+        ensures grows { IfOk result (λ publisher. GrowsBy domain.new publisher self.settings.allocation_strategy) }
         ensures ready { IfOk result (λ publisher. IsReadyPublisher domain.new publisher) }
         ensures discards { self.settings.backpressure_strategy ≡ BackpressureStrategy.DiscardData → self.settings.backpressure_handler ≡ None → may_fail_update self.settings.degradation_handler ≡ false → IfOk result (λ publisher. NeverWaits domain.new (publisher_key publisher)) }
         ensures passes { may_wait self.settings.backpressure_strategy self.settings.backpressure_handler ≡ false → may_fail self.settings.backpressure_handler ≡ false → may_fail_update self.settings.degradation_handler ≡ false → IfOk result (λ publisher. NeverWaits domain.new (publisher_key publisher)) }
@@ -275,7 +274,7 @@ impl<F: BackpressureFn, G: DegradationFn> PortFactoryPublisher<F, G> {
         ensures room { RoomStays domain.old domain.new }
         ensures connects { IfOk result (λ publisher. NoneRefused domain.old domain.new → (subscriber : Subscriber) → IsSubscriberKey domain.old (subscriber_key subscriber) → IsConnected domain.new (publisher_id publisher) subscriber) }
         ensures loans_left { LoansLeftStay domain.old domain.new }
-        ensures left { IfOk result (λ publisher. HasLoansLeft domain.new publisher self.settings.max_loaned_samples) }
+        ensures left { LendsFirst (domain.old.config) self.settings → IfOk result (λ publisher. HasLoansLeft domain.new publisher self.settings.max_loaned_samples) }
         ensures stays { Stays domain.old domain.new }
     {
         let segments = SegmentOptions {
@@ -301,7 +300,7 @@ pub(crate) fn create_plain<T: Drop, U: Default + Drop, F: BackpressureFn, G: Deg
         × MatchResult result
         (λ publisher. (publisher_id publisher ≡ s.next_port) × CreatePublisher (answers_of F.allows G.allows (domain.new.boxes).publishers) s (settings_with given.now (marks_of handler) segments) s' None)
         (λ e. CreatePublisher (answers_of F.allows G.allows (domain.new.boxes).publishers) s (settings_with given.now (marks_of handler) segments) s' (Some e)) }
-    ensures is_static { OnOk result (segments.allocation ≡ AllocationStrategy.Static) }
+    ensures grows { IfOk result (λ publisher. GrowsBy domain.new publisher segments.allocation) }
     ensures ready { IfOk result (λ publisher. IsReadyPublisher domain.new publisher) }
     ensures discards { given.now.strategy ≡ BackpressureStrategy.DiscardData → marks_of handler ≡ None → may_fail_update (handler_of given.now.degradation) ≡ false → IfOk result (λ publisher. NeverWaits domain.new (publisher_key publisher)) }
     ensures passes { may_wait given.now.strategy (marks_of handler) ≡ false → may_fail (marks_of handler) ≡ false → may_fail_update (handler_of given.now.degradation) ≡ false → IfOk result (λ publisher. NeverWaits domain.new (publisher_key publisher)) }
@@ -318,7 +317,7 @@ pub(crate) fn create_plain<T: Drop, U: Default + Drop, F: BackpressureFn, G: Deg
     ensures room { RoomStays domain.old domain.new }
     ensures connects { IfOk result (λ publisher. NoneRefused domain.old domain.new → (subscriber : Subscriber) → IsSubscriberKey domain.old (subscriber_key subscriber) → IsConnected domain.new (publisher_id publisher) subscriber) }
     ensures loans_left { LoansLeftStay domain.old domain.new }
-    ensures left { worst_case (domain.old.config) given.now.max_loaned_samples ≤ slots_for (domain.old.config) (settings_with given.now (marks_of handler) segments) → IfOk result (λ publisher. HasLoansLeft domain.new publisher given.now.max_loaned_samples) }
+    ensures left { worst_case (domain.old.config) given.now.max_loaned_samples ≤ slots_for (domain.old.config) (settings_with given.now (marks_of handler) segments) → LendsFirst (domain.old.config) (settings_with given.now (marks_of handler) segments) → IfOk result (λ publisher. HasLoansLeft domain.new publisher given.now.max_loaned_samples) }
     ensures stays { Stays domain.old domain.new }
 {
     let service_id = domain.state.config().service_id;

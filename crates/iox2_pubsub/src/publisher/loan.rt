@@ -18,18 +18,22 @@ impl Publisher {
     ghost use Rattle.iox2_pubsub.specs.Handles.{max_slice_len_of, publisher_id, unwritten_lender, unwritten_number};
 
     /// Lends a message of one element, whose payload isn't written and whose user header has
-    /// its default value. The loan is out until its message was sent. It takes no memory.
+    /// its default value. The loan is out until its message was sent. It takes no memory, but for
+    /// further slots of a publisher whose memory grows.
     ///
     /// # Errors
     ///
-    /// In this order: `ExceedsMaxLoans` where as many loans are out as the publisher may have at a
-    /// time; `OutOfMemory` where each of its slots holds a loan, or a message that is kept for later
-    /// subscribers, waits or is borrowed; `InternalFailure` where the domain has no message number
-    /// left. Nothing changes then.
+    /// First `ExceedsMaxLoans` where as many loans are out as the publisher may have at a time. Of a
+    /// static publisher then `OutOfMemory` where each of its slots holds a loan, or a message that is
+    /// kept for later subscribers, waits or is borrowed; and `InternalFailure` where the domain has no
+    /// message number left. Of one whose memory grows `InternalFailure` where there is no such number;
+    /// then, where each of its newest slots holds something, `OutOfMemory` where it has made slots 255
+    /// times, and `InternalFailure` where memory for more is refused, or their size doesn't fit
+    /// `usize`. Nothing changes then.
     ///
-    /// A publisher with as many slots as `worst_case_slots` says for its limit of loans, in one
-    /// segment, is never refused for want of a slot: while fewer loans than its limit are out and a
-    /// message number is left, the loan is granted, whatever its subscribers hold.
+    /// A publisher with as many slots as `worst_case_slots` says for its limit of loans is never
+    /// refused for want of a slot or of memory: while fewer loans than its limit are out and a message
+    /// number is left, the loan is granted, whatever its subscribers hold.
     ///
     /// iceoryx2's `Publisher::loan_uninit` (`src/port/publisher.rs`).
     #[inline(always)]
@@ -58,7 +62,7 @@ impl Publisher {
         self.lend(domain, false, 1)
     }
 
-    // Lends a message of so many elements. Where the length counts, one that is longer than the
+    // Lends a message of so many elements. Where the length counts, one that is longer than a static
     // publisher lends is refused.
     #[inline(always)]
     pub(crate) fn lend<T: Drop, U: Default + Drop, F: BackpressureFn, G: DegradationFn>(

@@ -57,7 +57,8 @@ impl Publisher {
         self.publisher.backpressure_strategy()
     }
 
-    /// How many elements a loan may have at most: any number, 0 too.
+    /// For how many elements each of its first slots has room: any number, 0 too. A loan of a static
+    /// publisher has no more.
     ///
     /// iceoryx2's `Publisher::initial_max_slice_len` (`src/port/publisher.rs`).
     pub fn initial_max_slice_len(&self) -> usize

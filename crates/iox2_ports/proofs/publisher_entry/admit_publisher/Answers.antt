@@ -6,7 +6,7 @@ use Rattle.circular_buffer.specs.Buffer.{buffer}
 use Rattle.iox2_store.specs.machine.Limits.{last_number, segment_fits}
 use Rattle.iox2_domain.specs.Handlers.{handler_if_any}
 use Rattle.iox2_domain.specs.NewPublisher.{entering_publisher, subscriber_due}
-use Rattle.iox2_ports.specs.Settings.{static_with}
+use Rattle.iox2_ports.specs.Settings.{settings_with}
 use Rattle.iox2_domain.specs.Ports.{PublisherFields}
 use Rattle.iox2_domain.specs.Fields.{Fields}
 use Rattle.iox2_domain.specs.Placed.{placed}
@@ -56,10 +56,10 @@ overflow_add-state g c =
     omega arith
 
 pub returns-clause-step : goal.returns-clause-step
-returns-clause-step g c = λ asked slots.
-    let given = static_with c.args.given.now (handler_if_any c.args.handler) asked in
-    entered-reaches-as {T = g.row.T.Denot} {U = g.row.U.Denot} c.args.state.now _ _ c.state.view_is c.requires.agrees given (record { allocation = refl }) c.args.slots c.args.place c.in-Ok-entering.publisher c.in-Ok.segment.book c.in-Ok.segment.contents
-    c.add_segment.new.books c.requires.has_place slots (record {
+returns-clause-step g c =
+    let given = settings_with c.args.given.now (handler_if_any c.args.handler) c.args.segments in
+    entered-reaches-as {T = g.row.T.Denot} {U = g.row.U.Denot} c.args.state.now _ _ c.state.view_is c.requires.agrees given c.args.slots c.args.place c.in-Ok-entering.publisher c.in-Ok.segment.book c.in-Ok.segment.contents
+    c.add_segment.new.books c.requires.has_place c.requires.slots (record {
       publisher = c.in-Ok-entering.ensures.enters
           ∙ ap (λ id. entering_publisher id c.args.place c.vacant_key-key.result given c.args.slots c.in-Ok-entering.publisher.loan_room (buffer [] c.state.inside.config.history_size) c.in-Ok-entering.publisher.key_room) c.new-id.ensures
           ∙ ap (λ key. entering_publisher c.state.inside.next_port c.args.place key given c.args.slots c.in-Ok-entering.publisher.loan_room (buffer [] c.state.inside.config.history_size) c.in-Ok-entering.publisher.key_room) c.vacant_key-key.ensures.value;

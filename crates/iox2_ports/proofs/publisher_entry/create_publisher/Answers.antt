@@ -7,7 +7,6 @@ use Rattle.iox2_store.specs.machine.Limits.{segment_fits}
 use Rattle.iox2_store.specs.machine.Ports.{first_segment_fits, slots_for, with_new_publisher}
 use Rattle.iox2_store.specs.machine.Records.{Handler}
 use Rattle.iox2_store.specs.declared.backpressure.BackpressureAction.{BackpressureAction}
-use Rattle.iox2_store.specs.declared.allocation.AllocationStrategy.{AllocationStrategy}
 use Rattle.iox2_store.specs.declared.errors.PublisherCreateError.TheVariants.{FailedToDeployThreadsafetyPolicy, UnableToCreateDataSegment}
 use Rattle.iox2_ends.proofs.MailboxChanges.{both-true}
 use Rattle.iox2_domain.specs.Boxes.{answers_of, boxes_of}
@@ -16,7 +15,7 @@ use Rattle.iox2_domain.specs.Reaches.{Reaches}
 use Rattle.iox2_domain.specs.declared.boxes.PortBox.{PortBox}
 use Rattle.iox2_domain.specs.Fields.{Fields, kept_of}
 use Rattle.iox2_ends.specs.Handlers.{marks_of}
-use Rattle.iox2_ports.specs.Settings.{settings_with, static_with}
+use Rattle.iox2_ports.specs.Settings.{settings_with}
 use Rattle.iox2_steps.proofs.creations.PublisherCreations.{created-refused, created-unfit, created-made, created-updated}
 use Rattle.iox2_domain.proofs.lemmas.fields.ReachesShows.{reaches-same}
 use Rattle.iox2_ports.proofs.publisher_entry.create_publisher.Goals as goal
@@ -47,12 +46,6 @@ returns-in_err-id-clause-step g c =
       c.in_err-id.ensures.step.0,
     )
 
-pub update_first-requires-clause-agrees : goal.update_first-requires-clause-agrees
-update_first-requires-clause-agrees g c =
-    let asked = c.args.segments.asked_slots in
-    let slots = c.in-Some.ensures.1 ∙ ap (λ (f : Fields g.row.T.Denot g.row.U.Denot). slots_for f.config (static_with c.args.given.now None asked)) c.state.view_is in
-    (c.in_ok-id.ensures.step asked slots).agrees
-
 pub update_first-requires-clause-stands : goal.update_first-requires-clause-stands
 update_first-requires-clause-stands g c =
     let entered = c.in_ok-id.ensures in
@@ -61,25 +54,12 @@ update_first-requires-clause-stands g c =
 pub returns-clause-step : goal.returns-clause-step
 returns-clause-step g c =
     let entered = c.in_ok-id.ensures in
-    let asked = c.args.segments.asked_slots in
-    let slots = c.in-Some.ensures.1 ∙ ap (λ (f : Fields g.row.T.Denot g.row.U.Denot). slots_for f.config (static_with c.args.given.now None asked)) c.state.view_is in
     created-updated {T = g.row.T.Denot} {U = g.row.U.Denot} c.args.state.now (settings_with c.args.given.now (marks_of c.args.handler) c.args.segments) (answers_of g.F.BackpressureFn.allows g.G.DegradationFn.allows c.keep_boxes.new.kept.boxes)
     c.admit_publisher.new.state c.update_first.new.state c.in_ok-place.place (sym c.place_for_publisher.ensures ∙ c.in_ok-place.was)
     (subst (λ (f : Fields g.row.T.Denot g.row.U.Denot). IsTrue (first_segment_fits f.config (settings_with c.args.given.now (marks_of c.args.handler) c.args.segments))) c.state.view_is c.in-Some.ensures.0)
-    (subst (λ (allocation : AllocationStrategy). Reaches c.args.state.now c.admit_publisher.new.state
-    (with_new_publisher (state_of (kept_of c.args.state.now)) (record (static_with c.args.given.now (marks_of c.args.handler) asked) { allocation_strategy = allocation }) c.in_ok-place.place)) (sym c.in-Static.is)
     (subst (λ (h : Option (Handler BackpressureAction)). Reaches c.args.state.now c.admit_publisher.new.state
-    (with_new_publisher (state_of (kept_of c.args.state.now)) (static_with c.args.given.now h asked) c.in_ok-place.place)) c.mark_of-mark.ensures (entered.step asked slots)))
+    (with_new_publisher (state_of (kept_of c.args.state.now)) (settings_with c.args.given.now h c.args.segments) c.in_ok-place.place)) c.mark_of-mark.ensures entered.step)
     entered.stands.0 entered.stands.2 (c.update_first.ensures entered.stands.0 entered.stands.1)
-
-pub returns-in_default-allocation-clause-step : goal.returns-in_default-allocation-clause-step
-returns-in_default-allocation-clause-step g c = (
-  created-made {T = g.row.T.Denot} {U = g.row.U.Denot} c.args.state.now (settings_with c.args.given.now (marks_of c.args.handler) c.args.segments) (answers_of g.F.BackpressureFn.allows g.G.DegradationFn.allows c.args.boxes.now.boxes) c.in_ok-place.place (state_of (kept_of c.args.state.now)) (Some UnableToCreateDataSegment)
-      (sym c.place_for_publisher.ensures ∙ c.in_ok-place.was)
-      (subst (λ (f : Fields g.row.T.Denot g.row.U.Denot). IsTrue (first_segment_fits f.config (settings_with c.args.given.now (marks_of c.args.handler) c.args.segments))) c.state.view_is c.in-Some.ensures.0)
-      (tt, refl, inl refl),
-  reaches-same c.args.state.now c.requires,
-)
 
 pub returns-in_default-reserve_for-clause-step : goal.returns-in_default-reserve_for-clause-step
 returns-in_default-reserve_for-clause-step g c = (
@@ -107,6 +87,10 @@ pub admit_publisher-requires-clause-size : goal.admit_publisher-requires-clause-
 admit_publisher-requires-clause-size g c =
     let fits : IsTrue (first_segment_fits c.args.state.now.config (settings_with c.args.given.now (marks_of c.args.handler) c.args.segments)) =
     subst (λ (f : Fields g.row.T.Denot g.row.U.Denot). IsTrue (first_segment_fits f.config (settings_with c.args.given.now (marks_of c.args.handler) c.args.segments))) c.state.view_is c.in-Some.ensures.0 in
-    let slots : c.in-Some.slots ≡ slots_for c.args.state.now.config (static_with c.args.given.now None c.args.segments.asked_slots) =
-    c.in-Some.ensures.1 ∙ ap (λ (f : Fields g.row.T.Denot g.row.U.Denot). slots_for f.config (static_with c.args.given.now None c.args.segments.asked_slots)) c.state.view_is in
+    let slots : c.in-Some.slots ≡ slots_for c.args.state.now.config (settings_with c.args.given.now None c.args.segments) =
+    c.in-Some.ensures.1 ∙ ap (λ (f : Fields g.row.T.Denot g.row.U.Denot). slots_for f.config (settings_with c.args.given.now None c.args.segments)) c.state.view_is in
     ap (λ (n : ℕ). segment_fits c.args.state.now.config n c.args.given.now.initial_max_slice_len) slots ∙ (both-true _ _ fits).1
+
+pub admit_publisher-requires-clause-slots : goal.admit_publisher-requires-clause-slots
+admit_publisher-requires-clause-slots g c =
+    c.in-Some.ensures.1 ∙ ap (λ (f : Fields g.row.T.Denot g.row.U.Denot). slots_for f.config (settings_with c.args.given.now None c.args.segments)) c.state.view_is

@@ -1,5 +1,5 @@
 //! A publisher is made with as many slots as an override says.
-ghost use Rattle.std.specs.Prelude.{◌≡◌, ◌≤◌, ℕ, true, false, None, Some, IfOk, OnErr, OnOk, MatchResult};
+ghost use Rattle.std.specs.Prelude.{◌≡◌, ◌≤◌, ℕ, true, false, None, Some, IfOk, OnErr, MatchResult};
 ghost use Rattle.std.specs.declared.option.Option.{Option};
 ghost use Rattle.iox2_store.specs.machine.Limits.{worst_case};
 ghost use Rattle.iox2_store.specs.machine.Ports.{CreatePublisher};
@@ -11,7 +11,7 @@ ghost use Rattle.iox2_pubsub.specs.Factories.{AsksFor, AsksForAll, callback_of, 
 ghost use Rattle.iox2_pubsub.specs.Handlers.{may_wait};
 ghost use Rattle.iox2_pubsub.specs.Handles.{publisher_id, strategy_of};
 ghost use Rattle.iox2_pubsub.specs.Live.{ConnectionsStay, IsConnected, IsNewIn, IsReadyPublisher, NeverFails, NeverWaits, NoneRefused, RoomStays, Stays, degradation_box, handler_box, publisher_key, publisher_port, waiting, WaitingStays, IsSubscriberKey, subscriber_key};
-ghost use Rattle.iox2_pubsub.specs.LoansLeft.{HasLoansLeft, LoansLeftStay};
+ghost use Rattle.iox2_pubsub.specs.LoansLeft.{GrowsBy, HasLoansLeft, LendsFirst, LoansLeftStay};
 ghost use Rattle.iox2_pubsub.specs.declared.subscriber.Subscriber.{Subscriber};
 
 use crate::domain::Domain;
@@ -48,7 +48,7 @@ impl<F: BackpressureFn, G: DegradationFn, P: Fn(usize) -> usize + Drop> PortFact
             × MatchResult result
             (λ publisher. (publisher_id publisher ≡ s.next_port) × CreatePublisher (answers_of F.allows G.allows (domain.new.boxes).publishers) s (with_slots self.settings asked) s' None)
             (λ e. CreatePublisher (answers_of F.allows G.allows (domain.new.boxes).publishers) s (with_slots self.settings asked) s' (Some e))) }
-        ensures is_static { OnOk result (self.settings.allocation_strategy ≡ AllocationStrategy.Static) }
+        ensures grows { IfOk result (λ publisher. GrowsBy domain.new publisher self.settings.allocation_strategy) }
         ensures ready { IfOk result (λ publisher. IsReadyPublisher domain.new publisher) }
         ensures discards { self.settings.backpressure_strategy ≡ BackpressureStrategy.DiscardData → self.settings.backpressure_handler ≡ None → may_fail_update self.settings.degradation_handler ≡ false → IfOk result (λ publisher. NeverWaits domain.new (publisher_key publisher)) }
         ensures passes { may_wait self.settings.backpressure_strategy self.settings.backpressure_handler ≡ false → may_fail self.settings.backpressure_handler ≡ false → may_fail_update self.settings.degradation_handler ≡ false → IfOk result (λ publisher. NeverWaits domain.new (publisher_key publisher)) }
@@ -64,7 +64,7 @@ impl<F: BackpressureFn, G: DegradationFn, P: Fn(usize) -> usize + Drop> PortFact
         ensures room { RoomStays domain.old domain.new }
         ensures connects { IfOk result (λ publisher. NoneRefused domain.old domain.new → (subscriber : Subscriber) → IsSubscriberKey domain.old (subscriber_key subscriber) → IsConnected domain.new (publisher_id publisher) subscriber) }
         ensures loans_left { LoansLeftStay domain.old domain.new }
-        ensures left { AsksForAll (P.post (callback_of self)) (worst_case (domain.old.config) self.settings.max_loaned_samples) → IfOk result (λ publisher. HasLoansLeft domain.new publisher self.settings.max_loaned_samples) }
+        ensures left { AsksForAll (P.post (callback_of self)) (worst_case (domain.old.config) self.settings.max_loaned_samples) → LendsFirst (domain.old.config) self.settings → IfOk result (λ publisher. HasLoansLeft domain.new publisher self.settings.max_loaned_samples) }
         ensures stays { Stays domain.old domain.new }
     {
         let options = self.options;

@@ -1,12 +1,12 @@
 //! The factory of publishers of slices.
-ghost use Rattle.std.specs.Prelude.{◌≡◌, ◌≤◌, true, false, None, Some, IfOk, OnErr, OnOk, MatchResult};
+ghost use Rattle.std.specs.Prelude.{◌≡◌, ◌≤◌, true, false, None, Some, IfOk, OnErr, MatchResult};
 ghost use Rattle.iox2_store.specs.declared.degradation.DegradationAction.TheVariants.{Warn};
 ghost use Rattle.iox2_domain.specs.Boxes.{answers_of};
 ghost use Rattle.iox2_store.specs.machine.Records.{Fixed};
 ghost use Rattle.iox2_store.specs.machine.Ports.{CreatePublisher};
 ghost use Rattle.iox2_store.specs.machine.State.{State, Messages};
 ghost use Rattle.iox2_pubsub.specs.Live.{ConnectionsStay, IsConnected, IsNewIn, IsReadyPublisher, NeverFails, NeverWaits, NoneRefused, RoomStays, Stays, degradation_box, handler_box, publisher_key, publisher_port, waiting, WaitingStays, IsSubscriberKey, subscriber_key};
-ghost use Rattle.iox2_pubsub.specs.LoansLeft.{HasLoansLeft, LoansLeftStay};
+ghost use Rattle.iox2_pubsub.specs.LoansLeft.{GrowsBy, HasLoansLeft, LendsFirst, LoansLeftStay};
 ghost use Rattle.iox2_domain.specs.NewPublisher.{plain_publisher};
 ghost use Rattle.iox2_domain.specs.Handlers.{may_fail, may_fail_update};
 ghost use Rattle.iox2_pubsub.specs.Factories.{with_callback, with_degradation, with_handler};
@@ -144,7 +144,8 @@ impl<F: BackpressureFn, G: DegradationFn, O: Drop> PortFactoryPublisher<F, G, O>
         }
     }
 
-    /// Sets how many elements a loan of the publisher may have at most, 0 or more.
+    /// Sets for how many elements each of the publisher's first slots has room, 0 or more. A loan of a
+    /// static publisher has no more.
     ///
     /// iceoryx2's `PortFactoryPublisher::initial_max_slice_len`
     /// (`src/service/port_factory/publisher.rs`).
@@ -182,8 +183,8 @@ impl<F: BackpressureFn, G: DegradationFn, O: Drop> PortFactoryPublisher<F, G, O>
         }
     }
 
-    /// Sets how the memory of the publisher grows. So far none grows: `create` makes static
-    /// publishers alone, and refuses others with `UnableToCreateDataSegment`.
+    /// Sets how the memory of the publisher grows. A static one refuses a loan that is too long, or
+    /// where each of its slots is in use; any other makes further slots for it, up to 254 times.
     ///
     /// iceoryx2's `PortFactoryPublisher::allocation_strategy`
     /// (`src/service/port_factory/publisher.rs`).
@@ -250,16 +251,15 @@ impl<F: BackpressureFn, G: DegradationFn, O: Drop> PortFactoryPublisher<F, G, O>
 impl<F: BackpressureFn, G: DegradationFn> PortFactoryPublisher<F, G> {
     ghost use Rattle.iox2_pubsub.specs.Handles.{as_publisher, max_slice_len_of, publisher_id, strategy_of};
 
-    /// Makes the publisher, as the factory of publishers of single values does. Each of its slots has
-    /// room for the longest loan.
+    /// Makes the publisher, as the factory of publishers of single values does. Each of its first
+    /// slots has room for the longest loan that it was told of.
     ///
     /// Fails, in this order, with `UnableToCreatePortTag` where the domain has no ids left, with
     /// `ExceedsMaxSupportedPublishers` where as many publishers are open as may be, with
     /// `UnableToCreateDataSegment` where the number of slots, or that times the longest length times
-    /// the units of an element, doesn't fit `usize`, and so far where the publisher isn't to be
-    /// static. After these, where memory is refused: with `UnableToCreateDataSegment` if it was for
-    /// the slots, with `FailedToDeployThreadsafetyPolicy` if it was for the publisher's state or its
-    /// boxes. No id is then used, and the domain stays as it is.
+    /// the units of an element, doesn't fit `usize`. After these, where memory is refused: with
+    /// `UnableToCreateDataSegment` if it was for the slots, with `FailedToDeployThreadsafetyPolicy` if
+    /// it was for the publisher's state or its boxes. No id is then used, and the domain stays as it is.
     ///
     /// iceoryx2's `PortFactoryPublisher::create` (`src/service/port_factory/publisher.rs`) and
     /// `Publisher::new` (`src/port/publisher.rs`).
@@ -271,7 +271,7 @@ impl<F: BackpressureFn, G: DegradationFn> PortFactoryPublisher<F, G> {
             × MatchResult result
             (λ publisher. (publisher_id (as_publisher publisher) ≡ s.next_port) × CreatePublisher (answers_of F.allows G.allows (domain.new.boxes).publishers) s self.settings s' None)
             (λ e. CreatePublisher (answers_of F.allows G.allows (domain.new.boxes).publishers) s self.settings s' (Some e)) }
-        ensures is_static { OnOk result (self.settings.allocation_strategy ≡ AllocationStrategy.Static) }
+        ensures grows { IfOk result (λ publisher. GrowsBy domain.new (as_publisher publisher) self.settings.allocation_strategy) }
         ensures ready { IfOk result (λ publisher. IsReadyPublisher domain.new (as_publisher publisher)) }
         ensures discards { self.settings.backpressure_strategy ≡ BackpressureStrategy.DiscardData → self.settings.backpressure_handler ≡ None → may_fail_update self.settings.degradation_handler ≡ false → IfOk result (λ publisher. NeverWaits domain.new (publisher_key (as_publisher publisher))) }
         ensures passes { may_wait self.settings.backpressure_strategy self.settings.backpressure_handler ≡ false → may_fail self.settings.backpressure_handler ≡ false → may_fail_update self.settings.degradation_handler ≡ false → IfOk result (λ publisher. NeverWaits domain.new (publisher_key (as_publisher publisher))) }
@@ -288,7 +288,7 @@ impl<F: BackpressureFn, G: DegradationFn> PortFactoryPublisher<F, G> {
         ensures room { RoomStays domain.old domain.new }
         ensures connects { IfOk result (λ publisher. NoneRefused domain.old domain.new → (subscriber : Subscriber) → IsSubscriberKey domain.old (subscriber_key subscriber) → IsConnected domain.new (publisher_id (as_publisher publisher)) subscriber) }
         ensures loans_left { LoansLeftStay domain.old domain.new }
-        ensures left { IfOk result (λ publisher. HasLoansLeft domain.new (as_publisher publisher) self.settings.max_loaned_samples) }
+        ensures left { LendsFirst (domain.old.config) self.settings → IfOk result (λ publisher. HasLoansLeft domain.new (as_publisher publisher) self.settings.max_loaned_samples) }
         ensures stays { Stays domain.old domain.new }
     {
         let segments = SegmentOptions {

@@ -17,19 +17,23 @@ impl Publisher {
 
     /// Lends a message of so many elements, 0 or more, none of which is written, and whose user
     /// header has its default value. The loan is out until its message was sent. It takes no
-    /// memory.
+    /// memory, but for further slots of a publisher whose memory grows.
     ///
     /// # Errors
     ///
-    /// In this order: `ExceedsMaxLoanSize` where the length is above `initial_max_slice_len`;
-    /// `ExceedsMaxLoans` where as many loans are out as the publisher may have at a time;
-    /// `OutOfMemory` where each of its slots holds a loan, or a message that is kept for later
-    /// subscribers, waits or is borrowed; `InternalFailure` where the domain has no message number
-    /// left. Nothing changes then.
+    /// Of a static publisher, in this order: `ExceedsMaxLoanSize` where the length is above
+    /// `initial_max_slice_len`; `ExceedsMaxLoans` where as many loans are out as the publisher may have
+    /// at a time; `OutOfMemory` where each of its slots holds a loan, or a message that is kept for
+    /// later subscribers, waits or is borrowed; `InternalFailure` where the domain has no message
+    /// number left. Of one whose memory grows: `ExceedsMaxLoans`, then `InternalFailure` where there is
+    /// no such number; then, where the length is above that of its newest slots or each of them holds
+    /// something, `OutOfMemory` where it has made slots 255 times, and `InternalFailure` where memory
+    /// for more is refused, or their size doesn't fit `usize`. Nothing changes then.
     ///
-    /// A publisher with as many slots as `worst_case_slots` says for its limit of loans, in one
-    /// segment, is never refused for want of a slot: while fewer loans than its limit are out and a
-    /// message number is left, a loan of permitted length is granted, whatever its subscribers hold.
+    /// A publisher with as many slots as `worst_case_slots` says for its limit of loans is never
+    /// refused for want of a slot or of memory: while fewer loans than its limit are out and a message
+    /// number is left, a loan of up to `initial_max_slice_len` elements is granted, whatever its
+    /// subscribers hold.
     ///
     /// iceoryx2's `Publisher::loan_slice_uninit` (`src/port/publisher.rs`).
     #[inline(always)]

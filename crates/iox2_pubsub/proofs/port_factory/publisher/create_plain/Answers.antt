@@ -13,12 +13,13 @@ use Rattle.iox2_domain.specs.Handlers.{may_fail}
 use Rattle.iox2_ends.specs.Handlers.{marks_of}
 use Rattle.iox2_domain.specs.Shows.{Shows}
 use Rattle.iox2_pubsub.specs.Handlers.{may_wait}
+use Rattle.iox2_pubsub.specs.LoansLeft.{LendsFirst}
 use Rattle.iox2_pubsub.proofs.DepartedShown.{publisher-creation-room}
 use Rattle.iox2_pubsub.proofs.PublishersShown.{created-shows, created-ready, created-never-fails, created-never-waits, created-overflows}
 use Rattle.iox2_pubsub.proofs.CallsStay.{always-shown, apart-from-next, publisher-creation-stays, publisher-is-new}
 use Rattle.iox2_pubsub.proofs.ConnectionsShown.{made-connections, made-connects}
 use Rattle.iox2_pubsub.proofs.WaitingShown.{publisher-refused, publisher-no-fewer}
-use Rattle.iox2_pubsub.proofs.LoansLeftShown.{publisher-creation-left, created-left}
+use Rattle.iox2_pubsub.proofs.LoansLeftShown.{publisher-creation-left, created-grows, created-left}
 use Rattle.iox2_pubsub.proofs.StaysBut.{box-is, degradation-box-is, live-boxes}
 use Rattle.iox2_pubsub.proofs.port_factory.publisher.create_plain.Goals as goal
 
@@ -131,12 +132,13 @@ returns-clause-loans_left g c =
     publisher-creation-left {T = g.row.T.Denot} {U = g.row.U.Denot} c.args.domain.now _ it.0 it.0 it.1 step.0 it.2 step.1 (answers_of g.F.BackpressureFn.allows g.G.DegradationFn.allows (c.create_publisher.new.boxes).boxes) (settings_with c.args.given.now (marks_of c.args.handler) c.args.segments) None (step.2).1
 
 pub returns-clause-left : goal.returns-clause-left
-returns-clause-left g c = λ enough.
+returns-clause-left g c = λ enough first.
     let it = always-shown {T = g.row.T.Denot} {U = g.row.U.Denot} c.domain.inside.state c.args.domain.now c.domain.invariant c.domain.view_is in
     let step = returns-clause-creates g c it.0 it.1 it.2 in
     let given = settings_with c.args.given.now (marks_of c.args.handler) c.args.segments in
     let slots = subst (λ (s : State g.row.T.Denot g.row.U.Denot). worst_case s.config given.max_loaned_samples ≤ slots_for s.config given) (sym (it.2).state) enough in
-    created-left {T = g.row.T.Denot} {U = g.row.U.Denot} c.args.domain.now _ it.0 it.0 it.1 step.0 it.2 step.1 (answers_of g.F.BackpressureFn.allows g.G.DegradationFn.allows (c.create_publisher.new.boxes).boxes) given c.in_ok-port.ensures.is_static slots
+    let first' = subst (λ (s : State g.row.T.Denot g.row.U.Denot). LendsFirst s.config given) (sym (it.2).state) first in
+    created-left {T = g.row.T.Denot} {U = g.row.U.Denot} c.args.domain.now _ it.0 it.0 it.1 step.0 it.2 step.1 (answers_of g.F.BackpressureFn.allows g.G.DegradationFn.allows (c.create_publisher.new.boxes).boxes) given first' slots
     (record { service_id = c.config.result.now.service_id; id = c.in_ok-port.port.id; place = c.in_ok-port.port.place; strategy = c.args.given.now.strategy; initial_max_slice_len = c.args.given.now.initial_max_slice_len }) (step.2).0 refl (step.2).1
 
 pub returns-clause-boxed : goal.returns-clause-boxed
@@ -174,3 +176,11 @@ returns-clause-room g c =
     let it = always-shown {T = g.row.T.Denot} {U = g.row.U.Denot} c.domain.inside.state c.args.domain.now c.domain.invariant c.domain.view_is in
     let step = returns-clause-creates g c it.0 it.1 it.2 in
     publisher-creation-room {T = g.row.T.Denot} {U = g.row.U.Denot} c.args.domain.now _ it.0 it.0 it.1 step.0 it.2 step.1 (answers_of g.F.BackpressureFn.allows g.G.DegradationFn.allows (c.create_publisher.new.boxes).boxes) (settings_with c.args.given.now (marks_of c.args.handler) c.args.segments) None (step.2).1
+
+pub returns-clause-grows : goal.returns-clause-grows
+returns-clause-grows g c =
+    let it = always-shown {T = g.row.T.Denot} {U = g.row.U.Denot} c.domain.inside.state c.args.domain.now c.domain.invariant c.domain.view_is in
+    let step = returns-clause-creates g c it.0 it.1 it.2 in
+    let given = settings_with c.args.given.now (marks_of c.args.handler) c.args.segments in
+    created-grows {T = g.row.T.Denot} {U = g.row.U.Denot} c.args.domain.now _ it.0 it.0 it.1 step.0 it.2 step.1 (answers_of g.F.BackpressureFn.allows g.G.DegradationFn.allows (c.create_publisher.new.boxes).boxes) given
+    (record { service_id = c.config.result.now.service_id; id = c.in_ok-port.port.id; place = c.in_ok-port.port.place; strategy = c.args.given.now.strategy; initial_max_slice_len = c.args.given.now.initial_max_slice_len }) (step.2).0 (step.2).1

@@ -15,55 +15,61 @@ use Rattle.iox2_pubsub.proofs.LoansLeftShown.{loan-takes, refused-left}
 use Rattle.iox2_pubsub.proofs.StaysBut.{same-boxes}
 use Rattle.iox2_pubsub.proofs.publisher.Publisher.lend.Goals as goal
 
+pub loan-requires-clause-unchecked : goal.loan-requires-clause-unchecked
+loan-requires-clause-unchecked g c = λ unchecked. ap (λ (k : Kept g.row.T.Denot g.row.U.Denot g.row.F.Denot g.row.G.Denot). (k.config).variant) c.domain.view_is ∙ c.requires.unchecked unchecked
+
+pub loan-requires-clause-single : goal.loan-requires-clause-single
+loan-requires-clause-single g c = λ fixed. c.requires.single (sym (ap (λ (k : Kept g.row.T.Denot g.row.U.Denot g.row.F.Denot g.row.G.Denot). (k.config).variant) c.domain.view_is) ∙ fixed)
+
 pub returns-in_err-loan-clause-lends : goal.returns-in_err-loan-clause-lends
 returns-in_err-loan-clause-lends g c = λ m s shown.
-    err-shown {T = g.row.T.Denot} {U = g.row.U.Denot} g.U.Default.is_default c.args.checks_length c.args.len c.domain.inside.state c.loan.new.state c.args.self.now.place c.args.self.now.id c.loan.result
+    err-shown {T = g.row.T.Denot} {U = g.row.U.Denot} g.U.Default.is_default c.args.checks_length c.args.len c.domain.inside.state c.loan.new.state c.domain.invariant c.args.self.now.place c.args.self.now.id c.loan.result
     (publisher-at-place {T = g.row.T.Denot} {U = g.row.U.Denot} c.domain.inside.state c.domain.invariant c.args.domain.now c.domain.view_is c.args.self.now c.requires.ready) c.loan.ensures.reaches _ c.in_err-loan.field-0.0 c.in_err-loan.was c.from_residual.result c.from_residual.ensures.1 c.args.domain.now c.domain.view_is m s shown
 
 pub returns-clause-lends : goal.returns-clause-lends
 returns-clause-lends g c = λ m s shown.
-    ok-shown {T = g.row.T.Denot} {U = g.row.U.Denot} g.U.Default.is_default c.args.checks_length c.args.len c.domain.inside.state c.loan.new.state c.args.self.now.place c.args.self.now.id c.loan.result
+    ok-shown {T = g.row.T.Denot} {U = g.row.U.Denot} g.U.Default.is_default c.args.checks_length c.args.len c.domain.inside.state c.loan.new.state c.domain.invariant c.args.self.now.place c.args.self.now.id c.loan.result
     (publisher-at-place {T = g.row.T.Denot} {U = g.row.U.Denot} c.domain.inside.state c.domain.invariant c.args.domain.now c.domain.view_is c.args.self.now c.requires.ready) c.loan.ensures.reaches _ c.in_ok-loan.loan c.in_ok-loan.loan c.in_ok-loan.was c.args.domain.now c.domain.view_is m s shown
 
 pub returns-in_err-loan-clause-granted : goal.returns-in_err-loan-clause-granted
 returns-in_err-loan-clause-granted g c = λ loans numbers left numbered short.
     absurd (sure-granted {T = g.row.T.Denot} {U = g.row.U.Denot} g.U.Default.is_default c.args.checks_length c.args.len c.domain.inside.state c.loan.new.state c.domain.invariant c.args.self.now.place c.args.self.now
-    short (publisher-at-place {T = g.row.T.Denot} {U = g.row.U.Denot} c.domain.inside.state c.domain.invariant c.args.domain.now c.domain.view_is c.args.self.now c.requires.ready) c.loan.result c.loan.ensures.reaches c.in_err-loan.field-0.0 c.in_err-loan.was c.args.domain.now c.domain.view_is
+    short (loan-requires-clause-unchecked g c) (loan-requires-clause-single g c) (publisher-at-place {T = g.row.T.Denot} {U = g.row.U.Denot} c.domain.inside.state c.domain.invariant c.args.domain.now c.domain.view_is c.args.self.now c.requires.ready) c.loan.result c.loan.ensures.reaches c.in_err-loan.field-0.0 c.in_err-loan.was c.args.domain.now c.domain.view_is
     (sure-of-loan {T = g.row.T.Denot} {U = g.row.U.Denot} c.args.domain.now c.args.self.now loans numbers left numbered))
 
 pub returns-clause-out : goal.returns-clause-out
 returns-clause-out g c =
-    ok-live {T = g.row.T.Denot} {U = g.row.U.Denot} g.U.Default.is_default c.args.checks_length c.args.len c.domain.inside.state c.loan.new.state c.args.self.now.place c.args.self.now.id c.loan.result
+    ok-live {T = g.row.T.Denot} {U = g.row.U.Denot} g.U.Default.is_default c.args.checks_length c.args.len c.domain.inside.state c.loan.new.state c.domain.invariant c.args.self.now.place c.args.self.now.id c.loan.result
     (publisher-at-place {T = g.row.T.Denot} {U = g.row.U.Denot} c.domain.inside.state c.domain.invariant c.args.domain.now c.domain.view_is c.args.self.now c.requires.ready) c.loan.ensures.reaches (record { service_id = c.args.self.now.service_id; loan = c.in_ok-loan.loan }) c.in_ok-loan.was c.in_ok-loan.ensures.named
     c.args.domain.now c.domain.view_is (publisher-parts c.args.domain.now _ c.requires.ready.there).1
 
 pub returns-clause-cells : goal.returns-clause-cells
 returns-clause-cells g c =
     subst (λ (k : Kept g.row.T.Denot g.row.U.Denot g.row.F.Denot g.row.G.Denot). HasUnwrittenCells (keeping (record { publishers = (c.domain.inside.boxes).boxes; subscribers = (c.domain.inside.subscriber_boxes).boxes }) c.loan.new.state) c.in_ok-loan.loan.number (replicate (c.args.len * (k.config).units_per_element) None)) c.domain.view_is
-    (ok-cells {T = g.row.T.Denot} {U = g.row.U.Denot} g.U.Default.is_default c.args.checks_length c.args.len c.domain.inside.state c.loan.new.state c.args.self.now.place c.args.self.now.id c.loan.result
+    (ok-cells {T = g.row.T.Denot} {U = g.row.U.Denot} g.U.Default.is_default c.args.checks_length c.args.len c.domain.inside.state c.loan.new.state c.domain.invariant c.args.self.now.place c.args.self.now.id c.loan.result
     (publisher-at-place {T = g.row.T.Denot} {U = g.row.U.Denot} c.domain.inside.state c.domain.invariant c.args.domain.now c.domain.view_is c.args.self.now c.requires.ready) c.loan.ensures.reaches (record { publishers = (c.domain.inside.boxes).boxes; subscribers = (c.domain.inside.subscriber_boxes).boxes }) c.in_ok-loan.loan c.in_ok-loan.was c.in_ok-loan.ensures.named)
 
 pub returns-clause-lengths : goal.returns-clause-lengths
 returns-clause-lengths g c = λ cells has.
     subst (λ (k : Kept g.row.T.Denot g.row.U.Denot g.row.F.Denot g.row.G.Denot). length cells ≡ c.args.len * (k.config).units_per_element) c.domain.view_is
-    (ok-lengths {T = g.row.T.Denot} {U = g.row.U.Denot} g.U.Default.is_default c.args.checks_length c.args.len c.domain.inside.state c.loan.new.state c.args.self.now.place c.args.self.now.id c.loan.result
+    (ok-lengths {T = g.row.T.Denot} {U = g.row.U.Denot} g.U.Default.is_default c.args.checks_length c.args.len c.domain.inside.state c.loan.new.state c.domain.invariant c.args.self.now.place c.args.self.now.id c.loan.result
     (publisher-at-place {T = g.row.T.Denot} {U = g.row.U.Denot} c.domain.inside.state c.domain.invariant c.args.domain.now c.domain.view_is c.args.self.now c.requires.ready) c.loan.ensures.reaches (record { publishers = (c.domain.inside.boxes).boxes; subscribers = (c.domain.inside.subscriber_boxes).boxes }) c.in_ok-loan.loan c.in_ok-loan.was c.in_ok-loan.ensures.named cells has)
 
 pub returns-clause-header : goal.returns-clause-header
 returns-clause-header g c =
     let key = unwritten_key (record { service_id = c.args.self.now.service_id; loan = c.in_ok-loan.loan }) in
     subst (λ (k : Kept g.row.T.Denot g.row.U.Denot g.row.F.Denot g.row.G.Denot). LoanHasHeader (keeping (record { publishers = (c.domain.inside.boxes).boxes; subscribers = (c.domain.inside.subscriber_boxes).boxes }) c.loan.new.state) key (header_for k.config c.args.self.now.id c.args.len)) c.domain.view_is
-    (ok-header {T = g.row.T.Denot} {U = g.row.U.Denot} g.U.Default.is_default c.args.checks_length c.args.len c.domain.inside.state c.loan.new.state c.args.self.now.place c.args.self.now.id c.loan.result
+    (ok-header {T = g.row.T.Denot} {U = g.row.U.Denot} g.U.Default.is_default c.args.checks_length c.args.len c.domain.inside.state c.loan.new.state c.domain.invariant c.args.self.now.place c.args.self.now.id c.loan.result
     (publisher-at-place {T = g.row.T.Denot} {U = g.row.U.Denot} c.domain.inside.state c.domain.invariant c.args.domain.now c.domain.view_is c.args.self.now c.requires.ready) c.loan.ensures.reaches (record { publishers = (c.domain.inside.boxes).boxes; subscribers = (c.domain.inside.subscriber_boxes).boxes }) c.in_ok-loan.loan c.in_ok-loan.was c.in_ok-loan.ensures.named key refl)
 
 pub returns-clause-number : goal.returns-clause-number
 returns-clause-number g c =
-    ok-number {T = g.row.T.Denot} {U = g.row.U.Denot} g.U.Default.is_default c.args.checks_length c.args.len c.domain.inside.state c.loan.new.state c.args.self.now.place c.args.self.now.id c.loan.result
+    ok-number {T = g.row.T.Denot} {U = g.row.U.Denot} g.U.Default.is_default c.args.checks_length c.args.len c.domain.inside.state c.loan.new.state c.domain.invariant c.args.self.now.place c.args.self.now.id c.loan.result
     (publisher-at-place {T = g.row.T.Denot} {U = g.row.U.Denot} c.domain.inside.state c.domain.invariant c.args.domain.now c.domain.view_is c.args.self.now c.requires.ready) c.loan.ensures.reaches c.in_ok-loan.loan c.in_ok-loan.ensures.named ∙ ap (λ (k : Kept g.row.T.Denot g.row.U.Denot g.row.F.Denot g.row.G.Denot). k.next_message) c.domain.view_is
 
 pub returns-clause-publisher : goal.returns-clause-publisher
 returns-clause-publisher g c =
-    ok-publisher {T = g.row.T.Denot} {U = g.row.U.Denot} g.U.Default.is_default c.args.checks_length c.args.len c.domain.inside.state c.loan.new.state c.args.self.now.place c.args.self.now.id c.loan.result
+    ok-publisher {T = g.row.T.Denot} {U = g.row.U.Denot} g.U.Default.is_default c.args.checks_length c.args.len c.domain.inside.state c.loan.new.state c.domain.invariant c.args.self.now.place c.args.self.now.id c.loan.result
     (publisher-at-place {T = g.row.T.Denot} {U = g.row.U.Denot} c.domain.inside.state c.domain.invariant c.args.domain.now c.domain.view_is c.args.self.now c.requires.ready) c.loan.ensures.reaches c.in_ok-loan.loan c.in_ok-loan.ensures.named
 
 pub returns-clause-new : goal.returns-clause-new
@@ -142,12 +148,6 @@ pub loan-requires-clause-stands : goal.loan-requires-clause-stands
 loan-requires-clause-stands g c =
     let at = publisher-at-place {T = g.row.T.Denot} {U = g.row.U.Denot} c.domain.inside.state c.domain.invariant c.args.domain.now c.domain.view_is c.args.self.now c.requires.ready in
     (at.0, at.1)
-
-pub loan-requires-clause-unchecked : goal.loan-requires-clause-unchecked
-loan-requires-clause-unchecked g c = λ unchecked. ap (λ (k : Kept g.row.T.Denot g.row.U.Denot g.row.F.Denot g.row.G.Denot). (k.config).variant) c.domain.view_is ∙ c.requires.unchecked unchecked
-
-pub loan-requires-clause-single : goal.loan-requires-clause-single
-loan-requires-clause-single g c = λ fixed. c.requires.single (sym (ap (λ (k : Kept g.row.T.Denot g.row.U.Denot g.row.F.Denot g.row.G.Denot). (k.config).variant) c.domain.view_is) ∙ fixed)
 
 pub returns-in_err-loan-clause-refused : goal.returns-in_err-loan-clause-refused
 returns-in_err-loan-clause-refused g c =

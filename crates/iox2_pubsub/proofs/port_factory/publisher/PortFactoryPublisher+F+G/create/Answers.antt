@@ -9,7 +9,7 @@ use Rattle.iox2_pubsub.specs.Factories.{PublisherFactory}
 use Rattle.iox2_pubsub.specs.declared.port_factory.preallocation.NoOverride.{NoOverride}
 use Rattle.iox2_pubsub.specs.Handlers.{may_wait}
 use Rattle.iox2_domain.specs.Shows.{Shows}
-use Rattle.iox2_pubsub.specs.LoansLeft.{HasLoansLeft}
+use Rattle.iox2_pubsub.specs.LoansLeft.{HasLoansLeft, LendsFirst}
 use Rattle.iox2_pubsub.proofs.port_factory.publisher.PortFactoryPublisher+F+G.create.Goals as goal
 
 pub returns-clause-creates : goal.returns-clause-creates
@@ -20,7 +20,8 @@ returns-clause-creates g c m s shown =
 
 pub returns-clause-left : goal.returns-clause-left
 returns-clause-left g c =
-    subst (λ (given : PublisherFactory g.row.F.Denot g.row.G.Denot NoOverride). IfOk c.create_plain.result (λ publisher. HasLoansLeft c.create_plain.new.domain publisher given.settings.max_loaned_samples)) c.self.view_is (c.create_plain.ensures.left (omega arith))
+    subst (λ (given : PublisherFactory g.row.F.Denot g.row.G.Denot NoOverride). LendsFirst c.args.domain.now.config given.settings → IfOk c.create_plain.result (λ publisher. HasLoansLeft c.create_plain.new.domain publisher given.settings.max_loaned_samples)) c.self.view_is
+    (λ first. c.create_plain.ensures.left (omega arith) first)
 
 pub returns-clause-discards : goal.returns-clause-discards
 returns-clause-discards g c = λ discards none calm. c.create_plain.ensures.discards

@@ -11,7 +11,7 @@ use Rattle.iox2_store.specs.declared.service_config.ServiceConfig.{ServiceConfig
 use Rattle.iox2_domain.specs.Kept.{Kept}
 use Rattle.iox2_domain.specs.Shows.{Shows}
 use Rattle.iox2_ends.specs.Handlers.{marks_of}
-use Rattle.iox2_ports.specs.Settings.{static_with}
+use Rattle.iox2_ports.specs.Settings.{settings_with}
 use Rattle.iox2_pubsub.specs.Factories.{AsksFor, PublisherFactory, callback_of, with_slots}
 use Rattle.iox2_pubsub.specs.Handles.{publisher_id}
 use Rattle.iox2_pubsub.specs.declared.port_factory.preallocation.PreallocatedSamplesOverride.{PreallocatedSamplesOverride}
@@ -23,7 +23,7 @@ returns-clause-creates g c =
     let Makes : PublisherSettings → Type 0 = λ given. (m : Messages g.row.T.Denot g.row.U.Denot) (s : State g.row.T.Denot g.row.U.Denot) → Shows c.args.domain.now m s
     → (s' : State g.row.T.Denot g.row.U.Denot) × Shows c.create_plain.new.domain m s'
     × MatchResult c.create_plain.result (λ publisher. (publisher_id publisher ≡ s.next_port) × CreatePublisher (answers_of g.F.BackpressureFn.allows g.G.DegradationFn.allows c.create_plain.new.domain.boxes.publishers) s given s' None) (λ e. CreatePublisher (answers_of g.F.BackpressureFn.allows g.G.DegradationFn.allows c.create_plain.new.domain.boxes.publishers) s given s' (Some e)) in
-    let made = subst (λ (a : AllocationStrategy). Makes (record (static_with c.self.inside.options (marks_of c.self.inside.backpressure_handler) asked) { allocation_strategy = a })) c.ask-segments.ensures.allocation c.create_plain.ensures.creates in
+    let made = subst (λ (a : AllocationStrategy). Makes (settings_with c.self.inside.options (marks_of c.self.inside.backpressure_handler) (record { allocation = a; asked_slots = asked }))) c.ask-segments.ensures.allocation c.create_plain.ensures.creates in
     let asks = subst (λ (config : ServiceConfig). AsksFor (goal.P-post g c.self.inside.slots.preallocated.callback) (worst_case config c.self.inside.options.max_loaned_samples) asked)
     (c.config.ensures ∙ ap (λ (k : Kept g.row.T.Denot g.row.U.Denot g.row.F.Denot g.row.G.Denot). k.config) c.domain.view_is) c.ask-segments.ensures.asked in
     subst (λ (given : PublisherFactory g.row.F.Denot g.row.G.Denot (PreallocatedSamplesOverride g.row.P.Denot)). (x : Option ℕ)
