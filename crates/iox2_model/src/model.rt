@@ -13,6 +13,7 @@ pub struct Model {
     pub(crate) config: ServiceConfig,
     pub(crate) memory: Memory,
     refused_connections: u64,
+    has_refused_segment: bool,
     // By id. None has the id 0.
     pub(crate) publishers: Vec<Option<Publisher>>,
     pub(crate) subscribers: Vec<Option<Subscriber>>,
@@ -50,6 +51,7 @@ impl Model {
             config,
             memory,
             refused_connections: 0,
+            has_refused_segment: false,
             publishers: Vec::new(alloc),
             subscribers: Vec::new(alloc),
             loans: Vec::new(alloc),
@@ -78,6 +80,11 @@ impl Model {
         self.refused_connections
     }
 
+    /// Whether a further segment of a publisher was refused memory.
+    pub fn has_refused_segment(&self) -> bool {
+        self.has_refused_segment
+    }
+
     /// How often a port, a connection or a segment asked for memory.
     pub fn questions(&self) -> usize {
         self.memory.questions()
@@ -88,6 +95,15 @@ impl Model {
         let refuses = self.memory.refuses();
         if refuses {
             self.refused_connections = self.refused_connections.saturating_add(1);
+        }
+        refuses
+    }
+
+    // Whether a further segment is refused memory this time, which is remembered.
+    pub(crate) fn refuses_segment(&mut self) -> bool {
+        let refuses = self.memory.refuses();
+        if refuses {
+            self.has_refused_segment = true;
         }
         refuses
     }

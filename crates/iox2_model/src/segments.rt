@@ -70,7 +70,7 @@ impl Model {
         let Some(segments) = self.next_segment(publisher, len) else {
             return Ok(Err(LoanError::InternalFailure));
         };
-        if self.memory.refuses() {
+        if self.refuses_segment() {
             return Ok(Err(LoanError::InternalFailure));
         }
         if let Some(publisher) = self.publisher_mut(p) {

@@ -1,72 +1,63 @@
-//! Which publishers are made, by how their memory is to grow.
+//! By which strategy a publisher's memory grows: its factory's, or else the settings'.
 
-use crate::fixtures::slice_factory;
-use iox2_fixtures::{Reading, Station, factory_for, settings};
-use iox2_pubsub::{Domain, PortFactoryPublisher, slice};
-use iox2_store::{AllocationStrategy, PublisherCreateError, ServiceConfig, TypeVariant};
+use crate::fixtures::{assert_ready, assert_sliced, slice_factory};
+use iox2_fixtures::settings;
+use iox2_pubsub::{Domain, slice};
+use iox2_store::{AllocationStrategy, LoanError, ServiceConfig, TypeVariant};
+use std::process::Abort;
 
-// The id of a publisher that the factory makes, or why it makes none.
-fn made<T: Drop, U: Default + Drop>(
-    domain: &mut Domain<T, U>,
-    factory: PortFactoryPublisher,
-) -> Result<u128, PublisherCreateError> {
-    let publisher = factory.create(domain)?;
-    let id = publisher.id().value();
-    publisher.disown();
-    Ok(id)
-}
-
-// The same of a publisher of slices.
-fn slices_made<T: Drop, U: Default + Drop>(
-    domain: &mut Domain<T, U>,
-    factory: slice::PortFactoryPublisher,
-) -> Result<u128, PublisherCreateError> {
-    let publisher = factory.create(domain)?;
-    let id = publisher.id().value();
-    publisher.disown();
-    Ok(id)
-}
-
-#[test]
-fn a_publisher_that_is_to_grow_is_refused_and_uses_up_no_id(rt: HostRuntime) {
-    let two = ServiceConfig {
-        max_publishers: 2,
+fn slices(strategy: AllocationStrategy) -> ServiceConfig {
+    ServiceConfig {
+        variant: TypeVariant::Dynamic,
+        publisher_allocation_strategy: strategy,
         ..settings()
-    };
-    let mut domain: Domain<Reading, Station> = Domain::new(rt.alloc(), two).expect(&rt, "a domain");
-    let factory = factory_for(&domain).allocation_strategy(AllocationStrategy::BestFit);
-    let best_fit = made(&mut domain, factory);
-    let factory = factory_for(&domain).allocation_strategy(AllocationStrategy::PowerOfTwo);
-    let power_of_two = made(&mut domain, factory);
-    let factory = factory_for(&domain);
-    let plain = made(&mut domain, factory);
-    let factory = factory_for(&domain)
-        .allocation_strategy(AllocationStrategy::BestFit)
-        .allocation_strategy(AllocationStrategy::Static);
-    let set_back = made(&mut domain, factory);
-    assert!(rt; best_fit == Err(PublisherCreateError::UnableToCreateDataSegment));
-    assert!(rt; power_of_two == Err(PublisherCreateError::UnableToCreateDataSegment));
-    assert!(rt; plain == Ok(1));
-    assert!(rt; set_back == Ok(2));
+    }
+}
+
+// What a publisher says to a loan of two elements, which is longer than its first slots. The
+// publisher is then closed.
+fn longer_loan(
+    rt: &impl Abort,
+    domain: &mut Domain<u64, u64>,
+    factory: slice::PortFactoryPublisher,
+) -> Result<(), LoanError> {
+    let publisher = factory.create(domain).expect(rt, "a publisher");
+    assert_sliced(rt, domain);
+    assert_ready(rt, domain, &publisher);
+    let loan = publisher.loan_slice_uninit(domain, 2);
+    let lent = loan.map(|loan| loan.disown());
+    assert_ready(rt, domain, &publisher);
+    publisher.close(domain);
+    lent
 }
 
 #[test]
 fn a_factory_begins_with_the_strategy_of_the_settings(rt: HostRuntime) {
-    let growing = ServiceConfig {
-        publisher_allocation_strategy: AllocationStrategy::PowerOfTwo,
-        variant: TypeVariant::Dynamic,
-        ..settings()
-    };
+    let growing = slices(AllocationStrategy::PowerOfTwo);
     let mut domain: Domain<u64, u64> = Domain::new(rt.alloc(), growing).expect(&rt, "a domain");
     let factory = slice_factory(&domain);
-    let refused = slices_made(&mut domain, factory);
-    let factory = factory_for(&domain);
-    let refused_value = made(&mut domain, factory);
+    let by_settings = longer_loan(&rt, &mut domain, factory);
     let factory = slice_factory(&domain).allocation_strategy(AllocationStrategy::Static);
     let clone = factory.internal_partial_clone();
     drop(factory);
-    let made = slices_made(&mut domain, clone);
-    assert!(rt; refused == Err(PublisherCreateError::UnableToCreateDataSegment));
-    assert!(rt; refused_value == Err(PublisherCreateError::UnableToCreateDataSegment));
-    assert!(rt; made == Ok(1));
+    let by_clone = longer_loan(&rt, &mut domain, clone);
+    assert!(rt; by_settings == Ok(()));
+    assert!(rt; by_clone == Err(LoanError::ExceedsMaxLoanSize));
+}
+
+#[test]
+fn the_last_strategy_counts(rt: HostRuntime) {
+    let fixed = slices(AllocationStrategy::Static);
+    let mut domain: Domain<u64, u64> = Domain::new(rt.alloc(), fixed).expect(&rt, "a domain");
+    let factory = slice_factory(&domain);
+    let by_settings = longer_loan(&rt, &mut domain, factory);
+    let factory = slice_factory(&domain).allocation_strategy(AllocationStrategy::BestFit);
+    let by_factory = longer_loan(&rt, &mut domain, factory);
+    let factory = slice_factory(&domain)
+        .allocation_strategy(AllocationStrategy::BestFit)
+        .allocation_strategy(AllocationStrategy::Static);
+    let set_back = longer_loan(&rt, &mut domain, factory);
+    assert!(rt; by_settings == Err(LoanError::ExceedsMaxLoanSize));
+    assert!(rt; by_factory == Ok(()));
+    assert!(rt; set_back == Err(LoanError::ExceedsMaxLoanSize));
 }

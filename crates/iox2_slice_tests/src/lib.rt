@@ -9,6 +9,8 @@ mod custom_payloads;
 #[cfg(test)]
 mod fixtures;
 #[cfg(test)]
+mod growing_publishers;
+#[cfg(test)]
 mod overrides;
 #[cfg(test)]
 mod slices;

@@ -46,8 +46,10 @@ fn why_handed_back(given: &[Command<u64, u64>], commands: &[Command<u64, u64>]) 
 #[derive(Clone, Copy)]
 pub(crate) struct Comparison {
     pub(crate) difference: Option<Difference>,
-    /// How often a port or a connection asked the model for memory, up to the difference.
+    /// How often a port, a connection or a segment asked the model for memory, up to the difference.
     pub(crate) questions: usize,
+    /// Whether the model refused memory to a segment.
+    pub(crate) has_refused_segment: bool,
 }
 
 /// Carries the commands out by the model with such a memory, and compares each reply and the number
@@ -67,6 +69,7 @@ pub(crate) fn compare(
     Ok(Comparison {
         difference,
         questions: model.questions(),
+        has_refused_segment: model.has_refused_segment(),
     })
 }
 

@@ -1,5 +1,5 @@
 //! A script while one allocation is refused.
-use crate::comparison::{Ran, carry_out_all, compare};
+use crate::comparison::{Comparison, Ran, carry_out_all, compare};
 use crate::failure::Failure;
 use crate::rounds::{MOST_COMMANDS, print_lines};
 use iox2_model::Memory;
@@ -46,22 +46,24 @@ pub(crate) fn run_refused(
 }
 
 // Says what was refused memory, where the model has these replies then. It is asked about each time
-// that a port or a connection needs memory, up to the first reply that it hasn't with ample memory:
+// that a port, a connection or a segment needs memory, up to the first reply that it hasn't with ample memory:
 // what was refused was refused before. Most likely it was shortly before.
 fn explain(rt: &HostRuntime, script: &Script, ran: &Ran) -> Result<(), Failure> {
-    let (different, questions) = agreeing(rt.alloc(), script, ran, Memory::ample())?;
-    if different.is_none() {
+    let ample = compared(rt.alloc(), script, ran, Memory::ample())?;
+    if ample.difference.is_none() {
         println!(rt; "nothing seen")?;
         return Ok(());
     }
+    let questions = ample.questions;
     let mut closest = 0;
     let mut most = 0;
     for later in 0..questions {
         let count = questions - 1 - later;
-        let (different, _) = agreeing(rt.alloc(), script, ran, Memory::refused_after(count))?;
-        match different {
-            None => return print_refusal(rt, ran),
-            Some(found) => {
+        let refused = compared(rt.alloc(), script, ran, Memory::refused_after(count))?;
+        match refused.difference {
+            None => return print_refusal(rt, ran, &refused),
+            Some(difference) => {
+                let found = difference.rank(ran.replies.len());
                 if found > most {
                     most = found;
                     closest = count;
@@ -72,22 +74,15 @@ fn explain(rt: &HostRuntime, script: &Script, ran: &Ran) -> Result<(), Failure> 
     print_closest(rt, script, ran, closest)
 }
 
-// How many replies are the model's with such a memory, up to one that isn't; nothing where all that
-// became of the script is the model's. And how often the model was asked for memory.
-fn agreeing(
+// What the model says of a run with such a memory.
+fn compared(
     alloc: Global,
     script: &Script,
     ran: &Ran,
     memory: Memory,
-) -> Result<(Option<usize>, usize), Failure> {
-    let replies = ran.replies.len();
+) -> Result<Comparison, Failure> {
     let commands = script.commands.as_slice();
-    let comparison = compare(alloc, script.config, commands, ran, memory)?;
-    let questions = comparison.questions;
-    match comparison.difference {
-        None => Ok((None, questions)),
-        Some(difference) => Ok((Some(difference.rank(replies)), questions)),
-    }
+    compare(alloc, script.config, commands, ran, memory)
 }
 
 // Prints the script, and what differs where memory is refused after so many times.
@@ -98,12 +93,10 @@ fn print_closest(
     count: usize,
 ) -> Result<(), Failure> {
     let replies = ran.replies.len();
-    let commands = script.commands.as_slice();
-    let memory = Memory::refused_after(count);
-    let comparison = compare(rt.alloc(), script.config, commands, ran, memory)?;
+    let comparison = compared(rt.alloc(), script, ran, Memory::refused_after(count))?;
     print_lines(rt, script)?;
     println!(rt;
-        "no refusal to a port or a connection explains the {replies} replies; after the best one:"
+        "no refusal to a port, a connection or a segment explains the {replies} replies; after the best one:"
     )?;
     if let Some(difference) = comparison.difference {
         difference.print(rt)?;
@@ -111,10 +104,12 @@ fn print_closest(
     Err(Failure::Refuted)
 }
 
-// Says what was refused memory: a connection or a port.
-fn print_refusal(rt: &HostRuntime, ran: &Ran) -> Result<(), Failure> {
+// Says what was refused memory: a connection, a segment or a port.
+fn print_refusal(rt: &HostRuntime, ran: &Ran, refused: &Comparison) -> Result<(), Failure> {
     if ran.refused_connections > 0 {
         println!(rt; "a connection was refused")?;
+    } else if refused.has_refused_segment {
+        println!(rt; "a segment was refused")?;
     } else {
         println!(rt; "a port was refused")?;
     }
