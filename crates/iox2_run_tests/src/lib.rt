@@ -15,6 +15,8 @@ mod degradations;
 #[cfg(test)]
 mod departures;
 #[cfg(test)]
+mod growing_publishers;
+#[cfg(test)]
 mod handlers;
 #[cfg(test)]
 mod laws;

@@ -17,6 +17,8 @@ mod domains;
 #[cfg(test)]
 mod fixtures;
 #[cfg(test)]
+mod growing_publishers;
+#[cfg(test)]
 mod histories;
 #[cfg(test)]
 mod in_place;
