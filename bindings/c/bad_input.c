@@ -459,6 +459,12 @@ static void settings_have_none_of_their_values(void) {
   other = publisher_options;
   other.initial_max_slice_len = 8;
   REFUSED(iox2_publisher_create_with(&domain, &other, &outs.publisher), IOX2_INVALID_SETTINGS);
+  other = publisher_options;
+  other.allocation_strategy = 3;
+  REFUSED(iox2_publisher_create_with(&domain, &other, &outs.publisher), IOX2_INVALID_SETTINGS);
+  other.allocation_strategy = IOX2_ALLOCATION_BEST_FIT;
+  other.initial_max_slice_len = 0;
+  REFUSED(iox2_publisher_create_with(&domain, &other, &outs.publisher), IOX2_INVALID_SETTINGS);
   subscriber_options.degradation = 3;
   REFUSED(iox2_subscriber_create_with(&domain, &subscriber_options, &outs.subscriber), IOX2_INVALID_SETTINGS);
   IS(iox2_domain_destroy(&domain), IOX2_OK);

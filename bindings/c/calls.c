@@ -367,6 +367,52 @@ static void a_publisher_asks_for_fewer_slots(void) {
   IS(iox2_domain_destroy(&domain), IOX2_OK);
 }
 
+/* A growing publisher lends what is longer or beyond its slots; what was lent and received before stays where it is. */
+static void a_publisher_grows(void) {
+  iox2_domain_t domain;
+  iox2_config_t config;
+  iox2_publisher_options_t options;
+  iox2_publisher_t publisher;
+  iox2_subscriber_t subscriber;
+  iox2_loan_t loans[6];
+  iox2_sample_t sample;
+  iox2_blocked_t blocked;
+  uint8_t *bytes[6];
+  const void *read;
+  void *written;
+  size_t len, receivers;
+  iox2_config_defaults(&config, 7, 16, 16);
+  create(&domain, &config);
+  iox2_publisher_options_of(&config, &options);
+  CHECK(options.allocation_strategy == IOX2_ALLOCATION_STATIC);
+  options.allocation_strategy = IOX2_ALLOCATION_BEST_FIT;
+  options.max_loaned_samples = 6;
+  options.preallocated_samples = 1;
+  IS(iox2_subscriber_create(&domain, &subscriber), IOX2_OK);
+  IS(iox2_publisher_create_with(&domain, &options, &publisher), IOX2_OK);
+  IS(iox2_publisher_send_copy(&domain, &publisher, "0123456789abcdef", 16, &receivers, &blocked), IOX2_OK);
+  IS(iox2_subscriber_receive(&domain, &subscriber, &sample, &read, &len), IOX2_OK);
+  for (size_t i = 0; i < 6; i++) {
+    IS(iox2_publisher_loan(&domain, &publisher, 16 + 5 * i, &loans[i], &written), IOX2_OK);
+    CHECK((uintptr_t)written % 16 == 0);
+    bytes[i] = (uint8_t *)written;
+    memset(bytes[i], (int)i + 1, 16 + 5 * i);
+  }
+  IS(iox2_publisher_loan(&domain, &publisher, 16, &loans[0], &written), IOX2_LOAN_ERROR_EXCEEDS_MAX_LOANS);
+  CHECK(len == 16 && memcmp(read, "0123456789abcdef", 16) == 0);
+  for (size_t i = 0; i < 6; i++) {
+    IS(iox2_loan_payload(&domain, &loans[i], &written, &len), IOX2_OK);
+    CHECK(written == bytes[i] && len == 16 + 5 * i);
+    for (size_t at = 0; at < len; at++) CHECK(bytes[i][at] == i + 1);
+    IS(iox2_loan_discard(&domain, &loans[i]), IOX2_OK);
+  }
+  IS(iox2_publisher_loan(&domain, &publisher, SIZE_MAX, &loans[0], &written), IOX2_LOAN_ERROR_INTERNAL_FAILURE);
+  IS(iox2_publisher_loan(&domain, &publisher, 41, &loans[0], &written), IOX2_OK);
+  CHECK(memcmp(read, "0123456789abcdef", 16) == 0);
+  IS(iox2_sample_release(&domain, &sample), IOX2_OK);
+  IS(iox2_domain_destroy(&domain), IOX2_OK);
+}
+
 static void a_late_subscriber_gets_the_history(void) {
   iox2_domain_t domain;
   iox2_config_t config;
@@ -494,6 +540,7 @@ int main(void) {
   a_blocked_send_is_tried_again_and_given_up();
   ports_are_made_with_options();
   a_publisher_asks_for_fewer_slots();
+  a_publisher_grows();
   a_late_subscriber_gets_the_history();
   warnings_are_read();
   texts_are_iceoryx2s();

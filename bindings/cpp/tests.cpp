@@ -244,6 +244,24 @@ static void a_publisher_asks_for_fewer_slots() {
   CHECK(one_slot.loan().has_value());
 }
 
+static void a_publisher_grows() {
+  auto domain = Domain<int[]>::create(Config<int[]>(13, 2)).expect("a domain");
+  auto subscriber = domain.subscriber().expect("a subscriber");
+  auto options = domain.publisher_options();
+  CHECK(options.allocation_strategy == IOX2_ALLOCATION_STATIC);
+  auto fixed = domain.publisher(options).expect("a publisher");
+  options.allocation_strategy = IOX2_ALLOCATION_POWER_OF_TWO;
+  options.initial_max_slice_len = 0;
+  auto growing = domain.publisher(options).expect("a publisher");
+  CHECK(fixed.loan_slice(3).error() == Error::LoanExceedsMaxLoanSize);
+  const int values[] = {1, 2, 3, 4, 5};
+  CHECK(growing.send_copy(values, 5)->delivered() == std::size_t(1));
+  auto sample = subscriber.receive().expect("a receive");
+  CHECK(growing.loan_slice(100).has_value());
+  CHECK(growing.loan_slice(std::size_t(-1)).error() == Error::LoanInternalFailure);
+  CHECK(sample && sample->size() == 5 && (*sample)[4] == 5);
+}
+
 static void a_late_subscriber_gets_the_history() {
   Config<int> config(11);
   config.history_size = 1;
@@ -318,6 +336,7 @@ int main() {
   a_publisher_that_goes_while_it_is_blocked_closes_later();
   full_buffers_are_passed_over_or_fail_the_send();
   a_publisher_asks_for_fewer_slots();
+  a_publisher_grows();
   a_late_subscriber_gets_the_history();
   a_header_says_where_a_message_comes_from();
   connections_and_books_are_counted();

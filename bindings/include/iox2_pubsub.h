@@ -98,6 +98,13 @@ typedef enum iox2_degradation_e {
   IOX2_DEGRADATION_FAIL = 2    /* let the call fail */
 } iox2_degradation_e;
 
+/* How a publisher's memory grows where a loan doesn't fit. */
+typedef enum iox2_allocation_strategy_e {
+  IOX2_ALLOCATION_STATIC = 0,      /* it doesn't: the loan is refused */
+  IOX2_ALLOCATION_BEST_FIT = 1,    /* by slots for messages as long as the longest so far */
+  IOX2_ALLOCATION_POWER_OF_TWO = 2 /* by slots as long as the next power of two */
+} iox2_allocation_strategy_e;
+
 /* What a warning is of. iox2_error_text has a text for each. */
 typedef enum iox2_warning_e {
   IOX2_WARNING_EXPIRED_BUFFER_RAISED = 100,
@@ -139,14 +146,16 @@ typedef struct iox2_config_t {
 /* What one publisher has other than the domain's settings say. */
 typedef struct iox2_publisher_options_t {
   size_t max_loaned_samples;      /* loans that may be out at a time */
-  size_t initial_max_slice_len;   /* how many bytes a message may have; a multiple of the domain's alignment */
+  size_t initial_max_slice_len;   /* how many bytes a message may have, as long as memory isn't to grow; a multiple
+                                     of the domain's alignment, and not 0 where memory may grow */
   size_t preallocated_samples;    /* how many slots it asks for: it has so many, but no more than
                                      iox2_worst_case_slots; 0 asks for nothing, and it has the worst case. With
-                                     fewer a loan may be refused with IOX2_LOAN_ERROR_OUT_OF_MEMORY */
+                                     fewer a loan may be refused with IOX2_LOAN_ERROR_OUT_OF_MEMORY, or needs more
+                                     memory where that may grow */
   uint32_t backpressure_strategy; /* an iox2_backpressure_strategy_e */
   uint32_t backpressure_handler;  /* an iox2_backpressure_handler_e */
   uint32_t degradation;           /* an iox2_degradation_e */
-  uint32_t reserved_;
+  uint32_t allocation_strategy;   /* an iox2_allocation_strategy_e: by default, and without options, static */
 } iox2_publisher_options_t;
 
 /* What one subscriber has other than the domain's settings say. */
@@ -161,7 +170,7 @@ typedef struct iox2_subscriber_options_t {
 typedef struct iox2_publisher_t {
   iox2_wide_t service_id, id;
   size_t place_;
-  size_t initial_max_slice_len; /* how many bytes a message may have */
+  size_t initial_max_slice_len; /* how many bytes a message may have, as long as memory isn't to grow */
   uint32_t backpressure_strategy;
   uint32_t reserved_;
 } iox2_publisher_t;
@@ -274,7 +283,8 @@ uint32_t iox2_publisher_update_connections(iox2_domain_t *domain, const iox2_pub
 
 /* Lends a message of so many bytes, each of which is 0, and says where they lie. They may be read and
  * written there until the loan is sent or discarded or the domain is destroyed, whatever else is called in
- * between. IOX2_NOT_LIVE, IOX2_PUBLISHER_IS_BLOCKED, IOX2_LOAN_ERROR_... */
+ * between. IOX2_NOT_LIVE, IOX2_PUBLISHER_IS_BLOCKED, IOX2_LOAN_ERROR_...: EXCEEDS_MAX_LOAN_SIZE of a static
+ * publisher alone, INTERNAL_FAILURE where memory is to grow and can't, or no number is left for the message. */
 uint32_t iox2_publisher_loan(iox2_domain_t *domain, const iox2_publisher_t *publisher, size_t len,
                              iox2_loan_t *loan, void **payload);
 

@@ -624,9 +624,10 @@ public:
   }
 
   /* initial_max_slice_len of the options is in bytes, as Config<P>::bytes gives them, and for a single value
-   * counts for nothing. */
+   * counts for nothing. Where memory may grow, 0 counts as 1 value. */
   Result<Publisher<P>> publisher(iox2_publisher_options_t options) {
-    if (!detail::is_slice<P>) options.initial_max_slice_len = Config<P>::bytes(1);
+    bool begins_empty = options.allocation_strategy != IOX2_ALLOCATION_STATIC && options.initial_max_slice_len == 0;
+    if (!detail::is_slice<P> || begins_empty) options.initial_max_slice_len = Config<P>::bytes(1);
     iox2_publisher_t port;
     std::uint32_t code = iox2_publisher_create_with(hold_.domain(), &options, &port);
     if (code != IOX2_OK) return detail::error_of(code);

@@ -72,7 +72,9 @@ pub use errors::{
 pub use header::Header;
 pub use loan::{Loan, LoanUninit};
 pub use payload::Payload;
-pub use port_factory::{DegradationAction, PortFactoryPublisher, PortFactorySubscriber};
+pub use port_factory::{
+    AllocationStrategy, DegradationAction, PortFactoryPublisher, PortFactorySubscriber,
+};
 pub use publisher::{BackpressureAction, BackpressureStrategy, Publisher};
 pub use sample::Sample;
 pub use send_outcome::{BlockedSend, SendOutcome};

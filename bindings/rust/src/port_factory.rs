@@ -19,6 +19,18 @@ pub enum DegradationAction {
     DegradeAndFail = 2,
 }
 
+/// How a publisher's memory grows where a loan doesn't fit.
+#[derive(Clone, Copy, Debug, PartialEq, Eq, Hash)]
+#[repr(u32)]
+pub enum AllocationStrategy {
+    /// It doesn't grow: the loan is refused.
+    Static = 0,
+    /// It grows by slots for slices as long as the longest so far.
+    BestFit = 1,
+    /// It grows by slots as long as the next power of two.
+    PowerOfTwo = 2,
+}
+
 /// The settings of a publisher.
 pub struct PortFactoryPublisher<'d, P: Payload + ?Sized> {
     domain: &'d Domain<P>,
@@ -62,6 +74,12 @@ impl<'d, P: Payload + ?Sized> PortFactoryPublisher<'d, P> {
         self
     }
 
+    /// How its memory grows where a loan doesn't fit: not at all, where nothing is set.
+    pub fn allocation_strategy(mut self, value: AllocationStrategy) -> Self {
+        self.options.allocation_strategy = value as u32;
+        self
+    }
+
     /// What says how many slots the publisher has: it is given the worst case, with which no loan is
     /// refused for want of a slot. The publisher gets as many as it answers, but no more than the
     /// worst case, and at least one where that isn't none.
@@ -91,6 +109,10 @@ impl<'d, P: Payload + ?Sized> PortFactoryPublisher<'d, P> {
     /// Makes the publisher.
     pub fn create(mut self) -> Result<Publisher<P>, PublisherCreateError> {
         self.options.preallocated_samples = self.asked_slots();
+        // Memory that grows begins with some.
+        if self.options.allocation_strategy != 0 && self.options.initial_max_slice_len == 0 {
+            self.options.initial_max_slice_len = P::SIZE.max(P::ALIGNMENT);
+        }
         let mut port = sys::Publisher::default();
         let shared = &self.domain.shared;
         // SAFETY: see `Shared::at`.
@@ -104,7 +126,7 @@ impl<'d, P: Payload + ?Sized> PortFactoryPublisher<'d, P> {
 }
 
 impl<'d, T: Copy + 'static> PortFactoryPublisher<'d, [T]> {
-    /// How many values a message may have.
+    /// How many values a message may have, as long as memory isn't to grow.
     pub fn initial_max_slice_len(mut self, value: usize) -> Self {
         self.options.initial_max_slice_len = <[T]>::greatest_size(value);
         self

@@ -120,7 +120,7 @@ impl<T: Copy + 'static> Publisher<T> {
 }
 
 impl<T: Copy + 'static> Publisher<[T]> {
-    /// How many values a message may have.
+    /// How many values a message may have, as long as memory isn't to grow.
     pub fn initial_max_slice_len(&self) -> usize {
         self.port
             .initial_max_slice_len
@@ -130,10 +130,7 @@ impl<T: Copy + 'static> Publisher<[T]> {
 
     /// Lends a message of so many values, none of which is written yet.
     pub fn loan_slice_uninit(&self, len: usize) -> Result<LoanUninit<[T]>, LoanError> {
-        match len.checked_mul(size_of::<T>()) {
-            Some(bytes) => self.lend(bytes),
-            None => Err(LoanError::ExceedsMaxLoanSize),
-        }
+        self.lend(<[T]>::greatest_size(len))
     }
 
     /// Lends a message of so many default values.

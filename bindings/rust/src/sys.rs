@@ -90,7 +90,7 @@ pub struct PublisherOptions {
     pub backpressure_strategy: u32,
     pub backpressure_handler: u32,
     pub degradation: u32,
-    pub reserved: u32,
+    pub allocation_strategy: u32,
 }
 
 #[repr(C)]

@@ -1,8 +1,8 @@
 //! Ports, loans, samples and blocked sends, by safe Rust alone.
 
 use iox2_pubsub::{
-    BackpressureAction, BackpressureStrategy, ConnectionFailure, Domain, LoanError,
-    PublisherCreateError, ReceiveError, SendError, SendOutcome, SubscriberCreateError,
+    AllocationStrategy, BackpressureAction, BackpressureStrategy, ConnectionFailure, Domain,
+    LoanError, PublisherCreateError, ReceiveError, SendError, SendOutcome, SubscriberCreateError,
 };
 use std::error::Error;
 use std::time::Duration;
@@ -416,6 +416,36 @@ fn a_publisher_asks_for_fewer_slots() {
     let _first = worst_case.loan().unwrap();
     let _second = worst_case.loan().unwrap();
     assert_eq!(worst_case.loan().err(), Some(LoanError::ExceedsMaxLoans));
+}
+
+#[test]
+fn a_publisher_grows() {
+    let domain = Domain::<[u16]>::slice_builder(20).max_slice_len(2);
+    let domain = domain.create().unwrap();
+    let subscriber = domain.subscriber().unwrap();
+    let fixed = domain.publisher().unwrap();
+    assert_eq!(
+        fixed.loan_slice(3).err(),
+        Some(LoanError::ExceedsMaxLoanSize)
+    );
+    assert_eq!(
+        fixed.loan_slice(usize::MAX).err(),
+        Some(LoanError::ExceedsMaxLoanSize)
+    );
+    for strategy in [AllocationStrategy::BestFit, AllocationStrategy::PowerOfTwo] {
+        let builder = domain.publisher_builder().allocation_strategy(strategy);
+        let growing = builder.initial_max_slice_len(0).create().unwrap();
+        growing.send_slice_copy(&[1, 2, 3, 4, 5]).unwrap();
+        let sample = subscriber.receive().unwrap().unwrap();
+        let long = growing.loan_slice(1000).unwrap();
+        assert_eq!(long.len(), 1000);
+        drop(long);
+        assert_eq!(
+            growing.loan_slice(usize::MAX).err(),
+            Some(LoanError::InternalFailure)
+        );
+        assert_eq!(&sample[..], &[1, 2, 3, 4, 5]);
+    }
 }
 
 #[test]

@@ -400,6 +400,15 @@ fn options_without_sense_make_no_port() {
             initial_max_slice_len: 8,
             ..options
         },
+        PublisherOptions {
+            allocation_strategy: 3,
+            ..options
+        },
+        PublisherOptions {
+            allocation_strategy: 1,
+            initial_max_slice_len: 0,
+            ..options
+        },
     ];
     for options in wrong {
         refused(INVALID_SETTINGS, |outs| unsafe {

@@ -51,7 +51,11 @@ impl Model {
         let slots = publisher.slots;
         if allocation == AllocationStrategy::Static {
             let is_full = self.held_count(p, None)? >= slots;
-            return Ok(if is_full { Err(LoanError::OutOfMemory) } else { Ok(()) });
+            return Ok(if is_full {
+                Err(LoanError::OutOfMemory)
+            } else {
+                Ok(())
+            });
         }
         if len <= longest && self.held_count(p, Some(made))? < slots {
             return Ok(Ok(()));

@@ -44,12 +44,7 @@ const SUBSCRIBER: Command<u64, u64> = Command::CreateSubscriber {
 };
 
 // A model of the service with this publisher as its first command, with so much memory for segments.
-fn model(
-    rt: &impl Abort,
-    alloc: Global,
-    memory: Memory,
-    first: Command<u64, u64>,
-) -> Model {
+fn model(rt: &impl Abort, alloc: Global, memory: Memory, first: Command<u64, u64>) -> Model {
     let mut model = Model::new(alloc, slices(), memory).expect(rt, "a model");
     let made = Reply::PublisherMade(UniquePublisherId::new(1));
     assert!(rt; model.carry_out(first, None) == Ok(made));
@@ -145,14 +140,44 @@ fn a_sample_outlives_the_segment_of_its_message(rt: HostRuntime) {
     let mut model = model(&rt, rt.alloc(), Memory::ample(), first);
     let made = model.carry_out(SUBSCRIBER, None);
     assert!(rt; made.is_ok());
-    expect(&rt, &mut model, Command::LoanSlice { of: 0, len: 1 }, Reply::Loaned);
-    expect(&rt, &mut model, Command::WriteAll { of: 2, value: 5 }, Reply::Done);
-    expect(&rt, &mut model, Command::Send { of: 2 }, Reply::Delivered(1));
+    expect(
+        &rt,
+        &mut model,
+        Command::LoanSlice { of: 0, len: 1 },
+        Reply::Loaned,
+    );
+    expect(
+        &rt,
+        &mut model,
+        Command::WriteAll { of: 2, value: 5 },
+        Reply::Done,
+    );
+    expect(
+        &rt,
+        &mut model,
+        Command::Send { of: 2 },
+        Reply::Delivered(1),
+    );
     let sample = Reply::Sample(UniquePublisherId::new(1));
     expect(&rt, &mut model, Command::Receive { of: 1 }, sample);
-    expect(&rt, &mut model, Command::LoanSlice { of: 0, len: 4 }, Reply::Loaned);
-    expect(&rt, &mut model, Command::WriteAll { of: 6, value: 6 }, Reply::Done);
-    expect(&rt, &mut model, Command::Send { of: 6 }, Reply::Delivered(1));
+    expect(
+        &rt,
+        &mut model,
+        Command::LoanSlice { of: 0, len: 4 },
+        Reply::Loaned,
+    );
+    expect(
+        &rt,
+        &mut model,
+        Command::WriteAll { of: 6, value: 6 },
+        Reply::Done,
+    );
+    expect(
+        &rt,
+        &mut model,
+        Command::Send { of: 6 },
+        Reply::Delivered(1),
+    );
     let value = Reply::Cell(Some(5));
     expect(&rt, &mut model, Command::Read { of: 5, at: 0 }, value);
     refuse(&rt, &mut model, usize::MAX, LoanError::InternalFailure);

@@ -23,8 +23,7 @@ pub(crate) fn service(max_subscribers: usize, history_size: usize) -> ServiceCon
 }
 
 // The command that makes a publisher that waits, with so many loans of two elements at most.
-fn waiting_publisher(loans: usize) -> Command<u64, u8>
-{
+fn waiting_publisher(loans: usize) -> Command<u64, u8> {
     Command::CreatePublisher {
         loans,
         strategy: BackpressureStrategy::RetryUntilDelivered,

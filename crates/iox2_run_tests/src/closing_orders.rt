@@ -45,8 +45,7 @@ const RELEASE: usize = 2;
 /// None of the four ends.
 const NO_ORDER: Order = [ENDINGS; ENDINGS];
 
-fn ending(index: usize) -> Command<u64, u8>
-{
+fn ending(index: usize) -> Command<u64, u8> {
     match index {
         0 => Command::Close { of: 0 },
         1 => Command::Close { of: 1 },
@@ -59,8 +58,7 @@ fn ending(index: usize) -> Command<u64, u8>
 const READ: Command<u64, u8> = Command::Read { of: 5, at: 0 };
 
 /// A message is received and a loan is out. Then the four end, and the message is read before each.
-fn commands_in_order(alloc: Global, order: Order) -> Result<Vec<Command<u64, u8>>, AllocError>
-{
+fn commands_in_order(alloc: Global, order: Order) -> Result<Vec<Command<u64, u8>>, AllocError> {
     let commands = [
         CREATE_SUBSCRIBER,
         create_publisher(2),
@@ -82,8 +80,7 @@ fn commands_in_order(alloc: Global, order: Order) -> Result<Vec<Command<u64, u8>
 }
 
 /// The next two ports carry a message.
-fn next_commands(alloc: Global) -> Result<Vec<Command<u64, u8>>, AllocError>
-{
+fn next_commands(alloc: Global) -> Result<Vec<Command<u64, u8>>, AllocError> {
     let commands = [
         create_publisher(2),
         CREATE_SUBSCRIBER,

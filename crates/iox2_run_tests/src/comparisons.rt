@@ -35,14 +35,12 @@ pub(crate) const PUBLISHER: Command<u64, u8> = Command::CreatePublisher {
 };
 
 // The command, or nothing in its place.
-fn if_kept(is_kept: bool, command: Command<u64, u8>) -> Command<u64, u8>
-{
+fn if_kept(is_kept: bool, command: Command<u64, u8>) -> Command<u64, u8> {
     if is_kept { command } else { Command::Nothing }
 }
 
 // Two messages are sent to two subscribers. In between the first subscriber receives one, or doesn't.
-fn two_messages(alloc: Global, receives: bool) -> Result<Commands, AllocError>
-{
+fn two_messages(alloc: Global, receives: bool) -> Result<Commands, AllocError> {
     let commands = [
         SUBSCRIBER,
         SUBSCRIBER,
@@ -63,8 +61,7 @@ fn two_messages(alloc: Global, receives: bool) -> Result<Commands, AllocError>
 
 // The first subscriber is closed, before which it may receive a message and release it. A new one
 // takes its place.
-fn close_of_another(alloc: Global, receives: bool, releases: bool) -> Result<Commands, AllocError>
-{
+fn close_of_another(alloc: Global, receives: bool, releases: bool) -> Result<Commands, AllocError> {
     let commands = [
         SUBSCRIBER,
         SUBSCRIBER,
@@ -88,8 +85,7 @@ fn close_of_another(alloc: Global, receives: bool, releases: bool) -> Result<Com
 }
 
 // The second subscriber is closed while it has a sample, before which the first one may receive too.
-fn close_with_a_sample(alloc: Global, other_receives: bool) -> Result<Commands, AllocError>
-{
+fn close_with_a_sample(alloc: Global, other_receives: bool) -> Result<Commands, AllocError> {
     let commands = [
         SUBSCRIBER,
         SUBSCRIBER,
@@ -119,8 +115,7 @@ fn compared(
     alloc: Global,
     commands: Commands,
     reduced: Commands,
-) -> (Replies, Replies)
-{
+) -> (Replies, Replies) {
     let config = ServiceConfig {
         max_subscribers: 2,
         subscriber_max_buffer_size: 1,
@@ -273,8 +268,7 @@ fn after_many_subscribers(
     rt: &impl Abort,
     alloc: Global,
     last: &[Command<u64, u8>],
-) -> Vec<Command<u64, u8>>
-{
+) -> Vec<Command<u64, u8>> {
     let mut commands = Vec::from_array(alloc, [SUBSCRIBER; 33]).expect(rt, "subscribers");
     commands.extend_from_slice(last).expect(rt, "commands");
     commands

@@ -49,7 +49,10 @@ const fn refused(error: LoanError) -> Reply<u64, u8> {
 fn a_sample_reads_on_while_its_publisher_grows(rt: HostRuntime) {
     let steps = [
         (CREATE_SUBSCRIBER, subscriber_made(1)),
-        (publisher(1, AllocationStrategy::BestFit, None), publisher_made(2)),
+        (
+            publisher(1, AllocationStrategy::BestFit, None),
+            publisher_made(2),
+        ),
         (slice(1, 1), Reply::Loaned),
         (Command::WriteAll { of: 2, value: 5 }, Reply::Done),
         (Command::Send { of: 2 }, Reply::Delivered(1)),
@@ -70,7 +73,10 @@ fn a_sample_reads_on_while_its_publisher_grows(rt: HostRuntime) {
 #[test]
 fn the_limit_of_loans_counts_before_memory(rt: HostRuntime) {
     let steps = [
-        (publisher(2, AllocationStrategy::BestFit, Some(1)), publisher_made(1)),
+        (
+            publisher(2, AllocationStrategy::BestFit, Some(1)),
+            publisher_made(1),
+        ),
         (slice(0, 1), Reply::Loaned),
         (slice(0, 1), Reply::Loaned),
         (slice(0, usize::MAX), refused(LoanError::ExceedsMaxLoans)),
@@ -125,9 +131,7 @@ fn rising(
 }
 
 // The position of the first loan of such a run that is refused, and why.
-fn first_refused(
-    replies: &[Reply<u64, u8>],
-) -> Option<(usize, LoanError)> {
+fn first_refused(replies: &[Reply<u64, u8>]) -> Option<(usize, LoanError)> {
     for position in 0..replies.len() {
         if let Some(Reply::LoanRefused(error)) = replies.get(position) {
             return Some((position, *error));
@@ -139,8 +143,7 @@ fn first_refused(
 #[test]
 fn best_fit_makes_at_most_255_segments(rt: HostRuntime) {
     let mut domain: Domain<u64, u8> = Domain::new(rt.alloc(), slice_settings()).expect(
-        &rt,
-        "a domain",
+        &rt, "a domain",
     );
     let commands = rising(rt.alloc(), AllocationStrategy::BestFit, 256).expect(&rt, "commands");
     let replies = replies_to_numbers(rt.alloc(), &mut domain, commands);
@@ -151,8 +154,7 @@ fn best_fit_makes_at_most_255_segments(rt: HostRuntime) {
 #[test]
 fn powers_of_two_need_few_segments(rt: HostRuntime) {
     let mut domain: Domain<u64, u8> = Domain::new(rt.alloc(), slice_settings()).expect(
-        &rt,
-        "a domain",
+        &rt, "a domain",
     );
     let commands = rising(rt.alloc(), AllocationStrategy::PowerOfTwo, 256).expect(&rt, "commands");
     let replies = replies_to_numbers(rt.alloc(), &mut domain, commands);

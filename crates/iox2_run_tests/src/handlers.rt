@@ -24,8 +24,10 @@ const STRATEGIES: [BackpressureStrategy; 2] = [
 
 // The command that makes a publisher with one loan of two elements at most, whose handler always
 // answers so.
-fn handled_publisher(strategy: BackpressureStrategy, action: BackpressureAction) -> Command<u64, u8>
-{
+fn handled_publisher(
+    strategy: BackpressureStrategy,
+    action: BackpressureAction,
+) -> Command<u64, u8> {
     Command::CreatePublisher {
         loans: 1,
         strategy,

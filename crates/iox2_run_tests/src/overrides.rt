@@ -14,8 +14,7 @@ use std::process::Abort;
 
 // The command that makes a publisher with three loans of two elements at most, whose override asks
 // for so many slots.
-fn overridden_publisher(slots: usize) -> Command<u64, u8>
-{
+fn overridden_publisher(slots: usize) -> Command<u64, u8> {
     Command::CreatePublisher {
         loans: 3,
         strategy: BackpressureStrategy::DiscardData,

@@ -20,8 +20,7 @@ pub(crate) const CREATE_SUBSCRIBER: Command<u64, u8> = Command::CreateSubscriber
 };
 
 /// The command that makes a publisher with so many loans.
-pub(crate) fn create_publisher(loans: usize) -> Command<u64, u8>
-{
+pub(crate) fn create_publisher(loans: usize) -> Command<u64, u8> {
     Command::CreatePublisher {
         loans,
         strategy: BackpressureStrategy::DiscardData,

@@ -20,8 +20,7 @@ pub(crate) struct Told {
 }
 
 /// The commands of a run on a new domain get their replies. Returns what the domain tells then.
-pub(crate) fn check(rt: &impl Abort, alloc: Global, config: ServiceConfig, steps: &[Step]) -> Told
-{
+pub(crate) fn check(rt: &impl Abort, alloc: Global, config: ServiceConfig, steps: &[Step]) -> Told {
     let mut domain: Domain<u64, u8> = Domain::new(alloc, config).expect(rt, "a domain");
     let commands = commands_of(alloc, steps).expect(rt, "commands");
     let outcome = replies_to_numbers(alloc, &mut domain, commands);
@@ -38,8 +37,7 @@ pub(crate) fn check(rt: &impl Abort, alloc: Global, config: ServiceConfig, steps
 }
 
 // The commands of the steps.
-fn commands_of(alloc: Global, steps: &[Step]) -> Result<Vec<Command<u64, u8>>, AllocError>
-{
+fn commands_of(alloc: Global, steps: &[Step]) -> Result<Vec<Command<u64, u8>>, AllocError> {
     let mut commands = Vec::new(alloc);
     for step in steps {
         commands.push(step.0)?;
@@ -48,8 +46,7 @@ fn commands_of(alloc: Global, steps: &[Step]) -> Result<Vec<Command<u64, u8>>, A
 }
 
 /// The command that tries a blocked send again, so many milliseconds after it was blocked.
-pub(crate) fn retry(of: usize, millis: u64) -> Command<u64, u8>
-{
+pub(crate) fn retry(of: usize, millis: u64) -> Command<u64, u8> {
     Command::Retry {
         of,
         elapsed: Duration::from_millis(millis),
@@ -57,14 +54,12 @@ pub(crate) fn retry(of: usize, millis: u64) -> Command<u64, u8>
 }
 
 /// The command that writes a cell of an unwritten loan.
-pub(crate) fn write_cell(of: usize, at: usize, value: u64) -> Command<u64, u8>
-{
+pub(crate) fn write_cell(of: usize, at: usize, value: u64) -> Command<u64, u8> {
     Command::WriteCell { of, at, value }
 }
 
 /// The command that changes a value of a written loan.
-pub(crate) fn set_payload(of: usize, at: usize, value: u64) -> Command<u64, u8>
-{
+pub(crate) fn set_payload(of: usize, at: usize, value: u64) -> Command<u64, u8> {
     Command::SetPayload { of, at, value }
 }
 

@@ -225,7 +225,9 @@ fn bytes_of_elements_with_units_grow_too(rt: HostRuntime) {
     let factory = slice_factory(&domain).allocation_strategy(AllocationStrategy::BestFit);
     let publisher = factory.create(&mut domain).expect(&rt, "a publisher");
     assert_ready(&rt, &domain, &publisher);
-    let loan = publisher.loan_custom_payload(&mut domain, 3).expect(&rt, "a loan");
+    let loan = publisher
+        .loan_custom_payload(&mut domain, 3)
+        .expect(&rt, "a loan");
     let bytes = loan.payload(&domain).len();
     loan.disown();
     assert_ready(&rt, &domain, &publisher);

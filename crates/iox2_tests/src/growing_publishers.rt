@@ -1,10 +1,9 @@
 //! Publishers of single values whose memory grows.
 
 use crate::fixtures::{
-    celsius_of, close_publisher, close_subscriber, domain, next_reading, received, release, sent,
-    subscriber_of,
+    assert_ready, assert_single_valued, celsius_of, close_publisher, close_subscriber, domain,
+    next_reading, received, release, sent, subscriber_of,
 };
-use crate::fixtures::{assert_ready, assert_single_valued};
 use iox2_fixtures::{Reading, Station, factory_for};
 use iox2_pubsub::{Domain, Publisher, SampleMutUninit};
 use iox2_store::{AllocationStrategy, LoanError};

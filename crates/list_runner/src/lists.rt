@@ -9,8 +9,7 @@ use std::io;
 type End = (Domain<u64, ()>, Vec<Reply<u64, ()>>);
 
 // The list, in which each message is 0.
-fn filling(alloc: Global, sizes: &Sizes) -> Result<Vec<Command<u64, ()>>, Failure>
-{
+fn filling(alloc: Global, sizes: &Sizes) -> Result<Vec<Command<u64, ()>>, Failure> {
     worst_case_commands(alloc, &sizes.config, sizes.loans, 0, None).ok_or(Failure::TooLong)
 }
 
@@ -66,8 +65,7 @@ fn outcome_of(
     alloc: Global,
     sizes: &Sizes,
     commands: Vec<Command<u64, ()>>,
-) -> Result<(Vec<Reply<u64, ()>>, u64), Failure>
-{
+) -> Result<(Vec<Reply<u64, ()>>, u64), Failure> {
     let Ok(mut domain) = Domain::<u64, ()>::new(alloc, sizes.config) else {
         return Err(Failure::OutOfMemory);
     };

@@ -192,7 +192,14 @@ pub(crate) fn make_publisher<T: Drop, U: Default + Drop, F: BackpressureFn, G: D
 {
     match domain.variant() {
         TypeVariant::FixedSize => {
-            let factory = value_factory(domain, loans, strategy, allocation, degradation, backpressure);
+            let factory = value_factory(
+                domain,
+                loans,
+                strategy,
+                allocation,
+                degradation,
+                backpressure,
+            );
             create_values(domain, factory, asked_slots)
         }
         TypeVariant::Dynamic => {
