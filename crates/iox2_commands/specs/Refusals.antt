@@ -26,7 +26,7 @@ TellNoRefusal warnings = warnings.refused_connections ≡ 0
 
 module _ {T U : Type 0} where
   -- Memory that is refused to the command shows in its reply or in the count: a publisher that it makes has its memory from the
-  -- start. These are the commands that `run` carries out so far.
+  -- start.
   abbrev pub TellsOfRefusals : Command T U → Type 0
   TellsOfRefusals Nothing = Unit {0}
   TellsOfRefusals (CreatePublisher loans strategy allocation len override_slots degradation backpressure) = allocation ≡ Static
