@@ -95,7 +95,7 @@ module _ {T U : Type 0} (f : Fields T U) where
       one_each = b.one_each;
       books = b.books;
       publishers = λ i x at. let has = b.publishers i x at in
-          record { book = has.book; stands = has.stands; is_its = has.is_its; node = has.node; slots = has.slots; no_more = has.no_more; room = has.room };
+          record { book = has.book; stands = has.stands; is_its = has.is_its; node = has.node; slots = has.slots; room = has.room };
       no_others = b.no_others;
     }
 
