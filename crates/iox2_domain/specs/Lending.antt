@@ -1,5 +1,5 @@
 -- A publisher lends a free slot of its book.
-use Rattle.std.specs.Prelude.{◌≡◌, ℕ, Bool, false, ◌&&◌, ◌*◌, nat_lt, ◌+◌, ◌<◌, max, List, [], ◌∷◌, ◌++◌, length, slice_index_or, slice_set, Result, MatchResult, MatchOption, IsSomeAnd}
+use Rattle.std.specs.Prelude.{◌≡◌, ℕ, Bool, true, false, ◌&&◌, ◌*◌, nat_lt, ◌+◌, ◌<◌, max, List, [], ◌∷◌, ◌++◌, length, slice_index_or, slice_set, Result, MatchResult, MatchOption, IsSomeAnd}
 use Rattle.std.specs.declared.option.Option.{Option}
 use Rattle.std.specs.declared.option.Option.TheVariants.{None, Some}
 use Rattle.std.specs.List.{All}

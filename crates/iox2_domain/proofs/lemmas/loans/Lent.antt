@@ -78,8 +78,8 @@ module _ {T U : Type 0} (f : Fields T U) (sound : IsDomain f) (i : ℕ) (x : Pub
   -- the book of a static publisher has as many slots as that
   slots-are : is_static x.allocation ≡ true → (b : Book) → get f.books x.book ≡ Some b → length b.holders ≡ x.slots
   slots-are static b stands =
-      ap (λ (c : Book). length c.holders) (sym (its-book b stands))
-      ∙ (its_book f sound i x at).slots ∙ ap (λ (n : ℕ). n + x.slots) ((sound.parts.plain i x at).segment.static static).0
+      let same : length b.holders ≡ length (its_book f sound i x at).book.holders = ap (λ (c : Book). length c.holders) (sym (its-book b stands)) in
+      omega (arith, same, (its_book f sound i x at).slots, ((sound.parts.plain i x at).segment.static static).0)
 
   module _ (short : is_too_long ≡ false) (few : length x.loans < x.max_loaned_samples) (static : is_static x.allocation ≡ true) (b : Book) (stands : get f.books x.book ≡ Some b) where
     few_numbers : length machine.loans < machine.max_loaned_samples

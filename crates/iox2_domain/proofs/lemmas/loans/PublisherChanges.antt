@@ -72,7 +72,7 @@ other_slots x loans items blocked = record {
 
 module _ {A : Type 0} where
   -- a view that doesn't tell the new record from the old one stays
-  map-set : {B : Type 0} (g : A → B) (xs : List (Option A)) (i : ℕ) (x y : A) → get_or xs i None ≡ Some x → g y ≡ g x
+  pub map-set : {B : Type 0} (g : A → B) (xs : List (Option A)) (i : ℕ) (x y : A) → get_or xs i None ≡ Some x → g y ≡ g x
       → map (option_map g) (slice_set xs i (Some y)) ≡ map (option_map g) xs
   map-set g [] i x y at same = refl
   map-set g (z ∷ zs) zero x y at same = ap (λ o. o ∷ map (option_map g) zs) (ap Some same ∙ sym (ap (option_map g) at))
