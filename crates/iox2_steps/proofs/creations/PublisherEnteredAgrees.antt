@@ -125,7 +125,7 @@ module _ {T U : Type 0} (f : Fields T U) (place : ℕ) (given : PublisherSetting
     stands = enters.book.updates.changed;
     is_its = enters.book.is_its;
     node = enters.book.names_node;
-    slots = ap length enters.book.unused ∙ length-replicate slots;
+    slots = let e : length (enters.book.book).holders ≡ slots = ap length enters.book.unused ∙ length-replicate slots in omega (arith, e);
     room = rw enters.book.contents_here (record {
       at = λ slot content from there.
           subst (λ (c : ContentState T U). needed ≤ c.room) (get_or_from_slice_get enters.book.slot_contents slot content content there)
