@@ -1,2 +1,5 @@
 mod LoanPass
+mod ClearedSlots
+mod LendPass
+mod GrowthPass
 pub mod SentEnds

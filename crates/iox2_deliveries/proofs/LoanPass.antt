@@ -1,4 +1,4 @@
--- A loan by a publisher that first reclaimed slots where none of its book was free.
+-- A loan by a static publisher that first reclaimed slots where none of its book was free.
 use Rattle.std.proofs.Common.{◌≡◌, ◌<◌, ◌≤◌, ℕ, ◌+◌, ◌*◌, ◌^◌, ◌&&◌, nat_lt, Bool, true, false, All, List, None, Some, Ok, Err, length, get_or, set-set, slice_set, refl, ap, sym, subst, ◌∙◌, arith}
 use Rattle.std.proofs.lemmas.List.{set-get_or}
 use Rattle.std.specs.declared.option.Option.{Option}
@@ -26,6 +26,7 @@ use Rattle.iox2_domain.specs.Ports.{PublisherFields, slot_length}
 use Rattle.iox2_domain.specs.Reaches.{Reaches}
 use Rattle.iox2_domain.specs.declared.loan_slots.LoanAt.{LoanAt}
 use Rattle.iox2_domain.proofs.lemmas.containers.SetRecords.{set-here}
+use Rattle.iox2_domain.proofs.lemmas.slots.PublisherBooks.{read-there}
 use Rattle.iox2_domain.proofs.lemmas.loans.LendingSteps.{lends-from, lent-fits, lent-short, loan-fits, length-fits}
 use Rattle.iox2_domain.proofs.lemmas.loans.Lent.{decided-long, decided-limited, decided-full, decided-failed, decided-free}
 use Rattle.iox2_domain.proofs.lemmas.loans.Loaned.{loan-refused, loan-lent, loan-lies}
@@ -39,9 +40,17 @@ reclaims-nothing p hs slab = record {
   shrinks = λ slot. omega arith;
 }
 
+-- the publisher that stands there is static
+pub its-static : {T U : Type 0} (before f : Fields T U) → f ≡ before → (i : ℕ) (x : PublisherFields) → get_or f.publishers i None ≡ Some x
+    → ((y : PublisherFields) × (get_or before.publishers i None ≡ Some y) × (is_static y.allocation ≡ true)) → is_static x.allocation ≡ true
+its-static {T} {U} before f same i x at given =
+    let found : Some given.0 ≡ Some x = sym given.1 ∙ ap (λ (h : Fields T U). get_or h.publishers i None) (sym same) ∙ at in
+    let is : given.0 ≡ x = cc in
+    subst (λ (y : PublisherFields). is_static y.allocation ≡ true) is given.2
+
 module _ {T U : Type 0} (before f : Fields T U) (same : f ≡ before) (agrees : IsDomain before) (i : ℕ) (x : PublisherFields) (at : get_or f.publishers i None ≡ Some x)
     (b book : Book) (its : get f.books x.book ≡ Some b) (links : Slab Link) (is : book ≡ with_counters b book.holders)
-    (z : PublisherFields) (view : x ≡ z) (r : Reclaims z.id b.holders f.connections book.holders links) (checks : Bool) (len : ℕ) where
+    (z : PublisherFields) (view : x ≡ z) (r : Reclaims z.id b.holders f.connections book.holders links) (checks : Bool) (len : ℕ) (static : is_static x.allocation ≡ true) where
   -- the fields after it reclaimed
   abbrev pub reclaimed : Fields T U
   reclaimed = record f { connections = links; books = with_value f.books x.book book }
@@ -87,35 +96,37 @@ module _ {T U : Type 0} (before f : Fields T U) (same : f ≡ before) (agrees : 
       pub refused-full : (is_default : U → Type 0) → (All (λ n. 0 < n) book.holders → HasReclaimed links z.keys) → All (λ n. 0 < n) book.holders
           → Refused OutOfMemory (slice_set f.publishers i (Some z)) is_default
       refused-full is_default empties all =
-          refused is_default OutOfMemory (decided-full reclaimed reached.agrees i x at checks len its-short few book its-book
+          refused is_default OutOfMemory (decided-full reclaimed reached.agrees i x at checks len its-short few static book its-book
           (subst (λ (y : PublisherFields). HasReclaimed links y.keys) (sym view) (empties all)) all)
 
       module _ (some_free : All (λ n. 0 < n) book.holders → ⊥) where
         pub refused-last : (is_default : U → Type 0) → f.next_message ≡ last_number → Refused InternalFailure (slice_set f.publishers i (Some z)) is_default
-        refused-last is_default last = refused is_default InternalFailure (decided-failed reclaimed reached.agrees i x at checks len its-short few book its-book some_free last)
+        refused-last is_default last = refused is_default InternalFailure (decided-failed reclaimed reached.agrees i x at checks len its-short few static book its-book some_free last)
 
         -- ---- a slot is lent
 
         module _ (more : f.next_message < last_number) (unchecked : checks ≡ false → (f.config).variant ≡ FixedSize) (one : (f.config).variant ≡ FixedSize → len ≡ 1) where
           can : CanGrant reclaimed checks len i
-          can = record { publisher = x; book = book; stands = at; its = its-book; few = few; some_free = some_free; more = more; short = its-short }
+          can = record { publisher = x; book = book; stands = at; its = its-book; few = few; some_free = some_free; more = more; short = its-short; static = static }
 
-          low : len ≤ slot_length x.initial_max_slice_len
+          low : len ≤ slot_length x.segment_length
           low = lent-short reclaimed reached.agrees i x at checks len can unchecked one
 
           pub lent-short_units : 1 < len → len * (f.config).units_per_element < 2 ^ 64
-          lent-short_units = lent-fits reclaimed reached.agrees i x at checks len can low
+          lent-short_units = lent-fits reclaimed reached.agrees i x at len few low
 
           pub lent-room : length z.loans < z.loan_room
           lent-room = subst (λ (y : PublisherFields). length y.loans < y.loan_room) view (loan-fits reclaimed reached.agrees i x at checks len can)
 
           pub lent-length : (slot : ℕ) → slot < length book.holders → (o : Option (List (ContentState T U))) → o ≡ get_or f.contents x.book o
               → IsSomeAnd o (λ cs. SomeAt cs slot (λ content. len * (f.config).units_per_element ≤ content.room))
-          lent-length slot below o read = length-fits reclaimed reached.agrees i x at len low book its-book slot below o read
+          lent-length slot below o read =
+              let first : x.segment_start ≡ 0 = ((reached.agrees.parts.plain i x at).segment.static static).0 in
+              length-fits reclaimed reached.agrees i x at len low book its-book slot below (omega (arith, first)) o read
 
           module _ (is_default : U → Type 0) (taken : Book) (slot : ℕ) (takes : TakesFreeSlot book taken slot f.next_message (header_in book len)) (o started : Option (List (ContentState T U))) (read : o ≡ get_or f.contents x.book o)
               (starts : Starts is_default o started slot (len * (f.config).units_per_element)) (y y' : Option PublisherFields) (read_y : y ≡ get_or f.publishers i y)
-              (lent : y' ≡ option_map (lending len slot) y) where
+              (lent : y' ≡ option_map (λ (p : PublisherFields). lending len slot p.segments p) y) where
             -- the fields after the loan
             abbrev new : Fields T U
             new = record reclaimed {
@@ -128,21 +139,27 @@ module _ {T U : Type 0} (before f : Fields T U) (same : f ≡ before) (agrees : 
             abbrev loan : LoanAt
             loan = record { publisher = x.id; number = f.next_message; place = i; book = x.book; slot = slot }
 
-            lends : IsSomeAnd (get_or reclaimed.publishers i None) (λ p. Lends is_default reclaimed i p slot len new)
+            -- it has the segments that it had
+            lent-segments : y' ≡ option_map (lending len slot x.segments) y
+            lent-segments =
+                let is : y ≡ Some x = sym (read-there f.publishers i x y at read_y) ∙ at in
+                lent ∙ ap (option_map (λ (p : PublisherFields). lending len slot p.segments p)) is ∙ sym (ap (option_map (lending len slot x.segments)) is)
+
+            lends : IsSomeAnd (get_or reclaimed.publishers i None) (λ p. Lends is_default reclaimed i p slot len p.segments new)
             lends =
-                subst (λ (p : Option PublisherFields). IsSomeAnd p (λ p. Lends is_default reclaimed i p slot len new)) (sym at)
-                (subst (λ (slots : List (Option Book)). Lends is_default reclaimed i x slot len (record new { books = record f.books { slots = slots } }))
+                subst (λ (p : Option PublisherFields). IsSomeAnd p (λ p. Lends is_default reclaimed i p slot len p.segments new)) (sym at)
+                (subst (λ (slots : List (Option Book)). Lends is_default reclaimed i x slot len x.segments (record new { books = record f.books { slots = slots } }))
                 (set-set f.books.slots x.book (Some book) (Some taken))
-                (lends-from reclaimed reached.agrees i x at len is_default book taken slot its-book takes o started read starts y y' read_y lent))
+                (lends-from reclaimed reached.agrees i x at len x.segments is_default book taken slot its-book takes o started read starts y y' read_y lent-segments))
 
             named : IsSomeAnd (get_or reclaimed.publishers i None) (λ p. IsNamed reclaimed p loan)
             named = subst (λ (p : Option PublisherFields). IsSomeAnd p (λ p. IsNamed reclaimed p loan)) (sym at) (record { publisher = refl; number = refl; book = refl })
 
             free : LoanDecided reclaimed checks len i None
-            free = decided-free reclaimed reached.agrees i x at checks len its-short few book its-book some_free more
+            free = decided-free reclaimed reached.agrees i x at checks len its-short few static book its-book some_free more
 
             pub granted : IsSomeAnd (get_or before.publishers i None) (λ p. LoanReaches is_default checks len before p (Ok loan) new)
-            granted = loan-lent is_default before reclaimed agrees i stands reached (ap (λ (h : Fields T U). h.publishers) same) checks len one free loan new lends
+            granted = loan-lent is_default before reclaimed agrees i stands reached (ap (λ (h : Fields T U). h.publishers) same) checks len one free slot new lends loan
 
             pub granted-lies : LiesInSlot new x.id f.next_message x.book slot
             granted-lies = loan-lies is_default before reclaimed agrees i stands reached (ap (λ (h : Fields T U). h.publishers) same) checks len one free loan new named lends

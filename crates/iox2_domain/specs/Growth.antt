@@ -1,5 +1,5 @@
 -- A publisher makes a further segment, which becomes its current one.
-use Rattle.std.specs.Prelude.{◌≡◌, ◌⊎◌, ℕ, Bool, true, false, ◌+◌, ◌*◌, ◌<◌, ◌≤◌, List, drop, length, slice_get, slice_index_or, slice_set, Result, MatchResult, ◌==◌}
+use Rattle.std.specs.Prelude.{◌≡◌, ◌⊎◌, ℕ, Bool, true, false, ◌+◌, ◌*◌, ◌<◌, ◌≤◌, List, drop, length, slice_get, slice_index_or, slice_set, not, Result, MatchResult}
 use Rattle.std.specs.declared.option.Option.{Option}
 use Rattle.std.specs.declared.option.Option.TheVariants.{None, Some}
 use Rattle.std.specs.List.{All}
@@ -41,7 +41,7 @@ module _ {T U : Type 0} where
     pub contents : List (ContentState T U)
     pub had : slice_index_or f.contents x.book None ≡ Some contents
     pub grown : List (ContentState T U)
-    pub grows : GrowsContents book x.slots (slot_length len * (f.config).units_per_element) (is_single_valued f.config == false) contents grown
+    pub grows : GrowsContents book x.slots (slot_length len * (f.config).units_per_element) (not (is_single_valued f.config)) contents grown
     pub fits : segment_fits f.config x.slots len ≡ true
     pub longer : x.segment_length ≤ len
     pub is : f' ≡ record f {

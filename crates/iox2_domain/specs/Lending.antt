@@ -1,5 +1,5 @@
 -- A publisher lends a free slot of its book.
-use Rattle.std.specs.Prelude.{◌≡◌, ℕ, Bool, false, ◌&&◌, ◌*◌, nat_lt, ◌+◌, ◌<◌, max, List, [], ◌∷◌, ◌++◌, length, slice_index_or, slice_set, Result, MatchResult, MatchOption, IsSomeAnd}
+use Rattle.std.specs.Prelude.{◌≡◌, ℕ, Bool, true, false, ◌&&◌, ◌*◌, nat_lt, ◌+◌, ◌<◌, max, List, [], ◌∷◌, ◌++◌, length, slice_index_or, slice_set, Result, MatchResult, MatchOption, IsSomeAnd}
 use Rattle.std.specs.declared.option.Option.{Option}
 use Rattle.std.specs.declared.option.Option.TheVariants.{None, Some}
 use Rattle.std.specs.List.{All}
@@ -65,10 +65,10 @@ module _ {T U : Type 0} where
     pub short : (checks && is_static publisher.allocation && nat_lt publisher.initial_max_slice_len len) ≡ false
     pub static : is_static publisher.allocation ≡ true
 
-  -- A loan of a single value by the publisher at the place is refused for this reason, or a slot may be lent.
+  -- A loan by the static publisher at the place is refused for this reason, or a slot may be lent.
   abbrev pub LoanDecided : Fields T U → (checks : Bool) → (len place : ℕ) → Option LoanError → Type 0
   LoanDecided f checks len place decision = IsSomeAnd (slice_index_or f.publishers place None) (λ x. MatchOption decision (CanGrant f checks len place)
-      (λ e. (user_header : U) → GrantLoan ample_memory user_header checks len (state_of (kept_of f)) x.id (state_of (kept_of f)) (Some e)))
+      (λ e. (user_header : U) → GrantLoan (memory_for x.allocation) user_header checks len (state_of (kept_of f)) x.id (state_of (kept_of f)) (Some e)))
 
   -- In the slot of these contents starts a loan of that length, with a default user header.
   pub record Starts (is_default : U → Type 0) (old new : Option (List (ContentState T U))) (slot len : ℕ) : Type 0 where

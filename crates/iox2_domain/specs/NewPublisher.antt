@@ -46,10 +46,6 @@ abbrev pub plain_publisher : (max_loaned_samples : ℕ) → BackpressureStrategy
 plain_publisher max_loaned_samples strategy initial_max_slice_len =
     static_publisher (record { max_loaned_samples = max_loaned_samples; strategy = strategy; degradation = mark.Fixed Warn; initial_max_slice_len = initial_max_slice_len }) None
 
--- The publisher is to have one segment.
-pub record IsForOneSegment (given : PublisherSettings) : Type 0 where
-  pub allocation : given.allocation_strategy ≡ Static
-
 -- A publisher that was just made with these settings, with so many slots, and with room for so many loans and connections.
 abbrev pub entering_publisher : (id place book : ℕ) → PublisherSettings → (slots loan_room : ℕ) (history : Buffer ℕ) (key_room : ℕ) → PublisherFields
 entering_publisher id place book given slots loan_room history key_room = record {

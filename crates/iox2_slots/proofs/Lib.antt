@@ -1,5 +1,6 @@
 pub mod EachOnce
 pub mod FreeSlots
+pub mod LaterSlots
 pub mod LinkLemmas
 pub mod SlotRecords
 pub mod SlotHeaders

@@ -2,6 +2,8 @@
 pub mod Taken
 pub mod PublisherChanges
 pub mod Granted
+pub mod GrownSegments
+pub mod GrowingLoans
 pub mod GrantedAgrees
 pub mod LendingSteps
 pub mod Lent

@@ -4,6 +4,7 @@ pub mod Messages
 pub mod HeldMessages
 pub mod MessageLists
 pub mod BookChanges
+pub mod GrownBooks
 pub mod BookGone
 pub mod HolderGone
 pub mod LeftConnections

@@ -1,5 +1,5 @@
 //! The book of a publisher's slots.
-ghost use Rattle.std.specs.Prelude.{◌≡◌, ◌+◌, ◌-◌, ◌<◌, ◌≤◌, ◌^◌, ◌↔◌, length, drop, slice_get, slice_index, slice_set, replicate, vec_capacity, Some, IsTrue, IsNone, IfSome, IfNone, IfOk};
+ghost use Rattle.std.specs.Prelude.{◌≡◌, ◌+◌, ◌-◌, ◌<◌, ◌≤◌, ◌^◌, ◌↔◌, ◌++◌, length, map, drop, slice_get, slice_index, slice_set, replicate, vec_capacity, Some, IsTrue, IsNone, IfSome, IfNone, IfOk};
 ghost use Rattle.std.specs.List.{All};
 ghost use Rattle.iox2_slots.specs.SlotFree.{HasFree};
 
@@ -143,15 +143,11 @@ impl SlotBook {
             holders: 0,
             mark: SlotMark::Unwritten,
         };
-        let count = self.slots.len();
-        let mut slots = Vec::from_slice(alloc, &self.slots)?;
-        slots.try_reserve(more)?;
+        let mut slots = Vec::from_slice(alloc, self.slots.as_slice())?;
+        slots.reserve(more)?;
         let mut free = Vec::with_capacity(alloc, slots.capacity())?;
-        free.extend_from_slice(&self.free)?;
-        for slot in count..count + more {
-            slots.push_reserved(unused);
-            free.push_reserved(slot);
-        }
+        free.extend_from_slice(self.free.as_slice())?;
+        add_unused(&mut slots, &mut free, &unused, more);
         Ok(SlotBook {
             node: self.node,
             publisher: self.publisher,
@@ -270,6 +266,23 @@ impl SlotBook {
         ensures { IsTrue result ↔ All (λ n. n ≡ 0) self.now.holders }
     {
         self.free.len() == self.slots.len()
+    }
+}
+
+// So many slots more stand behind these, and among the free ones.
+fn add_unused(slots: &mut Vec<Slot>, free: &mut Vec<usize>, unused: &Slot, more: usize)
+    requires room { length slots.old.items + more ≤ vec_capacity slots.old }
+    requires free_room { length slots.old.items + more ≤ vec_capacity free.old }
+    requires exact { HasFree (map (λ slot. slot.holders) slots.old.items) free.old.items }
+    requires unused { unused.now.holders ≡ 0 }
+    ensures items { slots.new.items ≡ slots.old.items ++ replicate more unused.now }
+    ensures exact { HasFree (map (λ slot. slot.holders) slots.new.items) free.new.items }
+    ensures capacity { vec_capacity free.new ≡ vec_capacity free.old }
+{
+    for added in 0..more {
+        let slot = slots.len();
+        slots.push_reserved(*unused);
+        free.push_reserved(slot);
     }
 }
 

@@ -267,7 +267,7 @@ module _ {T U : Type 0} (f : Fields T U) (sound : IsDomain f) (i : ℕ) (x : Pub
     one_each = sound.parts.books.one_each;
     books = sound.parts.books.books;
     publishers = λ k y at_y. let has = sound.parts.books.publishers k y (publisher-was k y at_y).1 in
-        record { book = has.book; stands = has.stands; is_its = has.is_its; node = has.node; slots = has.slots; no_more = has.no_more; room = has.room };
+        record { book = has.book; stands = has.stands; is_its = has.is_its; node = has.node; slots = has.slots; room = has.room };
     no_others = sound.parts.books.no_others;
   }
 
@@ -282,7 +282,7 @@ module _ {T U : Type 0} (f : Fields T U) (sound : IsDomain f) (i : ℕ) (x : Pub
       record { one_each = has.one_each; books = has.books; publishers = λ k y at_y. its_of y (has.publishers k y at_y); no_others = has.no_others }
     where
       its_of : (y : PublisherFields) → HasBook (with_book between x.book counted_book) y → HasBook after y
-      its_of y has = record { book = has.book; stands = has.stands; is_its = has.is_its; node = has.node; slots = has.slots; no_more = has.no_more; room = has.room }
+      its_of y has = record { book = has.book; stands = has.stands; is_its = has.is_its; node = has.node; slots = has.slots; room = has.room }
 
   names : NamesBooks after.books new
   names = names-books f.books _ new (book-after between x.book b counted_book at keeps_slots) (record {

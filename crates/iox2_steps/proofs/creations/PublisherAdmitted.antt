@@ -16,7 +16,7 @@ use Rattle.iox2_domain.specs.Ports.{PublisherFields, slot_length}
 use Rattle.iox2_domain.specs.Kept.{Named, state_of, ids}
 use Rattle.iox2_domain.specs.Fields.{Fields, kept_of, publisher_of}
 use Rattle.iox2_domain.specs.Invariant.{HasForms, IsDomain, HasPublisherRoom}
-use Rattle.iox2_domain.specs.NewPublisher.{BookEnters, IsForOneSegment}
+use Rattle.iox2_domain.specs.NewPublisher.{BookEnters}
 use Rattle.iox2_domain.specs.Reaches.{Reaches}
 use Rattle.iox2_steps.proofs.creations.SubscribersDue.{with_subscribers_due, subscribers_due-are, subscribers_due-agree}
 use Rattle.iox2_steps.proofs.creations.PublisherEntered.{PublisherEnters, with_entered_publisher, newcomer, entered-is}
@@ -31,12 +31,12 @@ module _ {T U : Type 0} (f : Fields T U) where
   occupant-free (x ∷ xs) zero free = ap (λ o. option_map (λ (z : Named _). z.id) (option_map (publisher_of f.books f.connections) o)) free
   occupant-free (x ∷ xs) (suc place) free = occupant-free xs place free
 
-module _ {T U : Type 0} (f : Fields T U) (sound : IsDomain f) (place : ℕ) (given : PublisherSettings) (plain : IsForOneSegment given) (loan_room key_room key : ℕ) (books : Slab Book) (contents : List (Option (List (ContentState T U))))
+module _ {T U : Type 0} (f : Fields T U) (sound : IsDomain f) (place : ℕ) (given : PublisherSettings) (loan_room key_room key : ℕ) (books : Slab Book) (contents : List (Option (List (ContentState T U))))
     (free : get_or f.publishers place None ≡ None)
     (book : BookEnters (f.config).node_id f.next_port (slots_for f.config given) (slot_length given.initial_max_slice_len * (f.config).units_per_element) key f.books f.contents books contents) (forms : HasForms f.config contents) where
   -- the new publisher among the fields whose subscribers are due
   abbrev pub enters : PublisherEnters (with_subscribers_due f) place given loan_room key_room key books contents
-  enters = record { sound = subscribers_due-agree f sound; free = free; plain = plain; book = book; forms = forms }
+  enters = record { sound = subscribers_due-agree f sound; free = free; book = book; forms = forms }
 
   -- the fields with every subscriber due, and with the new publisher
   abbrev pub with_admitted : Fields T U

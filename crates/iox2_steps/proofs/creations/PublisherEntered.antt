@@ -20,7 +20,7 @@ use Rattle.iox2_domain.specs.Kept.{Named, Between, state_of, port_named, ids, is
 use Rattle.iox2_domain.specs.Fields.{Fields, kept_of, publisher_of}
 use Rattle.iox2_domain.specs.Invariant.{IsDomain, HasForms, is_publisher}
 use Rattle.iox2_domain.specs.Placed.{placed}
-use Rattle.iox2_domain.specs.NewPublisher.{BookEnters, IsForOneSegment, entering_publisher}
+use Rattle.iox2_domain.specs.NewPublisher.{BookEnters, entering_publisher}
 use Rattle.iox2_domain.proofs.lemmas.containers.LookUps.{look_up-map, look_up-written, IsOnly-inserted}
 use Rattle.iox2_domain.proofs.lemmas.containers.Placed.{placed-here, placed-others, map-placed, placed-ids}
 use Rattle.iox2_domain.proofs.lemmas.slots.NewBook.{messages-same, publishers-shown, connections-shown}
@@ -31,7 +31,6 @@ pub record PublisherEnters {T U : Type 0} (f : Fields T U) (place : ℕ) (given 
     (books : Slab Book) (contents : List (Option (List (ContentState T U)))) : Type 0 where
   pub sound : IsDomain f
   pub free : get_or f.publishers place None ≡ None
-  pub plain : IsForOneSegment given
   pub book : BookEnters (f.config).node_id f.next_port (slots_for f.config given) (slot_length given.initial_max_slice_len * (f.config).units_per_element) key f.books f.contents books contents
   pub forms : HasForms f.config contents
 

@@ -1,13 +1,17 @@
 -- A domain's fields agree with a new publisher among them.
-use Rattle.std.proofs.Common.{◌≡◌, ℕ, zero, suc, ◌+◌, ◌<◌, ◌≤◌, ◌*◌, [], Bool, true, false, cond, eqb, get_or, refl, ap, sym, subst, ◌∙◌, inl, inr, ◌⊎◌, arith, List, length, ◌∷◌, replicate}
+use Rattle.std.proofs.Common.{◌≡◌, ℕ, le_refl, zero, suc, ◌+◌, ◌<◌, ◌≤◌, ◌*◌, [], Bool, true, false, cond, eqb, get_or, refl, ap, sym, subst, ◌∙◌, inl, inr, ◌⊎◌, arith, List, length, ◌∷◌, replicate}
 use Rattle.std.proofs.lemmas.Bool.{cases_eq, eqb-true}
 use Rattle.std.specs.List.{All, sum_by}
-use Rattle.std.specs.Prelude.{IsSomeAnd}
+use Rattle.std.proofs.Math.Nat.{le-min, le-max_left}
+use Rattle.std.proofs.lemmas.Option.{get_or_from_slice_get, slice_get_within}
+use Rattle.std.specs.Prelude.{IsSomeAnd, min, max}
 use Rattle.std.specs.declared.option.Option.{Option}
 use Rattle.std.specs.declared.option.Option.TheVariants.{None, Some}
 use Rattle.std.specs.Option.{option_map_or, option_and_then}
 use Rattle.slab.specs.Slab.{Slab, get}
 use Rattle.iox2_slots.specs.Link.{Link}
+use Rattle.iox2_store.specs.machine.Limits.{worst_case}
+use Rattle.iox2_store.specs.declared.service_config.ServiceConfig.{ServiceConfig}
 use Rattle.iox2_store.specs.machine.Numbers.{contains, put_at}
 use Rattle.iox2_store.specs.machine.Places.{set_place}
 use Rattle.iox2_store.specs.machine.Records.{Publisher, PublisherSettings}
@@ -22,7 +26,7 @@ use Rattle.iox2_ends.specs.Homes.{IsSenderLinked}
 use Rattle.iox2_domain.specs.Ports.{PublisherFields, slot_length}
 use Rattle.iox2_domain.specs.Kept.{state_of, entries_of, entry_in, KeptMessage}
 use Rattle.iox2_domain.specs.Fields.{Fields, kept_of, is_book_of, message_in, contents_at}
-use Rattle.iox2_domain.specs.Invariant.{IsDomain, IsBook, IsLinked, HasBook, HasBooks, KeepsBooks, HasShape, IsCounted, SenderHas, ReceiverHas, HasPublisherRoom, is_publisher, is_loan_in, holders_of, own_holders}
+use Rattle.iox2_domain.specs.Invariant.{IsDomain, IsBook, IsLinked, HasBook, HasBooks, KeepsBooks, HasShape, IsCounted, SenderHas, ReceiverHas, HasPublisherRoom, HasRoomFrom, is_publisher, is_loan_in, holders_of, own_holders}
 use Rattle.iox2_domain.specs.Placed.{placed}
 use Rattle.iox2_store.specs.Stored.{IsHeldMessage, In_history, In_mailbox, In_blocked_send}
 use Rattle.iox2_domain.proofs.lemmas.fields.KeptBooks.{StoodOrEnters, kept-publishers}
@@ -38,6 +42,16 @@ nothing_at {A} (suc i) x e = cc
 length-replicate : (n : ℕ) → length (replicate {A = ℕ} n 0) ≡ n
 length-replicate zero = refl
 length-replicate (suc n) = ap suc (length-replicate n)
+
+-- a publisher that may have a loan has a slot
+some-slot : (c : ServiceConfig) (given : PublisherSettings) → 0 < given.max_loaned_samples → 0 < slots_for c given
+some-slot c given some = by given.asked_slots where
+  worst : 0 < worst_case c given.max_loaned_samples
+  worst = omega (arith, some)
+
+  by : (o : Option ℕ) → 0 < option_map_or (λ asked. min (worst_case c given.max_loaned_samples) (max 1 asked)) o (worst_case c given.max_loaned_samples)
+  by None = worst
+  by (Some asked) = le-min worst (le-max_left 1 asked)
 
 module _ {T U : Type 0} (f : Fields T U) (place : ℕ) (given : PublisherSettings) (loan_room key_room key : ℕ) (books : Slab Book) (contents : List (Option (List (ContentState T U))))
     (enters : PublisherEnters f place given loan_room key_room key books contents) where
@@ -111,9 +125,12 @@ module _ {T U : Type 0} (f : Fields T U) (place : ℕ) (given : PublisherSetting
     stands = enters.book.updates.changed;
     is_its = enters.book.is_its;
     node = enters.book.names_node;
-    slots = let e : length (enters.book.book).holders ≡ slots = ap length enters.book.unused ∙ length-replicate slots in omega arith;
-    no_more = λ _. ap length enters.book.unused ∙ length-replicate slots;
-    room = rw enters.book.contents_here enters.book.has_room;
+    slots = let e : length (enters.book.book).holders ≡ slots = ap length enters.book.unused ∙ length-replicate slots in omega (arith, e);
+    room = rw enters.book.contents_here (record {
+      at = λ slot content from there.
+          subst (λ (c : ContentState T U). needed ≤ c.room) (get_or_from_slice_get enters.book.slot_contents slot content content there)
+          (enters.book.has_room slot content (slice_get_within enters.book.slot_contents slot content there));
+    });
   }
 
   has_books : HasBooks after
@@ -145,8 +162,7 @@ module _ {T U : Type 0} (f : Fields T U) (place : ℕ) (given : PublisherSetting
       is_its = has.is_its;
       node = has.node;
       slots = has.slots;
-      no_more = has.no_more;
-      room = subst (λ o. IsSomeAnd o (All (λ (content : ContentState T U). slot_length x.initial_max_slice_len * units ≤ content.room)))
+      room = subst (λ (o : Option (List (ContentState T U))). IsSomeAnd o (HasRoomFrom x.segment_start (slot_length x.segment_length * units)))
           (sym (enters.book.contents_others x.book (away_from f enters.sound slots needed key books contents enters.book x.book has.book has.stands))) has.room;
     }
 
@@ -271,7 +287,7 @@ module _ {T U : Type 0} (f : Fields T U) (place : ℕ) (given : PublisherSetting
       warning_room = enters.sound.parts.warning_room;
       shapes = record { at = shaped };
       forms = enters.forms;
-      plain = λ i x at. elim (was i x at) [ inl e ↦ rw e.1 (record { lent = λ b e. absurd cc; allocation = enters.plain.allocation }) | inr old ↦ enters.sound.parts.plain i x old ];
+      plain = λ i x at. elim (was i x at) [ inl e ↦ rw e.1 (record { lent = λ b e. absurd cc; segment = record { static = λ _. (refl, refl); first = le_refl given.initial_max_slice_len; longest = λ _. omega arith; some = some-slot f.config given } }) | inr old ↦ enters.sound.parts.plain i x old ];
     };
     kept_books = kept_books;
     lone = lone-still f enters.sound slots needed key books contents enters.book;

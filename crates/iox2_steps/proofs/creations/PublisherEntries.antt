@@ -19,7 +19,7 @@ use Rattle.iox2_domain.specs.Ports.{PublisherFields, slot_length}
 use Rattle.iox2_domain.specs.Kept.{state_of}
 use Rattle.iox2_domain.specs.Fields.{Fields, kept_of}
 use Rattle.iox2_domain.specs.Invariant.{IsDomain, IsLinked, HasBooks, HasNumber, IsNumbered, HasForms, HasPublisherRoom}
-use Rattle.iox2_domain.specs.NewPublisher.{BookEnters, IsForOneSegment, entering_publisher, subscriber_due, place_for_publisher}
+use Rattle.iox2_domain.specs.NewPublisher.{BookEnters, entering_publisher, subscriber_due, place_for_publisher}
 use Rattle.iox2_domain.specs.Placed.{placed, lowest_empty}
 use Rattle.iox2_domain.specs.Reaches.{Reaches}
 use Rattle.iox2_domain.proofs.lemmas.fields.NamedBooks.{names-books}
@@ -95,7 +95,7 @@ module _ {T U : Type 0} (f : Fields T U) where
       one_each = b.one_each;
       books = b.books;
       publishers = λ i x at. let has = b.publishers i x at in
-          record { book = has.book; stands = has.stands; is_its = has.is_its; node = has.node; slots = has.slots; no_more = has.no_more; room = has.room };
+          record { book = has.book; stands = has.stands; is_its = has.is_its; node = has.node; slots = has.slots; room = has.room };
       no_others = b.no_others;
     }
 
@@ -138,10 +138,10 @@ module _ {T U : Type 0} (f : Fields T U) where
       contents = placed before.contents (before.books).vacant_key slot_contents;
     }
 
-  entered-reaches : IsDomain f → (new : Fields T U) (given : PublisherSettings) (plain : IsForOneSegment given) (slots place : ℕ) (x : PublisherFields) (book : Book) (slot_contents : List (ContentState T U)) (books : Slab Book)
+  entered-reaches : IsDomain f → (new : Fields T U) (given : PublisherSettings) (slots place : ℕ) (x : PublisherFields) (book : Book) (slot_contents : List (ContentState T U)) (books : Slab Book)
       → place_for_publisher f ≡ Ok place → slots ≡ slots_for f.config given → HasEntered given slots place x book slot_contents books f new
       → Reaches f new (with_new_publisher (state_of (kept_of f)) given place)
-  entered-reaches sound new given plain slots place x book slot_contents books h count e =
+  entered-reaches sound new given slots place x book slot_contents books h count e =
       let has = has_place place h in
       let free : get_or f.publishers place None ≡ None = subst (λ (p : ℕ). get_or f.publishers p None ≡ None) has.lowest (lowest_empty-free f.publishers) in
       let next : place ≤ length f.publishers = subst (λ (p : ℕ). p ≤ length f.publishers) has.lowest (lowest_empty-low f.publishers) in
@@ -172,7 +172,7 @@ module _ {T U : Type 0} (f : Fields T U) where
           | inr away ↦ sound.parts.forms.at several k zs (sym (placed-others slot_contents f.contents key k away) ∙ there)
         ];
       } in
-      let after : Fields T U = with_admitted f sound place given plain x.loan_room x.key_room key books contents free enters forms in
+      let after : Fields T U = with_admitted f sound place given x.loan_room x.key_room key books contents free enters forms in
       let same : new ≡ after = e.changed ∙ ap (λ (z : PublisherFields). record f {
         next_port = f.next_port + 1;
         publishers = placed f.publishers place z;
@@ -181,15 +181,15 @@ module _ {T U : Type 0} (f : Fields T U) where
         contents = contents;
       }) is in
       subst (λ (g : Fields T U). Reaches f g (with_new_publisher (state_of (kept_of f)) given place)) (sym same)
-      (admitted-reaches f sound place given plain x.loan_room x.key_room key books contents free enters forms (subst (HasPublisherRoom f.config) is e.room)
+      (admitted-reaches f sound place given x.loan_room x.key_room key books contents free enters forms (subst (HasPublisherRoom f.config) is e.room)
       (subst (λ (p : ℕ). suc p ≤ (f.config).max_publishers) has.lowest (ltb-true _ _ has.low)) next)
 
   -- the same, where the fields are known by another name
-  pub entered-reaches-as : (before new : Fields T U) → before ≡ f → IsDomain f → (given : PublisherSettings) (plain : IsForOneSegment given) (slots place : ℕ) (x : PublisherFields) (book : Book) (slot_contents : List (ContentState T U)) (books : Slab Book)
+  pub entered-reaches-as : (before new : Fields T U) → before ≡ f → IsDomain f → (given : PublisherSettings) (slots place : ℕ) (x : PublisherFields) (book : Book) (slot_contents : List (ContentState T U)) (books : Slab Book)
       → place_for_publisher f ≡ Ok place → slots ≡ slots_for f.config given → HasEntered given slots place x book slot_contents books before new
       → Reaches f new (with_new_publisher (state_of (kept_of f)) given place)
-  entered-reaches-as before new e sound given plain slots place x book slot_contents books h count entered =
-      entered-reaches sound new given plain slots place x book slot_contents books h count
+  entered-reaches-as before new e sound given slots place x book slot_contents books h count entered =
+      entered-reaches sound new given slots place x book slot_contents books h count
       (subst (λ (g : Fields T U). HasEntered given slots place x book slot_contents books g new) e entered)
 
   -- ---- a number for it

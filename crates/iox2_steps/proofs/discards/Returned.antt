@@ -59,7 +59,7 @@ module _ {T U : Type 0} (f : Fields T U) (sound : IsDomain f) (i : ℕ) (x : Pub
   mine = book-own f parts i x here b at
 
   keeps : KeepsSettings x (with_loan_out slot x)
-  keeps = other_slots x (without slot x.loans) x.longest_granted (x.history).items x.blocked
+  keeps = other_slots x (without slot x.loans) (x.history).items x.blocked
 
   -- ---- the book and what lies in its slots
 

@@ -34,7 +34,7 @@ parts-warned f warnings parts room = record {
     one_each = parts.books.one_each;
     books = parts.books.books;
     publishers = λ k x at_x. let has = parts.books.publishers k x at_x in
-        record { book = has.book; stands = has.stands; is_its = has.is_its; node = has.node; slots = has.slots; no_more = has.no_more; room = has.room };
+        record { book = has.book; stands = has.stands; is_its = has.is_its; node = has.node; slots = has.slots; room = has.room };
     no_others = parts.books.no_others;
   };
   names = parts.names;

@@ -178,7 +178,7 @@ module _ {T U : Type 0} (environment : Environment) (f : Fields T U) (sound : Is
 
   can-conclude : (o : DeliveryOutcome) → CanRebook mid x (with_outcome o w.slot x) book (counters_after o w.slot book.holders)
   can-conclude (DeliveryOutcome.Complete count has_failed) = record {
-    settings = other_slots x (without w.slot x.loans) x.longest_granted (x.history).items None;
+    settings = other_slots x (without w.slot x.loans) (x.history).items None;
     keys = refl;
     lends = λ had c e. absurd cc;
     slots = length-set book.holders w.slot _;
@@ -187,7 +187,7 @@ module _ {T U : Type 0} (environment : Environment) (f : Fields T U) (sound : Is
     lent = λ r m l none lying. let other = lent-other r m l lying in absurd (omega (arith, less r, none, other.1, one_if_other r w.slot other.0));
   }
   can-conclude (DeliveryOutcome.Suspended progress) = record {
-    settings = other_slots x x.loans x.longest_granted (x.history).items (Some (record { slot = w.slot; progress = progress }));
+    settings = other_slots x x.loans (x.history).items (Some (record { slot = w.slot; progress = progress }));
     keys = refl;
     lends = λ had c e. subst (λ (slot : ℕ). 0 < times slot x.loans) (ap (λ (o : Option BlockedDelivery). option_map_or (λ (v : BlockedDelivery). v.slot) o 0) e) lent;
     slots = refl;

@@ -492,7 +492,7 @@ module _ {T U : Type 0} (environment : Environment) (f : Fields T U) (sound : Is
 
     can-relend : CanRebook remembered remembering relender (with_sent slot book) more_holders
     can-relend = record {
-      settings = other_slots remembering x.loans x.longest_granted (remembering.history).items (Some waiting);
+      settings = other_slots remembering x.loans (remembering.history).items (Some waiting);
       keys = refl;
       lends = λ had c e. subst (λ (r : ℕ). 0 < times r x.loans) (ap (λ (o : Option BlockedDelivery). option_map_or (λ (v : BlockedDelivery). v.slot) o 0) e) (omega (arith, once));
       slots = length-set book.holders slot _;

@@ -32,7 +32,7 @@ module _ {T U : Type 0} (f : Fields T U) (parts : HasParts f) (i : ℕ) (x : Pub
   ended = record f { publishers = slice_set f.publishers i (Some (with_remembered slot x)); books = with_value f.books x.book (with_sent slot b) }
 
   keeps : KeepsSettings x (with_remembered slot x)
-  keeps = other_slots x (without slot x.loans) x.longest_granted ((x.history).items ++ slot ∷ []) x.blocked
+  keeps = other_slots x (without slot x.loans) ((x.history).items ++ slot ∷ []) x.blocked
 
   -- ---- slots and messages
 

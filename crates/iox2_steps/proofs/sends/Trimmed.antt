@@ -126,7 +126,7 @@ module _ {T U : Type 0} (e : Fields T U) (parts : HasParts e) (i : ℕ) (z : Pub
 
     can-lose : CanRebook e z shorter b holders
     can-lose = record {
-      settings = other_slots z z.loans z.longest_granted rest z.blocked;
+      settings = other_slots z z.loans rest z.blocked;
       keys = refl;
       lends = λ has. has;
       slots = length-set b.holders oldest _;

@@ -167,16 +167,15 @@ module _ {T U : Type 0} (f : Fields T U) (sound : IsDomain f) (i : ℕ) (x : Pub
     ];
     no_others = sound.parts.books.no_others;
   } where
-    rebuilt : (z : PublisherFields) {y : PublisherFields} → z.id ≡ y.id → z.book ≡ y.book → z.slots ≡ y.slots → z.allocation ≡ y.allocation → z.initial_max_slice_len ≡ y.initial_max_slice_len
+    rebuilt : (z : PublisherFields) {y : PublisherFields} → z.id ≡ y.id → z.book ≡ y.book → z.slots ≡ y.slots → z.segment_start ≡ y.segment_start → z.segment_length ≡ y.segment_length
         → HasBook f y → HasBook after z
-    rebuilt z {y} id book slots allocation longest has = record {
+    rebuilt z {y} id book slots start longest has = record {
       book = has.book;
       stands = ap (get f.books) book ∙ has.stands;
       is_its = has.is_its ∙ sym id;
       node = has.node;
-      slots = rw slots has.slots;
-      no_more = rw (slots, allocation) has.no_more;
-      room = rw (book, longest) has.room;
+      slots = rw (start, slots) has.slots;
+      room = rw (book, start, longest) has.room;
     }
 
   -- what the publisher itself has of the slot, or what is out of one that is gone
@@ -237,7 +236,7 @@ module _ {T U : Type 0} (f : Fields T U) (sound : IsDomain f) (i : ℕ) (x : Pub
       shapes = record { at = sound.parts.shapes.at };
       forms = sound.parts.forms;
       plain = λ k z at_z. elim (stood k z at_z) [
-        | inl here ↦ rw here.1 (let has = sound.parts.plain i x at in record { lent = has.lent; allocation = has.allocation })
+        | inl here ↦ rw here.1 (let has = sound.parts.plain i x at in record { lent = has.lent; segment = record { static = has.segment.static; first = has.segment.first; longest = has.segment.longest; some = has.segment.some } })
         | inr old ↦ sound.parts.plain k z old
       ];
     };

@@ -208,7 +208,7 @@ module _ {T U : Type 0} (f : Fields T U) (parts : HasParts f) (publishers : List
     books = parts.books.books;
     publishers = λ i x at. let was = g.senders i x at in let has = parts.books.publishers i was.0 was.1 in
         subst (λ (z : PublisherFields). HasBook forgotten z) (sym was.2.fields)
-        (record { book = has.book; stands = has.stands; is_its = has.is_its; node = has.node; slots = has.slots; no_more = has.no_more; room = has.room });
+        (record { book = has.book; stands = has.stands; is_its = has.is_its; node = has.node; slots = has.slots; room = has.room });
     no_others = parts.books.no_others;
   }
 
@@ -271,5 +271,5 @@ module _ {T U : Type 0} (f : Fields T U) (parts : HasParts f) (publishers : List
     forms = parts.forms;
     plain = λ i x at. let was = g.senders i x at in let has = parts.plain i was.0 was.1 in
         subst IsPlain (sym was.2.fields)
-        (record { lent = has.lent; allocation = has.allocation });
+        (record { lent = has.lent; segment = record { static = has.segment.static; first = has.segment.first; longest = has.segment.longest; some = has.segment.some } });
   }

@@ -15,8 +15,6 @@ use Rattle.iox2_store.specs.machine.Records.{Loan, Publisher, Environment}
 use Rattle.iox2_store.specs.machine.State.{State, held}
 use Rattle.iox2_slots.specs.SlotBook.{Book}
 use Rattle.iox2_store.specs.machine.Loans.{is_static, limit_error, StaticLoan, DynamicLoan, GrantLoan, loan_granted}
-use Rattle.iox2_store.specs.declared.allocation.AllocationStrategy.{AllocationStrategy}
-use Rattle.iox2_store.specs.declared.allocation.AllocationStrategy.TheVariants.{Static}
 use Rattle.iox2_store.specs.declared.errors.LoanError.{LoanError}
 use Rattle.iox2_store.specs.declared.errors.LoanError.TheVariants.{OutOfMemory, ExceedsMaxLoans, ExceedsMaxLoanSize, InternalFailure}
 use Rattle.iox2_domain.specs.Ports.{PublisherFields}
@@ -70,17 +68,25 @@ module _ {T U : Type 0} (environment : Environment) (default_header : U) (s : St
     lends-limited many = of_short s (Some ExceedsMaxLoans)
         (rw (le-leb x.max_loaned_samples (length x.loans) many) (refl, refl))
 
-    module _ (few : length x.loans < x.max_loaned_samples) (static : x.allocation_strategy ≡ Static) where
-      of_static : (s' : State T U) (refusal : Option LoanError) → StaticLoan default_header s p x len s' refusal → GrantLoan environment default_header checks len s p s' refusal
-      of_static s' refusal h = of_short s' refusal
-          (subst (λ (b : Bool). MatchOption (cond b (Some ExceedsMaxLoans) None) (by_strategy x.allocation_strategy) (λ limit. (s' ≡ s) × (refusal ≡ Some limit))) (sym below)
-          (subst by_strategy (sym static) h))
+    module _ (few : length x.loans < x.max_loaned_samples) where
+      of_memory : (s' : State T U) (refusal : Option LoanError) → (t : Bool) → is_static x.allocation_strategy ≡ t
+          → MatchBool t (StaticLoan default_header s p x len s' refusal) (DynamicLoan environment default_header s p x len s' refusal) → GrantLoan environment default_header checks len s p s' refusal
+      of_memory s' refusal t e h = of_short s' refusal
+          (subst (λ (b : Bool). MatchOption (cond b (Some ExceedsMaxLoans) None)
+          (MatchBool (is_static x.allocation_strategy) (StaticLoan default_header s p x len s' refusal) (DynamicLoan environment default_header s p x len s' refusal)) (λ limit. (s' ≡ s) × (refusal ≡ Some limit))) (sym below)
+          (subst (λ (b : Bool). MatchBool b (StaticLoan default_header s p x len s' refusal) (DynamicLoan environment default_header s p x len s' refusal)) (sym e) h))
         where
-          by_strategy : AllocationStrategy → Type 0
-          by_strategy a = MatchBool (is_static a) (StaticLoan default_header s p x len s' refusal) (DynamicLoan environment default_header s p x len s' refusal)
-
           below : leb x.max_loaned_samples (length x.loans) ≡ false
           below = grind arith
+
+      -- a publisher whose memory grows lends, or refuses
+      pub lends-dynamic : is_static x.allocation_strategy ≡ false → (s' : State T U) (refusal : Option LoanError) → DynamicLoan environment default_header s p x len s' refusal
+          → GrantLoan environment default_header checks len s p s' refusal
+      lends-dynamic grows s' refusal h = of_memory s' refusal false grows h
+
+    module _ (few : length x.loans < x.max_loaned_samples) (static : is_static x.allocation_strategy ≡ true) where
+      of_static : (s' : State T U) (refusal : Option LoanError) → StaticLoan default_header s p x len s' refusal → GrantLoan environment default_header checks len s p s' refusal
+      of_static s' refusal h = of_memory few s' refusal true static h
 
       -- each slot has a holder
       pub lends-full : size (held s p x) ≡ x.slots → GrantLoan environment default_header checks len s p s (Some OutOfMemory)
@@ -99,10 +105,10 @@ module _ {T U : Type 0} (environment : Environment) (default_header : U) (s : St
             (rw (ne_eqb (size (held s p x)) x.slots (λ e. absurd (omega arith)), ne_eqb s.next_message last_number (λ e. absurd (omega arith))) (refl, refl))
 
 module _ {T U : Type 0} (f : Fields T U) (sound : IsDomain f) (i : ℕ) (x : PublisherFields) (at : get_or f.publishers i None ≡ Some x)
-    (slot : ℕ) (can : CanTakeSlot f x slot) (user_header : U) (len : ℕ) where
+    (slot : ℕ) (can : CanTakeSlot f x slot) (user_header : U) (len segments : ℕ) where
   -- the publisher, with the slot among its loans
   abbrev pub lender : PublisherFields
-  lender = record x { loans = x.loans ++ slot ∷ []; longest_granted = max x.longest_granted len }
+  lender = record x { loans = x.loans ++ slot ∷ []; longest_granted = max x.longest_granted len; segments = segments }
 
   -- the fields with the loan
   abbrev pub with_granted : Fields T U
@@ -127,8 +133,8 @@ module _ {T U : Type 0} (f : Fields T U) (sound : IsDomain f) (i : ℕ) (x : Pub
       number_in o = option_map_or (λ (b : Book). slice_index b.numbers slot) o 0
 
   -- the lender has the number among its loans
-  lender-is : (publisher_of books_after f.connections lender).port ≡ record machine { loans = machine.loans ++ f.next_message ∷ []; longest_granted = max machine.longest_granted len }
-  lender-is = λ t. record machine { loans = loans t; longest_granted = max x.longest_granted len; history = history t; blocked = blocked t } where
+  lender-is : (publisher_of books_after f.connections lender).port ≡ record machine { loans = machine.loans ++ f.next_message ∷ []; longest_granted = max machine.longest_granted len; segments = segments }
+  lender-is = λ t. record machine { loans = loans t; longest_granted = max x.longest_granted len; segments = segments; history = history t; blocked = blocked t } where
     keeps : (p slot' : ℕ) → 0 < holders_of f.books p slot' → numbers_of books_after p slot' ≡ numbers_of f.books p slot'
     keeps = taken-keeps f sound x slot can user_header len
 
@@ -155,7 +161,7 @@ module _ {T U : Type 0} (f : Fields T U) (sound : IsDomain f) (i : ℕ) (x : Pub
       ∙ ap (λ (ls : ℕ → Option (Loan T U)). record state { next_message = f.next_message + 1; loans = ls }) (fun_ext (taken-loans f sound x slot can user_header len))
 
   -- the machine's step
-  pub granted-is : state_of (kept_of with_granted) ≡ loan_granted user_header state x.id machine len machine.segments
+  pub granted-is : state_of (kept_of with_granted) ≡ loan_granted user_header state x.id machine len segments
   granted-is =
       changed-is (with_taken f sound x slot can user_header len) i x lender at refl sound.parts.publisher_ids
       ∙ ap (λ (s : State T U). record s { publishers = put_at s.publishers x.id (Some ((publisher_of books_after f.connections lender).port)) }) taken-is

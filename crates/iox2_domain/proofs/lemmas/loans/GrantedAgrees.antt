@@ -1,6 +1,7 @@
 -- A domain's fields agree with one loan more.
-use Rattle.std.proofs.Common.{◌≡◌, ℕ, ◌+◌, ◌*◌, ◌<◌, ◌≤◌, List, [], ◌∷◌, ◌++◌, length, Bool, true, false, cond, eqb, get_or, refl, ap, sym, subst, ◌∙◌, inl, inr, arith}
+use Rattle.std.proofs.Common.{◌≡◌, ℕ, le_refl, ◌+◌, ◌*◌, ◌<◌, ◌≤◌, List, [], ◌∷◌, ◌++◌, length, Bool, true, false, cond, eqb, get_or, refl, ap, sym, subst, ◌∙◌, inl, inr, arith}
 use Rattle.std.proofs.lemmas.Bool.{cases_eq, eqb-true}
+use Rattle.std.proofs.Math.Nat.{max-le}
 use Rattle.std.proofs.lemmas.List.{length-map, length-set, length-replicate}
 use Rattle.std.specs.declared.option.Option.{Option}
 use Rattle.std.specs.declared.option.Option.TheVariants.{None, Some}
@@ -9,12 +10,12 @@ use Rattle.std.specs.Prelude.{IsSomeAnd, max}
 use Rattle.std.specs.List.{All, sum_by}
 use Rattle.slab.specs.Slab.{get}
 use Rattle.iox2_store.specs.machine.Limits.{last_number}
-use Rattle.iox2_store.specs.machine.Records.{Publisher}
+use Rattle.iox2_store.specs.machine.Records.{Publisher, Environment}
 use Rattle.iox2_store.specs.machine.Numbers.{put_at, size}
 use Rattle.iox2_store.specs.machine.State.{State, held}
 use Rattle.iox2_slots.specs.SlotBook.{Book, holders_at}
 use Rattle.iox2_contents.specs.SlotContents.{ContentState, unwritten_content}
-use Rattle.iox2_store.specs.machine.Loans.{loan_granted}
+use Rattle.iox2_store.specs.machine.Loans.{is_static, loan_granted, GrantLoan}
 use Rattle.iox2_store.specs.machine.WellFormed.{IsWellFormed}
 use Rattle.iox2_store.specs.Stored.{IsHeldMessage}
 use Rattle.iox2_ends.specs.LookUp.{look_up}
@@ -24,9 +25,8 @@ use Rattle.iox2_laws.proofs.LoanLaws.{grant_loan_keeps}
 use Rattle.iox2_store.specs.declared.service_config.TypeVariant.TheVariants.{FixedSize}
 use Rattle.iox2_domain.specs.Ports.{PublisherFields, slot_length}
 use Rattle.iox2_domain.specs.Kept.{KeptMessage, Lent_message, state_of}
-use Rattle.iox2_store.specs.machine.Environments.{ample_memory}
 use Rattle.iox2_domain.specs.Fields.{Fields, kept_of, publisher_of, numbers_of, is_book_of}
-use Rattle.iox2_domain.specs.Invariant.{IsDomain, IsOwned, IsBook, HasBook, HasBooks, IsCounted, HasShape, HasShapes, is_publisher, own_holders, holders_of, is_loan_in}
+use Rattle.iox2_domain.specs.Invariant.{IsDomain, IsOwned, IsBook, HasBook, HasBooks, IsCounted, HasRoomFrom, HasShape, HasShapes, is_publisher, own_holders, holders_of, is_loan_in}
 use Rattle.iox2_domain.specs.Reaches.{Reaches}
 use Rattle.iox2_domain.specs.Shows.{KeepsEntries}
 use Rattle.iox2_domain.proofs.lemmas.fields.NamedBooks.{names-books}
@@ -35,15 +35,15 @@ use Rattle.iox2_domain.proofs.lemmas.fields.KeptBooks.{kept-own}
 use Rattle.iox2_domain.proofs.lemmas.fields.ConnectionEnds.{publisher-stands}
 use Rattle.iox2_domain.proofs.lemmas.slots.SlotsInUse.{its_book, slot-counted, size-free}
 use Rattle.iox2_domain.proofs.lemmas.slots.Messages.{lies_at, message_at-book, message_at-slot}
-use Rattle.iox2_domain.proofs.lemmas.loans.PublisherChanges.{KeepsSettings, other_slots, changed-ids_apart, look_up-publisher, changed-linked_same, changed-books, changed-room, changed-plain, changed-kept_books, changed-entries}
+use Rattle.iox2_domain.proofs.lemmas.loans.PublisherChanges.{KeepsSettings, changed-ids_apart, look_up-publisher, changed-linked_same, changed-books, changed-room, changed-plain, changed-kept_books, changed-entries}
 use Rattle.iox2_domain.proofs.lemmas.slots.SlotChanges.{forms-changed}
 use Rattle.iox2_domain.proofs.lemmas.loans.Taken.{taken-after, CanTakeSlot, with_taken, taken_book, taken_books, begun, begun_contents, lent, next_header, taken-stands, others-stand, begun-has, others-have, taken-one_each, taken-found, taken-holders, taken-numbered, taken-entries, lent-lies, others-lie, length-with_changed, room-with_changed, taken-lone}
-use Rattle.iox2_domain.proofs.lemmas.loans.Granted.{lender, with_granted, granted-is, taken-is, lends-granted}
+use Rattle.iox2_domain.proofs.lemmas.loans.Granted.{lender, with_granted, granted-is, taken-is}
 use Rattle.iox2_domain.proofs.lemmas.fields.Views.{held-before}
 use Rattle.iox2_domain.proofs.lemmas.fields.SameLinks.{linked-same}
 
 module _ {T U : Type 0} (f : Fields T U) (sound : IsDomain f) (i : ℕ) (x : PublisherFields) (at : get_or f.publishers i None ≡ Some x)
-    (slot : ℕ) (can : CanTakeSlot f x slot) (user_header : U) (len : ℕ) (one : (f.config).variant ≡ FixedSize → len ≡ 1) where
+    (slot : ℕ) (can : CanTakeSlot f x slot) (user_header : U) (len segments : ℕ) (one : (f.config).variant ≡ FixedSize → len ≡ 1) (fits : is_static x.allocation ≡ false → len ≤ x.segment_length) where
   abbrev state : State T U
   state = state_of (kept_of f)
 
@@ -61,13 +61,28 @@ module _ {T U : Type 0} (f : Fields T U) (sound : IsDomain f) (i : ℕ) (x : Pub
   new_contents = begun f sound x slot can user_header len
 
   abbrev new_lender : PublisherFields
-  new_lender = lender f sound i x at slot can user_header len
+  new_lender = lender f sound i x at slot can user_header len segments
 
   abbrev pub granted : Fields T U
-  granted = with_granted f sound i x at slot can user_header len
+  granted = with_granted f sound i x at slot can user_header len segments
 
   keeps : KeepsSettings x new_lender
-  keeps = other_slots x (x.loans ++ slot ∷ []) (max x.longest_granted len) (x.history).items x.blocked
+  keeps = record {
+    id = refl;
+    book = refl;
+    max_loaned_samples = refl;
+    slots = refl;
+    strategy = refl;
+    backpressure_handler = refl;
+    degradation_handler = refl;
+    allocation = refl;
+    segment_start = refl;
+    segment_length = refl;
+    segment = λ has. record { static = has.static; first = has.first; longest = λ grows. max-le (has.longest grows) (fits grows); some = has.some };
+    loan_room = le_refl x.loan_room;
+    history_room = refl;
+    key_room = le_refl x.key_room;
+  }
 
   -- ---- books
 
@@ -83,8 +98,7 @@ module _ {T U : Type 0} (f : Fields T U) (sound : IsDomain f) (i : ℕ) (x : Pub
       is_its = has.is_its;
       node = has.node;
       slots = has.slots;
-      no_more = has.no_more;
-      room = subst (λ (o : Option (List (ContentState T U))). IsSomeAnd o (All (λ content. slot_length z.initial_max_slice_len * (f.config).units_per_element ≤ content.room)))
+      room = subst (λ (o : Option (List (ContentState T U))). IsSomeAnd o (HasRoomFrom z.segment_start (slot_length z.segment_length * (f.config).units_per_element)))
           (sym (others-have f sound x slot can user_header len z.book away)) has.room;
     }
     | inl here ↦
@@ -97,11 +111,10 @@ module _ {T U : Type 0} (f : Fields T U) (sound : IsDomain f) (i : ℕ) (x : Pub
           is_its = sym (ap (λ (b : Book). b.publisher) same) ∙ has.is_its;
           node = sym (ap (λ (b : Book). b.node) same) ∙ has.node;
           slots = rw long has.slots;
-          no_more = rw long has.no_more;
-          room = subst (λ (o : Option (List (ContentState T U))). IsSomeAnd o (All (λ content. slot_length z.initial_max_slice_len * (f.config).units_per_element ≤ content.room)))
+          room = subst (λ (o : Option (List (ContentState T U))). IsSomeAnd o (HasRoomFrom z.segment_start (slot_length z.segment_length * (f.config).units_per_element)))
               (sym (ap (λ (k : ℕ). get_or (begun_contents f sound x slot can user_header len) k None) here ∙ begun-has f sound x slot can user_header len))
-              (room-with_changed can.contents slot user_header (len * (f.config).units_per_element) (slot_length z.initial_max_slice_len * (f.config).units_per_element)
-              (subst (λ (o : Option (List (ContentState T U))). IsSomeAnd o (All (λ content. slot_length z.initial_max_slice_len * (f.config).units_per_element ≤ content.room)))
+              (room-with_changed (unwritten_content user_header (len * (f.config).units_per_element)) (λ c. refl) can.contents slot z.segment_start (slot_length z.segment_length * (f.config).units_per_element)
+              (subst (λ (o : Option (List (ContentState T U))). IsSomeAnd o (HasRoomFrom z.segment_start (slot_length z.segment_length * (f.config).units_per_element)))
               (ap (λ (k : ℕ). get_or f.contents k None) here ∙ can.has) has.room));
         }
   ]
@@ -225,30 +238,15 @@ module _ {T U : Type 0} (f : Fields T U) (sound : IsDomain f) (i : ℕ) (x : Pub
       let held_then : IsHeldMessage state p n =
       held-before state (record state { next_message = f.next_message + 1; loans = put_at state.loans f.next_message (Some (lent f sound x slot can user_header len)) }) p n
       (λ q. refl) (λ y here. (y, here, record { history = refl; blocked = refl }))
-      (subst (λ (s : State T U). IsHeldMessage s p n) (taken-is f sound i x at slot can user_header len) there) in
+      (subst (λ (s : State T U). IsHeldMessage s p n) (taken-is f sound i x at slot can user_header len segments) there) in
       let kept = sound.entries p n held_then in
       (kept.0, taken-entries f sound x slot can user_header len n ∙ kept.1, kept.2)
 
   -- ---- the whole
 
-  module _ (few : length x.loans < x.max_loaned_samples) (more : f.next_message < last_number) where
-    few_numbers : length machine.loans < machine.max_loaned_samples
-    few_numbers = let e = length-map x.loans (numbers_of f.books x.id) in omega arith
-
-    some_free : size (held state x.id machine) < x.slots
-    some_free =
-        let has = its_book f sound i x at in
-        let same : has.book ≡ can.book = its_book-is x has.book refl has.stands in
-        let low : slot < length (has.book).holders = rw same can.within in
-        let free : holders_at has.book slot ≡ 0 = rw same can.free in
-        let fewer = size-free f sound i x at slot low free in
-        let long : length (has.book).holders ≡ x.slots = has.no_more (rw (sound.parts.plain i x at).allocation refl) in
-        omega arith
-
-    granted-well_formed : IsWellFormed (loan_granted user_header state x.id machine len machine.segments)
-    granted-well_formed =
-        grant_loan_keeps ample_memory user_header false len state x.id (loan_granted user_header state x.id machine len machine.segments) None sound.well_formed
-        (lends-granted ample_memory user_header state x.id machine (publisher-stands f sound.parts i x at) false len refl few_numbers (sound.parts.plain i x at).allocation some_free more)
+  module _ (environment : Environment) (checks : Bool) (grants : GrantLoan environment user_header checks len state x.id (loan_granted user_header state x.id machine len segments) None) where
+    granted-well_formed : IsWellFormed (loan_granted user_header state x.id machine len segments)
+    granted-well_formed = grant_loan_keeps environment user_header checks len state x.id (loan_granted user_header state x.id machine len segments) None sound.well_formed grants
 
     -- the invariant is kept
     pub granted-agrees : IsDomain granted
@@ -272,14 +270,14 @@ module _ {T U : Type 0} (f : Fields T U) (sound : IsDomain f) (i : ℕ) (x : Pub
       kept_books = changed-kept_books mid i x new_lender at refl (taken_books f sound x slot can user_header len) refl
           (kept-own f.next_port f.publishers f.books x.book can.book new_book can.stands refl (subst (IsOwned f.publishers x.book) (sym can.its) (book-owned f sound.parts i x at)) sound.kept_books);
       lone = taken-lone f sound x slot can user_header len;
-      well_formed = rw (granted-is f sound i x at slot can user_header len) granted-well_formed;
+      well_formed = rw (granted-is f sound i x at slot can user_header len segments) granted-well_formed;
       entries = changed-entries mid i x new_lender at refl sound.parts.publisher_ids taken-keeps_entries refl refl;
     }
 
     -- the loan's step
-    pub granted-reaches : Reaches f granted (loan_granted user_header state x.id machine len machine.segments)
+    pub granted-reaches : Reaches f granted (loan_granted user_header state x.id machine len segments)
     granted-reaches = record {
       agrees = granted-agrees;
-      state = granted-is f sound i x at slot can user_header len;
+      state = granted-is f sound i x at slot can user_header len segments;
       entries = λ n entry kept. sym (taken-entries f sound x slot can user_header len n) ∙ kept;
     }

@@ -17,7 +17,7 @@ use Rattle.iox2_store.specs.declared.service_config.TypeVariant.TheVariants.{Fix
 use Rattle.iox2_ends.proofs.MailboxChanges.{within_if_some}
 use Rattle.iox2_domain.specs.Ports.{PublisherFields, slot_length}
 use Rattle.iox2_domain.specs.Fields.{Fields}
-use Rattle.iox2_domain.specs.Invariant.{IsDomain, IsBook, HasBook}
+use Rattle.iox2_domain.specs.Invariant.{IsDomain, IsBook, HasBook, HasRoomFrom}
 use Rattle.iox2_domain.specs.Lending.{header_for, with_taken_slot, lending, Starts, CanGrant, IsNamed, Lends}
 use Rattle.iox2_domain.specs.declared.loan_slots.LoanAt.{LoanAt}
 use Rattle.iox2_domain.proofs.lemmas.slots.PublisherBooks.{read-there}
@@ -38,60 +38,51 @@ module _ {T U : Type 0} (f : Fields T U) (sound : IsDomain f) (i : ℕ) (x : Pub
       let found = contents-of has.book has.stands in
       within_if_some f.contents x.book found.0 found.1
 
-  -- a message that is no longer than its slots fits each of them
-  pub length-fits : (len : ℕ) → len ≤ slot_length x.initial_max_slice_len → (b : Book) → get f.books x.book ≡ Some b → (slot : ℕ) → slot < length b.holders
+  -- a message that is no longer than the current segment fits each slot of it
+  pub length-fits : (len : ℕ) → len ≤ slot_length x.segment_length → (b : Book) → get f.books x.book ≡ Some b → (slot : ℕ) → slot < length b.holders → x.segment_start ≤ slot
       → (o : Option (List (ContentState T U))) → o ≡ get_or f.contents x.book o
       → IsSomeAnd o (λ cs. SomeAt cs slot (λ content. len * (f.config).units_per_element ≤ content.room))
-  length-fits len short b stands slot low o read =
+  length-fits len short b stands slot low from o read =
       let found = contents-of b stands in
       let is : get_or f.contents x.book None ≡ o = read-there f.contents x.book found.0 o found.1 read in
       let has : HasBook f x = sound.parts.books.publishers i x at in
       let some = slice_get-some found.0 slot (let e = found.2 in omega arith) in
-      let room : All (λ content. slot_length x.initial_max_slice_len * (f.config).units_per_element ≤ content.room) found.0 =
-      subst (λ (o : Option (List (ContentState T U))). IsSomeAnd o (All (λ content. slot_length x.initial_max_slice_len * (f.config).units_per_element ≤ content.room))) found.1 has.room in
-      let here : slot_length x.initial_max_slice_len * (f.config).units_per_element ≤ (get_or found.0 slot some.0).room = room slot some.0 (let e = found.2 in omega arith) in
-      let same : get_or found.0 slot some.0 ≡ some.0 = get_or_from_slice_get found.0 slot some.0 some.0 some.1 in
-      let enough : slot_length x.initial_max_slice_len * (f.config).units_per_element ≤ (some.0).room = subst (λ (c : ContentState T U). slot_length x.initial_max_slice_len * (f.config).units_per_element ≤ c.room) same here in
-      let less : len * (f.config).units_per_element ≤ slot_length x.initial_max_slice_len * (f.config).units_per_element = mul-le-mul_right (f.config).units_per_element short in
+      let room : HasRoomFrom x.segment_start (slot_length x.segment_length * (f.config).units_per_element) found.0 =
+      subst (λ (o : Option (List (ContentState T U))). IsSomeAnd o (HasRoomFrom x.segment_start (slot_length x.segment_length * (f.config).units_per_element))) found.1 has.room in
+      let enough : slot_length x.segment_length * (f.config).units_per_element ≤ (some.0).room = room.at slot some.0 from some.1 in
+      let less : len * (f.config).units_per_element ≤ slot_length x.segment_length * (f.config).units_per_element = mul-le-mul_right (f.config).units_per_element short in
       let fits : len * (f.config).units_per_element ≤ (some.0).room = omega (arith, enough, less) in
       subst (λ (o : Option (List (ContentState T U))). IsSomeAnd o (λ cs. SomeAt cs slot (λ content. len * (f.config).units_per_element ≤ content.room))) (sym found.1 ∙ is)
       (subst (λ (o : Option (ContentState T U)). IsSomeAnd o (λ content. len * (f.config).units_per_element ≤ content.room)) (sym some.1) fits)
+
+  -- several elements that fit a slot fit a machine word
+  pub lent-fits : (len : ℕ) → length x.loans < x.max_loaned_samples → len ≤ slot_length x.segment_length → 1 < len → len * (f.config).units_per_element < 2 ^ 64
+  lent-fits len few short several =
+      let some : 0 < x.slots = (sound.parts.plain i x at).segment.some (omega (arith, few)) in
+      several-fit f.config x.slots x.segment_length len (sound.parts.publisher_room i x at).size some short several
 
   module _ (checks : Bool) (len : ℕ) (can : CanGrant f checks len i) where
     is-lender : can.publisher ≡ x
     is-lender = let found : Some can.publisher ≡ Some x = sym can.stands ∙ at in cc
 
     -- a loan that may be lent is no longer than its slots: one whose length doesn't count has one element
-    pub lent-short : (checks ≡ false → (f.config).variant ≡ FixedSize) → ((f.config).variant ≡ FixedSize → len ≡ 1) → len ≤ slot_length x.initial_max_slice_len
+    pub lent-short : (checks ≡ false → (f.config).variant ≡ FixedSize) → ((f.config).variant ≡ FixedSize → len ≡ 1) → len ≤ slot_length x.segment_length
     lent-short unchecked one = by checks refl where
-      by : (b : Bool) → checks ≡ b → len ≤ slot_length x.initial_max_slice_len
+      by : (b : Bool) → checks ≡ b → len ≤ slot_length x.segment_length
       by true e =
           let short : (checks && is_static x.allocation && nat_lt x.initial_max_slice_len len) ≡ false =
           subst (λ (z : PublisherFields). (checks && is_static z.allocation && nat_lt z.initial_max_slice_len len) ≡ false) is-lender can.short in
-          let static : is_static x.allocation ≡ true = ap is_static (sound.parts.plain i x at).allocation in
+          let static : is_static x.allocation ≡ true = subst (λ (z : PublisherFields). is_static z.allocation ≡ true) is-lender can.static in
           let no : nat_lt x.initial_max_slice_len len ≡ false =
           sym (ap (λ (b : Bool). b && is_static x.allocation && nat_lt x.initial_max_slice_len len) e ∙ ap (λ (b : Bool). b && nat_lt x.initial_max_slice_len len) static) ∙ short in
           let low : len ≤ x.initial_max_slice_len = ltb-false x.initial_max_slice_len len no in
-          let longest : x.initial_max_slice_len ≤ slot_length x.initial_max_slice_len = le-max_right 1 x.initial_max_slice_len in
-          omega (arith, low, longest)
+          let first : x.initial_max_slice_len ≤ x.segment_length = (sound.parts.plain i x at).segment.first in
+          let longest : x.segment_length ≤ slot_length x.segment_length = le-max_right 1 x.segment_length in
+          omega (arith, low, first, longest)
       by false e =
           let its : len ≡ 1 = one (unchecked e) in
-          let some : 1 ≤ slot_length x.initial_max_slice_len = le-max_left 1 x.initial_max_slice_len in
+          let some : 1 ≤ slot_length x.segment_length = le-max_left 1 x.segment_length in
           omega (arith, its, some)
-
-    -- several elements of it fit a machine word
-    pub lent-fits : len ≤ slot_length x.initial_max_slice_len → 1 < len → len * (f.config).units_per_element < 2 ^ 64
-    lent-fits short several =
-        let has : HasBook f x = sound.parts.books.publishers i x at in
-        let found : Some can.book ≡ Some has.book = sym can.its ∙ ap (λ (z : PublisherFields). get f.books z.book) is-lender ∙ has.stands in
-        let same : can.book ≡ has.book = cc in
-        let count : length (can.book).holders ≡ x.slots = ap (λ (b : Book). length b.holders) same ∙ has.no_more (ap is_static (sound.parts.plain i x at).allocation) in
-        let some : 0 < length (can.book).holders = not-none (can.book).holders can.some_free in
-        several-fit f.config x.slots x.initial_max_slice_len len (sound.parts.publisher_room i x at).size (omega (arith, count, some)) short several
-      where
-        not-none : (hs : List ℕ) → (All (λ n. 0 < n) hs → ⊥) → 0 < length hs
-        not-none [] free = absurd (free (λ k d lt. absurd (omega arith)))
-        not-none (h ∷ hs) free = omega arith
 
   -- it has room for a loan more
   pub loan-fits : (checks : Bool) (len : ℕ) → CanGrant f checks len i → length x.loans < x.loan_room
@@ -103,16 +94,16 @@ module _ {T U : Type 0} (f : Fields T U) (sound : IsDomain f) (i : ℕ) (x : Pub
       omega arith
 
   -- the steps together are a loan
-  pub lends-from : (len : ℕ) (is_default : U → Type 0) (b b' : Book) (slot : ℕ) → get f.books x.book ≡ Some b → TakesFreeSlot b b' slot f.next_message (header_in b len)
+  pub lends-from : (len segments : ℕ) (is_default : U → Type 0) (b b' : Book) (slot : ℕ) → get f.books x.book ≡ Some b → TakesFreeSlot b b' slot f.next_message (header_in b len)
       → (o started : Option (List (ContentState T U))) → o ≡ get_or f.contents x.book o → Starts is_default o started slot (len * (f.config).units_per_element)
-      → (y y' : Option PublisherFields) → y ≡ get_or f.publishers i y → y' ≡ option_map (lending len slot) y
-      → Lends is_default f i x slot len (record f {
+      → (y y' : Option PublisherFields) → y ≡ get_or f.publishers i y → y' ≡ option_map (lending len slot segments) y
+      → Lends is_default f i x slot len segments (record f {
         next_message = f.next_message + 1;
         books = with_value f.books x.book b';
         contents = slice_set f.contents x.book started;
         publishers = slice_set f.publishers i y';
       })
-  lends-from len is_default b b' slot stands takes o started read starts y y' read_y lent =
+  lends-from len segments is_default b b' slot stands takes o started read starts y y' read_y lent =
       let found = contents-of b stands in
       record {
         book = b;
@@ -142,8 +133,8 @@ module _ {T U : Type 0} (f : Fields T U) (sound : IsDomain f) (i : ℕ) (x : Pub
       book : b' ≡ with_taken_slot b slot f.next_message (header_for f.config x.id len)
       book = takes.taken ∙ ap (with_taken_slot b slot f.next_message) its
 
-      lender : y' ≡ Some (lending len slot x)
-      lender = lent ∙ ap (option_map (lending len slot)) (sym (read-there f.publishers i x y at read_y) ∙ at)
+      lender : y' ≡ Some (lending len slot segments x)
+      lender = lent ∙ ap (option_map (lending len slot segments)) (sym (read-there f.publishers i x y at read_y) ∙ at)
 
 -- the loan is the publisher's, seen from the fields before
 pub named-seen : {T U : Type 0} (f old : Fields T U) (i : ℕ) (x : PublisherFields) (loan : LoanAt) → f ≡ old → get_or f.publishers i None ≡ Some x
@@ -153,8 +144,8 @@ named-seen {T} {U} f old i x loan view at named =
     (subst (λ (o : Option PublisherFields). IsSomeAnd o (λ z. IsNamed f z loan)) (sym at) named)
 
 -- seen from the fields before
-pub lends-seen : {T U : Type 0} (is_default : U → Type 0) (f old new : Fields T U) (i slot len : ℕ) (x : PublisherFields) → f ≡ old → get_or f.publishers i None ≡ Some x
-    → Lends is_default f i x slot len new → IsSomeAnd (get_or old.publishers i None) (λ z. Lends is_default old i z slot len new)
-lends-seen {T} {U} is_default f old new i slot len x view at lends =
-    subst (λ (g : Fields T U). IsSomeAnd (get_or g.publishers i None) (λ z. Lends is_default g i z slot len new)) view
-    (subst (λ (o : Option PublisherFields). IsSomeAnd o (λ z. Lends is_default f i z slot len new)) (sym at) lends)
+pub lends-seen : {T U : Type 0} (is_default : U → Type 0) (f old new : Fields T U) (i slot len segments : ℕ) (x : PublisherFields) → f ≡ old → get_or f.publishers i None ≡ Some x
+    → Lends is_default f i x slot len segments new → IsSomeAnd (get_or old.publishers i None) (λ z. Lends is_default old i z slot len segments new)
+lends-seen {T} {U} is_default f old new i slot len segments x view at lends =
+    subst (λ (g : Fields T U). IsSomeAnd (get_or g.publishers i None) (λ z. Lends is_default g i z slot len segments new)) view
+    (subst (λ (o : Option PublisherFields). IsSomeAnd o (λ z. Lends is_default f i z slot len segments new)) (sym at) lends)

@@ -10,7 +10,7 @@ use Rattle.slab.specs.Slab.{get, with_value}
 use Rattle.iox2_store.specs.machine.Limits.{last_number}
 use Rattle.iox2_store.specs.machine.Loans.{is_static, loan_granted, GrantLoan}
 use Rattle.iox2_store.specs.machine.Numbers.{size}
-use Rattle.iox2_store.specs.machine.Records.{Publisher}
+use Rattle.iox2_store.specs.machine.Records.{Publisher, Environment}
 use Rattle.iox2_slots.specs.SlotBook.{Book}
 use Rattle.iox2_contents.specs.SlotContents.{ContentState, with_changed, unwritten_content}
 use Rattle.iox2_store.specs.machine.State.{State, held}
@@ -19,12 +19,11 @@ use Rattle.iox2_store.specs.declared.errors.LoanError.{LoanError}
 use Rattle.iox2_store.specs.declared.errors.LoanError.TheVariants.{OutOfMemory, ExceedsMaxLoans, ExceedsMaxLoanSize, InternalFailure}
 use Rattle.iox2_ends.specs.Receivers.{HasReclaimed}
 use Rattle.iox2_ends.proofs.MailboxChanges.{within_if_some}
-use Rattle.iox2_store.specs.machine.Environments.{ample_memory}
 use Rattle.iox2_domain.specs.Ports.{PublisherFields}
 use Rattle.iox2_domain.specs.Kept.{Lent_message, state_of}
 use Rattle.iox2_domain.specs.Fields.{Fields, kept_of, publisher_of, numbers_of, contents_at}
 use Rattle.iox2_domain.specs.Invariant.{IsDomain}
-use Rattle.iox2_domain.specs.Lending.{with_taken_slot, header_for, lending, CanGrant, LoanDecided, Lends}
+use Rattle.iox2_domain.specs.Lending.{with_taken_slot, header_for, lending, memory_for, CanGrant, LoanDecided, Lends}
 use Rattle.iox2_domain.specs.LoanSlots.{IsLoanSlot, LiesInSlot}
 use Rattle.iox2_domain.specs.Reaches.{Reaches}
 use Rattle.iox2_domain.proofs.lemmas.fields.ConnectionEnds.{publisher-stands}
@@ -66,32 +65,32 @@ module _ {T U : Type 0} (f : Fields T U) (sound : IsDomain f) (i : ℕ) (x : Pub
   abbrev pub is_too_long : Bool
   is_too_long = checks && is_static x.allocation && nat_lt x.initial_max_slice_len len
 
-  pub long : is_too_long ≡ true → (user_header : U) → GrantLoan ample_memory user_header checks len state x.id state (Some ExceedsMaxLoanSize)
-  long e user_header = lends-long ample_memory user_header state x.id machine here checks len e
+  pub long : is_too_long ≡ true → (user_header : U) → GrantLoan (memory_for x.allocation) user_header checks len state x.id state (Some ExceedsMaxLoanSize)
+  long e user_header = lends-long (memory_for x.allocation) user_header state x.id machine here checks len e
 
   -- too many loans are out
-  pub limited : is_too_long ≡ false → (user_header : U) → x.max_loaned_samples ≤ length x.loans → GrantLoan ample_memory user_header checks len state x.id state (Some ExceedsMaxLoans)
-  limited short user_header many = lends-limited ample_memory user_header state x.id machine here checks len short (let e = as_many in omega arith)
+  pub limited : is_too_long ≡ false → (user_header : U) → x.max_loaned_samples ≤ length x.loans → GrantLoan (memory_for x.allocation) user_header checks len state x.id state (Some ExceedsMaxLoans)
+  limited short user_header many = lends-limited (memory_for x.allocation) user_header state x.id machine here checks len short (let e = as_many in omega arith)
 
   its-book : (b : Book) → get f.books x.book ≡ Some b → (its_book f sound i x at).book ≡ b
   its-book b stands = let same : Some (its_book f sound i x at).book ≡ Some b = sym (its_book f sound i x at).stands ∙ stands in cc
 
-  -- the book has as many slots as the publisher
-  slots-are : (b : Book) → get f.books x.book ≡ Some b → length b.holders ≡ x.slots
-  slots-are b stands =
-      ap (λ (c : Book). length c.holders) (sym (its-book b stands))
-      ∙ (its_book f sound i x at).no_more (ap is_static (sound.parts.plain i x at).allocation)
+  -- the book of a static publisher has as many slots as that
+  slots-are : is_static x.allocation ≡ true → (b : Book) → get f.books x.book ≡ Some b → length b.holders ≡ x.slots
+  slots-are static b stands =
+      let same : length b.holders ≡ length (its_book f sound i x at).book.holders = ap (λ (c : Book). length c.holders) (sym (its-book b stands)) in
+      omega (arith, same, (its_book f sound i x at).slots, ((sound.parts.plain i x at).segment.static static).0)
 
-  module _ (short : is_too_long ≡ false) (few : length x.loans < x.max_loaned_samples) (b : Book) (stands : get f.books x.book ≡ Some b) where
+  module _ (short : is_too_long ≡ false) (few : length x.loans < x.max_loaned_samples) (static : is_static x.allocation ≡ true) (b : Book) (stands : get f.books x.book ≡ Some b) where
     few_numbers : length machine.loans < machine.max_loaned_samples
     few_numbers = let e = as_many in omega arith
 
     -- each slot has a holder
-    pub full : HasReclaimed f.connections x.keys → (user_header : U) → All (λ n. 0 < n) b.holders → GrantLoan ample_memory user_header checks len state x.id state (Some OutOfMemory)
+    pub full : HasReclaimed f.connections x.keys → (user_header : U) → All (λ n. 0 < n) b.holders → GrantLoan (memory_for x.allocation) user_header checks len state x.id state (Some OutOfMemory)
     full reclaimed user_header all =
-        lends-full ample_memory user_header state x.id machine here checks len short few_numbers (sound.parts.plain i x at).allocation
+        lends-full (memory_for x.allocation) user_header state x.id machine here checks len short few_numbers static
         (size-full f sound i x at reclaimed (subst (λ (c : Book). All (λ n. 0 < n) c.holders) (sym (its-book b stands)) all)
-        ∙ ap (λ (c : Book). length c.holders) (its-book b stands) ∙ slots-are b stands)
+        ∙ ap (λ (c : Book). length c.holders) (its-book b stands) ∙ slots-are static b stands)
 
     -- a slot that is free leaves room
     some_room : (slot : ℕ) → slot < length b.holders → get_or b.holders slot 0 ≡ 0 → size (held state x.id machine) < x.slots
@@ -99,24 +98,25 @@ module _ {T U : Type 0} (f : Fields T U) (sound : IsDomain f) (i : ℕ) (x : Pub
         let its = its-book b stands in
         let fewer = size-free f sound i x at slot (subst (λ (c : Book). slot < length c.holders) (sym its) low) (ap (λ (c : Book). get_or c.holders slot 0) its ∙ free) in
         let same : length (its_book f sound i x at).book.holders ≡ length b.holders = ap (λ (c : Book). length c.holders) its in
-        let long = slots-are b stands in
+        let long = slots-are static b stands in
         omega arith
 
     -- no number is left
     pub failed : (user_header : U) → (All (λ n. 0 < n) b.holders → ⊥) → f.next_message ≡ last_number
-        → GrantLoan ample_memory user_header checks len state x.id state (Some InternalFailure)
+        → GrantLoan (memory_for x.allocation) user_header checks len state x.id state (Some InternalFailure)
     failed user_header not_all last =
         let free = some_slot b.holders not_all in
-        lends-failed ample_memory user_header state x.id machine here checks len short few_numbers (sound.parts.plain i x at).allocation (some_room free.0 free.1 free.2) last
+        lends-failed (memory_for x.allocation) user_header state x.id machine here checks len short few_numbers static (some_room free.0 free.1 free.2) last
 
   -- ---- what is decided
 
   -- what is decided of this publisher
   abbrev Decided : Option LoanError → PublisherFields → Type 0
-  Decided decision y = MatchOption decision (CanGrant f checks len i) (λ e. (user_header : U) → GrantLoan ample_memory user_header checks len state y.id state (Some e))
+  Decided decision y = MatchOption decision (CanGrant f checks len i) (λ e. (user_header : U) → GrantLoan (memory_for x.allocation) user_header checks len state y.id state (Some e))
 
   decided : (decision : Option LoanError) → Decided decision x → LoanDecided f checks len i decision
-  decided decision h = subst (λ (o : Option PublisherFields). IsSomeAnd o (Decided decision)) (sym at) h
+  decided decision h = subst (λ (o : Option PublisherFields). IsSomeAnd o (λ y. MatchOption decision (CanGrant f checks len i)
+      (λ e. (user_header : U) → GrantLoan (memory_for y.allocation) user_header checks len state y.id state (Some e)))) (sym at) h
 
   pub decided-long : is_too_long ≡ true → LoanDecided f checks len i (Some ExceedsMaxLoanSize)
   decided-long e = decided (Some ExceedsMaxLoanSize) (λ user_header. long e user_header)
@@ -124,19 +124,27 @@ module _ {T U : Type 0} (f : Fields T U) (sound : IsDomain f) (i : ℕ) (x : Pub
   pub decided-limited : is_too_long ≡ false → x.max_loaned_samples ≤ length x.loans → LoanDecided f checks len i (Some ExceedsMaxLoans)
   decided-limited short many = decided (Some ExceedsMaxLoans) (λ user_header. limited short user_header many)
 
-  module _ (short : is_too_long ≡ false) (few : length x.loans < x.max_loaned_samples) (b : Book) (stands : get f.books x.book ≡ Some b) where
+  module _ (short : is_too_long ≡ false) (few : length x.loans < x.max_loaned_samples) (static : is_static x.allocation ≡ true) (b : Book) (stands : get f.books x.book ≡ Some b) where
     pub decided-full : HasReclaimed f.connections x.keys → All (λ n. 0 < n) b.holders → LoanDecided f checks len i (Some OutOfMemory)
-    decided-full reclaimed all = decided (Some OutOfMemory) (λ user_header. full short few b stands reclaimed user_header all)
+    decided-full reclaimed all = decided (Some OutOfMemory) (λ user_header. full short few static b stands reclaimed user_header all)
 
     pub decided-failed : (All (λ n. 0 < n) b.holders → ⊥) → f.next_message ≡ last_number → LoanDecided f checks len i (Some InternalFailure)
-    decided-failed not_all last = decided (Some InternalFailure) (λ user_header. failed short few b stands user_header not_all last)
+    decided-failed not_all last = decided (Some InternalFailure) (λ user_header. failed short few static b stands user_header not_all last)
 
     pub decided-free : (All (λ n. 0 < n) b.holders → ⊥) → f.next_message < last_number → LoanDecided f checks len i None
-    decided-free not_all more = decided None (record { publisher = x; book = b; stands = at; its = stands; few = few; some_free = not_all; more = more; short = short })
+    decided-free not_all more = decided None (record { publisher = x; book = b; stands = at; its = stands; few = few; some_free = not_all; more = more; short = short; static = static })
+
+    -- a static publisher that has a free slot grants the loan
+    pub lent-grants : (slot : ℕ) → slot < length b.holders → get_or b.holders slot 0 ≡ 0 → f.next_message < last_number → (user_header : U)
+        → GrantLoan (memory_for x.allocation) user_header checks len state x.id (loan_granted user_header state x.id machine len x.segments) None
+    lent-grants slot within free more user_header =
+        lends-granted (memory_for x.allocation) user_header state x.id machine here checks len short (few_numbers short few static b stands) static
+        (some_room short few static b stands slot within free) more
 
   -- a slot is lent
-  module _ (short : is_too_long ≡ false) (one : (f.config).variant ≡ FixedSize → len ≡ 1) (few : length x.loans < x.max_loaned_samples) (more : f.next_message < last_number)
-      (is_default : U → Type 0) (slot : ℕ) (new : Fields T U) (lends : Lends is_default f i x slot len new) where
+  module _ (one : (f.config).variant ≡ FixedSize → len ≡ 1) (fits : is_static x.allocation ≡ false → len ≤ x.segment_length)
+      (is_default : U → Type 0) (slot segments : ℕ) (new : Fields T U) (lends : Lends is_default f i x slot len segments new) (environment : Environment)
+      (grants : GrantLoan environment lends.starts.user_header checks len state x.id (loan_granted lends.starts.user_header state x.id machine len segments) None) where
     abbrev user_header : U
     user_header = lends.starts.user_header
 
@@ -155,32 +163,27 @@ module _ {T U : Type 0} (f : Fields T U) (sound : IsDomain f) (i : ℕ) (x : Pub
       free = lends.free;
     }
 
-    new-is : new ≡ with_granted f sound i x at slot can user_header len
+    new-is : new ≡ with_granted f sound i x at slot can user_header len segments
     new-is = lends.lent ∙ (λ t. record f {
       next_message = f.next_message + 1;
       books = with_value f.books x.book (with_taken_slot lends.book slot f.next_message (header_for f.config x.id len));
       contents = slice_set f.contents x.book (started t);
-      publishers = slice_set f.publishers i (Some (lending len slot x));
+      publishers = slice_set f.publishers i (Some (lending len slot segments x));
     })
       where
         started : lends.started ≡ Some (with_changed lends.starts.contents slot (unwritten_content user_header (len * (f.config).units_per_element)))
         started = lends.starts.started
 
-    pub lent-reaches : Reaches f new (loan_granted user_header state x.id machine len machine.segments)
-    lent-reaches = subst (λ (g : Fields T U). Reaches f g (loan_granted user_header state x.id machine len machine.segments)) (sym new-is)
-        (granted-reaches f sound i x at slot can user_header len one few more)
-
-    pub lent-grants : GrantLoan ample_memory user_header checks len state x.id (loan_granted user_header state x.id machine len machine.segments) None
-    lent-grants =
-        lends-granted ample_memory user_header state x.id machine here checks len short (few_numbers short few lends.book lends.stood) (sound.parts.plain i x at).allocation
-        (some_room short few lends.book lends.stood slot lends.within lends.free) more
+    pub lent-reaches : Reaches f new (loan_granted user_header state x.id machine len segments)
+    lent-reaches = subst (λ (g : Fields T U). Reaches f g (loan_granted user_header state x.id machine len segments)) (sym new-is)
+        (granted-reaches f sound i x at slot can user_header len segments one fits environment checks grants)
 
     -- the loan lies in the slot
     pub lent-in_slot : LiesInSlot new x.id f.next_message x.book slot
     lent-in_slot = subst (λ (g : Fields T U). LiesInSlot g x.id f.next_message x.book slot) (sym new-is)
-        (lies-in-slot (with_granted f sound i x at slot can user_header len) (granted-reaches f sound i x at slot can user_header len one few more).agrees
-        i (lender f sound i x at slot can user_header len) (taken_book f sound x slot can user_header len) slot f.next_message
-        (get_or-set_same f.publishers i (Some (lender f sound i x at slot can user_header len)) None (within_if_some f.publishers i x at))
+        (lies-in-slot (with_granted f sound i x at slot can user_header len segments) (granted-reaches f sound i x at slot can user_header len segments one fits environment checks grants).agrees
+        i (lender f sound i x at slot can user_header len segments) (taken_book f sound x slot can user_header len) slot f.next_message
+        (get_or-set_same f.publishers i (Some (lender f sound i x at slot can user_header len segments)) None (within_if_some f.publishers i x at))
         (taken-stands f sound x slot can user_header len) is-loan)
       where
         lies : List (ContentState T U)

@@ -20,7 +20,7 @@ use Rattle.iox2_domain.specs.declared.publisher_state.BlockedDelivery.{BlockedDe
 use Rattle.iox2_domain.specs.Ports.{PublisherFields}
 use Rattle.iox2_domain.specs.Kept.{Named, state_of, port_named, ids, is_named}
 use Rattle.iox2_domain.specs.Fields.{Fields, kept_of, publisher_of, is_book_of, numbers_of}
-use Rattle.iox2_domain.specs.Invariant.{IsLinked, HasBook, HasBooks, KeepsBooks, HasPublisherRoom, IsPlain, SenderHas, ReceiverHas, is_publisher, own_holders, is_loan_in, LendsBlocked}
+use Rattle.iox2_domain.specs.Invariant.{IsLinked, HasBook, HasBooks, KeepsBooks, HasPublisherRoom, HasSegment, IsPlain, SenderHas, ReceiverHas, is_publisher, own_holders, is_loan_in, LendsBlocked}
 use Rattle.iox2_domain.specs.Shows.{KeepsEntries}
 use Rattle.iox2_domain.proofs.lemmas.containers.LookUps.{look_up-map}
 use Rattle.iox2_domain.proofs.lemmas.fields.KeptBooks.{StayWithBooks, StoodOrEnters, kept-publishers}
@@ -41,15 +41,17 @@ pub record KeepsSettings (x y : PublisherFields) : Type 0 where
   pub backpressure_handler : y.backpressure_handler ≡ x.backpressure_handler
   pub degradation_handler : y.degradation_handler ≡ x.degradation_handler
   pub allocation : y.allocation ≡ x.allocation
-  pub initial_max_slice_len : y.initial_max_slice_len ≡ x.initial_max_slice_len
+  pub segment_start : y.segment_start ≡ x.segment_start
+  pub segment_length : y.segment_length ≡ x.segment_length
+  pub segment : HasSegment x → HasSegment y
   pub loan_room : x.loan_room ≤ y.loan_room
   pub history_room : (y.history).capacity ≡ (x.history).capacity
   pub key_room : x.key_room ≤ y.key_room
 
 -- other slots of its own change no setting of a publisher
-pub other_slots : (x : PublisherFields) (loans : List ℕ) (longest : ℕ) (items : List ℕ) (blocked : Option BlockedDelivery)
-    → KeepsSettings x (record x { loans = loans; longest_granted = longest; history = buffer items (x.history).capacity; blocked = blocked })
-other_slots x loans longest items blocked = record {
+pub other_slots : (x : PublisherFields) (loans items : List ℕ) (blocked : Option BlockedDelivery)
+    → KeepsSettings x (record x { loans = loans; history = buffer items (x.history).capacity; blocked = blocked })
+other_slots x loans items blocked = record {
   id = refl;
   book = refl;
   max_loaned_samples = refl;
@@ -58,7 +60,9 @@ other_slots x loans longest items blocked = record {
   backpressure_handler = refl;
   degradation_handler = refl;
   allocation = refl;
-  initial_max_slice_len = refl;
+  segment_start = refl;
+  segment_length = refl;
+  segment = λ has. record { static = has.static; first = has.first; longest = has.longest; some = has.some };
   loan_room = le_refl x.loan_room;
   history_room = refl;
   key_room = le_refl x.key_room;
@@ -68,7 +72,7 @@ other_slots x loans longest items blocked = record {
 
 module _ {A : Type 0} where
   -- a view that doesn't tell the new record from the old one stays
-  map-set : {B : Type 0} (g : A → B) (xs : List (Option A)) (i : ℕ) (x y : A) → get_or xs i None ≡ Some x → g y ≡ g x
+  pub map-set : {B : Type 0} (g : A → B) (xs : List (Option A)) (i : ℕ) (x y : A) → get_or xs i None ≡ Some x → g y ≡ g x
       → map (option_map g) (slice_set xs i (Some y)) ≡ map (option_map g) xs
   map-set g [] i x y at same = refl
   map-set g (z ∷ zs) zero x y at same = ap (λ o. o ∷ map (option_map g) zs) (ap Some same ∙ sym (ap (option_map g) at))
@@ -250,7 +254,7 @@ module _ {T U : Type 0} (f : Fields T U) (i : ℕ) (x y : PublisherFields) (at :
       | inl is ↦ rw is.1 (mine (books.publishers i x at))
       | inr away ↦
           let has = books.publishers k z away.1 in
-          record { book = has.book; stands = has.stands; is_its = has.is_its; node = has.node; slots = has.slots; no_more = has.no_more; room = has.room }
+          record { book = has.book; stands = has.stands; is_its = has.is_its; node = has.node; slots = has.slots; room = has.room }
     ];
     no_others = books.no_others;
   } where
@@ -260,9 +264,8 @@ module _ {T U : Type 0} (f : Fields T U) (i : ℕ) (x y : PublisherFields) (at :
       stands = rw keeps.book has.stands;
       is_its = has.is_its ∙ sym id;
       node = has.node;
-      slots = rw keeps.slots has.slots;
-      no_more = rw (keeps.allocation, keeps.slots) has.no_more;
-      room = rw (keeps.book, keeps.initial_max_slice_len) has.room;
+      slots = rw (keeps.segment_start, keeps.slots) has.slots;
+      room = rw (keeps.book, keeps.segment_start, keeps.segment_length) has.room;
     }
 
   -- it has room
@@ -273,7 +276,7 @@ module _ {T U : Type 0} (f : Fields T U) (i : ℕ) (x y : PublisherFields) (at :
     mine has = record {
       loans = let most = keeps.max_loaned_samples in let room = keeps.loan_room in let enough = has.loans in omega arith;
       history = keeps.history_room ∙ has.history;
-      size = rw (keeps.slots, keeps.initial_max_slice_len) has.size;
+      size = rw (keeps.slots, keeps.segment_length) has.size;
     }
 
   -- it is still plain
@@ -284,7 +287,7 @@ module _ {T U : Type 0} (f : Fields T U) (i : ℕ) (x y : PublisherFields) (at :
         let has = plain i x at in
         rw is.1 (record {
           lent = lends has.lent;
-          allocation = keeps.allocation ∙ has.allocation;
+          segment = keeps.segment has.segment;
         })
     | inr away ↦ plain k z away.1
   ]

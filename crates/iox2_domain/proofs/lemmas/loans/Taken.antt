@@ -2,7 +2,7 @@
 use Rattle.std.proofs.Common.{◌≡◌, ◌≢◌, ℕ, ◌+◌, ◌*◌, ◌<◌, ◌≤◌, List, [], length, replicate, Bool, true, false, cond, eqb, get_or, slice_set, refl, ap, sym, subst, ◌∙◌, inl, inr, ◌⊎◌, arith}
 use Rattle.std.proofs.lemmas.Bool.{cases_eq, eq-eqb, ne_eqb}
 use Rattle.std.proofs.lemmas.List.{get_or-set_same, get_or-set_other, length-set}
-use Rattle.std.proofs.lemmas.Option.{get_or_from_slice_get}
+use Rattle.std.proofs.lemmas.Option.{get_or_from_slice_get, slice_get_within}
 use Rattle.std.specs.Prelude.{nat_lt, slice_get, slice_index}
 use Rattle.std.specs.declared.option.Option.{Option}
 use Rattle.std.specs.declared.option.Option.TheVariants.{None, Some}
@@ -21,7 +21,7 @@ use Rattle.iox2_ends.proofs.LookUps.{look_up-found}
 use Rattle.iox2_domain.specs.Ports.{PublisherFields}
 use Rattle.iox2_domain.specs.Kept.{KeptMessage, Lent_message, state_of, entries_of, entry_in, loan_in, is_numbered, message_numbered}
 use Rattle.iox2_domain.specs.Fields.{Fields, kept_of, is_book_of, numbers_of, message_in, message_of, contents_at}
-use Rattle.iox2_domain.specs.Invariant.{IsDomain, HasNumber, IsNumbered, holders_of, HasLoneLoans}
+use Rattle.iox2_domain.specs.Invariant.{IsDomain, HasNumber, IsNumbered, HasRoomFrom, holders_of, HasLoneLoans}
 use Rattle.iox2_domain.proofs.lemmas.containers.SetRecords.{set-here, set-others, IsOnly-set, look_up-set}
 use Rattle.iox2_domain.proofs.lemmas.slots.Messages.{message_in-free, message_in-from, LiesIn, ChangesSlot, lies_at, message_numbered-others, message_numbered-found, message_numbered-nothing, has_number}
 use Rattle.iox2_domain.proofs.lemmas.slots.LoneLoans.{lone-changed, lone-fewer}
@@ -45,29 +45,21 @@ module _ {A : Type 0} (xs : List A) (slot : ℕ) (g : A → A) where
     by None = refl
     by (Some x) = length-set xs slot (g x)
 
--- a loan takes no room from its slot
-pub room-with_changed : {T U : Type 0} (contents : List (ContentState T U)) (slot : ℕ) (user_header : U) (len most : ℕ) → All (λ content. most ≤ content.room) contents
-    → All (λ content. most ≤ content.room) (with_changed contents slot (unwritten_content user_header len))
-room-with_changed {T} {U} contents slot user_header len most all = by (slice_get contents slot) refl where
-  write : (x : ContentState T U) → slice_get contents slot ≡ Some x → All (λ content. most ≤ content.room) (slice_set contents slot (unwritten_content user_header len x))
-  write x at k d lt = elim (cases_eq k slot) [
+-- a change of a slot that takes no room from it leaves each slot its room
+pub room-with_changed : {T U : Type 0} (g : ContentState T U → ContentState T U) → ((c : ContentState T U) → (g c).room ≡ c.room)
+    → (contents : List (ContentState T U)) (slot start most : ℕ) → HasRoomFrom start most contents → HasRoomFrom start most (with_changed contents slot g)
+room-with_changed {T} {U} g roomy contents slot start most has = record { at = by (slice_get contents slot) refl } where
+  by : (o : Option (ContentState T U)) → slice_get contents slot ≡ o → (k : ℕ) (c : ContentState T U) → start ≤ k → slice_get (option_map_or (λ x. slice_set contents slot (g x)) o contents) k ≡ Some c → most ≤ c.room
+  by None e k c from there = has.at k c from there
+  by (Some x) e k c from there = elim (cases_eq k slot) [
     | inl here ↦
-        let low : k < length contents = subst (λ (n : ℕ). k < n) (length-set contents slot (unwritten_content user_header len x)) lt in
-        let is : get_or (slice_set contents slot (unwritten_content user_header len x)) k d ≡ unwritten_content user_header len x =
-        ap (λ (j : ℕ). get_or (slice_set contents slot (unwritten_content user_header len x)) j d) here
-        ∙ get_or-set_same contents slot (unwritten_content user_header len x) d (subst (λ (j : ℕ). j < length contents) here low) in
-        let old : get_or contents k d ≡ x = ap (λ (j : ℕ). get_or contents j d) here ∙ get_or_from_slice_get contents slot x d at in
-        let enough : most ≤ (get_or contents k d).room = all k d low in
-        subst (λ (c : ContentState T U). most ≤ c.room) (sym is) (subst (λ (c : ContentState T U). most ≤ c.room) old enough)
-    | inr away ↦
-        let low : k < length contents = subst (λ (n : ℕ). k < n) (length-set contents slot (unwritten_content user_header len x)) lt in
-        subst (λ (c : ContentState T U). most ≤ c.room) (sym (get_or-set_other contents slot k (unwritten_content user_header len x) d away)) (all k d low)
+        let low : slot < length contents = slice_get_within contents slot x e in
+        let same : Some (g x) ≡ Some c = sym (slice_get-set_same contents slot (g x) low) ∙ ap (slice_get (slice_set contents slot (g x))) (sym here) ∙ there in
+        let is : g x ≡ c = cc in
+        let enough : most ≤ x.room = has.at k x from (ap (slice_get contents) here ∙ e) in
+        subst (λ (n : ℕ). most ≤ n) (sym (roomy x) ∙ ap (λ (d : ContentState T U). d.room) is) enough
+    | inr away ↦ has.at k c from (sym (slice_get-set_other contents slot k (g x) away) ∙ there)
   ]
-
-  by : (o : Option (ContentState T U)) → slice_get contents slot ≡ o
-      → All (λ content. most ≤ content.room) (option_map_or (λ x. slice_set contents slot (unwritten_content user_header len x)) o contents)
-  by None at = all
-  by (Some x) at = write x at
 
 -- The slot of the publisher's book is free, and it has contents.
 pub record CanTakeSlot {T U : Type 0} (f : Fields T U) (x : PublisherFields) (slot : ℕ) : Type 0 where

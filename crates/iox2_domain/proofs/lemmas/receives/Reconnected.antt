@@ -69,7 +69,7 @@ module _ {T U : Type 0} (f : Fields T U) (sound : IsDomain f) (key : ℕ) (c : L
     one_each = sound.parts.books.one_each;
     books = sound.parts.books.books;
     publishers = λ i x at_x. let has = sound.parts.books.publishers i x at_x in
-        record { book = has.book; stands = has.stands; is_its = has.is_its; node = has.node; slots = has.slots; no_more = has.no_more; room = has.room };
+        record { book = has.book; stands = has.stands; is_its = has.is_its; node = has.node; slots = has.slots; room = has.room };
     no_others = sound.parts.books.no_others;
   }
 

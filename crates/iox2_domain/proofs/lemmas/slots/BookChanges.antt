@@ -156,8 +156,7 @@ module _ {T U : Type 0} (f : Fields T U) (key : ℕ) (b d : Book) (at : get f.bo
             stands = ap (get changed) same ∙ book-here;
             is_its = keeps.publisher ∙ ap (λ (e : Book). e.publisher) (sym is) ∙ has.is_its;
             node = keeps.node ∙ ap (λ (e : Book). e.node) (sym is) ∙ has.node;
-            slots = subst (λ (n : ℕ). x.slots ≤ n) (sym long) has.slots;
-            no_more = λ static. long ∙ has.no_more static;
+            slots = long ∙ has.slots;
             room = has.room;
           }
       | inr away ↦ record {
@@ -166,7 +165,6 @@ module _ {T U : Type 0} (f : Fields T U) (key : ℕ) (b d : Book) (at : get f.bo
         is_its = has.is_its;
         node = has.node;
         slots = has.slots;
-        no_more = has.no_more;
         room = has.room;
       }
     ]

@@ -200,7 +200,6 @@ module _ {T U : Type 0} (f : Fields T U) (parts : HasParts f) (key : ℕ) (b : B
           is_its = has.is_its;
           node = has.node;
           slots = has.slots;
-          no_more = has.no_more;
           room = rw (contents-others x.book away) has.room;
         }
 

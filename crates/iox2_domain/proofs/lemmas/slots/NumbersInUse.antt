@@ -1,5 +1,5 @@
 -- The numbers of those slots of a list of counters that have a holder.
-use Rattle.std.proofs.Common.{◌≡◌, ℕ, zero, suc, ◌<◌, ◌≤◌, List, [], ◌∷◌, map, Bool, true, false, cond, length, get_or, refl, ap, sym, ◌∙◌, inl, inr, arith, nat_lt, eqb}
+use Rattle.std.proofs.Common.{◌≡◌, ℕ, zero, suc, ◌+◌, ◌<◌, ◌≤◌, List, [], ◌∷◌, map, Bool, true, false, cond, length, get_or, refl, ap, sym, ◌∙◌, inl, inr, arith, nat_lt, eqb, drop}
 use Rattle.std.proofs.lemmas.Bool.{ltb-true, lt-ltb, eqb-true}
 use Rattle.std.proofs.lemmas.List.Sums.{sum_by-cons}
 use Rattle.std.specs.List.{All, sum_by}
@@ -85,6 +85,16 @@ length-used_all (h ∷ hs) number all =
     let in_use : nat_lt 0 h ≡ true = lt-ltb 0 h (all 0 0 (omega arith)) in
     let rest = length-used_all hs (λ k. number (suc k)) (λ k d lt. all (suc k) d (omega arith)) in
     rw in_use (ap suc rest)
+
+-- at least as many are used as slots from some slot on, where each of these has a holder
+pub length-used_from : (hs : List ℕ) (number : ℕ → ℕ) (start : ℕ) → All (λ n. 0 < n) (drop start hs) → length hs ≤ start + length (used hs number)
+length-used_from hs number zero all = let e = length-used_all hs number all in omega (arith, e)
+length-used_from [] number (suc start) all = omega arith
+length-used_from (h ∷ hs) number (suc start) all = by (nat_lt 0 h) (length-used_from hs (λ k. number (suc k)) start all) where
+  by : (b : Bool) → length hs ≤ start + length (used hs (λ k. number (suc k)))
+      → suc (length hs) ≤ suc start + length (cond b (number 0 ∷ used hs (λ k. number (suc k))) (used hs (λ k. number (suc k))))
+  by true few = omega (arith, few)
+  by false few = omega (arith, few)
 
 -- ---- how often a slot stands in a list
 

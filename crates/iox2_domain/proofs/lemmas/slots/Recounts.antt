@@ -219,7 +219,7 @@ module _ {T U : Type 0} (f : Fields T U) (parts : HasParts f) (p key : ℕ) (b :
     one_each = parts.books.one_each;
     books = parts.books.books;
     publishers = λ i x here. let has = parts.books.publishers i x here in
-        record { book = has.book; stands = has.stands; is_its = has.is_its; node = has.node; slots = has.slots; no_more = has.no_more; room = has.room };
+        record { book = has.book; stands = has.stands; is_its = has.is_its; node = has.node; slots = has.slots; room = has.room };
     no_others = parts.books.no_others;
   }
 

@@ -20,9 +20,9 @@ use Rattle.iox2_ends.proofs.LookUps.{look_up-found}
 use Rattle.iox2_domain.specs.Ports.{PublisherFields, slot_length}
 use Rattle.iox2_domain.specs.Kept.{KeptMessage, state_of, message_numbered}
 use Rattle.iox2_domain.specs.Fields.{Fields, kept_of, is_book_of, message_of, message_in, contents_at}
-use Rattle.iox2_domain.specs.Invariant.{IsDomain, IsBook, HasBooks, HasForms, HasNumber, IsNumbered, IsCounted, is_publisher, holders_of, own_holders, is_lent, is_loan_in}
+use Rattle.iox2_domain.specs.Invariant.{IsDomain, IsBook, HasBooks, HasForms, HasRoomFrom, HasNumber, IsNumbered, IsCounted, is_publisher, holders_of, own_holders, is_lent, is_loan_in}
 use Rattle.iox2_domain.proofs.lemmas.containers.SetRecords.{set-here, set-others}
-use Rattle.iox2_domain.proofs.lemmas.loans.Taken.{with_changed-here, with_changed-others, length-with_changed}
+use Rattle.iox2_domain.proofs.lemmas.loans.Taken.{room-with_changed, with_changed-here, with_changed-others, length-with_changed}
 use Rattle.iox2_domain.proofs.lemmas.slots.BookChanges.{KeepsSlots, with_book, book-here, book-others, book-was, books-apart, other-book, book-state, books-changed, holders-here}
 use Rattle.iox2_domain.proofs.lemmas.slots.Messages.{LiesIn, ChangesSlot, lies_at, message_at-slot, message_in-parts, message_in-from, is_numbered-slot, message_numbered-others, message_numbered-found}
 
@@ -107,10 +107,8 @@ module _ {T U : Type 0} (f : Fields T U) (sound : IsDomain f) (key slot : ℕ) (
       is_its = has.is_its;
       node = has.node;
       slots = has.slots;
-      no_more = has.no_more;
-      room = still (All (λ content. slot_length x.initial_max_slice_len * (f.config).units_per_element ≤ content.room))
-          (all-changed (λ content. slot_length x.initial_max_slice_len * (f.config).units_per_element ≤ content.room) g
-          (λ c enough. rw (roomy c) enough) cs slot) x.book has.room;
+      room = still (HasRoomFrom x.segment_start (slot_length x.segment_length * (f.config).units_per_element))
+          (room-with_changed g roomy cs slot x.segment_start (slot_length x.segment_length * (f.config).units_per_element)) x.book has.room;
     };
     no_others = λ k none. elim (cases_eq k key) [
       | inl here ↦ absurd (let no : None ≡ Some marked = sym none ∙ ap (get (with_value f.books key marked)) here ∙ book-here f key b marked at_b marked-keeps in cc)

@@ -1,5 +1,5 @@
 -- The slots of a publisher that have a holder lie in its loans, its history and its mailboxes, and nowhere else.
-use Rattle.std.proofs.Common.{◌≡◌, ℕ, zero, suc, ◌+◌, ◌<◌, ◌≤◌, List, [], map, Bool, true, false, ◌&&◌, cond, length, get_or, refl, ap, sym, subst, ◌∙◌, inl, inr, ◌⊎◌, arith, eqb}
+use Rattle.std.proofs.Common.{◌≡◌, ℕ, zero, suc, ◌+◌, ◌<◌, ◌≤◌, List, [], map, Bool, true, false, ◌&&◌, cond, length, get_or, refl, ap, sym, subst, ◌∙◌, inl, inr, ◌⊎◌, arith, eqb, drop}
 use Rattle.std.proofs.lemmas.Bool.{eqb-true, eq-eqb, and_from}
 use Rattle.std.specs.declared.option.Option.{Option}
 use Rattle.std.specs.declared.option.Option.TheVariants.{None, Some}
@@ -33,7 +33,7 @@ use Rattle.iox2_domain.specs.Fields.{Fields, kept_of, publisher_of, is_book_of, 
 use Rattle.iox2_domain.specs.Invariant.{IsDomain, HasBook, is_publisher, holders_of}
 use Rattle.iox2_domain.proofs.lemmas.fields.ConnectionEnds.{publisher-stands}
 use Rattle.iox2_domain.proofs.lemmas.fields.Views.{mailboxes-are}
-use Rattle.iox2_domain.proofs.lemmas.slots.NumbersInUse.{used, used-there, used-has, used-once, HasApart, length-used_free, length-used_all, times-there, times-stands, contains-map, contains-map_there, sum_by-positive}
+use Rattle.iox2_domain.proofs.lemmas.slots.NumbersInUse.{used, used-there, used-has, used-once, HasApart, length-used_free, length-used_all, length-used_from, times-there, times-stands, contains-map, contains-map_there, sum_by-positive}
 use Rattle.iox2_domain.proofs.lemmas.slots.Holders.{book-by_id, book-holders}
 use Rattle.iox2_domain.proofs.lemmas.slots.PublisherBooks.{book-counts}
 
@@ -227,3 +227,7 @@ module _ {T U : Type 0} (f : Fields T U) (sound : IsDomain f) where
       -- where each slot of the book has a holder it holds as many as the book has slots
       pub size-full : All (λ n. 0 < n) (its_book.book).holders → size (held state x.id machine) ≡ length (its_book.book).holders
       size-full all = size-held ∙ length-used_all (its_book.book).holders number all
+
+      -- where each slot from some slot on has a holder it holds at least as many as stand there
+      pub size-from : (start : ℕ) → All (λ n. 0 < n) (drop start (its_book.book).holders) → length (its_book.book).holders ≤ start + size (held state x.id machine)
+      size-from start all = omega (arith, size-held, length-used_from (its_book.book).holders number start all)

@@ -5,8 +5,9 @@ use Rattle.iox2_domain.specs.Invariant.{IsDomain}
 use Rattle.iox2_domain.specs.Lending.{lending}
 use Rattle.iox2_domain.proofs.lemmas.slots.PublisherBooks.{read-there, book-there, sender-linked, book-covers}
 use Rattle.iox2_domain.proofs.lemmas.loans.LendingSteps.{contents-within, named-seen}
-use Rattle.iox2_deliveries.proofs.LoanPass.{reclaims-nothing, refused-long, refused-limited, refused-full, refused-last, lent-short_units, lent-length, lent-room, granted, granted-lies}
-use Rattle.iox2_deliveries.proofs.loans.loan.Goals as goal
+use Rattle.iox2_domain.specs.Ports.{PublisherFields}
+use Rattle.iox2_deliveries.proofs.LoanPass.{its-static, reclaims-nothing, refused-long, refused-limited, refused-full, refused-last, lent-short_units, lent-length, lent-room, granted, granted-lies}
+use Rattle.iox2_deliveries.proofs.loans.loan_static.Goals as goal
 
 pub unreachable-requires : goal.unreachable-requires
 unreachable-requires g c =
@@ -45,6 +46,7 @@ units_of-requires g c =
     lent-short_units {T = g.row.T.Denot} {U = g.row.U.Denot} _ _ c.state.view_is c.requires.agrees c.args.place _
     (read-there _ c.args.place _ _ (ap (λ (f : Fields g.row.T.Denot g.row.U.Denot). slice_index_or f.publishers c.args.place None) c.state.view_is ∙ c.requires.stands.1) c.index_mut.ensures.value ∙ c.in-Some.is ∙ ap Some (sym c.publisher.view_is))
     _ _ c.index_mut-book.ensures.value _ c.reclaim_if_full.ensures.book _ c.publisher.view_is c.reclaim_if_full.ensures.reclaims c.args.checks_length c.args.len
+    (its-static {T = g.row.T.Denot} {U = g.row.U.Denot} _ _ c.state.view_is c.args.place _ (read-there _ c.args.place _ _ (ap (λ (f : Fields g.row.T.Denot g.row.U.Denot). slice_index_or f.publishers c.args.place None) c.state.view_is ∙ c.requires.stands.1) c.index_mut.ensures.value ∙ c.in-Some.is ∙ ap Some (sym c.publisher.view_is)) c.requires.stands)
     (sym c.if-is_too_long.ensures) (omega (arith, c.if-len-publisher.false, c.len.ensures, long)) (λ all. let no : false ≡ true = c.if-is_full.ensures.1 all in absurd cc) (let bound = c.state.invariant in omega arith)
     (λ unchecked. ap (λ (f : Fields g.row.T.Denot g.row.U.Denot). (f.config).variant) c.state.view_is ∙ c.requires.unchecked unchecked)
     (λ fixed. c.requires.single (sym (ap (λ (f : Fields g.row.T.Denot g.row.U.Denot). (f.config).variant) c.state.view_is) ∙ fixed))
@@ -56,6 +58,7 @@ start-requires g c =
     (lent-length {T = g.row.T.Denot} {U = g.row.U.Denot} _ _ c.state.view_is c.requires.agrees c.args.place _
     (read-there _ c.args.place _ _ (ap (λ (f : Fields g.row.T.Denot g.row.U.Denot). slice_index_or f.publishers c.args.place None) c.state.view_is ∙ c.requires.stands.1) c.index_mut.ensures.value ∙ c.in-Some.is ∙ ap Some (sym c.publisher.view_is))
     _ _ c.index_mut-book.ensures.value _ c.reclaim_if_full.ensures.book _ c.publisher.view_is c.reclaim_if_full.ensures.reclaims c.args.checks_length c.args.len
+    (its-static {T = g.row.T.Denot} {U = g.row.U.Denot} _ _ c.state.view_is c.args.place _ (read-there _ c.args.place _ _ (ap (λ (f : Fields g.row.T.Denot g.row.U.Denot). slice_index_or f.publishers c.args.place None) c.state.view_is ∙ c.requires.stands.1) c.index_mut.ensures.value ∙ c.in-Some.is ∙ ap Some (sym c.publisher.view_is)) c.requires.stands)
     (sym c.if-is_too_long.ensures) (omega (arith, c.if-len-publisher.false, c.len.ensures, long)) (λ all. let no : false ≡ true = c.if-is_full.ensures.1 all in absurd cc) (let bound = c.state.invariant in omega arith)
     (λ unchecked. ap (λ (f : Fields g.row.T.Denot g.row.U.Denot). (f.config).variant) c.state.view_is ∙ c.requires.unchecked unchecked)
     (λ fixed. c.requires.single (sym (ap (λ (f : Fields g.row.T.Denot g.row.U.Denot). (f.config).variant) c.state.view_is) ∙ fixed))
@@ -67,6 +70,7 @@ lend-requires g c =
     lent-room {T = g.row.T.Denot} {U = g.row.U.Denot} _ _ c.state.view_is c.requires.agrees c.args.place _
     (read-there _ c.args.place _ _ (ap (λ (f : Fields g.row.T.Denot g.row.U.Denot). slice_index_or f.publishers c.args.place None) c.state.view_is ∙ c.requires.stands.1) c.index_mut.ensures.value ∙ c.in-Some.is ∙ ap Some (sym c.publisher.view_is))
     _ _ c.index_mut-book.ensures.value _ c.reclaim_if_full.ensures.book _ c.publisher.view_is c.reclaim_if_full.ensures.reclaims c.args.checks_length c.args.len
+    (its-static {T = g.row.T.Denot} {U = g.row.U.Denot} _ _ c.state.view_is c.args.place _ (read-there _ c.args.place _ _ (ap (λ (f : Fields g.row.T.Denot g.row.U.Denot). slice_index_or f.publishers c.args.place None) c.state.view_is ∙ c.requires.stands.1) c.index_mut.ensures.value ∙ c.in-Some.is ∙ ap Some (sym c.publisher.view_is)) c.requires.stands)
     (sym c.if-is_too_long.ensures) (omega (arith, c.if-len-publisher.false, c.len.ensures, long)) (λ all. let no : false ≡ true = c.if-is_full.ensures.1 all in absurd cc) (let bound = c.state.invariant in omega arith)
     (λ unchecked. ap (λ (f : Fields g.row.T.Denot g.row.U.Denot). (f.config).variant) c.state.view_is ∙ c.requires.unchecked unchecked)
     (λ fixed. c.requires.single (sym (ap (λ (f : Fields g.row.T.Denot g.row.U.Denot). (f.config).variant) c.state.view_is) ∙ fixed))
@@ -75,6 +79,7 @@ pub returns-then-is_too_long-clause-reaches : goal.returns-then-is_too_long-clau
 returns-then-is_too_long-clause-reaches g c = refused-long {T = g.row.T.Denot} {U = g.row.U.Denot} _ _ c.state.view_is c.requires.agrees c.args.place _
     (read-there _ c.args.place _ _ (ap (λ (f : Fields g.row.T.Denot g.row.U.Denot). slice_index_or f.publishers c.args.place None) c.state.view_is ∙ c.requires.stands.1) c.index_mut.ensures.value ∙ c.in-Some.is ∙ ap Some (sym c.publisher.view_is))
     _ _ c.index_mut-book.ensures.value _ refl _ c.publisher.view_is (reclaims-nothing _ _ _) c.args.checks_length c.args.len
+    (its-static {T = g.row.T.Denot} {U = g.row.U.Denot} _ _ c.state.view_is c.args.place _ (read-there _ c.args.place _ _ (ap (λ (f : Fields g.row.T.Denot g.row.U.Denot). slice_index_or f.publishers c.args.place None) c.state.view_is ∙ c.requires.stands.1) c.index_mut.ensures.value ∙ c.in-Some.is ∙ ap Some (sym c.publisher.view_is)) c.requires.stands)
     g.U.Default.is_default (sym c.if-is_too_long.ensures)
 
 pub returns-then-len-publisher-clause-reaches : goal.returns-then-len-publisher-clause-reaches
@@ -83,6 +88,7 @@ returns-then-len-publisher-clause-reaches g c =
     refused-limited {T = g.row.T.Denot} {U = g.row.U.Denot} _ _ c.state.view_is c.requires.agrees c.args.place _
     (read-there _ c.args.place _ _ (ap (λ (f : Fields g.row.T.Denot g.row.U.Denot). slice_index_or f.publishers c.args.place None) c.state.view_is ∙ c.requires.stands.1) c.index_mut.ensures.value ∙ c.in-Some.is ∙ ap Some (sym c.publisher.view_is))
     _ _ c.index_mut-book.ensures.value _ refl _ c.publisher.view_is (reclaims-nothing _ _ _) c.args.checks_length c.args.len
+    (its-static {T = g.row.T.Denot} {U = g.row.U.Denot} _ _ c.state.view_is c.args.place _ (read-there _ c.args.place _ _ (ap (λ (f : Fields g.row.T.Denot g.row.U.Denot). slice_index_or f.publishers c.args.place None) c.state.view_is ∙ c.requires.stands.1) c.index_mut.ensures.value ∙ c.in-Some.is ∙ ap Some (sym c.publisher.view_is)) c.requires.stands)
     (sym c.if-is_too_long.ensures) g.U.Default.is_default (omega (arith, c.if-len-publisher.true, c.len.ensures, long))
 
 pub returns-then-is_full-clause-reaches : goal.returns-then-is_full-clause-reaches
@@ -91,6 +97,7 @@ returns-then-is_full-clause-reaches g c =
     refused-full {T = g.row.T.Denot} {U = g.row.U.Denot} _ _ c.state.view_is c.requires.agrees c.args.place _
     (read-there _ c.args.place _ _ (ap (λ (f : Fields g.row.T.Denot g.row.U.Denot). slice_index_or f.publishers c.args.place None) c.state.view_is ∙ c.requires.stands.1) c.index_mut.ensures.value ∙ c.in-Some.is ∙ ap Some (sym c.publisher.view_is))
     _ _ c.index_mut-book.ensures.value _ c.reclaim_if_full.ensures.book _ c.publisher.view_is c.reclaim_if_full.ensures.reclaims c.args.checks_length c.args.len
+    (its-static {T = g.row.T.Denot} {U = g.row.U.Denot} _ _ c.state.view_is c.args.place _ (read-there _ c.args.place _ _ (ap (λ (f : Fields g.row.T.Denot g.row.U.Denot). slice_index_or f.publishers c.args.place None) c.state.view_is ∙ c.requires.stands.1) c.index_mut.ensures.value ∙ c.in-Some.is ∙ ap Some (sym c.publisher.view_is)) c.requires.stands)
     (sym c.if-is_too_long.ensures) (omega (arith, c.if-len-publisher.false, c.len.ensures, long)) g.U.Default.is_default c.reclaim_if_full.ensures.all (c.if-is_full.ensures.0 refl)
 
 pub returns-then-state-clause-reaches : goal.returns-then-state-clause-reaches
@@ -99,6 +106,7 @@ returns-then-state-clause-reaches g c =
     refused-last {T = g.row.T.Denot} {U = g.row.U.Denot} _ _ c.state.view_is c.requires.agrees c.args.place _
     (read-there _ c.args.place _ _ (ap (λ (f : Fields g.row.T.Denot g.row.U.Denot). slice_index_or f.publishers c.args.place None) c.state.view_is ∙ c.requires.stands.1) c.index_mut.ensures.value ∙ c.in-Some.is ∙ ap Some (sym c.publisher.view_is))
     _ _ c.index_mut-book.ensures.value _ c.reclaim_if_full.ensures.book _ c.publisher.view_is c.reclaim_if_full.ensures.reclaims c.args.checks_length c.args.len
+    (its-static {T = g.row.T.Denot} {U = g.row.U.Denot} _ _ c.state.view_is c.args.place _ (read-there _ c.args.place _ _ (ap (λ (f : Fields g.row.T.Denot g.row.U.Denot). slice_index_or f.publishers c.args.place None) c.state.view_is ∙ c.requires.stands.1) c.index_mut.ensures.value ∙ c.in-Some.is ∙ ap Some (sym c.publisher.view_is)) c.requires.stands)
     (sym c.if-is_too_long.ensures) (omega (arith, c.if-len-publisher.false, c.len.ensures, long)) (λ all. let no : false ≡ true = c.if-is_full.ensures.1 all in absurd cc) g.U.Default.is_default c.if-state.true
 
 pub returns-clause-reaches : goal.returns-clause-reaches
@@ -107,11 +115,12 @@ returns-clause-reaches g c =
     granted {T = g.row.T.Denot} {U = g.row.U.Denot} _ _ c.state.view_is c.requires.agrees c.args.place _
     (read-there _ c.args.place _ _ (ap (λ (f : Fields g.row.T.Denot g.row.U.Denot). slice_index_or f.publishers c.args.place None) c.state.view_is ∙ c.requires.stands.1) c.index_mut.ensures.value ∙ c.in-Some.is ∙ ap Some (sym c.publisher.view_is))
     _ _ c.index_mut-book.ensures.value _ c.reclaim_if_full.ensures.book _ c.publisher.view_is c.reclaim_if_full.ensures.reclaims c.args.checks_length c.args.len
+    (its-static {T = g.row.T.Denot} {U = g.row.U.Denot} _ _ c.state.view_is c.args.place _ (read-there _ c.args.place _ _ (ap (λ (f : Fields g.row.T.Denot g.row.U.Denot). slice_index_or f.publishers c.args.place None) c.state.view_is ∙ c.requires.stands.1) c.index_mut.ensures.value ∙ c.in-Some.is ∙ ap Some (sym c.publisher.view_is)) c.requires.stands)
     (sym c.if-is_too_long.ensures) (omega (arith, c.if-len-publisher.false, c.len.ensures, long)) (λ all. let no : false ≡ true = c.if-is_full.ensures.1 all in absurd cc) (let bound = c.state.invariant in omega arith)
     (λ unchecked. ap (λ (f : Fields g.row.T.Denot g.row.U.Denot). (f.config).variant) c.state.view_is ∙ c.requires.unchecked unchecked)
     (λ fixed. c.requires.single (sym (ap (λ (f : Fields g.row.T.Denot g.row.U.Denot). (f.config).variant) c.state.view_is) ∙ fixed))
     g.U.Default.is_default _ c.in-Some-take.slot c.in-Some-take.ensures.taken _ _ c.index_mut-2.ensures.value (rw c.units_of.ensures at c.start.ensures) _ _ c.index_mut.ensures.value
-    (ap Some c.lend.ensures ∙ ap (option_map (lending c.args.len c.in-Some-take.slot)) (sym c.in-Some.is))
+    (ap Some c.lend.ensures ∙ ap (option_map (λ (p : PublisherFields). lending c.args.len c.in-Some-take.slot p.segments p)) (sym c.in-Some.is))
 
 pub returns-clause-named : goal.returns-clause-named
 returns-clause-named g c =
@@ -125,8 +134,14 @@ returns-clause-lies g c =
     granted-lies {T = g.row.T.Denot} {U = g.row.U.Denot} _ _ c.state.view_is c.requires.agrees c.args.place _
     (read-there _ c.args.place _ _ (ap (λ (f : Fields g.row.T.Denot g.row.U.Denot). slice_index_or f.publishers c.args.place None) c.state.view_is ∙ c.requires.stands.1) c.index_mut.ensures.value ∙ c.in-Some.is ∙ ap Some (sym c.publisher.view_is))
     _ _ c.index_mut-book.ensures.value _ c.reclaim_if_full.ensures.book _ c.publisher.view_is c.reclaim_if_full.ensures.reclaims c.args.checks_length c.args.len
+    (its-static {T = g.row.T.Denot} {U = g.row.U.Denot} _ _ c.state.view_is c.args.place _ (read-there _ c.args.place _ _ (ap (λ (f : Fields g.row.T.Denot g.row.U.Denot). slice_index_or f.publishers c.args.place None) c.state.view_is ∙ c.requires.stands.1) c.index_mut.ensures.value ∙ c.in-Some.is ∙ ap Some (sym c.publisher.view_is)) c.requires.stands)
     (sym c.if-is_too_long.ensures) (omega (arith, c.if-len-publisher.false, c.len.ensures, long)) (λ all. let no : false ≡ true = c.if-is_full.ensures.1 all in absurd cc) (let bound = c.state.invariant in omega arith)
     (λ unchecked. ap (λ (f : Fields g.row.T.Denot g.row.U.Denot). (f.config).variant) c.state.view_is ∙ c.requires.unchecked unchecked)
     (λ fixed. c.requires.single (sym (ap (λ (f : Fields g.row.T.Denot g.row.U.Denot). (f.config).variant) c.state.view_is) ∙ fixed))
     g.U.Default.is_default _ c.in-Some-take.slot c.in-Some-take.ensures.taken _ _ c.index_mut-2.ensures.value (rw c.units_of.ensures at c.start.ensures) _ _ c.index_mut.ensures.value
-    (ap Some c.lend.ensures ∙ ap (option_map (lending c.args.len c.in-Some-take.slot)) (sym c.in-Some.is))
+    (ap Some c.lend.ensures ∙ ap (option_map (λ (p : PublisherFields). lending c.args.len c.in-Some-take.slot p.segments p)) (sym c.in-Some.is))
+
+pub is_too_long-requires : goal.is_too_long-requires
+is_too_long-requires g c =
+    rw (← c.publisher.view_is)
+    (its-static {T = g.row.T.Denot} {U = g.row.U.Denot} _ _ c.state.view_is c.args.place _ (read-there _ c.args.place _ _ (ap (λ (f : Fields g.row.T.Denot g.row.U.Denot). slice_index_or f.publishers c.args.place None) c.state.view_is ∙ c.requires.stands.1) c.index_mut.ensures.value ∙ c.in-Some.is ∙ ap Some (sym c.publisher.view_is)) c.requires.stands)
