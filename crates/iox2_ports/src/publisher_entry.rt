@@ -113,6 +113,7 @@ fn admit_publisher<T: Drop, U: Default + Drop>(
         key,
         given,
         handler,
+        AllocationStrategy::Static,
         slots,
     );
     let Ok(publisher) = entering else {

@@ -58,7 +58,7 @@ overflow_add-state g c =
 pub returns-clause-step : goal.returns-clause-step
 returns-clause-step g c = λ asked slots.
     let given = static_with c.args.given.now (handler_if_any c.args.handler) asked in
-    entered-reaches-as {T = g.row.T.Denot} {U = g.row.U.Denot} c.args.state.now _ _ c.state.view_is c.requires.agrees given (record { allocation = refl }) c.args.slots c.args.place c.in-Ok-entering.publisher c.in-Ok.segment.book c.in-Ok.segment.contents
+    entered-reaches-as {T = g.row.T.Denot} {U = g.row.U.Denot} c.args.state.now _ _ c.state.view_is c.requires.agrees given c.args.slots c.args.place c.in-Ok-entering.publisher c.in-Ok.segment.book c.in-Ok.segment.contents
     c.add_segment.new.books c.requires.has_place slots (record {
       publisher = c.in-Ok-entering.ensures.enters
           ∙ ap (λ id. entering_publisher id c.args.place c.vacant_key-key.result given c.args.slots c.in-Ok-entering.publisher.loan_room (buffer [] c.state.inside.config.history_size) c.in-Ok-entering.publisher.key_room) c.new-id.ensures
