@@ -1,5 +1,5 @@
 -- A publisher makes a further segment.
-use Rattle.std.proofs.Common.{◌≡◌, ◌<◌, ◌≤◌, ℕ, ◌+◌, ◌*◌, ◌^◌, List, None, Some, length, get_or, slice_set, refl, ap, sym, subst, ◌∙◌, inl, inr, ◌⊎◌, arith}
+use Rattle.std.proofs.Common.{◌≡◌, Bool, true, ◌<◌, ◌≤◌, ℕ, ◌+◌, ◌*◌, ◌^◌, List, None, Some, length, get_or, slice_set, refl, ap, sym, subst, ◌∙◌, inl, inr, ◌⊎◌, arith}
 use Rattle.std.proofs.lemmas.List.{set-get_or}
 use Rattle.std.specs.declared.option.Option.{Option}
 use Rattle.std.specs.Prelude.{IsSomeAnd, max, not}
@@ -48,3 +48,71 @@ module _ {T U : Type 0} (before f : Fields T U) (same : f ≡ before) (agrees : 
       let its : given.0 ≡ z = (let e : given.0 ≡ x = cc in e) ∙ view in
       let some : 0 < z.slots = subst (λ (y : PublisherFields). 0 < y.slots) its given.2 in
       several-fit f.config z.slots longest most fits some (omega (arith, is)) several
+
+  -- ---- nothing changes
+
+  set-same : {A : Type 0} (xs : List (Option A)) (k : ℕ) (o : Option A) → get_or xs k None ≡ o → slice_set xs k o ≡ xs
+  set-same xs k o e = ap (slice_set xs k) (sym e) ∙ set-get_or xs k None
+
+  -- the publisher is written back as it was
+  pub unchanged : record f { publishers = slice_set f.publishers i (Some z) } ≡ before
+  unchanged = ap (λ (xs : List (Option PublisherFields)). record f { publishers = xs }) (set-same f.publishers i (Some z) (at ∙ ap Some view)) ∙ same
+
+  -- so are its contents and its book
+  pub unchanged-slots : (book book' : Book) (cs cs' : List (ContentState T U)) → get f.books x.book ≡ Some book → book' ≡ book → (o : Option (List (ContentState T U))) → o ≡ get_or f.contents x.book o → o ≡ Some cs
+      → cs' ≡ cs → record f { books = with_value f.books x.book book'; contents = slice_set f.contents x.book (Some cs'); publishers = slice_set f.publishers i (Some z) } ≡ before
+  unchanged-slots book book' cs cs' its is o read there is_cs =
+      (λ t. record f { books = record f.books { slots = slots t }; contents = contents t; publishers = set-same f.publishers i (Some z) (at ∙ ap Some view) t }) ∙ same
+    where
+      slots : slice_set f.books.slots x.book (Some book') ≡ f.books.slots
+      slots = set-same f.books.slots x.book (Some book') (its ∙ ap Some (sym is))
+
+      stood : get_or f.contents x.book None ≡ Some cs
+      stood =
+          let found = contents-of f sound i x at book its in
+          read-there f.contents x.book found.0 o found.1 read ∙ there
+
+      contents : slice_set f.contents x.book (Some cs') ≡ f.contents
+      contents = set-same f.contents x.book (Some cs') (stood ∙ ap Some (sym is_cs))
+
+  -- ---- the publisher has a further segment
+
+  pub grew : (x0 : PublisherFields) → get_or before.publishers i None ≡ Some x0 → (start longest : ℕ) (book book' : Book) (cs cs' : List (ContentState T U)) (units : ℕ) (in_lists : Bool)
+      → get f.books x.book ≡ Some book → book' ≡ with_more_slots z.slots book → (o : Option (List (ContentState T U))) → o ≡ get_or f.contents x.book o → o ≡ Some cs
+      → GrowsContents book z.slots units in_lists cs cs' → units ≡ max 1 longest * (f.config).units_per_element → in_lists ≡ not (is_single_valued f.config)
+      → start ≡ length book.holders → segment_fits f.config z.slots longest ≡ true → z.segment_length ≤ longest
+      → Grows before i x0 longest (record f { books = with_value f.books x.book book'; contents = slice_set f.contents x.book (Some cs'); publishers = slice_set f.publishers i (Some (with_segment start longest z)) })
+  grew x0 at0 start longest book book' cs cs' units in_lists its is o read there grows units-are lists first fits longer =
+      subst (λ (y : PublisherFields). Grows before i y longest new) its-is (subst (λ (h : Fields T U). Grows h i x longest new) same here)
+    where
+      new : Fields T U
+      new = record f { books = with_value f.books x.book book'; contents = slice_set f.contents x.book (Some cs'); publishers = slice_set f.publishers i (Some (with_segment start longest z)) }
+
+      its-is : x ≡ x0
+      its-is = let found : Some x ≡ Some x0 = sym at ∙ ap (λ (h : Fields T U). get_or h.publishers i None) same ∙ at0 in cc
+
+      stood : get_or f.contents x.book None ≡ Some cs
+      stood =
+          let found = contents-of f sound i x at book its in
+          read-there f.contents x.book found.0 o found.1 read ∙ there
+
+      here : Grows f i x longest new
+      here = record {
+        book = book;
+        stood = its;
+        contents = cs;
+        had = stood;
+        grown = cs';
+        grows = subst (λ (y : PublisherFields). GrowsContents book y.slots (slot_length longest * (f.config).units_per_element) (not (is_single_valued f.config)) cs cs') (sym view)
+            (subst (λ (b : Bool). GrowsContents book z.slots (slot_length longest * (f.config).units_per_element) b cs cs') lists
+            (subst (λ (n : ℕ). GrowsContents book z.slots n in_lists cs cs') units-are grows));
+        fits = subst (λ (y : PublisherFields). segment_fits f.config y.slots longest ≡ true) (sym view) fits;
+        longer = subst (λ (y : PublisherFields). y.segment_length ≤ longest) (sym view) longer;
+        is = λ t. record f {
+          books = with_value f.books x.book (book-is t);
+          contents = slice_set f.contents x.book (Some cs');
+          publishers = slice_set f.publishers i (Some (with_segment (first t) longest (sym view t)));
+        };
+      } where
+        book-is : book' ≡ with_more_slots x.slots book
+        book-is = is ∙ ap (λ (y : PublisherFields). with_more_slots y.slots book) (sym view)

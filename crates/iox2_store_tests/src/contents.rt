@@ -4,6 +4,7 @@ ghost use Rattle.iox2_contents.specs.SlotContents.{SomeAt};
 use iox2_contents::Contents;
 use std::alloc::Global;
 use std::process::Abort;
+use std::rc::Rc;
 
 /// A payload that is neither `Copy` nor `Clone`.
 #[derive(Drop)]
@@ -187,4 +188,19 @@ fn cells_are_taken_only_once_each_is_written(rt: HostRuntime) {
     drop(contents);
     assert!(rt; !is_written && kept == [Some(false), Some(true)]);
     assert!(rt; is_written_later && values == [Some(20), Some(21)]);
+}
+
+#[test]
+fn what_lay_in_a_cleared_slot_is_dropped(rt: HostRuntime) {
+    let shared = Rc::new(rt.alloc(), 21_u8).expect(&rt, "a value");
+    let mut contents: Contents<Rc<u8>, Station> = Contents::new(rt.alloc(), 1, 1, false).expect(
+        &rt, "room",
+    );
+    contents.start(0, 1);
+    contents.write_payload(0, shared.clone().expect(&rt, "a share"));
+    let held = Rc::strong_count(&shared);
+    contents.clear(rt.alloc(), 0);
+    let left = Rc::strong_count(&shared);
+    drop(contents);
+    assert!(rt; held == 2 && left == 1);
 }

@@ -63,3 +63,39 @@ fn a_slot_is_held_and_released(rt: HostRuntime) {
     assert!(rt; holders == 2 && [first, last, unused, used] == [false, true, true, false]);
     assert!(rt; again == Some(slot));
 }
+
+// The slots that a book lends from one on, one after the other, until it has none.
+fn lent_from(book: &mut SlotBook, start: usize) -> [Option<usize>; 4] {
+    [
+        book.take_from(start, 11, 1),
+        book.take_from(start, 12, 1),
+        book.take_from(start, 13, 1),
+        book.take_from(start, 14, 1),
+    ]
+}
+
+#[test]
+fn a_book_that_grew_lends_the_slots_behind_its_own(rt: HostRuntime) {
+    let mut book = book(&rt, rt.alloc(), 2).grown(rt.alloc(), 3).expect(&rt, "more slots");
+    let was_full = book.is_full_from(2);
+    let lent = lent_from(&mut book, 2);
+    let is_full = [book.is_full_from(2), book.is_full_from(0), book.is_full()];
+    let older = book.take_from(0, 15, 1);
+    drop(book);
+    assert!(rt; !was_full && is_full == [true, false, false] && lent[3] == None);
+    assert!(rt; lent[0] >= Some(2) && lent[1] >= Some(2) && lent[2] >= Some(2) && older < Some(2));
+}
+
+#[test]
+fn an_older_slot_that_was_released_is_lent_no_more(rt: HostRuntime) {
+    let mut book = book(&rt, rt.alloc(), 1);
+    let older = book.take(5, 1).expect(&rt, "a free slot");
+    let mut book = book.grown(rt.alloc(), 1).expect(&rt, "more slots");
+    let kept = [book.number(older) == 5, book.holders(older) == 1];
+    let is_last = book.release(older);
+    let lent = book.take_from(1, 6, 1);
+    let none = book.take_from(1, 7, 1);
+    let all = [book.len() == 2, book.is_unused()];
+    drop(book);
+    assert!(rt; kept == [true, true] && is_last && lent == Some(1) && none == None && all == [true, false]);
+}
