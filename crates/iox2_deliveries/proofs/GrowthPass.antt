@@ -32,13 +32,33 @@ module _ {T U : Type 0} (before f : Fields T U) (same : f ≡ before) (agrees : 
   pub growth-within : x.book < length f.contents
   growth-within = contents-within f sound i x at
 
+  is-given : (x0 : PublisherFields) → get_or before.publishers i None ≡ Some x0 → x ≡ x0
+  is-given x0 at0 = let found : Some x ≡ Some x0 = sym at ∙ ap (λ (h : Fields T U). get_or h.publishers i None) same ∙ at0 in cc
+
+  -- all segments were made, or some are left
+  pub all-made : (x0 : PublisherFields) → get_or before.publishers i None ≡ Some x0 → segment_limit ≤ z.segments → x0.segments ≡ segment_limit
+  all-made x0 at0 many =
+      subst (λ (y : PublisherFields). y.segments ≡ segment_limit) (sym view ∙ is-given x0 at0) (let most = segments-bound in omega (arith, most, many))
+
+  pub some-left : (x0 : PublisherFields) → get_or before.publishers i None ≡ Some x0 → z.segments < segment_limit → x0.segments < segment_limit
+  some-left x0 at0 fewer = subst (λ (y : PublisherFields). y.segments < segment_limit) (sym view ∙ is-given x0 at0) fewer
+
+  -- it has contents
+  pub growth-some : (o : Option (List (ContentState T U))) → o ≡ get_or f.contents x.book o → o ≡ None → ⊥
+  growth-some o read none =
+      let has = sound.parts.books.publishers i x at in
+      let found = contents-of f sound i x at has.book has.stands in
+      let clash : Some found.0 ≡ None = sym found.1 ∙ read-there f.contents x.book found.0 o found.1 read ∙ none in
+      absurd cc
+
   module _ (book : Book) (its : get f.books x.book ≡ Some book) where
     -- there are contents for each slot
-    pub growth-shaped : (o : Option (List (ContentState T U))) → o ≡ get_or f.contents x.book o → IsSomeAnd o (λ cs. length cs ≡ length book.holders)
-    growth-shaped o read =
+    pub growth-shaped : (o : Option (List (ContentState T U))) → o ≡ get_or f.contents x.book o → (cs : List (ContentState T U)) → o ≡ Some cs → length cs ≡ length book.holders
+    growth-shaped o read cs there =
         let found = contents-of f sound i x at book its in
-        let is : get_or f.contents x.book None ≡ o = read-there f.contents x.book found.0 o found.1 read in
-        subst (λ (o : Option (List (ContentState T U))). IsSomeAnd o (λ cs. length cs ≡ length book.holders)) (sym found.1 ∙ is) found.2
+        let same : Some found.0 ≡ Some cs = sym found.1 ∙ read-there f.contents x.book found.0 o found.1 read ∙ there in
+        let is : found.0 ≡ cs = cc in
+        ap (length {A = ContentState T U}) (sym is) ∙ found.2
 
   -- so many elements fit a machine word
   pub growth-fits : (longest most : ℕ) → segment_fits f.config z.slots longest ≡ true → ((y : PublisherFields) × (get_or before.publishers i None ≡ Some y) × (0 < y.slots)) → most ≡ max 1 longest
@@ -58,38 +78,18 @@ module _ {T U : Type 0} (before f : Fields T U) (same : f ≡ before) (agrees : 
   pub unchanged : record f { publishers = slice_set f.publishers i (Some z) } ≡ before
   unchanged = ap (λ (xs : List (Option PublisherFields)). record f { publishers = xs }) (set-same f.publishers i (Some z) (at ∙ ap Some view)) ∙ same
 
-  -- so are its contents and its book
-  pub unchanged-slots : (book book' : Book) (cs cs' : List (ContentState T U)) → get f.books x.book ≡ Some book → book' ≡ book → (o : Option (List (ContentState T U))) → o ≡ get_or f.contents x.book o → o ≡ Some cs
-      → cs' ≡ cs → record f { books = with_value f.books x.book book'; contents = slice_set f.contents x.book (Some cs'); publishers = slice_set f.publishers i (Some z) } ≡ before
-  unchanged-slots book book' cs cs' its is o read there is_cs =
-      (λ t. record f { books = record f.books { slots = slots t }; contents = contents t; publishers = set-same f.publishers i (Some z) (at ∙ ap Some view) t }) ∙ same
-    where
-      slots : slice_set f.books.slots x.book (Some book') ≡ f.books.slots
-      slots = set-same f.books.slots x.book (Some book') (its ∙ ap Some (sym is))
-
-      stood : get_or f.contents x.book None ≡ Some cs
-      stood =
-          let found = contents-of f sound i x at book its in
-          read-there f.contents x.book found.0 o found.1 read ∙ there
-
-      contents : slice_set f.contents x.book (Some cs') ≡ f.contents
-      contents = set-same f.contents x.book (Some cs') (stood ∙ ap Some (sym is_cs))
-
   -- ---- the publisher has a further segment
 
   pub grew : (x0 : PublisherFields) → get_or before.publishers i None ≡ Some x0 → (start longest : ℕ) (book book' : Book) (cs cs' : List (ContentState T U)) (units : ℕ) (in_lists : Bool)
-      → get f.books x.book ≡ Some book → book' ≡ with_more_slots z.slots book → (o : Option (List (ContentState T U))) → o ≡ get_or f.contents x.book o → o ≡ Some cs
-      → GrowsContents book z.slots units in_lists cs cs' → units ≡ max 1 longest * (f.config).units_per_element → in_lists ≡ not (is_single_valued f.config)
+      → get f.books x.book ≡ Some book → book' ≡ with_more_slots x.slots book → (o : Option (List (ContentState T U))) → o ≡ get_or f.contents x.book o → o ≡ Some cs
+      → GrowsContents book x.slots units in_lists cs cs' → units ≡ max 1 longest * (f.config).units_per_element → in_lists ≡ not (is_single_valued f.config)
       → start ≡ length book.holders → segment_fits f.config z.slots longest ≡ true → z.segment_length ≤ longest
-      → Grows before i x0 longest (record f { books = with_value f.books x.book book'; contents = slice_set f.contents x.book (Some cs'); publishers = slice_set f.publishers i (Some (with_segment start longest z)) })
+      → Grows before i x0 longest (record f { books = with_value f.books x.book book'; contents = slice_set f.contents x.book (Some cs'); publishers = slice_set f.publishers i (Some (with_segment start longest x)) })
   grew x0 at0 start longest book book' cs cs' units in_lists its is o read there grows units-are lists first fits longer =
-      subst (λ (y : PublisherFields). Grows before i y longest new) its-is (subst (λ (h : Fields T U). Grows h i x longest new) same here)
+      subst (λ (y : PublisherFields). Grows before i y longest new) (is-given x0 at0) (subst (λ (h : Fields T U). Grows h i x longest new) same here)
     where
       new : Fields T U
-      new = record f { books = with_value f.books x.book book'; contents = slice_set f.contents x.book (Some cs'); publishers = slice_set f.publishers i (Some (with_segment start longest z)) }
-
-      its-is : x ≡ x0
-      its-is = let found : Some x ≡ Some x0 = sym at ∙ ap (λ (h : Fields T U). get_or h.publishers i None) same ∙ at0 in cc
+      new = record f { books = with_value f.books x.book book'; contents = slice_set f.contents x.book (Some cs'); publishers = slice_set f.publishers i (Some (with_segment start longest x)) }
 
       stood : get_or f.contents x.book None ≡ Some cs
       stood =
@@ -103,16 +103,13 @@ module _ {T U : Type 0} (before f : Fields T U) (same : f ≡ before) (agrees : 
         contents = cs;
         had = stood;
         grown = cs';
-        grows = subst (λ (y : PublisherFields). GrowsContents book y.slots (slot_length longest * (f.config).units_per_element) (not (is_single_valued f.config)) cs cs') (sym view)
-            (subst (λ (b : Bool). GrowsContents book z.slots (slot_length longest * (f.config).units_per_element) b cs cs') lists
-            (subst (λ (n : ℕ). GrowsContents book z.slots n in_lists cs cs') units-are grows));
+        grows = subst (λ (b : Bool). GrowsContents book x.slots (slot_length longest * (f.config).units_per_element) b cs cs') lists
+            (subst (λ (n : ℕ). GrowsContents book x.slots n in_lists cs cs') units-are grows);
         fits = subst (λ (y : PublisherFields). segment_fits f.config y.slots longest ≡ true) (sym view) fits;
         longer = subst (λ (y : PublisherFields). y.segment_length ≤ longest) (sym view) longer;
         is = λ t. record f {
-          books = with_value f.books x.book (book-is t);
+          books = with_value f.books x.book (is t);
           contents = slice_set f.contents x.book (Some cs');
-          publishers = slice_set f.publishers i (Some (with_segment (first t) longest (sym view t)));
+          publishers = slice_set f.publishers i (Some (with_segment (first t) longest x));
         };
-      } where
-        book-is : book' ≡ with_more_slots x.slots book
-        book-is = is ∙ ap (λ (y : PublisherFields). with_more_slots y.slots book) (sym view)
+      }

@@ -2,4 +2,5 @@ mod LoanPass
 mod ClearedSlots
 mod LendPass
 mod GrowthPass
+mod GrowingPass
 pub mod SentEnds

@@ -104,6 +104,7 @@ fn lend<T: Drop, U: Default + Drop>(
     let Some(publisher) = &mut state.publishers[place] else {
         unreachable!();
     };
+    let publisher_id = publisher.id;
     let key = publisher.book;
     let book = &mut state.books[key];
     let number = state.next_message;
@@ -119,7 +120,7 @@ fn lend<T: Drop, U: Default + Drop>(
     publisher.segments = segments;
     publisher.lend(slot, len);
     LoanAt {
-        publisher: publisher.id,
+        publisher: publisher_id,
         number,
         place,
         book: key,
