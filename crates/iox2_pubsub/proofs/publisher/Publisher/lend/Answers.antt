@@ -33,8 +33,9 @@ returns-clause-lends g c = λ m s shown.
 
 pub returns-in_err-loan-clause-granted : goal.returns-in_err-loan-clause-granted
 returns-in_err-loan-clause-granted g c = λ loans numbers left numbered short.
+    let variant = ap (λ (k : Kept g.row.T.Denot g.row.U.Denot g.row.F.Denot g.row.G.Denot). (k.config).variant) c.domain.view_is in
     absurd (sure-granted {T = g.row.T.Denot} {U = g.row.U.Denot} g.U.Default.is_default c.args.checks_length c.args.len c.domain.inside.state c.loan.new.state c.domain.invariant c.args.self.now.place c.args.self.now
-    short (loan-requires-clause-unchecked g c) (loan-requires-clause-single g c) (publisher-at-place {T = g.row.T.Denot} {U = g.row.U.Denot} c.domain.inside.state c.domain.invariant c.args.domain.now c.domain.view_is c.args.self.now c.requires.ready) c.loan.result c.loan.ensures.reaches c.in_err-loan.field-0.0 c.in_err-loan.was c.args.domain.now c.domain.view_is
+    short (λ unchecked. variant ∙ c.requires.unchecked unchecked) (λ fixed. c.requires.single (sym variant ∙ fixed)) (publisher-at-place {T = g.row.T.Denot} {U = g.row.U.Denot} c.domain.inside.state c.domain.invariant c.args.domain.now c.domain.view_is c.args.self.now c.requires.ready) c.loan.result c.loan.ensures.reaches c.in_err-loan.field-0.0 c.in_err-loan.was c.args.domain.now c.domain.view_is
     (sure-of-loan {T = g.row.T.Denot} {U = g.row.U.Denot} c.args.domain.now c.args.self.now loans numbers left numbered))
 
 pub returns-clause-out : goal.returns-clause-out
