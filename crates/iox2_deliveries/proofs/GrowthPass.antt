@@ -1,17 +1,16 @@
 -- A publisher makes a further segment.
-use Rattle.std.proofs.Common.{◌≡◌, Bool, true, ◌<◌, ◌≤◌, ℕ, ◌+◌, ◌*◌, ◌^◌, List, None, Some, length, get_or, slice_set, refl, ap, sym, subst, ◌∙◌, inl, inr, ◌⊎◌, arith}
+use Rattle.std.proofs.Common.{◌≡◌, Bool, true, ◌<◌, ◌≤◌, ℕ, ◌*◌, ◌^◌, List, None, Some, length, get_or, slice_set, ap, sym, subst, ◌∙◌, arith}
 use Rattle.std.proofs.lemmas.List.{set-get_or}
 use Rattle.std.specs.declared.option.Option.{Option}
-use Rattle.std.specs.Prelude.{IsSomeAnd, max, not}
-use Rattle.slab.specs.Slab.{Slab, get, with_value}
+use Rattle.std.specs.Prelude.{max, not}
+use Rattle.slab.specs.Slab.{get, with_value}
 use Rattle.iox2_contents.specs.SlotContents.{ContentState}
 use Rattle.iox2_slots.specs.SlotBook.{Book, with_more_slots}
 use Rattle.iox2_store.specs.SingleValues.{is_single_valued}
 use Rattle.iox2_store.specs.machine.Limits.{segment_fits, segment_limit}
-use Rattle.iox2_domain.specs.Fields.{Fields, kept_of, publisher_of}
+use Rattle.iox2_domain.specs.Fields.{Fields, publisher_of}
 use Rattle.iox2_domain.specs.Growth.{Grows, GrowsContents, with_segment}
 use Rattle.iox2_domain.specs.Invariant.{IsDomain}
-use Rattle.iox2_domain.specs.Kept.{state_of}
 use Rattle.iox2_domain.specs.Ports.{PublisherFields, slot_length}
 use Rattle.iox2_domain.proofs.lemmas.fields.ConnectionEnds.{publisher-stands}
 use Rattle.iox2_domain.proofs.lemmas.loans.LendingSteps.{contents-of, contents-within}

@@ -4,7 +4,7 @@ use Rattle.std.proofs.Math.Nat.{le-max_right}
 use Rattle.std.specs.declared.option.Option.{Option}
 use Rattle.std.specs.Option.{option_map}
 use Rattle.std.specs.Prelude.{IsSomeAnd}
-use Rattle.slab.specs.Slab.{Slab, get, with_value}
+use Rattle.slab.specs.Slab.{get, with_value}
 use Rattle.iox2_contents.specs.SlotContents.{ContentState, SomeAt}
 use Rattle.iox2_slots.specs.SlotBook.{Book, TakesFreeSlot, header_in}
 use Rattle.iox2_domain.specs.Fields.{Fields}
@@ -12,7 +12,6 @@ use Rattle.iox2_domain.specs.Growth.{HasFreeSlot}
 use Rattle.iox2_domain.specs.Invariant.{IsDomain}
 use Rattle.iox2_domain.specs.Lending.{IsNamed, Lends, Starts, lending}
 use Rattle.iox2_domain.specs.Ports.{PublisherFields, slot_length}
-use Rattle.iox2_domain.specs.declared.loan_slots.LoanAt.{LoanAt}
 use Rattle.iox2_domain.proofs.lemmas.loans.LendingSteps.{contents-within, lends-from, lends-seen, lent-fits, length-fits, named-seen}
 
 -- The publisher that stands at the place has fewer loans out than it may have, and a free slot.

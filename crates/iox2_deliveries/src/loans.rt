@@ -15,7 +15,11 @@ use iox2_domain::{DomainState, LoanAt, PublisherState, units_of};
 use iox2_store::{AllocationStrategy, LoanError};
 
 // In the slot starts a loan of that length.
-pub(crate) fn start<T: Drop, U: Default + Drop>(contents: &mut Option<Contents<T, U>>, slot: usize, len: usize)
+pub(crate) fn start<T: Drop, U: Default + Drop>(
+    contents: &mut Option<Contents<T, U>>,
+    slot: usize,
+    len: usize,
+)
     requires { IsSomeAnd contents.old (λ cs. SomeAt cs slot (λ content. len ≤ content.room)) }
     ensures { Starts U.is_default contents.old contents.new slot len }
 {

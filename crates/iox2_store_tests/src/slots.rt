@@ -76,7 +76,9 @@ fn lent_from(book: &mut SlotBook, start: usize) -> [Option<usize>; 4] {
 
 #[test]
 fn a_book_that_grew_lends_the_slots_behind_its_own(rt: HostRuntime) {
-    let mut book = book(&rt, rt.alloc(), 2).grown(rt.alloc(), 3).expect(&rt, "more slots");
+    let mut book = book(&rt, rt.alloc(), 2)
+        .grown(rt.alloc(), 3)
+        .expect(&rt, "more slots");
     let was_full = book.is_full_from(2);
     let lent = lent_from(&mut book, 2);
     let is_full = [book.is_full_from(2), book.is_full_from(0), book.is_full()];
@@ -97,5 +99,7 @@ fn an_older_slot_that_was_released_is_lent_no_more(rt: HostRuntime) {
     let none = book.take_from(1, 7, 1);
     let all = [book.len() == 2, book.is_unused()];
     drop(book);
-    assert!(rt; kept == [true, true] && is_last && lent == Some(1) && none == None && all == [true, false]);
+    assert!(rt;
+        kept == [true, true] && is_last && lent == Some(1) && none == None && all == [true, false]
+    );
 }

@@ -1,4 +1,4 @@
-use Rattle.std.proofs.Common.{◌≡◌, slice_index_or, None, Some, sym, subst, ap, ◌∙◌}
+use Rattle.std.proofs.Common.{slice_index_or, None, Some, sym, subst, ap, ◌∙◌}
 use Rattle.iox2_domain.specs.Fields.{Fields}
 use Rattle.iox2_domain.specs.Invariant.{IsDomain}
 use Rattle.iox2_domain.proofs.lemmas.slots.PublisherBooks.{read-there, book-there}

@@ -1,4 +1,4 @@
-use Rattle.std.proofs.Common.{rules, ◌≡◌, ◌*◌, ℕ, vec_len, length, slice_index_or, None, Some, not, refl, sym, subst, ap, ◌∙◌, inr, arith}
+use Rattle.std.proofs.Common.{rules, ◌≡◌, ◌*◌, ℕ, vec_len, length, slice_index_or, None, Some, not, refl, sym, subst, ap, ◌∙◌, inr}
 use Rattle.std.proofs.Math.Nat.{max_comm}
 use Rattle.iox2_domain.specs.Fields.{Fields}
 use Rattle.iox2_domain.specs.Invariant.{IsDomain}
