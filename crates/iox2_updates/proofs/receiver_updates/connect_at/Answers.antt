@@ -27,3 +27,11 @@ returns-in-None g c = λ y at.
     let none = key-of old.subscribers c.args.subscriber_place c.args.publisher_place y None at
     (ap (λ xs. receiver_key xs c.args.subscriber_place c.args.publisher_place) (sym subscribers) ∙ sym c.key_at.ensures ∙ c.in-None.is) in
     makes-end (answers_of g.F.BackpressureFn.allows g.G.DegradationFn.allows c.args.boxes.now.boxes) old c.requires.agrees c.args.subscriber_place c.args.publisher_place y at x.0 x.1 none c.connect_end.new.state c.connect_end.result (c.connect_end.ensures x.0 y x.1 at)
+
+pub connect_end-requires-clause-publisher : goal.connect_end-requires-clause-publisher
+connect_end-requires-clause-publisher g c =
+    let old = c.args.state.now in
+    let same = c.deref.ensures.value ∙ ap (λ (f : Fields g.row.T.Denot g.row.U.Denot). f.publishers) c.state.view_is in
+    let x = its-id (get_or old.publishers c.args.publisher_place None) c.in-Some.publisher
+    (ap (λ xs. option_map (λ (z : PublisherFields). z.id) (get_or xs c.args.publisher_place None)) (sym same) ∙ sym c.publisher_at.ensures ∙ c.in-Some.is) in
+    (x.0, x.1)
