@@ -1,4 +1,6 @@
 pub mod SlotCalls
+pub mod RoomLists
+pub mod RoomLends
 pub mod SlotElements
 pub mod ElementLends
 pub mod SlotPayload

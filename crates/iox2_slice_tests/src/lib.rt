@@ -12,3 +12,5 @@ mod fixtures;
 mod overrides;
 #[cfg(test)]
 mod slices;
+#[cfg(test)]
+mod unspecified;
