@@ -6,5 +6,6 @@ pub mod ElementLends
 pub mod SlotPayload
 pub mod PayloadLends
 pub mod SlotContents
+pub mod SlotRooms
 pub mod ContentLends
 pub mod ContentsLends

@@ -1,5 +1,5 @@
 -- What contracts see of the contents of a publisher's slots.
-use Rattle.std.specs.Prelude.{◌≡◌, ◌≤◌, ℕ, Bool, false, List, [], length, map, replicate, slice_get, slice_set, is_some, IsSomeAnd}
+use Rattle.std.specs.Prelude.{◌≡◌, ℕ, Bool, List, [], length, map, replicate, slice_get, slice_set, is_some, IsSomeAnd}
 use Rattle.std.specs.Bool.{MatchBool}
 use Rattle.std.specs.List.{list_all, refill}
 use Rattle.std.specs.declared.option.Option.{Option}
@@ -18,10 +18,6 @@ pub record ContentState (T U : Type 0) : Type 0 where
 -- The list with f of the element at index i in its place.
 abbrev pub with_changed : {A : Type 0} → List A → (i : ℕ) → (A → A) → List A
 with_changed xs i f = option_map_or (λ x. slice_set xs i (f x)) (slice_get xs i) xs
-
--- A slot whose elements lie in lists has room for at most so many.
-abbrev pub RoomIsAtMost : {T U : Type 0} → (most : ℕ) → ContentState T U → Type 0
-RoomIsAtMost most content = content.is_in_place ≡ false → content.room ≤ most
 
 -- There is such a slot, and P holds of its content.
 abbrev pub SomeAt : {A : Type 0} → List A → (slot : ℕ) → (A → Type 0) → Type 0

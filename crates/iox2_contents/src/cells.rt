@@ -109,7 +109,8 @@ impl<T> Cells<T> {
         ensures* writes_back { sem 𝓛 (LendsCell T.row self.entry result) }
         ensures value { slice_get self.old.items 0 ≡ Some result.now }
     {
-        self.list();
+        push_unwritten(&mut self.listed, self.unlisted);
+        self.unlisted = 0;
         &mut self.listed[0]
     }
 
@@ -118,16 +119,9 @@ impl<T> Cells<T> {
         ensures* writes_back { sem 𝓛 (LendsCells T.row self.entry result) }
         ensures value { result.now ≡ self.old.items }
     {
-        self.list();
-        self.listed.as_mut_slice()
-    }
-
-    // Lists the cells.
-    fn list(&mut self)
-        ensures { self.new ≡ self.old }
-    {
         push_unwritten(&mut self.listed, self.unlisted);
         self.unlisted = 0;
+        self.listed.as_mut_slice()
     }
 }
 

@@ -44,6 +44,7 @@ impl<T: Drop, U: Default + Drop> Content<T, U> {
         ensures values { IfOk result (λ content. content.values ≡ []) }
         ensures room { IfOk result (λ content. content.room ≡ room) }
         ensures in_lists { IfOk result (λ content. in_lists ≡ true → content.is_in_place ≡ false) }
+        ensures in_place { IfOk result (λ content. content.is_in_place ≡ false → room ≡ 1 → in_lists ≡ true) }
     {
         let payload = Payload::new(alloc, room, in_lists)?;
         Ok(Content {

@@ -25,7 +25,8 @@ pub struct Contents<T, U> {
 impl<T, U> Model for Contents<T, U> {
     ghost use Rattle.std.specs.Prelude.{◌≡◌, List, None, length, replicate};
     ghost use Rattle.std.specs.List.{All};
-    ghost use Rattle.iox2_contents.specs.SlotContents.{ContentState, RoomIsAtMost};
+    ghost use Rattle.iox2_contents.specs.SlotContents.{ContentState};
+    ghost use Rattle.iox2_contents.specs.SlotRooms.{RoomIsAtMost};
 
     ghost Value = { List (ContentState T U) };
 

@@ -29,6 +29,7 @@ impl<T: Drop> Payload<T> {
         ensures values { IfOk result (λ payload. values_of payload ≡ []) }
         ensures room { IfOk result (λ payload. room_of payload ≡ room) }
         ensures in_lists { IfOk result (λ payload. in_lists ≡ true → is_in_place payload ≡ false) }
+        ensures in_place { IfOk result (λ payload. is_in_place payload ≡ false → room ≡ 1 → in_lists ≡ true) }
     {
         if room == 1 && !in_lists {
             return Ok(Payload::Empty);
