@@ -10,8 +10,7 @@ ghost use Rattle.iox2_c.specs.Numbers.{named_loan, named_publisher, wide};
 ghost use Rattle.iox2_c.specs.Settings.{AreOptions, ReadsSettings, plain_publisher_settings, publisher_settings};
 ghost use Rattle.iox2_c.specs.Steps.{ClosesPublisher, CreatesPublisher, Lends, LendsUninit};
 
-use crate::calls::publishers;
-use crate::calls::uninit_loans;
+use crate::calls::{publishers, uninit_loans};
 use crate::domain_box::DomainBox;
 use crate::numbers::{LoanNumbers, PublisherNumbers};
 use crate::options::PublisherOptions;

@@ -29,10 +29,7 @@ impl SampleMutUninit {
         U: Default + Drop,
         F: BackpressureFn,
         G: DegradationFn,
-    >(
-        self,
-        domain: &mut Domain<T, U, F, G>,
-    ) -> SampleMut
+    >(self, domain: &mut Domain<T, U, F, G>) -> SampleMut
         requires live { IsUnwritten domain.old (as_unwritten self) }
         requires sliced { IsSliced domain.old }
         ensures written { (values : List T) × HasValues domain.new (written_number (as_written result)) values
