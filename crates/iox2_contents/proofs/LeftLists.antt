@@ -38,7 +38,7 @@ pub shown-each : {A : Type 0} (u n cap : ℕ) (xs ws : List A) (list : RoomList 
 shown-each u n cap xs ws list within long same room over is =
     let fits : u ≤ length xs = omega (arith, within, long) in
     let first : take u (take n (over ++ drop (length over) xs)) ≡ take u over =
-        take-take u n (over ++ drop (length over) xs) within ∙ take-append-le u over (drop (length over) xs) (rw is (long-enough ws xs u fits)) in
+    take-take u n (over ++ drop (length over) xs) within ∙ take-append-le u over (drop (length over) xs) (rw is (long-enough ws xs u fits)) in
     let items : take u over ≡ take u (ws ++ drop (length ws) list.items) = ap (take u) is ∙ take-refill u ws xs ∙ ap (λ ys. take u (ws ++ drop (length ws) ys)) same in
     let count : u ≡ length list.items = sym (length-take-le u xs fits) ∙ ap length same in
     rw (first, items, ← count, room) refl

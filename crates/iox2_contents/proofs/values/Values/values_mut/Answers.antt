@@ -1,4 +1,4 @@
-use Rattle.std.proofs.Common.{◌≡◌, ◌≤◌, ◌-◌, ◌∙◌, refl, ap, arith, length, take, vec_capacity, vec_len}
+use Rattle.std.proofs.Common.{◌≡◌, ◌≤◌, ◌-◌, ◌∙◌, refl, ap, arith, take, vec_capacity, vec_len}
 use Rattle.iox2_contents.proofs.LeftLists.{shown-each}
 use Rattle.iox2_contents.proofs.values.Values.values_mut.Goals as goal
 
