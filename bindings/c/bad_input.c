@@ -45,6 +45,7 @@ static void publisher_is_refused(iox2_domain_t *domain, const iox2_publisher_t *
   REFUSED(iox2_publisher_update_connections(domain, publisher), code);
   REFUSED(iox2_publisher_loan(domain, publisher, 8, &outs.loan, &outs.written), code);
   REFUSED(iox2_publisher_loan(domain, publisher, SIZE_MAX, &outs.loan, &outs.written), code);
+  REFUSED(iox2_publisher_loan_uninit(domain, publisher, 8, &outs.loan, &outs.written), code);
   REFUSED(iox2_publisher_send_copy(domain, publisher, untouched.bytes, 8, &outs.count, &outs.blocked), code);
 }
 
@@ -283,6 +284,7 @@ static void a_publisher_is_blocked(void) {
   REFUSED(iox2_publisher_close(&world.domain, waiting), IOX2_PUBLISHER_IS_BLOCKED);
   REFUSED(iox2_publisher_update_connections(&world.domain, waiting), IOX2_PUBLISHER_IS_BLOCKED);
   REFUSED(iox2_publisher_loan(&world.domain, waiting, 8, &outs.loan, &outs.written), IOX2_PUBLISHER_IS_BLOCKED);
+  REFUSED(iox2_publisher_loan_uninit(&world.domain, waiting, 8, &outs.loan, &outs.written), IOX2_PUBLISHER_IS_BLOCKED);
   REFUSED(iox2_publisher_send_copy(&world.domain, waiting, untouched.bytes, 8, &outs.count, &outs.blocked),
           IOX2_PUBLISHER_IS_BLOCKED);
   /* It is no loan, though its numbers are those of one. */
@@ -381,6 +383,8 @@ static void lengths_are_at_their_limits(void) {
   IS(iox2_subscriber_create(&domain, &subscriber), IOX2_OK);
   for (int i = 0; i < 5; i++) {
     REFUSED(iox2_publisher_loan(&domain, &publisher, too_long[i], &outs.loan, &outs.written),
+            IOX2_LOAN_ERROR_EXCEEDS_MAX_LOAN_SIZE);
+    REFUSED(iox2_publisher_loan_uninit(&domain, &publisher, too_long[i], &outs.loan, &outs.written),
             IOX2_LOAN_ERROR_EXCEEDS_MAX_LOAN_SIZE);
   }
   void *longer = calloc(1, limit + 1);

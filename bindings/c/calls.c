@@ -99,6 +99,38 @@ static void a_message_is_written_and_read_where_it_lies(void) {
   IS(iox2_domain_destroy(&domain), IOX2_OK);
 }
 
+static void a_loan_may_have_unspecified_bytes(void) {
+  iox2_domain_t domain;
+  iox2_config_t config;
+  iox2_publisher_t publisher;
+  iox2_subscriber_t subscriber;
+  iox2_loan_t loan;
+  iox2_sample_t sample;
+  iox2_blocked_t blocked;
+  void *written, *again;
+  const void *read;
+  size_t receivers = 99, len = 99;
+  iox2_config_defaults(&config, 7, 24, 8);
+  create(&domain, &config);
+  IS(iox2_publisher_create(&domain, &publisher), IOX2_OK);
+  IS(iox2_subscriber_create(&domain, &subscriber), IOX2_OK);
+
+  IS(iox2_publisher_loan_uninit(&domain, &publisher, 16, &loan, &written), IOX2_OK);
+  CHECK((uintptr_t)written % 8 == 0 && loan.publisher.low == publisher.id.low);
+  IS(iox2_loan_payload(&domain, &loan, &again, &len), IOX2_OK);
+  CHECK(again == written && len == 16);
+  memcpy(written, "these 16 bytes.", 16);
+  IS(iox2_loan_discard(&domain, &loan), IOX2_OK);
+  IS(iox2_publisher_loan_uninit(&domain, &publisher, 24, &loan, &again), IOX2_OK);
+  CHECK(again == written && memcmp(again, "these 16 bytes.\0\0\0\0\0\0\0\0", 24) == 0);
+  memset(again, 3, 24);
+  IS(iox2_loan_send(&domain, &loan, &receivers, &blocked), IOX2_OK);
+  IS(iox2_subscriber_receive(&domain, &subscriber, &sample, &read, &len), IOX2_OK);
+  CHECK(receivers == 1 && read == written && len == 24 && are_all(read, 24, 3));
+  IS(iox2_sample_release(&domain, &sample), IOX2_OK);
+  IS(iox2_domain_destroy(&domain), IOX2_OK);
+}
+
 static void a_message_is_copied(void) {
   iox2_domain_t domain;
   iox2_config_t config;
@@ -533,6 +565,7 @@ static void slots_are_counted(void) {
 int main(void) {
   settings_are_read_back();
   a_message_is_written_and_read_where_it_lies();
+  a_loan_may_have_unspecified_bytes();
   a_message_is_copied();
   bytes_stay_where_they_are();
   each_message_has_bytes_of_its_own();

@@ -89,6 +89,10 @@ static void slices_have_the_length_of_their_loan() {
   CHECK(loan.size() == 3 && loan[0] == 0 && loan[2] == 0);
   loan[1] = 5;
   CHECK(loan.send()->delivered() == std::size_t(1));
+  auto unspecified = publisher.loan_slice_uninit(2).expect("a loan");
+  CHECK(unspecified.size() == 2);
+  unspecified[0] = unspecified[1] = 6;
+  unspecified.discard();
   std::uint16_t many[100];
   for (std::size_t i = 0; i < 100; i++) many[i] = std::uint16_t(i * i);
   CHECK(publisher.send_copy(many, 100)->delivered() == std::size_t(1));

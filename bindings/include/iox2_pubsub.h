@@ -288,6 +288,11 @@ uint32_t iox2_publisher_update_connections(iox2_domain_t *domain, const iox2_pub
 uint32_t iox2_publisher_loan(iox2_domain_t *domain, const iox2_publisher_t *publisher, size_t len,
                              iox2_loan_t *loan, void **payload);
 
+/* The same, but the bytes are unspecified: what earlier messages of this publisher left there, or 0. So it
+ * costs the same for any length that the memory was used for before. */
+uint32_t iox2_publisher_loan_uninit(iox2_domain_t *domain, const iox2_publisher_t *publisher, size_t len,
+                                    iox2_loan_t *loan, void **payload);
+
 /* Sends a copy of the bytes: a loan and its send in one call, which returns what either returns, and has
  * no loan left. */
 uint32_t iox2_publisher_send_copy(iox2_domain_t *domain, const iox2_publisher_t *publisher,

@@ -484,6 +484,16 @@ public:
     });
   }
 
+  /* Lends a message with an unspecified value: one that a message had before, or zeros. */
+  template <typename Q = P, std::enable_if_t<!detail::is_slice<Q>, int> = 0> Result<Loan<P>> loan_uninit() {
+    return lend(1, [](std::uint8_t *bytes) { return reinterpret_cast<Element *>(bytes); });
+  }
+
+  /* Lends a message of so many unspecified values. It costs the same for any length that was lent before. */
+  template <typename Q = P, std::enable_if_t<detail::is_slice<Q>, int> = 0> Result<Loan<P>> loan_slice_uninit(std::size_t len) {
+    return lend(len, [](std::uint8_t *bytes) { return reinterpret_cast<Element *>(bytes); });
+  }
+
   /* Sends a copy of the value. */
   template <typename Q = P, std::enable_if_t<!detail::is_slice<Q>, int> = 0> Result<Sent<P>> send_copy(const Element &value) {
     return send(loan(value));
@@ -521,7 +531,7 @@ private:
     if (!hold_) return Error::NotLive;
     iox2_loan_t loan;
     void *bytes = nullptr;
-    std::uint32_t code = iox2_publisher_loan(hold_.domain(), &port_, Config<P>::bytes(len), &loan, &bytes);
+    std::uint32_t code = iox2_publisher_loan_uninit(hold_.domain(), &port_, Config<P>::bytes(len), &loan, &bytes);
     if (code != IOX2_OK) return detail::error_of(code);
     return Loan<P>(hold_, loan, begin(static_cast<std::uint8_t *>(bytes)), len);
   }

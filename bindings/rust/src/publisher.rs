@@ -90,7 +90,13 @@ impl<P: Payload + ?Sized> Publisher<P> {
         let mut start = null_mut();
         // SAFETY: see `Shared::at`.
         let code = unsafe {
-            sys::iox2_publisher_loan(self.shared.at(), &self.port, bytes, &mut loan, &mut start)
+            sys::iox2_publisher_loan_uninit(
+                self.shared.at(),
+                &self.port,
+                bytes,
+                &mut loan,
+                &mut start,
+            )
         };
         match code {
             sys::OK => Ok(LoanUninit::new(self.shared.clone(), loan, start, bytes)),

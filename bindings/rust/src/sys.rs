@@ -214,6 +214,13 @@ extern "C" {
         loan: *mut Loan,
         payload: *mut *mut u8,
     ) -> u32;
+    pub fn iox2_publisher_loan_uninit(
+        domain: *mut Domain,
+        publisher: *const Publisher,
+        len: usize,
+        loan: *mut Loan,
+        payload: *mut *mut u8,
+    ) -> u32;
     pub fn iox2_publisher_send_copy(
         domain: *mut Domain,
         publisher: *const Publisher,

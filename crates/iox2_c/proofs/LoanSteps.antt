@@ -1,5 +1,7 @@
 -- What comes of a loan, by its code.
-use Rattle.std.proofs.Common.{◌≡◌, ◌<◌, ℕ, inl, inr, true, subst, sym, arith}
+use Rattle.std.proofs.Common.{◌≡◌, ◌<◌, ℕ, List, [], ◌∷◌, inl, inr, true, subst, sym, arith}
+use Rattle.std.specs.List.{All}
+use Rattle.std.proofs.lemmas.List.Elements.{All-nil, All-cons}
 use Rattle.std.specs.Prelude.{IfErr, IfOk}
 use Rattle.std.specs.declared.result.Result.{Result}
 use Rattle.std.specs.declared.result.Result.TheVariants.{Err, Ok}
@@ -14,7 +16,7 @@ use Rattle.iox2_pubsub.specs.declared.slice.sample_mut.SampleMut.{SampleMut}
 use Rattle.iox2_c.specs.Calls.{RefusesPublisher, loan_made}
 use Rattle.iox2_c.specs.Codes.{code_of, loan_code}
 use Rattle.iox2_c.specs.Numbers.{named_loan, named_publisher, wide}
-use Rattle.iox2_c.specs.Returns.{LoanReturns}
+use Rattle.iox2_c.specs.Returns.{Lending, LoanReturns}
 use Rattle.iox2_c.specs.Serving.{KeptBytes, Serving, ServesBut}
 use Rattle.iox2_c.specs.Steps.{BytesState, Lends}
 use Rattle.iox2_c.specs.declared.numbers.LoanNumbers.{LoanNumbers}
@@ -28,14 +30,19 @@ pub lent-told : (old new : KeptBytes) (id len : ℕ) (made : Result SampleMut Lo
 lent-told old new id len (Ok it) told = told
 lent-told old new id len (Err error) told = told
 
-module _ (numbers : PublisherNumbers) (len : ℕ) (old new : Serving) (before after : LoanNumbers) (code : ℕ) where
+-- bytes of which nothing is asked
+pub any-bytes : (bytes : List ℕ) → All (λ byte. Unit {0}) bytes
+any-bytes [] = All-nil (λ byte. Unit {0})
+any-bytes (byte ∷ bytes) = All-cons (λ byte. Unit {0}) byte bytes tt (any-bytes bytes)
+
+module _ (Lent : Lending) (numbers : PublisherNumbers) (len : ℕ) (old new : Serving) (before after : LoanNumbers) (code : ℕ) where
   -- the publisher was asked, in the domain that was opened and by its id
-  pub loan-asked : (inside : KeptBytes) (id : ℕ) (made : Result SampleMut LoanError) → inside ≡ old.domain → id ≡ wide numbers.id → Lends inside new.domain id len (loan_made made)
+  pub loan-asked : (inside : KeptBytes) (id : ℕ) (made : Result SampleMut LoanError) → inside ≡ old.domain → id ≡ wide numbers.id → Lent inside new.domain id len (loan_made made)
       → IfOk made (λ it. IsWritten new.domain (as_written it)) → IfOk made (λ it. IsNewIn inside (written_loan (as_written it))) → code ≡ code_of loan_code made
-      → IfOk made (λ it. named_loan after ≡ written_key (as_written it)) → IfErr made (λ _. after ≡ before) → ServesBut No_item old new → LoanReturns numbers len old new before after code
+      → IfOk made (λ it. named_loan after ≡ written_key (as_written it)) → IfErr made (λ _. after ≡ before) → ServesBut No_item old new → LoanReturns Lent numbers len old new before after code
   loan-asked inside id (Ok it) same by step written fresh zero named kept stays = record {
     never = λ one. absurd (omega (arith, zero, one));
-    lends = λ ok. moved (λ k p. Lends k new.domain p len (Ok tt)) inside old.domain id (wide numbers.id) same by step;
+    lends = λ ok. moved (λ k p. Lent k new.domain p len (Ok tt)) inside old.domain id (wide numbers.id) same by step;
     errors = λ high. absurd (omega (arith, zero, high));
     why = λ high low. absurd (omega (arith, zero, high));
     out = λ ok. record {
@@ -50,7 +57,7 @@ module _ (numbers : PublisherNumbers) (len : ℕ) (old new : Serving) (before af
       let high = loan-code-high error in record {
         never = λ one. absurd (omega (arith, is, high, one));
         lends = λ ok. absurd (omega (arith, is, high, ok));
-        errors = λ _. (error, is, moved (λ k p. Lends k new.domain p len (Err error)) inside old.domain id (wide numbers.id) same by step);
+        errors = λ _. (error, is, moved (λ k p. Lent k new.domain p len (Err error)) inside old.domain id (wide numbers.id) same by step);
         why = λ _ low. absurd (omega (arith, is, high, low));
         out = λ ok. absurd (omega (arith, is, high, ok));
         fresh = λ ok. absurd (omega (arith, is, high, ok));
@@ -59,7 +66,7 @@ module _ (numbers : PublisherNumbers) (len : ℕ) (old new : Serving) (before af
       }
 
   -- it wasn't asked, since it may not be
-  pub loan-refused : RefusesPublisher old.domain (named_publisher numbers) code → new ≡ old → after ≡ before → ServesBut No_item old new → LoanReturns numbers len old new before after code
+  pub loan-refused : RefusesPublisher old.domain (named_publisher numbers) code → new ≡ old → after ≡ before → ServesBut No_item old new → LoanReturns Lent numbers len old new before after code
   loan-refused refuses unchanged kept stays =
       let low : (1 < code) × (code < 10) = elim refuses [ inl gone ↦ (omega (arith, gone.0), omega (arith, gone.0)) | inr waits ↦ (omega (arith, waits.0), omega (arith, waits.0)) ] in
       let above = low.0 in

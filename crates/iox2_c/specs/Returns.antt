@@ -13,15 +13,20 @@ use Rattle.iox2_pubsub.specs.declared.send_outcome.SendOutcome.{SendOutcome}
 use Rattle.iox2_c.specs.Calls.{IsOut, RefusesPublisher, RefusesSend}
 use Rattle.iox2_c.specs.Codes.{loan_code, receive_code, receivers_of, sent_code}
 use Rattle.iox2_c.specs.Numbers.{named_loan, named_publisher, named_sample, named_subscriber, wide}
-use Rattle.iox2_c.specs.Serving.{Serving, ServesBut}
-use Rattle.iox2_c.specs.Steps.{Lends, Receives, Releases, SendsLoan}
+use Rattle.iox2_c.specs.Serving.{KeptBytes, Serving, ServesBut}
+use Rattle.iox2_c.specs.Steps.{Receives, Releases, SendsLoan}
 use Rattle.iox2_c.specs.declared.numbers.LoanNumbers.{LoanNumbers}
 use Rattle.iox2_c.specs.declared.numbers.PublisherNumbers.{PublisherNumbers}
 use Rattle.iox2_c.specs.declared.numbers.SampleNumbers.{SampleNumbers}
 use Rattle.iox2_c.specs.declared.numbers.SubscriberNumbers.{SubscriberNumbers}
 
--- The publisher with these numbers was asked for so many bytes: the code, and the loan's numbers as they were and as they are.
-pub record LoanReturns (numbers : PublisherNumbers) (len : ℕ) (old new : Serving) (before after : LoanNumbers) (code : ℕ) : Type 0 where
+-- What a step that lends says of a domain before it and after it, of the publisher's id, of the length and of the answer.
+abbrev pub Lending : Type 1
+Lending = (old new : KeptBytes) (publisher len : ℕ) → Result (Unit {0}) LoanError → Type 0
+
+-- The publisher with these numbers was asked for so many bytes by such a step: the code, and the loan's numbers as they were and as
+-- they are.
+pub record LoanReturns (Lends : Lending) (numbers : PublisherNumbers) (len : ℕ) (old new : Serving) (before after : LoanNumbers) (code : ℕ) : Type 0 where
   pub never : code ≡ 1 → ⊥
   pub lends : code ≡ 0 → Lends old.domain new.domain (wide numbers.id) len (Ok tt)
   pub errors : 10 ≤ code → (error : LoanError) × (code ≡ loan_code error) × Lends old.domain new.domain (wide numbers.id) len (Err error)

@@ -81,6 +81,10 @@ module _ (old new : KeptBytes) where
   abbrev pub Lends : (publisher len : ℕ) → Result (Unit {0}) LoanError → Type 0
   Lends publisher len answer = StepsTo (λ s s'. DefaultSliceCall (λ byte. byte ≡ 0) (λ header. Unit {0}) len s publisher answer s')
 
+  -- The publisher with this id was asked for so many bytes, whatever they are, with this answer.
+  abbrev pub LendsUninit : (publisher len : ℕ) → Result (Unit {0}) LoanError → Type 0
+  LendsUninit publisher len answer = StepsTo (λ s s'. DefaultSliceCall (λ byte. Unit {0}) (λ header. Unit {0}) len s publisher answer s')
+
   -- The loan with this number was given back unsent.
   abbrev pub Discards : (number : ℕ) → Type 0
   Discards number =

@@ -7,3 +7,4 @@ pub mod questions;
 pub mod samples;
 pub mod sends;
 pub mod subscribers;
+pub mod uninit_loans;

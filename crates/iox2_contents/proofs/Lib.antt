@@ -1,2 +1,3 @@
 pub mod CallLists
+pub mod LeftLists
 pub mod SlotReads

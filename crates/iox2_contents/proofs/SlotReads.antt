@@ -1,8 +1,10 @@
 -- What is read at a slot of the contents.
-use Rattle.std.proofs.Common.{◌≡◌, ℕ, zero, suc, ◌<◌, List, [], ◌∷◌, length, Some, arith, get_or, slice_set, Bool, true, false, refl, ap, sym}
+use Rattle.std.proofs.Common.{◌≡◌, ℕ, zero, suc, ◌<◌, List, [], ◌∷◌, length, Some, arith, get_or, slice_set, Bool, true, false, refl, ap, subst, sym}
 use Rattle.std.proofs.lemmas.Option.{slice_get_read}
 use Rattle.std.specs.Prelude.{slice_get}
 use Rattle.std.specs.Bool.{MatchBool}
+use Rattle.std.specs.List.{All}
+use Rattle.std.proofs.lemmas.List.Elements.{All-get_or}
 use Rattle.iox2_contents.specs.SlotContents.{SomeAt}
 
 -- There is a slot of which something holds.
@@ -16,6 +18,10 @@ pub some_read : {A : Type 0} (contents : List A) (slot : ℕ) (P : A → Type 0)
 some_read contents slot P x h e =
     let read = slice_get_read contents _ slot x refl (some_within contents slot P h) e in
     (read, rw read at h)
+
+-- What holds of all contents holds of the one that indexing gives.
+pub all_read : {A : Type 0} (contents : List A) (slot : ℕ) (P : A → Type 0) (x : A) → All P contents → slot < length contents → x ≡ get_or contents slot x → P x
+all_read contents slot P x all within e = subst P (sym e) (All-get_or P contents slot x within all)
 
 -- Writing what is there changes nothing.
 pub set_same : {A : Type 0} (contents : List A) (slot : ℕ) (x : A) → slice_get contents slot ≡ Some x → slice_set contents slot x ≡ contents

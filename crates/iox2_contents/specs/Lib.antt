@@ -1,8 +1,11 @@
 pub mod SlotCalls
+pub mod RoomLists
+pub mod RoomLends
 pub mod SlotElements
 pub mod ElementLends
 pub mod SlotPayload
 pub mod PayloadLends
 pub mod SlotContents
+pub mod SlotRooms
 pub mod ContentLends
 pub mod ContentsLends

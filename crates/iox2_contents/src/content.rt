@@ -1,5 +1,5 @@
 //! The content of one slot.
-ghost use Rattle.std.specs.Prelude.{◌≡◌, ◌≤◌, [], ◌∷◌, length, map, ◌<◌, slice_get, true, false, Some, IfOk, is_some};
+ghost use Rattle.std.specs.Prelude.{◌≡◌, ◌≤◌, [], ◌∷◌, length, map, replicate, ◌<◌, slice_get, true, false, None, Some, IfOk, is_some};
 ghost use Rattle.std.specs.Borrow.{sem};
 ghost use Rattle.std.specs.List.{list_all};
 ghost use Rattle.iox2_contents.specs.SlotCalls.{AnswersInOrder};
@@ -44,6 +44,7 @@ impl<T: Drop, U: Default + Drop> Content<T, U> {
         ensures values { IfOk result (λ content. content.values ≡ []) }
         ensures room { IfOk result (λ content. content.room ≡ room) }
         ensures in_lists { IfOk result (λ content. in_lists ≡ true → content.is_in_place ≡ false) }
+        ensures in_place { IfOk result (λ content. content.is_in_place ≡ false → room ≡ 1 → in_lists ≡ true) }
     {
         let payload = Payload::new(alloc, room, in_lists)?;
         Ok(Content {
@@ -52,7 +53,8 @@ impl<T: Drop, U: Default + Drop> Content<T, U> {
         })
     }
 
-    /// Drops what the slot had, and makes it an unwritten loan of this length.
+    /// Makes the slot an unwritten loan of this length. A payload that lay in place is dropped, and one
+    /// in lists once another is written.
     pub(crate) fn start(&mut self, len: usize)
         requires { len ≤ self.old.room }
         ensures default { U.is_default self.new.user_header }
@@ -64,7 +66,8 @@ impl<T: Drop, U: Default + Drop> Content<T, U> {
 
     /// Drops what the slot had, and gives up its room.
     pub(crate) fn clear(&mut self, alloc: Global)
-        ensures { self.new.is_in_place ≡ self.old.is_in_place }
+        ensures in_place { self.new.is_in_place ≡ self.old.is_in_place }
+        ensures room { self.new.room ≤ self.old.room }
     {
         self.user_header = U::default();
         self.payload.clear(alloc);
@@ -112,6 +115,17 @@ impl<T: Copy + Drop, U: Default + Drop> Content<T, U> {
     }
 }
 
+impl<T: Copy + Default + Drop, U: Default + Drop> Content<T, U> {
+    /// Writes some value into each cell.
+    pub(crate) fn write_unspecified(&mut self)
+        requires in_lists { self.old.is_in_place ≡ false }
+        ensures count { length self.new.values ≡ length self.old.cells }
+        ensures written { self.new ≡ written_content self.new.values self.old }
+    {
+        self.payload.write_unspecified();
+    }
+}
+
 impl<T, U> Content<T, U> {
     ghost use Rattle.iox2_contents.specs.ContentLends.{LendsCell, LendsCells, LendsValue, LendsValues, LendsUserHeader};
 
@@ -122,20 +136,25 @@ impl<T, U> Content<T, U> {
         &self.user_header
     }
 
-    /// The first cell of a loan that isn't written.
-    pub(crate) fn cell(&self) -> &Option<T>
-        requires { 0 < length self.now.cells }
+    /// The first cell of a loan that isn't written, given as many unwritten ones as there is room for
+    /// in lists.
+    pub(crate) fn cell<'a>(&'a self, unwritten: &'a [Option<T>]) -> &'a Option<T>
+        requires first { 0 < length self.now.cells }
+        requires unwritten { unwritten.now ≡ replicate (length unwritten.now) None }
+        requires enough { self.now.is_in_place ≡ false → self.now.room ≤ length unwritten.now }
         ensures { slice_get self.now.cells 0 ≡ Some result.now }
     {
-        self.payload.cell()
+        self.payload.cell(unwritten)
     }
 
-    /// The cells, and none once they are written.
-    pub(crate) fn cells(&self) -> &[Option<T>]
-        requires { self.now.is_in_place ≡ false }
+    /// The cells, and none once they are written, given as many unwritten ones as there is room for.
+    pub(crate) fn cells<'a>(&'a self, unwritten: &'a [Option<T>]) -> &'a [Option<T>]
+        requires in_lists { self.now.is_in_place ≡ false }
+        requires unwritten { unwritten.now ≡ replicate (length unwritten.now) None }
+        requires enough { self.now.room ≤ length unwritten.now }
         ensures { result.now ≡ self.now.cells }
     {
-        self.payload.cells()
+        self.payload.cells(unwritten)
     }
 
     /// The first value of a loan or message that is written.

@@ -1,31 +1,41 @@
 //! The contents of a publisher's slots.
-ghost use Rattle.std.specs.Prelude.{◌≡◌, ◌<◌, ◌≤◌, List, [], ◌∷◌, length, true, false, Some, IfOk, OnOk, OnErr};
+ghost use Rattle.std.specs.Prelude.{◌≡◌, ◌<◌, ◌≤◌, List, [], ◌∷◌, length, replicate, true, false, None, Some, IfOk, OnOk, OnErr};
 ghost use Rattle.std.specs.Borrow.{sem};
 ghost use Rattle.std.specs.List.{All};
 ghost use Rattle.iox2_contents.specs.SlotCalls.{AnswersInOrder};
 ghost use Rattle.iox2_contents.specs.SlotContents.{SomeAt, AddsSlots, ClearsSlot, WritesValues, AssumesWritten, StartsLoan, with_changed, written_content, user_header_at, cells_at, values_at, first_cell_at, first_value_at};
 
+use crate::cells::push_unwritten;
 use crate::content::Content;
 use std::alloc::{AllocError, Global};
 use std::marker::Model;
+use std::mem;
 
 /// What a publisher's users write and its subscribers' users read: for each slot the user header
 /// and the payload.
 ///
-/// A payload stays in its slot until the next loan starts there, the slot is cleared, or the
-/// contents go, and is dropped then.
+/// A payload that lies in its slot is dropped when the next loan starts there, one in lists when
+/// another is written there, and either when the slot is cleared or the contents go.
 #[derive(Drop)]
 pub struct Contents<T, U> {
     slots: Vec<Content<T, U>>,
+    // Unwritten cells for each loan to show that hasn't listed its own.
+    unwritten: Vec<Option<T>>,
 }
 
 impl<T, U> Model for Contents<T, U> {
-    ghost use Rattle.std.specs.Prelude.{List};
+    ghost use Rattle.std.specs.Prelude.{◌≡◌, List, None, length, replicate};
+    ghost use Rattle.std.specs.List.{All};
     ghost use Rattle.iox2_contents.specs.SlotContents.{ContentState};
+    ghost use Rattle.iox2_contents.specs.SlotRooms.{RoomIsAtMost};
 
     ghost Value = { List (ContentState T U) };
 
     ghost view = { λ contents. contents.slots.items };
+
+    // The longest loan may show unwritten cells.
+    ghost invariant = { λ contents. (contents.unwritten.items ≡ replicate (length contents.unwritten.items) None)
+        × All (RoomIsAtMost (length contents.unwritten.items)) contents.slots.items };
 }
 
 impl<T: Drop, U: Default + Drop> Contents<T, U> {
@@ -40,11 +50,15 @@ impl<T: Drop, U: Default + Drop> Contents<T, U> {
         ensures room { IfOk result (All (λ content. content.room ≡ room)) }
         ensures in_lists { IfOk result (All (λ content. in_lists ≡ true → content.is_in_place ≡ false)) }
     {
+        let unwritten = unwritten_cells(alloc, room, in_lists)?;
         let mut contents = Vec::with_capacity(alloc, slots)?;
         for _ in 0..slots {
             contents.push_reserved(Content::new(alloc, room, in_lists)?);
         }
-        Ok(Contents { slots: contents })
+        Ok(Contents {
+            slots: contents,
+            unwritten,
+        })
     }
 
     /// So many slots more, each with room for so many elements, behind those that are there. Fails
@@ -60,7 +74,11 @@ impl<T: Drop, U: Default + Drop> Contents<T, U> {
         ensures refused { OnErr result (self.new ≡ self.old) }
     {
         let mut added = Contents::new(alloc, more, room, in_lists)?;
-        self.slots.append(&mut added.slots)
+        self.slots.append(&mut added.slots)?;
+        if self.unwritten.len() < added.unwritten.len() {
+            mem::swap(&mut self.unwritten, &mut added.unwritten);
+        }
+        Ok(())
     }
 
     /// Drops what lies in the slot, which is of no loan or message any more, and gives up its room.
@@ -71,8 +89,8 @@ impl<T: Drop, U: Default + Drop> Contents<T, U> {
         self.slots[slot].clear(alloc);
     }
 
-    /// Makes the slot an unwritten loan of this length, which must fit the slot's room. What lay in
-    /// it before is dropped.
+    /// Makes the slot an unwritten loan of this length, which must fit the slot's room. It costs the
+    /// same for any length, but for cells or a value that have to be dropped.
     pub fn start(&mut self, slot: usize, len: usize)
         requires { SomeAt self.old slot (λ content. len ≤ content.room) }
         ensures { StartsLoan U.is_default self.old self.new slot len }
@@ -119,6 +137,35 @@ impl<T: Copy + Drop, U: Default + Drop> Contents<T, U> {
     }
 }
 
+impl<T: Copy + Default + Drop, U: Default + Drop> Contents<T, U> {
+    /// Writes some value into each cell of the slot's loan, which then counts as written: what lay
+    /// there before, and default values where less lay there. So it costs the same for any length
+    /// that was there before.
+    pub fn write_unspecified(&mut self, slot: usize)
+        requires { SomeAt self.old slot (λ content. content.is_in_place ≡ false) }
+        ensures { (values : List T) × WritesValues self.old self.new slot values }
+    {
+        self.slots[slot].write_unspecified();
+    }
+}
+
+// As many unwritten cells as a loan may have, and none where it has one in its slot.
+fn unwritten_cells<T: Drop>(
+    alloc: Global,
+    room: usize,
+    in_lists: bool,
+) -> Result<Vec<Option<T>>, AllocError>
+    ensures unwritten { IfOk result (λ cells. cells.items ≡ replicate (length cells.items) None) }
+    ensures enough { IfOk result (λ cells. (room ≡ 1 → in_lists ≡ true) → length cells.items ≡ room) }
+{
+    if room == 1 && !in_lists {
+        return Ok(Vec::new(alloc));
+    }
+    let mut cells = Vec::with_capacity(alloc, room)?;
+    push_unwritten(&mut cells, room);
+    Ok(cells)
+}
+
 impl<T, U> Contents<T, U> {
     ghost use Rattle.iox2_contents.specs.ContentsLends.{LendsCell, LendsCells, LendsValue, LendsValues, LendsUserHeader};
 
@@ -135,7 +182,7 @@ impl<T, U> Contents<T, U> {
         requires { SomeAt self.now slot (λ content. 0 < length content.cells) }
         ensures { first_cell_at self.now slot ≡ Some result.now }
     {
-        self.slots[slot].cell()
+        self.slots[slot].cell(self.unwritten.as_slice())
     }
 
     /// The cells of the slot's loan, and none once it is written. A cell that lies in place is
@@ -144,7 +191,7 @@ impl<T, U> Contents<T, U> {
         requires { SomeAt self.now slot (λ content. content.is_in_place ≡ false) }
         ensures { cells_at self.now slot ≡ Some result.now }
     {
-        self.slots[slot].cells()
+        self.slots[slot].cells(self.unwritten.as_slice())
     }
 
     /// The first value of the slot's loan or message, which is written.

@@ -1,24 +1,25 @@
 //! The elements of a payload that isn't a single value.
-ghost use Rattle.std.specs.Prelude.{◌≡◌, ◌<◌, ◌≤◌, [], ◌∷◌, length, map, replicate, slice_get, vec_capacity, true, false, None, Some, IsSome, IfOk, is_some};
+ghost use Rattle.std.specs.Prelude.{◌≡◌, ◌<◌, ◌≤◌, [], ◌∷◌, length, map, replicate, slice_get, true, false, None, Some, IfOk, is_some};
 ghost use Rattle.std.specs.Borrow.{sem};
-ghost use Rattle.std.specs.List.{All, list_all};
+ghost use Rattle.std.specs.List.{list_all};
 ghost use Rattle.iox2_contents.specs.SlotCalls.{AnswersInOrder};
 ghost use Rattle.iox2_contents.specs.SlotElements.{unwritten_elements, written_elements};
 
+use crate::cells::Cells;
+use crate::values::Values;
 use std::alloc::{AllocError, Global};
 use std::marker::Model;
-use std::mem;
 
 /// The cells of an unwritten loan, or the values of a written loan or a sent message. What isn't
 /// used of the two is empty.
 #[derive(Drop)]
 pub(crate) struct Elements<T> {
-    cells: Vec<Option<T>>,
-    values: Vec<T>,
+    cells: Cells<T>,
+    values: Values<T>,
 }
 
 impl<T> Model for Elements<T> {
-    ghost use Rattle.std.specs.Prelude.{◌≤◌, length, min, vec_capacity};
+    ghost use Rattle.std.specs.Prelude.{◌≤◌, length, min};
     ghost use Rattle.iox2_contents.specs.SlotElements.{ElementLists};
 
     ghost Value = { ElementLists T };
@@ -26,11 +27,11 @@ impl<T> Model for Elements<T> {
     ghost view = { λ elements. record {
       cells = elements.cells.items;
       values = elements.values.items;
-      room = min (vec_capacity elements.cells) (vec_capacity elements.values);
+      room = min elements.cells.room elements.values.room;
     } };
 
-    // The values of a loan fit once it is written.
-    ghost invariant = { λ elements. length elements.cells.items ≤ vec_capacity elements.values };
+    // The cells of a loan fit, and so do its values once it is written.
+    ghost invariant = { λ elements. (length elements.cells.items ≤ elements.cells.room) × (length elements.cells.items ≤ elements.values.room) };
 }
 
 impl<T: Drop> Elements<T> {
@@ -40,24 +41,27 @@ impl<T: Drop> Elements<T> {
         ensures values { IfOk result (λ elements. elements.values ≡ []) }
         ensures room { IfOk result (λ elements. elements.room ≡ room) }
     {
-        let cells = Vec::with_capacity(alloc, room)?;
-        let values = Vec::with_capacity(alloc, room)?;
+        let cells = Cells::new(alloc, room)?;
+        let values = Values::new(alloc, room)?;
         Ok(Elements { cells, values })
     }
 
-    /// Drops what was there, and makes it so many unwritten cells.
+    /// Makes it so many unwritten cells. The values that were there are dropped when others are
+    /// written.
     pub(crate) fn start(&mut self, len: usize)
         requires { len ≤ self.old.room }
         ensures { self.new ≡ unwritten_elements len self.old }
     {
-        self.values.clear();
-        self.cells = push_unwritten(take_empty(&mut self.cells), len);
+        self.cells.start(len);
+        self.values.hide();
     }
 
     /// Drops what was there, with its memory.
-    pub(crate) fn give_up(&mut self, alloc: Global) {
-        self.cells = Vec::new(alloc);
-        self.values = Vec::new(alloc);
+    pub(crate) fn give_up(&mut self, alloc: Global)
+        ensures { self.new.room ≡ 0 }
+    {
+        self.cells.give_up(alloc);
+        self.values.give_up(alloc);
     }
 
     /// Writes the value of a single cell.
@@ -66,8 +70,7 @@ impl<T: Drop> Elements<T> {
         ensures { self.new ≡ written_elements (value ∷ []) self.old }
     {
         self.cells.clear();
-        self.values.clear();
-        self.values.push_reserved(value);
+        self.values.write(value);
     }
 
     /// Writes into each cell what the function returns for its index, which is called for 0, 1 and
@@ -78,9 +81,8 @@ impl<T: Drop> Elements<T> {
         ensures count { length self.new.values ≡ length self.old.cells }
         ensures written { self.new ≡ written_elements self.new.values self.old }
     {
-        let count = self.cells.len();
-        self.cells.clear();
-        self.values = push_calls(take_empty(&mut self.values), count, f);
+        let count = self.cells.clear();
+        self.values.write_from_fn(count, f);
     }
 
     /// Takes the cells as written. Nothing changes where some cell isn't.
@@ -90,12 +92,11 @@ impl<T: Drop> Elements<T> {
         ensures values { result ≡ true → map Some self.new.values ≡ self.old.cells }
         ensures written { result ≡ true → self.new ≡ written_elements self.new.values self.old }
     {
-        if !are_written(self.cells.as_slice()) {
+        if !self.cells.are_written() {
             return false;
         }
-        let values = take_empty(&mut self.values);
-        self.values = move_values(self.cells.as_mut_slice(), values);
-        self.cells.clear();
+        let values = self.values.take_empty();
+        self.values.put(self.cells.move_to(values));
         true
     }
 }
@@ -107,25 +108,38 @@ impl<T: Copy + Drop> Elements<T> {
         ensures { self.new ≡ written_elements values.now self.old }
     {
         self.cells.clear();
-        self.values = push_copies(take_empty(&mut self.values), values);
+        self.values.write_from_slice(values);
+    }
+}
+
+impl<T: Copy + Default + Drop> Elements<T> {
+    /// Writes some value into each cell.
+    pub(crate) fn write_unspecified(&mut self)
+        ensures count { length self.new.values ≡ length self.old.cells }
+        ensures written { self.new ≡ written_elements self.new.values self.old }
+    {
+        let count = self.cells.clear();
+        self.values.write_unspecified(count);
     }
 }
 
 impl<T> Elements<T> {
     ghost use Rattle.iox2_contents.specs.ElementLends.{LendsCell, LendsCells, LendsValue, LendsValues};
 
-    /// The cells.
-    pub(crate) fn cells(&self) -> &[Option<T>]
+    /// The cells, given as many unwritten ones as there is room for.
+    pub(crate) fn cells<'a>(&'a self, unwritten: &'a [Option<T>]) -> &'a [Option<T>]
+        requires unwritten { unwritten.now ≡ replicate (length unwritten.now) None }
+        requires enough { self.now.room ≤ length unwritten.now }
         ensures { result.now ≡ self.now.cells }
     {
-        self.cells.as_slice()
+        self.cells.cells(unwritten)
     }
 
     /// The values.
     pub(crate) fn values(&self) -> &[T]
         ensures { result.now ≡ self.now.values }
     {
-        self.values.as_slice()
+        self.values.values()
     }
 
     /// The first cell, to be changed.
@@ -134,7 +148,7 @@ impl<T> Elements<T> {
         ensures* writes_back { sem 𝓛 (LendsCell T.row self.entry result) }
         ensures value { slice_get self.old.cells 0 ≡ Some result.now }
     {
-        &mut self.cells[0]
+        self.cells.cell_mut()
     }
 
     /// The cells, to be changed.
@@ -142,7 +156,7 @@ impl<T> Elements<T> {
         ensures* writes_back { sem 𝓛 (LendsCells T.row self.entry result) }
         ensures value { result.now ≡ self.old.cells }
     {
-        self.cells.as_mut_slice()
+        self.cells.cells_mut()
     }
 
     /// The first value, to be changed.
@@ -151,7 +165,7 @@ impl<T> Elements<T> {
         ensures* writes_back { sem 𝓛 (LendsValue T.row self.entry result) }
         ensures value { slice_get self.old.values 0 ≡ Some result.now }
     {
-        &mut self.values[0]
+        self.values.value_mut()
     }
 
     /// The values, to be changed.
@@ -159,80 +173,6 @@ impl<T> Elements<T> {
         ensures* writes_back { sem 𝓛 (LendsValues T.row self.entry result) }
         ensures value { result.now ≡ self.old.values }
     {
-        self.values.as_mut_slice()
+        self.values.values_mut()
     }
-}
-
-// The list with its room, which is emptied first. One without room stays in its place. Loops push to
-// a list that they own, so that its length needn't be stored at each push.
-fn take_empty<T: Drop>(list: &mut Vec<T>) -> Vec<T>
-    ensures empty { result.items ≡ [] }
-    ensures room { vec_capacity result ≡ vec_capacity list.old }
-    ensures left { list.new.items ≡ [] }
-{
-    list.clear();
-    let alloc = *list.allocator();
-    mem::replace(list, Vec::new(alloc))
-}
-
-// Appends so many unwritten cells.
-fn push_unwritten<T>(mut cells: Vec<Option<T>>, len: usize) -> Vec<Option<T>>
-    requires empty { cells.items ≡ [] }
-    requires room { len ≤ vec_capacity cells }
-    ensures cells { result.items ≡ replicate len None }
-    ensures room { vec_capacity result ≡ vec_capacity cells }
-{
-    for _ in 0..len {
-        cells.push_reserved(None);
-    }
-    cells
-}
-
-// Whether each cell is written.
-fn are_written<T>(cells: &[Option<T>]) -> bool
-    ensures { result ≡ list_all is_some cells.now }
-{
-    cells.iter().all(|cell| cell.is_some())
-}
-
-// Moves the values out of written cells.
-fn move_values<T>(cells: &mut [Option<T>], mut values: Vec<T>) -> Vec<T>
-    requires written { All IsSome cells.old }
-    requires empty { values.items ≡ [] }
-    requires room { length cells.old ≤ vec_capacity values }
-    ensures values { map Some result.items ≡ cells.old }
-    ensures capacity { vec_capacity result ≡ vec_capacity values }
-{
-    for cell in cells.iter_mut() {
-        values.push_reserved(cell.take().unwrap());
-    }
-    values
-}
-
-// Appends what the calls of the function return for 0, 1 and so on.
-fn push_calls<T, F: FnMut(usize) -> T + Drop>(mut values: Vec<T>, count: usize, mut f: F) -> Vec<T>
-    requires callable { F.IsAlwaysCallable f }
-    requires empty { values.items ≡ [] }
-    requires room { count ≤ vec_capacity values }
-    ensures answers { AnswersInOrder F.step f result.items }
-    ensures count { length result.items ≡ count }
-    ensures capacity { vec_capacity result ≡ vec_capacity values }
-{
-    for index in 0..count {
-        values.push_reserved(f(index));
-    }
-    values
-}
-
-// Appends copies of the items.
-fn push_copies<T: Copy>(mut values: Vec<T>, items: &[T]) -> Vec<T>
-    requires empty { values.items ≡ [] }
-    requires room { length items.now ≤ vec_capacity values }
-    ensures values { result.items ≡ items.now }
-    ensures capacity { vec_capacity result ≡ vec_capacity values }
-{
-    for item in items {
-        values.push_reserved(*item);
-    }
-    values
 }

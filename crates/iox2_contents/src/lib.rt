@@ -3,9 +3,11 @@
 //! It names no other crate of this library, so that it is proved beside the plain types.
 #![tactic(auto)]
 
+mod cells;
 mod content;
 mod contents;
 mod elements;
 mod payload;
+mod values;
 
 pub use contents::Contents;

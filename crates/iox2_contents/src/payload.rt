@@ -29,6 +29,7 @@ impl<T: Drop> Payload<T> {
         ensures values { IfOk result (λ payload. values_of payload ≡ []) }
         ensures room { IfOk result (λ payload. room_of payload ≡ room) }
         ensures in_lists { IfOk result (λ payload. in_lists ≡ true → is_in_place payload ≡ false) }
+        ensures in_place { IfOk result (λ payload. is_in_place payload ≡ false → room ≡ 1 → in_lists ≡ true) }
     {
         if room == 1 && !in_lists {
             return Ok(Payload::Empty);
@@ -37,7 +38,8 @@ impl<T: Drop> Payload<T> {
         Ok(Payload::Elements(Box::new(alloc, elements)?))
     }
 
-    /// Drops what was there, and makes it so many unwritten cells.
+    /// Makes it so many unwritten cells. What lay in place is dropped, and what lay in lists once
+    /// others are written.
     pub(crate) fn start(&mut self, len: usize)
         requires { len ≤ room_of self.old }
         ensures cells { cells_of self.new ≡ replicate len None }
@@ -54,7 +56,8 @@ impl<T: Drop> Payload<T> {
 
     /// Drops what was there, and gives up the room of lists.
     pub(crate) fn clear(&mut self, alloc: Global)
-        ensures { is_in_place self.new ≡ is_in_place self.old }
+        ensures in_place { is_in_place self.new ≡ is_in_place self.old }
+        ensures room { room_of self.new ≤ room_of self.old }
     {
         match self {
             Payload::Elements(elements) => elements.give_up(alloc),
@@ -134,6 +137,22 @@ impl<T: Copy + Drop> Payload<T> {
     }
 }
 
+impl<T: Copy + Default + Drop> Payload<T> {
+    /// Writes some value into each cell.
+    pub(crate) fn write_unspecified(&mut self)
+        requires in_lists { is_in_place self.old ≡ false }
+        ensures count { length (values_of self.new) ≡ length (cells_of self.old) }
+        ensures cells { cells_of self.new ≡ [] }
+        ensures room { room_of self.new ≡ room_of self.old }
+        ensures in_place { is_in_place self.new ≡ is_in_place self.old }
+    {
+        match self {
+            Payload::Elements(elements) => elements.write_unspecified(),
+            _ => unreachable!(),
+        }
+    }
+}
+
 impl<T> Payload<T> {
     ghost use Rattle.iox2_contents.specs.PayloadLends.{LendsCell, LendsCells, LendsValue, LendsValues};
 
@@ -144,25 +163,29 @@ impl<T> Payload<T> {
         !matches!(self, Payload::Elements(_))
     }
 
-    /// The first cell.
-    pub(crate) fn cell(&self) -> &Option<T>
-        requires { 0 < length (cells_of self.now) }
+    /// The first cell, given as many unwritten ones as there is room for in lists.
+    pub(crate) fn cell<'a>(&'a self, unwritten: &'a [Option<T>]) -> &'a Option<T>
+        requires first { 0 < length (cells_of self.now) }
+        requires unwritten { unwritten.now ≡ replicate (length unwritten.now) None }
+        requires enough { is_in_place self.now ≡ false → room_of self.now ≤ length unwritten.now }
         ensures { slice_get (cells_of self.now) 0 ≡ Some result.now }
     {
         match self {
             Payload::Unwritten(cell) => cell,
-            Payload::Elements(elements) => &elements.cells()[0],
+            Payload::Elements(elements) => &elements.cells(unwritten)[0],
             Payload::Empty | Payload::Written(_) => unreachable!(),
         }
     }
 
-    /// The cells, and none once they are written.
-    pub(crate) fn cells(&self) -> &[Option<T>]
-        requires { is_in_place self.now ≡ false }
+    /// The cells, and none once they are written, given as many unwritten ones as there is room for.
+    pub(crate) fn cells<'a>(&'a self, unwritten: &'a [Option<T>]) -> &'a [Option<T>]
+        requires in_lists { is_in_place self.now ≡ false }
+        requires unwritten { unwritten.now ≡ replicate (length unwritten.now) None }
+        requires enough { room_of self.now ≤ length unwritten.now }
         ensures { result.now ≡ cells_of self.now }
     {
         match self {
-            Payload::Elements(elements) => elements.cells(),
+            Payload::Elements(elements) => elements.cells(unwritten),
             _ => unreachable!(),
         }
     }

@@ -23,7 +23,7 @@ pub use deliveries::{has_handler_at, send_ready, send_unasked};
 pub use discards::discard_loan;
 pub use loan_calls::{
     assume_loan, loan_cell, loan_cells, loan_header, loan_user_header, loan_value, loan_values,
-    write_loan, write_loan_from_fn, write_loan_from_slice,
+    write_loan, write_loan_from_fn, write_loan_from_slice, write_loan_unspecified,
 };
 pub use loans::loan;
 pub use sample_reads::{sample_header, sample_payload, sample_payloads, sample_user_header};

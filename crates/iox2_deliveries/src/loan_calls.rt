@@ -125,6 +125,25 @@ pub fn write_loan_from_slice<T: Copy + Drop, U: Default + Drop>(
     found(loan, at)
 }
 
+/// Writes some value into each cell of a publisher's unwritten loan, which counts as written from then
+/// on: what lay there before, and default values where less lay there. Returns it with its book and
+/// the slot in which it lies.
+pub fn write_loan_unspecified<T: Copy + Default + Drop, U: Default + Drop>(
+    state: &mut DomainState<T, U>,
+    loan: LoanAt,
+) -> LoanAt
+    requires agrees { IsDomain state.old }
+    requires several { is_single_valued state.old.config ≡ false }
+    requires live { HoldsUnwritten (state_of (kept_of state.old)) loan.publisher loan.number }
+    ensures writes { (values : List T) × WritesLoan state.old state.new loan.number values }
+    ensures same { result ≡ record loan { book = result.book; slot = result.slot } }
+{
+    let at = state.find_live_loan(&loan);
+    mark_written(state, at);
+    contents_mut(state, at.book).write_unspecified(at.slot);
+    found(loan, at)
+}
+
 /// Takes a publisher's unwritten loan as written, where each of its cells is, and returns whether it
 /// did. Nothing changes where some cell isn't written.
 pub fn assume_loan<T: Drop, U: Default + Drop>(state: &mut DomainState<T, U>, loan: &LoanAt) -> bool

@@ -14,3 +14,5 @@ mod growing_publishers;
 mod overrides;
 #[cfg(test)]
 mod slices;
+#[cfg(test)]
+mod unspecified;

@@ -21,4 +21,6 @@ mod settings;
 #[cfg(test)]
 mod slots;
 #[cfg(test)]
+mod unspecified;
+#[cfg(test)]
 mod worst_cases;

@@ -196,7 +196,7 @@ pub fn loan(
     out: &mut LoanNumbers,
     payload: &mut *mut u8,
 ) -> u32
-    ensures { LoanReturns numbers.now len service.old service.new out.old out.new result }
+    ensures { LoanReturns Lends numbers.now len service.old service.new out.old out.new result }
 {
     if service.domain.is_publisher_at_hint(&numbers.parts()) {
         loan_named(service, numbers, len, out, payload)
@@ -214,7 +214,7 @@ fn loan_named(
     out: &mut LoanNumbers,
     payload: &mut *mut u8,
 ) -> u32
-    ensures { LoanReturns numbers.now len service.old service.new out.old out.new result }
+    ensures { LoanReturns Lends numbers.now len service.old service.new out.old out.new result }
 {
     let publisher = match ready_publisher(&service.domain, numbers) {
         Ok(publisher) => publisher,
@@ -235,7 +235,7 @@ fn loan_elsewhere(
     out: &mut LoanNumbers,
     payload: &mut *mut u8,
 ) -> u32
-    ensures { LoanReturns numbers.now len service.old service.new out.old out.new result }
+    ensures { LoanReturns Lends numbers.now len service.old service.new out.old out.new result }
 {
     let publisher = match ready_publisher(&service.domain, numbers) {
         Ok(publisher) => publisher,
@@ -267,11 +267,11 @@ fn lend_zeros(
     }
 }
 
-// What came of a loan: its code, and where it was granted its numbers and where its bytes lie. The ids
-// that it shares with its publisher stand in that one's numbers, so that they aren't kept while a loan
-// is filled.
+/// What came of a loan: its code, and where it was granted its numbers and where its bytes lie. The ids
+/// that it shares with its publisher stand in that one's numbers, so that they aren't kept while a
+/// loan is filled.
 #[inline(always)]
-fn tell_lent(
+pub fn tell_lent(
     service: &Service,
     numbers: &PublisherNumbers,
     lent: Result<SampleMut, LoanError>,

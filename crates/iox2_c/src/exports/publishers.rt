@@ -8,9 +8,9 @@ ghost use Rattle.iox2_c.specs.Calls.{IsOut, IsReady, RefusesPublisher};
 ghost use Rattle.iox2_c.specs.Codes.{loan_code, publisher_code};
 ghost use Rattle.iox2_c.specs.Numbers.{named_loan, named_publisher, wide};
 ghost use Rattle.iox2_c.specs.Settings.{AreOptions, ReadsSettings, plain_publisher_settings, publisher_settings};
-ghost use Rattle.iox2_c.specs.Steps.{ClosesPublisher, CreatesPublisher, Lends};
+ghost use Rattle.iox2_c.specs.Steps.{ClosesPublisher, CreatesPublisher, Lends, LendsUninit};
 
-use crate::calls::publishers;
+use crate::calls::{publishers, uninit_loans};
 use crate::domain_box::DomainBox;
 use crate::numbers::{LoanNumbers, PublisherNumbers};
 use crate::options::PublisherOptions;
@@ -115,6 +115,35 @@ pub extern "C" fn iox2_publisher_loan(
         return NO_DOMAIN;
     };
     let code = publishers::loan(&mut boxed, publisher, len, loan, payload);
+    domain.put(boxed);
+    code
+}
+
+/// Lends a message of so many bytes, whatever they are, and says where they lie. It costs the same for
+/// any length that lay in the slot before.
+#[unsafe(no_mangle)]
+pub extern "C" fn iox2_publisher_loan_uninit(
+    alloc: Global,
+    domain: &mut DomainBox,
+    publisher: &PublisherNumbers,
+    len: usize,
+    loan: &mut LoanNumbers,
+    payload: &mut *mut u8,
+) -> u32
+    ensures no_domain { (result ≡ 1) ↔ (domain.old.service ≡ None) }
+    ensures lends { result ≡ 0 → Becomes (λ old new. LendsUninit old new (wide (publisher.now).id) len (Ok tt)) domain.old.service domain.new.service }
+    ensures errors { 10 ≤ result → (error : LoanError) × (result ≡ loan_code error) × Becomes (λ old new. LendsUninit old new (wide (publisher.now).id) len (Err error)) domain.old.service domain.new.service }
+    ensures why { 1 < result → result < 10 → Knows (λ kept. RefusesPublisher kept (named_publisher publisher.now) result) domain.old.service }
+    ensures refused { 0 < result → result < 10 → domain.new.service ≡ domain.old.service }
+    ensures out { result ≡ 0 → Knows (λ kept. IsOut kept (named_loan loan.new)) domain.new.service }
+    ensures new { result ≡ 0 → Knows (λ kept. IsNewIn kept (A_loan (wide (loan.new).number))) domain.old.service }
+    ensures same { 0 < result → loan.new ≡ loan.old }
+    ensures stays { HoldsOn No_item domain.old.service domain.new.service }
+{
+    let Some(mut boxed) = domain.take(alloc) else {
+        return NO_DOMAIN;
+    };
+    let code = uninit_loans::loan_uninit(&mut boxed, publisher, len, loan, payload);
     domain.put(boxed);
     code
 }

@@ -3,6 +3,7 @@ ghost use Rattle.std.specs.Prelude.{◌≡◌};
 
 mod payload_mut;
 mod user_header_mut;
+mod write_unspecified;
 
 use crate::domain::Domain;
 use crate::slice::SampleMut;

@@ -7,6 +7,6 @@ returns g c = record {
   content = c.clear.new.self;
   had = c.index_mut.result.now;
   there = rw (← c.self.view_is) (slice_get_read c.self.inside.slots.items _ c.args.slot c.index_mut.result.now refl (rw (← c.self.view_is) at c.requires) c.index_mut.ensures.value);
-  form = c.clear.ensures;
+  form = c.clear.ensures.in_place;
   cleared = rw (← c.self.view_is) refl;
 }

@@ -1,10 +1,9 @@
 use Rattle.std.proofs.Common.{◌≡◌, ◌+◌, length, refl, arith}
 use denote.Param.Always.{mut_next}
-use Rattle.std.specs.List.{FoldsTo, enumerate_from}
 use Rattle.std.proofs.lemmas.Fn.{FoldsTo-push}
 use Rattle.std.proofs.lemmas.Grind.{common_steps}
 use Rattle.iox2_contents.proofs.CallLists.{enumerate_from-push}
-use Rattle.iox2_contents.proofs.elements.push_calls.Goals as goal
+use Rattle.iox2_contents.proofs.values.push_calls.Goals as goal
 
 pub loop-index-preserved : goal.loop-index-preserved
 loop-index-preserved g c = record {

@@ -1,6 +1,6 @@
 use Rattle.std.proofs.Common.{◌≡◌, length}
 use Rattle.std.specs.List.{FoldsTo, enumerate_from}
-use Rattle.iox2_contents.proofs.elements.push_calls.Given as goal
+use Rattle.iox2_contents.proofs.values.push_calls.Given as goal
 
 abbrev pub invariant-loop-index : goal.invariant-loop-index
 invariant-loop-index g l = record {

@@ -1,5 +1,5 @@
 use Rattle.std.proofs.Common.{◌≡◌, take}
-use Rattle.iox2_contents.proofs.elements.push_copies.Given as goal
+use Rattle.iox2_contents.proofs.values.push_copies.Given as goal
 
 abbrev pub invariant-loop-item : goal.invariant-loop-item
 invariant-loop-item g l = record {

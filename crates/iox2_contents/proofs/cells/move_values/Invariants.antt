@@ -1,5 +1,5 @@
 use Rattle.std.proofs.Common.{◌≡◌, ℕ, ◌≤◌, take, map, replicate, get_or, Option, Some, None}
-use Rattle.iox2_contents.proofs.elements.move_values.Given as goal
+use Rattle.iox2_contents.proofs.cells.move_values.Given as goal
 
 abbrev pub invariant-loop-cell : goal.invariant-loop-cell
 invariant-loop-cell g l = record {

@@ -1,0 +1,24 @@
+use Rattle.iox2_domain.proofs.lemmas.loans.LoanCalls.{contents-still, all-writable, many-written}
+use Rattle.iox2_deliveries.proofs.loan_calls.write_loan_unspecified.Goals as goal
+
+pub mark_written-requires : goal.mark_written-requires
+mark_written-requires g c = let at = c.find_live_loan-at.ensures in (at.book, at.stands, (at.loan_slot).in_bounds)
+
+pub contents_mut-requires : goal.contents_mut-requires
+contents_mut-requires g c =
+    contents-still {T = g.row.T.Denot} {U = g.row.U.Denot} c.args.state.now c.requires.agrees c.args.loan.publisher c.args.loan.number c.find_live_loan-at.result.book c.find_live_loan-at.result.slot c.find_live_loan-at.ensures
+    c.mark_written.new.state (c.mark_written.ensures (c.find_live_loan-at.ensures).book (c.find_live_loan-at.ensures).stands)
+
+pub write_unspecified-requires : goal.write_unspecified-requires
+write_unspecified-requires g c =
+    all-writable {T = g.row.T.Denot} {U = g.row.U.Denot} c.args.state.now c.requires.agrees c.args.loan.publisher c.args.loan.number c.find_live_loan-at.result.book c.find_live_loan-at.result.slot c.find_live_loan-at.ensures
+    c.mark_written.new.state (c.mark_written.ensures (c.find_live_loan-at.ensures).book (c.find_live_loan-at.ensures).stands)
+    c.contents_mut.result.now c.contents_mut.ensures.value c.requires.live c.requires.several
+
+pub returns-clause-writes : goal.returns-clause-writes
+returns-clause-writes g c = (
+  c.write_unspecified.ensures.0,
+  many-written {T = g.row.T.Denot} {U = g.row.U.Denot} c.args.state.now c.requires.agrees c.args.loan.publisher c.args.loan.number c.find_live_loan-at.result.book c.find_live_loan-at.result.slot c.find_live_loan-at.ensures
+      c.mark_written.new.state (c.mark_written.ensures (c.find_live_loan-at.ensures).book (c.find_live_loan-at.ensures).stands)
+      c.contents_mut.result.now c.contents_mut.ensures.value c.requires.live c.write_unspecified.ensures.0 c.write_unspecified.new.self c.write_unspecified.ensures.1,
+)

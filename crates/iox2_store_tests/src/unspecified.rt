@@ -1,0 +1,55 @@
+//! Loans whose cells nobody writes, and cells that loans share until they are written.
+ghost use Rattle.std.specs.Prelude.{◌≡◌, ◌≤◌, false};
+ghost use Rattle.iox2_contents.specs.SlotContents.{SomeAt};
+
+use iox2_contents::Contents;
+use std::alloc::Global;
+use std::process::Abort;
+
+// The contents of two slots with room for five numbers each.
+fn five(rt: &impl Abort, alloc: Global) -> Contents<u64, u64>
+    ensures first { SomeAt result 0 (λ content. (content.is_in_place ≡ false) × (content.room ≡ 5)) }
+    ensures second { SomeAt result 1 (λ content. (content.is_in_place ≡ false) × (content.room ≡ 5)) }
+{
+    Contents::new(alloc, 2, 5, true).expect(rt, "room")
+}
+
+// Whether a loan of so many elements in the first slot, whose cells nobody writes, has these values.
+fn has(contents: &mut Contents<u64, u64>, len: usize, values: &[u64]) -> bool
+    requires room { SomeAt contents.old 0 (λ content. (content.is_in_place ≡ false) × (content.room ≡ 5)) }
+    requires length { len ≤ 5 }
+    ensures { SomeAt contents.new 0 (λ content. (content.is_in_place ≡ false) × (content.room ≡ 5)) }
+{
+    contents.start(0, len);
+    contents.write_unspecified(0);
+    contents.values(0) == values
+}
+
+#[test]
+fn what_nobody_writes_lay_there_before(rt: HostRuntime) {
+    let mut contents = five(&rt, rt.alloc());
+    let first = has(&mut contents, 2, [0, 0].as_slice());
+    contents.start(0, 3);
+    contents.write_from_fn(0, |index| (index as u64).wrapping_add(7));
+    let longer = has(&mut contents, 5, [7, 8, 9, 0, 0].as_slice());
+    let shorter = has(&mut contents, 1, [7].as_slice());
+    let as_before = has(&mut contents, 5, [7, 8, 9, 0, 0].as_slice());
+    drop(contents);
+    assert!(rt; first && longer && shorter && as_before);
+}
+
+#[test]
+fn cells_of_one_loan_are_no_other_s(rt: HostRuntime) {
+    let mut contents = five(&rt, rt.alloc());
+    contents.start(0, 5);
+    contents.start(1, 2);
+    if let Some(cell) = contents.cells_mut(0).get_mut(1) {
+        *cell = Some(3);
+    }
+    let written = contents.cells(0) == [None, Some(3), None, None, None].as_slice();
+    let beside = contents.cells(1) == [None, None].as_slice();
+    contents.start(0, 3);
+    let again = contents.cells(0) == [None, None, None].as_slice();
+    drop(contents);
+    assert!(rt; written && beside && again);
+}
