@@ -53,3 +53,21 @@ fn cells_of_one_loan_are_no_other_s(rt: HostRuntime) {
     drop(contents);
     assert!(rt; written && beside && again);
 }
+
+// The contents of a slot with room for two numbers, and of one more with room for five.
+fn grown(rt: &impl Abort, alloc: Global) -> Contents<u64, u64>
+    ensures { SomeAt result 1 (λ content. (content.is_in_place ≡ false) × (content.room ≡ 5)) }
+{
+    let mut contents: Contents<u64, u64> = Contents::new(alloc, 1, 2, true).expect(rt, "room");
+    contents.grow(alloc, 1, 5, true).expect(rt, "more room");
+    contents
+}
+
+#[test]
+fn longer_slots_show_as_many_cells(rt: HostRuntime) {
+    let mut contents = grown(&rt, rt.alloc());
+    contents.start(1, 5);
+    let shown = contents.cells(1) == [None, None, None, None, None].as_slice();
+    drop(contents);
+    assert!(rt; shown);
+}
