@@ -11,7 +11,9 @@ use iox2_fixtures::settings;
 use iox2_pubsub::slice::{Publisher, Sample, SampleMutUninit, Subscriber};
 use iox2_pubsub::{CustomHeaderMarker, CustomPayloadMarker, Domain};
 use iox2_store::{AllocationStrategy, LoanError, ServiceConfig, TypeVariant};
+use std::alloc::Global;
 use std::process::Abort;
+use std::rc::Rc;
 
 // A domain of slices, in which a publisher with one loan has three slots.
 fn slices() -> ServiceConfig {
@@ -236,4 +238,35 @@ fn bytes_of_elements_with_units_grow_too(rt: HostRuntime) {
     publisher.disown();
     assert!(rt; bytes == 120);
     assert!(rt; unfit == Err(LoanError::InternalFailure));
+}
+
+// How many values are kept after loans of rising length were written and given back.
+fn kept_up_to(
+    rt: &impl Abort,
+    alloc: Global,
+    strategy: AllocationStrategy,
+    longest: usize,
+) -> usize {
+    let shared = Rc::new(alloc, 7_u8).expect(rt, "a value");
+    let mut domain: Domain<Rc<u8>, u64> = Domain::new(alloc, slices()).expect(rt, "a domain");
+    let factory = slice_factory(&domain).max_loaned_samples(1).allocation_strategy(strategy);
+    let publisher = factory.create(&mut domain).expect(rt, "a publisher");
+    for len in 2..longest + 1 {
+        assert_sliced(rt, &domain);
+        assert_ready(rt, &domain, &publisher);
+        let loan = publisher.loan_slice_uninit(&mut domain, len).expect(rt, "a loan");
+        let message = loan.write_from_fn(&mut domain, |_| shared.clone().expect(rt, "a share"));
+        message.discard(&mut domain);
+    }
+    let kept = Rc::strong_count(&shared);
+    publisher.disown();
+    kept
+}
+
+#[test]
+fn what_lay_in_older_segments_is_dropped(rt: HostRuntime) {
+    let best_fit = kept_up_to(&rt, rt.alloc(), AllocationStrategy::BestFit, 255);
+    let powers = kept_up_to(&rt, rt.alloc(), AllocationStrategy::PowerOfTwo, 255);
+    assert!(rt; best_fit == 256);
+    assert!(rt; powers < 1024);
 }
