@@ -52,6 +52,7 @@ mod domain;
 mod errors;
 mod header;
 mod loan;
+mod lock;
 mod numbers;
 mod payload;
 mod port_factory;
@@ -62,9 +63,10 @@ mod shared;
 mod subscriber;
 #[doc(hidden)]
 pub mod sys;
+mod threads;
 mod warning;
 
-pub use domain::{Domain, DomainBuilder};
+pub use domain::{Domain, DomainBuilder, SharedDomain};
 pub use errors::{
     ConnectionFailure, DomainCreateError, LoanError, PublisherCreateError, ReceiveError, SendError,
     SubscriberCreateError,
@@ -76,5 +78,6 @@ pub use port_factory::{DegradationAction, PortFactoryPublisher, PortFactorySubsc
 pub use publisher::{BackpressureAction, BackpressureStrategy, Publisher};
 pub use sample::Sample;
 pub use send_outcome::{BlockedSend, SendOutcome};
-pub use subscriber::{Received, Subscriber};
+pub use subscriber::{Incoming, Received, Subscriber};
+pub use threads::{ManyThreads, OneThread, Threads};
 pub use warning::{Warning, WarningKind};
