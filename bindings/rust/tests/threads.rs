@@ -97,27 +97,21 @@ fn a_receive_waits_for_a_message() {
     let domain = domain().create_shared().unwrap();
     let subscriber = domain.subscriber().unwrap();
     let publisher = domain.publisher().unwrap();
+    let (tell, told) = mpsc::channel();
     let waiting = thread::spawn(move || {
-        let first = subscriber
-            .blocking_receive()
-            .unwrap()
-            .map(|sample| read(&sample));
-        let second = subscriber
-            .blocking_receive_copy()
-            .unwrap()
-            .map(|copy| read(&copy));
-        (first, second)
+        let sample = subscriber.blocking_receive().unwrap().unwrap();
+        tell.send(read(&sample)).unwrap();
+        let copy = subscriber.blocking_receive_copy().unwrap().unwrap();
+        tell.send(read(&copy)).unwrap();
     });
     thread::sleep(MOMENT);
     publisher.send_copy(message(1)).unwrap();
+    assert_eq!(told.recv(), Ok(1));
     thread::sleep(MOMENT);
-    publisher
-        .loan_uninit()
-        .unwrap()
-        .write_payload(message(2))
-        .send()
-        .unwrap();
-    assert_eq!(waiting.join().unwrap(), (Some(1), Some(2)));
+    let loan = publisher.loan_uninit().unwrap().write_payload(message(2));
+    loan.send().unwrap();
+    assert_eq!(told.recv(), Ok(2));
+    waiting.join().unwrap();
 }
 
 #[test]
@@ -212,6 +206,45 @@ fn a_send_waits_no_longer_for_a_subscriber_that_goes() {
         drop(subscriber);
         assert_eq!(sends.join().unwrap(), Some(0));
     });
+}
+
+#[test]
+fn a_send_that_waits_again_has_reached_those_before() {
+    let domain = keeping(1);
+    let publisher = domain.publisher().unwrap();
+    let subscribers: Vec<_> = (0..3).map(|_| domain.subscriber().unwrap()).collect();
+    publisher.send_copy(message(1)).unwrap();
+    assert_eq!(read(&subscribers[1].receive().unwrap().unwrap()), 1);
+    let waits = blocked(publisher.send_copy(message(2)).unwrap());
+    thread::scope(|scope| {
+        let reads = scope.spawn(|| subscribers[1].blocking_receive_copy().unwrap());
+        let sends = scope.spawn(|| waits.blocking_retry().unwrap().delivered());
+        thread::sleep(MOMENT);
+        assert_eq!(read(&subscribers[0].receive().unwrap().unwrap()), 1);
+        assert_eq!(reads.join().unwrap().map(|m| read(&m)), Some(2));
+        assert!(!sends.is_finished());
+        assert_eq!(read(&subscribers[2].receive().unwrap().unwrap()), 1);
+        assert_eq!(sends.join().unwrap(), Some(3));
+    });
+}
+
+#[test]
+fn a_send_that_ends_lets_the_next_of_its_publisher_go() {
+    for _ in 0..50 {
+        let domain = keeping(1);
+        let publisher = domain.publisher().unwrap();
+        let subscriber = domain.subscriber().unwrap();
+        publisher.send_copy(message(1)).unwrap();
+        let first = blocked(publisher.send_copy(message(2)).unwrap());
+        thread::scope(|scope| {
+            let second = scope.spawn(|| publisher.blocking_send_copy(message(3)).unwrap());
+            let first = scope.spawn(|| first.blocking_retry().unwrap().delivered());
+            thread::sleep(Duration::from_millis(1));
+            drop(subscriber);
+            assert_eq!(first.join().unwrap(), Some(0));
+            assert_eq!(second.join().unwrap().delivered(), Some(0));
+        });
+    }
 }
 
 #[test]
