@@ -95,6 +95,7 @@ impl<P: Payload + ?Sized, M: Threads> Drop for Sample<P, M> {
     }
 }
 
+#[inline]
 pub(crate) fn release(shared: &mut Shared, sample: &sys::Sample) -> u32 {
     // SAFETY: see `Shared::at`.
     unsafe { sys::iox2_sample_release(shared.at(), sample) }

@@ -51,6 +51,7 @@ impl<P: Payload + ?Sized, M: Threads> Subscriber<P, M> {
         self.sample(code, got)
     }
 
+    #[inline]
     fn sample(&self, code: u32, got: Got) -> Result<Option<Sample<P, M>>, ReceiveError> {
         match code {
             sys::OK => {
@@ -167,6 +168,7 @@ impl Default for Got {
 }
 
 impl Got {
+    #[inline]
     fn receive(&mut self, shared: &mut Shared, port: &sys::Subscriber) -> u32 {
         let (sample, start, len) = (&mut self.sample, &mut self.start, &mut self.len);
         // SAFETY: see `Shared::at`.
