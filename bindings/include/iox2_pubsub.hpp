@@ -711,7 +711,8 @@ private:
   }
 
   Result<std::optional<Sample<P, M>>> received(std::uint32_t code, const Got &got) const {
-    if (code == IOX2_NO_SAMPLE) return std::optional<Sample<P, M>>();
+    std::optional<Sample<P, M>> none;
+    if (code == IOX2_NO_SAMPLE) return none;
     if (code != IOX2_OK) return detail::error_of(code);
     const Element *first = got.len == 0 ? nullptr : detail::at<Element>(got.bytes);
     return std::optional<Sample<P, M>>(Sample<P, M>(hold_, got.sample, first, got.len / sizeof(Element)));
