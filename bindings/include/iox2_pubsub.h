@@ -6,7 +6,7 @@
  *    to memory that the call alone uses; bytes that are read are initialised;
  *  - an iox2_domain_t starts as IOX2_DOMAIN_INIT, is changed by these functions alone, and isn't copied
  *    while it has a domain;
- *  - one thread at a time is in calls of one domain, and a domain stays on its thread;
+ *  - one call at a time works on a domain; threads that share one bring a lock, as is said below;
  *  - malloc, realloc and free are the C library's, and no call is made from a signal handler;
  *  - a pointer to a payload is used as the call that gives it says, and not longer.
  *
@@ -19,6 +19,24 @@
  * are proved. Where a pointer to a payload leads is tested alone: to the bytes of its own message and of no
  * other, aligned as payload_alignment says, and they stay there until the loan or the sample is spent. The
  * pointer to a text is tested alone too.
+ *
+ * Threads. Nothing here starts a thread, takes a lock, waits, or keeps state outside of a domain. So threads may call
+ * different domains at a time, and a domain may go from one thread to another. Threads that share one have a lock for it:
+ *  - each call that takes the domain is made with the lock, also one that only asks: it takes the domain out of its
+ *    iox2_domain_t and puts it back;
+ *  - payloads need no lock. The bytes of a loan are its holder's from the call that lends it to the call that sends or
+ *    discards it; those of a sample are read by whoever likes, by several threads at a time, from the call that receives
+ *    it to the call that releases it. No other call touches them. They aren't touched once the ending call has begun,
+ *    by whichever thread;
+ *  - numbers may be handed on as any struct may: by the lock, a queue or a join;
+ *  - to wait for a message (IOX2_NO_SAMPLE) or for room (IOX2_BLOCKED), wait at a condition variable of the lock, and try
+ *    again. A message may have come after each send, retry and giving up, also one that returned IOX2_BLOCKED, after an
+ *    update of a publisher's connections, and after a publisher was made or closed; room, after a receive and after a
+ *    subscriber was closed; and a publisher that returned IOX2_PUBLISHER_IS_BLOCKED may be free after a retry or a giving
+ *    up. A release makes no room in a buffer;
+ *  - iox2_domain_destroy is called when no thread will call, read or write any more.
+ * With the lock, all calls of a domain are one list, and what is proved of a list of calls is so of that one, in the order
+ * in which the lock was taken. bindings/c/threads.c is such a program; iox2_pubsub_shared.hpp has a lock in it.
  *
  * Each call returns IOX2_OK, which is 0, or one of the codes that stand at it. Where it says nothing
  * else, a call that doesn't return IOX2_OK changes neither the domain nor what its pointers point to,
