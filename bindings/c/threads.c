@@ -12,8 +12,8 @@ enum { MESSAGES = 1000, CONSUMERS = 2 };
 
 static pthread_mutex_t lock = PTHREAD_MUTEX_INITIALIZER;
 static pthread_cond_t changed = PTHREAD_COND_INITIALIZER; /* a message came, or there is room */
-static iox2_domain_t domain;
-static iox2_publisher_t publisher;
+static iox2ps_domain_t domain;
+static iox2ps_publisher_t publisher;
 
 static void check(int is_so, const char *words) {
   if (is_so) return;
@@ -32,73 +32,73 @@ static void wait_for_change(void) { check(pthread_cond_wait(&changed, &lock) == 
 static void *produce(void *unused) {
   (void)unused;
   for (uint64_t number = 0; number < MESSAGES; number++) {
-    iox2_loan_t loan;
-    iox2_blocked_t blocked;
+    iox2ps_loan_t loan;
+    iox2ps_blocked_t blocked;
     void *payload;
     size_t receivers = 0;
 
     begin();
-    uint32_t code = iox2_publisher_loan(&domain, &publisher, sizeof(reading_t), &loan, &payload);
+    uint32_t code = iox2ps_publisher_loan(&domain, &publisher, sizeof(reading_t), &loan, &payload);
     end(0);
-    check(code == IOX2_OK, iox2_error_text(code));
+    check(code == IOX2PS_OK, iox2ps_error_text(code));
 
     *(reading_t *)payload = (reading_t){.number = number, .values = {0.5}}; /* without the lock */
 
     begin();
-    code = iox2_loan_send(&domain, &loan, &receivers, &blocked);
-    while (code == IOX2_BLOCKED) {
+    code = iox2ps_loan_send(&domain, &loan, &receivers, &blocked);
+    while (code == IOX2PS_BLOCKED) {
       pthread_cond_broadcast(&changed); /* it may have reached others */
       wait_for_change();
-      code = iox2_blocked_retry(&domain, &blocked, 0, &receivers);
+      code = iox2ps_blocked_retry(&domain, &blocked, 0, &receivers);
     }
     end(1);
-    check(code == IOX2_OK && receivers == CONSUMERS, "a message doesn't reach everybody");
+    check(code == IOX2PS_OK && receivers == CONSUMERS, "a message doesn't reach everybody");
   }
   return NULL;
 }
 
 static void *consume(void *given) {
-  const iox2_subscriber_t *subscriber = given;
+  const iox2ps_subscriber_t *subscriber = given;
   for (uint64_t number = 0; number < MESSAGES; number++) {
-    iox2_sample_t sample;
+    iox2ps_sample_t sample;
     const void *payload;
     size_t len;
 
     begin();
-    uint32_t code = iox2_subscriber_receive(&domain, subscriber, &sample, &payload, &len);
-    while (code == IOX2_NO_SAMPLE) {
+    uint32_t code = iox2ps_subscriber_receive(&domain, subscriber, &sample, &payload, &len);
+    while (code == IOX2PS_NO_SAMPLE) {
       wait_for_change();
-      code = iox2_subscriber_receive(&domain, subscriber, &sample, &payload, &len);
+      code = iox2ps_subscriber_receive(&domain, subscriber, &sample, &payload, &len);
     }
     end(1);
-    check(code == IOX2_OK, iox2_error_text(code));
+    check(code == IOX2PS_OK, iox2ps_error_text(code));
 
     check(((const reading_t *)payload)->number == number, "a message isn't the next"); /* without the lock */
 
     begin();
-    code = iox2_sample_release(&domain, &sample);
+    code = iox2ps_sample_release(&domain, &sample);
     end(0);
-    check(code == IOX2_OK, iox2_error_text(code));
+    check(code == IOX2PS_OK, iox2ps_error_text(code));
   }
   return NULL;
 }
 
 int main(void) {
-  iox2_config_t config;
-  iox2_subscriber_t subscribers[CONSUMERS];
+  iox2ps_config_t config;
+  iox2ps_subscriber_t subscribers[CONSUMERS];
   pthread_t producer, consumers[CONSUMERS];
-  iox2_config_defaults(&config, 1, sizeof(reading_t), _Alignof(reading_t));
+  iox2ps_config_defaults(&config, 1, sizeof(reading_t), _Alignof(reading_t));
   config.enable_safe_overflow = 0;
-  check(iox2_domain_create(&domain, &config) == IOX2_OK, "no domain");
-  check(iox2_publisher_create(&domain, &publisher) == IOX2_OK, "no publisher");
+  check(iox2ps_domain_create(&domain, &config) == IOX2PS_OK, "no domain");
+  check(iox2ps_publisher_create(&domain, &publisher) == IOX2PS_OK, "no publisher");
   for (int i = 0; i < CONSUMERS; i++) {
-    check(iox2_subscriber_create(&domain, &subscribers[i]) == IOX2_OK, "no subscriber");
+    check(iox2ps_subscriber_create(&domain, &subscribers[i]) == IOX2PS_OK, "no subscriber");
   }
   for (int i = 0; i < CONSUMERS; i++) check(pthread_create(&consumers[i], NULL, consume, &subscribers[i]) == 0, "no thread");
   check(pthread_create(&producer, NULL, produce, NULL) == 0, "no thread");
   pthread_join(producer, NULL);
   for (int i = 0; i < CONSUMERS; i++) pthread_join(consumers[i], NULL);
-  check(iox2_domain_destroy(&domain) == IOX2_OK, "no domain"); /* all threads have ended */
+  check(iox2ps_domain_destroy(&domain) == IOX2PS_OK, "no domain"); /* all threads have ended */
   printf("%d messages reached %d threads\n", MESSAGES, CONSUMERS);
   return 0;
 }

@@ -6,8 +6,8 @@
 #include <thread>
 
 using Message = std::array<std::uint64_t, 8>;
-using Domain = iox2::SharedDomain<Message>;
-using M = iox2::ManyThreads;
+using Domain = iox2ps::SharedDomain<Message>;
+using M = iox2ps::ManyThreads;
 using namespace std::chrono_literals;
 using Clock = std::chrono::steady_clock;
 
@@ -28,18 +28,18 @@ Message message(std::uint64_t number) {
 }
 
 Domain keeping(std::size_t buffer) {
-  iox2::Config<Message> config(1);
+  iox2ps::Config<Message> config(1);
   config.enable_safe_overflow = 0;
   config.subscriber_max_buffer_size = buffer;
   return Domain::create(config).expect("a domain");
 }
 
-iox2::BlockedSend<Message, M> blocked(iox2::Result<iox2::Sent<Message, M>> sent) {
+iox2ps::BlockedSend<Message, M> blocked(iox2ps::Result<iox2ps::Sent<Message, M>> sent) {
   CHECK(sent && sent->blocked());
   return std::move(*sent->blocked());
 }
 
-std::uint64_t first_of(iox2::Result<std::optional<iox2::Sample<Message, M>>> received) {
+std::uint64_t first_of(iox2ps::Result<std::optional<iox2ps::Sample<Message, M>>> received) {
   CHECK(received && *received);
   return (***received)[0];
 }
@@ -109,9 +109,9 @@ void each_gets_all_in_order() {
   constexpr std::uint64_t messages = 2000;
   auto domain = keeping(2);
   std::vector<std::thread> threads;
-  std::vector<iox2::Publisher<Message, M>> publishers;
+  std::vector<iox2ps::Publisher<Message, M>> publishers;
   for (std::uint64_t of = 0; of < 2; of++) publishers.push_back(domain.publisher().expect("a publisher"));
-  std::vector<iox2::Subscriber<Message, M>> subscribers;
+  std::vector<iox2ps::Subscriber<Message, M>> subscribers;
   for (int i = 0; i < 3; i++) subscribers.push_back(domain.subscriber().expect("a subscriber"));
   for (std::uint64_t of = 0; of < 2; of++) {
     threads.emplace_back([&, of] {

@@ -17,7 +17,7 @@
 #include <condition_variable>
 #include <mutex>
 
-namespace iox2 {
+namespace iox2ps {
 
 /* The handles of a domain are for many threads, under its lock. */
 class ManyThreads {
@@ -41,7 +41,7 @@ public:
   /* Makes calls as long as they return this code. */
   template <typename Call> std::uint32_t wait(std::uint32_t again, Wakes wakes, Until until, Call &&make) {
     std::unique_lock<std::mutex> lock(mutex_);
-    bool for_message = again == IOX2_NO_SAMPLE;
+    bool for_message = again == IOX2PS_NO_SAMPLE;
     std::condition_variable &signal = for_message ? messages_ : room_;
     std::size_t &waiting = for_message ? receivers_ : senders_;
     while (true) {
@@ -51,7 +51,7 @@ public:
         return code;
       }
       /* A blocked send that was tried again may have reached others on its way. */
-      if (code == IOX2_BLOCKED && receivers_ > 0) messages_.notify_all();
+      if (code == IOX2PS_BLOCKED && receivers_ > 0) messages_.notify_all();
       waiting++;
       if (until) signal.wait_until(lock, *until);
       else signal.wait(lock);
@@ -71,7 +71,7 @@ public:
 private:
   /* Gives the lock back, and then wakes those who may go on. */
   void end(std::unique_lock<std::mutex> &lock, Wakes wakes, std::uint32_t code) {
-    bool changed = code != IOX2_NOT_LIVE && code != IOX2_NO_SAMPLE && code != IOX2_PUBLISHER_IS_BLOCKED;
+    bool changed = code != IOX2PS_NOT_LIVE && code != IOX2PS_NO_SAMPLE && code != IOX2PS_PUBLISHER_IS_BLOCKED;
     bool receivers = changed && receivers_ > 0 && (wakes == Wakes::Receivers || wakes == Wakes::Both);
     bool senders = changed && senders_ > 0 && (wakes == Wakes::Senders || wakes == Wakes::Both);
     lock.unlock();
@@ -89,6 +89,6 @@ private:
 /* A service whose messages are of the type P, for many threads. Copies are the same domain. */
 template <typename P> using SharedDomain = Domain<P, ManyThreads>;
 
-} // namespace iox2
+} // namespace iox2ps
 
 #endif

@@ -87,7 +87,7 @@ impl<P: Payload + ?Sized, M: Threads> Domain<P, M> {
     pub fn connection_count(&self) -> usize {
         let mut count = 0;
         // SAFETY: see `Shared::at`.
-        self.ask(|shared| unsafe { sys::iox2_domain_connection_count(shared.at(), &mut count) });
+        self.ask(|shared| unsafe { sys::iox2ps_domain_connection_count(shared.at(), &mut count) });
         count
     }
 
@@ -96,7 +96,7 @@ impl<P: Payload + ?Sized, M: Threads> Domain<P, M> {
     pub fn book_count(&self) -> usize {
         let mut count = 0;
         // SAFETY: see `Shared::at`.
-        self.ask(|shared| unsafe { sys::iox2_domain_book_count(shared.at(), &mut count) });
+        self.ask(|shared| unsafe { sys::iox2ps_domain_book_count(shared.at(), &mut count) });
         count
     }
 
@@ -104,14 +104,16 @@ impl<P: Payload + ?Sized, M: Threads> Domain<P, M> {
     pub fn refused_connections(&self) -> u64 {
         let mut count = 0;
         // SAFETY: see `Shared::at`.
-        self.ask(|shared| unsafe { sys::iox2_domain_refused_connections(shared.at(), &mut count) });
+        self.ask(|shared| unsafe {
+            sys::iox2ps_domain_refused_connections(shared.at(), &mut count)
+        });
         count
     }
 
     pub(crate) fn config(&self) -> sys::Config {
         let mut config = sys::Config::default();
         // SAFETY: see `Shared::at`.
-        self.ask(|shared| unsafe { sys::iox2_domain_config(shared.at(), &mut config) });
+        self.ask(|shared| unsafe { sys::iox2ps_domain_config(shared.at(), &mut config) });
         config
     }
 
@@ -146,7 +148,7 @@ impl<P: Payload + ?Sized> DomainBuilder<P> {
         let () = P::FITS;
         let mut config = sys::Config::default();
         // SAFETY: the pointer is of a local.
-        unsafe { sys::iox2_config_defaults(&mut config, 0, P::SIZE, P::ALIGNMENT) };
+        unsafe { sys::iox2ps_config_defaults(&mut config, 0, P::SIZE, P::ALIGNMENT) };
         config.service_id = wide(service_id);
         DomainBuilder {
             config,
@@ -220,7 +222,7 @@ impl<P: Payload + ?Sized> DomainBuilder<P> {
         let mut slots = 0;
         let loans = self.config.publisher_max_loaned_samples;
         // SAFETY: the pointers are of locals.
-        match unsafe { sys::iox2_worst_case_slots(&self.config, loans, &mut slots) } {
+        match unsafe { sys::iox2ps_worst_case_slots(&self.config, loans, &mut slots) } {
             sys::OK => Some(slots),
             _ => None,
         }

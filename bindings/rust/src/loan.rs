@@ -23,7 +23,7 @@ impl<M: Threads> Drop for Lent<M> {
     fn drop(&mut self) {
         // SAFETY: see `Shared::at`.
         expect(self.hold.call(Wakes::Nobody, |shared| unsafe {
-            sys::iox2_loan_discard(shared.at(), &self.loan)
+            sys::iox2ps_loan_discard(shared.at(), &self.loan)
         }));
     }
 }
@@ -143,7 +143,7 @@ impl<P: Payload + ?Sized, M: Threads> Loan<P, M> {
         let lent = &self.lent;
         // SAFETY: see `Shared::at`.
         let code = lent.hold.call(Wakes::Receivers, |shared| unsafe {
-            sys::iox2_loan_send(shared.at(), &lent.loan, &mut receivers, &mut blocked)
+            sys::iox2ps_loan_send(shared.at(), &lent.loan, &mut receivers, &mut blocked)
         });
         self.outcome(code, receivers, blocked)
     }
@@ -177,7 +177,7 @@ impl<P: Payload + ?Sized> Loan<P, ManyThreads> {
         let lent = &self.lent;
         // SAFETY: see `Shared::at`.
         let code = lent.hold.wait_for_publisher(until, |shared| unsafe {
-            sys::iox2_loan_send(shared.at(), &lent.loan, &mut receivers, &mut blocked)
+            sys::iox2ps_loan_send(shared.at(), &lent.loan, &mut receivers, &mut blocked)
         });
         self.outcome(code, receivers, blocked)
     }

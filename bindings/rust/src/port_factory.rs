@@ -43,7 +43,7 @@ impl<'d, P: Payload + ?Sized, M: Threads> PortFactoryPublisher<'d, P, M> {
     pub(crate) fn new(domain: &'d Domain<P, M>) -> Self {
         let mut options = sys::PublisherOptions::default();
         // SAFETY: the pointers are of locals.
-        unsafe { sys::iox2_publisher_options_of(&domain.config(), &mut options) };
+        unsafe { sys::iox2ps_publisher_options_of(&domain.config(), &mut options) };
         PortFactoryPublisher {
             domain,
             options,
@@ -101,7 +101,7 @@ impl<'d, P: Payload + ?Sized, M: Threads> PortFactoryPublisher<'d, P, M> {
         let mut worst = 0;
         let (config, loans) = (self.domain.config(), self.options.max_loaned_samples);
         // SAFETY: the pointers are of locals.
-        match unsafe { sys::iox2_worst_case_slots(&config, loans, &mut worst) } {
+        match unsafe { sys::iox2ps_worst_case_slots(&config, loans, &mut worst) } {
             sys::OK => callback(worst).max(1),
             _ => 0,
         }
@@ -118,7 +118,7 @@ impl<'d, P: Payload + ?Sized, M: Threads> PortFactoryPublisher<'d, P, M> {
         let hold = &self.domain.hold;
         // SAFETY: see `Shared::at`.
         let code = hold.call(Wakes::Receivers, |shared| unsafe {
-            sys::iox2_publisher_create_with(shared.at(), &self.options, &mut port)
+            sys::iox2ps_publisher_create_with(shared.at(), &self.options, &mut port)
         });
         match code {
             sys::OK => Ok(Publisher::new(hold.clone(), port)),
@@ -145,7 +145,7 @@ impl<'d, P: Payload + ?Sized, M: Threads> PortFactorySubscriber<'d, P, M> {
     pub(crate) fn new(domain: &'d Domain<P, M>) -> Self {
         let mut options = sys::SubscriberOptions::default();
         // SAFETY: the pointers are of locals.
-        unsafe { sys::iox2_subscriber_options_of(&domain.config(), &mut options) };
+        unsafe { sys::iox2ps_subscriber_options_of(&domain.config(), &mut options) };
         PortFactorySubscriber { domain, options }
     }
 
@@ -167,7 +167,7 @@ impl<'d, P: Payload + ?Sized, M: Threads> PortFactorySubscriber<'d, P, M> {
         let hold = &self.domain.hold;
         // SAFETY: see `Shared::at`.
         let code = hold.call(Wakes::Nobody, |shared| unsafe {
-            sys::iox2_subscriber_create_with(shared.at(), &self.options, &mut port)
+            sys::iox2ps_subscriber_create_with(shared.at(), &self.options, &mut port)
         });
         match code {
             sys::OK => Ok(Subscriber::new(hold.clone(), port)),

@@ -72,7 +72,7 @@ impl<P: Payload + ?Sized, M: Threads> Publisher<P, M> {
         let mut is_blocked = 0;
         // SAFETY: see `Shared::at`.
         crate::domain::expect(self.hold.call(Wakes::Nobody, |shared| unsafe {
-            sys::iox2_publisher_is_blocked(shared.at(), &self.port, &mut is_blocked)
+            sys::iox2ps_publisher_is_blocked(shared.at(), &self.port, &mut is_blocked)
         }));
         is_blocked != 0
     }
@@ -81,7 +81,7 @@ impl<P: Payload + ?Sized, M: Threads> Publisher<P, M> {
     pub fn update_connections(&self) -> Result<(), ConnectionFailure> {
         // SAFETY: see `Shared::at`.
         let code = self.hold.call(Wakes::Receivers, |shared| unsafe {
-            sys::iox2_publisher_update_connections(shared.at(), &self.port)
+            sys::iox2ps_publisher_update_connections(shared.at(), &self.port)
         });
         match code {
             sys::OK => Ok(()),
@@ -94,13 +94,7 @@ impl<P: Payload + ?Sized, M: Threads> Publisher<P, M> {
         let mut start = null_mut();
         // SAFETY: see `Shared::at`.
         let code = self.hold.call(Wakes::Nobody, |shared| unsafe {
-            sys::iox2_publisher_loan_uninit(
-                shared.at(),
-                &self.port,
-                bytes,
-                &mut loan,
-                &mut start,
-            )
+            sys::iox2ps_publisher_loan_uninit(shared.at(), &self.port, bytes, &mut loan, &mut start)
         });
         match code {
             sys::OK => Ok(LoanUninit::new(self.hold.clone(), loan, start, bytes)),
@@ -161,8 +155,9 @@ impl Sending {
         let (mut loan, mut start) = (sys::Loan::default(), null_mut());
         let bytes = size_of::<T>();
         // SAFETY: see `Shared::at`.
-        let code =
-            unsafe { sys::iox2_publisher_loan_uninit(shared.at(), port, bytes, &mut loan, &mut start) };
+        let code = unsafe {
+            sys::iox2ps_publisher_loan_uninit(shared.at(), port, bytes, &mut loan, &mut start)
+        };
         if code != sys::OK {
             return code;
         }
@@ -171,7 +166,7 @@ impl Sending {
         // SAFETY: the bytes are this loan's alone; and see `Shared::at`.
         unsafe {
             payload.write(value);
-            sys::iox2_loan_send(shared.at(), &loan, receivers, blocked)
+            sys::iox2ps_loan_send(shared.at(), &loan, receivers, blocked)
         }
     }
 }

@@ -57,7 +57,7 @@ impl<P: Payload + ?Sized, M: Threads> Sample<P, M> {
         let mut header = sys::Header::default();
         // SAFETY: see `Shared::at`.
         expect(self.hold.call(Wakes::Nobody, |shared| unsafe {
-            sys::iox2_sample_header(shared.at(), &self.sample, &mut header)
+            sys::iox2ps_sample_header(shared.at(), &self.sample, &mut header)
         }));
         Header::of(&header, P::SIZE)
     }
@@ -98,7 +98,7 @@ impl<P: Payload + ?Sized, M: Threads> Drop for Sample<P, M> {
 #[inline]
 pub(crate) fn release(shared: &mut Shared, sample: &sys::Sample) -> u32 {
     // SAFETY: see `Shared::at`.
-    unsafe { sys::iox2_sample_release(shared.at(), sample) }
+    unsafe { sys::iox2ps_sample_release(shared.at(), sample) }
 }
 
 impl<P: Payload + ?Sized + fmt::Debug, M: Threads> fmt::Debug for Sample<P, M> {

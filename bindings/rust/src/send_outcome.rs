@@ -167,13 +167,13 @@ impl<P: Payload + ?Sized, M: Threads> Drop for BlockedSend<P, M> {
 fn retry(shared: &mut Shared, blocked: &sys::Blocked, elapsed: Duration, count: &mut usize) -> u32 {
     let nanoseconds = u64::try_from(elapsed.as_nanos()).unwrap_or(u64::MAX);
     // SAFETY: see `Shared::at`.
-    let code = unsafe { sys::iox2_blocked_retry(shared.at(), blocked, nanoseconds, count) };
+    let code = unsafe { sys::iox2ps_blocked_retry(shared.at(), blocked, nanoseconds, count) };
     ended(shared, blocked, code)
 }
 
 fn give_up(shared: &mut Shared, blocked: &sys::Blocked, count: &mut usize) -> u32 {
     // SAFETY: see `Shared::at`.
-    let code = unsafe { sys::iox2_blocked_give_up(shared.at(), blocked, count) };
+    let code = unsafe { sys::iox2ps_blocked_give_up(shared.at(), blocked, count) };
     ended(shared, blocked, code)
 }
 

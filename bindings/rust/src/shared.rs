@@ -19,7 +19,7 @@ impl Shared {
     pub(crate) fn new(config: &sys::Config) -> Result<Shared, u32> {
         let mut domain = sys::Domain { domain: null_mut() };
         // SAFETY: as below.
-        match unsafe { sys::iox2_domain_create(&mut domain, config) } {
+        match unsafe { sys::iox2ps_domain_create(&mut domain, config) } {
             sys::OK => Ok(Shared {
                 domain,
                 orphans: Vec::new(),
@@ -38,7 +38,7 @@ impl Shared {
     // OK, or PUBLISHER_IS_BLOCKED where it closes later.
     pub(crate) fn close_publisher(&mut self, publisher: &sys::Publisher) -> u32 {
         // SAFETY: see `at`.
-        let code = unsafe { sys::iox2_publisher_close(self.at(), publisher) };
+        let code = unsafe { sys::iox2ps_publisher_close(self.at(), publisher) };
         if code == sys::PUBLISHER_IS_BLOCKED {
             self.orphans.push(*publisher);
         }
@@ -50,7 +50,7 @@ impl Shared {
         if let Some(at) = self.orphans.iter().position(|orphan| orphan.id == id) {
             let publisher = self.orphans.swap_remove(at);
             // SAFETY: see `at`. It is refused for no publisher that is there and not blocked.
-            unsafe { sys::iox2_publisher_close(self.at(), &publisher) };
+            unsafe { sys::iox2ps_publisher_close(self.at(), &publisher) };
         }
     }
 }
@@ -58,6 +58,6 @@ impl Shared {
 impl Drop for Shared {
     fn drop(&mut self) {
         // SAFETY: see `at`.
-        unsafe { sys::iox2_domain_destroy(self.at()) };
+        unsafe { sys::iox2ps_domain_destroy(self.at()) };
     }
 }

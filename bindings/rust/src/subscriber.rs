@@ -76,7 +76,7 @@ impl<P: Payload + ?Sized, M: Threads> Subscriber<P, M> {
         let mut waits = 0;
         // SAFETY: see `Shared::at`.
         let code = self.hold.call(Wakes::Nobody, |shared| unsafe {
-            sys::iox2_subscriber_has_samples(shared.at(), &self.port, &mut waits)
+            sys::iox2ps_subscriber_has_samples(shared.at(), &self.port, &mut waits)
         });
         match code {
             sys::OK => Ok(waits != 0),
@@ -88,7 +88,7 @@ impl<P: Payload + ?Sized, M: Threads> Subscriber<P, M> {
     pub fn update_connections(&self) -> Result<(), ConnectionFailure> {
         // SAFETY: see `Shared::at`.
         let code = self.hold.call(Wakes::Nobody, |shared| unsafe {
-            sys::iox2_subscriber_update_connections(shared.at(), &self.port)
+            sys::iox2ps_subscriber_update_connections(shared.at(), &self.port)
         });
         match code {
             sys::OK => Ok(()),
@@ -117,7 +117,7 @@ fn copy_next<T: Copy + 'static>(
     let (bytes, room) = (value.as_mut_ptr().cast(), size_of::<T>());
     // SAFETY: see `Shared::at`.
     unsafe {
-        sys::iox2_subscriber_receive_copy(shared.at(), port, bytes, room, &mut len, &mut sample)
+        sys::iox2ps_subscriber_receive_copy(shared.at(), port, bytes, room, &mut len, &mut sample)
     }
 }
 
@@ -172,7 +172,7 @@ impl Got {
     fn receive(&mut self, shared: &mut Shared, port: &sys::Subscriber) -> u32 {
         let (sample, start, len) = (&mut self.sample, &mut self.start, &mut self.len);
         // SAFETY: see `Shared::at`.
-        unsafe { sys::iox2_subscriber_receive(shared.at(), port, sample, start, len) }
+        unsafe { sys::iox2ps_subscriber_receive(shared.at(), port, sample, start, len) }
     }
 }
 
@@ -240,7 +240,7 @@ impl<P: Payload + ?Sized, M: Threads> Drop for Subscriber<P, M> {
     fn drop(&mut self) {
         // SAFETY: see `Shared::at`. A send may wait for this subscriber.
         expect(self.hold.call(Wakes::Senders, |shared| unsafe {
-            sys::iox2_subscriber_close(shared.at(), &self.port)
+            sys::iox2ps_subscriber_close(shared.at(), &self.port)
         }));
     }
 }

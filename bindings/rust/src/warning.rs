@@ -42,7 +42,7 @@ impl Warning {
         let mut warning = sys::Warning::default();
         // SAFETY: see `Shared::at`.
         let code = hold.call(Wakes::Nobody, |shared| unsafe {
-            sys::iox2_domain_warning(shared.at(), index, &mut warning)
+            sys::iox2ps_domain_warning(shared.at(), index, &mut warning)
         });
         if code != sys::OK {
             return None;
