@@ -5,32 +5,32 @@
 #include <stdlib.h>
 #include <string.h>
 
-static int pass(iox2_domain_t *domain, const iox2_publisher_t *publisher, const iox2_subscriber_t *subscriber, uint64_t number) {
-  iox2_loan_t loan;
-  iox2_blocked_t blocked;
-  iox2_sample_t sample;
+static int pass(iox2ps_domain_t *domain, const iox2ps_publisher_t *publisher, const iox2ps_subscriber_t *subscriber, uint64_t number) {
+  iox2ps_loan_t loan;
+  iox2ps_blocked_t blocked;
+  iox2ps_sample_t sample;
   void *out;
   const void *in;
   size_t receivers, len;
-  if (iox2_publisher_loan(domain, publisher, sizeof number, &loan, &out)) return 0;
+  if (iox2ps_publisher_loan(domain, publisher, sizeof number, &loan, &out)) return 0;
   memcpy(out, &number, sizeof number);
-  if (iox2_loan_send(domain, &loan, &receivers, &blocked) || receivers != 1) return 0;
-  if (iox2_subscriber_receive(domain, subscriber, &sample, &in, &len) || len != sizeof number) return 0;
+  if (iox2ps_loan_send(domain, &loan, &receivers, &blocked) || receivers != 1) return 0;
+  if (iox2ps_subscriber_receive(domain, subscriber, &sample, &in, &len) || len != sizeof number) return 0;
   if (memcmp(in, &number, sizeof number)) return 0;
-  return !iox2_sample_release(domain, &sample);
+  return !iox2ps_sample_release(domain, &sample);
 }
 
 int main(int count, char **words) {
-  iox2_domain_t domain = IOX2_DOMAIN_INIT;
-  iox2_config_t config;
-  iox2_publisher_t publisher;
-  iox2_subscriber_t subscriber;
+  iox2ps_domain_t domain = IOX2PS_DOMAIN_INIT;
+  iox2ps_config_t config;
+  iox2ps_publisher_t publisher;
+  iox2ps_subscriber_t subscriber;
   const uint64_t messages = count == 2 ? strtoull(words[1], NULL, 10) : 0;
-  iox2_config_defaults(&config, 1, sizeof messages, 1);
-  if (iox2_domain_create(&domain, &config) || iox2_publisher_create(&domain, &publisher)
-      || iox2_subscriber_create(&domain, &subscriber))
+  iox2ps_config_defaults(&config, 1, sizeof messages, 1);
+  if (iox2ps_domain_create(&domain, &config) || iox2ps_publisher_create(&domain, &publisher)
+      || iox2ps_subscriber_create(&domain, &subscriber))
     return 1;
   for (uint64_t number = 0; number < messages; number++)
     if (!pass(&domain, &publisher, &subscriber, number)) return 1;
-  return iox2_domain_destroy(&domain) != 0;
+  return iox2ps_domain_destroy(&domain) != 0;
 }

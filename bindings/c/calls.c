@@ -9,17 +9,17 @@
 #endif
 
 /* No struct has room between its fields; the Rust crate's tests have the same numbers. */
-SAME_SIZE(iox2_domain_t, 8);
-SAME_SIZE(iox2_config_t, 112);
-SAME_SIZE(iox2_publisher_options_t, 40);
-SAME_SIZE(iox2_subscriber_options_t, 16);
-SAME_SIZE(iox2_publisher_t, 56);
-SAME_SIZE(iox2_subscriber_t, 48);
-SAME_SIZE(iox2_loan_t, 72);
-SAME_SIZE(iox2_blocked_t, 72);
-SAME_SIZE(iox2_sample_t, 88);
-SAME_SIZE(iox2_header_t, 40);
-SAME_SIZE(iox2_warning_t, 40);
+SAME_SIZE(iox2ps_domain_t, 8);
+SAME_SIZE(iox2ps_config_t, 112);
+SAME_SIZE(iox2ps_publisher_options_t, 40);
+SAME_SIZE(iox2ps_subscriber_options_t, 16);
+SAME_SIZE(iox2ps_publisher_t, 56);
+SAME_SIZE(iox2ps_subscriber_t, 48);
+SAME_SIZE(iox2ps_loan_t, 72);
+SAME_SIZE(iox2ps_blocked_t, 72);
+SAME_SIZE(iox2ps_sample_t, 88);
+SAME_SIZE(iox2ps_header_t, 40);
+SAME_SIZE(iox2ps_warning_t, 40);
 
 static int are_all(const void *bytes, size_t len, uint8_t value) {
   for (size_t i = 0; i < len; i++) {
@@ -28,15 +28,15 @@ static int are_all(const void *bytes, size_t len, uint8_t value) {
   return 1;
 }
 
-static void create(iox2_domain_t *domain, iox2_config_t *config) {
+static void create(iox2ps_domain_t *domain, iox2ps_config_t *config) {
   domain->domain_ = NULL;
-  IS(iox2_domain_create(domain, config), IOX2_OK);
+  IS(iox2ps_domain_create(domain, config), IOX2PS_OK);
 }
 
 static void settings_are_read_back(void) {
-  iox2_domain_t domain = IOX2_DOMAIN_INIT;
-  iox2_config_t config, read;
-  iox2_config_defaults(&config, 7, 24, 8);
+  iox2ps_domain_t domain = IOX2PS_DOMAIN_INIT;
+  iox2ps_config_t config, read;
+  iox2ps_config_defaults(&config, 7, 24, 8);
   CHECK(config.service_id.low == 7 && config.service_id.high == 0);
   CHECK(config.payload_size == 24 && config.payload_alignment == 8);
   CHECK(config.max_publishers == 2 && config.publisher_max_loaned_samples == 2 && config.max_subscribers == 8);
@@ -46,481 +46,481 @@ static void settings_are_read_back(void) {
   config.node_id.high = 3;
   create(&domain, &config);
   memset(&read, 0xff, sizeof read);
-  IS(iox2_domain_config(&domain, &read), IOX2_OK);
+  IS(iox2ps_domain_config(&domain, &read), IOX2PS_OK);
   CHECK(memcmp(&read, &config, sizeof read) == 0);
-  IS(iox2_domain_destroy(&domain), IOX2_OK);
+  IS(iox2ps_domain_destroy(&domain), IOX2PS_OK);
   CHECK(domain.domain_ == NULL);
 }
 
 static void a_message_is_written_and_read_where_it_lies(void) {
-  iox2_domain_t domain;
-  iox2_config_t config;
-  iox2_publisher_t publisher;
-  iox2_subscriber_t subscriber;
-  iox2_loan_t loan;
-  iox2_sample_t sample;
-  iox2_blocked_t blocked;
-  iox2_header_t header;
+  iox2ps_domain_t domain;
+  iox2ps_config_t config;
+  iox2ps_publisher_t publisher;
+  iox2ps_subscriber_t subscriber;
+  iox2ps_loan_t loan;
+  iox2ps_sample_t sample;
+  iox2ps_blocked_t blocked;
+  iox2ps_header_t header;
   void *written, *again;
   const void *read, *read_again;
   size_t receivers = 99, len = 99;
   uint32_t waits = 9;
-  iox2_config_defaults(&config, 7, 24, 8);
+  iox2ps_config_defaults(&config, 7, 24, 8);
   config.node_id.low = 12;
   create(&domain, &config);
-  IS(iox2_publisher_create(&domain, &publisher), IOX2_OK);
-  IS(iox2_subscriber_create(&domain, &subscriber), IOX2_OK);
+  IS(iox2ps_publisher_create(&domain, &publisher), IOX2PS_OK);
+  IS(iox2ps_subscriber_create(&domain, &subscriber), IOX2PS_OK);
   CHECK(publisher.initial_max_slice_len == 24 && subscriber.buffer_size == 2);
   CHECK(publisher.id.low != subscriber.id.low && publisher.service_id.low == 7);
 
-  IS(iox2_publisher_loan(&domain, &publisher, 24, &loan, &written), IOX2_OK);
+  IS(iox2ps_publisher_loan(&domain, &publisher, 24, &loan, &written), IOX2PS_OK);
   CHECK((uintptr_t)written % 8 == 0 && loan.publisher.low == publisher.id.low);
   CHECK(are_all(written, 24, 0));
-  IS(iox2_loan_payload(&domain, &loan, &again, &len), IOX2_OK);
+  IS(iox2ps_loan_payload(&domain, &loan, &again, &len), IOX2PS_OK);
   CHECK(again == written && len == 24);
   memcpy(written, "where it lies, 24 bytes", 24);
-  IS(iox2_subscriber_has_samples(&domain, &subscriber, &waits), IOX2_OK);
+  IS(iox2ps_subscriber_has_samples(&domain, &subscriber, &waits), IOX2PS_OK);
   CHECK(waits == 0);
-  IS(iox2_loan_send(&domain, &loan, &receivers, &blocked), IOX2_OK);
+  IS(iox2ps_loan_send(&domain, &loan, &receivers, &blocked), IOX2PS_OK);
   CHECK(receivers == 1);
-  IS(iox2_subscriber_has_samples(&domain, &subscriber, &waits), IOX2_OK);
+  IS(iox2ps_subscriber_has_samples(&domain, &subscriber, &waits), IOX2PS_OK);
   CHECK(waits == 1);
 
-  IS(iox2_subscriber_receive(&domain, &subscriber, &sample, &read, &len), IOX2_OK);
+  IS(iox2ps_subscriber_receive(&domain, &subscriber, &sample, &read, &len), IOX2PS_OK);
   CHECK(read == written && len == 24 && memcmp(read, "where it lies, 24 bytes", 24) == 0);
   CHECK(sample.origin.low == publisher.id.low && sample.subscriber.low == subscriber.id.low);
   CHECK(sample.number.low == loan.number.low && sample.number.high == loan.number.high);
-  IS(iox2_sample_payload(&domain, &sample, &read_again, &len), IOX2_OK);
+  IS(iox2ps_sample_payload(&domain, &sample, &read_again, &len), IOX2PS_OK);
   CHECK(read_again == read && len == 24);
-  IS(iox2_sample_header(&domain, &sample, &header), IOX2_OK);
+  IS(iox2ps_sample_header(&domain, &sample, &header), IOX2PS_OK);
   CHECK(header.node_id.low == 12 && header.publisher.low == publisher.id.low && header.number_of_elements == 24);
-  IS(iox2_sample_release(&domain, &sample), IOX2_OK);
-  IS(iox2_subscriber_receive(&domain, &subscriber, &sample, &read, &len), IOX2_NO_SAMPLE);
-  IS(iox2_domain_destroy(&domain), IOX2_OK);
+  IS(iox2ps_sample_release(&domain, &sample), IOX2PS_OK);
+  IS(iox2ps_subscriber_receive(&domain, &subscriber, &sample, &read, &len), IOX2PS_NO_SAMPLE);
+  IS(iox2ps_domain_destroy(&domain), IOX2PS_OK);
 }
 
 static void a_loan_may_have_unspecified_bytes(void) {
-  iox2_domain_t domain;
-  iox2_config_t config;
-  iox2_publisher_t publisher;
-  iox2_subscriber_t subscriber;
-  iox2_loan_t loan;
-  iox2_sample_t sample;
-  iox2_blocked_t blocked;
+  iox2ps_domain_t domain;
+  iox2ps_config_t config;
+  iox2ps_publisher_t publisher;
+  iox2ps_subscriber_t subscriber;
+  iox2ps_loan_t loan;
+  iox2ps_sample_t sample;
+  iox2ps_blocked_t blocked;
   void *written, *again;
   const void *read;
   size_t receivers = 99, len = 99;
-  iox2_config_defaults(&config, 7, 24, 8);
+  iox2ps_config_defaults(&config, 7, 24, 8);
   create(&domain, &config);
-  IS(iox2_publisher_create(&domain, &publisher), IOX2_OK);
-  IS(iox2_subscriber_create(&domain, &subscriber), IOX2_OK);
+  IS(iox2ps_publisher_create(&domain, &publisher), IOX2PS_OK);
+  IS(iox2ps_subscriber_create(&domain, &subscriber), IOX2PS_OK);
 
-  IS(iox2_publisher_loan_uninit(&domain, &publisher, 16, &loan, &written), IOX2_OK);
+  IS(iox2ps_publisher_loan_uninit(&domain, &publisher, 16, &loan, &written), IOX2PS_OK);
   CHECK((uintptr_t)written % 8 == 0 && loan.publisher.low == publisher.id.low);
-  IS(iox2_loan_payload(&domain, &loan, &again, &len), IOX2_OK);
+  IS(iox2ps_loan_payload(&domain, &loan, &again, &len), IOX2PS_OK);
   CHECK(again == written && len == 16);
   memcpy(written, "these 16 bytes.", 16);
-  IS(iox2_loan_discard(&domain, &loan), IOX2_OK);
-  IS(iox2_publisher_loan_uninit(&domain, &publisher, 24, &loan, &again), IOX2_OK);
+  IS(iox2ps_loan_discard(&domain, &loan), IOX2PS_OK);
+  IS(iox2ps_publisher_loan_uninit(&domain, &publisher, 24, &loan, &again), IOX2PS_OK);
   CHECK(again == written && memcmp(again, "these 16 bytes.\0\0\0\0\0\0\0\0", 24) == 0);
   memset(again, 3, 24);
-  IS(iox2_loan_send(&domain, &loan, &receivers, &blocked), IOX2_OK);
-  IS(iox2_subscriber_receive(&domain, &subscriber, &sample, &read, &len), IOX2_OK);
+  IS(iox2ps_loan_send(&domain, &loan, &receivers, &blocked), IOX2PS_OK);
+  IS(iox2ps_subscriber_receive(&domain, &subscriber, &sample, &read, &len), IOX2PS_OK);
   CHECK(receivers == 1 && read == written && len == 24 && are_all(read, 24, 3));
-  IS(iox2_sample_release(&domain, &sample), IOX2_OK);
-  IS(iox2_domain_destroy(&domain), IOX2_OK);
+  IS(iox2ps_sample_release(&domain, &sample), IOX2PS_OK);
+  IS(iox2ps_domain_destroy(&domain), IOX2PS_OK);
 }
 
 static void a_message_is_copied(void) {
-  iox2_domain_t domain;
-  iox2_config_t config;
-  iox2_publisher_t publisher;
-  iox2_subscriber_t subscriber;
-  iox2_sample_t sample;
-  iox2_blocked_t blocked;
+  iox2ps_domain_t domain;
+  iox2ps_config_t config;
+  iox2ps_publisher_t publisher;
+  iox2ps_subscriber_t subscriber;
+  iox2ps_sample_t sample;
+  iox2ps_blocked_t blocked;
   uint8_t bytes[16];
   const void *read;
   size_t receivers = 99, len = 99;
-  iox2_config_defaults(&config, 7, 16, 1);
+  iox2ps_config_defaults(&config, 7, 16, 1);
   create(&domain, &config);
-  IS(iox2_publisher_create(&domain, &publisher), IOX2_OK);
-  IS(iox2_subscriber_create(&domain, &subscriber), IOX2_OK);
-  IS(iox2_publisher_send_copy(&domain, &publisher, "hello", 5, &receivers, &blocked), IOX2_OK);
+  IS(iox2ps_publisher_create(&domain, &publisher), IOX2PS_OK);
+  IS(iox2ps_subscriber_create(&domain, &subscriber), IOX2PS_OK);
+  IS(iox2ps_publisher_send_copy(&domain, &publisher, "hello", 5, &receivers, &blocked), IOX2PS_OK);
   CHECK(receivers == 1);
-  IS(iox2_publisher_send_copy(&domain, &publisher, "sixteen bytes ..", 16, &receivers, &blocked), IOX2_OK);
+  IS(iox2ps_publisher_send_copy(&domain, &publisher, "sixteen bytes ..", 16, &receivers, &blocked), IOX2PS_OK);
   memset(bytes, 'x', sizeof bytes);
-  IS(iox2_subscriber_receive_copy(&domain, &subscriber, bytes, sizeof bytes, &len, &sample), IOX2_OK);
+  IS(iox2ps_subscriber_receive_copy(&domain, &subscriber, bytes, sizeof bytes, &len, &sample), IOX2PS_OK);
   CHECK(len == 5 && memcmp(bytes, "helloxxx", 8) == 0);
-  IS(iox2_subscriber_receive(&domain, &subscriber, &sample, &read, &len), IOX2_OK);
+  IS(iox2ps_subscriber_receive(&domain, &subscriber, &sample, &read, &len), IOX2PS_OK);
   CHECK(len == 16 && memcmp(read, "sixteen bytes ..", 16) == 0);
   memset(bytes, 'x', sizeof bytes);
-  IS(iox2_sample_copy(&domain, &sample, bytes, sizeof bytes, &len), IOX2_OK);
+  IS(iox2ps_sample_copy(&domain, &sample, bytes, sizeof bytes, &len), IOX2PS_OK);
   CHECK(len == 16 && memcmp(bytes, "sixteen bytes ..", 16) == 0);
-  IS(iox2_sample_release(&domain, &sample), IOX2_OK);
-  IS(iox2_subscriber_receive_copy(&domain, &subscriber, bytes, sizeof bytes, &len, &sample), IOX2_NO_SAMPLE);
-  IS(iox2_domain_destroy(&domain), IOX2_OK);
+  IS(iox2ps_sample_release(&domain, &sample), IOX2PS_OK);
+  IS(iox2ps_subscriber_receive_copy(&domain, &subscriber, bytes, sizeof bytes, &len, &sample), IOX2PS_NO_SAMPLE);
+  IS(iox2ps_domain_destroy(&domain), IOX2PS_OK);
 }
 
 /* The bytes of a sample and of a loan stay while messages, samples, ports and loans come and go. */
 static void bytes_stay_where_they_are(void) {
-  iox2_domain_t domain;
-  iox2_config_t config;
-  iox2_publisher_t publisher, other;
-  iox2_subscriber_t subscriber, late;
-  iox2_sample_t kept, sample;
-  iox2_loan_t loan;
-  iox2_blocked_t blocked;
+  iox2ps_domain_t domain;
+  iox2ps_config_t config;
+  iox2ps_publisher_t publisher, other;
+  iox2ps_subscriber_t subscriber, late;
+  iox2ps_sample_t kept, sample;
+  iox2ps_loan_t loan;
+  iox2ps_blocked_t blocked;
   uint8_t noise[32];
   void *written;
   const void *at, *read;
   size_t receivers, len;
-  iox2_config_defaults(&config, 7, 32, 16);
+  iox2ps_config_defaults(&config, 7, 32, 16);
   config.subscriber_max_borrowed_samples = 2;
   create(&domain, &config);
-  IS(iox2_publisher_create(&domain, &publisher), IOX2_OK);
-  IS(iox2_subscriber_create(&domain, &subscriber), IOX2_OK);
+  IS(iox2ps_publisher_create(&domain, &publisher), IOX2PS_OK);
+  IS(iox2ps_subscriber_create(&domain, &subscriber), IOX2PS_OK);
   memset(noise, 'n', sizeof noise);
-  IS(iox2_publisher_send_copy(&domain, &publisher, "kept", 4, &receivers, &blocked), IOX2_OK);
-  IS(iox2_subscriber_receive(&domain, &subscriber, &kept, &at, &len), IOX2_OK);
-  IS(iox2_publisher_loan(&domain, &publisher, 32, &loan, &written), IOX2_OK);
+  IS(iox2ps_publisher_send_copy(&domain, &publisher, "kept", 4, &receivers, &blocked), IOX2PS_OK);
+  IS(iox2ps_subscriber_receive(&domain, &subscriber, &kept, &at, &len), IOX2PS_OK);
+  IS(iox2ps_publisher_loan(&domain, &publisher, 32, &loan, &written), IOX2PS_OK);
   memset(written, 'w', 32);
   for (int round = 0; round < 100; round++) {
-    IS(iox2_publisher_create(&domain, &other), IOX2_OK);
-    IS(iox2_subscriber_create(&domain, &late), IOX2_OK);
-    IS(iox2_publisher_send_copy(&domain, &publisher, noise, 32, &receivers, &blocked), IOX2_OK);
-    IS(iox2_publisher_send_copy(&domain, &other, noise, 32, &receivers, &blocked), IOX2_OK);
-    IS(iox2_subscriber_receive(&domain, &subscriber, &sample, &read, &len), IOX2_OK);
-    IS(iox2_sample_release(&domain, &sample), IOX2_OK);
-    IS(iox2_publisher_close(&domain, &other), IOX2_OK);
-    IS(iox2_subscriber_close(&domain, &late), IOX2_OK);
+    IS(iox2ps_publisher_create(&domain, &other), IOX2PS_OK);
+    IS(iox2ps_subscriber_create(&domain, &late), IOX2PS_OK);
+    IS(iox2ps_publisher_send_copy(&domain, &publisher, noise, 32, &receivers, &blocked), IOX2PS_OK);
+    IS(iox2ps_publisher_send_copy(&domain, &other, noise, 32, &receivers, &blocked), IOX2PS_OK);
+    IS(iox2ps_subscriber_receive(&domain, &subscriber, &sample, &read, &len), IOX2PS_OK);
+    IS(iox2ps_sample_release(&domain, &sample), IOX2PS_OK);
+    IS(iox2ps_publisher_close(&domain, &other), IOX2PS_OK);
+    IS(iox2ps_subscriber_close(&domain, &late), IOX2PS_OK);
   }
   CHECK(len == 32 && memcmp(at, "kept", 4) == 0);
   CHECK(are_all(written, 32, 'w'));
-  IS(iox2_loan_send(&domain, &loan, &receivers, &blocked), IOX2_OK);
-  IS(iox2_publisher_close(&domain, &publisher), IOX2_OK);
-  IS(iox2_subscriber_close(&domain, &subscriber), IOX2_OK);
+  IS(iox2ps_loan_send(&domain, &loan, &receivers, &blocked), IOX2PS_OK);
+  IS(iox2ps_publisher_close(&domain, &publisher), IOX2PS_OK);
+  IS(iox2ps_subscriber_close(&domain, &subscriber), IOX2PS_OK);
   CHECK(memcmp(at, "kept", 4) == 0);
-  IS(iox2_sample_payload(&domain, &kept, &read, &len), IOX2_OK);
+  IS(iox2ps_sample_payload(&domain, &kept, &read, &len), IOX2PS_OK);
   CHECK(read == at && len == 4);
-  IS(iox2_domain_destroy(&domain), IOX2_OK);
+  IS(iox2ps_domain_destroy(&domain), IOX2PS_OK);
 }
 
 /* Of four messages that are out, or borrowed, at a time, each leads to bytes of its own: what is written to one is read
  * there alone. Later rounds use slots again. */
 static void each_message_has_bytes_of_its_own(void) {
   enum { MESSAGES = 4, LEN = 24 };
-  iox2_domain_t domain;
-  iox2_config_t config;
-  iox2_publisher_t publishers[2];
-  iox2_subscriber_t subscriber;
-  iox2_loan_t loans[MESSAGES];
-  iox2_sample_t samples[MESSAGES];
-  iox2_blocked_t blocked;
+  iox2ps_domain_t domain;
+  iox2ps_config_t config;
+  iox2ps_publisher_t publishers[2];
+  iox2ps_subscriber_t subscriber;
+  iox2ps_loan_t loans[MESSAGES];
+  iox2ps_sample_t samples[MESSAGES];
+  iox2ps_blocked_t blocked;
   void *written[MESSAGES], *again;
   const void *read[MESSAGES], *read_again;
   size_t receivers, len;
-  iox2_config_defaults(&config, 7, LEN, 8);
+  iox2ps_config_defaults(&config, 7, LEN, 8);
   create(&domain, &config);
-  for (int i = 0; i < 2; i++) IS(iox2_publisher_create(&domain, &publishers[i]), IOX2_OK);
-  IS(iox2_subscriber_create(&domain, &subscriber), IOX2_OK);
+  for (int i = 0; i < 2; i++) IS(iox2ps_publisher_create(&domain, &publishers[i]), IOX2PS_OK);
+  IS(iox2ps_subscriber_create(&domain, &subscriber), IOX2PS_OK);
   for (uint8_t letter = 'a'; letter < 'a' + 3 * MESSAGES; letter += MESSAGES) {
-    for (int i = 0; i < MESSAGES; i++) IS(iox2_publisher_loan(&domain, &publishers[i % 2], LEN, &loans[i], &written[i]), IOX2_OK);
+    for (int i = 0; i < MESSAGES; i++) IS(iox2ps_publisher_loan(&domain, &publishers[i % 2], LEN, &loans[i], &written[i]), IOX2PS_OK);
     for (int i = 0; i < MESSAGES; i++) memset(written[i], letter + i, LEN);
     for (int i = 0; i < MESSAGES; i++) {
       CHECK(are_all(written[i], LEN, (uint8_t)(letter + i)));
-      IS(iox2_loan_payload(&domain, &loans[i], &again, &len), IOX2_OK);
+      IS(iox2ps_loan_payload(&domain, &loans[i], &again, &len), IOX2PS_OK);
       CHECK(again == written[i] && len == LEN);
     }
-    for (int i = 0; i < MESSAGES; i++) IS(iox2_loan_send(&domain, &loans[i], &receivers, &blocked), IOX2_OK);
-    for (int i = 0; i < MESSAGES; i++) IS(iox2_subscriber_receive(&domain, &subscriber, &samples[i], &read[i], &len), IOX2_OK);
+    for (int i = 0; i < MESSAGES; i++) IS(iox2ps_loan_send(&domain, &loans[i], &receivers, &blocked), IOX2PS_OK);
+    for (int i = 0; i < MESSAGES; i++) IS(iox2ps_subscriber_receive(&domain, &subscriber, &samples[i], &read[i], &len), IOX2PS_OK);
     for (int i = 0; i < MESSAGES; i++) {
       int of = 0;
       while (of < MESSAGES - 1 && loans[of].number.low != samples[i].number.low) of++;
       CHECK(loans[of].number.low == samples[i].number.low && loans[of].publisher.low == samples[i].origin.low);
       CHECK(read[i] == written[of] && are_all(read[i], LEN, (uint8_t)(letter + of)));
-      IS(iox2_sample_payload(&domain, &samples[i], &read_again, &len), IOX2_OK);
+      IS(iox2ps_sample_payload(&domain, &samples[i], &read_again, &len), IOX2PS_OK);
       CHECK(read_again == read[i] && len == LEN);
     }
-    for (int i = 0; i < MESSAGES; i++) IS(iox2_sample_release(&domain, &samples[i]), IOX2_OK);
+    for (int i = 0; i < MESSAGES; i++) IS(iox2ps_sample_release(&domain, &samples[i]), IOX2PS_OK);
   }
-  IS(iox2_domain_destroy(&domain), IOX2_OK);
+  IS(iox2ps_domain_destroy(&domain), IOX2PS_OK);
 }
 
 /* Whatever else is lent, however short it is, and also where slots are used again. */
 static void payloads_are_aligned_as_the_settings_say(void) {
   for (size_t alignment = 1; alignment <= 16; alignment *= 2) {
-    iox2_domain_t domain;
-    iox2_config_t config;
-    iox2_publisher_t publisher;
-    iox2_subscriber_t subscriber;
-    iox2_loan_t loans[2];
-    iox2_sample_t sample;
-    iox2_blocked_t blocked;
+    iox2ps_domain_t domain;
+    iox2ps_config_t config;
+    iox2ps_publisher_t publisher;
+    iox2ps_subscriber_t subscriber;
+    iox2ps_loan_t loans[2];
+    iox2ps_sample_t sample;
+    iox2ps_blocked_t blocked;
     void *written[2];
     const void *read;
     size_t receivers, len;
-    iox2_config_defaults(&config, 7, 3 * alignment, alignment);
+    iox2ps_config_defaults(&config, 7, 3 * alignment, alignment);
     create(&domain, &config);
-    IS(iox2_publisher_create(&domain, &publisher), IOX2_OK);
-    IS(iox2_subscriber_create(&domain, &subscriber), IOX2_OK);
+    IS(iox2ps_publisher_create(&domain, &publisher), IOX2PS_OK);
+    IS(iox2ps_subscriber_create(&domain, &subscriber), IOX2PS_OK);
     for (int round = 0; round < 50; round++) {
       for (int i = 0; i < 2; i++) {
-        IS(iox2_publisher_loan(&domain, &publisher, i ? 3 * alignment : 1, &loans[i], &written[i]), IOX2_OK);
+        IS(iox2ps_publisher_loan(&domain, &publisher, i ? 3 * alignment : 1, &loans[i], &written[i]), IOX2PS_OK);
         CHECK((uintptr_t)written[i] % alignment == 0);
       }
       for (int i = 0; i < 2; i++) {
-        IS(iox2_loan_send(&domain, &loans[i], &receivers, &blocked), IOX2_OK);
-        IS(iox2_subscriber_receive(&domain, &subscriber, &sample, &read, &len), IOX2_OK);
+        IS(iox2ps_loan_send(&domain, &loans[i], &receivers, &blocked), IOX2PS_OK);
+        IS(iox2ps_subscriber_receive(&domain, &subscriber, &sample, &read, &len), IOX2PS_OK);
         CHECK((uintptr_t)read % alignment == 0);
-        IS(iox2_sample_release(&domain, &sample), IOX2_OK);
+        IS(iox2ps_sample_release(&domain, &sample), IOX2PS_OK);
       }
     }
-    IS(iox2_domain_destroy(&domain), IOX2_OK);
+    IS(iox2ps_domain_destroy(&domain), IOX2PS_OK);
   }
 }
 
 static void a_blocked_send_is_tried_again_and_given_up(void) {
-  iox2_domain_t domain;
-  iox2_config_t config;
-  iox2_publisher_t publisher;
-  iox2_subscriber_t subscriber;
-  iox2_sample_t sample;
-  iox2_loan_t loan;
-  iox2_blocked_t blocked;
+  iox2ps_domain_t domain;
+  iox2ps_config_t config;
+  iox2ps_publisher_t publisher;
+  iox2ps_subscriber_t subscriber;
+  iox2ps_sample_t sample;
+  iox2ps_loan_t loan;
+  iox2ps_blocked_t blocked;
   uint8_t byte = 1;
   void *written;
   size_t receivers, len;
   uint32_t is_blocked;
-  iox2_config_defaults(&config, 7, 1, 1);
+  iox2ps_config_defaults(&config, 7, 1, 1);
   config.enable_safe_overflow = 0;
   config.subscriber_max_buffer_size = 1;
   create(&domain, &config);
-  IS(iox2_publisher_create(&domain, &publisher), IOX2_OK);
-  IS(iox2_subscriber_create(&domain, &subscriber), IOX2_OK);
-  CHECK(publisher.backpressure_strategy == IOX2_RETRY_UNTIL_DELIVERED);
-  IS(iox2_publisher_send_copy(&domain, &publisher, &byte, 1, &receivers, &blocked), IOX2_OK);
-  IS(iox2_publisher_is_blocked(&domain, &publisher, &is_blocked), IOX2_OK);
+  IS(iox2ps_publisher_create(&domain, &publisher), IOX2PS_OK);
+  IS(iox2ps_subscriber_create(&domain, &subscriber), IOX2PS_OK);
+  CHECK(publisher.backpressure_strategy == IOX2PS_RETRY_UNTIL_DELIVERED);
+  IS(iox2ps_publisher_send_copy(&domain, &publisher, &byte, 1, &receivers, &blocked), IOX2PS_OK);
+  IS(iox2ps_publisher_is_blocked(&domain, &publisher, &is_blocked), IOX2PS_OK);
   CHECK(is_blocked == 0);
-  IS(iox2_publisher_loan(&domain, &publisher, 1, &loan, &written), IOX2_OK);
+  IS(iox2ps_publisher_loan(&domain, &publisher, 1, &loan, &written), IOX2PS_OK);
   memset(written, 2, 1);
-  IS(iox2_loan_send(&domain, &loan, &receivers, &blocked), IOX2_BLOCKED);
+  IS(iox2ps_loan_send(&domain, &loan, &receivers, &blocked), IOX2PS_BLOCKED);
   CHECK(blocked.publisher.low == publisher.id.low);
-  IS(iox2_publisher_is_blocked(&domain, &publisher, &is_blocked), IOX2_OK);
+  IS(iox2ps_publisher_is_blocked(&domain, &publisher, &is_blocked), IOX2PS_OK);
   CHECK(is_blocked == 1);
-  IS(iox2_blocked_retry(&domain, &blocked, 1000, &receivers), IOX2_BLOCKED);
-  IS(iox2_subscriber_receive_copy(&domain, &subscriber, &byte, 1, &len, &sample), IOX2_OK);
+  IS(iox2ps_blocked_retry(&domain, &blocked, 1000, &receivers), IOX2PS_BLOCKED);
+  IS(iox2ps_subscriber_receive_copy(&domain, &subscriber, &byte, 1, &len, &sample), IOX2PS_OK);
   CHECK(byte == 1);
-  IS(iox2_blocked_retry(&domain, &blocked, UINT64_MAX, &receivers), IOX2_OK);
+  IS(iox2ps_blocked_retry(&domain, &blocked, UINT64_MAX, &receivers), IOX2PS_OK);
   CHECK(receivers == 1);
-  IS(iox2_blocked_retry(&domain, &blocked, 0, &receivers), IOX2_NOT_LIVE);
+  IS(iox2ps_blocked_retry(&domain, &blocked, 0, &receivers), IOX2PS_NOT_LIVE);
   byte = 3;
-  IS(iox2_publisher_send_copy(&domain, &publisher, &byte, 1, &receivers, &blocked), IOX2_BLOCKED);
-  IS(iox2_blocked_give_up(&domain, &blocked, &receivers), IOX2_OK);
+  IS(iox2ps_publisher_send_copy(&domain, &publisher, &byte, 1, &receivers, &blocked), IOX2PS_BLOCKED);
+  IS(iox2ps_blocked_give_up(&domain, &blocked, &receivers), IOX2PS_OK);
   CHECK(receivers == 0);
-  IS(iox2_blocked_give_up(&domain, &blocked, &receivers), IOX2_NOT_LIVE);
-  IS(iox2_subscriber_receive_copy(&domain, &subscriber, &byte, 1, &len, &sample), IOX2_OK);
+  IS(iox2ps_blocked_give_up(&domain, &blocked, &receivers), IOX2PS_NOT_LIVE);
+  IS(iox2ps_subscriber_receive_copy(&domain, &subscriber, &byte, 1, &len, &sample), IOX2PS_OK);
   CHECK(byte == 2);
-  IS(iox2_subscriber_receive_copy(&domain, &subscriber, &byte, 1, &len, &sample), IOX2_NO_SAMPLE);
-  IS(iox2_domain_destroy(&domain), IOX2_OK);
+  IS(iox2ps_subscriber_receive_copy(&domain, &subscriber, &byte, 1, &len, &sample), IOX2PS_NO_SAMPLE);
+  IS(iox2ps_domain_destroy(&domain), IOX2PS_OK);
 }
 
 static void ports_are_made_with_options(void) {
-  iox2_domain_t domain;
-  iox2_config_t config;
-  iox2_publisher_options_t publisher_options;
-  iox2_subscriber_options_t subscriber_options;
-  iox2_publisher_t discards, fails;
-  iox2_subscriber_t subscriber;
-  iox2_loan_t loan;
-  iox2_blocked_t blocked;
+  iox2ps_domain_t domain;
+  iox2ps_config_t config;
+  iox2ps_publisher_options_t publisher_options;
+  iox2ps_subscriber_options_t subscriber_options;
+  iox2ps_publisher_t discards, fails;
+  iox2ps_subscriber_t subscriber;
+  iox2ps_loan_t loan;
+  iox2ps_blocked_t blocked;
   uint8_t byte = 1;
   void *written;
   size_t receivers, count;
-  iox2_config_defaults(&config, 7, 4, 4);
+  iox2ps_config_defaults(&config, 7, 4, 4);
   config.enable_safe_overflow = 0;
   create(&domain, &config);
-  iox2_publisher_options_of(&config, &publisher_options);
+  iox2ps_publisher_options_of(&config, &publisher_options);
   CHECK(publisher_options.max_loaned_samples == 2 && publisher_options.initial_max_slice_len == 4);
-  CHECK(publisher_options.backpressure_strategy == IOX2_RETRY_UNTIL_DELIVERED);
-  CHECK(publisher_options.backpressure_handler == IOX2_BACKPRESSURE_NONE);
+  CHECK(publisher_options.backpressure_strategy == IOX2PS_RETRY_UNTIL_DELIVERED);
+  CHECK(publisher_options.backpressure_handler == IOX2PS_BACKPRESSURE_NONE);
   publisher_options.max_loaned_samples = 1;
   publisher_options.initial_max_slice_len = 8;
-  publisher_options.backpressure_strategy = IOX2_DISCARD_DATA;
-  IS(iox2_publisher_create_with(&domain, &publisher_options, &discards), IOX2_OK);
-  CHECK(discards.initial_max_slice_len == 8 && discards.backpressure_strategy == IOX2_DISCARD_DATA);
-  publisher_options.backpressure_handler = IOX2_BACKPRESSURE_DISCARD_DATA_AND_FAIL;
-  IS(iox2_publisher_create_with(&domain, &publisher_options, &fails), IOX2_OK);
-  iox2_subscriber_options_of(&config, &subscriber_options);
+  publisher_options.backpressure_strategy = IOX2PS_DISCARD_DATA;
+  IS(iox2ps_publisher_create_with(&domain, &publisher_options, &discards), IOX2PS_OK);
+  CHECK(discards.initial_max_slice_len == 8 && discards.backpressure_strategy == IOX2PS_DISCARD_DATA);
+  publisher_options.backpressure_handler = IOX2PS_BACKPRESSURE_DISCARD_DATA_AND_FAIL;
+  IS(iox2ps_publisher_create_with(&domain, &publisher_options, &fails), IOX2PS_OK);
+  iox2ps_subscriber_options_of(&config, &subscriber_options);
   CHECK(subscriber_options.buffer_size == 2);
   subscriber_options.buffer_size = 1;
-  IS(iox2_subscriber_create_with(&domain, &subscriber_options, &subscriber), IOX2_OK);
+  IS(iox2ps_subscriber_create_with(&domain, &subscriber_options, &subscriber), IOX2PS_OK);
   CHECK(subscriber.buffer_size == 1);
-  IS(iox2_publisher_update_connections(&domain, &discards), IOX2_OK);
-  IS(iox2_subscriber_update_connections(&domain, &subscriber), IOX2_OK);
-  IS(iox2_domain_connection_count(&domain, &count), IOX2_OK);
+  IS(iox2ps_publisher_update_connections(&domain, &discards), IOX2PS_OK);
+  IS(iox2ps_subscriber_update_connections(&domain, &subscriber), IOX2PS_OK);
+  IS(iox2ps_domain_connection_count(&domain, &count), IOX2PS_OK);
   CHECK(count >= 1 && count <= 2);
-  IS(iox2_domain_book_count(&domain, &count), IOX2_OK);
+  IS(iox2ps_domain_book_count(&domain, &count), IOX2PS_OK);
   CHECK(count == 2);
 
-  IS(iox2_publisher_loan(&domain, &discards, 8, &loan, &written), IOX2_OK);
+  IS(iox2ps_publisher_loan(&domain, &discards, 8, &loan, &written), IOX2PS_OK);
   CHECK((uintptr_t)written % 4 == 0);
-  IS(iox2_publisher_send_copy(&domain, &discards, &byte, 1, &receivers, &blocked), IOX2_LOAN_ERROR_EXCEEDS_MAX_LOANS);
-  IS(iox2_loan_send(&domain, &loan, &receivers, &blocked), IOX2_OK);
+  IS(iox2ps_publisher_send_copy(&domain, &discards, &byte, 1, &receivers, &blocked), IOX2PS_LOAN_ERROR_EXCEEDS_MAX_LOANS);
+  IS(iox2ps_loan_send(&domain, &loan, &receivers, &blocked), IOX2PS_OK);
   CHECK(receivers == 1);
-  IS(iox2_publisher_send_copy(&domain, &discards, &byte, 1, &receivers, &blocked), IOX2_OK);
+  IS(iox2ps_publisher_send_copy(&domain, &discards, &byte, 1, &receivers, &blocked), IOX2PS_OK);
   CHECK(receivers == 0);
-  IS(iox2_publisher_send_copy(&domain, &fails, &byte, 1, &receivers, &blocked), IOX2_OK);
-  IS(iox2_publisher_send_copy(&domain, &fails, &byte, 1, &receivers, &blocked), IOX2_SEND_ERROR_UNABLE_TO_DELIVER);
-  IS(iox2_domain_destroy(&domain), IOX2_OK);
+  IS(iox2ps_publisher_send_copy(&domain, &fails, &byte, 1, &receivers, &blocked), IOX2PS_OK);
+  IS(iox2ps_publisher_send_copy(&domain, &fails, &byte, 1, &receivers, &blocked), IOX2PS_SEND_ERROR_UNABLE_TO_DELIVER);
+  IS(iox2ps_domain_destroy(&domain), IOX2PS_OK);
 }
 
 static void a_publisher_asks_for_fewer_slots(void) {
-  iox2_domain_t domain;
-  iox2_config_t config;
-  iox2_publisher_options_t options;
-  iox2_publisher_t one_slot, worst_case;
-  iox2_loan_t first, second, third;
+  iox2ps_domain_t domain;
+  iox2ps_config_t config;
+  iox2ps_publisher_options_t options;
+  iox2ps_publisher_t one_slot, worst_case;
+  iox2ps_loan_t first, second, third;
   void *written;
-  iox2_config_defaults(&config, 7, 1, 1);
+  iox2ps_config_defaults(&config, 7, 1, 1);
   create(&domain, &config);
-  iox2_publisher_options_of(&config, &options);
+  iox2ps_publisher_options_of(&config, &options);
   CHECK(options.preallocated_samples == 0 && options.max_loaned_samples == 2);
   options.preallocated_samples = 1;
-  IS(iox2_publisher_create_with(&domain, &options, &one_slot), IOX2_OK);
-  IS(iox2_publisher_loan(&domain, &one_slot, 1, &first, &written), IOX2_OK);
-  IS(iox2_publisher_loan(&domain, &one_slot, 1, &second, &written), IOX2_LOAN_ERROR_OUT_OF_MEMORY);
-  IS(iox2_loan_discard(&domain, &first), IOX2_OK);
-  IS(iox2_publisher_loan(&domain, &one_slot, 1, &second, &written), IOX2_OK);
+  IS(iox2ps_publisher_create_with(&domain, &options, &one_slot), IOX2PS_OK);
+  IS(iox2ps_publisher_loan(&domain, &one_slot, 1, &first, &written), IOX2PS_OK);
+  IS(iox2ps_publisher_loan(&domain, &one_slot, 1, &second, &written), IOX2PS_LOAN_ERROR_OUT_OF_MEMORY);
+  IS(iox2ps_loan_discard(&domain, &first), IOX2PS_OK);
+  IS(iox2ps_publisher_loan(&domain, &one_slot, 1, &second, &written), IOX2PS_OK);
   options.preallocated_samples = SIZE_MAX;
-  IS(iox2_publisher_create_with(&domain, &options, &worst_case), IOX2_OK);
-  IS(iox2_publisher_loan(&domain, &worst_case, 1, &first, &written), IOX2_OK);
-  IS(iox2_publisher_loan(&domain, &worst_case, 1, &second, &written), IOX2_OK);
-  IS(iox2_publisher_loan(&domain, &worst_case, 1, &third, &written), IOX2_LOAN_ERROR_EXCEEDS_MAX_LOANS);
-  IS(iox2_domain_destroy(&domain), IOX2_OK);
+  IS(iox2ps_publisher_create_with(&domain, &options, &worst_case), IOX2PS_OK);
+  IS(iox2ps_publisher_loan(&domain, &worst_case, 1, &first, &written), IOX2PS_OK);
+  IS(iox2ps_publisher_loan(&domain, &worst_case, 1, &second, &written), IOX2PS_OK);
+  IS(iox2ps_publisher_loan(&domain, &worst_case, 1, &third, &written), IOX2PS_LOAN_ERROR_EXCEEDS_MAX_LOANS);
+  IS(iox2ps_domain_destroy(&domain), IOX2PS_OK);
 }
 
 /* A growing publisher lends what is longer or beyond its slots; what was lent and received before stays where it is. */
 static void a_publisher_grows(void) {
-  iox2_domain_t domain;
-  iox2_config_t config;
-  iox2_publisher_options_t options;
-  iox2_publisher_t publisher;
-  iox2_subscriber_t subscriber;
-  iox2_loan_t loans[6];
-  iox2_sample_t sample;
-  iox2_blocked_t blocked;
+  iox2ps_domain_t domain;
+  iox2ps_config_t config;
+  iox2ps_publisher_options_t options;
+  iox2ps_publisher_t publisher;
+  iox2ps_subscriber_t subscriber;
+  iox2ps_loan_t loans[6];
+  iox2ps_sample_t sample;
+  iox2ps_blocked_t blocked;
   uint8_t *bytes[6];
   const void *read;
   void *written;
   size_t len, receivers;
-  iox2_config_defaults(&config, 7, 16, 16);
+  iox2ps_config_defaults(&config, 7, 16, 16);
   create(&domain, &config);
-  iox2_publisher_options_of(&config, &options);
-  CHECK(options.allocation_strategy == IOX2_ALLOCATION_STATIC);
-  options.allocation_strategy = IOX2_ALLOCATION_BEST_FIT;
+  iox2ps_publisher_options_of(&config, &options);
+  CHECK(options.allocation_strategy == IOX2PS_ALLOCATION_STATIC);
+  options.allocation_strategy = IOX2PS_ALLOCATION_BEST_FIT;
   options.max_loaned_samples = 6;
   options.preallocated_samples = 1;
-  IS(iox2_subscriber_create(&domain, &subscriber), IOX2_OK);
-  IS(iox2_publisher_create_with(&domain, &options, &publisher), IOX2_OK);
-  IS(iox2_publisher_send_copy(&domain, &publisher, "0123456789abcdef", 16, &receivers, &blocked), IOX2_OK);
-  IS(iox2_subscriber_receive(&domain, &subscriber, &sample, &read, &len), IOX2_OK);
+  IS(iox2ps_subscriber_create(&domain, &subscriber), IOX2PS_OK);
+  IS(iox2ps_publisher_create_with(&domain, &options, &publisher), IOX2PS_OK);
+  IS(iox2ps_publisher_send_copy(&domain, &publisher, "0123456789abcdef", 16, &receivers, &blocked), IOX2PS_OK);
+  IS(iox2ps_subscriber_receive(&domain, &subscriber, &sample, &read, &len), IOX2PS_OK);
   for (size_t i = 0; i < 6; i++) {
-    IS(iox2_publisher_loan(&domain, &publisher, 16 + 5 * i, &loans[i], &written), IOX2_OK);
+    IS(iox2ps_publisher_loan(&domain, &publisher, 16 + 5 * i, &loans[i], &written), IOX2PS_OK);
     CHECK((uintptr_t)written % 16 == 0);
     bytes[i] = (uint8_t *)written;
     memset(bytes[i], (int)i + 1, 16 + 5 * i);
   }
-  IS(iox2_publisher_loan(&domain, &publisher, 16, &loans[0], &written), IOX2_LOAN_ERROR_EXCEEDS_MAX_LOANS);
+  IS(iox2ps_publisher_loan(&domain, &publisher, 16, &loans[0], &written), IOX2PS_LOAN_ERROR_EXCEEDS_MAX_LOANS);
   CHECK(len == 16 && memcmp(read, "0123456789abcdef", 16) == 0);
   for (size_t i = 0; i < 6; i++) {
-    IS(iox2_loan_payload(&domain, &loans[i], &written, &len), IOX2_OK);
+    IS(iox2ps_loan_payload(&domain, &loans[i], &written, &len), IOX2PS_OK);
     CHECK(written == bytes[i] && len == 16 + 5 * i);
     for (size_t at = 0; at < len; at++) CHECK(bytes[i][at] == i + 1);
-    IS(iox2_loan_discard(&domain, &loans[i]), IOX2_OK);
+    IS(iox2ps_loan_discard(&domain, &loans[i]), IOX2PS_OK);
   }
-  IS(iox2_publisher_loan(&domain, &publisher, SIZE_MAX, &loans[0], &written), IOX2_LOAN_ERROR_INTERNAL_FAILURE);
-  IS(iox2_publisher_loan(&domain, &publisher, 41, &loans[0], &written), IOX2_OK);
+  IS(iox2ps_publisher_loan(&domain, &publisher, SIZE_MAX, &loans[0], &written), IOX2PS_LOAN_ERROR_INTERNAL_FAILURE);
+  IS(iox2ps_publisher_loan(&domain, &publisher, 41, &loans[0], &written), IOX2PS_OK);
   CHECK(memcmp(read, "0123456789abcdef", 16) == 0);
-  IS(iox2_sample_release(&domain, &sample), IOX2_OK);
-  IS(iox2_domain_destroy(&domain), IOX2_OK);
+  IS(iox2ps_sample_release(&domain, &sample), IOX2PS_OK);
+  IS(iox2ps_domain_destroy(&domain), IOX2PS_OK);
 }
 
 static void a_late_subscriber_gets_the_history(void) {
-  iox2_domain_t domain;
-  iox2_config_t config;
-  iox2_publisher_t publisher;
-  iox2_subscriber_t subscriber;
-  iox2_sample_t sample;
-  iox2_blocked_t blocked;
+  iox2ps_domain_t domain;
+  iox2ps_config_t config;
+  iox2ps_publisher_t publisher;
+  iox2ps_subscriber_t subscriber;
+  iox2ps_sample_t sample;
+  iox2ps_blocked_t blocked;
   uint8_t byte;
   size_t receivers, len;
-  iox2_config_defaults(&config, 7, 1, 1);
+  iox2ps_config_defaults(&config, 7, 1, 1);
   config.history_size = 2;
   create(&domain, &config);
-  IS(iox2_publisher_create(&domain, &publisher), IOX2_OK);
-  for (byte = 1; byte <= 3; byte++) IS(iox2_publisher_send_copy(&domain, &publisher, &byte, 1, &receivers, &blocked), IOX2_OK);
-  IS(iox2_subscriber_create(&domain, &subscriber), IOX2_OK);
-  IS(iox2_publisher_update_connections(&domain, &publisher), IOX2_OK);
+  IS(iox2ps_publisher_create(&domain, &publisher), IOX2PS_OK);
+  for (byte = 1; byte <= 3; byte++) IS(iox2ps_publisher_send_copy(&domain, &publisher, &byte, 1, &receivers, &blocked), IOX2PS_OK);
+  IS(iox2ps_subscriber_create(&domain, &subscriber), IOX2PS_OK);
+  IS(iox2ps_publisher_update_connections(&domain, &publisher), IOX2PS_OK);
   for (uint8_t wanted = 2; wanted <= 3; wanted++) {
-    IS(iox2_subscriber_receive_copy(&domain, &subscriber, &byte, 1, &len, &sample), IOX2_OK);
+    IS(iox2ps_subscriber_receive_copy(&domain, &subscriber, &byte, 1, &len, &sample), IOX2PS_OK);
     CHECK(byte == wanted && len == 1);
   }
-  IS(iox2_subscriber_receive_copy(&domain, &subscriber, &byte, 1, &len, &sample), IOX2_NO_SAMPLE);
-  IS(iox2_domain_destroy(&domain), IOX2_OK);
+  IS(iox2ps_subscriber_receive_copy(&domain, &subscriber, &byte, 1, &len, &sample), IOX2PS_NO_SAMPLE);
+  IS(iox2ps_domain_destroy(&domain), IOX2PS_OK);
 }
 
 static void warnings_are_read(void) {
-  iox2_domain_t domain;
-  iox2_config_t config;
-  iox2_subscriber_t subscriber;
-  iox2_warning_t warning;
+  iox2ps_domain_t domain;
+  iox2ps_config_t config;
+  iox2ps_subscriber_t subscriber;
+  iox2ps_warning_t warning;
   size_t count = 99;
   uint64_t refused = 99;
-  iox2_config_defaults(&config, 7, 1, 1);
+  iox2ps_config_defaults(&config, 7, 1, 1);
   create(&domain, &config);
-  IS(iox2_domain_warning_count(&domain, &count), IOX2_OK);
+  IS(iox2ps_domain_warning_count(&domain, &count), IOX2PS_OK);
   CHECK(count == 0);
-  IS(iox2_domain_warning(&domain, 0, &warning), IOX2_NOT_LIVE);
-  IS(iox2_domain_refused_connections(&domain, &refused), IOX2_OK);
+  IS(iox2ps_domain_warning(&domain, 0, &warning), IOX2PS_NOT_LIVE);
+  IS(iox2ps_domain_refused_connections(&domain, &refused), IOX2PS_OK);
   CHECK(refused == 0);
-  IS(iox2_domain_destroy(&domain), IOX2_OK);
+  IS(iox2ps_domain_destroy(&domain), IOX2PS_OK);
 
   config.subscriber_expired_connection_buffer = 1;
   create(&domain, &config);
-  IS(iox2_subscriber_create(&domain, &subscriber), IOX2_OK);
-  IS(iox2_domain_warning_count(&domain, &count), IOX2_OK);
+  IS(iox2ps_subscriber_create(&domain, &subscriber), IOX2PS_OK);
+  IS(iox2ps_domain_warning_count(&domain, &count), IOX2PS_OK);
   CHECK(count == 1);
-  IS(iox2_domain_warning(&domain, 0, &warning), IOX2_OK);
-  CHECK(warning.kind == IOX2_WARNING_EXPIRED_BUFFER_RAISED && warning.subscriber.low == subscriber.id.low);
+  IS(iox2ps_domain_warning(&domain, 0, &warning), IOX2PS_OK);
+  CHECK(warning.kind == IOX2PS_WARNING_EXPIRED_BUFFER_RAISED && warning.subscriber.low == subscriber.id.low);
   CHECK(warning.publisher.low == 0 && warning.failure == 0);
-  CHECK(strstr(iox2_error_text(warning.kind), "ExpiredBufferRaised") != NULL);
-  IS(iox2_domain_warning(&domain, 1, &warning), IOX2_NOT_LIVE);
-  IS(iox2_domain_destroy(&domain), IOX2_OK);
+  CHECK(strstr(iox2ps_error_text(warning.kind), "ExpiredBufferRaised") != NULL);
+  IS(iox2ps_domain_warning(&domain, 1, &warning), IOX2PS_NOT_LIVE);
+  IS(iox2ps_domain_destroy(&domain), IOX2PS_OK);
 }
 
 /* All codes, and the kinds of warnings. */
 static const uint32_t codes[] = {
-    IOX2_OK, IOX2_NO_DOMAIN, IOX2_NOT_LIVE, IOX2_NO_SAMPLE, IOX2_OUT_OF_MEMORY, IOX2_HAS_DOMAIN, IOX2_BLOCKED,
-    IOX2_PUBLISHER_IS_BLOCKED, IOX2_INVALID_SETTINGS, IOX2_TOO_SMALL, IOX2_LOAN_ERROR_OUT_OF_MEMORY,
-    IOX2_LOAN_ERROR_EXCEEDS_MAX_LOANS, IOX2_LOAN_ERROR_EXCEEDS_MAX_LOAN_SIZE, IOX2_LOAN_ERROR_INTERNAL_FAILURE,
-    IOX2_SEND_ERROR_CONNECTION_BROKEN_SINCE_SENDER_NO_LONGER_EXISTS, IOX2_SEND_ERROR_CONNECTION_CORRUPTED,
-    IOX2_SEND_ERROR_UNABLE_TO_DELIVER, IOX2_SEND_ERROR_INTERNAL_ERROR,
-    IOX2_SEND_ERROR_CONNECTION_INCOMPATIBLE_BUFFER_SIZE, IOX2_SEND_ERROR_CONNECTION_OUT_OF_MEMORY,
-    IOX2_SEND_ERROR_CONNECTION_EXPIRED_BUFFER_FULL, IOX2_SEND_ERROR_CONNECTION_UNABLE_TO_MAP,
-    IOX2_RECEIVE_ERROR_EXCEEDS_MAX_BORROWS, IOX2_RECEIVE_ERROR_CONNECTION_INCOMPATIBLE_BUFFER_SIZE,
-    IOX2_RECEIVE_ERROR_CONNECTION_OUT_OF_MEMORY, IOX2_RECEIVE_ERROR_CONNECTION_EXPIRED_BUFFER_FULL,
-    IOX2_RECEIVE_ERROR_CONNECTION_UNABLE_TO_MAP, IOX2_CONNECTION_FAILURE_INCOMPATIBLE_BUFFER_SIZE,
-    IOX2_CONNECTION_FAILURE_OUT_OF_MEMORY, IOX2_CONNECTION_FAILURE_EXPIRED_BUFFER_FULL,
-    IOX2_CONNECTION_FAILURE_UNABLE_TO_MAP, IOX2_PUBLISHER_CREATE_ERROR_EXCEEDS_MAX_SUPPORTED_PUBLISHERS,
-    IOX2_PUBLISHER_CREATE_ERROR_UNABLE_TO_CREATE_DATA_SEGMENT,
-    IOX2_PUBLISHER_CREATE_ERROR_FAILED_TO_DEPLOY_THREADSAFETY_POLICY,
-    IOX2_PUBLISHER_CREATE_ERROR_UNABLE_TO_CREATE_PORT_TAG,
-    IOX2_SUBSCRIBER_CREATE_ERROR_EXCEEDS_MAX_SUPPORTED_SUBSCRIBERS,
-    IOX2_SUBSCRIBER_CREATE_ERROR_BUFFER_SIZE_EXCEEDS_MAX,
-    IOX2_SUBSCRIBER_CREATE_ERROR_FAILED_TO_DEPLOY_THREADSAFETY_POLICY,
-    IOX2_SUBSCRIBER_CREATE_ERROR_UNABLE_TO_CREATE_PORT_TAG, IOX2_WARNING_EXPIRED_BUFFER_RAISED,
-    IOX2_WARNING_PUBLISHER_PARTLY_CONNECTED, IOX2_WARNING_SUBSCRIBER_PARTLY_CONNECTED,
-    IOX2_WARNING_CONNECTION_NOT_MADE, IOX2_WARNING_EXPIRED_DATA_DISCARDED};
+    IOX2PS_OK, IOX2PS_NO_DOMAIN, IOX2PS_NOT_LIVE, IOX2PS_NO_SAMPLE, IOX2PS_OUT_OF_MEMORY, IOX2PS_HAS_DOMAIN, IOX2PS_BLOCKED,
+    IOX2PS_PUBLISHER_IS_BLOCKED, IOX2PS_INVALID_SETTINGS, IOX2PS_TOO_SMALL, IOX2PS_LOAN_ERROR_OUT_OF_MEMORY,
+    IOX2PS_LOAN_ERROR_EXCEEDS_MAX_LOANS, IOX2PS_LOAN_ERROR_EXCEEDS_MAX_LOAN_SIZE, IOX2PS_LOAN_ERROR_INTERNAL_FAILURE,
+    IOX2PS_SEND_ERROR_CONNECTION_BROKEN_SINCE_SENDER_NO_LONGER_EXISTS, IOX2PS_SEND_ERROR_CONNECTION_CORRUPTED,
+    IOX2PS_SEND_ERROR_UNABLE_TO_DELIVER, IOX2PS_SEND_ERROR_INTERNAL_ERROR,
+    IOX2PS_SEND_ERROR_CONNECTION_INCOMPATIBLE_BUFFER_SIZE, IOX2PS_SEND_ERROR_CONNECTION_OUT_OF_MEMORY,
+    IOX2PS_SEND_ERROR_CONNECTION_EXPIRED_BUFFER_FULL, IOX2PS_SEND_ERROR_CONNECTION_UNABLE_TO_MAP,
+    IOX2PS_RECEIVE_ERROR_EXCEEDS_MAX_BORROWS, IOX2PS_RECEIVE_ERROR_CONNECTION_INCOMPATIBLE_BUFFER_SIZE,
+    IOX2PS_RECEIVE_ERROR_CONNECTION_OUT_OF_MEMORY, IOX2PS_RECEIVE_ERROR_CONNECTION_EXPIRED_BUFFER_FULL,
+    IOX2PS_RECEIVE_ERROR_CONNECTION_UNABLE_TO_MAP, IOX2PS_CONNECTION_FAILURE_INCOMPATIBLE_BUFFER_SIZE,
+    IOX2PS_CONNECTION_FAILURE_OUT_OF_MEMORY, IOX2PS_CONNECTION_FAILURE_EXPIRED_BUFFER_FULL,
+    IOX2PS_CONNECTION_FAILURE_UNABLE_TO_MAP, IOX2PS_PUBLISHER_CREATE_ERROR_EXCEEDS_MAX_SUPPORTED_PUBLISHERS,
+    IOX2PS_PUBLISHER_CREATE_ERROR_UNABLE_TO_CREATE_DATA_SEGMENT,
+    IOX2PS_PUBLISHER_CREATE_ERROR_FAILED_TO_DEPLOY_THREADSAFETY_POLICY,
+    IOX2PS_PUBLISHER_CREATE_ERROR_UNABLE_TO_CREATE_PORT_TAG,
+    IOX2PS_SUBSCRIBER_CREATE_ERROR_EXCEEDS_MAX_SUPPORTED_SUBSCRIBERS,
+    IOX2PS_SUBSCRIBER_CREATE_ERROR_BUFFER_SIZE_EXCEEDS_MAX,
+    IOX2PS_SUBSCRIBER_CREATE_ERROR_FAILED_TO_DEPLOY_THREADSAFETY_POLICY,
+    IOX2PS_SUBSCRIBER_CREATE_ERROR_UNABLE_TO_CREATE_PORT_TAG, IOX2PS_WARNING_EXPIRED_BUFFER_RAISED,
+    IOX2PS_WARNING_PUBLISHER_PARTLY_CONNECTED, IOX2PS_WARNING_SUBSCRIBER_PARTLY_CONNECTED,
+    IOX2PS_WARNING_CONNECTION_NOT_MADE, IOX2PS_WARNING_EXPIRED_DATA_DISCARDED};
 
 enum { CODES = sizeof codes / sizeof codes[0] };
 
@@ -528,7 +528,7 @@ static void each_code_has_a_text_that_no_other_has(void) {
   uint32_t with_text = 0;
   for (size_t i = 0; i < CODES; i++) {
     CHECK(has_text(codes[i]));
-    for (size_t j = 0; j < i; j++) CHECK(strcmp(iox2_error_text(codes[i]), iox2_error_text(codes[j])) != 0);
+    for (size_t j = 0; j < i; j++) CHECK(strcmp(iox2ps_error_text(codes[i]), iox2ps_error_text(codes[j])) != 0);
   }
   for (uint32_t number = 0; number < 200; number++) with_text += has_text(number) ? 1 : 0;
   CHECK(with_text == CODES);
@@ -537,28 +537,28 @@ static void each_code_has_a_text_that_no_other_has(void) {
 static void texts_are_iceoryx2s(void) {
   const char *text;
   size_t len;
-  CHECK(strcmp(iox2_error_text(IOX2_LOAN_ERROR_EXCEEDS_MAX_LOANS), "LoanError::ExceedsMaxLoans") == 0);
-  CHECK(strcmp(iox2_error_text(IOX2_RECEIVE_ERROR_EXCEEDS_MAX_BORROWS), "ReceiveError::ExceedsMaxBorrows") == 0);
-  CHECK(strcmp(iox2_error_text(IOX2_SEND_ERROR_UNABLE_TO_DELIVER), "SendError::UnableToDeliver") == 0);
+  CHECK(strcmp(iox2ps_error_text(IOX2PS_LOAN_ERROR_EXCEEDS_MAX_LOANS), "LoanError::ExceedsMaxLoans") == 0);
+  CHECK(strcmp(iox2ps_error_text(IOX2PS_RECEIVE_ERROR_EXCEEDS_MAX_BORROWS), "ReceiveError::ExceedsMaxBorrows") == 0);
+  CHECK(strcmp(iox2ps_error_text(IOX2PS_SEND_ERROR_UNABLE_TO_DELIVER), "SendError::UnableToDeliver") == 0);
   for (uint32_t code = 0; code < 200; code++) {
-    iox2_error_text_at(code, &text, &len);
+    iox2ps_error_text_at(code, &text, &len);
     CHECK(len > 0 && text[len] == 0 && strlen(text) == len);
   }
-  CHECK(iox2_error_text(UINT32_MAX)[0] != 0);
+  CHECK(iox2ps_error_text(UINT32_MAX)[0] != 0);
 }
 
 static void slots_are_counted(void) {
-  iox2_config_t config;
+  iox2ps_config_t config;
   size_t slots = 99;
-  iox2_config_defaults(&config, 7, 1, 1);
+  iox2ps_config_defaults(&config, 7, 1, 1);
   config.max_subscribers = 2;
   config.subscriber_max_buffer_size = 3;
   config.subscriber_max_borrowed_samples = 4;
   config.history_size = 5;
-  IS(iox2_worst_case_slots(&config, 6, &slots), IOX2_OK);
+  IS(iox2ps_worst_case_slots(&config, 6, &slots), IOX2PS_OK);
   CHECK(slots == 2 * (3 + 4) + 5 + 6);
   config.max_subscribers = SIZE_MAX;
-  IS(iox2_worst_case_slots(&config, 6, &slots), IOX2_INVALID_SETTINGS);
+  IS(iox2ps_worst_case_slots(&config, 6, &slots), IOX2PS_INVALID_SETTINGS);
   CHECK(slots == 2 * (3 + 4) + 5 + 6);
 }
 

@@ -1,6 +1,6 @@
 /* For the programs of checks: CHECK counts what holds and prints what doesn't; `checked` prints the counts. */
-#ifndef IOX2_CHECKS_H
-#define IOX2_CHECKS_H
+#ifndef IOX2PS_CHECKS_H
+#define IOX2PS_CHECKS_H
 
 #include "iox2_pubsub.h"
 #include <stdio.h>
@@ -19,7 +19,7 @@ static int passed = 0, failed = 0;
   } while (0)
 
 /* Whether a number has a text other than that of numbers which are no code. */
-static int has_text(uint32_t code) { return strcmp(iox2_error_text(code), iox2_error_text(UINT32_MAX)) != 0; }
+static int has_text(uint32_t code) { return strcmp(iox2ps_error_text(code), iox2ps_error_text(UINT32_MAX)) != 0; }
 
 /* The call returns this code, which has a text. That no two codes have the same one, calls.c tests. */
 #define IS(call, code)                                                                          \
@@ -29,7 +29,7 @@ static int has_text(uint32_t code) { return strcmp(iox2_error_text(code), iox2_e
       passed++;                                                                                 \
     } else {                                                                                    \
       failed++;                                                                                 \
-      printf("%s:%d: %s: %u (%s)\n", __FILE__, __LINE__, #call, (unsigned)got_, iox2_error_text(got_)); \
+      printf("%s:%d: %s: %u (%s)\n", __FILE__, __LINE__, #call, (unsigned)got_, iox2ps_error_text(got_)); \
     }                                                                                           \
   } while (0)
 

@@ -10,44 +10,44 @@
 
 #define MOST 64
 
-static iox2_domain_t domain = {NULL};
-static iox2_publisher_t publisher;
-static iox2_subscriber_t subscribers[MOST];
+static iox2ps_domain_t domain = {NULL};
+static iox2ps_publisher_t publisher;
+static iox2ps_subscriber_t subscribers[MOST];
 
 static int begin(size_t count) {
-  iox2_config_t config;
-  iox2_config_defaults(&config, 1, 64, 8);
+  iox2ps_config_t config;
+  iox2ps_config_defaults(&config, 1, 64, 8);
   config.max_subscribers = count;
-  if (iox2_domain_create(&domain, &config) || iox2_publisher_create(&domain, &publisher)) return 0;
+  if (iox2ps_domain_create(&domain, &config) || iox2ps_publisher_create(&domain, &publisher)) return 0;
   for (size_t i = 0; i < count; i++) {
-    if (iox2_subscriber_create(&domain, &subscribers[i])) return 0;
+    if (iox2ps_subscriber_create(&domain, &subscribers[i])) return 0;
   }
   return 1;
 }
 
 static int send(uint64_t number) {
-  iox2_loan_t loan;
-  iox2_blocked_t blocked;
+  iox2ps_loan_t loan;
+  iox2ps_blocked_t blocked;
   void *payload;
   size_t receivers;
-  if (iox2_publisher_loan(&domain, &publisher, 64, &loan, &payload)) return 0;
+  if (iox2ps_publisher_loan(&domain, &publisher, 64, &loan, &payload)) return 0;
   for (int i = 0; i < 8; i++) memcpy((uint8_t *)payload + 8 * i, &number, sizeof number);
-  return iox2_loan_send(&domain, &loan, &receivers, &blocked) == IOX2_OK;
+  return iox2ps_loan_send(&domain, &loan, &receivers, &blocked) == IOX2PS_OK;
 }
 
 /* Adds what waits to the sum. */
-static int receive_all(const iox2_subscriber_t *subscriber, uint64_t *sum) {
-  iox2_sample_t sample;
+static int receive_all(const iox2ps_subscriber_t *subscriber, uint64_t *sum) {
+  iox2ps_sample_t sample;
   const void *payload;
   size_t len;
   uint32_t code;
-  while ((code = iox2_subscriber_receive(&domain, subscriber, &sample, &payload, &len)) == IOX2_OK) {
+  while ((code = iox2ps_subscriber_receive(&domain, subscriber, &sample, &payload, &len)) == IOX2PS_OK) {
     uint64_t number;
     memcpy(&number, payload, sizeof number);
     *sum += number;
-    if (iox2_sample_release(&domain, &sample)) return 0;
+    if (iox2ps_sample_release(&domain, &sample)) return 0;
   }
-  return code == IOX2_NO_SAMPLE;
+  return code == IOX2PS_NO_SAMPLE;
 }
 
 int main(int count, char **words) {
@@ -65,7 +65,7 @@ int main(int count, char **words) {
     }
   }
   clock_gettime(CLOCK_MONOTONIC, &ended);
-  iox2_domain_destroy(&domain);
+  iox2ps_domain_destroy(&domain);
   int64_t elapsed = (int64_t)(ended.tv_sec - started.tv_sec) * 1000000000 + (ended.tv_nsec - started.tv_nsec);
   printf("%" PRId64 "\n", elapsed / (int64_t)messages);
   return sum == messages * (messages - 1) / 2 * receivers ? 0 : 1;

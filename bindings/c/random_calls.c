@@ -2,7 +2,7 @@
  *
  * Most numbers are of things that are live, some of things that are spent, of another kind or domain, or with
  * bits turned; and hints are turned too. The program keeps a list of what is live. A call whose numbers name
- * nothing in it has to return IOX2_NOT_LIVE. Each other call is a line of SCRIPT, with what it returned as a
+ * nothing in it has to return IOX2PS_NOT_LIVE. Each other call is a line of SCRIPT, with what it returned as a
  * line of REPLIES: `pubsub_script` has to print the same for the script. So it is seen too that refused calls
  * change nothing.
  *
@@ -37,11 +37,11 @@ enum kind { PUBLISHER, SUBSCRIBER, LOAN, BLOCKED, SAMPLE, KINDS };
 /* The numbers of a thing. Each struct begins with its names, and has its hints behind them. */
 typedef union numbers_t {
   uint64_t words[11];
-  iox2_publisher_t publisher;
-  iox2_subscriber_t subscriber;
-  iox2_loan_t loan;
-  iox2_blocked_t blocked;
-  iox2_sample_t sample;
+  iox2ps_publisher_t publisher;
+  iox2ps_subscriber_t subscriber;
+  iox2ps_loan_t loan;
+  iox2ps_blocked_t blocked;
+  iox2ps_sample_t sample;
 } numbers_t;
 
 /* How many words of a thing are its names, and how many it has. Among those of a sample stands its origin, which names
@@ -121,7 +121,7 @@ static void reply(const char *text) {
 
 static void reply_error(uint32_t code) {
   command++;
-  fprintf(replies, "err %s\n", iox2_error_text(code));
+  fprintf(replies, "err %s\n", iox2ps_error_text(code));
 }
 
 static void reply_number(uint64_t number) {
@@ -131,7 +131,7 @@ static void reply_number(uint64_t number) {
 
 /* Whether the numbers name a live thing; the call has to say the same. */
 static int is_live(const thing_t *thing, uint32_t code) {
-  if ((thing == NULL) != (code == IOX2_NOT_LIVE)) fail("a call takes spent numbers, or refuses live ones");
+  if ((thing == NULL) != (code == IOX2PS_NOT_LIVE)) fail("a call takes spent numbers, or refuses live ones");
   wrong_numbers += thing == NULL;
   return thing != NULL;
 }
@@ -144,16 +144,16 @@ static uint64_t number_at(const void *bytes) {
 
 /* ---- the calls */
 
-static void create_publisher(iox2_domain_t *domain, const iox2_config_t *config) {
-  iox2_publisher_options_t options;
+static void create_publisher(iox2ps_domain_t *domain, const iox2ps_config_t *config) {
+  iox2ps_publisher_options_t options;
   numbers_t numbers = {{0}};
-  iox2_publisher_options_of(config, &options);
+  iox2ps_publisher_options_of(config, &options);
   options.max_loaned_samples = below(4);
-  options.backpressure_strategy = one_in(2) ? IOX2_DISCARD_DATA : IOX2_RETRY_UNTIL_DELIVERED;
-  uint32_t code = iox2_publisher_create_with(domain, &options, &numbers.publisher);
+  options.backpressure_strategy = one_in(2) ? IOX2PS_DISCARD_DATA : IOX2PS_RETRY_UNTIL_DELIVERED;
+  uint32_t code = iox2ps_publisher_create_with(domain, &options, &numbers.publisher);
   fprintf(script, "pub %zu %s\n", options.max_loaned_samples,
-          options.backpressure_strategy == IOX2_DISCARD_DATA ? "discard" : "retry");
-  if (code != IOX2_OK) {
+          options.backpressure_strategy == IOX2PS_DISCARD_DATA ? "discard" : "retry");
+  if (code != IOX2PS_OK) {
     reply_error(code);
     return;
   }
@@ -161,14 +161,14 @@ static void create_publisher(iox2_domain_t *domain, const iox2_config_t *config)
   add(PUBLISHER, numbers, command, NULL, 0);
 }
 
-static void create_subscriber(iox2_domain_t *domain, const iox2_config_t *config) {
-  iox2_subscriber_options_t options;
+static void create_subscriber(iox2ps_domain_t *domain, const iox2ps_config_t *config) {
+  iox2ps_subscriber_options_t options;
   numbers_t numbers = {{0}};
-  iox2_subscriber_options_of(config, &options);
+  iox2ps_subscriber_options_of(config, &options);
   options.buffer_size = below(config->subscriber_max_buffer_size + 2);
-  uint32_t code = iox2_subscriber_create_with(domain, &options, &numbers.subscriber);
+  uint32_t code = iox2ps_subscriber_create_with(domain, &options, &numbers.subscriber);
   fprintf(script, "sub %zu\n", options.buffer_size);
-  if (code != IOX2_OK) {
+  if (code != IOX2PS_OK) {
     reply_error(code);
     return;
   }
@@ -176,18 +176,18 @@ static void create_subscriber(iox2_domain_t *domain, const iox2_config_t *config
   add(SUBSCRIBER, numbers, command, NULL, 0);
 }
 
-static void lend(iox2_domain_t *domain) {
+static void lend(iox2ps_domain_t *domain) {
   numbers_t of = choose(PUBLISHER), numbers = {{0}};
   thing_t *publisher = named(PUBLISHER, &of);
   void *bytes;
   size_t len = one_in(20) ? 9 + below(SIZE_MAX - 9) : 8;
-  uint32_t code = iox2_publisher_loan(domain, &of.publisher, len, &numbers.loan, &bytes);
+  uint32_t code = iox2ps_publisher_loan(domain, &of.publisher, len, &numbers.loan, &bytes);
   if (!is_live(publisher, code)) return;
-  if (code == IOX2_LOAN_ERROR_EXCEEDS_MAX_LOAN_SIZE && len > 8) return;
+  if (code == IOX2PS_LOAN_ERROR_EXCEEDS_MAX_LOAN_SIZE && len > 8) return;
   fprintf(script, "loan %zu\n", publisher->command);
-  if (code == IOX2_PUBLISHER_IS_BLOCKED) {
+  if (code == IOX2PS_PUBLISHER_IS_BLOCKED) {
     reply("skipped");
-  } else if (code != IOX2_OK) {
+  } else if (code != IOX2PS_OK) {
     reply_error(code);
   } else {
     if (number_at(bytes) != 0) fail("a loan isn't zero");
@@ -202,64 +202,64 @@ static void lend(iox2_domain_t *domain) {
 
 /* The reply of a send, and what it has made where it waits. */
 static void sent(uint32_t code, size_t receivers, numbers_t blocked) {
-  if (code == IOX2_OK) {
+  if (code == IOX2PS_OK) {
     reply_number(receivers);
-  } else if (code == IOX2_PUBLISHER_IS_BLOCKED) {
+  } else if (code == IOX2PS_PUBLISHER_IS_BLOCKED) {
     reply("skipped");
-  } else if (code == IOX2_BLOCKED) {
+  } else if (code == IOX2PS_BLOCKED) {
     reply("blocked");
     add(BLOCKED, blocked, command, NULL, 0);
-  } else if (code >= IOX2_LOAN_ERROR_OUT_OF_MEMORY && code <= IOX2_LOAN_ERROR_INTERNAL_FAILURE) {
+  } else if (code >= IOX2PS_LOAN_ERROR_OUT_OF_MEMORY && code <= IOX2PS_LOAN_ERROR_INTERNAL_FAILURE) {
     command++;
-    fprintf(replies, "err SendError::LoanError(%s)\n", iox2_error_text(code) + strlen("LoanError::"));
+    fprintf(replies, "err SendError::LoanError(%s)\n", iox2ps_error_text(code) + strlen("LoanError::"));
   } else {
     reply_error(code);
   }
 }
 
-static void send_loan(iox2_domain_t *domain) {
+static void send_loan(iox2ps_domain_t *domain) {
   numbers_t of = choose(LOAN), blocked = {{0}};
   thing_t *loan = named(LOAN, &of);
   size_t receivers = 0;
-  uint32_t code = iox2_loan_send(domain, &of.loan, &receivers, &blocked.blocked);
+  uint32_t code = iox2ps_loan_send(domain, &of.loan, &receivers, &blocked.blocked);
   if (!is_live(loan, code)) return;
   fprintf(script, "send %zu\n", loan->command);
-  if (code != IOX2_PUBLISHER_IS_BLOCKED) spend(LOAN, loan);
+  if (code != IOX2PS_PUBLISHER_IS_BLOCKED) spend(LOAN, loan);
   sent(code, receivers, blocked);
 }
 
-static void send_copy(iox2_domain_t *domain) {
+static void send_copy(iox2ps_domain_t *domain) {
   numbers_t of = choose(PUBLISHER), blocked = {{0}};
   thing_t *publisher = named(PUBLISHER, &of);
   size_t receivers = 0;
   value++;
-  uint32_t code = iox2_publisher_send_copy(domain, &of.publisher, &value, 8, &receivers, &blocked.blocked);
+  uint32_t code = iox2ps_publisher_send_copy(domain, &of.publisher, &value, 8, &receivers, &blocked.blocked);
   if (!is_live(publisher, code)) return;
   fprintf(script, "copy %zu %" PRIu64 "\n", publisher->command, value);
   sent(code, receivers, blocked);
 }
 
-static void discard(iox2_domain_t *domain) {
+static void discard(iox2ps_domain_t *domain) {
   numbers_t of = choose(LOAN);
   thing_t *loan = named(LOAN, &of);
-  uint32_t code = iox2_loan_discard(domain, &of.loan);
+  uint32_t code = iox2ps_loan_discard(domain, &of.loan);
   if (!is_live(loan, code)) return;
-  if (code != IOX2_OK) fail("a loan isn't discarded");
+  if (code != IOX2PS_OK) fail("a loan isn't discarded");
   fprintf(script, "discard %zu\n", loan->command);
   reply("ok");
   spend(LOAN, loan);
 }
 
-static void end_blocked(iox2_domain_t *domain) {
+static void end_blocked(iox2ps_domain_t *domain) {
   numbers_t of = choose(BLOCKED);
   thing_t *blocked = named(BLOCKED, &of);
   size_t receivers = 0;
   int retries = one_in(2);
-  uint32_t code = retries ? iox2_blocked_retry(domain, &of.blocked, next(), &receivers)
-                          : iox2_blocked_give_up(domain, &of.blocked, &receivers);
+  uint32_t code = retries ? iox2ps_blocked_retry(domain, &of.blocked, next(), &receivers)
+                          : iox2ps_blocked_give_up(domain, &of.blocked, &receivers);
   if (!is_live(blocked, code)) return;
   fprintf(script, "%s %zu\n", retries ? "retry" : "giveup", blocked->command);
-  if (code == IOX2_BLOCKED) {
+  if (code == IOX2PS_BLOCKED) {
     reply("blocked");
   } else {
     spend(BLOCKED, blocked);
@@ -267,17 +267,17 @@ static void end_blocked(iox2_domain_t *domain) {
   }
 }
 
-static void receive(iox2_domain_t *domain) {
+static void receive(iox2ps_domain_t *domain) {
   numbers_t of = choose(SUBSCRIBER), numbers = {{0}};
   thing_t *subscriber = named(SUBSCRIBER, &of);
   const void *bytes;
   size_t len;
-  uint32_t code = iox2_subscriber_receive(domain, &of.subscriber, &numbers.sample, &bytes, &len);
+  uint32_t code = iox2ps_subscriber_receive(domain, &of.subscriber, &numbers.sample, &bytes, &len);
   if (!is_live(subscriber, code)) return;
   fprintf(script, "recv %zu\n", subscriber->command);
-  if (code == IOX2_NO_SAMPLE) {
+  if (code == IOX2PS_NO_SAMPLE) {
     reply("none");
-  } else if (code != IOX2_OK) {
+  } else if (code != IOX2PS_OK) {
     reply_error(code);
   } else {
     if (len != 8) fail("a message has another length");
@@ -288,69 +288,69 @@ static void receive(iox2_domain_t *domain) {
   }
 }
 
-static void has_samples(iox2_domain_t *domain) {
+static void has_samples(iox2ps_domain_t *domain) {
   numbers_t of = choose(SUBSCRIBER);
   thing_t *subscriber = named(SUBSCRIBER, &of);
-  uint32_t waits = 2, code = iox2_subscriber_has_samples(domain, &of.subscriber, &waits);
+  uint32_t waits = 2, code = iox2ps_subscriber_has_samples(domain, &of.subscriber, &waits);
   if (!is_live(subscriber, code)) return;
   fprintf(script, "has %zu\n", subscriber->command);
-  if (code != IOX2_OK) reply_error(code);
+  if (code != IOX2PS_OK) reply_error(code);
   else reply(waits ? "true" : "false");
 }
 
-static void update(iox2_domain_t *domain) {
+static void update(iox2ps_domain_t *domain) {
   enum kind kind = one_in(2) ? PUBLISHER : SUBSCRIBER;
   numbers_t of = choose(kind);
   thing_t *port = named(kind, &of);
-  uint32_t code = kind == PUBLISHER ? iox2_publisher_update_connections(domain, &of.publisher)
-                                    : iox2_subscriber_update_connections(domain, &of.subscriber);
+  uint32_t code = kind == PUBLISHER ? iox2ps_publisher_update_connections(domain, &of.publisher)
+                                    : iox2ps_subscriber_update_connections(domain, &of.subscriber);
   if (!is_live(port, code)) return;
   fprintf(script, "update %zu\n", port->command);
-  if (code == IOX2_OK) reply("ok");
-  else if (code == IOX2_PUBLISHER_IS_BLOCKED) reply("skipped");
+  if (code == IOX2PS_OK) reply("ok");
+  else if (code == IOX2PS_PUBLISHER_IS_BLOCKED) reply("skipped");
   else reply_error(code);
 }
 
 /* Where it lay when it was received or written, it lies still. */
-static void read_message(iox2_domain_t *domain) {
+static void read_message(iox2ps_domain_t *domain) {
   enum kind kind = one_in(3) ? LOAN : SAMPLE;
   numbers_t of = choose(kind);
   thing_t *thing = named(kind, &of);
   void *lent = NULL;
   const void *received = NULL;
   size_t len = 0;
-  uint32_t code = kind == LOAN ? iox2_loan_payload(domain, &of.loan, &lent, &len)
-                               : iox2_sample_payload(domain, &of.sample, &received, &len);
+  uint32_t code = kind == LOAN ? iox2ps_loan_payload(domain, &of.loan, &lent, &len)
+                               : iox2ps_sample_payload(domain, &of.sample, &received, &len);
   if (!is_live(thing, code)) return;
-  if (code != IOX2_OK || len != 8 || (kind == LOAN ? lent : received) != thing->bytes) fail("a message has moved");
+  if (code != IOX2PS_OK || len != 8 || (kind == LOAN ? lent : received) != thing->bytes) fail("a message has moved");
   fprintf(script, "read %zu\n", thing->command);
   reply_number(number_at(thing->bytes));
 }
 
-static void release(iox2_domain_t *domain) {
+static void release(iox2ps_domain_t *domain) {
   numbers_t of = choose(SAMPLE);
   thing_t *sample = named(SAMPLE, &of);
-  uint32_t code = iox2_sample_release(domain, &of.sample);
+  uint32_t code = iox2ps_sample_release(domain, &of.sample);
   if (!is_live(sample, code)) return;
-  if (code != IOX2_OK) fail("a sample isn't released");
+  if (code != IOX2PS_OK) fail("a sample isn't released");
   fprintf(script, "release %zu\n", sample->command);
   reply("ok");
   spend(SAMPLE, sample);
 }
 
-static void close_port(iox2_domain_t *domain) {
+static void close_port(iox2ps_domain_t *domain) {
   enum kind kind = one_in(2) ? PUBLISHER : SUBSCRIBER;
   numbers_t of = choose(kind);
   thing_t *port = named(kind, &of);
-  uint32_t code = kind == PUBLISHER ? iox2_publisher_close(domain, &of.publisher)
-                                    : iox2_subscriber_close(domain, &of.subscriber);
+  uint32_t code = kind == PUBLISHER ? iox2ps_publisher_close(domain, &of.publisher)
+                                    : iox2ps_subscriber_close(domain, &of.subscriber);
   if (!is_live(port, code)) return;
   fprintf(script, "close %zu\n", port->command);
-  if (code == IOX2_PUBLISHER_IS_BLOCKED) {
+  if (code == IOX2PS_PUBLISHER_IS_BLOCKED) {
     reply("skipped");
     return;
   }
-  if (code != IOX2_OK) fail("a port isn't closed");
+  if (code != IOX2PS_OK) fail("a port isn't closed");
   reply("ok");
   spend(kind, port);
 }
@@ -365,7 +365,7 @@ static void look_at_all_messages(void) {
   }
 }
 
-static void call(iox2_domain_t *domain, const iox2_config_t *config) {
+static void call(iox2ps_domain_t *domain, const iox2ps_config_t *config) {
   size_t which = below(100);
   if (which < 4) create_publisher(domain, config);
   else if (which < 8) create_subscriber(domain, config);
@@ -384,43 +384,43 @@ static void call(iox2_domain_t *domain, const iox2_config_t *config) {
 
 /* ---- another domain, whose numbers are tried here; nothing of it may change */
 
-static void make_foreign(iox2_domain_t *domain) {
-  iox2_config_t config;
+static void make_foreign(iox2ps_domain_t *domain) {
+  iox2ps_config_t config;
   uint8_t bytes[8] = {1};
   void *lent;
   const void *received;
   size_t count;
-  iox2_config_defaults(&config, 2, 8, 8);
+  iox2ps_config_defaults(&config, 2, 8, 8);
   config.enable_safe_overflow = 0;
   config.subscriber_max_buffer_size = 1;
-  iox2_publisher_t *publisher = &foreign[PUBLISHER].numbers.publisher;
-  iox2_subscriber_t *subscriber = &foreign[SUBSCRIBER].numbers.subscriber;
-  iox2_blocked_t *blocked = &foreign[BLOCKED].numbers.blocked;
-  if (iox2_domain_create(domain, &config) || iox2_publisher_create(domain, publisher)
-      || iox2_subscriber_create(domain, subscriber)
-      || iox2_publisher_send_copy(domain, publisher, bytes, 8, &count, blocked)
-      || iox2_subscriber_receive(domain, subscriber, &foreign[SAMPLE].numbers.sample, &received, &count)
-      || iox2_publisher_loan(domain, publisher, 8, &foreign[LOAN].numbers.loan, &lent)
-      || iox2_publisher_send_copy(domain, publisher, bytes, 8, &count, blocked)
-      || iox2_publisher_send_copy(domain, publisher, bytes, 8, &count, blocked) != IOX2_BLOCKED) {
+  iox2ps_publisher_t *publisher = &foreign[PUBLISHER].numbers.publisher;
+  iox2ps_subscriber_t *subscriber = &foreign[SUBSCRIBER].numbers.subscriber;
+  iox2ps_blocked_t *blocked = &foreign[BLOCKED].numbers.blocked;
+  if (iox2ps_domain_create(domain, &config) || iox2ps_publisher_create(domain, publisher)
+      || iox2ps_subscriber_create(domain, subscriber)
+      || iox2ps_publisher_send_copy(domain, publisher, bytes, 8, &count, blocked)
+      || iox2ps_subscriber_receive(domain, subscriber, &foreign[SAMPLE].numbers.sample, &received, &count)
+      || iox2ps_publisher_loan(domain, publisher, 8, &foreign[LOAN].numbers.loan, &lent)
+      || iox2ps_publisher_send_copy(domain, publisher, bytes, 8, &count, blocked)
+      || iox2ps_publisher_send_copy(domain, publisher, bytes, 8, &count, blocked) != IOX2PS_BLOCKED) {
     fail("the other domain isn't made");
   }
 }
 
-static void end_foreign(iox2_domain_t *domain) {
+static void end_foreign(iox2ps_domain_t *domain) {
   size_t count;
-  if (iox2_sample_release(domain, &foreign[SAMPLE].numbers.sample)
-      || iox2_blocked_give_up(domain, &foreign[BLOCKED].numbers.blocked, &count)
-      || iox2_loan_discard(domain, &foreign[LOAN].numbers.loan)
-      || iox2_subscriber_close(domain, &foreign[SUBSCRIBER].numbers.subscriber)
-      || iox2_publisher_close(domain, &foreign[PUBLISHER].numbers.publisher) || iox2_domain_destroy(domain)) {
+  if (iox2ps_sample_release(domain, &foreign[SAMPLE].numbers.sample)
+      || iox2ps_blocked_give_up(domain, &foreign[BLOCKED].numbers.blocked, &count)
+      || iox2ps_loan_discard(domain, &foreign[LOAN].numbers.loan)
+      || iox2ps_subscriber_close(domain, &foreign[SUBSCRIBER].numbers.subscriber)
+      || iox2ps_publisher_close(domain, &foreign[PUBLISHER].numbers.publisher) || iox2ps_domain_destroy(domain)) {
     fail("the other domain has changed");
   }
 }
 
 int main(int count, char **arguments) {
-  iox2_domain_t domain = IOX2_DOMAIN_INIT, other = IOX2_DOMAIN_INIT;
-  iox2_config_t config;
+  iox2ps_domain_t domain = IOX2PS_DOMAIN_INIT, other = IOX2PS_DOMAIN_INIT;
+  iox2ps_config_t config;
   if (count != 5) fail("usage: random_calls SEED CALLS SCRIPT REPLIES");
   state = strtoull(arguments[1], NULL, 10);
   size_t calls = strtoull(arguments[2], NULL, 10);
@@ -428,7 +428,7 @@ int main(int count, char **arguments) {
   replies = fopen(arguments[4], "w");
   if (!script || !replies) fail("the files can't be written");
 
-  iox2_config_defaults(&config, 1, 8, 8);
+  iox2ps_config_defaults(&config, 1, 8, 8);
   config.max_publishers = 1 + below(3);
   config.max_subscribers = 1 + below(4);
   config.subscriber_max_buffer_size = below(4);
@@ -439,14 +439,14 @@ int main(int count, char **arguments) {
   fprintf(script, "domain %zu %zu %zu %zu %zu %zu %s\n", config.max_publishers, config.max_subscribers,
           config.subscriber_max_buffer_size, config.subscriber_max_borrowed_samples, config.history_size,
           config.subscriber_expired_connection_buffer, config.enable_safe_overflow ? "overflow" : "keep");
-  if (iox2_domain_create(&domain, &config)) fail("the domain isn't made");
+  if (iox2ps_domain_create(&domain, &config)) fail("the domain isn't made");
   make_foreign(&other);
   for (size_t i = 0; i < calls; i++) {
     call(&domain, &config);
     look_at_all_messages();
   }
   end_foreign(&other);
-  if (iox2_domain_destroy(&domain)) fail("the domain isn't destroyed");
+  if (iox2ps_domain_destroy(&domain)) fail("the domain isn't destroyed");
   if (fclose(script) || fclose(replies)) fail("the files can't be written");
   printf("%zu calls, %zu of them refused for their numbers, %zu lines of script\n", calls, wrong_numbers, command);
   return 0;

@@ -25,78 +25,78 @@ static int was_refused(void) {
   return was;
 }
 
-static void make_publisher(iox2_domain_t *domain, iox2_publisher_t *publisher) {
-  uint32_t code = iox2_publisher_create(domain, publisher);
-  if (code == IOX2_OK) return;
+static void make_publisher(iox2ps_domain_t *domain, iox2ps_publisher_t *publisher) {
+  uint32_t code = iox2ps_publisher_create(domain, publisher);
+  if (code == IOX2PS_OK) return;
   CHECK(was_refused());
-  CHECK(code == IOX2_PUBLISHER_CREATE_ERROR_UNABLE_TO_CREATE_DATA_SEGMENT
-        || code == IOX2_PUBLISHER_CREATE_ERROR_FAILED_TO_DEPLOY_THREADSAFETY_POLICY);
-  IS(iox2_publisher_create(domain, publisher), IOX2_OK);
+  CHECK(code == IOX2PS_PUBLISHER_CREATE_ERROR_UNABLE_TO_CREATE_DATA_SEGMENT
+        || code == IOX2PS_PUBLISHER_CREATE_ERROR_FAILED_TO_DEPLOY_THREADSAFETY_POLICY);
+  IS(iox2ps_publisher_create(domain, publisher), IOX2PS_OK);
 }
 
-static void make_subscriber(iox2_domain_t *domain, iox2_subscriber_t *subscriber) {
-  uint32_t code = iox2_subscriber_create(domain, subscriber);
-  if (code == IOX2_OK) return;
+static void make_subscriber(iox2ps_domain_t *domain, iox2ps_subscriber_t *subscriber) {
+  uint32_t code = iox2ps_subscriber_create(domain, subscriber);
+  if (code == IOX2PS_OK) return;
   CHECK(was_refused());
-  CHECK(code == IOX2_SUBSCRIBER_CREATE_ERROR_FAILED_TO_DEPLOY_THREADSAFETY_POLICY);
-  IS(iox2_subscriber_create(domain, subscriber), IOX2_OK);
+  CHECK(code == IOX2PS_SUBSCRIBER_CREATE_ERROR_FAILED_TO_DEPLOY_THREADSAFETY_POLICY);
+  IS(iox2ps_subscriber_create(domain, subscriber), IOX2PS_OK);
 }
 
 /* A port whose connection was refused tries again when another port has come. */
-static void have_ports_updated(iox2_domain_t *domain) {
-  iox2_subscriber_t other;
-  IS(iox2_subscriber_create(domain, &other), IOX2_OK);
-  IS(iox2_subscriber_close(domain, &other), IOX2_OK);
+static void have_ports_updated(iox2ps_domain_t *domain) {
+  iox2ps_subscriber_t other;
+  IS(iox2ps_subscriber_create(domain, &other), IOX2PS_OK);
+  IS(iox2ps_subscriber_close(domain, &other), IOX2PS_OK);
 }
 
 /* Sends a message by each publisher, and receives what came. */
-static size_t pass(iox2_domain_t *domain, const iox2_publisher_t *publishers, const iox2_subscriber_t *subscriber) {
-  iox2_loan_t loan;
-  iox2_blocked_t blocked;
-  iox2_sample_t sample;
+static size_t pass(iox2ps_domain_t *domain, const iox2ps_publisher_t *publishers, const iox2ps_subscriber_t *subscriber) {
+  iox2ps_loan_t loan;
+  iox2ps_blocked_t blocked;
+  iox2ps_sample_t sample;
   void *written;
   const void *read;
   size_t receivers, len, received = 0;
   for (uint64_t i = 0; i < 2; i++) {
-    IS(iox2_publisher_loan(domain, &publishers[i], 8, &loan, &written), IOX2_OK);
+    IS(iox2ps_publisher_loan(domain, &publishers[i], 8, &loan, &written), IOX2PS_OK);
     memcpy(written, &i, sizeof i);
-    IS(iox2_loan_send(domain, &loan, &receivers, &blocked), IOX2_OK);
+    IS(iox2ps_loan_send(domain, &loan, &receivers, &blocked), IOX2PS_OK);
   }
-  while (iox2_subscriber_receive(domain, subscriber, &sample, &read, &len) == IOX2_OK) {
+  while (iox2ps_subscriber_receive(domain, subscriber, &sample, &read, &len) == IOX2PS_OK) {
     received++;
-    IS(iox2_sample_release(domain, &sample), IOX2_OK);
+    IS(iox2ps_sample_release(domain, &sample), IOX2PS_OK);
   }
   return received;
 }
 
 /* Returns whether memory was refused. */
 static int run(size_t at) {
-  iox2_domain_t domain = IOX2_DOMAIN_INIT;
-  iox2_config_t config;
-  iox2_publisher_t publishers[2];
-  iox2_subscriber_t subscriber;
+  iox2ps_domain_t domain = IOX2PS_DOMAIN_INIT;
+  iox2ps_config_t config;
+  iox2ps_publisher_t publishers[2];
+  iox2ps_subscriber_t subscriber;
   uint64_t connections = 0;
   allocations = looked_at = 0;
   refused_at = at;
-  iox2_config_defaults(&config, 7, 8, 8);
-  uint32_t code = iox2_domain_create(&domain, &config);
-  if (code != IOX2_OK) {
-    CHECK(code == IOX2_OUT_OF_MEMORY && domain.domain_ == NULL && was_refused());
-    IS(iox2_domain_create(&domain, &config), IOX2_OK);
+  iox2ps_config_defaults(&config, 7, 8, 8);
+  uint32_t code = iox2ps_domain_create(&domain, &config);
+  if (code != IOX2PS_OK) {
+    CHECK(code == IOX2PS_OUT_OF_MEMORY && domain.domain_ == NULL && was_refused());
+    IS(iox2ps_domain_create(&domain, &config), IOX2PS_OK);
   }
   make_publisher(&domain, &publishers[0]);
   make_subscriber(&domain, &subscriber);
   make_publisher(&domain, &publishers[1]);
   size_t first = pass(&domain, publishers, &subscriber);
-  IS(iox2_domain_refused_connections(&domain, &connections), IOX2_OK);
+  IS(iox2ps_domain_refused_connections(&domain, &connections), IOX2PS_OK);
   CHECK(first == 2 || (first == 1 && connections == 1));
   if (connections) have_ports_updated(&domain);
   if (connections) CHECK(pass(&domain, publishers, &subscriber) == 2);
   size_t before = allocations;
   CHECK(pass(&domain, publishers, &subscriber) == 2 && allocations == before);
-  for (int i = 0; i < 2; i++) IS(iox2_publisher_close(&domain, &publishers[i]), IOX2_OK);
-  IS(iox2_subscriber_close(&domain, &subscriber), IOX2_OK);
-  IS(iox2_domain_destroy(&domain), IOX2_OK);
+  for (int i = 0; i < 2; i++) IS(iox2ps_publisher_close(&domain, &publishers[i]), IOX2PS_OK);
+  IS(iox2ps_subscriber_close(&domain, &subscriber), IOX2PS_OK);
+  IS(iox2ps_domain_destroy(&domain), IOX2PS_OK);
   return allocations >= refused_at;
 }
 

@@ -11,48 +11,48 @@ struct reading {
 #define TRY(call)                                                    \
   do {                                                               \
     uint32_t returned_ = (call);                                     \
-    if (returned_ != IOX2_OK) {                                      \
-      fprintf(stderr, "%s: %s\n", #call, iox2_error_text(returned_)); \
+    if (returned_ != IOX2PS_OK) {                                      \
+      fprintf(stderr, "%s: %s\n", #call, iox2ps_error_text(returned_)); \
       return 1;                                                      \
     }                                                                \
   } while (0)
 
-static int send(iox2_domain_t *domain, const iox2_publisher_t *publisher, unsigned number) {
-  iox2_loan_t loan;
-  iox2_blocked_t blocked;
+static int send(iox2ps_domain_t *domain, const iox2ps_publisher_t *publisher, unsigned number) {
+  iox2ps_loan_t loan;
+  iox2ps_blocked_t blocked;
   void *payload;
   size_t receivers;
-  TRY(iox2_publisher_loan(domain, publisher, sizeof(struct reading), &loan, &payload));
+  TRY(iox2ps_publisher_loan(domain, publisher, sizeof(struct reading), &loan, &payload));
   struct reading *reading = payload;
   reading->number = number;
   reading->celsius = 20 + number / 2.0;
-  TRY(iox2_loan_send(domain, &loan, &receivers, &blocked));
+  TRY(iox2ps_loan_send(domain, &loan, &receivers, &blocked));
   printf("sent reading %u to %zu\n", number, receivers);
   return 0;
 }
 
-static int show(iox2_domain_t *domain, const iox2_subscriber_t *subscriber, int index) {
-  iox2_sample_t sample;
+static int show(iox2ps_domain_t *domain, const iox2ps_subscriber_t *subscriber, int index) {
+  iox2ps_sample_t sample;
   const void *payload;
   size_t len;
   uint32_t code;
-  while ((code = iox2_subscriber_receive(domain, subscriber, &sample, &payload, &len)) == IOX2_OK) {
+  while ((code = iox2ps_subscriber_receive(domain, subscriber, &sample, &payload, &len)) == IOX2PS_OK) {
     const struct reading *reading = payload;
     printf("subscriber %d read %u: %.1f °C\n", index, reading->number, reading->celsius);
-    TRY(iox2_sample_release(domain, &sample));
+    TRY(iox2ps_sample_release(domain, &sample));
   }
-  if (code != IOX2_NO_SAMPLE) TRY(code);
+  if (code != IOX2PS_NO_SAMPLE) TRY(code);
   return 0;
 }
 
-static int run(iox2_domain_t *domain) {
-  iox2_config_t config;
-  iox2_publisher_t publisher;
-  iox2_subscriber_t subscribers[2];
-  iox2_config_defaults(&config, 7, sizeof(struct reading), _Alignof(struct reading));
-  TRY(iox2_domain_create(domain, &config));
-  TRY(iox2_publisher_create(domain, &publisher));
-  for (int i = 0; i < 2; i++) TRY(iox2_subscriber_create(domain, &subscribers[i]));
+static int run(iox2ps_domain_t *domain) {
+  iox2ps_config_t config;
+  iox2ps_publisher_t publisher;
+  iox2ps_subscriber_t subscribers[2];
+  iox2ps_config_defaults(&config, 7, sizeof(struct reading), _Alignof(struct reading));
+  TRY(iox2ps_domain_create(domain, &config));
+  TRY(iox2ps_publisher_create(domain, &publisher));
+  for (int i = 0; i < 2; i++) TRY(iox2ps_subscriber_create(domain, &subscribers[i]));
   for (unsigned number = 1; number <= 3; number++) {
     if (send(domain, &publisher, number)) return 1;
     for (int i = 0; i < 2; i++) {
@@ -63,8 +63,8 @@ static int run(iox2_domain_t *domain) {
 }
 
 int main(void) {
-  iox2_domain_t domain = IOX2_DOMAIN_INIT;
+  iox2ps_domain_t domain = IOX2PS_DOMAIN_INIT;
   int failed = run(&domain);
-  iox2_domain_destroy(&domain);
+  iox2ps_domain_destroy(&domain);
   return failed;
 }

@@ -8,76 +8,76 @@
 
 enum fault {
   NO_FAULT,
-  LOAN_LEADS_TO_ANOTHER_LOAN,     /* as iox2_publisher_loan gives it */
-  PAYLOAD_LEADS_TO_ANOTHER_LOAN,  /* as iox2_loan_payload does */
-  SAMPLE_LEADS_TO_ANOTHER_SAMPLE, /* as iox2_subscriber_receive does, and iox2_sample_payload says the same */
+  LOAN_LEADS_TO_ANOTHER_LOAN,     /* as iox2ps_publisher_loan gives it */
+  PAYLOAD_LEADS_TO_ANOTHER_LOAN,  /* as iox2ps_loan_payload does */
+  SAMPLE_LEADS_TO_ANOTHER_SAMPLE, /* as iox2ps_subscriber_receive does, and iox2ps_sample_payload says the same */
   PAYLOAD_LEADS_TO_ANOTHER_SAMPLE,
   SAMPLE_LEADS_TO_A_COPY, /* which the next receive writes over */
   SAMPLE_LEADS_ONE_BYTE_FURTHER
 };
 
-uint32_t __real_iox2_publisher_loan(iox2_domain_t *, const iox2_publisher_t *, size_t, iox2_loan_t *, void **);
-uint32_t __real_iox2_loan_payload(iox2_domain_t *, const iox2_loan_t *, void **, size_t *);
-uint32_t __real_iox2_subscriber_receive(iox2_domain_t *, const iox2_subscriber_t *, iox2_sample_t *, const void **, size_t *);
-uint32_t __real_iox2_sample_payload(iox2_domain_t *, const iox2_sample_t *, const void **, size_t *);
-uint32_t __wrap_iox2_publisher_loan(iox2_domain_t *, const iox2_publisher_t *, size_t, iox2_loan_t *, void **);
-uint32_t __wrap_iox2_loan_payload(iox2_domain_t *, const iox2_loan_t *, void **, size_t *);
-uint32_t __wrap_iox2_subscriber_receive(iox2_domain_t *, const iox2_subscriber_t *, iox2_sample_t *, const void **, size_t *);
-uint32_t __wrap_iox2_sample_payload(iox2_domain_t *, const iox2_sample_t *, const void **, size_t *);
+uint32_t __real_iox2ps_publisher_loan(iox2ps_domain_t *, const iox2ps_publisher_t *, size_t, iox2ps_loan_t *, void **);
+uint32_t __real_iox2ps_loan_payload(iox2ps_domain_t *, const iox2ps_loan_t *, void **, size_t *);
+uint32_t __real_iox2ps_subscriber_receive(iox2ps_domain_t *, const iox2ps_subscriber_t *, iox2ps_sample_t *, const void **, size_t *);
+uint32_t __real_iox2ps_sample_payload(iox2ps_domain_t *, const iox2ps_sample_t *, const void **, size_t *);
+uint32_t __wrap_iox2ps_publisher_loan(iox2ps_domain_t *, const iox2ps_publisher_t *, size_t, iox2ps_loan_t *, void **);
+uint32_t __wrap_iox2ps_loan_payload(iox2ps_domain_t *, const iox2ps_loan_t *, void **, size_t *);
+uint32_t __wrap_iox2ps_subscriber_receive(iox2ps_domain_t *, const iox2ps_subscriber_t *, iox2ps_sample_t *, const void **, size_t *);
+uint32_t __wrap_iox2ps_sample_payload(iox2ps_domain_t *, const iox2ps_sample_t *, const void **, size_t *);
 
 /* The last loans and samples, of which the domain says which are live, and what was said of each sample. */
 enum { KEPT = 64 };
-static iox2_loan_t loans[KEPT];
-static iox2_sample_t samples[KEPT];
+static iox2ps_loan_t loans[KEPT];
+static iox2ps_sample_t samples[KEPT];
 static const void *said[KEPT];
 static size_t loan_count, sample_count;
 
-static int are_same(iox2_wide_t a, iox2_wide_t b) { return a.low == b.low && a.high == b.high; }
+static int are_same(iox2ps_wide_t a, iox2ps_wide_t b) { return a.low == b.low && a.high == b.high; }
 
-static void lead_to_another_loan(iox2_domain_t *domain, const iox2_loan_t *loan, size_t len, void **payload) {
+static void lead_to_another_loan(iox2ps_domain_t *domain, const iox2ps_loan_t *loan, size_t len, void **payload) {
   for (size_t i = 0; i < KEPT && i < loan_count; i++) {
     void *bytes;
     size_t there;
     if (are_same(loans[i].number, loan->number)) continue;
-    if (__real_iox2_loan_payload(domain, &loans[i], &bytes, &there) == IOX2_OK && there >= len) *payload = bytes;
+    if (__real_iox2ps_loan_payload(domain, &loans[i], &bytes, &there) == IOX2PS_OK && there >= len) *payload = bytes;
   }
 }
 
-static void lead_to_another_sample(iox2_domain_t *domain, const iox2_sample_t *sample, size_t len, const void **payload) {
+static void lead_to_another_sample(iox2ps_domain_t *domain, const iox2ps_sample_t *sample, size_t len, const void **payload) {
   for (size_t i = 0; i < KEPT && i < sample_count; i++) {
     const void *bytes;
     size_t there;
     if (are_same(samples[i].number, sample->number)) continue;
-    if (__real_iox2_sample_payload(domain, &samples[i], &bytes, &there) == IOX2_OK && there >= len) *payload = bytes;
+    if (__real_iox2ps_sample_payload(domain, &samples[i], &bytes, &there) == IOX2PS_OK && there >= len) *payload = bytes;
   }
 }
 
-static void lead_where_it_was_said(const iox2_sample_t *sample, const void **payload) {
+static void lead_where_it_was_said(const iox2ps_sample_t *sample, const void **payload) {
   for (size_t i = 0; i < KEPT && i < sample_count; i++) {
     if (are_same(samples[i].number, sample->number) && are_same(samples[i].subscriber, sample->subscriber)) *payload = said[i];
   }
 }
 
-uint32_t __wrap_iox2_publisher_loan(iox2_domain_t *domain, const iox2_publisher_t *publisher, size_t len,
-                                    iox2_loan_t *loan, void **payload) {
-  uint32_t code = __real_iox2_publisher_loan(domain, publisher, len, loan, payload);
-  if (code != IOX2_OK) return code;
+uint32_t __wrap_iox2ps_publisher_loan(iox2ps_domain_t *domain, const iox2ps_publisher_t *publisher, size_t len,
+                                    iox2ps_loan_t *loan, void **payload) {
+  uint32_t code = __real_iox2ps_publisher_loan(domain, publisher, len, loan, payload);
+  if (code != IOX2PS_OK) return code;
   if (FAULT == LOAN_LEADS_TO_ANOTHER_LOAN) lead_to_another_loan(domain, loan, len, payload);
   loans[loan_count++ % KEPT] = *loan;
   return code;
 }
 
-uint32_t __wrap_iox2_loan_payload(iox2_domain_t *domain, const iox2_loan_t *loan, void **payload, size_t *len) {
-  uint32_t code = __real_iox2_loan_payload(domain, loan, payload, len);
-  if (code == IOX2_OK && FAULT == PAYLOAD_LEADS_TO_ANOTHER_LOAN) lead_to_another_loan(domain, loan, *len, payload);
+uint32_t __wrap_iox2ps_loan_payload(iox2ps_domain_t *domain, const iox2ps_loan_t *loan, void **payload, size_t *len) {
+  uint32_t code = __real_iox2ps_loan_payload(domain, loan, payload, len);
+  if (code == IOX2PS_OK && FAULT == PAYLOAD_LEADS_TO_ANOTHER_LOAN) lead_to_another_loan(domain, loan, *len, payload);
   return code;
 }
 
-uint32_t __wrap_iox2_subscriber_receive(iox2_domain_t *domain, const iox2_subscriber_t *subscriber,
-                                        iox2_sample_t *sample, const void **payload, size_t *len) {
+uint32_t __wrap_iox2ps_subscriber_receive(iox2ps_domain_t *domain, const iox2ps_subscriber_t *subscriber,
+                                        iox2ps_sample_t *sample, const void **payload, size_t *len) {
   static uint8_t copy[64];
-  uint32_t code = __real_iox2_subscriber_receive(domain, subscriber, sample, payload, len);
-  if (code != IOX2_OK) return code;
+  uint32_t code = __real_iox2ps_subscriber_receive(domain, subscriber, sample, payload, len);
+  if (code != IOX2PS_OK) return code;
   if (FAULT == SAMPLE_LEADS_TO_ANOTHER_SAMPLE) lead_to_another_sample(domain, sample, *len, payload);
   if (FAULT == SAMPLE_LEADS_TO_A_COPY && *len <= sizeof copy) *payload = memcpy(copy, *payload, *len);
   if (FAULT == SAMPLE_LEADS_ONE_BYTE_FURTHER) *payload = (const uint8_t *)*payload + 1;
@@ -86,10 +86,10 @@ uint32_t __wrap_iox2_subscriber_receive(iox2_domain_t *domain, const iox2_subscr
   return code;
 }
 
-uint32_t __wrap_iox2_sample_payload(iox2_domain_t *domain, const iox2_sample_t *sample, const void **payload,
+uint32_t __wrap_iox2ps_sample_payload(iox2ps_domain_t *domain, const iox2ps_sample_t *sample, const void **payload,
                                     size_t *len) {
-  uint32_t code = __real_iox2_sample_payload(domain, sample, payload, len);
-  if (code != IOX2_OK) return code;
+  uint32_t code = __real_iox2ps_sample_payload(domain, sample, payload, len);
+  if (code != IOX2PS_OK) return code;
   if (FAULT == SAMPLE_LEADS_TO_ANOTHER_SAMPLE) lead_where_it_was_said(sample, payload);
   if (FAULT == PAYLOAD_LEADS_TO_ANOTHER_SAMPLE) lead_to_another_sample(domain, sample, *len, payload);
   return code;

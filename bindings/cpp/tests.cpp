@@ -17,9 +17,9 @@ static int passed = 0, failed = 0;
     }                                                              \
   } while (0)
 
-using iox2::Config;
-using iox2::Domain;
-using iox2::Error;
+using iox2ps::Config;
+using iox2ps::Domain;
+using iox2ps::Error;
 
 struct Pose {
   double at[3];
@@ -30,9 +30,9 @@ struct alignas(16) Block {
   unsigned char bytes[48];
 };
 
-static_assert(!std::is_copy_constructible_v<iox2::Loan<int>> && std::is_nothrow_move_constructible_v<iox2::Loan<int>>);
-static_assert(!std::is_copy_constructible_v<iox2::Sample<int>> && std::is_nothrow_move_constructible_v<iox2::Sample<int>>);
-static_assert(!std::is_copy_constructible_v<iox2::Publisher<int>> && !std::is_copy_constructible_v<iox2::Subscriber<int>>);
+static_assert(!std::is_copy_constructible_v<iox2ps::Loan<int>> && std::is_nothrow_move_constructible_v<iox2ps::Loan<int>>);
+static_assert(!std::is_copy_constructible_v<iox2ps::Sample<int>> && std::is_nothrow_move_constructible_v<iox2ps::Sample<int>>);
+static_assert(!std::is_copy_constructible_v<iox2ps::Publisher<int>> && !std::is_copy_constructible_v<iox2ps::Subscriber<int>>);
 
 template <typename P> static Domain<P> made(const Config<P> &config) { return Domain<P>::create(config).expect("a domain"); }
 
@@ -45,7 +45,7 @@ static void a_value_is_written_and_read_in_place() {
   loan->stamp = 7;
   loan->at[1] = 0.5;
   const Pose *written = &*loan;
-  iox2::Id number = loan.number();
+  iox2ps::Id number = loan.number();
   CHECK(loan.publisher() == publisher.id());
   auto sent = loan.send().expect("a send");
   CHECK(sent.delivered() == std::size_t(1) && !loan && !sent.blocked());
@@ -84,7 +84,7 @@ static void slices_have_the_length_of_their_loan() {
   auto domain = made(Config<std::uint16_t[]>(3, 100));
   auto publisher = domain.publisher().expect("a publisher");
   auto subscriber = domain.subscriber().expect("a subscriber");
-  CHECK(publisher.initial_max_slice_len() == 100 && publisher.backpressure_strategy() == IOX2_RETRY_UNTIL_DELIVERED);
+  CHECK(publisher.initial_max_slice_len() == 100 && publisher.backpressure_strategy() == IOX2PS_RETRY_UNTIL_DELIVERED);
   auto loan = publisher.loan_slice(3).expect("a loan");
   CHECK(loan.size() == 3 && loan[0] == 0 && loan[2] == 0);
   loan[1] = 5;
@@ -136,7 +136,7 @@ static void alignments_are_kept() {
 }
 
 static void handles_outlive_their_domain_and_make_room() {
-  std::optional<iox2::Sample<int>> kept;
+  std::optional<iox2ps::Sample<int>> kept;
   {
     Config<int> config(6);
     config.max_publishers = 1;
@@ -207,7 +207,7 @@ static void a_publisher_that_goes_while_it_is_blocked_closes_later() {
   config.max_publishers = 1;
   auto domain = made(config);
   auto subscriber = domain.subscriber().expect("a subscriber");
-  std::optional<iox2::BlockedSend<int>> blocked;
+  std::optional<iox2ps::BlockedSend<int>> blocked;
   {
     auto publisher = domain.publisher().expect("a publisher");
     CHECK(publisher.send_copy(1).has_value());
@@ -221,11 +221,11 @@ static void a_publisher_that_goes_while_it_is_blocked_closes_later() {
 static void full_buffers_are_passed_over_or_fail_the_send() {
   auto domain = made(keeping(10));
   auto options = domain.publisher_options();
-  options.backpressure_strategy = IOX2_DISCARD_DATA;
+  options.backpressure_strategy = IOX2PS_DISCARD_DATA;
   auto discards = domain.publisher(options).expect("a publisher");
-  options.backpressure_handler = IOX2_BACKPRESSURE_DISCARD_DATA_AND_FAIL;
+  options.backpressure_handler = IOX2PS_BACKPRESSURE_DISCARD_DATA_AND_FAIL;
   auto fails = domain.publisher(options).expect("a publisher");
-  CHECK(discards.backpressure_strategy() == IOX2_DISCARD_DATA);
+  CHECK(discards.backpressure_strategy() == IOX2PS_DISCARD_DATA);
   auto subscriber = domain.subscriber().expect("a subscriber");
   CHECK(discards.send_copy(1)->delivered() == std::size_t(1));
   CHECK(discards.send_copy(2)->delivered() == std::size_t(0));
@@ -252,9 +252,9 @@ static void a_publisher_grows() {
   auto domain = Domain<int[]>::create(Config<int[]>(13, 2)).expect("a domain");
   auto subscriber = domain.subscriber().expect("a subscriber");
   auto options = domain.publisher_options();
-  CHECK(options.allocation_strategy == IOX2_ALLOCATION_STATIC);
+  CHECK(options.allocation_strategy == IOX2PS_ALLOCATION_STATIC);
   auto fixed = domain.publisher(options).expect("a publisher");
-  options.allocation_strategy = IOX2_ALLOCATION_POWER_OF_TWO;
+  options.allocation_strategy = IOX2PS_ALLOCATION_POWER_OF_TWO;
   options.initial_max_slice_len = 0;
   auto growing = domain.publisher(options).expect("a publisher");
   CHECK(fixed.loan_slice(3).error() == Error::LoanExceedsMaxLoanSize);
@@ -289,7 +289,7 @@ static void a_header_says_where_a_message_comes_from() {
     CHECK(publisher->send_copy(values, 3).has_value());
     auto sample = *subscriber.receive().expect("a receive");
     auto header = sample.header().expect("a header");
-    CHECK(header.node_id == iox2::Id{6, 5} && header.publisher == publisher->id() && header.number_of_elements == 3);
+    CHECK(header.node_id == iox2ps::Id{6, 5} && header.publisher == publisher->id() && header.number_of_elements == 3);
     sample.release();
     CHECK(sample.header().error() == Error::NotLive);
   }
@@ -324,8 +324,8 @@ static void settings_say_how_many_slots_a_publisher_has() {
 }
 
 static void errors_have_texts() {
-  for (std::uint32_t code = 0; code < 130; code++) CHECK(std::strlen(iox2::text(static_cast<Error>(code))) > 0);
-  CHECK(std::string(iox2::text(Error::NotLive)) != iox2::text(Error::OutOfMemory));
+  for (std::uint32_t code = 0; code < 130; code++) CHECK(std::strlen(iox2ps::text(static_cast<Error>(code))) > 0);
+  CHECK(std::string(iox2ps::text(Error::NotLive)) != iox2ps::text(Error::OutOfMemory));
 }
 
 int main() {

@@ -8,9 +8,9 @@ struct Reading {
 };
 
 int main() {
-  auto domain = iox2::Domain<Reading>::create(iox2::Config<Reading>(7)).expect("a domain");
+  auto domain = iox2ps::Domain<Reading>::create(iox2ps::Config<Reading>(7)).expect("a domain");
   auto publisher = domain.publisher().expect("a publisher");
-  iox2::Subscriber<Reading> subscribers[] = {domain.subscriber().expect("a subscriber"),
+  iox2ps::Subscriber<Reading> subscribers[] = {domain.subscriber().expect("a subscriber"),
                                              domain.subscriber().expect("a subscriber")};
   for (unsigned number = 1; number <= 3; number++) {
     auto loan = publisher.loan().expect("a loan");

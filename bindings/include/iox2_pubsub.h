@@ -4,14 +4,14 @@
  * What a caller owes, and nothing else:
  *  - each pointer is valid for the call, aligned, not null and of its type; one that isn't const points
  *    to memory that the call alone uses; bytes that are read are initialised;
- *  - an iox2_domain_t starts as IOX2_DOMAIN_INIT, is changed by these functions alone, and isn't copied
+ *  - an iox2ps_domain_t starts as IOX2PS_DOMAIN_INIT, is changed by these functions alone, and isn't copied
  *    while it has a domain;
- *  - one thread at a time is in calls of one domain, and a domain stays on its thread;
+ *  - one call at a time works on a domain; threads that share one bring a lock, as is said below;
  *  - malloc, realloc and free are the C library's, and no call is made from a signal handler;
  *  - a pointer to a payload is used as the call that gives it says, and not longer.
  *
  * It isn't owed that a call fits: where the numbers of a port, a loan, a sample or a blocked send name
- * nothing that is live in the domain, the call returns IOX2_NOT_LIVE and changes nothing. So numbers may
+ * nothing that is live in the domain, the call returns IOX2PS_NOT_LIVE and changes nothing. So numbers may
  * be copied, used twice, kept too long or made up. Domains whose handles are to be told apart need
  * service_ids of their own.
  *
@@ -20,9 +20,27 @@
  * other, aligned as payload_alignment says, and they stay there until the loan or the sample is spent. The
  * pointer to a text is tested alone too.
  *
- * Each call returns IOX2_OK, which is 0, or one of the codes that stand at it. Where it says nothing
- * else, a call that doesn't return IOX2_OK changes neither the domain nor what its pointers point to,
- * and IOX2_NO_DOMAIN says that the iox2_domain_t has no domain. */
+ * Threads. Nothing here starts a thread, takes a lock, waits, or keeps state outside of a domain. So threads may call
+ * different domains at a time, and a domain may go from one thread to another. Threads that share one have a lock for it:
+ *  - each call that takes the domain is made with the lock, also one that only asks: it takes the domain out of its
+ *    iox2ps_domain_t and puts it back;
+ *  - payloads need no lock. The bytes of a loan are its holder's from the call that lends it to the call that sends or
+ *    discards it; those of a sample are read by whoever likes, by several threads at a time, from the call that receives
+ *    it to the call that releases it. No other call touches them. They aren't touched once the ending call has begun,
+ *    by whichever thread;
+ *  - numbers may be handed on as any struct may: by the lock, a queue or a join;
+ *  - to wait for a message (IOX2PS_NO_SAMPLE) or for room (IOX2PS_BLOCKED), wait at a condition variable of the lock, and try
+ *    again. A message may have come after each send, retry and giving up, also one that returned IOX2PS_BLOCKED, after an
+ *    update of a publisher's connections, and after a publisher was made or closed; room, after a receive and after a
+ *    subscriber was closed; and a publisher that returned IOX2PS_PUBLISHER_IS_BLOCKED may be free after a retry or a giving
+ *    up. A release makes no room in a buffer;
+ *  - iox2ps_domain_destroy is called when no thread will call, read or write any more.
+ * With the lock, all calls of a domain are one list, and what is proved of a list of calls is so of that one, in the order
+ * in which the lock was taken. bindings/c/threads.c is such a program; iox2_pubsub_shared.hpp has a lock in it.
+ *
+ * Each call returns IOX2PS_OK, which is 0, or one of the codes that stand at it. Where it says nothing
+ * else, a call that doesn't return IOX2PS_OK changes neither the domain nor what its pointers point to,
+ * and IOX2PS_NO_DOMAIN says that the iox2ps_domain_t has no domain. */
 #ifndef IOX2_PUBSUB_H
 #define IOX2_PUBSUB_H
 
@@ -33,102 +51,102 @@
 extern "C" {
 #endif
 
-/* What a call returns, as a uint32_t. iox2_error_text has a text for each. */
-typedef enum iox2_status_e {
-  IOX2_OK = 0,
-  IOX2_NO_DOMAIN = 1,            /* none was made, or it was destroyed */
-  IOX2_NOT_LIVE = 2,             /* the numbers name nothing that is live in this domain */
-  IOX2_NO_SAMPLE = 3,            /* no message waits */
-  IOX2_OUT_OF_MEMORY = 4,        /* there is no memory for the domain */
-  IOX2_HAS_DOMAIN = 5,           /* there is one already */
-  IOX2_BLOCKED = 6,              /* the send waits for a subscriber whose buffer is full */
-  IOX2_PUBLISHER_IS_BLOCKED = 7, /* an earlier send of the publisher waits, and nothing was done */
-  IOX2_INVALID_SETTINGS = 8,     /* a field has none of its values */
-  IOX2_TOO_SMALL = 9,            /* the message is longer than the room for it */
-  IOX2_LOAN_ERROR_OUT_OF_MEMORY = 10,
-  IOX2_LOAN_ERROR_EXCEEDS_MAX_LOANS = 11,
-  IOX2_LOAN_ERROR_EXCEEDS_MAX_LOAN_SIZE = 12,
-  IOX2_LOAN_ERROR_INTERNAL_FAILURE = 13,
-  IOX2_SEND_ERROR_CONNECTION_BROKEN_SINCE_SENDER_NO_LONGER_EXISTS = 20,
-  IOX2_SEND_ERROR_CONNECTION_CORRUPTED = 21,
-  IOX2_SEND_ERROR_UNABLE_TO_DELIVER = 22,
-  IOX2_SEND_ERROR_INTERNAL_ERROR = 23,
-  IOX2_SEND_ERROR_CONNECTION_INCOMPATIBLE_BUFFER_SIZE = 24,
-  IOX2_SEND_ERROR_CONNECTION_OUT_OF_MEMORY = 25,
-  IOX2_SEND_ERROR_CONNECTION_EXPIRED_BUFFER_FULL = 26,
-  IOX2_SEND_ERROR_CONNECTION_UNABLE_TO_MAP = 27,
-  IOX2_RECEIVE_ERROR_EXCEEDS_MAX_BORROWS = 30,
-  IOX2_RECEIVE_ERROR_CONNECTION_INCOMPATIBLE_BUFFER_SIZE = 34,
-  IOX2_RECEIVE_ERROR_CONNECTION_OUT_OF_MEMORY = 35,
-  IOX2_RECEIVE_ERROR_CONNECTION_EXPIRED_BUFFER_FULL = 36,
-  IOX2_RECEIVE_ERROR_CONNECTION_UNABLE_TO_MAP = 37,
-  IOX2_CONNECTION_FAILURE_INCOMPATIBLE_BUFFER_SIZE = 44,
-  IOX2_CONNECTION_FAILURE_OUT_OF_MEMORY = 45,
-  IOX2_CONNECTION_FAILURE_EXPIRED_BUFFER_FULL = 46,
-  IOX2_CONNECTION_FAILURE_UNABLE_TO_MAP = 47,
-  IOX2_PUBLISHER_CREATE_ERROR_EXCEEDS_MAX_SUPPORTED_PUBLISHERS = 50,
-  IOX2_PUBLISHER_CREATE_ERROR_UNABLE_TO_CREATE_DATA_SEGMENT = 51,
-  IOX2_PUBLISHER_CREATE_ERROR_FAILED_TO_DEPLOY_THREADSAFETY_POLICY = 52,
-  IOX2_PUBLISHER_CREATE_ERROR_UNABLE_TO_CREATE_PORT_TAG = 53,
-  IOX2_SUBSCRIBER_CREATE_ERROR_EXCEEDS_MAX_SUPPORTED_SUBSCRIBERS = 60,
-  IOX2_SUBSCRIBER_CREATE_ERROR_BUFFER_SIZE_EXCEEDS_MAX = 61,
-  IOX2_SUBSCRIBER_CREATE_ERROR_FAILED_TO_DEPLOY_THREADSAFETY_POLICY = 62,
-  IOX2_SUBSCRIBER_CREATE_ERROR_UNABLE_TO_CREATE_PORT_TAG = 63
-} iox2_status_e;
+/* What a call returns, as a uint32_t. iox2ps_error_text has a text for each. */
+typedef enum iox2ps_status_e {
+  IOX2PS_OK = 0,
+  IOX2PS_NO_DOMAIN = 1,            /* none was made, or it was destroyed */
+  IOX2PS_NOT_LIVE = 2,             /* the numbers name nothing that is live in this domain */
+  IOX2PS_NO_SAMPLE = 3,            /* no message waits */
+  IOX2PS_OUT_OF_MEMORY = 4,        /* there is no memory for the domain */
+  IOX2PS_HAS_DOMAIN = 5,           /* there is one already */
+  IOX2PS_BLOCKED = 6,              /* the send waits for a subscriber whose buffer is full */
+  IOX2PS_PUBLISHER_IS_BLOCKED = 7, /* an earlier send of the publisher waits, and nothing was done */
+  IOX2PS_INVALID_SETTINGS = 8,     /* a field has none of its values */
+  IOX2PS_TOO_SMALL = 9,            /* the message is longer than the room for it */
+  IOX2PS_LOAN_ERROR_OUT_OF_MEMORY = 10,
+  IOX2PS_LOAN_ERROR_EXCEEDS_MAX_LOANS = 11,
+  IOX2PS_LOAN_ERROR_EXCEEDS_MAX_LOAN_SIZE = 12,
+  IOX2PS_LOAN_ERROR_INTERNAL_FAILURE = 13,
+  IOX2PS_SEND_ERROR_CONNECTION_BROKEN_SINCE_SENDER_NO_LONGER_EXISTS = 20,
+  IOX2PS_SEND_ERROR_CONNECTION_CORRUPTED = 21,
+  IOX2PS_SEND_ERROR_UNABLE_TO_DELIVER = 22,
+  IOX2PS_SEND_ERROR_INTERNAL_ERROR = 23,
+  IOX2PS_SEND_ERROR_CONNECTION_INCOMPATIBLE_BUFFER_SIZE = 24,
+  IOX2PS_SEND_ERROR_CONNECTION_OUT_OF_MEMORY = 25,
+  IOX2PS_SEND_ERROR_CONNECTION_EXPIRED_BUFFER_FULL = 26,
+  IOX2PS_SEND_ERROR_CONNECTION_UNABLE_TO_MAP = 27,
+  IOX2PS_RECEIVE_ERROR_EXCEEDS_MAX_BORROWS = 30,
+  IOX2PS_RECEIVE_ERROR_CONNECTION_INCOMPATIBLE_BUFFER_SIZE = 34,
+  IOX2PS_RECEIVE_ERROR_CONNECTION_OUT_OF_MEMORY = 35,
+  IOX2PS_RECEIVE_ERROR_CONNECTION_EXPIRED_BUFFER_FULL = 36,
+  IOX2PS_RECEIVE_ERROR_CONNECTION_UNABLE_TO_MAP = 37,
+  IOX2PS_CONNECTION_FAILURE_INCOMPATIBLE_BUFFER_SIZE = 44,
+  IOX2PS_CONNECTION_FAILURE_OUT_OF_MEMORY = 45,
+  IOX2PS_CONNECTION_FAILURE_EXPIRED_BUFFER_FULL = 46,
+  IOX2PS_CONNECTION_FAILURE_UNABLE_TO_MAP = 47,
+  IOX2PS_PUBLISHER_CREATE_ERROR_EXCEEDS_MAX_SUPPORTED_PUBLISHERS = 50,
+  IOX2PS_PUBLISHER_CREATE_ERROR_UNABLE_TO_CREATE_DATA_SEGMENT = 51,
+  IOX2PS_PUBLISHER_CREATE_ERROR_FAILED_TO_DEPLOY_THREADSAFETY_POLICY = 52,
+  IOX2PS_PUBLISHER_CREATE_ERROR_UNABLE_TO_CREATE_PORT_TAG = 53,
+  IOX2PS_SUBSCRIBER_CREATE_ERROR_EXCEEDS_MAX_SUPPORTED_SUBSCRIBERS = 60,
+  IOX2PS_SUBSCRIBER_CREATE_ERROR_BUFFER_SIZE_EXCEEDS_MAX = 61,
+  IOX2PS_SUBSCRIBER_CREATE_ERROR_FAILED_TO_DEPLOY_THREADSAFETY_POLICY = 62,
+  IOX2PS_SUBSCRIBER_CREATE_ERROR_UNABLE_TO_CREATE_PORT_TAG = 63
+} iox2ps_status_e;
 
 /* What a publisher does where a subscriber's buffer is full and the domain doesn't overflow. */
-typedef enum iox2_backpressure_strategy_e {
-  IOX2_RETRY_UNTIL_DELIVERED = 0, /* the send is blocked: it is tried again, or given up */
-  IOX2_DISCARD_DATA = 1           /* the subscriber doesn't get the message */
-} iox2_backpressure_strategy_e;
+typedef enum iox2ps_backpressure_strategy_e {
+  IOX2PS_RETRY_UNTIL_DELIVERED = 0, /* the send is blocked: it is tried again, or given up */
+  IOX2PS_DISCARD_DATA = 1           /* the subscriber doesn't get the message */
+} iox2ps_backpressure_strategy_e;
 
 /* What always answers in place of the strategy. */
-typedef enum iox2_backpressure_handler_e {
-  IOX2_BACKPRESSURE_NONE = 0,             /* the strategy does */
-  IOX2_BACKPRESSURE_FOLLOW_STRATEGY = 1,
-  IOX2_BACKPRESSURE_RETRY = 2,
-  IOX2_BACKPRESSURE_DISCARD_DATA = 3,
-  IOX2_BACKPRESSURE_DISCARD_DATA_AND_FAIL = 4
-} iox2_backpressure_handler_e;
+typedef enum iox2ps_backpressure_handler_e {
+  IOX2PS_BACKPRESSURE_NONE = 0,             /* the strategy does */
+  IOX2PS_BACKPRESSURE_FOLLOW_STRATEGY = 1,
+  IOX2PS_BACKPRESSURE_RETRY = 2,
+  IOX2PS_BACKPRESSURE_DISCARD_DATA = 3,
+  IOX2PS_BACKPRESSURE_DISCARD_DATA_AND_FAIL = 4
+} iox2ps_backpressure_handler_e;
 
 /* What a port does where memory for a connection is refused. */
-typedef enum iox2_degradation_e {
-  IOX2_DEGRADATION_IGNORE = 0, /* go on without it */
-  IOX2_DEGRADATION_WARN = 1,   /* and the domain warns of it */
-  IOX2_DEGRADATION_FAIL = 2    /* let the call fail */
-} iox2_degradation_e;
+typedef enum iox2ps_degradation_e {
+  IOX2PS_DEGRADATION_IGNORE = 0, /* go on without it */
+  IOX2PS_DEGRADATION_WARN = 1,   /* and the domain warns of it */
+  IOX2PS_DEGRADATION_FAIL = 2    /* let the call fail */
+} iox2ps_degradation_e;
 
 /* How a publisher's memory grows where a loan doesn't fit. */
-typedef enum iox2_allocation_strategy_e {
-  IOX2_ALLOCATION_STATIC = 0,      /* it doesn't: the loan is refused */
-  IOX2_ALLOCATION_BEST_FIT = 1,    /* by slots for messages as long as the longest so far */
-  IOX2_ALLOCATION_POWER_OF_TWO = 2 /* by slots as long as the next power of two */
-} iox2_allocation_strategy_e;
+typedef enum iox2ps_allocation_strategy_e {
+  IOX2PS_ALLOCATION_STATIC = 0,      /* it doesn't: the loan is refused */
+  IOX2PS_ALLOCATION_BEST_FIT = 1,    /* by slots for messages as long as the longest so far */
+  IOX2PS_ALLOCATION_POWER_OF_TWO = 2 /* by slots as long as the next power of two */
+} iox2ps_allocation_strategy_e;
 
-/* What a warning is of. iox2_error_text has a text for each. */
-typedef enum iox2_warning_e {
-  IOX2_WARNING_EXPIRED_BUFFER_RAISED = 100,
-  IOX2_WARNING_PUBLISHER_PARTLY_CONNECTED = 101,
-  IOX2_WARNING_SUBSCRIBER_PARTLY_CONNECTED = 102,
-  IOX2_WARNING_CONNECTION_NOT_MADE = 103,
-  IOX2_WARNING_EXPIRED_DATA_DISCARDED = 104
-} iox2_warning_e;
+/* What a warning is of. iox2ps_error_text has a text for each. */
+typedef enum iox2ps_warning_e {
+  IOX2PS_WARNING_EXPIRED_BUFFER_RAISED = 100,
+  IOX2PS_WARNING_PUBLISHER_PARTLY_CONNECTED = 101,
+  IOX2PS_WARNING_SUBSCRIBER_PARTLY_CONNECTED = 102,
+  IOX2PS_WARNING_CONNECTION_NOT_MADE = 103,
+  IOX2PS_WARNING_EXPIRED_DATA_DISCARDED = 104
+} iox2ps_warning_e;
 
-/* A domain, which its iox2_domain_t owns: null where there is none. */
-typedef struct iox2_domain_t { void *domain_; } iox2_domain_t;
+/* A domain, which its iox2ps_domain_t owns: null where there is none. */
+typedef struct iox2ps_domain_t { void *domain_; } iox2ps_domain_t;
 #ifdef __cplusplus
-#define IOX2_DOMAIN_INIT iox2_domain_t{nullptr}
+#define IOX2PS_DOMAIN_INIT iox2ps_domain_t{nullptr}
 #else
-#define IOX2_DOMAIN_INIT ((iox2_domain_t){0})
+#define IOX2PS_DOMAIN_INIT ((iox2ps_domain_t){0})
 #endif
 
 /* A number of 128 bits. */
-typedef struct iox2_wide_t { uint64_t low, high; } iox2_wide_t;
+typedef struct iox2ps_wide_t { uint64_t low, high; } iox2ps_wide_t;
 
 /* The settings of a domain. */
-typedef struct iox2_config_t {
-  iox2_wide_t service_id;                      /* names the domain */
-  iox2_wide_t node_id;                         /* what the header of each message names */
+typedef struct iox2ps_config_t {
+  iox2ps_wide_t service_id;                      /* names the domain */
+  iox2ps_wide_t node_id;                         /* what the header of each message names */
   size_t payload_size;                         /* how many bytes a message of a publisher may have, where its
                                                   options say nothing else; a multiple of the alignment */
   size_t payload_alignment;                    /* 1, 2, 4, 8 or 16: to what each payload is aligned */
@@ -140,234 +158,234 @@ typedef struct iox2_config_t {
   size_t subscriber_expired_connection_buffer; /* connections to closed publishers that are kept */
   size_t publisher_max_loaned_samples;         /* loans of a publisher that may be out at a time */
   uint32_t enable_safe_overflow;               /* not 0: a full buffer lets its oldest message go */
-  uint32_t backpressure_strategy;              /* an iox2_backpressure_strategy_e */
-} iox2_config_t;
+  uint32_t backpressure_strategy;              /* an iox2ps_backpressure_strategy_e */
+} iox2ps_config_t;
 
 /* What one publisher has other than the domain's settings say. */
-typedef struct iox2_publisher_options_t {
+typedef struct iox2ps_publisher_options_t {
   size_t max_loaned_samples;      /* loans that may be out at a time */
   size_t initial_max_slice_len;   /* how many bytes a message may have, as long as memory isn't to grow; a multiple
                                      of the domain's alignment, and not 0 where memory may grow */
   size_t preallocated_samples;    /* how many slots it asks for: it has so many, but no more than
-                                     iox2_worst_case_slots; 0 asks for nothing, and it has the worst case. With
-                                     fewer a loan may be refused with IOX2_LOAN_ERROR_OUT_OF_MEMORY, or needs more
+                                     iox2ps_worst_case_slots; 0 asks for nothing, and it has the worst case. With
+                                     fewer a loan may be refused with IOX2PS_LOAN_ERROR_OUT_OF_MEMORY, or needs more
                                      memory where that may grow */
-  uint32_t backpressure_strategy; /* an iox2_backpressure_strategy_e */
-  uint32_t backpressure_handler;  /* an iox2_backpressure_handler_e */
-  uint32_t degradation;           /* an iox2_degradation_e */
-  uint32_t allocation_strategy;   /* an iox2_allocation_strategy_e: by default, and without options, static */
-} iox2_publisher_options_t;
+  uint32_t backpressure_strategy; /* an iox2ps_backpressure_strategy_e */
+  uint32_t backpressure_handler;  /* an iox2ps_backpressure_handler_e */
+  uint32_t degradation;           /* an iox2ps_degradation_e */
+  uint32_t allocation_strategy;   /* an iox2ps_allocation_strategy_e: by default, and without options, static */
+} iox2ps_publisher_options_t;
 
 /* What one subscriber has other than the domain's settings say. */
-typedef struct iox2_subscriber_options_t {
+typedef struct iox2ps_subscriber_options_t {
   size_t buffer_size;   /* messages of one publisher that may wait; 0 counts as 1 */
-  uint32_t degradation; /* an iox2_degradation_e */
+  uint32_t degradation; /* an iox2ps_degradation_e */
   uint32_t reserved_;
-} iox2_subscriber_options_t;
+} iox2ps_subscriber_options_t;
 
 /* The numbers of what stands in a domain. Only equality of service_id, id, publisher, subscriber and
  * number is meant for a program; what ends in _ says where the domain looks first. */
-typedef struct iox2_publisher_t {
-  iox2_wide_t service_id, id;
+typedef struct iox2ps_publisher_t {
+  iox2ps_wide_t service_id, id;
   size_t place_;
   size_t initial_max_slice_len; /* how many bytes a message may have, as long as memory isn't to grow */
   uint32_t backpressure_strategy;
   uint32_t reserved_;
-} iox2_publisher_t;
+} iox2ps_publisher_t;
 
-typedef struct iox2_subscriber_t {
-  iox2_wide_t service_id, id;
+typedef struct iox2ps_subscriber_t {
+  iox2ps_wide_t service_id, id;
   size_t place_;
   size_t buffer_size; /* how many messages of one publisher may wait */
-} iox2_subscriber_t;
+} iox2ps_subscriber_t;
 
 /* A message that a publisher has lent. */
-typedef struct iox2_loan_t {
-  iox2_wide_t service_id, publisher, number;
+typedef struct iox2ps_loan_t {
+  iox2ps_wide_t service_id, publisher, number;
   size_t place_, book_, slot_;
-} iox2_loan_t;
+} iox2ps_loan_t;
 
 /* A send that waits for a subscriber whose buffer is full. */
-typedef struct iox2_blocked_t {
-  iox2_wide_t service_id, publisher, number;
+typedef struct iox2ps_blocked_t {
+  iox2ps_wide_t service_id, publisher, number;
   size_t place_, book_, slot_;
-} iox2_blocked_t;
+} iox2ps_blocked_t;
 
 /* A message that a subscriber has borrowed. Its origin is the id of the publisher that sent it, which no call asks
  * for. */
-typedef struct iox2_sample_t {
-  iox2_wide_t service_id, origin, subscriber, number;
+typedef struct iox2ps_sample_t {
+  iox2ps_wide_t service_id, origin, subscriber, number;
   size_t connection_, book_, slot_;
-} iox2_sample_t;
+} iox2ps_sample_t;
 
 /* Where a message comes from. */
-typedef struct iox2_header_t {
-  iox2_wide_t node_id, publisher;
+typedef struct iox2ps_header_t {
+  iox2ps_wide_t node_id, publisher;
   uint64_t number_of_elements; /* its bytes */
-} iox2_header_t;
+} iox2ps_header_t;
 
 /* Something that a domain did or left undone without failing the call. */
-typedef struct iox2_warning_t {
-  iox2_wide_t publisher, subscriber; /* 0 where the warning names none */
-  uint32_t kind;                     /* an iox2_warning_e */
-  uint32_t failure;                  /* one of IOX2_CONNECTION_FAILURE_.. where it has one, else 0 */
-} iox2_warning_t;
+typedef struct iox2ps_warning_t {
+  iox2ps_wide_t publisher, subscriber; /* 0 where the warning names none */
+  uint32_t kind;                     /* an iox2ps_warning_e */
+  uint32_t failure;                  /* one of IOX2PS_CONNECTION_FAILURE_.. where it has one, else 0 */
+} iox2ps_warning_t;
 
 /* ---- settings and texts; none of these looks at a domain, and those that return nothing can't fail */
 
-/* The defaults of a domain for messages of one type, as iox2_config_defaults(&config, 7, sizeof(T),
+/* The defaults of a domain for messages of one type, as iox2ps_config_defaults(&config, 7, sizeof(T),
  * _Alignof(T)): 2 publishers with 2 loans each, 8 subscribers with buffers of 2 and 2 borrowed samples, no
  * history, overflow. */
-void iox2_config_defaults(iox2_config_t *config, uint64_t service_id, size_t payload_size, size_t payload_alignment);
+void iox2ps_config_defaults(iox2ps_config_t *config, uint64_t service_id, size_t payload_size, size_t payload_alignment);
 
 /* What a port has that is made without options in a domain with these settings. */
-void iox2_publisher_options_of(const iox2_config_t *config, iox2_publisher_options_t *options);
-void iox2_subscriber_options_of(const iox2_config_t *config, iox2_subscriber_options_t *options);
+void iox2ps_publisher_options_of(const iox2ps_config_t *config, iox2ps_publisher_options_t *options);
+void iox2ps_subscriber_options_of(const iox2ps_config_t *config, iox2ps_subscriber_options_t *options);
 
-/* How many slots a publisher with so many loans has, where its options ask for no fewer. IOX2_INVALID_SETTINGS where that doesn't fit size_t. */
-uint32_t iox2_worst_case_slots(const iox2_config_t *config, size_t loans, size_t *slots);
+/* How many slots a publisher with so many loans has, where its options ask for no fewer. IOX2PS_INVALID_SETTINGS where that doesn't fit size_t. */
+uint32_t iox2ps_worst_case_slots(const iox2ps_config_t *config, size_t loans, size_t *slots);
 
 /* The text of a code or of the kind of a warning, which ends in a zero byte and lies there for good; len
  * is without that byte. Each number has one. */
-void iox2_error_text_at(uint32_t code, const char **text, size_t *len);
+void iox2ps_error_text_at(uint32_t code, const char **text, size_t *len);
 
-static inline const char *iox2_error_text(uint32_t code) {
+static inline const char *iox2ps_error_text(uint32_t code) {
   const char *text;
   size_t len;
-  iox2_error_text_at(code, &text, &len);
+  iox2ps_error_text_at(code, &text, &len);
   return text;
 }
 
 /* ---- domains */
 
-/* Makes a domain. IOX2_HAS_DOMAIN where there is one; IOX2_INVALID_SETTINGS for an alignment that is
- * none, a payload_size that is no multiple of it, or an unknown strategy; IOX2_OUT_OF_MEMORY. */
-uint32_t iox2_domain_create(iox2_domain_t *domain, const iox2_config_t *config);
+/* Makes a domain. IOX2PS_HAS_DOMAIN where there is one; IOX2PS_INVALID_SETTINGS for an alignment that is
+ * none, a payload_size that is no multiple of it, or an unknown strategy; IOX2PS_OUT_OF_MEMORY. */
+uint32_t iox2ps_domain_create(iox2ps_domain_t *domain, const iox2ps_config_t *config);
 
 /* Frees the domain with all that is in it. Its owner calls this once; a second call returns
- * IOX2_NO_DOMAIN. */
-uint32_t iox2_domain_destroy(iox2_domain_t *domain);
+ * IOX2PS_NO_DOMAIN. */
+uint32_t iox2ps_domain_destroy(iox2ps_domain_t *domain);
 
 /* Reads the settings back. */
-uint32_t iox2_domain_config(iox2_domain_t *domain, iox2_config_t *config);
+uint32_t iox2ps_domain_config(iox2ps_domain_t *domain, iox2ps_config_t *config);
 
 /* How many connections the domain keeps, how many books of slots, and how often memory for a connection
  * was refused since it was made. */
-uint32_t iox2_domain_connection_count(iox2_domain_t *domain, size_t *count);
-uint32_t iox2_domain_book_count(iox2_domain_t *domain, size_t *count);
-uint32_t iox2_domain_refused_connections(iox2_domain_t *domain, uint64_t *count);
+uint32_t iox2ps_domain_connection_count(iox2ps_domain_t *domain, size_t *count);
+uint32_t iox2ps_domain_book_count(iox2ps_domain_t *domain, size_t *count);
+uint32_t iox2ps_domain_refused_connections(iox2ps_domain_t *domain, uint64_t *count);
 
 /* How many of its last warnings the domain has, 32 at most, and one of them, the oldest first. Reading
- * forgets none. IOX2_NOT_LIVE where there are not so many. */
-uint32_t iox2_domain_warning_count(iox2_domain_t *domain, size_t *count);
-uint32_t iox2_domain_warning(iox2_domain_t *domain, size_t index, iox2_warning_t *warning);
+ * forgets none. IOX2PS_NOT_LIVE where there are not so many. */
+uint32_t iox2ps_domain_warning_count(iox2ps_domain_t *domain, size_t *count);
+uint32_t iox2ps_domain_warning(iox2ps_domain_t *domain, size_t index, iox2ps_warning_t *warning);
 
 /* ---- publishers */
 
-/* Makes a publisher, as the settings say or with options. IOX2_INVALID_SETTINGS for options with an
- * unknown number or a length that is no multiple of the alignment; IOX2_PUBLISHER_CREATE_ERROR_... */
-uint32_t iox2_publisher_create(iox2_domain_t *domain, iox2_publisher_t *publisher);
-uint32_t iox2_publisher_create_with(iox2_domain_t *domain, const iox2_publisher_options_t *options,
-                                    iox2_publisher_t *publisher);
+/* Makes a publisher, as the settings say or with options. IOX2PS_INVALID_SETTINGS for options with an
+ * unknown number or a length that is no multiple of the alignment; IOX2PS_PUBLISHER_CREATE_ERROR_... */
+uint32_t iox2ps_publisher_create(iox2ps_domain_t *domain, iox2ps_publisher_t *publisher);
+uint32_t iox2ps_publisher_create_with(iox2ps_domain_t *domain, const iox2ps_publisher_options_t *options,
+                                    iox2ps_publisher_t *publisher);
 
-/* Closes a publisher. IOX2_NOT_LIVE, IOX2_PUBLISHER_IS_BLOCKED. */
-uint32_t iox2_publisher_close(iox2_domain_t *domain, const iox2_publisher_t *publisher);
+/* Closes a publisher. IOX2PS_NOT_LIVE, IOX2PS_PUBLISHER_IS_BLOCKED. */
+uint32_t iox2ps_publisher_close(iox2ps_domain_t *domain, const iox2ps_publisher_t *publisher);
 
-/* Whether a send of the publisher waits: 1 or 0. IOX2_NOT_LIVE. */
-uint32_t iox2_publisher_is_blocked(iox2_domain_t *domain, const iox2_publisher_t *publisher, uint32_t *is_blocked);
+/* Whether a send of the publisher waits: 1 or 0. IOX2PS_NOT_LIVE. */
+uint32_t iox2ps_publisher_is_blocked(iox2ps_domain_t *domain, const iox2ps_publisher_t *publisher, uint32_t *is_blocked);
 
 /* Makes the publisher's connections with subscribers that came, and removes those with closed ones, as
- * each send does first. IOX2_NOT_LIVE, IOX2_PUBLISHER_IS_BLOCKED, IOX2_CONNECTION_FAILURE_..., after which
+ * each send does first. IOX2PS_NOT_LIVE, IOX2PS_PUBLISHER_IS_BLOCKED, IOX2PS_CONNECTION_FAILURE_..., after which
  * the other connections are made all the same. */
-uint32_t iox2_publisher_update_connections(iox2_domain_t *domain, const iox2_publisher_t *publisher);
+uint32_t iox2ps_publisher_update_connections(iox2ps_domain_t *domain, const iox2ps_publisher_t *publisher);
 
 /* Lends a message of so many bytes, each of which is 0, and says where they lie. They may be read and
  * written there until the loan is sent or discarded or the domain is destroyed, whatever else is called in
- * between. IOX2_NOT_LIVE, IOX2_PUBLISHER_IS_BLOCKED, IOX2_LOAN_ERROR_...: EXCEEDS_MAX_LOAN_SIZE of a static
+ * between. IOX2PS_NOT_LIVE, IOX2PS_PUBLISHER_IS_BLOCKED, IOX2PS_LOAN_ERROR_...: EXCEEDS_MAX_LOAN_SIZE of a static
  * publisher alone, INTERNAL_FAILURE where memory is to grow and can't, or no number is left for the message. */
-uint32_t iox2_publisher_loan(iox2_domain_t *domain, const iox2_publisher_t *publisher, size_t len,
-                             iox2_loan_t *loan, void **payload);
+uint32_t iox2ps_publisher_loan(iox2ps_domain_t *domain, const iox2ps_publisher_t *publisher, size_t len,
+                             iox2ps_loan_t *loan, void **payload);
 
 /* The same, but the bytes are unspecified: what earlier messages of this publisher left there, or 0. So it
  * costs the same for any length that the memory was used for before. */
-uint32_t iox2_publisher_loan_uninit(iox2_domain_t *domain, const iox2_publisher_t *publisher, size_t len,
-                                    iox2_loan_t *loan, void **payload);
+uint32_t iox2ps_publisher_loan_uninit(iox2ps_domain_t *domain, const iox2ps_publisher_t *publisher, size_t len,
+                                    iox2ps_loan_t *loan, void **payload);
 
 /* Sends a copy of the bytes: a loan and its send in one call, which returns what either returns, and has
  * no loan left. */
-uint32_t iox2_publisher_send_copy(iox2_domain_t *domain, const iox2_publisher_t *publisher,
-                                  const void *bytes, size_t len, size_t *receivers, iox2_blocked_t *blocked);
+uint32_t iox2ps_publisher_send_copy(iox2ps_domain_t *domain, const iox2ps_publisher_t *publisher,
+                                  const void *bytes, size_t len, size_t *receivers, iox2ps_blocked_t *blocked);
 
 /* ---- loans */
 
-/* Sends a message, and says how many subscribers took it. With IOX2_BLOCKED it waits for one whose buffer
- * is full, and blocked names the send. The loan is spent with IOX2_OK, IOX2_BLOCKED and each
- * IOX2_SEND_ERROR_..., and stays with IOX2_NOT_LIVE and IOX2_PUBLISHER_IS_BLOCKED. */
-uint32_t iox2_loan_send(iox2_domain_t *domain, const iox2_loan_t *loan, size_t *receivers, iox2_blocked_t *blocked);
+/* Sends a message, and says how many subscribers took it. With IOX2PS_BLOCKED it waits for one whose buffer
+ * is full, and blocked names the send. The loan is spent with IOX2PS_OK, IOX2PS_BLOCKED and each
+ * IOX2PS_SEND_ERROR_..., and stays with IOX2PS_NOT_LIVE and IOX2PS_PUBLISHER_IS_BLOCKED. */
+uint32_t iox2ps_loan_send(iox2ps_domain_t *domain, const iox2ps_loan_t *loan, size_t *receivers, iox2ps_blocked_t *blocked);
 
-/* Gives a loan back unsent. IOX2_NOT_LIVE. */
-uint32_t iox2_loan_discard(iox2_domain_t *domain, const iox2_loan_t *loan);
+/* Gives a loan back unsent. IOX2PS_NOT_LIVE. */
+uint32_t iox2ps_loan_discard(iox2ps_domain_t *domain, const iox2ps_loan_t *loan);
 
-/* Where the bytes of a loan lie, as iox2_publisher_loan says it. IOX2_NOT_LIVE. */
-uint32_t iox2_loan_payload(iox2_domain_t *domain, const iox2_loan_t *loan, void **payload, size_t *len);
+/* Where the bytes of a loan lie, as iox2ps_publisher_loan says it. IOX2PS_NOT_LIVE. */
+uint32_t iox2ps_loan_payload(iox2ps_domain_t *domain, const iox2ps_loan_t *loan, void **payload, size_t *len);
 
 /* ---- sends that wait */
 
 /* Tries the send again at the subscriber that it waits for, and goes on to the others. elapsed is in
- * nanoseconds since it was first blocked there. With IOX2_BLOCKED it waits on, by the same numbers; with
- * IOX2_OK and IOX2_SEND_ERROR_UNABLE_TO_DELIVER it has ended. IOX2_NOT_LIVE. */
-uint32_t iox2_blocked_retry(iox2_domain_t *domain, const iox2_blocked_t *blocked, uint64_t elapsed, size_t *receivers);
+ * nanoseconds since it was first blocked there. With IOX2PS_BLOCKED it waits on, by the same numbers; with
+ * IOX2PS_OK and IOX2PS_SEND_ERROR_UNABLE_TO_DELIVER it has ended. IOX2PS_NOT_LIVE. */
+uint32_t iox2ps_blocked_retry(iox2ps_domain_t *domain, const iox2ps_blocked_t *blocked, uint64_t elapsed, size_t *receivers);
 
 /* Gives up the subscriber that the send waits for, and goes on to the others. Returns as a retry does. */
-uint32_t iox2_blocked_give_up(iox2_domain_t *domain, const iox2_blocked_t *blocked, size_t *receivers);
+uint32_t iox2ps_blocked_give_up(iox2ps_domain_t *domain, const iox2ps_blocked_t *blocked, size_t *receivers);
 
 /* ---- subscribers */
 
-/* Makes a subscriber, as the settings say or with options. IOX2_INVALID_SETTINGS,
- * IOX2_SUBSCRIBER_CREATE_ERROR_... */
-uint32_t iox2_subscriber_create(iox2_domain_t *domain, iox2_subscriber_t *subscriber);
-uint32_t iox2_subscriber_create_with(iox2_domain_t *domain, const iox2_subscriber_options_t *options,
-                                     iox2_subscriber_t *subscriber);
+/* Makes a subscriber, as the settings say or with options. IOX2PS_INVALID_SETTINGS,
+ * IOX2PS_SUBSCRIBER_CREATE_ERROR_... */
+uint32_t iox2ps_subscriber_create(iox2ps_domain_t *domain, iox2ps_subscriber_t *subscriber);
+uint32_t iox2ps_subscriber_create_with(iox2ps_domain_t *domain, const iox2ps_subscriber_options_t *options,
+                                     iox2ps_subscriber_t *subscriber);
 
-/* Closes a subscriber. Its samples stay. IOX2_NOT_LIVE. */
-uint32_t iox2_subscriber_close(iox2_domain_t *domain, const iox2_subscriber_t *subscriber);
+/* Closes a subscriber. Its samples stay. IOX2PS_NOT_LIVE. */
+uint32_t iox2ps_subscriber_close(iox2ps_domain_t *domain, const iox2ps_subscriber_t *subscriber);
 
-/* Updates the subscriber's connections, and says whether a message waits: 1 or 0. IOX2_NOT_LIVE,
- * IOX2_CONNECTION_FAILURE_..., after which the other connections are made all the same. */
-uint32_t iox2_subscriber_has_samples(iox2_domain_t *domain, const iox2_subscriber_t *subscriber, uint32_t *waits);
+/* Updates the subscriber's connections, and says whether a message waits: 1 or 0. IOX2PS_NOT_LIVE,
+ * IOX2PS_CONNECTION_FAILURE_..., after which the other connections are made all the same. */
+uint32_t iox2ps_subscriber_has_samples(iox2ps_domain_t *domain, const iox2ps_subscriber_t *subscriber, uint32_t *waits);
 
 /* Makes the subscriber's connections with publishers that came, as each receive does first.
- * IOX2_NOT_LIVE, IOX2_CONNECTION_FAILURE_... */
-uint32_t iox2_subscriber_update_connections(iox2_domain_t *domain, const iox2_subscriber_t *subscriber);
+ * IOX2PS_NOT_LIVE, IOX2PS_CONNECTION_FAILURE_... */
+uint32_t iox2ps_subscriber_update_connections(iox2ps_domain_t *domain, const iox2ps_subscriber_t *subscriber);
 
 /* Updates the subscriber's connections and receives a message, and says where its bytes lie. They may be
  * read there until the sample is released or the domain destroyed, whatever else is called in between, and
- * are never written. With IOX2_NO_SAMPLE and IOX2_RECEIVE_ERROR_... connections may have changed.
- * IOX2_NOT_LIVE. */
-uint32_t iox2_subscriber_receive(iox2_domain_t *domain, const iox2_subscriber_t *subscriber, iox2_sample_t *sample,
+ * are never written. With IOX2PS_NO_SAMPLE and IOX2PS_RECEIVE_ERROR_... connections may have changed.
+ * IOX2PS_NOT_LIVE. */
+uint32_t iox2ps_subscriber_receive(iox2ps_domain_t *domain, const iox2ps_subscriber_t *subscriber, iox2ps_sample_t *sample,
                                  const void **payload, size_t *len);
 
 /* Receives a message, copies it to bytes, and releases it: a receive, a copy and a release in one call, and
- * len is how many bytes were written. With IOX2_TOO_SMALL, which says that the message has more than room
+ * len is how many bytes were written. With IOX2PS_TOO_SMALL, which says that the message has more than room
  * bytes, nothing is lost: sample names the message, which is to be copied or read and released, len says how
- * long it is, and bytes are as they were. sample is changed with IOX2_TOO_SMALL alone. */
-uint32_t iox2_subscriber_receive_copy(iox2_domain_t *domain, const iox2_subscriber_t *subscriber,
-                                      void *bytes, size_t room, size_t *len, iox2_sample_t *sample);
+ * long it is, and bytes are as they were. sample is changed with IOX2PS_TOO_SMALL alone. */
+uint32_t iox2ps_subscriber_receive_copy(iox2ps_domain_t *domain, const iox2ps_subscriber_t *subscriber,
+                                      void *bytes, size_t room, size_t *len, iox2ps_sample_t *sample);
 
 /* ---- samples */
 
-/* Where the bytes of a sample lie, as iox2_subscriber_receive says it. IOX2_NOT_LIVE. */
-uint32_t iox2_sample_payload(iox2_domain_t *domain, const iox2_sample_t *sample, const void **payload, size_t *len);
+/* Where the bytes of a sample lie, as iox2ps_subscriber_receive says it. IOX2PS_NOT_LIVE. */
+uint32_t iox2ps_sample_payload(iox2ps_domain_t *domain, const iox2ps_sample_t *sample, const void **payload, size_t *len);
 
-/* Copies the bytes of a sample. With IOX2_TOO_SMALL, which says that there are more than room, len says how
- * many there are, and bytes are as they were. IOX2_NOT_LIVE. */
-uint32_t iox2_sample_copy(iox2_domain_t *domain, const iox2_sample_t *sample, void *bytes, size_t room, size_t *len);
+/* Copies the bytes of a sample. With IOX2PS_TOO_SMALL, which says that there are more than room, len says how
+ * many there are, and bytes are as they were. IOX2PS_NOT_LIVE. */
+uint32_t iox2ps_sample_copy(iox2ps_domain_t *domain, const iox2ps_sample_t *sample, void *bytes, size_t room, size_t *len);
 
-/* Where the message comes from. IOX2_NOT_LIVE. */
-uint32_t iox2_sample_header(iox2_domain_t *domain, const iox2_sample_t *sample, iox2_header_t *header);
+/* Where the message comes from. IOX2PS_NOT_LIVE. */
+uint32_t iox2ps_sample_header(iox2ps_domain_t *domain, const iox2ps_sample_t *sample, iox2ps_header_t *header);
 
-/* Gives a message back. IOX2_NOT_LIVE. */
-uint32_t iox2_sample_release(iox2_domain_t *domain, const iox2_sample_t *sample);
+/* Gives a message back. IOX2PS_NOT_LIVE. */
+uint32_t iox2ps_sample_release(iox2ps_domain_t *domain, const iox2ps_sample_t *sample);
 
 #ifdef __cplusplus
 }

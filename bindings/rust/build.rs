@@ -6,6 +6,7 @@ use std::path::PathBuf;
 
 fn main() {
     println!("cargo:rerun-if-env-changed=IOX2_PUBSUB_LIB_DIR");
+    println!("cargo:rustc-check-cfg=cfg(iox2_pthread_lock)");
     let here = PathBuf::from(env::var_os("CARGO_MANIFEST_DIR").expect("cargo sets it"));
     let folders = match env::var_os("IOX2_PUBSUB_LIB_DIR") {
         Some(folder) => vec![PathBuf::from(folder)],

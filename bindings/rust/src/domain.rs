@@ -8,24 +8,28 @@ use crate::publisher::{BackpressureStrategy, Publisher};
 use crate::shared::Shared;
 use crate::subscriber::Subscriber;
 use crate::sys;
+use crate::threads::{Hold, ManyThreads, OneThread, Threads, Wakes};
 use crate::warning::Warning;
 use crate::{PublisherCreateError, SubscriberCreateError};
 use std::marker::PhantomData;
-use std::rc::Rc;
 
 /// A service whose messages are of the type `P`: a value, or a slice of values.
 ///
-/// Clones are the same domain, and its ports, loans and samples keep it alive. It isn't `Send`: the
-/// library has no threads.
-pub struct Domain<P: Payload + ?Sized> {
-    pub(crate) shared: Rc<Shared>,
+/// Clones are the same domain, and its ports, loans and samples keep it alive. One that
+/// [`DomainBuilder::create`] makes stays on its thread, with all its handles; one that
+/// [`DomainBuilder::create_shared`] makes is a [`SharedDomain`], which any thread may use.
+pub struct Domain<P: Payload + ?Sized, M: Threads = OneThread> {
+    pub(crate) hold: M::Hold,
     messages: PhantomData<P>,
 }
 
-impl<P: Payload + ?Sized> Clone for Domain<P> {
+/// A domain that several threads use at a time, as its handles may be.
+pub type SharedDomain<P> = Domain<P, ManyThreads>;
+
+impl<P: Payload + ?Sized, M: Threads> Clone for Domain<P, M> {
     fn clone(&self) -> Self {
         Domain {
-            shared: self.shared.clone(),
+            hold: self.hold.clone(),
             messages: PhantomData,
         }
     }
@@ -46,24 +50,24 @@ impl<T: Copy + 'static> Domain<[T]> {
     }
 }
 
-impl<P: Payload + ?Sized> Domain<P> {
+impl<P: Payload + ?Sized, M: Threads> Domain<P, M> {
     /// Makes a publisher as the settings of the domain say.
-    pub fn publisher(&self) -> Result<Publisher<P>, PublisherCreateError> {
+    pub fn publisher(&self) -> Result<Publisher<P, M>, PublisherCreateError> {
         self.publisher_builder().create()
     }
 
     /// Makes a subscriber as the settings of the domain say.
-    pub fn subscriber(&self) -> Result<Subscriber<P>, SubscriberCreateError> {
+    pub fn subscriber(&self) -> Result<Subscriber<P, M>, SubscriberCreateError> {
         self.subscriber_builder().create()
     }
 
     /// The settings of a publisher, which begin as those of the domain.
-    pub fn publisher_builder(&self) -> PortFactoryPublisher<'_, P> {
+    pub fn publisher_builder(&self) -> PortFactoryPublisher<'_, P, M> {
         PortFactoryPublisher::new(self)
     }
 
     /// The settings of a subscriber, which begin as those of the domain.
-    pub fn subscriber_builder(&self) -> PortFactorySubscriber<'_, P> {
+    pub fn subscriber_builder(&self) -> PortFactorySubscriber<'_, P, M> {
         PortFactorySubscriber::new(self)
     }
 
@@ -75,7 +79,7 @@ impl<P: Payload + ?Sized> Domain<P> {
     /// The last warnings, 32 at most, the oldest first. Reading forgets none.
     pub fn warnings(&self) -> Vec<Warning> {
         (0..)
-            .map_while(|index| Warning::read(&self.shared, index))
+            .map_while(|index| Warning::read(&self.hold, index))
             .collect()
     }
 
@@ -83,7 +87,7 @@ impl<P: Payload + ?Sized> Domain<P> {
     pub fn connection_count(&self) -> usize {
         let mut count = 0;
         // SAFETY: see `Shared::at`.
-        expect(unsafe { sys::iox2_domain_connection_count(self.shared.at(), &mut count) });
+        self.ask(|shared| unsafe { sys::iox2ps_domain_connection_count(shared.at(), &mut count) });
         count
     }
 
@@ -92,7 +96,7 @@ impl<P: Payload + ?Sized> Domain<P> {
     pub fn book_count(&self) -> usize {
         let mut count = 0;
         // SAFETY: see `Shared::at`.
-        expect(unsafe { sys::iox2_domain_book_count(self.shared.at(), &mut count) });
+        self.ask(|shared| unsafe { sys::iox2ps_domain_book_count(shared.at(), &mut count) });
         count
     }
 
@@ -100,15 +104,29 @@ impl<P: Payload + ?Sized> Domain<P> {
     pub fn refused_connections(&self) -> u64 {
         let mut count = 0;
         // SAFETY: see `Shared::at`.
-        expect(unsafe { sys::iox2_domain_refused_connections(self.shared.at(), &mut count) });
+        self.ask(|shared| unsafe {
+            sys::iox2ps_domain_refused_connections(shared.at(), &mut count)
+        });
         count
     }
 
     pub(crate) fn config(&self) -> sys::Config {
         let mut config = sys::Config::default();
         // SAFETY: see `Shared::at`.
-        expect(unsafe { sys::iox2_domain_config(self.shared.at(), &mut config) });
+        self.ask(|shared| unsafe { sys::iox2ps_domain_config(shared.at(), &mut config) });
         config
+    }
+
+    fn ask(&self, question: impl FnOnce(&mut Shared) -> u32) {
+        expect(self.hold.call(Wakes::Nobody, question));
+    }
+}
+
+impl<P: Payload + ?Sized> SharedDomain<P> {
+    /// Lets no call wait any longer, here and on other threads: each tries once, and returns what it
+    /// found. So a program ends its threads. With `false` calls wait again.
+    pub fn stop_waits(&self, stopped: bool) {
+        self.hold.stop_waits(stopped);
     }
 }
 
@@ -130,7 +148,7 @@ impl<P: Payload + ?Sized> DomainBuilder<P> {
         let () = P::FITS;
         let mut config = sys::Config::default();
         // SAFETY: the pointer is of a local.
-        unsafe { sys::iox2_config_defaults(&mut config, 0, P::SIZE, P::ALIGNMENT) };
+        unsafe { sys::iox2ps_config_defaults(&mut config, 0, P::SIZE, P::ALIGNMENT) };
         config.service_id = wide(service_id);
         DomainBuilder {
             config,
@@ -204,7 +222,7 @@ impl<P: Payload + ?Sized> DomainBuilder<P> {
         let mut slots = 0;
         let loans = self.config.publisher_max_loaned_samples;
         // SAFETY: the pointers are of locals.
-        match unsafe { sys::iox2_worst_case_slots(&self.config, loans, &mut slots) } {
+        match unsafe { sys::iox2ps_worst_case_slots(&self.config, loans, &mut slots) } {
             sys::OK => Some(slots),
             _ => None,
         }
@@ -212,9 +230,22 @@ impl<P: Payload + ?Sized> DomainBuilder<P> {
 
     /// Makes the domain.
     pub fn create(self) -> Result<Domain<P>, DomainCreateError> {
+        self.make()
+    }
+
+    /// Makes the domain for several threads. Its messages may be read by many at a time, so that they
+    /// have to be `Sync`.
+    pub fn create_shared(self) -> Result<SharedDomain<P>, DomainCreateError>
+    where
+        P: Send + Sync,
+    {
+        self.make()
+    }
+
+    fn make<M: Threads>(self) -> Result<Domain<P, M>, DomainCreateError> {
         match Shared::new(&self.config) {
             Ok(shared) => Ok(Domain {
-                shared: Rc::new(shared),
+                hold: M::Hold::new(shared),
                 messages: PhantomData,
             }),
             Err(code) => Err(DomainCreateError::of(code)),

@@ -13,7 +13,7 @@ pub(crate) fn text(code: u32) -> &'static str {
     let mut len = 0;
     // SAFETY: both pointers are of locals. The text lies in the archive for good.
     let bytes = unsafe {
-        sys::iox2_error_text_at(code, &mut start, &mut len);
+        sys::iox2ps_error_text_at(code, &mut start, &mut len);
         slice::from_raw_parts(start, len)
     };
     str::from_utf8(bytes).unwrap_or("a text that isn't UTF-8")

@@ -28,6 +28,24 @@
 //! # }
 //! ```
 //!
+//! # Several threads
+//!
+//! ```
+//! use iox2_pubsub::Domain;
+//! use std::thread;
+//!
+//! # fn main() -> Result<(), Box<dyn std::error::Error>> {
+//! let domain = Domain::<u64>::builder(7).create_shared()?;
+//! let publisher = domain.publisher()?;
+//! let subscriber = domain.subscriber()?;
+//! let reader = thread::spawn(move || subscriber.blocking_receive().map(|sample| sample.map(|sample| *sample)));
+//! let loan = publisher.loan_uninit()?.write_payload(7); // written without the lock
+//! loan.send()?.blocking_wait()?;
+//! assert_eq!(reader.join().unwrap()?, Some(7));
+//! # Ok(())
+//! # }
+//! ```
+//!
 //! # What is safe, and why
 //!
 //! No call of this crate is unsafe but `LoanUninit::assume_init`. It rests on this:
@@ -37,13 +55,24 @@
 //!   That its length is that of a `P` and its place is aligned is looked at again for each message.
 //! - The bytes of a loan or a sample stay where they are until it is dropped. The library's contracts
 //!   don't say so; the tests of the library do.
-//! - Nothing here is `Send` or `Sync`. Each handle has a part in the domain, which goes with the last of
-//!   them, so that none outlives it.
+//! - Each handle has a part in the domain, which goes with the last of them, so that none outlives it.
+//! - A domain that `create` makes, and its handles, are neither `Send` nor `Sync`.
 //!
 //!   ```compile_fail
 //!   fn to_a_thread<T: Send>(_: T) {}
 //!   to_a_thread(iox2_pubsub::Domain::<u8>::builder(1).create().unwrap());
 //!   ```
+//! - One that `create_shared` makes, and its handles, are both. Each call of the library is made under the
+//!   domain's lock, and the library keeps nothing outside of its domains. The bytes of a loan are written
+//!   without the lock, by whoever has it, and those of a sample read, by as many threads as like: no call
+//!   touches them but those that lend a loan and release a sample. That is tested and not proved. Messages
+//!   that many threads read have to be `Sync`, and those that cross threads `Send`.
+//!
+//!   ```compile_fail
+//!   iox2_pubsub::Domain::<*const u8>::builder(1).create_shared();
+//!   ```
+//! - No function of a program runs under the lock, so that none can come back to it. A panic leaves nothing
+//!   half done, so that the lock isn't poisoned: the handles of a thread that panics give back what they have.
 //! - A handle is live in the domain while it exists, and the library tests that too: a wrong one would
 //!   be a panic of this crate.
 #![warn(missing_docs)]
@@ -52,6 +81,7 @@ mod domain;
 mod errors;
 mod header;
 mod loan;
+mod lock;
 mod numbers;
 mod payload;
 mod port_factory;
@@ -62,9 +92,10 @@ mod shared;
 mod subscriber;
 #[doc(hidden)]
 pub mod sys;
+mod threads;
 mod warning;
 
-pub use domain::{Domain, DomainBuilder};
+pub use domain::{Domain, DomainBuilder, SharedDomain};
 pub use errors::{
     ConnectionFailure, DomainCreateError, LoanError, PublisherCreateError, ReceiveError, SendError,
     SubscriberCreateError,
@@ -78,5 +109,6 @@ pub use port_factory::{
 pub use publisher::{BackpressureAction, BackpressureStrategy, Publisher};
 pub use sample::Sample;
 pub use send_outcome::{BlockedSend, SendOutcome};
-pub use subscriber::{Received, Subscriber};
+pub use subscriber::{Incoming, Received, Subscriber};
+pub use threads::{ManyThreads, OneThread, Threads};
 pub use warning::{Warning, WarningKind};

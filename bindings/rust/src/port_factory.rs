@@ -6,6 +6,7 @@ use crate::payload::Payload;
 use crate::publisher::{BackpressureAction, BackpressureStrategy, Publisher};
 use crate::subscriber::Subscriber;
 use crate::sys;
+use crate::threads::{Hold, OneThread, Threads, Wakes};
 
 /// What a port does where memory for a connection is refused.
 #[derive(Clone, Copy, Debug, PartialEq, Eq, Hash)]
@@ -32,17 +33,17 @@ pub enum AllocationStrategy {
 }
 
 /// The settings of a publisher.
-pub struct PortFactoryPublisher<'d, P: Payload + ?Sized> {
-    domain: &'d Domain<P>,
+pub struct PortFactoryPublisher<'d, P: Payload + ?Sized, M: Threads = OneThread> {
+    domain: &'d Domain<P, M>,
     options: sys::PublisherOptions,
     preallocated: Option<Box<dyn Fn(usize) -> usize>>,
 }
 
-impl<'d, P: Payload + ?Sized> PortFactoryPublisher<'d, P> {
-    pub(crate) fn new(domain: &'d Domain<P>) -> Self {
+impl<'d, P: Payload + ?Sized, M: Threads> PortFactoryPublisher<'d, P, M> {
+    pub(crate) fn new(domain: &'d Domain<P, M>) -> Self {
         let mut options = sys::PublisherOptions::default();
         // SAFETY: the pointers are of locals.
-        unsafe { sys::iox2_publisher_options_of(&domain.config(), &mut options) };
+        unsafe { sys::iox2ps_publisher_options_of(&domain.config(), &mut options) };
         PortFactoryPublisher {
             domain,
             options,
@@ -100,32 +101,33 @@ impl<'d, P: Payload + ?Sized> PortFactoryPublisher<'d, P> {
         let mut worst = 0;
         let (config, loans) = (self.domain.config(), self.options.max_loaned_samples);
         // SAFETY: the pointers are of locals.
-        match unsafe { sys::iox2_worst_case_slots(&config, loans, &mut worst) } {
+        match unsafe { sys::iox2ps_worst_case_slots(&config, loans, &mut worst) } {
             sys::OK => callback(worst).max(1),
             _ => 0,
         }
     }
 
     /// Makes the publisher.
-    pub fn create(mut self) -> Result<Publisher<P>, PublisherCreateError> {
+    pub fn create(mut self) -> Result<Publisher<P, M>, PublisherCreateError> {
         self.options.preallocated_samples = self.asked_slots();
         // Memory that grows begins with some.
         if self.options.allocation_strategy != 0 && self.options.initial_max_slice_len == 0 {
             self.options.initial_max_slice_len = P::SIZE.max(P::ALIGNMENT);
         }
         let mut port = sys::Publisher::default();
-        let shared = &self.domain.shared;
+        let hold = &self.domain.hold;
         // SAFETY: see `Shared::at`.
-        let code =
-            unsafe { sys::iox2_publisher_create_with(shared.at(), &self.options, &mut port) };
+        let code = hold.call(Wakes::Receivers, |shared| unsafe {
+            sys::iox2ps_publisher_create_with(shared.at(), &self.options, &mut port)
+        });
         match code {
-            sys::OK => Ok(Publisher::new(shared.clone(), port)),
+            sys::OK => Ok(Publisher::new(hold.clone(), port)),
             _ => Err(PublisherCreateError::of(code)),
         }
     }
 }
 
-impl<'d, T: Copy + 'static> PortFactoryPublisher<'d, [T]> {
+impl<'d, T: Copy + 'static, M: Threads> PortFactoryPublisher<'d, [T], M> {
     /// How many values a message may have, as long as memory isn't to grow.
     pub fn initial_max_slice_len(mut self, value: usize) -> Self {
         self.options.initial_max_slice_len = <[T]>::greatest_size(value);
@@ -134,16 +136,16 @@ impl<'d, T: Copy + 'static> PortFactoryPublisher<'d, [T]> {
 }
 
 /// The settings of a subscriber.
-pub struct PortFactorySubscriber<'d, P: Payload + ?Sized> {
-    domain: &'d Domain<P>,
+pub struct PortFactorySubscriber<'d, P: Payload + ?Sized, M: Threads = OneThread> {
+    domain: &'d Domain<P, M>,
     options: sys::SubscriberOptions,
 }
 
-impl<'d, P: Payload + ?Sized> PortFactorySubscriber<'d, P> {
-    pub(crate) fn new(domain: &'d Domain<P>) -> Self {
+impl<'d, P: Payload + ?Sized, M: Threads> PortFactorySubscriber<'d, P, M> {
+    pub(crate) fn new(domain: &'d Domain<P, M>) -> Self {
         let mut options = sys::SubscriberOptions::default();
         // SAFETY: the pointers are of locals.
-        unsafe { sys::iox2_subscriber_options_of(&domain.config(), &mut options) };
+        unsafe { sys::iox2ps_subscriber_options_of(&domain.config(), &mut options) };
         PortFactorySubscriber { domain, options }
     }
 
@@ -160,14 +162,15 @@ impl<'d, P: Payload + ?Sized> PortFactorySubscriber<'d, P> {
     }
 
     /// Makes the subscriber.
-    pub fn create(self) -> Result<Subscriber<P>, SubscriberCreateError> {
+    pub fn create(self) -> Result<Subscriber<P, M>, SubscriberCreateError> {
         let mut port = sys::Subscriber::default();
-        let shared = &self.domain.shared;
+        let hold = &self.domain.hold;
         // SAFETY: see `Shared::at`.
-        let code =
-            unsafe { sys::iox2_subscriber_create_with(shared.at(), &self.options, &mut port) };
+        let code = hold.call(Wakes::Nobody, |shared| unsafe {
+            sys::iox2ps_subscriber_create_with(shared.at(), &self.options, &mut port)
+        });
         match code {
-            sys::OK => Ok(Subscriber::new(shared.clone(), port)),
+            sys::OK => Ok(Subscriber::new(hold.clone(), port)),
             _ => Err(SubscriberCreateError::of(code)),
         }
     }

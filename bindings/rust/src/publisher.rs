@@ -4,13 +4,14 @@ use crate::errors::{ConnectionFailure, LoanError, SendError};
 use crate::loan::{Loan, LoanUninit};
 use crate::numbers::number;
 use crate::payload::Payload;
-use crate::send_outcome::SendOutcome;
+use crate::send_outcome::{BlockedSend, SendOutcome};
 use crate::shared::Shared;
 use crate::sys;
+use crate::threads::{Hold, ManyThreads, OneThread, Threads, Wakes};
 use std::marker::PhantomData;
 use std::mem::size_of;
 use std::ptr::null_mut;
-use std::rc::Rc;
+use std::time::{Duration, Instant};
 
 /// What a publisher does at a full buffer, where there is no overflow.
 #[derive(Clone, Copy, Debug, PartialEq, Eq, Hash)]
@@ -38,16 +39,16 @@ pub enum BackpressureAction {
 
 /// Sends messages to every subscriber of its domain, until it is dropped. One that is dropped while a
 /// send of it is blocked closes when that send has ended.
-pub struct Publisher<P: Payload + ?Sized> {
-    shared: Rc<Shared>,
+pub struct Publisher<P: Payload + ?Sized, M: Threads = OneThread> {
+    hold: M::Hold,
     port: sys::Publisher,
     messages: PhantomData<P>,
 }
 
-impl<P: Payload + ?Sized> Publisher<P> {
-    pub(crate) fn new(shared: Rc<Shared>, port: sys::Publisher) -> Self {
+impl<P: Payload + ?Sized, M: Threads> Publisher<P, M> {
+    pub(crate) fn new(hold: M::Hold, port: sys::Publisher) -> Self {
         Publisher {
-            shared,
+            hold,
             port,
             messages: PhantomData,
         }
@@ -70,62 +71,139 @@ impl<P: Payload + ?Sized> Publisher<P> {
     pub fn is_blocked(&self) -> bool {
         let mut is_blocked = 0;
         // SAFETY: see `Shared::at`.
-        crate::domain::expect(unsafe {
-            sys::iox2_publisher_is_blocked(self.shared.at(), &self.port, &mut is_blocked)
-        });
+        crate::domain::expect(self.hold.call(Wakes::Nobody, |shared| unsafe {
+            sys::iox2ps_publisher_is_blocked(shared.at(), &self.port, &mut is_blocked)
+        }));
         is_blocked != 0
     }
 
     /// Makes the connections with subscribers that came, as each send does first.
     pub fn update_connections(&self) -> Result<(), ConnectionFailure> {
         // SAFETY: see `Shared::at`.
-        match unsafe { sys::iox2_publisher_update_connections(self.shared.at(), &self.port) } {
+        let code = self.hold.call(Wakes::Receivers, |shared| unsafe {
+            sys::iox2ps_publisher_update_connections(shared.at(), &self.port)
+        });
+        match code {
             sys::OK => Ok(()),
             code => Err(ConnectionFailure::of(code)),
         }
     }
 
-    fn lend(&self, bytes: usize) -> Result<LoanUninit<P>, LoanError> {
+    fn lend(&self, bytes: usize) -> Result<LoanUninit<P, M>, LoanError> {
         let mut loan = sys::Loan::default();
         let mut start = null_mut();
         // SAFETY: see `Shared::at`.
-        let code = unsafe {
-            sys::iox2_publisher_loan_uninit(
-                self.shared.at(),
-                &self.port,
-                bytes,
-                &mut loan,
-                &mut start,
-            )
-        };
+        let code = self.hold.call(Wakes::Nobody, |shared| unsafe {
+            sys::iox2ps_publisher_loan_uninit(shared.at(), &self.port, bytes, &mut loan, &mut start)
+        });
         match code {
-            sys::OK => Ok(LoanUninit::new(self.shared.clone(), loan, start, bytes)),
+            sys::OK => Ok(LoanUninit::new(self.hold.clone(), loan, start, bytes)),
             _ => Err(LoanError::of(code)),
         }
     }
 }
 
-impl<T: Copy + 'static> Publisher<T> {
+impl<T: Copy + 'static, M: Threads> Publisher<T, M> {
     /// Lends a message that isn't written yet.
-    pub fn loan_uninit(&self) -> Result<LoanUninit<T>, LoanError> {
+    pub fn loan_uninit(&self) -> Result<LoanUninit<T, M>, LoanError> {
         self.lend(size_of::<T>())
     }
 
     /// Lends a message with its default value.
-    pub fn loan(&self) -> Result<Loan<T>, LoanError>
+    pub fn loan(&self) -> Result<Loan<T, M>, LoanError>
     where
         T: Default,
     {
         Ok(self.loan_uninit()?.write_payload(T::default()))
     }
 
-    /// Sends a copy of the value.
-    pub fn send_copy(&self, value: T) -> Result<SendOutcome<T>, SendError> {
-        self.loan_uninit()?.write_payload(value).send()
+    /// Sends a copy of the value. The loan, the copy and the send are made with no other call between.
+    pub fn send_copy(&self, value: T) -> Result<SendOutcome<T, M>, SendError> {
+        let mut sent = Sending::default();
+        let code = self.hold.call(Wakes::Receivers, |shared| {
+            sent.send_copy(shared, &self.port, value)
+        });
+        self.sent(code, sent)
+    }
+
+    fn sent(&self, code: u32, sent: Sending) -> Result<SendOutcome<T, M>, SendError> {
+        match code {
+            sys::OK => Ok(SendOutcome::Delivered(sent.receivers)),
+            sys::BLOCKED => Ok(SendOutcome::Blocked(BlockedSend::new(
+                self.hold.clone(),
+                sent.blocked,
+            ))),
+            _ => Err(SendError::of(code)),
+        }
     }
 }
 
-impl<T: Copy + 'static> Publisher<[T]> {
+// What a loan and its send have come to.
+#[derive(Default)]
+struct Sending {
+    receivers: usize,
+    blocked: sys::Blocked,
+}
+
+impl Sending {
+    fn send_copy<T: Copy + 'static>(
+        &mut self,
+        shared: &mut Shared,
+        port: &sys::Publisher,
+        value: T,
+    ) -> u32 {
+        let (mut loan, mut start) = (sys::Loan::default(), null_mut());
+        let bytes = size_of::<T>();
+        // SAFETY: see `Shared::at`.
+        let code = unsafe {
+            sys::iox2ps_publisher_loan_uninit(shared.at(), port, bytes, &mut loan, &mut start)
+        };
+        if code != sys::OK {
+            return code;
+        }
+        let payload = T::at(start, bytes).expect("a loan has room for its type");
+        let (receivers, blocked) = (&mut self.receivers, &mut self.blocked);
+        // SAFETY: the bytes are this loan's alone; and see `Shared::at`.
+        unsafe {
+            payload.write(value);
+            sys::iox2ps_loan_send(shared.at(), &loan, receivers, blocked)
+        }
+    }
+}
+
+impl<T: Copy + 'static> Publisher<T, ManyThreads> {
+    /// Sends a copy of the value. Waits until no earlier send of this publisher waits, and then until it has
+    /// reached everybody. It waits on where waits are stopped (`SharedDomain::stop_waits`).
+    pub fn blocking_send_copy(&self, value: T) -> Result<SendOutcome<T, ManyThreads>, SendError> {
+        self.send_copy_until(value, None)
+    }
+
+    /// The same, for so long. What still waits then is in what this returns.
+    pub fn timed_send_copy(
+        &self,
+        value: T,
+        timeout: Duration,
+    ) -> Result<SendOutcome<T, ManyThreads>, SendError> {
+        self.send_copy_until(value, Instant::now().checked_add(timeout))
+    }
+
+    fn send_copy_until(
+        &self,
+        value: T,
+        until: Option<Instant>,
+    ) -> Result<SendOutcome<T, ManyThreads>, SendError> {
+        let mut sent = Sending::default();
+        let code = self
+            .hold
+            .wait_for_publisher(until, |shared| sent.send_copy(shared, &self.port, value));
+        match self.sent(code, sent)? {
+            SendOutcome::Blocked(blocked) => blocked.retry_until(until),
+            outcome => Ok(outcome),
+        }
+    }
+}
+
+impl<T: Copy + 'static, M: Threads> Publisher<[T], M> {
     /// How many values a message may have, as long as memory isn't to grow.
     pub fn initial_max_slice_len(&self) -> usize {
         self.port
@@ -135,12 +213,12 @@ impl<T: Copy + 'static> Publisher<[T]> {
     }
 
     /// Lends a message of so many values, none of which is written yet.
-    pub fn loan_slice_uninit(&self, len: usize) -> Result<LoanUninit<[T]>, LoanError> {
+    pub fn loan_slice_uninit(&self, len: usize) -> Result<LoanUninit<[T], M>, LoanError> {
         self.lend(<[T]>::greatest_size(len))
     }
 
     /// Lends a message of so many default values.
-    pub fn loan_slice(&self, len: usize) -> Result<Loan<[T]>, LoanError>
+    pub fn loan_slice(&self, len: usize) -> Result<Loan<[T], M>, LoanError>
     where
         T: Default,
     {
@@ -148,15 +226,16 @@ impl<T: Copy + 'static> Publisher<[T]> {
     }
 
     /// Sends a copy of the values.
-    pub fn send_slice_copy(&self, values: &[T]) -> Result<SendOutcome<[T]>, SendError> {
+    pub fn send_slice_copy(&self, values: &[T]) -> Result<SendOutcome<[T], M>, SendError> {
         self.loan_slice_uninit(values.len())?
             .write_from_slice(values)
             .send()
     }
 }
 
-impl<P: Payload + ?Sized> Drop for Publisher<P> {
+impl<P: Payload + ?Sized, M: Threads> Drop for Publisher<P, M> {
     fn drop(&mut self) {
-        self.shared.close_publisher(&self.port);
+        let close = |shared: &mut Shared| shared.close_publisher(&self.port);
+        self.hold.call(Wakes::Receivers, close);
     }
 }

@@ -6,29 +6,32 @@ use crate::numbers::number;
 use crate::payload::Payload;
 use crate::shared::Shared;
 use crate::sys;
+use crate::threads::{Hold, ManyThreads, OneThread, Threads, Wakes};
 use std::fmt;
+use std::mem::ManuallyDrop;
 use std::ops::Deref;
-use std::rc::Rc;
+use std::ptr;
 
 /// A message that was received, which reads as its payload where that lies. It is given back when it
 /// is dropped, and until then it counts against what its subscriber may borrow.
-pub struct Sample<P: Payload + ?Sized> {
-    shared: Rc<Shared>,
+pub struct Sample<P: Payload + ?Sized, M: Threads = OneThread> {
+    hold: M::Hold,
     sample: sys::Sample,
     payload: *const P,
 }
 
-impl<P: Payload + ?Sized> Sample<P> {
-    pub(crate) fn new(
-        shared: Rc<Shared>,
-        sample: sys::Sample,
-        start: *const u8,
-        len: usize,
-    ) -> Self {
+// SAFETY: what it has is a part in the domain, which may be given to other threads, and the place of a
+// message that nobody writes until it is released, by a call under the lock. Many threads may read it
+// at a time, by this or by the samples of other subscribers, and `P` is `Sync`.
+unsafe impl<P: Payload + ?Sized + Send + Sync> Send for Sample<P, ManyThreads> {}
+unsafe impl<P: Payload + ?Sized + Send + Sync> Sync for Sample<P, ManyThreads> {}
+
+impl<P: Payload + ?Sized, M: Threads> Sample<P, M> {
+    pub(crate) fn new(hold: M::Hold, sample: sys::Sample, start: *const u8, len: usize) -> Self {
         let payload =
             P::at(start.cast_mut(), len).expect("each message of a domain is of its type");
         Sample {
-            shared,
+            hold,
             sample,
             payload,
         }
@@ -53,8 +56,18 @@ impl<P: Payload + ?Sized> Sample<P> {
     pub fn header(&self) -> Header {
         let mut header = sys::Header::default();
         // SAFETY: see `Shared::at`.
-        expect(unsafe { sys::iox2_sample_header(self.shared.at(), &self.sample, &mut header) });
+        expect(self.hold.call(Wakes::Nobody, |shared| unsafe {
+            sys::iox2ps_sample_header(shared.at(), &self.sample, &mut header)
+        }));
         Header::of(&header, P::SIZE)
+    }
+
+    // Leaves the sample in the domain. A part in the domain goes, which isn't the last.
+    pub(crate) fn into_number(self) -> sys::Sample {
+        let this = ManuallyDrop::new(self);
+        // SAFETY: the fields of `this` are never dropped, and this one is moved out once.
+        drop(unsafe { ptr::read(&this.hold) });
+        this.sample
     }
 
     /// The message itself.
@@ -63,7 +76,7 @@ impl<P: Payload + ?Sized> Sample<P> {
     }
 }
 
-impl<P: Payload + ?Sized> Deref for Sample<P> {
+impl<P: Payload + ?Sized, M: Threads> Deref for Sample<P, M> {
     type Target = P;
 
     fn deref(&self) -> &P {
@@ -73,14 +86,22 @@ impl<P: Payload + ?Sized> Deref for Sample<P> {
     }
 }
 
-impl<P: Payload + ?Sized> Drop for Sample<P> {
+impl<P: Payload + ?Sized, M: Threads> Drop for Sample<P, M> {
     fn drop(&mut self) {
-        // SAFETY: see `Shared::at`.
-        expect(unsafe { sys::iox2_sample_release(self.shared.at(), &self.sample) });
+        expect(
+            self.hold
+                .call(Wakes::Nobody, |shared| release(shared, &self.sample)),
+        );
     }
 }
 
-impl<P: Payload + ?Sized + fmt::Debug> fmt::Debug for Sample<P> {
+#[inline]
+pub(crate) fn release(shared: &mut Shared, sample: &sys::Sample) -> u32 {
+    // SAFETY: see `Shared::at`.
+    unsafe { sys::iox2ps_sample_release(shared.at(), sample) }
+}
+
+impl<P: Payload + ?Sized + fmt::Debug, M: Threads> fmt::Debug for Sample<P, M> {
     fn fmt(&self, f: &mut fmt::Formatter<'_>) -> fmt::Result {
         f.debug_struct("Sample")
             .field("origin", &self.origin())

@@ -1,26 +1,28 @@
 //! The domain that its ports, loans and samples share.
 
-use crate::errors::unexpected;
 use crate::sys;
-use std::cell::{RefCell, UnsafeCell};
 use std::ptr::null_mut;
 
-// The one owner of the library's domain. Its pointer is never copied out of it.
-pub(crate) struct Shared {
-    domain: UnsafeCell<sys::Domain>,
+/// The one owner of the library's domain. Its pointer is never copied out of it.
+pub struct Shared {
+    domain: sys::Domain,
     // Publishers that were dropped while a send of theirs was blocked. They close with it.
-    orphans: RefCell<Vec<sys::Publisher>>,
+    orphans: Vec<sys::Publisher>,
 }
+
+// SAFETY: the archive has no state but its domains: no global, no thread-local, and it asks no thread
+// for its name. So a domain may be called from any thread, one call at a time.
+unsafe impl Send for Shared {}
 
 impl Shared {
     // The code of a domain that isn't made.
     pub(crate) fn new(config: &sys::Config) -> Result<Shared, u32> {
         let mut domain = sys::Domain { domain: null_mut() };
         // SAFETY: as below.
-        match unsafe { sys::iox2_domain_create(&mut domain, config) } {
+        match unsafe { sys::iox2ps_domain_create(&mut domain, config) } {
             sys::OK => Ok(Shared {
-                domain: UnsafeCell::new(domain),
-                orphans: RefCell::default(),
+                domain,
+                orphans: Vec::new(),
             }),
             code => Err(code),
         }
@@ -28,29 +30,27 @@ impl Shared {
 
     // SAFETY of every call that takes this: its pointers are of locals or of fields that live through
     // the call, of the header's types, and the mutable ones aren't shared. Only one call at a time works
-    // on the domain: no call calls back, and nothing here is `Send` or `Sync`, by `Rc`.
-    pub(crate) fn at(&self) -> *mut sys::Domain {
-        self.domain.get()
+    // on the domain, since this takes it mutably, and no call calls back.
+    pub(crate) fn at(&mut self) -> *mut sys::Domain {
+        &mut self.domain
     }
 
-    pub(crate) fn close_publisher(&self, publisher: &sys::Publisher) {
+    // OK, or PUBLISHER_IS_BLOCKED where it closes later.
+    pub(crate) fn close_publisher(&mut self, publisher: &sys::Publisher) -> u32 {
         // SAFETY: see `at`.
-        let code = unsafe { sys::iox2_publisher_close(self.at(), publisher) };
+        let code = unsafe { sys::iox2ps_publisher_close(self.at(), publisher) };
         if code == sys::PUBLISHER_IS_BLOCKED {
-            self.orphans.borrow_mut().push(*publisher);
+            self.orphans.push(*publisher);
         }
+        code
     }
 
     // A send of this publisher has ended.
-    pub(crate) fn close_orphan(&self, id: sys::Wide) {
-        let mut orphans = self.orphans.borrow_mut();
-        if let Some(at) = orphans.iter().position(|publisher| publisher.id == id) {
-            let publisher = orphans.swap_remove(at);
-            // SAFETY: see `at`.
-            let code = unsafe { sys::iox2_publisher_close(self.at(), &publisher) };
-            if code != sys::OK {
-                unexpected(code);
-            }
+    pub(crate) fn close_orphan(&mut self, id: sys::Wide) {
+        if let Some(at) = self.orphans.iter().position(|orphan| orphan.id == id) {
+            let publisher = self.orphans.swap_remove(at);
+            // SAFETY: see `at`. It is refused for no publisher that is there and not blocked.
+            unsafe { sys::iox2ps_publisher_close(self.at(), &publisher) };
         }
     }
 }
@@ -58,6 +58,6 @@ impl Shared {
 impl Drop for Shared {
     fn drop(&mut self) {
         // SAFETY: see `at`.
-        unsafe { sys::iox2_domain_destroy(self.at()) };
+        unsafe { sys::iox2ps_domain_destroy(self.at()) };
     }
 }

@@ -4,25 +4,28 @@ use crate::domain::expect;
 use crate::errors::{ConnectionFailure, ReceiveError};
 use crate::numbers::number;
 use crate::payload::Payload;
-use crate::sample::Sample;
+use crate::sample::{release, Sample};
 use crate::shared::Shared;
 use crate::sys;
+use crate::threads::{Hold, ManyThreads, OneThread, Threads, Wakes};
 use std::iter::FusedIterator;
 use std::marker::PhantomData;
+use std::mem::{size_of, MaybeUninit};
+use std::ops::ControlFlow;
 use std::ptr::null;
-use std::rc::Rc;
+use std::time::{Duration, Instant};
 
 /// Receives the messages of every publisher of its domain, until it is dropped.
-pub struct Subscriber<P: Payload + ?Sized> {
-    shared: Rc<Shared>,
+pub struct Subscriber<P: Payload + ?Sized, M: Threads = OneThread> {
+    hold: M::Hold,
     port: sys::Subscriber,
     messages: PhantomData<P>,
 }
 
-impl<P: Payload + ?Sized> Subscriber<P> {
-    pub(crate) fn new(shared: Rc<Shared>, port: sys::Subscriber) -> Self {
+impl<P: Payload + ?Sized, M: Threads> Subscriber<P, M> {
+    pub(crate) fn new(hold: M::Hold, port: sys::Subscriber) -> Self {
         Subscriber {
-            shared,
+            hold,
             port,
             messages: PhantomData,
         }
@@ -40,21 +43,21 @@ impl<P: Payload + ?Sized> Subscriber<P> {
 
     /// The next message of some publisher, or `None` where none waits. The messages of one publisher
     /// come in the order in which they were sent.
-    pub fn receive(&self) -> Result<Option<Sample<P>>, ReceiveError> {
-        let mut sample = sys::Sample::default();
-        let (mut start, mut len) = (null(), 0);
-        // SAFETY: see `Shared::at`.
-        let code = unsafe {
-            sys::iox2_subscriber_receive(
-                self.shared.at(),
-                &self.port,
-                &mut sample,
-                &mut start,
-                &mut len,
-            )
-        };
+    pub fn receive(&self) -> Result<Option<Sample<P, M>>, ReceiveError> {
+        let mut got = Got::default();
+        let code = self
+            .hold
+            .call(Wakes::Senders, |shared| got.receive(shared, &self.port));
+        self.sample(code, got)
+    }
+
+    #[inline]
+    fn sample(&self, code: u32, got: Got) -> Result<Option<Sample<P, M>>, ReceiveError> {
         match code {
-            sys::OK => Ok(Some(Sample::new(self.shared.clone(), sample, start, len))),
+            sys::OK => {
+                let hold = self.hold.clone();
+                Ok(Some(Sample::new(hold, got.sample, got.start, got.len)))
+            }
             sys::NO_SAMPLE => Ok(None),
             _ => Err(ReceiveError::of(code)),
         }
@@ -62,7 +65,7 @@ impl<P: Payload + ?Sized> Subscriber<P> {
 
     /// Receives what waits, one message after the other, and ends where nothing does or a call is
     /// refused; the refusal is the last that it gives.
-    pub fn iter(&self) -> Received<'_, P> {
+    pub fn iter(&self) -> Received<'_, P, M> {
         Received {
             subscriber: Some(self),
         }
@@ -72,8 +75,10 @@ impl<P: Payload + ?Sized> Subscriber<P> {
     pub fn has_samples(&self) -> Result<bool, ConnectionFailure> {
         let mut waits = 0;
         // SAFETY: see `Shared::at`.
-        match unsafe { sys::iox2_subscriber_has_samples(self.shared.at(), &self.port, &mut waits) }
-        {
+        let code = self.hold.call(Wakes::Nobody, |shared| unsafe {
+            sys::iox2ps_subscriber_has_samples(shared.at(), &self.port, &mut waits)
+        });
+        match code {
             sys::OK => Ok(waits != 0),
             code => Err(ConnectionFailure::of(code)),
         }
@@ -82,28 +87,192 @@ impl<P: Payload + ?Sized> Subscriber<P> {
     /// Makes the connections with publishers that came, as each receive does first.
     pub fn update_connections(&self) -> Result<(), ConnectionFailure> {
         // SAFETY: see `Shared::at`.
-        match unsafe { sys::iox2_subscriber_update_connections(self.shared.at(), &self.port) } {
+        let code = self.hold.call(Wakes::Nobody, |shared| unsafe {
+            sys::iox2ps_subscriber_update_connections(shared.at(), &self.port)
+        });
+        match code {
             sys::OK => Ok(()),
             code => Err(ConnectionFailure::of(code)),
         }
     }
 }
 
-impl<P: Payload + ?Sized> Drop for Subscriber<P> {
-    fn drop(&mut self) {
-        // SAFETY: see `Shared::at`.
-        expect(unsafe { sys::iox2_subscriber_close(self.shared.at(), &self.port) });
+impl<T: Copy + 'static, M: Threads> Subscriber<T, M> {
+    /// The next message as a copy: a receive, a copy and a release with no other call between.
+    pub fn receive_copy(&self) -> Result<Option<T>, ReceiveError> {
+        let mut value = MaybeUninit::uninit();
+        let code = self.hold.call(Wakes::Senders, |shared| {
+            copy_next(shared, &self.port, &mut value)
+        });
+        copied(code, value)
     }
 }
 
-/// What waits for a subscriber.
-pub struct Received<'s, P: Payload + ?Sized> {
-    // None once the last was given.
-    subscriber: Option<&'s Subscriber<P>>,
+fn copy_next<T: Copy + 'static>(
+    shared: &mut Shared,
+    port: &sys::Subscriber,
+    value: &mut MaybeUninit<T>,
+) -> u32 {
+    let (mut len, mut sample) = (0, sys::Sample::default());
+    let (bytes, room) = (value.as_mut_ptr().cast(), size_of::<T>());
+    // SAFETY: see `Shared::at`.
+    unsafe {
+        sys::iox2ps_subscriber_receive_copy(shared.at(), port, bytes, room, &mut len, &mut sample)
+    }
 }
 
-impl<P: Payload + ?Sized> Iterator for Received<'_, P> {
-    type Item = Result<Sample<P>, ReceiveError>;
+fn copied<T>(code: u32, value: MaybeUninit<T>) -> Result<Option<T>, ReceiveError> {
+    match code {
+        // SAFETY: it is the copy of a message, and each message of a domain is of its type.
+        sys::OK => Ok(Some(unsafe { value.assume_init() })),
+        sys::NO_SAMPLE => Ok(None),
+        _ => Err(ReceiveError::of(code)),
+    }
+}
+
+impl<T: Copy + 'static> Subscriber<T, ManyThreads> {
+    /// Waits for a message, and gives a copy of it. `None` where waits are stopped.
+    pub fn blocking_receive_copy(&self) -> Result<Option<T>, ReceiveError> {
+        self.copy_until(None)
+    }
+
+    /// The same, for so long. `None` where none came, or waits are stopped.
+    pub fn timed_receive_copy(&self, timeout: Duration) -> Result<Option<T>, ReceiveError> {
+        self.copy_until(Instant::now().checked_add(timeout))
+    }
+
+    fn copy_until(&self, until: Option<Instant>) -> Result<Option<T>, ReceiveError> {
+        let mut value = MaybeUninit::uninit();
+        let code = self
+            .hold
+            .wait_for_message(until, |shared| copy_next(shared, &self.port, &mut value));
+        copied(code, value)
+    }
+}
+
+// What a call has received.
+struct Got {
+    sample: sys::Sample,
+    start: *const u8,
+    len: usize,
+}
+
+impl Default for Got {
+    fn default() -> Self {
+        Got {
+            sample: sys::Sample::default(),
+            start: null(),
+            len: 0,
+        }
+    }
+}
+
+impl Got {
+    #[inline]
+    fn receive(&mut self, shared: &mut Shared, port: &sys::Subscriber) -> u32 {
+        let (sample, start, len) = (&mut self.sample, &mut self.start, &mut self.len);
+        // SAFETY: see `Shared::at`.
+        unsafe { sys::iox2ps_subscriber_receive(shared.at(), port, sample, start, len) }
+    }
+}
+
+impl<P: Payload + ?Sized> Subscriber<P, ManyThreads> {
+    /// Waits for a message. `None` where waits are stopped (`SharedDomain::stop_waits`).
+    pub fn blocking_receive(&self) -> Result<Option<Sample<P, ManyThreads>>, ReceiveError> {
+        self.receive_until(None)
+    }
+
+    /// Waits for a message, for so long. `None` where none came, or waits are stopped.
+    pub fn timed_receive(
+        &self,
+        timeout: Duration,
+    ) -> Result<Option<Sample<P, ManyThreads>>, ReceiveError> {
+        self.receive_until(Instant::now().checked_add(timeout))
+    }
+
+    fn receive_until(
+        &self,
+        until: Option<Instant>,
+    ) -> Result<Option<Sample<P, ManyThreads>>, ReceiveError> {
+        let mut got = Got::default();
+        let code = self
+            .hold
+            .wait_for_message(until, |shared| got.receive(shared, &self.port));
+        self.sample(code, got)
+    }
+
+    /// Waits for one message after the other, and reads each where it lies, without the lock. Ends where
+    /// the function breaks off, or waits are stopped. A message is given back in the call that asks for the next, so that each takes
+    /// the lock once.
+    pub fn blocking_for_each(
+        &self,
+        mut read: impl FnMut(&P) -> ControlFlow<()>,
+    ) -> Result<(), ReceiveError> {
+        let mut last = None;
+        loop {
+            let mut got = Got::default();
+            let code = self.hold.wait_for_message(None, |shared| {
+                if let Some(sample) = last.take().map(Sample::into_number) {
+                    release(shared, &sample);
+                }
+                got.receive(shared, &self.port)
+            });
+            let Some(sample) = self.sample(code, got)? else {
+                return Ok(());
+            };
+            if read(&sample).is_break() {
+                return Ok(());
+            }
+            last = Some(sample);
+        }
+    }
+
+    /// Waits for one message after the other, and ends where waits are stopped or a call is refused;
+    /// the refusal is the last that it gives.
+    pub fn blocking_iter(&self) -> Incoming<'_, P> {
+        Incoming {
+            subscriber: Some(self),
+        }
+    }
+}
+
+impl<P: Payload + ?Sized, M: Threads> Drop for Subscriber<P, M> {
+    fn drop(&mut self) {
+        // SAFETY: see `Shared::at`. A send may wait for this subscriber.
+        expect(self.hold.call(Wakes::Senders, |shared| unsafe {
+            sys::iox2ps_subscriber_close(shared.at(), &self.port)
+        }));
+    }
+}
+
+/// What comes to a subscriber.
+pub struct Incoming<'s, P: Payload + ?Sized> {
+    // None once the last was given.
+    subscriber: Option<&'s Subscriber<P, ManyThreads>>,
+}
+
+impl<P: Payload + ?Sized> Iterator for Incoming<'_, P> {
+    type Item = Result<Sample<P, ManyThreads>, ReceiveError>;
+
+    fn next(&mut self) -> Option<Self::Item> {
+        let received = self.subscriber?.blocking_receive().transpose();
+        if !matches!(received, Some(Ok(_))) {
+            self.subscriber = None;
+        }
+        received
+    }
+}
+
+impl<P: Payload + ?Sized> FusedIterator for Incoming<'_, P> {}
+
+/// What waits for a subscriber.
+pub struct Received<'s, P: Payload + ?Sized, M: Threads = OneThread> {
+    // None once the last was given.
+    subscriber: Option<&'s Subscriber<P, M>>,
+}
+
+impl<P: Payload + ?Sized, M: Threads> Iterator for Received<'_, P, M> {
+    type Item = Result<Sample<P, M>, ReceiveError>;
 
     fn next(&mut self) -> Option<Self::Item> {
         let received = self.subscriber?.receive().transpose();
@@ -114,13 +283,13 @@ impl<P: Payload + ?Sized> Iterator for Received<'_, P> {
     }
 }
 
-impl<P: Payload + ?Sized> FusedIterator for Received<'_, P> {}
+impl<P: Payload + ?Sized, M: Threads> FusedIterator for Received<'_, P, M> {}
 
-impl<'s, P: Payload + ?Sized> IntoIterator for &'s Subscriber<P> {
-    type Item = Result<Sample<P>, ReceiveError>;
-    type IntoIter = Received<'s, P>;
+impl<'s, P: Payload + ?Sized, M: Threads> IntoIterator for &'s Subscriber<P, M> {
+    type Item = Result<Sample<P, M>, ReceiveError>;
+    type IntoIter = Received<'s, P, M>;
 
-    fn into_iter(self) -> Received<'s, P> {
+    fn into_iter(self) -> Received<'s, P, M> {
         self.iter()
     }
 }

@@ -173,55 +173,55 @@ pub struct Warning {
 }
 
 extern "C" {
-    pub fn iox2_config_defaults(
+    pub fn iox2ps_config_defaults(
         config: *mut Config,
         service_id: u64,
         payload_size: usize,
         payload_alignment: usize,
     );
-    pub fn iox2_publisher_options_of(config: *const Config, options: *mut PublisherOptions);
-    pub fn iox2_subscriber_options_of(config: *const Config, options: *mut SubscriberOptions);
-    pub fn iox2_worst_case_slots(config: *const Config, loans: usize, slots: *mut usize) -> u32;
-    pub fn iox2_error_text_at(code: u32, text: *mut *const u8, len: *mut usize);
-    pub fn iox2_domain_create(domain: *mut Domain, config: *const Config) -> u32;
-    pub fn iox2_domain_destroy(domain: *mut Domain) -> u32;
-    pub fn iox2_domain_config(domain: *mut Domain, config: *mut Config) -> u32;
-    pub fn iox2_domain_connection_count(domain: *mut Domain, count: *mut usize) -> u32;
-    pub fn iox2_domain_book_count(domain: *mut Domain, count: *mut usize) -> u32;
-    pub fn iox2_domain_refused_connections(domain: *mut Domain, count: *mut u64) -> u32;
-    pub fn iox2_domain_warning_count(domain: *mut Domain, count: *mut usize) -> u32;
-    pub fn iox2_domain_warning(domain: *mut Domain, index: usize, warning: *mut Warning) -> u32;
-    pub fn iox2_publisher_create(domain: *mut Domain, publisher: *mut Publisher) -> u32;
-    pub fn iox2_publisher_create_with(
+    pub fn iox2ps_publisher_options_of(config: *const Config, options: *mut PublisherOptions);
+    pub fn iox2ps_subscriber_options_of(config: *const Config, options: *mut SubscriberOptions);
+    pub fn iox2ps_worst_case_slots(config: *const Config, loans: usize, slots: *mut usize) -> u32;
+    pub fn iox2ps_error_text_at(code: u32, text: *mut *const u8, len: *mut usize);
+    pub fn iox2ps_domain_create(domain: *mut Domain, config: *const Config) -> u32;
+    pub fn iox2ps_domain_destroy(domain: *mut Domain) -> u32;
+    pub fn iox2ps_domain_config(domain: *mut Domain, config: *mut Config) -> u32;
+    pub fn iox2ps_domain_connection_count(domain: *mut Domain, count: *mut usize) -> u32;
+    pub fn iox2ps_domain_book_count(domain: *mut Domain, count: *mut usize) -> u32;
+    pub fn iox2ps_domain_refused_connections(domain: *mut Domain, count: *mut u64) -> u32;
+    pub fn iox2ps_domain_warning_count(domain: *mut Domain, count: *mut usize) -> u32;
+    pub fn iox2ps_domain_warning(domain: *mut Domain, index: usize, warning: *mut Warning) -> u32;
+    pub fn iox2ps_publisher_create(domain: *mut Domain, publisher: *mut Publisher) -> u32;
+    pub fn iox2ps_publisher_create_with(
         domain: *mut Domain,
         options: *const PublisherOptions,
         publisher: *mut Publisher,
     ) -> u32;
-    pub fn iox2_publisher_close(domain: *mut Domain, publisher: *const Publisher) -> u32;
-    pub fn iox2_publisher_is_blocked(
+    pub fn iox2ps_publisher_close(domain: *mut Domain, publisher: *const Publisher) -> u32;
+    pub fn iox2ps_publisher_is_blocked(
         domain: *mut Domain,
         publisher: *const Publisher,
         is_blocked: *mut u32,
     ) -> u32;
-    pub fn iox2_publisher_update_connections(
+    pub fn iox2ps_publisher_update_connections(
         domain: *mut Domain,
         publisher: *const Publisher,
     ) -> u32;
-    pub fn iox2_publisher_loan(
-        domain: *mut Domain,
-        publisher: *const Publisher,
-        len: usize,
-        loan: *mut Loan,
-        payload: *mut *mut u8,
-    ) -> u32;
-    pub fn iox2_publisher_loan_uninit(
+    pub fn iox2ps_publisher_loan(
         domain: *mut Domain,
         publisher: *const Publisher,
         len: usize,
         loan: *mut Loan,
         payload: *mut *mut u8,
     ) -> u32;
-    pub fn iox2_publisher_send_copy(
+    pub fn iox2ps_publisher_loan_uninit(
+        domain: *mut Domain,
+        publisher: *const Publisher,
+        len: usize,
+        loan: *mut Loan,
+        payload: *mut *mut u8,
+    ) -> u32;
+    pub fn iox2ps_publisher_send_copy(
         domain: *mut Domain,
         publisher: *const Publisher,
         bytes: *const u8,
@@ -229,54 +229,54 @@ extern "C" {
         receivers: *mut usize,
         blocked: *mut Blocked,
     ) -> u32;
-    pub fn iox2_loan_send(
+    pub fn iox2ps_loan_send(
         domain: *mut Domain,
         loan: *const Loan,
         receivers: *mut usize,
         blocked: *mut Blocked,
     ) -> u32;
-    pub fn iox2_loan_discard(domain: *mut Domain, loan: *const Loan) -> u32;
-    pub fn iox2_loan_payload(
+    pub fn iox2ps_loan_discard(domain: *mut Domain, loan: *const Loan) -> u32;
+    pub fn iox2ps_loan_payload(
         domain: *mut Domain,
         loan: *const Loan,
         payload: *mut *mut u8,
         len: *mut usize,
     ) -> u32;
-    pub fn iox2_blocked_retry(
+    pub fn iox2ps_blocked_retry(
         domain: *mut Domain,
         blocked: *const Blocked,
         elapsed: u64,
         receivers: *mut usize,
     ) -> u32;
-    pub fn iox2_blocked_give_up(
+    pub fn iox2ps_blocked_give_up(
         domain: *mut Domain,
         blocked: *const Blocked,
         receivers: *mut usize,
     ) -> u32;
-    pub fn iox2_subscriber_create(domain: *mut Domain, subscriber: *mut Subscriber) -> u32;
-    pub fn iox2_subscriber_create_with(
+    pub fn iox2ps_subscriber_create(domain: *mut Domain, subscriber: *mut Subscriber) -> u32;
+    pub fn iox2ps_subscriber_create_with(
         domain: *mut Domain,
         options: *const SubscriberOptions,
         subscriber: *mut Subscriber,
     ) -> u32;
-    pub fn iox2_subscriber_close(domain: *mut Domain, subscriber: *const Subscriber) -> u32;
-    pub fn iox2_subscriber_has_samples(
+    pub fn iox2ps_subscriber_close(domain: *mut Domain, subscriber: *const Subscriber) -> u32;
+    pub fn iox2ps_subscriber_has_samples(
         domain: *mut Domain,
         subscriber: *const Subscriber,
         waits: *mut u32,
     ) -> u32;
-    pub fn iox2_subscriber_update_connections(
+    pub fn iox2ps_subscriber_update_connections(
         domain: *mut Domain,
         subscriber: *const Subscriber,
     ) -> u32;
-    pub fn iox2_subscriber_receive(
+    pub fn iox2ps_subscriber_receive(
         domain: *mut Domain,
         subscriber: *const Subscriber,
         sample: *mut Sample,
         payload: *mut *const u8,
         len: *mut usize,
     ) -> u32;
-    pub fn iox2_subscriber_receive_copy(
+    pub fn iox2ps_subscriber_receive_copy(
         domain: *mut Domain,
         subscriber: *const Subscriber,
         bytes: *mut u8,
@@ -284,23 +284,23 @@ extern "C" {
         len: *mut usize,
         sample: *mut Sample,
     ) -> u32;
-    pub fn iox2_sample_payload(
+    pub fn iox2ps_sample_payload(
         domain: *mut Domain,
         sample: *const Sample,
         payload: *mut *const u8,
         len: *mut usize,
     ) -> u32;
-    pub fn iox2_sample_copy(
+    pub fn iox2ps_sample_copy(
         domain: *mut Domain,
         sample: *const Sample,
         bytes: *mut u8,
         room: usize,
         len: *mut usize,
     ) -> u32;
-    pub fn iox2_sample_header(
+    pub fn iox2ps_sample_header(
         domain: *mut Domain,
         sample: *const Sample,
         header: *mut Header,
     ) -> u32;
-    pub fn iox2_sample_release(domain: *mut Domain, sample: *const Sample) -> u32;
+    pub fn iox2ps_sample_release(domain: *mut Domain, sample: *const Sample) -> u32;
 }

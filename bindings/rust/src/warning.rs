@@ -2,8 +2,8 @@
 
 use crate::errors::{text, ConnectionFailure};
 use crate::numbers::number;
-use crate::shared::Shared;
 use crate::sys;
+use crate::threads::{Hold, Wakes};
 use std::fmt;
 
 /// What a warning is of.
@@ -38,10 +38,12 @@ pub struct Warning {
 
 impl Warning {
     // `None` past the last one.
-    pub(crate) fn read(shared: &Shared, index: usize) -> Option<Warning> {
+    pub(crate) fn read(hold: &impl Hold, index: usize) -> Option<Warning> {
         let mut warning = sys::Warning::default();
         // SAFETY: see `Shared::at`.
-        let code = unsafe { sys::iox2_domain_warning(shared.at(), index, &mut warning) };
+        let code = hold.call(Wakes::Nobody, |shared| unsafe {
+            sys::iox2ps_domain_warning(shared.at(), index, &mut warning)
+        });
         if code != sys::OK {
             return None;
         }

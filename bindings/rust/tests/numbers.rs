@@ -36,7 +36,7 @@ fn each_call_is_refused_on_a_destroyed_box() {
 fn a_domain_is_not_made_over_another() {
     let mut world = World::begin(1);
     let there = world.domain.domain;
-    let code = unsafe { iox2_domain_create(&mut world.domain, &defaults(5, 8, 8)) };
+    let code = unsafe { iox2ps_domain_create(&mut world.domain, &defaults(5, 8, 8)) };
     assert_eq!((code, world.domain.domain), (HAS_DOMAIN, there));
     world.end();
 }
@@ -70,17 +70,17 @@ fn numbers_are_used_once_whoever_has_a_copy() {
     unsafe {
         release(domain, &sample);
         sample_is_refused(domain, &world.sample, NOT_LIVE);
-        assert_eq!(iox2_blocked_give_up(domain, &blocked, &mut count), OK);
+        assert_eq!(iox2ps_blocked_give_up(domain, &blocked, &mut count), OK);
         blocked_is_refused(domain, &world.blocked, NOT_LIVE);
-        assert_eq!(iox2_loan_discard(domain, &loan), OK);
+        assert_eq!(iox2ps_loan_discard(domain, &loan), OK);
         loan_is_refused(domain, &world.loan, NOT_LIVE);
         let (sent, _) = lend(domain, &publisher, 8);
         let mut waits = Blocked::default();
-        assert_eq!(iox2_loan_send(domain, &sent, &mut count, &mut waits), OK);
+        assert_eq!(iox2ps_loan_send(domain, &sent, &mut count, &mut waits), OK);
         loan_is_refused(domain, &sent, NOT_LIVE);
-        assert_eq!(iox2_subscriber_close(domain, &subscriber), OK);
+        assert_eq!(iox2ps_subscriber_close(domain, &subscriber), OK);
         subscriber_is_refused(domain, &world.subscriber, NOT_LIVE);
-        assert_eq!(iox2_publisher_close(domain, &publisher), OK);
+        assert_eq!(iox2ps_publisher_close(domain, &publisher), OK);
         publisher_is_refused(domain, &world.publisher, NOT_LIVE);
     }
     destroy(domain);
@@ -103,10 +103,10 @@ fn numbers_kept_too_long_stay_spent() {
     }
     let broken = SEND_ERROR_CONNECTION_BROKEN_SINCE_SENDER_NO_LONGER_EXISTS;
     unsafe {
-        assert_eq!(iox2_publisher_close(&mut domain, &publisher), OK);
-        assert_eq!(iox2_subscriber_close(&mut domain, &subscriber), OK);
+        assert_eq!(iox2ps_publisher_close(&mut domain, &publisher), OK);
+        assert_eq!(iox2ps_subscriber_close(&mut domain, &subscriber), OK);
         refused(broken, |outs| {
-            iox2_loan_send(&mut domain, &lost, &mut outs.count, &mut outs.blocked)
+            iox2ps_loan_send(&mut domain, &lost, &mut outs.count, &mut outs.blocked)
         });
     }
     let (another, other) = (publisher_of(&mut domain), subscriber_of(&mut domain));
@@ -114,7 +114,7 @@ fn numbers_kept_too_long_stay_spent() {
     publisher_is_refused(&mut domain, &publisher, NOT_LIVE);
     subscriber_is_refused(&mut domain, &subscriber, NOT_LIVE);
     loan_is_refused(&mut domain, &lost, NOT_LIVE);
-    assert_eq!(unsafe { iox2_loan_discard(&mut domain, &lent) }, OK);
+    assert_eq!(unsafe { iox2ps_loan_discard(&mut domain, &lent) }, OK);
     assert_eq!(send_value(&mut domain, &another, 21).0, OK);
     take(&mut domain, &other, 21, another.id);
     destroy(&mut domain);
@@ -190,13 +190,13 @@ fn hints_are_hints() {
         let domain = &mut world.domain;
         let (mut start, mut len, mut answer) = (null_mut(), 0, 0);
         unsafe {
-            let code = iox2_publisher_is_blocked(domain, &world.waiting, &mut answer);
+            let code = iox2ps_publisher_is_blocked(domain, &world.waiting, &mut answer);
             assert_eq!((code, answer), (OK, 1));
-            let code = iox2_subscriber_has_samples(domain, &world.subscriber, &mut answer);
+            let code = iox2ps_subscriber_has_samples(domain, &world.subscriber, &mut answer);
             assert_eq!((code, answer), (OK, 1));
-            let code = iox2_loan_payload(domain, &world.loan, &mut start, &mut len);
+            let code = iox2ps_loan_payload(domain, &world.loan, &mut start, &mut len);
             assert_eq!((code, start, len), (OK, world.written, 8));
-            let code = iox2_blocked_retry(domain, &world.blocked, 0, &mut len);
+            let code = iox2ps_blocked_retry(domain, &world.blocked, 0, &mut len);
             assert_eq!(code, BLOCKED);
         }
         publisher_updates(domain, &world.publisher);
@@ -205,7 +205,7 @@ fn hints_are_hints() {
 }
 
 fn publisher_updates(domain: &mut Domain, publisher: &Publisher) {
-    let code = unsafe { iox2_publisher_update_connections(domain, publisher) };
+    let code = unsafe { iox2ps_publisher_update_connections(domain, publisher) };
     assert_eq!(code, OK);
 }
 
@@ -240,14 +240,16 @@ fn a_publisher_does_nothing_while_a_send_of_it_waits() {
     let (domain, waiting) = (&mut world.domain, &world.waiting);
     let (code, bytes) = (PUBLISHER_IS_BLOCKED, [1u8; 8]);
     unsafe {
-        refused(code, |_| iox2_publisher_close(domain, waiting));
-        refused(code, |_| iox2_publisher_update_connections(domain, waiting));
+        refused(code, |_| iox2ps_publisher_close(domain, waiting));
+        refused(code, |_| {
+            iox2ps_publisher_update_connections(domain, waiting)
+        });
         refused(code, |outs| {
-            iox2_publisher_loan(domain, waiting, 8, &mut outs.loan, &mut outs.written)
+            iox2ps_publisher_loan(domain, waiting, 8, &mut outs.loan, &mut outs.written)
         });
         refused(code, |outs| {
             let (count, blocked) = (&mut outs.count, &mut outs.blocked);
-            iox2_publisher_send_copy(domain, waiting, bytes.as_ptr(), 8, count, blocked)
+            iox2ps_publisher_send_copy(domain, waiting, bytes.as_ptr(), 8, count, blocked)
         });
     }
     world.end();
@@ -263,17 +265,17 @@ fn a_loan_has_no_bytes_as_many_as_the_limit_or_none_of_more() {
         let (loan, start) = lend(&mut domain, &publisher, len);
         let (mut again, mut said) = (null_mut(), 99);
         unsafe {
-            let code = iox2_loan_payload(&mut domain, &loan, &mut again, &mut said);
+            let code = iox2ps_loan_payload(&mut domain, &loan, &mut again, &mut said);
             assert_eq!((code, again, said), (OK, start, len));
             assert_eq!(slice::from_raw_parts(start, len), &[0; 24][..len]);
-            assert_eq!(iox2_loan_discard(&mut domain, &loan), OK);
+            assert_eq!(iox2ps_loan_discard(&mut domain, &loan), OK);
         }
     }
     let code = LOAN_ERROR_EXCEEDS_MAX_LOAN_SIZE;
     for len in [25, 32, usize::MAX / 2, usize::MAX - 7, usize::MAX] {
         refused(code, |outs| unsafe {
             let (loan, written) = (&mut outs.loan, &mut outs.written);
-            iox2_publisher_loan(&mut domain, &publisher, len, loan, written)
+            iox2ps_publisher_loan(&mut domain, &publisher, len, loan, written)
         });
     }
     destroy(&mut domain);
@@ -292,7 +294,7 @@ fn a_copy_is_sent_up_to_the_limit() {
     }
     refused(LOAN_ERROR_EXCEEDS_MAX_LOAN_SIZE, |outs| unsafe {
         let (count, blocked) = (&mut outs.count, &mut outs.blocked);
-        iox2_publisher_send_copy(&mut domain, &publisher, longer.as_ptr(), 25, count, blocked)
+        iox2ps_publisher_send_copy(&mut domain, &publisher, longer.as_ptr(), 25, count, blocked)
     });
     destroy(&mut domain);
 }
@@ -306,7 +308,7 @@ fn a_message_longer_than_the_room_is_handed_over_whole() {
         let (mut outs, mut sample) = (Outs::filled(), Sample::default());
         let (start, len) = (outs.bytes.as_mut_ptr(), &mut outs.len);
         unsafe {
-            let code = iox2_subscriber_receive_copy(
+            let code = iox2ps_subscriber_receive_copy(
                 &mut domain,
                 &subscriber,
                 start,
@@ -315,10 +317,10 @@ fn a_message_longer_than_the_room_is_handed_over_whole() {
                 &mut sample,
             );
             assert_eq!((code, *len), (TOO_SMALL, 24));
-            let code = iox2_sample_copy(&mut domain, &sample, start, room, len);
+            let code = iox2ps_sample_copy(&mut domain, &sample, start, room, len);
             assert_eq!((code, *len), (TOO_SMALL, 24));
             assert_eq!(outs.bytes, [0xa5; 32]);
-            let code = iox2_sample_copy(&mut domain, &sample, start, 24, &mut outs.len);
+            let code = iox2ps_sample_copy(&mut domain, &sample, start, 24, &mut outs.len);
             assert_eq!((code, outs.len), (OK, 24));
         }
         assert_eq!((&outs.bytes[..24], outs.bytes[24]), (&[7; 24][..], 0xa5));
@@ -340,7 +342,7 @@ fn payloads_are_aligned_as_the_settings_say() {
             let (loan, start) = lend(&mut domain, publisher, len);
             assert_eq!(start as usize % alignment, 0);
             let (mut count, mut blocked) = (0, Blocked::default());
-            let code = unsafe { iox2_loan_send(&mut domain, &loan, &mut count, &mut blocked) };
+            let code = unsafe { iox2ps_loan_send(&mut domain, &loan, &mut count, &mut blocked) };
             assert_eq!(code, OK);
             let (_, read) = receive(&mut domain, &subscriber);
             assert_eq!((read.as_ptr(), read.len()), (start.cast_const(), len));
@@ -373,7 +375,7 @@ fn settings_without_sense_make_no_domain() {
     }
     for config in wrong {
         let mut domain = Domain { domain: null_mut() };
-        let code = unsafe { iox2_domain_create(&mut domain, &config) };
+        let code = unsafe { iox2ps_domain_create(&mut domain, &config) };
         assert_eq!((code, domain.domain), (INVALID_SETTINGS, null_mut()));
     }
 }
@@ -412,7 +414,7 @@ fn options_without_sense_make_no_port() {
     ];
     for options in wrong {
         refused(INVALID_SETTINGS, |outs| unsafe {
-            iox2_publisher_create_with(&mut domain, &options, &mut outs.publisher)
+            iox2ps_publisher_create_with(&mut domain, &options, &mut outs.publisher)
         });
     }
     let wrong = SubscriberOptions {
@@ -420,7 +422,7 @@ fn options_without_sense_make_no_port() {
         ..subscriber_options
     };
     refused(INVALID_SETTINGS, |outs| unsafe {
-        iox2_subscriber_create_with(&mut domain, &wrong, &mut outs.subscriber)
+        iox2ps_subscriber_create_with(&mut domain, &wrong, &mut outs.subscriber)
     });
     destroy(&mut domain);
 }
@@ -443,7 +445,7 @@ fn settings_beyond_memory_are_refused_to_the_port() {
     ] {
         let mut domain = domain_of(&huge);
         refused(segment, |outs| unsafe {
-            iox2_publisher_create(&mut domain, &mut outs.publisher)
+            iox2ps_publisher_create(&mut domain, &mut outs.publisher)
         });
         destroy(&mut domain);
     }
@@ -460,7 +462,7 @@ fn settings_beyond_memory_are_refused_to_the_port() {
         },
     ] {
         refused(segment, |outs| unsafe {
-            iox2_publisher_create_with(&mut domain, &huge, &mut outs.publisher)
+            iox2ps_publisher_create_with(&mut domain, &huge, &mut outs.publisher)
         });
     }
     for buffer_size in [3, most] {
@@ -470,7 +472,9 @@ fn settings_beyond_memory_are_refused_to_the_port() {
         };
         refused(
             SUBSCRIBER_CREATE_ERROR_BUFFER_SIZE_EXCEEDS_MAX,
-            |outs| unsafe { iox2_subscriber_create_with(&mut domain, &huge, &mut outs.subscriber) },
+            |outs| unsafe {
+                iox2ps_subscriber_create_with(&mut domain, &huge, &mut outs.subscriber)
+            },
         );
     }
     destroy(&mut domain);
@@ -483,7 +487,7 @@ fn slots_that_no_number_counts_are_refused() {
         ..defaults(1, 8, 8)
     };
     refused(INVALID_SETTINGS, |outs| unsafe {
-        iox2_worst_case_slots(&config, 6, &mut outs.count)
+        iox2ps_worst_case_slots(&config, 6, &mut outs.count)
     });
 }
 
@@ -493,7 +497,7 @@ fn text(code: u32) -> &'static str {
     let (mut start, mut len) = (null(), 0);
     // SAFETY: the text lies in the archive for good.
     let bytes = unsafe {
-        iox2_error_text_at(code, &mut start, &mut len);
+        iox2ps_error_text_at(code, &mut start, &mut len);
         assert_eq!(*start.add(len), 0);
         slice::from_raw_parts(start, len)
     };

@@ -51,41 +51,41 @@ pub fn refused(code: u32, call: impl FnOnce(&mut Outs) -> u32) {
 pub fn publisher_is_refused(domain: &mut Domain, publisher: &Publisher, code: u32) {
     let bytes = [1u8; 8];
     unsafe {
-        refused(code, |_| iox2_publisher_close(domain, publisher));
+        refused(code, |_| iox2ps_publisher_close(domain, publisher));
         refused(code, |outs| {
-            iox2_publisher_is_blocked(domain, publisher, &mut outs.answer)
+            iox2ps_publisher_is_blocked(domain, publisher, &mut outs.answer)
         });
         refused(code, |_| {
-            iox2_publisher_update_connections(domain, publisher)
+            iox2ps_publisher_update_connections(domain, publisher)
         });
         for len in [8, usize::MAX] {
             refused(code, |outs| {
-                iox2_publisher_loan(domain, publisher, len, &mut outs.loan, &mut outs.written)
+                iox2ps_publisher_loan(domain, publisher, len, &mut outs.loan, &mut outs.written)
             });
         }
         refused(code, |outs| {
             let (count, blocked) = (&mut outs.count, &mut outs.blocked);
-            iox2_publisher_send_copy(domain, publisher, bytes.as_ptr(), 8, count, blocked)
+            iox2ps_publisher_send_copy(domain, publisher, bytes.as_ptr(), 8, count, blocked)
         });
     }
 }
 
 pub fn subscriber_is_refused(domain: &mut Domain, subscriber: &Subscriber, code: u32) {
     unsafe {
-        refused(code, |_| iox2_subscriber_close(domain, subscriber));
+        refused(code, |_| iox2ps_subscriber_close(domain, subscriber));
         refused(code, |outs| {
-            iox2_subscriber_has_samples(domain, subscriber, &mut outs.answer)
+            iox2ps_subscriber_has_samples(domain, subscriber, &mut outs.answer)
         });
         refused(code, |_| {
-            iox2_subscriber_update_connections(domain, subscriber)
+            iox2ps_subscriber_update_connections(domain, subscriber)
         });
         refused(code, |outs| {
             let (sample, read, len) = (&mut outs.sample, &mut outs.read, &mut outs.len);
-            iox2_subscriber_receive(domain, subscriber, sample, read, len)
+            iox2ps_subscriber_receive(domain, subscriber, sample, read, len)
         });
         refused(code, |outs| {
             let (bytes, len, sample) = (&mut outs.bytes, &mut outs.len, &mut outs.sample);
-            iox2_subscriber_receive_copy(domain, subscriber, bytes.as_mut_ptr(), 32, len, sample)
+            iox2ps_subscriber_receive_copy(domain, subscriber, bytes.as_mut_ptr(), 32, len, sample)
         });
     }
 }
@@ -93,11 +93,11 @@ pub fn subscriber_is_refused(domain: &mut Domain, subscriber: &Subscriber, code:
 pub fn loan_is_refused(domain: &mut Domain, loan: &Loan, code: u32) {
     unsafe {
         refused(code, |outs| {
-            iox2_loan_send(domain, loan, &mut outs.count, &mut outs.blocked)
+            iox2ps_loan_send(domain, loan, &mut outs.count, &mut outs.blocked)
         });
-        refused(code, |_| iox2_loan_discard(domain, loan));
+        refused(code, |_| iox2ps_loan_discard(domain, loan));
         refused(code, |outs| {
-            iox2_loan_payload(domain, loan, &mut outs.written, &mut outs.len)
+            iox2ps_loan_payload(domain, loan, &mut outs.written, &mut outs.len)
         });
     }
 }
@@ -105,10 +105,10 @@ pub fn loan_is_refused(domain: &mut Domain, loan: &Loan, code: u32) {
 pub fn blocked_is_refused(domain: &mut Domain, blocked: &Blocked, code: u32) {
     unsafe {
         refused(code, |outs| {
-            iox2_blocked_retry(domain, blocked, 1, &mut outs.count)
+            iox2ps_blocked_retry(domain, blocked, 1, &mut outs.count)
         });
         refused(code, |outs| {
-            iox2_blocked_give_up(domain, blocked, &mut outs.count)
+            iox2ps_blocked_give_up(domain, blocked, &mut outs.count)
         });
     }
 }
@@ -116,15 +116,15 @@ pub fn blocked_is_refused(domain: &mut Domain, blocked: &Blocked, code: u32) {
 pub fn sample_is_refused(domain: &mut Domain, sample: &Sample, code: u32) {
     unsafe {
         refused(code, |outs| {
-            iox2_sample_payload(domain, sample, &mut outs.read, &mut outs.len)
+            iox2ps_sample_payload(domain, sample, &mut outs.read, &mut outs.len)
         });
         refused(code, |outs| {
-            iox2_sample_copy(domain, sample, outs.bytes.as_mut_ptr(), 32, &mut outs.len)
+            iox2ps_sample_copy(domain, sample, outs.bytes.as_mut_ptr(), 32, &mut outs.len)
         });
         refused(code, |outs| {
-            iox2_sample_header(domain, sample, &mut outs.header)
+            iox2ps_sample_header(domain, sample, &mut outs.header)
         });
-        refused(code, |_| iox2_sample_release(domain, sample));
+        refused(code, |_| iox2ps_sample_release(domain, sample));
     }
 }
 
@@ -140,32 +140,34 @@ pub fn no_domain_is_there(domain: &mut Domain, world: &World) {
     sample_is_refused(domain, &world.sample, code);
     unsafe {
         refused(code, |outs| {
-            iox2_publisher_create(domain, &mut outs.publisher)
+            iox2ps_publisher_create(domain, &mut outs.publisher)
         });
         refused(code, |outs| {
-            iox2_publisher_create_with(domain, &publisher_options, &mut outs.publisher)
+            iox2ps_publisher_create_with(domain, &publisher_options, &mut outs.publisher)
         });
         refused(code, |outs| {
-            iox2_subscriber_create(domain, &mut outs.subscriber)
+            iox2ps_subscriber_create(domain, &mut outs.subscriber)
         });
         refused(code, |outs| {
-            iox2_subscriber_create_with(domain, &subscriber_options, &mut outs.subscriber)
+            iox2ps_subscriber_create_with(domain, &subscriber_options, &mut outs.subscriber)
         });
-        refused(code, |outs| iox2_domain_config(domain, &mut outs.config));
+        refused(code, |outs| iox2ps_domain_config(domain, &mut outs.config));
         refused(code, |outs| {
-            iox2_domain_connection_count(domain, &mut outs.count)
-        });
-        refused(code, |outs| iox2_domain_book_count(domain, &mut outs.count));
-        refused(code, |outs| {
-            iox2_domain_refused_connections(domain, &mut outs.number)
+            iox2ps_domain_connection_count(domain, &mut outs.count)
         });
         refused(code, |outs| {
-            iox2_domain_warning_count(domain, &mut outs.count)
+            iox2ps_domain_book_count(domain, &mut outs.count)
         });
         refused(code, |outs| {
-            iox2_domain_warning(domain, 0, &mut outs.warning)
+            iox2ps_domain_refused_connections(domain, &mut outs.number)
         });
-        refused(code, |_| iox2_domain_destroy(domain));
+        refused(code, |outs| {
+            iox2ps_domain_warning_count(domain, &mut outs.count)
+        });
+        refused(code, |outs| {
+            iox2ps_domain_warning(domain, 0, &mut outs.warning)
+        });
+        refused(code, |_| iox2ps_domain_destroy(domain));
     }
     assert!(domain.domain.is_null());
 }
@@ -174,46 +176,49 @@ pub fn no_domain_is_there(domain: &mut Domain, world: &World) {
 
 pub fn defaults(service_id: u64, size: usize, alignment: usize) -> Config {
     let mut config = Config::default();
-    unsafe { iox2_config_defaults(&mut config, service_id, size, alignment) };
+    unsafe { iox2ps_config_defaults(&mut config, service_id, size, alignment) };
     config
 }
 
 pub fn options_of(config: &Config) -> (PublisherOptions, SubscriberOptions) {
     let (mut publisher, mut subscriber) = Default::default();
     unsafe {
-        iox2_publisher_options_of(config, &mut publisher);
-        iox2_subscriber_options_of(config, &mut subscriber);
+        iox2ps_publisher_options_of(config, &mut publisher);
+        iox2ps_subscriber_options_of(config, &mut subscriber);
     }
     (publisher, subscriber)
 }
 
 pub fn domain_of(config: &Config) -> Domain {
     let mut domain = Domain { domain: null_mut() };
-    assert_eq!(unsafe { iox2_domain_create(&mut domain, config) }, OK);
+    assert_eq!(unsafe { iox2ps_domain_create(&mut domain, config) }, OK);
     domain
 }
 
 pub fn destroy(domain: &mut Domain) {
-    assert_eq!(unsafe { iox2_domain_destroy(domain) }, OK);
+    assert_eq!(unsafe { iox2ps_domain_destroy(domain) }, OK);
     assert!(domain.domain.is_null());
 }
 
 pub fn publisher_of(domain: &mut Domain) -> Publisher {
     let mut publisher = Publisher::default();
-    assert_eq!(unsafe { iox2_publisher_create(domain, &mut publisher) }, OK);
+    assert_eq!(
+        unsafe { iox2ps_publisher_create(domain, &mut publisher) },
+        OK
+    );
     publisher
 }
 
 pub fn subscriber_of(domain: &mut Domain) -> Subscriber {
     let mut subscriber = Subscriber::default();
-    let code = unsafe { iox2_subscriber_create(domain, &mut subscriber) };
+    let code = unsafe { iox2ps_subscriber_create(domain, &mut subscriber) };
     assert_eq!(code, OK);
     subscriber
 }
 
 pub fn lend(domain: &mut Domain, publisher: &Publisher, len: usize) -> (Loan, *mut u8) {
     let (mut loan, mut start) = (Loan::default(), null_mut());
-    let code = unsafe { iox2_publisher_loan(domain, publisher, len, &mut loan, &mut start) };
+    let code = unsafe { iox2ps_publisher_loan(domain, publisher, len, &mut loan, &mut start) };
     assert_eq!(code, OK);
     (loan, start)
 }
@@ -222,7 +227,7 @@ pub fn send(domain: &mut Domain, publisher: &Publisher, bytes: &[u8]) -> (u32, B
     let (mut receivers, mut blocked) = (0, Blocked::default());
     let (start, len) = (bytes.as_ptr(), bytes.len());
     let code = unsafe {
-        iox2_publisher_send_copy(domain, publisher, start, len, &mut receivers, &mut blocked)
+        iox2ps_publisher_send_copy(domain, publisher, start, len, &mut receivers, &mut blocked)
     };
     (code, blocked)
 }
@@ -234,14 +239,14 @@ pub fn send_value(domain: &mut Domain, publisher: &Publisher, value: u64) -> (u3
 pub fn receive(domain: &mut Domain, subscriber: &Subscriber) -> (Sample, &'static [u8]) {
     let (mut sample, mut start, mut len) = (Sample::default(), null(), 0);
     let code =
-        unsafe { iox2_subscriber_receive(domain, subscriber, &mut sample, &mut start, &mut len) };
+        unsafe { iox2ps_subscriber_receive(domain, subscriber, &mut sample, &mut start, &mut len) };
     assert_eq!(code, OK);
     // SAFETY: the tests read it until it is released.
     (sample, unsafe { slice::from_raw_parts(start, len) })
 }
 
 pub fn release(domain: &mut Domain, sample: &Sample) {
-    assert_eq!(unsafe { iox2_sample_release(domain, sample) }, OK);
+    assert_eq!(unsafe { iox2ps_sample_release(domain, sample) }, OK);
 }
 
 pub fn value_of(bytes: &[u8]) -> u64 {
@@ -296,22 +301,22 @@ impl World {
         let domain = &mut self.domain;
         let (mut start, mut count, mut len) = (null(), 0, 0);
         unsafe {
-            let code = iox2_sample_payload(domain, &self.sample, &mut start, &mut len);
+            let code = iox2ps_sample_payload(domain, &self.sample, &mut start, &mut len);
             assert_eq!((code, start, len), (OK, self.read.as_ptr(), 8));
             assert_eq!(value_of(self.read), 11);
             release(domain, &self.sample);
             take(domain, &self.subscriber, 12, self.waiting.id);
-            let code = iox2_blocked_retry(domain, &self.blocked, 0, &mut count);
+            let code = iox2ps_blocked_retry(domain, &self.blocked, 0, &mut count);
             assert_eq!((code, count), (OK, 1));
             take(domain, &self.subscriber, 13, self.waiting.id);
             self.written.cast::<u64>().write(14);
             let mut blocked = Blocked::default();
-            let code = iox2_loan_send(domain, &self.loan, &mut count, &mut blocked);
+            let code = iox2ps_loan_send(domain, &self.loan, &mut count, &mut blocked);
             assert_eq!((code, count), (OK, 1));
             take(domain, &self.subscriber, 14, self.publisher.id);
-            assert_eq!(iox2_subscriber_close(domain, &self.subscriber), OK);
-            assert_eq!(iox2_publisher_close(domain, &self.publisher), OK);
-            assert_eq!(iox2_publisher_close(domain, &self.waiting), OK);
+            assert_eq!(iox2ps_subscriber_close(domain, &self.subscriber), OK);
+            assert_eq!(iox2ps_publisher_close(domain, &self.publisher), OK);
+            assert_eq!(iox2ps_publisher_close(domain, &self.waiting), OK);
         }
         destroy(domain);
     }

@@ -19,7 +19,7 @@ use std::alloc::Global;
 
 /// Writes the defaults of a domain with this id, for messages of so many bytes.
 #[unsafe(no_mangle)]
-pub extern "C" fn iox2_config_defaults(
+pub extern "C" fn iox2ps_config_defaults(
     config: &mut Config,
     service_id: u64,
     payload_size: usize,
@@ -34,7 +34,7 @@ pub extern "C" fn iox2_config_defaults(
 
 /// Writes what a publisher has that is made without options.
 #[unsafe(no_mangle)]
-pub extern "C" fn iox2_publisher_options_of(config: &Config, options: &mut PublisherOptions)
+pub extern "C" fn iox2ps_publisher_options_of(config: &Config, options: &mut PublisherOptions)
     ensures { publisher_settings (settings_of config.now) options.new ≡ record (default_publisher_settings (settings_of config.now)) { initial_max_slice_len = config.now.payload_size } }
 {
     *options = PublisherOptions::of(config);
@@ -42,7 +42,7 @@ pub extern "C" fn iox2_publisher_options_of(config: &Config, options: &mut Publi
 
 /// Writes what a subscriber has that is made without options.
 #[unsafe(no_mangle)]
-pub extern "C" fn iox2_subscriber_options_of(config: &Config, options: &mut SubscriberOptions)
+pub extern "C" fn iox2ps_subscriber_options_of(config: &Config, options: &mut SubscriberOptions)
     ensures { subscriber_settings options.new ≡ default_subscriber_settings (settings_of config.now) }
 {
     *options = SubscriberOptions::of(config);
@@ -50,7 +50,7 @@ pub extern "C" fn iox2_subscriber_options_of(config: &Config, options: &mut Subs
 
 /// How many slots a publisher with so many loans has.
 #[unsafe(no_mangle)]
-pub extern "C" fn iox2_worst_case_slots(config: &Config, loans: usize, slots: &mut usize) -> u32
+pub extern "C" fn iox2ps_worst_case_slots(config: &Config, loans: usize, slots: &mut usize) -> u32
     ensures slots { result ≡ 0 → slots.new ≡ worst_case (settings_of config.now) loans }
     ensures code { (result ≡ 0) ⊎ (result ≡ 8) }
     ensures fits { (result ≡ 0) ↔ IsTrue (fits (worst_case (settings_of config.now) loans)) }
@@ -67,7 +67,11 @@ pub extern "C" fn iox2_worst_case_slots(config: &Config, loans: usize, slots: &m
 
 /// Makes a domain where there is none.
 #[unsafe(no_mangle)]
-pub extern "C" fn iox2_domain_create(alloc: Global, domain: &mut DomainBox, config: &Config) -> u32
+pub extern "C" fn iox2ps_domain_create(
+    alloc: Global,
+    domain: &mut DomainBox,
+    config: &Config,
+) -> u32
     ensures fresh { result ≡ 0 → Knows (λ kept. Shows kept no_messages (fresh (settings_of config.now))) domain.new.service }
     ensures code { (result ≡ 0) ⊎ (result ≡ 4) ⊎ (result ≡ 5) ⊎ (result ≡ 8) }
     ensures sizes { result ≡ 0 → IfSome domain.new.service (λ it. (it.payload_size ≡ config.now.payload_size) × (it.payload_alignment ≡ config.now.payload_alignment)) }
@@ -95,7 +99,7 @@ pub extern "C" fn iox2_domain_create(alloc: Global, domain: &mut DomainBox, conf
 
 /// Frees the domain, with all that is in it.
 #[unsafe(no_mangle)]
-pub extern "C" fn iox2_domain_destroy(alloc: Global, domain: &mut DomainBox) -> u32
+pub extern "C" fn iox2ps_domain_destroy(alloc: Global, domain: &mut DomainBox) -> u32
     ensures code { (result ≡ 0) ⊎ (result ≡ 1) }
     ensures gone { domain.new.service ≡ None }
     ensures no_domain { (result ≡ 1) ↔ (domain.old.service ≡ None) }

@@ -15,7 +15,7 @@ use std::alloc::Global;
 
 /// Gives a loan back unsent.
 #[unsafe(no_mangle)]
-pub extern "C" fn iox2_loan_discard(
+pub extern "C" fn iox2ps_loan_discard(
     alloc: Global,
     domain: &mut DomainBox,
     loan: &LoanNumbers,
@@ -38,7 +38,7 @@ pub extern "C" fn iox2_loan_discard(
 
 /// Where the bytes of a loan lie, until it is sent or given back.
 #[unsafe(no_mangle)]
-pub extern "C" fn iox2_loan_payload(
+pub extern "C" fn iox2ps_loan_payload(
     alloc: Global,
     domain: &mut DomainBox,
     loan: &LoanNumbers,

@@ -19,7 +19,7 @@ use std::alloc::Global;
 
 /// Makes a publisher, as the settings say.
 #[unsafe(no_mangle)]
-pub extern "C" fn iox2_publisher_create(
+pub extern "C" fn iox2ps_publisher_create(
     alloc: Global,
     domain: &mut DomainBox,
     publisher: &mut PublisherNumbers,
@@ -42,7 +42,7 @@ pub extern "C" fn iox2_publisher_create(
 
 /// Makes a publisher with these options.
 #[unsafe(no_mangle)]
-pub extern "C" fn iox2_publisher_create_with(
+pub extern "C" fn iox2ps_publisher_create_with(
     alloc: Global,
     domain: &mut DomainBox,
     options: &PublisherOptions,
@@ -70,7 +70,7 @@ pub extern "C" fn iox2_publisher_create_with(
 
 /// Closes a publisher.
 #[unsafe(no_mangle)]
-pub extern "C" fn iox2_publisher_close(
+pub extern "C" fn iox2ps_publisher_close(
     alloc: Global,
     domain: &mut DomainBox,
     publisher: &PublisherNumbers,
@@ -93,7 +93,7 @@ pub extern "C" fn iox2_publisher_close(
 
 /// Lends a message of so many bytes, each of which is 0, and says where they lie.
 #[unsafe(no_mangle)]
-pub extern "C" fn iox2_publisher_loan(
+pub extern "C" fn iox2ps_publisher_loan(
     alloc: Global,
     domain: &mut DomainBox,
     publisher: &PublisherNumbers,
@@ -122,7 +122,7 @@ pub extern "C" fn iox2_publisher_loan(
 /// Lends a message of so many bytes, whatever they are, and says where they lie. It costs the same for
 /// any length that lay in the slot before.
 #[unsafe(no_mangle)]
-pub extern "C" fn iox2_publisher_loan_uninit(
+pub extern "C" fn iox2ps_publisher_loan_uninit(
     alloc: Global,
     domain: &mut DomainBox,
     publisher: &PublisherNumbers,

@@ -28,7 +28,7 @@ use std::ptr;
 
 /// The text of a code or of a warning's kind, which ends in a zero byte, and its length without that.
 #[unsafe(no_mangle)]
-pub extern "C" fn iox2_error_text_at(code: u32, text: &mut *const u8, len: &mut usize)
+pub extern "C" fn iox2ps_error_text_at(code: u32, text: &mut *const u8, len: &mut usize)
     ensures { len.new ≡ length (text_numbered code) }
 {
     let bytes = text_of(code);
@@ -38,7 +38,7 @@ pub extern "C" fn iox2_error_text_at(code: u32, text: &mut *const u8, len: &mut 
 
 /// Makes and removes a publisher's connections.
 #[unsafe(no_mangle)]
-pub extern "C" fn iox2_publisher_update_connections(
+pub extern "C" fn iox2ps_publisher_update_connections(
     alloc: Global,
     domain: &mut DomainBox,
     publisher: &PublisherNumbers,
@@ -59,7 +59,7 @@ pub extern "C" fn iox2_publisher_update_connections(
 
 /// Makes and removes a subscriber's connections.
 #[unsafe(no_mangle)]
-pub extern "C" fn iox2_subscriber_update_connections(
+pub extern "C" fn iox2ps_subscriber_update_connections(
     alloc: Global,
     domain: &mut DomainBox,
     subscriber: &SubscriberNumbers,
@@ -80,7 +80,7 @@ pub extern "C" fn iox2_subscriber_update_connections(
 
 /// Whether a message waits for a subscriber, after an update of its connections.
 #[unsafe(no_mangle)]
-pub extern "C" fn iox2_subscriber_has_samples(
+pub extern "C" fn iox2ps_subscriber_has_samples(
     alloc: Global,
     domain: &mut DomainBox,
     subscriber: &SubscriberNumbers,
@@ -104,7 +104,7 @@ pub extern "C" fn iox2_subscriber_has_samples(
 
 /// Whether a send of a publisher waits.
 #[unsafe(no_mangle)]
-pub extern "C" fn iox2_publisher_is_blocked(
+pub extern "C" fn iox2ps_publisher_is_blocked(
     alloc: Global,
     domain: &mut DomainBox,
     publisher: &PublisherNumbers,
@@ -128,7 +128,7 @@ pub extern "C" fn iox2_publisher_is_blocked(
 
 /// One of the domain's last warnings, the oldest first.
 #[unsafe(no_mangle)]
-pub extern "C" fn iox2_domain_warning(
+pub extern "C" fn iox2ps_domain_warning(
     alloc: Global,
     domain: &mut DomainBox,
     index: usize,
@@ -151,7 +151,7 @@ pub extern "C" fn iox2_domain_warning(
 
 /// How many of its last warnings the domain has.
 #[unsafe(no_mangle)]
-pub extern "C" fn iox2_domain_warning_count(
+pub extern "C" fn iox2ps_domain_warning_count(
     alloc: Global,
     domain: &mut DomainBox,
     count: &mut usize,
@@ -172,7 +172,7 @@ pub extern "C" fn iox2_domain_warning_count(
 
 /// How often memory for a connection was refused.
 #[unsafe(no_mangle)]
-pub extern "C" fn iox2_domain_refused_connections(
+pub extern "C" fn iox2ps_domain_refused_connections(
     alloc: Global,
     domain: &mut DomainBox,
     count: &mut u64,
@@ -193,7 +193,7 @@ pub extern "C" fn iox2_domain_refused_connections(
 
 /// How many connections the domain keeps.
 #[unsafe(no_mangle)]
-pub extern "C" fn iox2_domain_connection_count(
+pub extern "C" fn iox2ps_domain_connection_count(
     alloc: Global,
     domain: &mut DomainBox,
     count: &mut usize,
@@ -214,7 +214,7 @@ pub extern "C" fn iox2_domain_connection_count(
 
 /// Reads the domain's settings back.
 #[unsafe(no_mangle)]
-pub extern "C" fn iox2_domain_config(
+pub extern "C" fn iox2ps_domain_config(
     alloc: Global,
     domain: &mut DomainBox,
     config: &mut Config,
@@ -236,7 +236,7 @@ pub extern "C" fn iox2_domain_config(
 
 /// How many books of slots the domain keeps.
 #[unsafe(no_mangle)]
-pub extern "C" fn iox2_domain_book_count(
+pub extern "C" fn iox2ps_domain_book_count(
     alloc: Global,
     domain: &mut DomainBox,
     count: &mut usize,

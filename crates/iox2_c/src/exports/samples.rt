@@ -15,7 +15,7 @@ use std::alloc::Global;
 
 /// Where the bytes of a message lie, until it is given back.
 #[unsafe(no_mangle)]
-pub extern "C" fn iox2_sample_payload(
+pub extern "C" fn iox2ps_sample_payload(
     alloc: Global,
     domain: &mut DomainBox,
     sample: &SampleNumbers,
@@ -40,7 +40,7 @@ pub extern "C" fn iox2_sample_payload(
 
 /// Copies the bytes of a message.
 #[unsafe(no_mangle)]
-pub extern "C" fn iox2_sample_copy(
+pub extern "C" fn iox2ps_sample_copy(
     alloc: Global,
     domain: &mut DomainBox,
     sample: &SampleNumbers,
@@ -70,7 +70,7 @@ pub extern "C" fn iox2_sample_copy(
 
 /// Where a message comes from.
 #[unsafe(no_mangle)]
-pub extern "C" fn iox2_sample_header(
+pub extern "C" fn iox2ps_sample_header(
     alloc: Global,
     domain: &mut DomainBox,
     sample: &SampleNumbers,
@@ -94,7 +94,7 @@ pub extern "C" fn iox2_sample_header(
 
 /// Gives a message back.
 #[unsafe(no_mangle)]
-pub extern "C" fn iox2_sample_release(
+pub extern "C" fn iox2ps_sample_release(
     alloc: Global,
     domain: &mut DomainBox,
     sample: &SampleNumbers,

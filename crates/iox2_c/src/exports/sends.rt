@@ -18,7 +18,7 @@ use std::alloc::Global;
 
 /// Sends a message, and says how many subscribers took it or which send waits.
 #[unsafe(no_mangle)]
-pub extern "C" fn iox2_loan_send(
+pub extern "C" fn iox2ps_loan_send(
     alloc: Global,
     domain: &mut DomainBox,
     loan: &LoanNumbers,
@@ -47,7 +47,7 @@ pub extern "C" fn iox2_loan_send(
 
 /// Sends a copy of the bytes, and says how many subscribers took it or which send waits.
 #[unsafe(no_mangle)]
-pub extern "C" fn iox2_publisher_send_copy(
+pub extern "C" fn iox2ps_publisher_send_copy(
     alloc: Global,
     domain: &mut DomainBox,
     publisher: &PublisherNumbers,
@@ -75,7 +75,7 @@ pub extern "C" fn iox2_publisher_send_copy(
 
 /// Tries a send again that waits.
 #[unsafe(no_mangle)]
-pub extern "C" fn iox2_blocked_retry(
+pub extern "C" fn iox2ps_blocked_retry(
     alloc: Global,
     domain: &mut DomainBox,
     blocked: &LoanNumbers,
@@ -100,7 +100,7 @@ pub extern "C" fn iox2_blocked_retry(
 
 /// Gives up the subscriber for which a send waits.
 #[unsafe(no_mangle)]
-pub extern "C" fn iox2_blocked_give_up(
+pub extern "C" fn iox2ps_blocked_give_up(
     alloc: Global,
     domain: &mut DomainBox,
     blocked: &LoanNumbers,

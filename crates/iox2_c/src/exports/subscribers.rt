@@ -21,7 +21,7 @@ use std::alloc::Global;
 
 /// Makes a subscriber, as the settings say.
 #[unsafe(no_mangle)]
-pub extern "C" fn iox2_subscriber_create(
+pub extern "C" fn iox2ps_subscriber_create(
     alloc: Global,
     domain: &mut DomainBox,
     subscriber: &mut SubscriberNumbers,
@@ -44,7 +44,7 @@ pub extern "C" fn iox2_subscriber_create(
 
 /// Makes a subscriber with these options.
 #[unsafe(no_mangle)]
-pub extern "C" fn iox2_subscriber_create_with(
+pub extern "C" fn iox2ps_subscriber_create_with(
     alloc: Global,
     domain: &mut DomainBox,
     options: &SubscriberOptions,
@@ -71,7 +71,7 @@ pub extern "C" fn iox2_subscriber_create_with(
 
 /// Closes a subscriber.
 #[unsafe(no_mangle)]
-pub extern "C" fn iox2_subscriber_close(
+pub extern "C" fn iox2ps_subscriber_close(
     alloc: Global,
     domain: &mut DomainBox,
     subscriber: &SubscriberNumbers,
@@ -93,7 +93,7 @@ pub extern "C" fn iox2_subscriber_close(
 
 /// Receives a message, and says where its bytes lie.
 #[unsafe(no_mangle)]
-pub extern "C" fn iox2_subscriber_receive(
+pub extern "C" fn iox2ps_subscriber_receive(
     alloc: Global,
     domain: &mut DomainBox,
     subscriber: &SubscriberNumbers,
@@ -124,7 +124,7 @@ pub extern "C" fn iox2_subscriber_receive(
 
 /// Receives a message, copies its bytes and gives it back. One for which there is no room stays borrowed.
 #[unsafe(no_mangle)]
-pub extern "C" fn iox2_subscriber_receive_copy(
+pub extern "C" fn iox2ps_subscriber_receive_copy(
     alloc: Global,
     domain: &mut DomainBox,
     subscriber: &SubscriberNumbers,

@@ -1,0 +1,104 @@
+/* One thread sends, and two receive, under a lock that this program brings: what iox2_pubsub.h says of threads, in the
+ * smallest form. Messages are written and read without the lock. Nothing is lost, since a send waits where a buffer is
+ * full, and what waits, waits at a condition variable. */
+#include "iox2_pubsub.h"
+#include <pthread.h>
+#include <stdio.h>
+#include <stdlib.h>
+
+typedef struct { uint64_t number; double values[7]; } reading_t;
+
+enum { MESSAGES = 1000, CONSUMERS = 2 };
+
+static pthread_mutex_t lock = PTHREAD_MUTEX_INITIALIZER;
+static pthread_cond_t changed = PTHREAD_COND_INITIALIZER; /* a message came, or there is room */
+static iox2ps_domain_t domain;
+static iox2ps_publisher_t publisher;
+
+static void check(int is_so, const char *words) {
+  if (is_so) return;
+  fprintf(stderr, "%s\n", words);
+  exit(1);
+}
+
+/* Each call of the domain stands between these two, and a thread that has done something others may wait for says so. */
+static void begin(void) { check(pthread_mutex_lock(&lock) == 0, "no lock"); }
+static void end(int may_help) {
+  check(pthread_mutex_unlock(&lock) == 0, "no lock");
+  if (may_help) check(pthread_cond_broadcast(&changed) == 0, "no signal");
+}
+static void wait_for_change(void) { check(pthread_cond_wait(&changed, &lock) == 0, "no wait"); }
+
+static void *produce(void *unused) {
+  (void)unused;
+  for (uint64_t number = 0; number < MESSAGES; number++) {
+    iox2ps_loan_t loan;
+    iox2ps_blocked_t blocked;
+    void *payload;
+    size_t receivers = 0;
+
+    begin();
+    uint32_t code = iox2ps_publisher_loan(&domain, &publisher, sizeof(reading_t), &loan, &payload);
+    end(0);
+    check(code == IOX2PS_OK, iox2ps_error_text(code));
+
+    *(reading_t *)payload = (reading_t){.number = number, .values = {0.5}}; /* without the lock */
+
+    begin();
+    code = iox2ps_loan_send(&domain, &loan, &receivers, &blocked);
+    while (code == IOX2PS_BLOCKED) {
+      pthread_cond_broadcast(&changed); /* it may have reached others */
+      wait_for_change();
+      code = iox2ps_blocked_retry(&domain, &blocked, 0, &receivers);
+    }
+    end(1);
+    check(code == IOX2PS_OK && receivers == CONSUMERS, "a message doesn't reach everybody");
+  }
+  return NULL;
+}
+
+static void *consume(void *given) {
+  const iox2ps_subscriber_t *subscriber = given;
+  for (uint64_t number = 0; number < MESSAGES; number++) {
+    iox2ps_sample_t sample;
+    const void *payload;
+    size_t len;
+
+    begin();
+    uint32_t code = iox2ps_subscriber_receive(&domain, subscriber, &sample, &payload, &len);
+    while (code == IOX2PS_NO_SAMPLE) {
+      wait_for_change();
+      code = iox2ps_subscriber_receive(&domain, subscriber, &sample, &payload, &len);
+    }
+    end(1);
+    check(code == IOX2PS_OK, iox2ps_error_text(code));
+
+    check(((const reading_t *)payload)->number == number, "a message isn't the next"); /* without the lock */
+
+    begin();
+    code = iox2ps_sample_release(&domain, &sample);
+    end(0);
+    check(code == IOX2PS_OK, iox2ps_error_text(code));
+  }
+  return NULL;
+}
+
+int main(void) {
+  iox2ps_config_t config;
+  iox2ps_subscriber_t subscribers[CONSUMERS];
+  pthread_t producer, consumers[CONSUMERS];
+  iox2ps_config_defaults(&config, 1, sizeof(reading_t), _Alignof(reading_t));
+  config.enable_safe_overflow = 0;
+  check(iox2ps_domain_create(&domain, &config) == IOX2PS_OK, "no domain");
+  check(iox2ps_publisher_create(&domain, &publisher) == IOX2PS_OK, "no publisher");
+  for (int i = 0; i < CONSUMERS; i++) {
+    check(iox2ps_subscriber_create(&domain, &subscribers[i]) == IOX2PS_OK, "no subscriber");
+  }
+  for (int i = 0; i < CONSUMERS; i++) check(pthread_create(&consumers[i], NULL, consume, &subscribers[i]) == 0, "no thread");
+  check(pthread_create(&producer, NULL, produce, NULL) == 0, "no thread");
+  pthread_join(producer, NULL);
+  for (int i = 0; i < CONSUMERS; i++) pthread_join(consumers[i], NULL);
+  check(iox2ps_domain_destroy(&domain) == IOX2PS_OK, "no domain"); /* all threads have ended */
+  printf("%d messages reached %d threads\n", MESSAGES, CONSUMERS);
+  return 0;
+}

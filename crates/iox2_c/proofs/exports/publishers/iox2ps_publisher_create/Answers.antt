@@ -1,0 +1,11 @@
+use Rattle.std.proofs.Common.{ap, sym, ◌∙◌, arith}
+use Rattle.std.specs.declared.option.Option.TheVariants.{Some}
+use Rattle.iox2_c.specs.Serving.{Serving}
+use Rattle.iox2_c.proofs.BecomesSteps.{turns}
+use Rattle.iox2_c.proofs.exports.publishers.iox2ps_publisher_create.Goals as goal
+
+pub returns-clause-creates : goal.returns-clause-creates
+returns-clause-creates c = λ ok. turns _ _ _ c.deref_mut.result.now c.create-code.new.service (c.in-Some.ensures.taken ∙ sym (ap {A = Serving} Some c.deref_mut.ensures.value)) c.put.ensures (c.create-code.ensures.creates ok, c.create-code.ensures.reads ok)
+
+pub returns-clause-errors : goal.returns-clause-errors
+returns-clause-errors c = λ some. let failed = c.create-code.ensures.errors (omega (arith, some)) in (failed.0, failed.1, turns _ _ _ c.deref_mut.result.now c.create-code.new.service (c.in-Some.ensures.taken ∙ sym (ap {A = Serving} Some c.deref_mut.ensures.value)) c.put.ensures failed.2)
