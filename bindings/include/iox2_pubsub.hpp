@@ -18,6 +18,7 @@
 #include <cstdint>
 #include <cstdio>
 #include <cstdlib>
+#include <cstring>
 #include <limits>
 #include <new>
 #include <optional>
@@ -134,11 +135,25 @@ template <typename P, typename M = OneThread> class Loan;
 template <typename P, typename M = OneThread> class Sample;
 template <typename P, typename M = OneThread> class BlockedSend;
 
-/* Who may go on once a call was made: those who wait for a message, and those whose send waits for room. */
-enum class Wakes { Nobody, Receivers, Senders, Both };
+/* For what a thread waits: a message, room for a blocked send, the end of its publisher's earlier send, or a loan. */
+enum class Waits : unsigned { Message = 1, Room = 2, Free = 4, Loan = 8 };
+
+/* What a call may have brought to those who wait: a sum of the same. */
+using Brings = unsigned;
+constexpr Brings operator|(Waits one, Waits other) { return static_cast<Brings>(one) | static_cast<Brings>(other); }
+constexpr Brings operator|(Brings some, Waits other) { return some | static_cast<Brings>(other); }
+constexpr Brings only(Waits one) { return static_cast<Brings>(one); }
 
 /* Until when a call waits, or for good. */
 using Until = std::optional<std::chrono::steady_clock::time_point>;
+
+/* When so much time has passed; for good, where that is beyond the clock. */
+inline Until after(std::chrono::nanoseconds timeout) {
+  using Clock = std::chrono::steady_clock;
+  Clock::time_point now = Clock::now();
+  if (timeout > Clock::time_point::max() - now) return std::nullopt;
+  return now + std::chrono::duration_cast<Clock::duration>(timeout);
+}
 
 /* The handles of a domain are for one thread at a time, and nothing is locked. */
 struct OneThread {
@@ -151,7 +166,7 @@ struct OneThread {
     std::size_t count_ = 1;
   };
 
-  template <typename Call> std::uint32_t call(Wakes, Call &&make) { return make(); }
+  template <typename Call> std::uint32_t call(Brings, Call &&make) { return make(); }
 };
 
 namespace detail {
@@ -227,13 +242,18 @@ public:
   Shared<M> *operator->() const { return shared_; }
 
   /* Makes calls with no other between them, and returns the code of the last. No function of a user runs there. */
-  template <typename Call> std::uint32_t call(Wakes wakes, Call &&make) const {
-    return shared_->threads.call(wakes, [&] { return make(&shared_->domain); });
+  template <typename Call> std::uint32_t call(Brings brings, Call &&make) const {
+    return shared_->threads.call(brings, [&] { return make(&shared_->domain); });
   }
 
-  /* Makes them again until their code is another than this one, each time when something came that may help. */
-  template <typename Call> std::uint32_t wait(std::uint32_t code, Wakes wakes, Until until, Call &&make) const {
-    return shared_->threads.wait(code, wakes, until, [&] { return make(&shared_->domain); });
+  /* The same of calls that bring nothing to anybody. */
+  template <typename Call> std::uint32_t ask(Call &&make) const { return call(0, std::forward<Call>(make)); }
+
+  /* Makes them again as long as their code says that the port still waits, each time when something came that may help. */
+  template <typename Call>
+  std::uint32_t wait(Waits what, const iox2ps_wide_t &port, Brings brings, Until until, Call &&make) const {
+    static_assert(!std::is_same_v<M, OneThread>, "only the handles of a domain for several threads wait");
+    return shared_->threads.wait(what, id_of(port), brings, until, [&] { return make(&shared_->domain); });
   }
 
 private:
@@ -346,7 +366,7 @@ public:
   Result<std::optional<std::size_t>> retry(std::chrono::nanoseconds elapsed = {}) {
     if (!hold_) return Error::NotLive;
     std::size_t count = 0;
-    std::uint32_t code = hold_.call(Wakes::Both, [&](iox2ps_domain_t *domain) { return again(domain, elapsed, &count); });
+    std::uint32_t code = hold_.call(brings, [&](iox2ps_domain_t *domain) { return again(domain, elapsed, &count); });
     return ended(code, count);
   }
 
@@ -356,20 +376,20 @@ public:
     if (!hold_) return Error::NotLive;
     std::size_t count = 0;
     auto started = std::chrono::steady_clock::now();
-    std::uint32_t code = hold_.wait(IOX2PS_BLOCKED, Wakes::Both, until, [&](iox2ps_domain_t *domain) {
+    std::uint32_t code = hold_.wait(Waits::Room, blocked_.publisher, brings, until, [&](iox2ps_domain_t *domain) {
       return again(domain, std::chrono::steady_clock::now() - started, &count);
     });
     return ended(code, count);
   }
   Result<std::optional<std::size_t>> timed_retry(std::chrono::nanoseconds timeout) {
-    return blocking_retry(std::chrono::steady_clock::now() + timeout);
+    return blocking_retry(after(timeout));
   }
 
   /* Gives up the subscriber that it waits for, and goes on to the others. Answers as retry. */
   Result<std::optional<std::size_t>> give_up() {
     if (!hold_) return Error::NotLive;
     std::size_t count = 0;
-    std::uint32_t code = hold_.call(Wakes::Both, [&](iox2ps_domain_t *domain) {
+    std::uint32_t code = hold_.call(brings, [&](iox2ps_domain_t *domain) {
       return over(iox2ps_blocked_give_up(domain, &blocked_, &count));
     });
     return ended(code, count);
@@ -397,9 +417,25 @@ private:
     while (hold_) static_cast<void>(give_up());
   }
 
+  /* Others may have got the message on its way, and where it has ended its publisher is free, and its slot perhaps. */
+  static constexpr Brings brings = Waits::Message | Waits::Free | Waits::Loan;
+
   detail::Hold<M> hold_;
   iox2ps_blocked_t blocked_;
 };
+
+namespace detail {
+
+/* A send that is blocked is tried again until it has ended, or until then. */
+template <typename P, typename M> Result<Sent<P, M>> reach_all(Result<Sent<P, M>> sent, Until until) {
+  if (!sent || !sent->blocked()) return sent;
+  auto retried = sent->blocked()->blocking_retry(until);
+  if (!retried) return retried.error();
+  if (!*retried) return sent;
+  return Sent<P, M>(**retried);
+}
+
+} // namespace detail
 
 /* A message that was lent: it is written where it lies, by *, -> or as a slice, and sent. It is given back when
  * it is destroyed. */
@@ -431,7 +467,7 @@ public:
     if (!hold_) return Error::NotLive;
     std::size_t count = 0;
     iox2ps_blocked_t blocked;
-    std::uint32_t code = hold_.call(Wakes::Receivers, [&](iox2ps_domain_t *domain) {
+    std::uint32_t code = hold_.call(Waits::Message | Waits::Loan, [&](iox2ps_domain_t *domain) {
       return iox2ps_loan_send(domain, &loan_, &count, &blocked);
     });
     return sent(code, count, blocked);
@@ -443,24 +479,20 @@ public:
     if (!hold_) return Error::NotLive;
     std::size_t count = 0;
     iox2ps_blocked_t blocked;
-    std::uint32_t code = hold_.wait(IOX2PS_PUBLISHER_IS_BLOCKED, Wakes::Receivers, until, [&](iox2ps_domain_t *domain) {
+    Brings brings = Waits::Message | Waits::Loan;
+    std::uint32_t code = hold_.wait(Waits::Free, loan_.publisher, brings, until, [&](iox2ps_domain_t *domain) {
       return iox2ps_loan_send(domain, &loan_, &count, &blocked);
     });
-    auto sent_now = sent(code, count, blocked);
-    if (!sent_now || !sent_now->blocked()) return sent_now;
-    auto retried = sent_now->blocked()->blocking_retry(until);
-    if (!retried) return retried.error();
-    if (!*retried) return sent_now;
-    return Sent<P, M>(**retried);
+    return detail::reach_all(sent(code, count, blocked), until);
   }
   Result<Sent<P, M>> timed_send(std::chrono::nanoseconds timeout) {
-    return blocking_send(std::chrono::steady_clock::now() + timeout);
+    return blocking_send(after(timeout));
   }
 
   /* Gives the loan back unsent. */
   void discard() {
     if (!hold_) return;
-    hold_.call(Wakes::Nobody, [&](iox2ps_domain_t *domain) { return iox2ps_loan_discard(domain, &loan_); });
+    hold_.call(only(Waits::Loan), [&](iox2ps_domain_t *domain) { return iox2ps_loan_discard(domain, &loan_); });
     hold_ = detail::Hold<M>();
   }
 
@@ -508,7 +540,7 @@ public:
   Result<Header> header() const {
     if (!hold_) return Error::NotLive;
     iox2ps_header_t header;
-    std::uint32_t code = hold_.call(Wakes::Nobody, [&](iox2ps_domain_t *domain) {
+    std::uint32_t code = hold_.ask([&](iox2ps_domain_t *domain) {
       return iox2ps_sample_header(domain, &sample_, &header);
     });
     if (code != IOX2PS_OK) return detail::error_of(code);
@@ -519,11 +551,13 @@ public:
   /* Gives the message back. */
   void release() {
     if (!hold_) return;
-    hold_.call(Wakes::Nobody, [&](iox2ps_domain_t *domain) { return iox2ps_sample_release(domain, &sample_); });
+    hold_.call(only(Waits::Loan), [&](iox2ps_domain_t *domain) { return iox2ps_sample_release(domain, &sample_); });
     hold_ = detail::Hold<M>();
   }
 
 private:
+  friend class Subscriber<P, M>;
+
   detail::Hold<M> hold_;
   iox2ps_sample_t sample_;
 };
@@ -562,78 +596,155 @@ public:
 
   /* Lends a message with this value. */
   template <typename Q = P, std::enable_if_t<!detail::is_slice<Q>, int> = 0> Result<Loan<P, M>> loan(const Element &value) {
-    return lend(1, [&](std::uint8_t *bytes) { return new (bytes) Element(value); });
+    return lend(1, begin_value(value), at_once());
   }
 
   /* Lends a message of so many values, each with its default. */
   template <typename Q = P, std::enable_if_t<detail::is_slice<Q>, int> = 0> Result<Loan<P, M>> loan_slice(std::size_t len) {
-    return lend(len, [&](std::uint8_t *bytes) {
-      for (std::size_t at = 0; at < len; at++) new (bytes + at * sizeof(Element)) Element();
-      return reinterpret_cast<Element *>(bytes);
-    });
+    return lend(len, begin_values(len), at_once());
   }
 
   /* Lends a message with an unspecified value: one that a message had before, or zeros. */
   template <typename Q = P, std::enable_if_t<!detail::is_slice<Q>, int> = 0> Result<Loan<P, M>> loan_uninit() {
-    return lend(1, [](std::uint8_t *bytes) { return reinterpret_cast<Element *>(bytes); });
+    return lend(1, begin_nothing(), at_once());
   }
 
   /* Lends a message of so many unspecified values. It costs the same for any length that was lent before. */
   template <typename Q = P, std::enable_if_t<detail::is_slice<Q>, int> = 0> Result<Loan<P, M>> loan_slice_uninit(std::size_t len) {
-    return lend(len, [](std::uint8_t *bytes) { return reinterpret_cast<Element *>(bytes); });
+    return lend(len, begin_nothing(), at_once());
   }
 
-  /* Sends a copy of the value. */
+  /* Sends a copy of the value: the loan, the copy and the send are made with no other call between. */
   template <typename Q = P, std::enable_if_t<!detail::is_slice<Q>, int> = 0> Result<Sent<P, M>> send_copy(const Element &value) {
-    return send(loan(value));
+    return send_copy_of(&value, 1);
   }
 
   /* Sends a copy of the values. */
   template <typename Q = P, std::enable_if_t<detail::is_slice<Q>, int> = 0>
   Result<Sent<P, M>> send_copy(const Element *values, std::size_t len) {
-    return send(lend(len, [&](std::uint8_t *bytes) {
-      for (std::size_t at = 0; at < len; at++) new (bytes + at * sizeof(Element)) Element(values[at]);
-      return reinterpret_cast<Element *>(bytes);
-    }));
+    return send_copy_of(values, len);
+  }
+
+  /* For several threads alone. A loan that waits while an earlier send of the publisher does, while as many loans are out
+   * as it may have, or while no slot is free; or, where a time is given, until that has passed, or until waits are
+   * stopped. The error then is that of the last try. A message that is longer than the publisher's greatest is refused
+   * at once. Where memory grows, it also waits while memory is refused. */
+  template <typename Q = P, std::enable_if_t<!detail::is_slice<Q>, int> = 0> Result<Loan<P, M>> blocking_loan(Until until = {}) {
+    return lend(1, begin_value(Element()), waiting(until));
+  }
+  template <typename Q = P, std::enable_if_t<!detail::is_slice<Q>, int> = 0> Result<Loan<P, M>> blocking_loan_uninit(Until until = {}) {
+    return lend(1, begin_nothing(), waiting(until));
+  }
+  template <typename Q = P, std::enable_if_t<detail::is_slice<Q>, int> = 0>
+  Result<Loan<P, M>> blocking_loan_slice(std::size_t len, Until until = {}) {
+    return lend(len, begin_values(len), waiting(until));
+  }
+  template <typename Q = P, std::enable_if_t<detail::is_slice<Q>, int> = 0>
+  Result<Loan<P, M>> blocking_loan_slice_uninit(std::size_t len, Until until = {}) {
+    return lend(len, begin_nothing(), waiting(until));
+  }
+  template <typename Q = P, std::enable_if_t<!detail::is_slice<Q>, int> = 0>
+  Result<Loan<P, M>> timed_loan(std::chrono::nanoseconds timeout) {
+    return blocking_loan(after(timeout));
+  }
+  template <typename Q = P, std::enable_if_t<detail::is_slice<Q>, int> = 0>
+  Result<Loan<P, M>> timed_loan_slice(std::size_t len, std::chrono::nanoseconds timeout) {
+    return blocking_loan_slice(len, after(timeout));
+  }
+
+  /* For several threads alone: sends a copy as soon as there is a loan for it, and waits until it has reached everybody;
+   * or, where a time is given, until that has passed, or until waits are stopped. */
+  template <typename Q = P, std::enable_if_t<!detail::is_slice<Q>, int> = 0>
+  Result<Sent<P, M>> blocking_send_copy(const Element &value, Until until = {}) {
+    return send_copy_until(&value, 1, until);
+  }
+  template <typename Q = P, std::enable_if_t<detail::is_slice<Q>, int> = 0>
+  Result<Sent<P, M>> blocking_send_copy(const Element *values, std::size_t len, Until until = {}) {
+    return send_copy_until(values, len, until);
+  }
+  template <typename Q = P, std::enable_if_t<!detail::is_slice<Q>, int> = 0>
+  Result<Sent<P, M>> timed_send_copy(const Element &value, std::chrono::nanoseconds timeout) {
+    return send_copy_until(&value, 1, after(timeout));
   }
 
   /* Whether a send waits for a subscriber whose buffer is full. */
   bool is_blocked() const {
     std::uint32_t answer = 0;
     if (!hold_) return false;
-    hold_.call(Wakes::Nobody, [&](iox2ps_domain_t *domain) { return iox2ps_publisher_is_blocked(domain, &port_, &answer); });
+    hold_.ask([&](iox2ps_domain_t *domain) { return iox2ps_publisher_is_blocked(domain, &port_, &answer); });
     return answer != 0;
   }
 
   /* Makes the connections with subscribers that came, as each send does first. */
   Done update_connections() {
     if (!hold_) return Error::NotLive;
-    return detail::done(hold_.call(Wakes::Receivers, [&](iox2ps_domain_t *domain) {
+    return detail::done(hold_.call(only(Waits::Message), [&](iox2ps_domain_t *domain) {
       return iox2ps_publisher_update_connections(domain, &port_);
     }));
   }
 
   void close() {
     if (!hold_) return;
-    hold_.call(Wakes::Receivers, [&](iox2ps_domain_t *) { return hold_->close_publisher(port_); });
+    hold_.call(only(Waits::Message), [&](iox2ps_domain_t *) { return hold_->close_publisher(port_); });
     hold_ = detail::Hold<M>();
   }
 
 private:
-  template <typename Begin> Result<Loan<P, M>> lend(std::size_t len, Begin begin) {
+  /* How a loan's bytes become its values. */
+  static auto begin_value(const Element &value) {
+    return [&value](std::uint8_t *bytes) { return new (bytes) Element(value); };
+  }
+  static auto begin_values(std::size_t len) {
+    return [len](std::uint8_t *bytes) {
+      for (std::size_t at = 0; at < len; at++) new (bytes + at * sizeof(Element)) Element();
+      return reinterpret_cast<Element *>(bytes);
+    };
+  }
+  static auto begin_nothing() {
+    return [](std::uint8_t *bytes) { return reinterpret_cast<Element *>(bytes); };
+  }
+
+  /* How a call is made that may be refused now: once, or again whenever something came that may help. */
+  auto at_once(Brings brings = 0) const {
+    return [this, brings](auto &&make) { return hold_.call(brings, make); };
+  }
+  auto waiting(Until until, Brings brings = 0) const {
+    return [this, until, brings](auto &&make) { return hold_.wait(Waits::Loan, port_.id, brings, until, make); };
+  }
+
+  template <typename Begin, typename Make> Result<Loan<P, M>> lend(std::size_t len, Begin begin, Make make) {
     if (!hold_) return Error::NotLive;
     iox2ps_loan_t loan;
     void *bytes = nullptr;
-    std::uint32_t code = hold_.call(Wakes::Nobody, [&](iox2ps_domain_t *domain) {
+    std::uint32_t code = make([&](iox2ps_domain_t *domain) {
       return iox2ps_publisher_loan_uninit(domain, &port_, Config<P>::bytes(len), &loan, &bytes);
     });
     if (code != IOX2PS_OK) return detail::error_of(code);
     return Loan<P, M>(hold_, loan, begin(static_cast<std::uint8_t *>(bytes)), len);
   }
 
-  static Result<Sent<P, M>> send(Result<Loan<P, M>> loan) {
-    if (!loan) return loan.error();
-    return loan->send();
+  Result<Sent<P, M>> send_copy_of(const Element *values, std::size_t len) {
+    return copied(values, len, at_once(Waits::Message | Waits::Loan));
+  }
+  Result<Sent<P, M>> send_copy_until(const Element *values, std::size_t len, Until until) {
+    return detail::reach_all(copied(values, len, waiting(until, Waits::Message | Waits::Loan)), until);
+  }
+
+  template <typename Make> Result<Sent<P, M>> copied(const Element *values, std::size_t len, Make make) {
+    if (!hold_) return Error::NotLive;
+    std::size_t count = 0;
+    iox2ps_blocked_t blocked;
+    std::uint32_t code = make([&](iox2ps_domain_t *domain) {
+      iox2ps_loan_t loan;
+      void *bytes = nullptr;
+      std::uint32_t lent = iox2ps_publisher_loan_uninit(domain, &port_, Config<P>::bytes(len), &loan, &bytes);
+      if (lent != IOX2PS_OK) return lent;
+      if (len > 0) std::memcpy(bytes, values, len * sizeof(Element));
+      return iox2ps_loan_send(domain, &loan, &count, &blocked);
+    });
+    if (code == IOX2PS_OK) return Sent<P, M>(count);
+    if (code == IOX2PS_BLOCKED) return Sent<P, M>(BlockedSend<P, M>(hold_, blocked));
+    return detail::error_of(code);
   }
 
   detail::Hold<M> hold_;
@@ -666,7 +777,7 @@ public:
   Result<std::optional<Sample<P, M>>> receive() {
     if (!hold_) return Error::NotLive;
     Got got;
-    std::uint32_t code = hold_.call(Wakes::Senders, [&](iox2ps_domain_t *domain) { return next(domain, got); });
+    std::uint32_t code = hold_.call(only(Waits::Room), [&](iox2ps_domain_t *domain) { return next(domain, got); });
     return received(code, got);
   }
 
@@ -675,20 +786,62 @@ public:
   Result<std::optional<Sample<P, M>>> blocking_receive(Until until = {}) {
     if (!hold_) return Error::NotLive;
     Got got;
-    std::uint32_t code = hold_.wait(IOX2PS_NO_SAMPLE, Wakes::Senders, until, [&](iox2ps_domain_t *domain) {
+    std::uint32_t code = hold_.wait(Waits::Message, port_.id, only(Waits::Room), until, [&](iox2ps_domain_t *domain) {
       return next(domain, got);
     });
     return received(code, got);
   }
   Result<std::optional<Sample<P, M>>> timed_receive(std::chrono::nanoseconds timeout) {
-    return blocking_receive(std::chrono::steady_clock::now() + timeout);
+    return blocking_receive(after(timeout));
+  }
+
+  /* The next message as a copy: a receive, a copy and a release with no other call between. */
+  template <typename Q = P, std::enable_if_t<!detail::is_slice<Q>, int> = 0> Result<std::optional<Element>> receive_copy() {
+    if (!hold_) return Error::NotLive;
+    Copy copy;
+    return copy.of(hold_.call(Waits::Room | Waits::Loan, [&](iox2ps_domain_t *domain) { return copy.next(domain, port_); }));
+  }
+
+  /* For several threads alone: waits as blocking_receive does. */
+  template <typename Q = P, std::enable_if_t<!detail::is_slice<Q>, int> = 0>
+  Result<std::optional<Element>> blocking_receive_copy(Until until = {}) {
+    if (!hold_) return Error::NotLive;
+    Copy copy;
+    return copy.of(hold_.wait(Waits::Message, port_.id, Waits::Room | Waits::Loan, until,
+                              [&](iox2ps_domain_t *domain) { return copy.next(domain, port_); }));
+  }
+  template <typename Q = P, std::enable_if_t<!detail::is_slice<Q>, int> = 0>
+  Result<std::optional<Element>> timed_receive_copy(std::chrono::nanoseconds timeout) {
+    return blocking_receive_copy(after(timeout));
+  }
+
+  /* For several threads alone: waits for one message after the other, and gives each to read as a Sample, which reads it
+   * where it lies and without the lock. Ends where read returns false, or waits are stopped. A message is given back in
+   * the call that asks for the next, so that each takes the lock once. */
+  template <typename Read> Done blocking_for_each(Read &&read) {
+    if (!hold_) return Error::NotLive;
+    std::optional<Sample<P, M>> last;
+    while (true) {
+      Got got;
+      bool is_held = last.has_value();
+      std::uint32_t code = hold_.wait(Waits::Message, port_.id, Waits::Room | Waits::Loan, {}, [&](iox2ps_domain_t *domain) {
+        if (std::exchange(is_held, false)) iox2ps_sample_release(domain, &last->sample_);
+        return next(domain, got);
+      });
+      if (last) last->hold_ = detail::Hold<M>(); /* it was released */
+      if (code == IOX2PS_NO_SAMPLE) return std::monostate{};
+      if (code != IOX2PS_OK) return detail::error_of(code);
+      last.reset();
+      last.emplace(sample_of(got));
+      if (!read(static_cast<const Sample<P, M> &>(*last))) return std::monostate{};
+    }
   }
 
   /* Whether a message waits, also one that can't be received yet. */
   Result<bool> has_samples() {
     if (!hold_) return Error::NotLive;
     std::uint32_t waits = 0;
-    std::uint32_t code = hold_.call(Wakes::Nobody, [&](iox2ps_domain_t *domain) {
+    std::uint32_t code = hold_.ask([&](iox2ps_domain_t *domain) {
       return iox2ps_subscriber_has_samples(domain, &port_, &waits);
     });
     if (code != IOX2PS_OK) return detail::error_of(code);
@@ -698,14 +851,14 @@ public:
   /* Makes the connections with publishers that came, as each receive does first. */
   Done update_connections() {
     if (!hold_) return Error::NotLive;
-    return detail::done(hold_.call(Wakes::Nobody, [&](iox2ps_domain_t *domain) {
+    return detail::done(hold_.ask([&](iox2ps_domain_t *domain) {
       return iox2ps_subscriber_update_connections(domain, &port_);
     }));
   }
 
   void close() {
     if (!hold_) return;
-    hold_.call(Wakes::Senders, [&](iox2ps_domain_t *domain) { return iox2ps_subscriber_close(domain, &port_); });
+    hold_.call(Waits::Room | Waits::Loan, [&](iox2ps_domain_t *domain) { return iox2ps_subscriber_close(domain, &port_); });
     hold_ = detail::Hold<M>();
   }
 
@@ -724,9 +877,29 @@ private:
     std::optional<Sample<P, M>> none;
     if (code == IOX2PS_NO_SAMPLE) return none;
     if (code != IOX2PS_OK) return detail::error_of(code);
-    const Element *first = got.len == 0 ? nullptr : detail::at<Element>(got.bytes);
-    return std::optional<Sample<P, M>>(Sample<P, M>(hold_, got.sample, first, got.len / sizeof(Element)));
+    return std::optional<Sample<P, M>>(sample_of(got));
   }
+
+  Sample<P, M> sample_of(const Got &got) const {
+    const Element *first = got.len == 0 ? nullptr : detail::at<Element>(got.bytes);
+    return Sample<P, M>(hold_, got.sample, first, got.len / sizeof(Element));
+  }
+
+  /* A message's copy, as bytes of its type. */
+  struct Copy {
+    alignas(Element) unsigned char bytes[sizeof(Element)];
+    std::size_t len = 0;
+
+    std::uint32_t next(iox2ps_domain_t *domain, const iox2ps_subscriber_t &port) {
+      iox2ps_sample_t sample;
+      return iox2ps_subscriber_receive_copy(domain, &port, bytes, sizeof bytes, &len, &sample);
+    }
+    Result<std::optional<Element>> of(std::uint32_t code) const {
+      if (code == IOX2PS_NO_SAMPLE) return std::optional<Element>();
+      if (code != IOX2PS_OK) return detail::error_of(code);
+      return std::optional<Element>(*detail::at<Element>(bytes));
+    }
+  };
 
   detail::Hold<M> hold_;
   iox2ps_subscriber_t port_;
@@ -765,7 +938,7 @@ public:
     bool begins_empty = options.allocation_strategy != IOX2PS_ALLOCATION_STATIC && options.initial_max_slice_len == 0;
     if (!detail::is_slice<P> || begins_empty) options.initial_max_slice_len = Config<P>::bytes(1);
     iox2ps_publisher_t port;
-    std::uint32_t code = hold_.call(Wakes::Receivers, [&](iox2ps_domain_t *domain) {
+    std::uint32_t code = hold_.call(only(Waits::Message), [&](iox2ps_domain_t *domain) {
       return iox2ps_publisher_create_with(domain, &options, &port);
     });
     if (code != IOX2PS_OK) return detail::error_of(code);
@@ -773,7 +946,7 @@ public:
   }
   Result<Subscriber<P, M>> subscriber(const iox2ps_subscriber_options_t &options) {
     iox2ps_subscriber_t port;
-    std::uint32_t code = hold_.call(Wakes::Nobody, [&](iox2ps_domain_t *domain) {
+    std::uint32_t code = hold_.ask([&](iox2ps_domain_t *domain) {
       return iox2ps_subscriber_create_with(domain, &options, &port);
     });
     if (code != IOX2PS_OK) return detail::error_of(code);
@@ -823,7 +996,7 @@ private:
   explicit Domain(detail::Hold<M> hold) : hold_(std::move(hold)) {}
 
   template <typename Question> std::uint32_t ask(Question &&question) const {
-    return hold_.call(Wakes::Nobody, std::forward<Question>(question));
+    return hold_.ask(std::forward<Question>(question));
   }
 
   detail::Hold<M> hold_;
