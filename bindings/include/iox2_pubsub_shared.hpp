@@ -11,9 +11,9 @@
  * those who are woken don't all want the lock at once. stop_waits of the domain ends all waits.
  *
  * The lock is a std::mutex. Another may be brought: a class with lock() and unlock() that no other thread passes between the
- * two, as SharedDomain<P, MyLock>. One that knows priorities says `static constexpr bool wakes_all = true;`, so that nobody waits
- * until a thread that was woken earlier, and may have a lower priority, has had its turn. `static constexpr unsigned looks = 0;`
- * says that a thread sleeps at once, and doesn't look for a change first. */
+ * two, as SharedDomain<P, MyLock>. One that knows priorities says `static constexpr bool wakes_all = true;`, so that nobody
+ * waits until a thread that was woken earlier, and may have a lower priority, has had its turn.
+ * `static constexpr unsigned looks = 0;` says that a thread sleeps at once, and looks for no change first. */
 #ifndef IOX2_PUBSUB_SHARED_HPP
 #define IOX2_PUBSUB_SHARED_HPP
 
