@@ -187,7 +187,7 @@ template <typename M> struct Shared {
   Shared() = default;
   Shared(const Shared &) = delete;
   Shared &operator=(const Shared &) = delete;
-  ~Shared() { iox2ps_domain_destroy(&domain); }
+  ~Shared() { static_cast<void>(iox2ps_domain_destroy(&domain)); }
 
   /* These two are parts of calls. */
   std::uint32_t close_publisher(const iox2ps_publisher_t &publisher) {
@@ -199,7 +199,7 @@ template <typename M> struct Shared {
   void close_orphan(iox2ps_wide_t id) {
     for (std::size_t at = 0; at < orphans.size(); at++) {
       if (id_of(orphans[at].id) != id_of(id)) continue;
-      iox2ps_publisher_close(&domain, &orphans[at]);
+      static_cast<void>(iox2ps_publisher_close(&domain, &orphans[at]));
       orphans.erase(orphans.begin() + static_cast<std::ptrdiff_t>(at));
       return;
     }
