@@ -1,4 +1,5 @@
-/* Domains that several threads use at a time, for C++17: the classes of iox2_pubsub.hpp over a lock.
+/** @file
+ * Domains that several threads use at a time, for C++17: the classes of iox2_pubsub.hpp over a lock.
  *
  * Each call of the library is made under the domain's lock, so that all calls are one list, as for one thread. A handle
  * may be given to another thread, and the calls of one publisher or subscriber that are const or receive, loan and send
@@ -13,7 +14,9 @@
  * The lock is a std::mutex. Another may be brought: a class with lock() and unlock() that no other thread passes between the
  * two, as SharedDomain<P, MyLock>. One that knows priorities says `static constexpr bool wakes_all = true;`, so that nobody
  * waits until a thread that was woken earlier, and may have a lower priority, has had its turn.
- * `static constexpr unsigned looks = 0;` says that a thread sleeps at once, and looks for no change first. */
+ * `static constexpr unsigned looks = 0;` says that a thread sleeps at once, and looks for no change first.
+ *
+ * Nothing more is thrown than by iox2_pubsub.hpp, but std::bad_alloc by the calls that wait. */
 #ifndef IOX2_PUBSUB_SHARED_HPP
 #define IOX2_PUBSUB_SHARED_HPP
 
@@ -133,7 +136,7 @@ private:
 };
 
 /* Whether a call that waits for this tries again after this code. */
-inline bool waits_on(Waits what, std::uint32_t code) {
+inline bool waits_on(Waits what, iox2ps_status_t code) {
   switch (what) {
   case Waits::Message: return code == IOX2PS_NO_SAMPLE;
   case Waits::Room: return code == IOX2PS_BLOCKED;
@@ -145,7 +148,7 @@ inline bool waits_on(Waits what, std::uint32_t code) {
 }
 
 /* Whether a call that returned this may have changed something. */
-inline bool may_change(std::uint32_t code) {
+inline bool may_change(iox2ps_status_t code) {
   return code != IOX2PS_NOT_LIVE && code != IOX2PS_NO_SAMPLE && code != IOX2PS_PUBLISHER_IS_BLOCKED;
 }
 
@@ -158,21 +161,23 @@ template <typename Lock> constexpr unsigned looks<Lock, std::enable_if_t<(Lock::
 
 } // namespace detail
 
-/* The handles of a domain are for many threads, under a lock of this type. */
+/** The handles of a domain are for many threads, under a lock of this type. */
 template <typename Lock> class ManyThreadsWith {
 public:
+  /** How many handles a domain has. */
   class Count {
   public:
-    void add() { count_.fetch_add(1, std::memory_order_relaxed); }
-    bool is_last() { return count_.fetch_sub(1, std::memory_order_acq_rel) == 1; }
+    void add() { count_.fetch_add(1, std::memory_order_relaxed); } /**< one more */
+    bool is_last() { return count_.fetch_sub(1, std::memory_order_acq_rel) == 1; } /**< one less: was it the last? */
 
   private:
     std::atomic<std::size_t> count_{1};
   };
 
-  template <typename Call> std::uint32_t call(Brings brings, Call &&make) {
+  /** Makes a call, and wakes those whom it may help. */
+  template <typename Call> iox2ps_status_t call(Brings brings, Call &&make) {
     std::shared_ptr<detail::Sleeper> woken;
-    std::uint32_t code;
+    iox2ps_status_t code;
     {
       std::lock_guard<Lock> lock(lock_);
       code = make();
@@ -183,12 +188,12 @@ public:
     return code;
   }
 
-  /* Makes calls as long as their code says that the port still waits, each time when something came that may help. */
-  template <typename Call> std::uint32_t wait(Waits what, Id port, Brings brings, Until until, Call &&make) {
+  /** Makes calls as long as their code says that the port still waits, each time when something came that may help. */
+  template <typename Call> iox2ps_status_t wait(Waits what, Id port, Brings brings, Until until, Call &&make) {
     bool is_listed = false;
     while (true) {
       std::shared_ptr<detail::Sleeper> woken;
-      std::uint32_t code;
+      iox2ps_status_t code;
       std::size_t seen;
       bool is_over;
       {
@@ -213,6 +218,7 @@ public:
     }
   }
 
+  /** No call waits any longer, or calls wait again. */
   void stop(bool is_stopped) {
     std::lock_guard<Lock> lock(lock_);
     is_stopped_ = is_stopped;
@@ -223,7 +229,7 @@ public:
   }
 
 private:
-  void brought(Brings brings, std::uint32_t code) {
+  void brought(Brings brings, iox2ps_status_t code) {
     if (code == IOX2PS_BLOCKED) brings &= only(Waits::Message); /* it has ended nothing */
     if (brings == 0 || !detail::may_change(code)) return;
     if ((brings & only(Waits::Message)) != 0) count(messages_);
@@ -263,9 +269,10 @@ private:
   std::atomic<std::size_t> messages_{0}, others_{0};
 };
 
+/** The same, under the standard library's lock. */
 using ManyThreads = ManyThreadsWith<std::mutex>;
 
-/* A service whose messages are of the type P, for many threads. Copies are the same domain. */
+/** A service whose messages are of the type P, for many threads. Copies are the same domain. */
 template <typename P, typename Lock = std::mutex> using SharedDomain = Domain<P, ManyThreadsWith<Lock>>;
 
 } // namespace iox2ps
