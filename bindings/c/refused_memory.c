@@ -26,7 +26,7 @@ static int was_refused(void) {
 }
 
 static void make_publisher(iox2ps_domain_t *domain, iox2ps_publisher_t *publisher) {
-  uint32_t code = iox2ps_publisher_create(domain, publisher);
+  iox2ps_status_t code = iox2ps_publisher_create(domain, publisher);
   if (code == IOX2PS_OK) return;
   CHECK(was_refused());
   CHECK(code == IOX2PS_PUBLISHER_CREATE_ERROR_UNABLE_TO_CREATE_DATA_SEGMENT
@@ -35,7 +35,7 @@ static void make_publisher(iox2ps_domain_t *domain, iox2ps_publisher_t *publishe
 }
 
 static void make_subscriber(iox2ps_domain_t *domain, iox2ps_subscriber_t *subscriber) {
-  uint32_t code = iox2ps_subscriber_create(domain, subscriber);
+  iox2ps_status_t code = iox2ps_subscriber_create(domain, subscriber);
   if (code == IOX2PS_OK) return;
   CHECK(was_refused());
   CHECK(code == IOX2PS_SUBSCRIBER_CREATE_ERROR_FAILED_TO_DEPLOY_THREADSAFETY_POLICY);
@@ -79,7 +79,7 @@ static int run(size_t at) {
   allocations = looked_at = 0;
   refused_at = at;
   iox2ps_config_defaults(&config, 7, 8, 8);
-  uint32_t code = iox2ps_domain_create(&domain, &config);
+  iox2ps_status_t code = iox2ps_domain_create(&domain, &config);
   if (code != IOX2PS_OK) {
     CHECK(code == IOX2PS_OUT_OF_MEMORY && domain.domain_ == NULL && was_refused());
     IS(iox2ps_domain_create(&domain, &config), IOX2PS_OK);

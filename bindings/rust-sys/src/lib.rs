@@ -1,4 +1,5 @@
-//! The declarations of `include/iox2_pubsub.h`, with bytes where it has `void` and `char`.
+//! The declarations of the C header `iox2_pubsub.h`, with bytes where it has `void` and `char`. The header says what each is,
+//! what each call returns, and what its caller owes.
 #![allow(missing_docs)]
 
 use std::ffi::c_void;
