@@ -38,7 +38,8 @@
  *       connections, or a publisher made or closed;
  *     - for room: a receive, or a subscriber closed. A release makes no room in a buffer;
  *     - for an earlier send: a retry or a giving up;
- *     - for a loan: a send, a discard, a release, a receive that copies, a retry or a giving up, or a subscriber closed;
+ *     - for a loan: a send, a discard, a release, a receive that copies, a retry, a giving up, or an update of the publisher's
+ *       connections, which alone takes back what waited for a subscriber that was closed;
  *  - iox2ps_domain_destroy is called when no thread will call, read or write any more.
  * With the lock, all calls of a domain are one list, and what is proved of a list of calls is so of that one, in the order
  * in which the lock was taken. bindings/c/threads.c is such a program; iox2_pubsub_shared.hpp has a lock in it.

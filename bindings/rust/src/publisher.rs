@@ -90,7 +90,7 @@ impl<P: Payload + ?Sized, M: Threads> Publisher<P, M> {
     /// See [`ConnectionFailure`]. The other connections are made all the same, but with `PublisherIsBlocked`.
     pub fn update_connections(&self) -> Result<(), ConnectionFailure> {
         // SAFETY: see `Shared::at`.
-        let code = self.hold.call(Brings::MESSAGE, |shared| unsafe {
+        let code = self.hold.call(Brings::SEND, |shared| unsafe {
             sys::iox2ps_publisher_update_connections(shared.at(), &self.port)
         });
         match code {
@@ -116,8 +116,13 @@ impl<P: Payload + ?Sized, M: MayWait> Publisher<P, M> {
         until: Option<Instant>,
     ) -> Result<LoanUninit<P, M>, LoanError> {
         let (mut loan, mut start) = (MaybeUninit::uninit(), null_mut());
-        let wait = self.wait_for_loan(until, Brings::NOTHING);
+        // The update may bring a history.
+        let wait = self.wait_for_loan(until, Brings::MESSAGE);
         let code = self.hold.wait(wait, |shared| {
+            let code = lend(shared, &self.port, bytes, &mut loan, &mut start);
+            if !update_for_slots(shared, &self.port, code) {
+                return code;
+            }
             lend(shared, &self.port, bytes, &mut loan, &mut start)
         });
         taken(&self.hold, code, loan, start, bytes)
@@ -144,6 +149,13 @@ fn lend(
 ) -> u32 {
     // SAFETY: see `Shared::at`.
     unsafe { sys::iox2ps_publisher_loan_uninit(shared.at(), port, bytes, loan.as_mut_ptr(), start) }
+}
+
+// A closed subscriber's slots come back by an update of the connections alone, which a loan doesn't make.
+fn update_for_slots(shared: &mut Shared, port: &sys::Publisher, code: u32) -> bool {
+    // SAFETY: see `Shared::at`. A loan says what it comes to.
+    code == sys::LOAN_ERROR_OUT_OF_MEMORY
+        && unsafe { sys::iox2ps_publisher_update_connections(shared.at(), port) } == sys::OK
 }
 
 #[inline]
@@ -275,6 +287,10 @@ impl<T: Copy + 'static, M: MayWait> Publisher<T, M> {
         let (mut receivers, mut blocked) = (0, MaybeUninit::uninit());
         let wait = self.wait_for_loan(until, Brings::SEND);
         let code = self.hold.wait(wait, |shared| {
+            let code = send_copy(shared, &self.port, value, &mut receivers, &mut blocked);
+            if !update_for_slots(shared, &self.port, code) {
+                return code;
+            }
             send_copy(shared, &self.port, value, &mut receivers, &mut blocked)
         });
         outcome(&self.hold, code, receivers, blocked)?.wait_until(until)
