@@ -815,6 +815,18 @@ public:
     return count;
   }
 
+  /* Makes calls of iox2_pubsub.h on the domain with no other between them, and returns what make returns: for what goes
+   * between domains, and has no handles. Wakes says who may go on then. No function of a handle is called by it. */
+  template <typename Call> std::uint32_t call(Wakes wakes, Call &&make) const {
+    return hold_.call(wakes, std::forward<Call>(make));
+  }
+
+  /* For several threads alone: makes them again until they return another code than this one, each time when something
+   * came that may help; or, where a time is given, until that has passed, or until waits are stopped. */
+  template <typename Call> std::uint32_t wait(std::uint32_t code, Wakes wakes, Until until, Call &&make) const {
+    return hold_.wait(code, wakes, until, std::forward<Call>(make));
+  }
+
   /* For several threads alone: lets no call wait any longer: each tries once, and returns what it found. So a program
    * ends its threads. With false calls wait again. */
   void stop_waits(bool stopped = true) { hold_->threads.stop(stopped); }
