@@ -106,8 +106,8 @@ inline void print_latencies(std::vector<double> &microseconds) {
   auto at = [&](double part) {
     return microseconds.empty() ? 0.0 : microseconds[static_cast<std::size_t>(part * static_cast<double>(microseconds.size() - 1))];
   };
-  std::printf("{\"roundtrips\": %zu, \"min\": %.1f, \"median\": %.1f, \"p90\": %.1f, \"p99\": %.1f}\n", microseconds.size(),
-              at(0), at(0.5), at(0.9), at(0.99));
+  std::printf("{\"roundtrips\": %zu, \"min\": %.1f, \"median\": %.1f, \"p90\": %.1f, \"p99\": %.1f, \"p999\": %.1f}\n", microseconds.size(),
+              at(0), at(0.5), at(0.9), at(0.99), at(0.999));
 }
 
 #endif
