@@ -29,8 +29,7 @@ Message message(std::uint64_t number) {
 
 Domain keeping(std::size_t buffer) {
   iox2ps::Config<Message> config(1);
-  config.enable_safe_overflow = 0;
-  config.subscriber_max_buffer_size = buffer;
+  config.enable_safe_overflow(false).subscriber_max_buffer_size(buffer);
   return Domain::create(config).expect("a domain");
 }
 

@@ -21,11 +21,11 @@ pub use custom_markers::{CustomHeaderMarker, CustomPayloadMarker};
 pub use domain::Domain;
 pub use iox2_store::{
     AllocationStrategy, BackpressureAction, BackpressureFn, BackpressureHandler, BackpressureInfo,
-    BackpressureStrategy, ConnectionFailure, DataSegmentType, DegradationAction, DegradationCause,
-    DegradationFn, DegradationHandler, DegradationInfo, DomainCreateError, Header, Key, LoanError,
-    PublisherCreateError, ReceiveError, SendError, ServiceConfig, SharedMemoryOpenError,
-    SubscriberCreateError, TypeVariant, UniqueNodeId, UniquePublisherId, UniqueSubscriberId,
-    Warning, ZeroCopyCreationError, worst_case_slots,
+    BackpressureStrategy, BackpressureToReceiverAction, ConnectionFailure, DataSegmentType,
+    DegradationAction, DegradationCause, DegradationFn, DegradationHandler, DegradationInfo,
+    DomainCreateError, Header, Key, LoanError, PublisherCreateError, ReceiveError, SendError,
+    ServiceConfig, SharedMemoryOpenError, SubscriberCreateError, TypeVariant, UniqueNodeId,
+    UniquePublisherId, UniqueSubscriberId, Warning, ZeroCopyCreationError, worst_case_slots,
 };
 pub use parts::{LoanParts, PublisherParts, SampleParts, SubscriberParts};
 pub use port_factory::preallocation::{NoOverride, PreallocatedSamplesOverride};

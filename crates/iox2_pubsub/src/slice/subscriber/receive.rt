@@ -16,9 +16,10 @@ impl Subscriber {
     ghost use Rattle.iox2_domain.specs.Shows.{Shows};
     ghost use Rattle.iox2_pubsub.specs.Handles.{as_sample, as_subscriber, receiver_of, subscriber_id};
 
-    /// Updates the subscriber's connections and receives a message: from a publisher of which it
-    /// may borrow one more, the one that has waited longest. `None` where no message waits. Its
-    /// values stay where they lie.
+    /// Updates the subscriber's connections and receives a message of a publisher of which it may
+    /// borrow one more: the one of that publisher that has waited longest. Closed publishers come
+    /// first. Which of several publishers it is isn't promised, so a message of another may have
+    /// waited longer. `None` where no message waits. The values stay where they lie.
     ///
     /// Fails with `ReceiveError::ExceedsMaxBorrows` where messages wait, but of each publisher that
     /// they come from as many are borrowed as may be. The update stands then, and no message moves.

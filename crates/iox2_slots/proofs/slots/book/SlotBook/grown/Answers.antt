@@ -1,4 +1,4 @@
-use Rattle.std.proofs.Common.{◌≡◌, ◌≤◌, ◌+◌, ◌∙◌, ◌++◌, List, ap, sym, subst, refl, length, replicate, rules, vec_len, vec_capacity, arith}
+use Rattle.std.proofs.Common.{◌≡◌, ◌+◌, ◌∙◌, List, ap, refl, length, rules, vec_len, arith}
 use Rattle.std.proofs.lemmas.List.{length-append, length-replicate}
 use Rattle.iox2_slots.specs.declared.slots.slot.Slot.{Slot}
 use Rattle.iox2_slots.proofs.LaterSlots.{more_are, more_read}
