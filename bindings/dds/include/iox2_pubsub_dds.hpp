@@ -89,7 +89,7 @@ template <typename P, typename M> struct Lock {
   static std::uint32_t wait(void *domain, iox2ps_domain_t *, std::uint32_t waits, iox2ps_wide_t port, std::uint32_t brings,
                             std::uint64_t timeout, iox2ps_dds_make_t make, void *what) {
     auto made = [&](iox2ps_domain_t *its) { return make(its, what); };
-    Until until = after(std::chrono::nanoseconds(timeout));
+    Until until = std::chrono::steady_clock::now() + std::chrono::nanoseconds(timeout);
     return static_cast<Domain<P, M> *>(domain)->wait(static_cast<Waits>(waits), Id{port.low, port.high}, brings, until, made);
   }
 };
