@@ -114,8 +114,10 @@ int twice_role(const Options &options) {
   }
   auto gateway = gateway_of(other, options); // which takes the ports that a refusal has to give back
   gateway = gateway_of(one, Options(options).with("topic", options.word("topic", "") + "/again"));
-  bool forwards = one.publisher().expect("a publisher").send_copy(reinterpret_cast<const std::uint8_t *>("x"), 1).expect("a send").delivered() == 1u;
-  std::printf("{\"refused\": %d, \"sent\": %zu, \"forwards\": %d}\n", refused, gateway.forward().sent, forwards);
+  auto publisher = one.publisher().expect("a publisher");
+  const std::uint8_t byte = 1;
+  auto receivers = publisher.send_copy(&byte, 1).expect("a send").delivered().value_or(0);
+  std::printf("{\"refused\": %d, \"sent\": %zu, \"receivers\": %zu}\n", refused, gateway.forward().sent, receivers);
   return 0;
 }
 

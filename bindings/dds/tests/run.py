@@ -181,7 +181,7 @@ def only_known():
 def second_gateway():
     """A second gateway for a domain or a topic of a process is refused, and one for messages that are too long."""
     got = end(start("cases", "twice", topic=topic()))
-    assert got == {"refused": 3, "sent": 1, "forwards": 1}, got
+    assert got == {"refused": 3, "sent": 1, "receivers": 1}, got
     return "3 refused, and each domain and topic is free again after"
 
 def many_domains():
