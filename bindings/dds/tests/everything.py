@@ -90,6 +90,16 @@ def page():
     run(line.replace("bindings/out", os.path.join(work, "moved")).split(), cwd=work)
     return two(os.path.join(work, "first_dds"), "from another process")
 
+def rust(plain):
+    """The crate's feature, with a program in C++ on the other side too."""
+    environment = dict(os.environ, IOX2_PUBSUB_LIB_DIR=os.path.join(work, "moved", "lib"), CARGO_TARGET_DIR=os.path.join(work, "target"),
+                       IOX2PS_DDS_CASES=os.path.join(plain, "cases"), CYCLONEDDS_URI=loopback)
+    words = ["cargo", "test", "-j1", "--offline", "--quiet", "--features", "dds", "--test", "dds"]
+    done = subprocess.run(words, cwd=os.path.join(source, "..", "rust"), stdout=subprocess.PIPE, stderr=subprocess.STDOUT, text=True,
+                          timeout=300, env=environment)
+    assert done.returncode == 0, done.stdout[-4000:]
+    return re.search(r"test result: (.*?);", done.stdout).group(1)
+
 def tests(folder, names=(), **environment):
     def what():
         done = subprocess.run([sys.executable, os.path.join(here, "run.py"), folder] + list(names), stdout=subprocess.PIPE, text=True,
@@ -107,6 +117,8 @@ def all_steps():
     plain = build("plain", os.path.join(work, "moved"), "-DIOX2PS_DDS_TESTS=ON")
     step("frames", lambda: run([os.path.join(plain, "frames")]).strip())
     step("between processes", tests(plain))
+    if shutil.which("cargo"): step("rust", lambda: rust(plain))
+    else: print("not there, and so not run: cargo")
     if quick: return
     flags = ["-DCMAKE_%s_FLAGS=%s" % (language, sanitizers) for language in ("C", "CXX")]
     sane = build("sanitized", os.path.join(work, "moved"), "-DIOX2PS_DDS_TESTS=ON", "-DCMAKE_BUILD_TYPE=None", *flags)

@@ -595,10 +595,7 @@ fn name_of<T>() -> String {
     let mut name = String::new();
     for letter in type_name::<T>().chars() {
         match letter {
-            ':' => name.truncate(
-                name.rfind(|before| before == '<' || before == ',')
-                    .map_or(0, |at| at + 1),
-            ),
+            ':' => name.truncate(name.rfind(['<', ',']).map_or(0, |at| at + 1)),
             _ => name.push(letter),
         }
     }
