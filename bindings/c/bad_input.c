@@ -39,7 +39,7 @@ static void fill(void) {
 
 /* ---- every call on one handle */
 
-static void publisher_is_refused(iox2ps_domain_t *domain, const iox2ps_publisher_t *publisher, uint32_t code) {
+static void publisher_is_refused(iox2ps_domain_t *domain, const iox2ps_publisher_t *publisher, iox2ps_status_t code) {
   REFUSED(iox2ps_publisher_close(domain, publisher), code);
   REFUSED(iox2ps_publisher_is_blocked(domain, publisher, &outs.answer), code);
   REFUSED(iox2ps_publisher_update_connections(domain, publisher), code);
@@ -49,7 +49,7 @@ static void publisher_is_refused(iox2ps_domain_t *domain, const iox2ps_publisher
   REFUSED(iox2ps_publisher_send_copy(domain, publisher, untouched.bytes, 8, &outs.count, &outs.blocked), code);
 }
 
-static void subscriber_is_refused(iox2ps_domain_t *domain, const iox2ps_subscriber_t *subscriber, uint32_t code) {
+static void subscriber_is_refused(iox2ps_domain_t *domain, const iox2ps_subscriber_t *subscriber, iox2ps_status_t code) {
   REFUSED(iox2ps_subscriber_close(domain, subscriber), code);
   REFUSED(iox2ps_subscriber_has_samples(domain, subscriber, &outs.answer), code);
   REFUSED(iox2ps_subscriber_update_connections(domain, subscriber), code);
@@ -57,18 +57,18 @@ static void subscriber_is_refused(iox2ps_domain_t *domain, const iox2ps_subscrib
   REFUSED(iox2ps_subscriber_receive_copy(domain, subscriber, outs.bytes, sizeof outs.bytes, &outs.len, &outs.sample), code);
 }
 
-static void loan_is_refused(iox2ps_domain_t *domain, const iox2ps_loan_t *loan, uint32_t code) {
+static void loan_is_refused(iox2ps_domain_t *domain, const iox2ps_loan_t *loan, iox2ps_status_t code) {
   REFUSED(iox2ps_loan_send(domain, loan, &outs.count, &outs.blocked), code);
   REFUSED(iox2ps_loan_discard(domain, loan), code);
   REFUSED(iox2ps_loan_payload(domain, loan, &outs.written, &outs.len), code);
 }
 
-static void blocked_is_refused(iox2ps_domain_t *domain, const iox2ps_blocked_t *blocked, uint32_t code) {
+static void blocked_is_refused(iox2ps_domain_t *domain, const iox2ps_blocked_t *blocked, iox2ps_status_t code) {
   REFUSED(iox2ps_blocked_retry(domain, blocked, 1, &outs.count), code);
   REFUSED(iox2ps_blocked_give_up(domain, blocked, &outs.count), code);
 }
 
-static void sample_is_refused(iox2ps_domain_t *domain, const iox2ps_sample_t *sample, uint32_t code) {
+static void sample_is_refused(iox2ps_domain_t *domain, const iox2ps_sample_t *sample, iox2ps_status_t code) {
   REFUSED(iox2ps_sample_payload(domain, sample, &outs.read, &outs.len), code);
   REFUSED(iox2ps_sample_copy(domain, sample, outs.bytes, sizeof outs.bytes, &outs.len), code);
   REFUSED(iox2ps_sample_header(domain, sample, &outs.header), code);
@@ -299,7 +299,7 @@ static void a_publisher_is_blocked(void) {
 
 /* ---- no domain */
 
-static void all_is_refused(iox2ps_domain_t *domain, const world_t *world, uint32_t code) {
+static void all_is_refused(iox2ps_domain_t *domain, const world_t *world, iox2ps_status_t code) {
   iox2ps_publisher_options_t publisher_options;
   iox2ps_subscriber_options_t subscriber_options;
   iox2ps_config_t config;
@@ -345,7 +345,7 @@ static void a_domain_is_made_twice(void) {
   void *same = world.domain.domain_;
   IS(iox2ps_domain_create(&world.domain, &config), IOX2PS_HAS_DOMAIN);
   CHECK(world.domain.domain_ == same);
-  iox2ps_domain_destroy(&world.domain);
+  IS(iox2ps_domain_destroy(&world.domain), IOX2PS_OK);
   IS(iox2ps_domain_create(&world.domain, &config), IOX2PS_OK);
   publisher_is_refused(&world.domain, &world.publisher, IOX2PS_NOT_LIVE);
   sample_is_refused(&world.domain, &world.sample, IOX2PS_NOT_LIVE);

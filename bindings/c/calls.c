@@ -21,6 +21,9 @@ SAME_SIZE(iox2ps_sample_t, 88);
 SAME_SIZE(iox2ps_header_t, 40);
 SAME_SIZE(iox2ps_warning_t, 40);
 
+/* Its initialiser is a constant in both languages. */
+static iox2ps_domain_t at_file_scope = IOX2PS_DOMAIN_INIT;
+
 static int are_all(const void *bytes, size_t len, uint8_t value) {
   for (size_t i = 0; i < len; i++) {
     if (((const uint8_t *)bytes)[i] != value) return 0;
@@ -50,6 +53,25 @@ static void settings_are_read_back(void) {
   CHECK(memcmp(&read, &config, sizeof read) == 0);
   IS(iox2ps_domain_destroy(&domain), IOX2PS_OK);
   CHECK(domain.domain_ == NULL);
+}
+
+static void a_domain_may_be_static(void) {
+  static iox2ps_domain_t in_a_function = IOX2PS_DOMAIN_INIT;
+  iox2ps_config_t config;
+  iox2ps_config_defaults(&config, 7, 24, 8);
+  CHECK(at_file_scope.domain_ == NULL && in_a_function.domain_ == NULL);
+  IS(iox2ps_domain_destroy(&at_file_scope), IOX2PS_NO_DOMAIN);
+  IS(iox2ps_domain_create(&at_file_scope, &config), IOX2PS_OK);
+  IS(iox2ps_domain_create(&in_a_function, &config), IOX2PS_OK);
+  IS(iox2ps_domain_destroy(&at_file_scope), IOX2PS_OK);
+  IS(iox2ps_domain_destroy(&in_a_function), IOX2PS_OK);
+}
+
+static void the_version_is_in_words(void) {
+  char words[32];
+  CHECK(IOX2PS_VERSION == (IOX2PS_VERSION_MAJOR << 16 | IOX2PS_VERSION_MINOR << 8 | IOX2PS_VERSION_PATCH));
+  sprintf(words, "%d.%d.%d", IOX2PS_VERSION_MAJOR, IOX2PS_VERSION_MINOR, IOX2PS_VERSION_PATCH);
+  CHECK(strcmp(words, IOX2PS_VERSION_TEXT) == 0);
 }
 
 static void a_message_is_written_and_read_where_it_lies(void) {
@@ -564,6 +586,8 @@ static void slots_are_counted(void) {
 
 int main(void) {
   settings_are_read_back();
+  a_domain_may_be_static();
+  the_version_is_in_words();
   a_message_is_written_and_read_where_it_lies();
   a_loan_may_have_unspecified_bytes();
   a_message_is_copied();

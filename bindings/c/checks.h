@@ -24,7 +24,7 @@ static int has_text(uint32_t code) { return strcmp(iox2ps_error_text(code), iox2
 /* The call returns this code, which has a text. That no two codes have the same one, calls.c tests. */
 #define IS(call, code)                                                                          \
   do {                                                                                          \
-    uint32_t got_ = (call);                                                                     \
+    iox2ps_status_t got_ = (call);                                                                     \
     if (got_ == (code) && has_text(got_)) {                                                     \
       passed++;                                                                                 \
     } else {                                                                                    \

@@ -40,7 +40,7 @@ static int receive_all(const iox2ps_subscriber_t *subscriber, uint64_t *sum) {
   iox2ps_sample_t sample;
   const void *payload;
   size_t len;
-  uint32_t code;
+  iox2ps_status_t code;
   while ((code = iox2ps_subscriber_receive(&domain, subscriber, &sample, &payload, &len)) == IOX2PS_OK) {
     uint64_t number;
     memcpy(&number, payload, sizeof number);
@@ -65,7 +65,7 @@ int main(int count, char **words) {
     }
   }
   clock_gettime(CLOCK_MONOTONIC, &ended);
-  iox2ps_domain_destroy(&domain);
+  if (iox2ps_domain_destroy(&domain)) return 1;
   int64_t elapsed = (int64_t)(ended.tv_sec - started.tv_sec) * 1000000000 + (ended.tv_nsec - started.tv_nsec);
   printf("%" PRId64 "\n", elapsed / (int64_t)messages);
   return sum == messages * (messages - 1) / 2 * receivers ? 0 : 1;

@@ -119,7 +119,7 @@ static void reply(const char *text) {
   fprintf(replies, "%s\n", text);
 }
 
-static void reply_error(uint32_t code) {
+static void reply_error(iox2ps_status_t code) {
   command++;
   fprintf(replies, "err %s\n", iox2ps_error_text(code));
 }
@@ -130,7 +130,7 @@ static void reply_number(uint64_t number) {
 }
 
 /* Whether the numbers name a live thing; the call has to say the same. */
-static int is_live(const thing_t *thing, uint32_t code) {
+static int is_live(const thing_t *thing, iox2ps_status_t code) {
   if ((thing == NULL) != (code == IOX2PS_NOT_LIVE)) fail("a call takes spent numbers, or refuses live ones");
   wrong_numbers += thing == NULL;
   return thing != NULL;
@@ -150,7 +150,7 @@ static void create_publisher(iox2ps_domain_t *domain, const iox2ps_config_t *con
   iox2ps_publisher_options_of(config, &options);
   options.max_loaned_samples = below(4);
   options.backpressure_strategy = one_in(2) ? IOX2PS_DISCARD_DATA : IOX2PS_RETRY_UNTIL_DELIVERED;
-  uint32_t code = iox2ps_publisher_create_with(domain, &options, &numbers.publisher);
+  iox2ps_status_t code = iox2ps_publisher_create_with(domain, &options, &numbers.publisher);
   fprintf(script, "pub %zu %s\n", options.max_loaned_samples,
           options.backpressure_strategy == IOX2PS_DISCARD_DATA ? "discard" : "retry");
   if (code != IOX2PS_OK) {
@@ -166,7 +166,7 @@ static void create_subscriber(iox2ps_domain_t *domain, const iox2ps_config_t *co
   numbers_t numbers = {{0}};
   iox2ps_subscriber_options_of(config, &options);
   options.buffer_size = below(config->subscriber_max_buffer_size + 2);
-  uint32_t code = iox2ps_subscriber_create_with(domain, &options, &numbers.subscriber);
+  iox2ps_status_t code = iox2ps_subscriber_create_with(domain, &options, &numbers.subscriber);
   fprintf(script, "sub %zu\n", options.buffer_size);
   if (code != IOX2PS_OK) {
     reply_error(code);
@@ -181,7 +181,7 @@ static void lend(iox2ps_domain_t *domain) {
   thing_t *publisher = named(PUBLISHER, &of);
   void *bytes;
   size_t len = one_in(20) ? 9 + below(SIZE_MAX - 9) : 8;
-  uint32_t code = iox2ps_publisher_loan(domain, &of.publisher, len, &numbers.loan, &bytes);
+  iox2ps_status_t code = iox2ps_publisher_loan(domain, &of.publisher, len, &numbers.loan, &bytes);
   if (!is_live(publisher, code)) return;
   if (code == IOX2PS_LOAN_ERROR_EXCEEDS_MAX_LOAN_SIZE && len > 8) return;
   fprintf(script, "loan %zu\n", publisher->command);
@@ -201,7 +201,7 @@ static void lend(iox2ps_domain_t *domain) {
 }
 
 /* The reply of a send, and what it has made where it waits. */
-static void sent(uint32_t code, size_t receivers, numbers_t blocked) {
+static void sent(iox2ps_status_t code, size_t receivers, numbers_t blocked) {
   if (code == IOX2PS_OK) {
     reply_number(receivers);
   } else if (code == IOX2PS_PUBLISHER_IS_BLOCKED) {
@@ -221,7 +221,7 @@ static void send_loan(iox2ps_domain_t *domain) {
   numbers_t of = choose(LOAN), blocked = {{0}};
   thing_t *loan = named(LOAN, &of);
   size_t receivers = 0;
-  uint32_t code = iox2ps_loan_send(domain, &of.loan, &receivers, &blocked.blocked);
+  iox2ps_status_t code = iox2ps_loan_send(domain, &of.loan, &receivers, &blocked.blocked);
   if (!is_live(loan, code)) return;
   fprintf(script, "send %zu\n", loan->command);
   if (code != IOX2PS_PUBLISHER_IS_BLOCKED) spend(LOAN, loan);
@@ -233,7 +233,7 @@ static void send_copy(iox2ps_domain_t *domain) {
   thing_t *publisher = named(PUBLISHER, &of);
   size_t receivers = 0;
   value++;
-  uint32_t code = iox2ps_publisher_send_copy(domain, &of.publisher, &value, 8, &receivers, &blocked.blocked);
+  iox2ps_status_t code = iox2ps_publisher_send_copy(domain, &of.publisher, &value, 8, &receivers, &blocked.blocked);
   if (!is_live(publisher, code)) return;
   fprintf(script, "copy %zu %" PRIu64 "\n", publisher->command, value);
   sent(code, receivers, blocked);
@@ -242,7 +242,7 @@ static void send_copy(iox2ps_domain_t *domain) {
 static void discard(iox2ps_domain_t *domain) {
   numbers_t of = choose(LOAN);
   thing_t *loan = named(LOAN, &of);
-  uint32_t code = iox2ps_loan_discard(domain, &of.loan);
+  iox2ps_status_t code = iox2ps_loan_discard(domain, &of.loan);
   if (!is_live(loan, code)) return;
   if (code != IOX2PS_OK) fail("a loan isn't discarded");
   fprintf(script, "discard %zu\n", loan->command);
@@ -255,8 +255,8 @@ static void end_blocked(iox2ps_domain_t *domain) {
   thing_t *blocked = named(BLOCKED, &of);
   size_t receivers = 0;
   int retries = one_in(2);
-  uint32_t code = retries ? iox2ps_blocked_retry(domain, &of.blocked, next(), &receivers)
-                          : iox2ps_blocked_give_up(domain, &of.blocked, &receivers);
+  iox2ps_status_t code = retries ? iox2ps_blocked_retry(domain, &of.blocked, next(), &receivers)
+                                 : iox2ps_blocked_give_up(domain, &of.blocked, &receivers);
   if (!is_live(blocked, code)) return;
   fprintf(script, "%s %zu\n", retries ? "retry" : "giveup", blocked->command);
   if (code == IOX2PS_BLOCKED) {
@@ -272,7 +272,7 @@ static void receive(iox2ps_domain_t *domain) {
   thing_t *subscriber = named(SUBSCRIBER, &of);
   const void *bytes;
   size_t len;
-  uint32_t code = iox2ps_subscriber_receive(domain, &of.subscriber, &numbers.sample, &bytes, &len);
+  iox2ps_status_t code = iox2ps_subscriber_receive(domain, &of.subscriber, &numbers.sample, &bytes, &len);
   if (!is_live(subscriber, code)) return;
   fprintf(script, "recv %zu\n", subscriber->command);
   if (code == IOX2PS_NO_SAMPLE) {
@@ -302,8 +302,8 @@ static void update(iox2ps_domain_t *domain) {
   enum kind kind = one_in(2) ? PUBLISHER : SUBSCRIBER;
   numbers_t of = choose(kind);
   thing_t *port = named(kind, &of);
-  uint32_t code = kind == PUBLISHER ? iox2ps_publisher_update_connections(domain, &of.publisher)
-                                    : iox2ps_subscriber_update_connections(domain, &of.subscriber);
+  iox2ps_status_t code = kind == PUBLISHER ? iox2ps_publisher_update_connections(domain, &of.publisher)
+                                           : iox2ps_subscriber_update_connections(domain, &of.subscriber);
   if (!is_live(port, code)) return;
   fprintf(script, "update %zu\n", port->command);
   if (code == IOX2PS_OK) reply("ok");
@@ -319,8 +319,8 @@ static void read_message(iox2ps_domain_t *domain) {
   void *lent = NULL;
   const void *received = NULL;
   size_t len = 0;
-  uint32_t code = kind == LOAN ? iox2ps_loan_payload(domain, &of.loan, &lent, &len)
-                               : iox2ps_sample_payload(domain, &of.sample, &received, &len);
+  iox2ps_status_t code = kind == LOAN ? iox2ps_loan_payload(domain, &of.loan, &lent, &len)
+                                      : iox2ps_sample_payload(domain, &of.sample, &received, &len);
   if (!is_live(thing, code)) return;
   if (code != IOX2PS_OK || len != 8 || (kind == LOAN ? lent : received) != thing->bytes) fail("a message has moved");
   fprintf(script, "read %zu\n", thing->command);
@@ -330,7 +330,7 @@ static void read_message(iox2ps_domain_t *domain) {
 static void release(iox2ps_domain_t *domain) {
   numbers_t of = choose(SAMPLE);
   thing_t *sample = named(SAMPLE, &of);
-  uint32_t code = iox2ps_sample_release(domain, &of.sample);
+  iox2ps_status_t code = iox2ps_sample_release(domain, &of.sample);
   if (!is_live(sample, code)) return;
   if (code != IOX2PS_OK) fail("a sample isn't released");
   fprintf(script, "release %zu\n", sample->command);
@@ -342,8 +342,8 @@ static void close_port(iox2ps_domain_t *domain) {
   enum kind kind = one_in(2) ? PUBLISHER : SUBSCRIBER;
   numbers_t of = choose(kind);
   thing_t *port = named(kind, &of);
-  uint32_t code = kind == PUBLISHER ? iox2ps_publisher_close(domain, &of.publisher)
-                                    : iox2ps_subscriber_close(domain, &of.subscriber);
+  iox2ps_status_t code = kind == PUBLISHER ? iox2ps_publisher_close(domain, &of.publisher)
+                                           : iox2ps_subscriber_close(domain, &of.subscriber);
   if (!is_live(port, code)) return;
   fprintf(script, "close %zu\n", port->command);
   if (code == IOX2PS_PUBLISHER_IS_BLOCKED) {

@@ -10,7 +10,7 @@ struct reading {
 /* Ends the program's work where a call is refused. */
 #define TRY(call)                                                    \
   do {                                                               \
-    uint32_t returned_ = (call);                                     \
+    iox2ps_status_t returned_ = (call);                                     \
     if (returned_ != IOX2PS_OK) {                                      \
       fprintf(stderr, "%s: %s\n", #call, iox2ps_error_text(returned_)); \
       return 1;                                                      \
@@ -35,7 +35,7 @@ static int show(iox2ps_domain_t *domain, const iox2ps_subscriber_t *subscriber, 
   iox2ps_sample_t sample;
   const void *payload;
   size_t len;
-  uint32_t code;
+  iox2ps_status_t code;
   while ((code = iox2ps_subscriber_receive(domain, subscriber, &sample, &payload, &len)) == IOX2PS_OK) {
     const struct reading *reading = payload;
     printf("subscriber %d read %u: %.1f °C\n", index, reading->number, reading->celsius);
@@ -65,6 +65,5 @@ static int run(iox2ps_domain_t *domain) {
 int main(void) {
   iox2ps_domain_t domain = IOX2PS_DOMAIN_INIT;
   int failed = run(&domain);
-  iox2ps_domain_destroy(&domain);
-  return failed;
+  return iox2ps_domain_destroy(&domain) != IOX2PS_OK || failed;
 }

@@ -16,14 +16,14 @@ enum fault {
   SAMPLE_LEADS_ONE_BYTE_FURTHER
 };
 
-uint32_t __real_iox2ps_publisher_loan(iox2ps_domain_t *, const iox2ps_publisher_t *, size_t, iox2ps_loan_t *, void **);
-uint32_t __real_iox2ps_loan_payload(iox2ps_domain_t *, const iox2ps_loan_t *, void **, size_t *);
-uint32_t __real_iox2ps_subscriber_receive(iox2ps_domain_t *, const iox2ps_subscriber_t *, iox2ps_sample_t *, const void **, size_t *);
-uint32_t __real_iox2ps_sample_payload(iox2ps_domain_t *, const iox2ps_sample_t *, const void **, size_t *);
-uint32_t __wrap_iox2ps_publisher_loan(iox2ps_domain_t *, const iox2ps_publisher_t *, size_t, iox2ps_loan_t *, void **);
-uint32_t __wrap_iox2ps_loan_payload(iox2ps_domain_t *, const iox2ps_loan_t *, void **, size_t *);
-uint32_t __wrap_iox2ps_subscriber_receive(iox2ps_domain_t *, const iox2ps_subscriber_t *, iox2ps_sample_t *, const void **, size_t *);
-uint32_t __wrap_iox2ps_sample_payload(iox2ps_domain_t *, const iox2ps_sample_t *, const void **, size_t *);
+iox2ps_status_t __real_iox2ps_publisher_loan(iox2ps_domain_t *, const iox2ps_publisher_t *, size_t, iox2ps_loan_t *, void **);
+iox2ps_status_t __real_iox2ps_loan_payload(iox2ps_domain_t *, const iox2ps_loan_t *, void **, size_t *);
+iox2ps_status_t __real_iox2ps_subscriber_receive(iox2ps_domain_t *, const iox2ps_subscriber_t *, iox2ps_sample_t *, const void **, size_t *);
+iox2ps_status_t __real_iox2ps_sample_payload(iox2ps_domain_t *, const iox2ps_sample_t *, const void **, size_t *);
+iox2ps_status_t __wrap_iox2ps_publisher_loan(iox2ps_domain_t *, const iox2ps_publisher_t *, size_t, iox2ps_loan_t *, void **);
+iox2ps_status_t __wrap_iox2ps_loan_payload(iox2ps_domain_t *, const iox2ps_loan_t *, void **, size_t *);
+iox2ps_status_t __wrap_iox2ps_subscriber_receive(iox2ps_domain_t *, const iox2ps_subscriber_t *, iox2ps_sample_t *, const void **, size_t *);
+iox2ps_status_t __wrap_iox2ps_sample_payload(iox2ps_domain_t *, const iox2ps_sample_t *, const void **, size_t *);
 
 /* The last loans and samples, of which the domain says which are live, and what was said of each sample. */
 enum { KEPT = 64 };
@@ -58,7 +58,7 @@ static void lead_where_it_was_said(const iox2ps_sample_t *sample, const void **p
   }
 }
 
-uint32_t __wrap_iox2ps_publisher_loan(iox2ps_domain_t *domain, const iox2ps_publisher_t *publisher, size_t len,
+iox2ps_status_t __wrap_iox2ps_publisher_loan(iox2ps_domain_t *domain, const iox2ps_publisher_t *publisher, size_t len,
                                     iox2ps_loan_t *loan, void **payload) {
   uint32_t code = __real_iox2ps_publisher_loan(domain, publisher, len, loan, payload);
   if (code != IOX2PS_OK) return code;
@@ -67,13 +67,13 @@ uint32_t __wrap_iox2ps_publisher_loan(iox2ps_domain_t *domain, const iox2ps_publ
   return code;
 }
 
-uint32_t __wrap_iox2ps_loan_payload(iox2ps_domain_t *domain, const iox2ps_loan_t *loan, void **payload, size_t *len) {
+iox2ps_status_t __wrap_iox2ps_loan_payload(iox2ps_domain_t *domain, const iox2ps_loan_t *loan, void **payload, size_t *len) {
   uint32_t code = __real_iox2ps_loan_payload(domain, loan, payload, len);
   if (code == IOX2PS_OK && FAULT == PAYLOAD_LEADS_TO_ANOTHER_LOAN) lead_to_another_loan(domain, loan, *len, payload);
   return code;
 }
 
-uint32_t __wrap_iox2ps_subscriber_receive(iox2ps_domain_t *domain, const iox2ps_subscriber_t *subscriber,
+iox2ps_status_t __wrap_iox2ps_subscriber_receive(iox2ps_domain_t *domain, const iox2ps_subscriber_t *subscriber,
                                         iox2ps_sample_t *sample, const void **payload, size_t *len) {
   static uint8_t copy[64];
   uint32_t code = __real_iox2ps_subscriber_receive(domain, subscriber, sample, payload, len);
@@ -86,7 +86,7 @@ uint32_t __wrap_iox2ps_subscriber_receive(iox2ps_domain_t *domain, const iox2ps_
   return code;
 }
 
-uint32_t __wrap_iox2ps_sample_payload(iox2ps_domain_t *domain, const iox2ps_sample_t *sample, const void **payload,
+iox2ps_status_t __wrap_iox2ps_sample_payload(iox2ps_domain_t *domain, const iox2ps_sample_t *sample, const void **payload,
                                     size_t *len) {
   uint32_t code = __real_iox2ps_sample_payload(domain, sample, payload, len);
   if (code != IOX2PS_OK) return code;

@@ -2,7 +2,10 @@
 // each check that fails, and then "N passed, M failed".
 #include "iox2_pubsub.hpp"
 #include <cstdio>
+#include <cstdlib>
 #include <cstring>
+#include <memory>
+#include <new>
 #include <string>
 #include <type_traits>
 
@@ -17,9 +20,13 @@ static int passed = 0, failed = 0;
     }                                                              \
   } while (0)
 
+using iox2ps::BackpressureStrategy;
 using iox2ps::Config;
 using iox2ps::Domain;
 using iox2ps::Error;
+using iox2ps::Id;
+using iox2ps::PublisherOptions;
+using iox2ps::Result;
 
 struct Pose {
   double at[3];
@@ -30,9 +37,42 @@ struct alignas(16) Block {
   unsigned char bytes[48];
 };
 
-static_assert(!std::is_copy_constructible_v<iox2ps::Loan<int>> && std::is_nothrow_move_constructible_v<iox2ps::Loan<int>>);
-static_assert(!std::is_copy_constructible_v<iox2ps::Sample<int>> && std::is_nothrow_move_constructible_v<iox2ps::Sample<int>>);
-static_assert(!std::is_copy_constructible_v<iox2ps::Publisher<int>> && !std::is_copy_constructible_v<iox2ps::Subscriber<int>>);
+/* Handles are moved and not copied, made by calls alone, and given back without an exception. */
+template <typename H, typename... Parts> constexpr bool is_handle =
+    !std::is_copy_constructible_v<H> && std::is_nothrow_move_constructible_v<H> && std::is_nothrow_move_assignable_v<H>
+    && std::is_nothrow_destructible_v<H> && !std::is_default_constructible_v<H> && !std::is_constructible_v<H, Parts...>;
+using Hold = iox2ps::detail::Hold<iox2ps::OneThread>;
+static_assert(is_handle<iox2ps::Publisher<int>, Hold, std::unique_ptr<iox2ps::detail::Orphan>>);
+static_assert(is_handle<iox2ps::Subscriber<int>, Hold, iox2ps_subscriber_t>);
+static_assert(is_handle<iox2ps::Loan<int>, Hold, iox2ps_loan_t>);
+static_assert(is_handle<iox2ps::Sample<int>, Hold, iox2ps_sample_t, const int *, std::size_t>);
+static_assert(is_handle<iox2ps::BlockedSend<int>, Hold, iox2ps_blocked_t>);
+static_assert(is_handle<iox2ps::Sent<int>, std::size_t>);
+
+/* A setting takes its own type. */
+template <typename B> using Overflow = decltype(std::declval<Config<int> &>().enable_safe_overflow(std::declval<B>()));
+template <typename B, typename = void> constexpr bool takes_overflow = false;
+template <typename B> constexpr bool takes_overflow<B, std::void_t<Overflow<B>>> = true;
+static_assert(takes_overflow<bool> && !takes_overflow<int> && !takes_overflow<iox2ps_backpressure_strategy_e>);
+static_assert(!std::is_convertible_v<int, BackpressureStrategy>);
+
+static_assert(iox2ps::detail::elapsed_of(std::chrono::nanoseconds(-1)) == 0);
+static_assert(iox2ps::detail::elapsed_of(std::chrono::nanoseconds(7)) == 7);
+
+/* How often memory was taken by new. */
+static std::size_t taken = 0;
+void *operator new(std::size_t size) {
+  taken++;
+  if (void *memory = std::malloc(size)) return memory;
+  std::abort();
+}
+void *operator new(std::size_t size, const std::nothrow_t &) noexcept {
+  taken++;
+  return std::malloc(size);
+}
+void operator delete(void *memory) noexcept { std::free(memory); }
+void operator delete(void *memory, std::size_t) noexcept { std::free(memory); }
+void operator delete(void *memory, const std::nothrow_t &) noexcept { std::free(memory); }
 
 template <typename P> static Domain<P> made(const Config<P> &config) { return Domain<P>::create(config).expect("a domain"); }
 
@@ -45,7 +85,7 @@ static void a_value_is_written_and_read_in_place() {
   loan->stamp = 7;
   loan->at[1] = 0.5;
   const Pose *written = &*loan;
-  iox2ps::Id number = loan.number();
+  Id number = loan.number();
   CHECK(loan.publisher() == publisher.id());
   auto sent = loan.send().expect("a send");
   CHECK(sent.delivered() == std::size_t(1) && !loan && !sent.blocked());
@@ -59,7 +99,7 @@ static void a_value_is_written_and_read_in_place() {
 
 static void messages_stay_where_they_are() {
   Config<std::uint64_t> config(2);
-  config.subscriber_max_buffer_size = 4;
+  config.subscriber_max_buffer_size(4);
   auto domain = made(config);
   auto publisher = domain.publisher().expect("a publisher");
   auto subscriber = domain.subscriber().expect("a subscriber");
@@ -84,7 +124,7 @@ static void slices_have_the_length_of_their_loan() {
   auto domain = made(Config<std::uint16_t[]>(3, 100));
   auto publisher = domain.publisher().expect("a publisher");
   auto subscriber = domain.subscriber().expect("a subscriber");
-  CHECK(publisher.initial_max_slice_len() == 100 && publisher.backpressure_strategy() == IOX2PS_RETRY_UNTIL_DELIVERED);
+  CHECK(publisher.initial_max_slice_len() == 100 && publisher.backpressure_strategy() == BackpressureStrategy::RetryUntilDelivered);
   auto loan = publisher.loan_slice(3).expect("a loan");
   CHECK(loan.size() == 3 && loan[0] == 0 && loan[2] == 0);
   loan[1] = 5;
@@ -116,12 +156,12 @@ static void lengths_of_none_of_the_limit_and_beyond() {
   }
   CHECK(subscriber.receive().expect("a receive")->empty());
   CHECK(subscriber.receive().expect("a receive")->size() == 8);
-  auto options = domain.publisher_options();
-  options.initial_max_slice_len = Config<std::uint64_t[]>::bytes(SIZE_MAX);
-  CHECK(domain.publisher(options).error() == Error::PublisherUnableToCreateDataSegment);
-  options.initial_max_slice_len = 8;
-  options.degradation = 77;
+  PublisherOptions<std::uint64_t[]> options;
+  CHECK(domain.publisher(options.initial_max_slice_len(SIZE_MAX)).error() == Error::PublisherUnableToCreateDataSegment);
+  options.initial_max_slice_len(1).degradation_handler(static_cast<iox2ps::DegradationAction>(77));
   CHECK(domain.publisher(options).error() == Error::InvalidSettings);
+  CHECK(domain.subscriber(iox2ps::SubscriberOptions().degradation_handler(static_cast<iox2ps::DegradationAction>(77))).error()
+        == Error::InvalidSettings);
 }
 
 static void alignments_are_kept() {
@@ -139,7 +179,7 @@ static void handles_outlive_their_domain_and_make_room() {
   std::optional<iox2ps::Sample<int>> kept;
   {
     Config<int> config(6);
-    config.max_publishers = 1;
+    config.max_publishers(1);
     auto domain = made(config);
     auto subscriber = domain.subscriber().expect("a subscriber");
     {
@@ -160,7 +200,7 @@ static void handles_outlive_their_domain_and_make_room() {
 
 static void loans_are_counted() {
   Config<int> config(7);
-  config.publisher_max_loaned_samples = 1;
+  config.publisher_max_loaned_samples(1);
   auto domain = made(config);
   auto publisher = domain.publisher().expect("a publisher");
   {
@@ -173,8 +213,8 @@ static void loans_are_counted() {
 
 static Config<int> keeping(std::uint64_t service_id) {
   Config<int> config(service_id);
-  config.enable_safe_overflow = 0;
-  config.subscriber_max_buffer_size = 1;
+  config.enable_safe_overflow(false);
+  config.subscriber_max_buffer_size(1);
   return config;
 }
 
@@ -202,9 +242,126 @@ static void a_blocked_send_is_tried_again_or_given_up() {
   CHECK(!subscriber.receive().expect("a receive"));
 }
 
+static void a_domain_that_was_moved_from_is_empty() {
+  auto domain = made(Config<int>(16));
+  auto moved = std::move(domain);
+  CHECK(!domain && moved);
+  CHECK(domain.publisher().error() == Error::NotLive && domain.subscriber().error() == Error::NotLive);
+  CHECK(domain.publisher(PublisherOptions<int>().max_loaned_samples(1)).error() == Error::NotLive);
+  CHECK(domain.config().error() == Error::NotLive && domain.warnings().empty());
+  CHECK(domain.connection_count() == 0 && domain.book_count() == 0 && domain.refused_connections() == 0);
+  auto copy = moved;
+  CHECK(copy.publisher().has_value() && moved.book_count() == 0);
+  domain = moved;
+  CHECK(domain.subscriber().has_value());
+}
+
+static void settings_are_read_back() {
+  Config<std::uint16_t[]> config(17, 5);
+  config.service_id(Id{17, 3}).node_id(Id{1, 2}).max_publishers(3).max_subscribers(4).subscriber_max_buffer_size(5);
+  config.subscriber_max_borrowed_samples(6).history_size(7).subscriber_expired_connection_buffer(8);
+  config.publisher_max_loaned_samples(9).enable_safe_overflow(false).backpressure_strategy(BackpressureStrategy::DiscardData);
+  auto read = made(config).config().expect("settings");
+  CHECK(read.service_id() == Id{17, 3} && read.node_id() == Id{1, 2});
+  CHECK(read.payload_size() == 10 && read.payload_alignment() == 2);
+  CHECK(read.max_publishers() == 3 && read.max_subscribers() == 4 && read.subscriber_max_buffer_size() == 5);
+  CHECK(read.subscriber_max_borrowed_samples() == 6 && read.history_size() == 7);
+  CHECK(read.subscriber_expired_connection_buffer() == 8 && read.publisher_max_loaned_samples() == 9);
+  CHECK(!read.enable_safe_overflow() && read.backpressure_strategy() == BackpressureStrategy::DiscardData);
+  CHECK(Config<int>(17).enable_safe_overflow() && Config<int>(17, 9).payload_size() == sizeof(int));
+}
+
+static void options_are_as_the_domain_says_but_for_what_is_set() {
+  auto domain = made(Config<int>(18).subscriber_max_buffer_size(3).publisher_max_loaned_samples(1));
+  CHECK(domain.subscriber()->buffer_size() == 3);
+  CHECK(domain.subscriber(iox2ps::SubscriberOptions().buffer_size(1))->buffer_size() == 1);
+  CHECK(domain.subscriber(iox2ps::SubscriberOptions().buffer_size(4)).error() == Error::SubscriberBufferSizeExceedsMax);
+  auto one = domain.publisher().expect("a publisher");
+  auto two = domain.publisher(PublisherOptions<int>().max_loaned_samples(2)).expect("a publisher");
+  auto first = one.loan().expect("a loan"), second = two.loan().expect("a loan");
+  CHECK(one.loan().error() == Error::LoanExceedsMaxLoans && two.loan().has_value());
+}
+
+static void warnings_name_what_they_are_of() {
+  auto domain = made(Config<int>(19).subscriber_expired_connection_buffer(1));
+  CHECK(domain.warnings().empty());
+  auto subscriber = domain.subscriber().expect("a subscriber");
+  auto warnings = domain.warnings();
+  CHECK(warnings.size() == 1 && warnings[0].kind == iox2ps::WarningKind::ExpiredBufferRaised);
+  CHECK(warnings[0].subscriber == subscriber.id() && !warnings[0].publisher && !warnings[0].failure);
+  CHECK(std::strstr(iox2ps::text(warnings[0].kind), "ExpiredBufferRaised") != nullptr);
+}
+
+static void results_are_read_in_several_ways() {
+  Result<int> there(3), none(Error::NotLive);
+  const Result<int> constant(4);
+  CHECK(there.value() == 3 && *there == 3 && constant.value() == 4 && *constant == 4);
+  CHECK(there.value_or(9) == 3 && none.value_or(9) == 9 && Result<int>(Error::NotLive).value_or(8) == 8);
+  CHECK(Result<std::string>(std::string("text")).value_or("none") == "text");
+  auto half = [](int value) { return value % 2 == 0 ? Result<int>(value / 2) : Result<int>(Error::InvalidSettings); };
+  CHECK(constant.and_then(half).value() == 2 && there.and_then(half).error() == Error::InvalidSettings);
+  CHECK(none.and_then(half).error() == Error::NotLive && *Result<int>(8).and_then(half).and_then(half) == 2);
+  there.value() = 6;
+  CHECK(*there.and_then([](int &value) { return Result<std::string>(std::to_string(value)); }) == "6");
+  auto domain = made(Config<int>(20));
+  auto sent = domain.publisher().and_then([](auto &&publisher) { return publisher.send_copy(1); });
+  CHECK(sent.has_value() && sent->delivered() == std::size_t(0));
+}
+
+static void a_publisher_that_goes_takes_no_memory() {
+  auto domain = made(keeping(21).max_publishers(2));
+  auto subscriber = domain.subscriber().expect("a subscriber");
+  std::optional<iox2ps::BlockedSend<int>> blocked[2];
+  for (auto &waits : blocked) {
+    auto publisher = domain.publisher().expect("a publisher");
+    CHECK(publisher.send_copy(1).has_value());
+    waits = std::move(publisher.send_copy(2)->blocked());
+    std::size_t before = taken;
+    publisher.close();
+    CHECK(taken == before);
+  }
+  CHECK(domain.publisher().error() == Error::PublisherExceedsMaxSupportedPublishers);
+  blocked[0].reset();
+  CHECK(domain.publisher().has_value());
+  auto other = domain.publisher().expect("a publisher");
+  CHECK(domain.publisher().error() == Error::PublisherExceedsMaxSupportedPublishers);
+  blocked[1].reset();
+  CHECK(domain.publisher().has_value());
+}
+
+#if defined(__cpp_exceptions)
+struct Fussy {
+  int value;
+  Fussy() : value(left) {
+    if (left-- == 0) throw std::string("no value");
+  }
+  static int left;
+};
+int Fussy::left = 0;
+
+static void a_loan_whose_values_throw_is_given_back() {
+  auto domain = made(Config<Fussy[]>(22, 3).publisher_max_loaned_samples(1));
+  auto publisher = domain.publisher().expect("a publisher");
+  for (int i = 0; i < 3; i++) {
+    Fussy::left = i;
+    bool thrown = false;
+    try {
+      static_cast<void>(publisher.loan_slice(3).has_value());
+    } catch (const std::string &) {
+      thrown = true;
+    }
+    CHECK(thrown);
+  }
+  Fussy::left = 3;
+  CHECK(publisher.loan_slice(3).expect("a loan")[2].value == 1);
+}
+#else
+static void a_loan_whose_values_throw_is_given_back() {}
+#endif
+
 static void a_publisher_that_goes_while_it_is_blocked_closes_later() {
   auto config = keeping(9);
-  config.max_publishers = 1;
+  config.max_publishers(1);
   auto domain = made(config);
   auto subscriber = domain.subscriber().expect("a subscriber");
   std::optional<iox2ps::BlockedSend<int>> blocked;
@@ -220,12 +377,11 @@ static void a_publisher_that_goes_while_it_is_blocked_closes_later() {
 
 static void full_buffers_are_passed_over_or_fail_the_send() {
   auto domain = made(keeping(10));
-  auto options = domain.publisher_options();
-  options.backpressure_strategy = IOX2PS_DISCARD_DATA;
+  auto options = PublisherOptions<int>().backpressure_strategy(BackpressureStrategy::DiscardData);
   auto discards = domain.publisher(options).expect("a publisher");
-  options.backpressure_handler = IOX2PS_BACKPRESSURE_DISCARD_DATA_AND_FAIL;
+  options.backpressure_handler(iox2ps::BackpressureAction::DiscardDataAndFail);
   auto fails = domain.publisher(options).expect("a publisher");
-  CHECK(discards.backpressure_strategy() == IOX2PS_DISCARD_DATA);
+  CHECK(discards.backpressure_strategy() == BackpressureStrategy::DiscardData);
   auto subscriber = domain.subscriber().expect("a subscriber");
   CHECK(discards.send_copy(1)->delivered() == std::size_t(1));
   CHECK(discards.send_copy(2)->delivered() == std::size_t(0));
@@ -235,10 +391,7 @@ static void full_buffers_are_passed_over_or_fail_the_send() {
 
 static void a_publisher_asks_for_fewer_slots() {
   auto domain = made(Config<int>(12));
-  auto options = domain.publisher_options();
-  CHECK(options.preallocated_samples == 0);
-  options.preallocated_samples = 1;
-  auto one_slot = domain.publisher(options).expect("a publisher");
+  auto one_slot = domain.publisher(PublisherOptions<int>().preallocated_samples(1)).expect("a publisher");
   auto worst_case = domain.publisher().expect("a publisher");
   {
     auto first = one_slot.loan().expect("a loan");
@@ -251,12 +404,9 @@ static void a_publisher_asks_for_fewer_slots() {
 static void a_publisher_grows() {
   auto domain = Domain<int[]>::create(Config<int[]>(13, 2)).expect("a domain");
   auto subscriber = domain.subscriber().expect("a subscriber");
-  auto options = domain.publisher_options();
-  CHECK(options.allocation_strategy == IOX2PS_ALLOCATION_STATIC);
-  auto fixed = domain.publisher(options).expect("a publisher");
-  options.allocation_strategy = IOX2PS_ALLOCATION_POWER_OF_TWO;
-  options.initial_max_slice_len = 0;
-  auto growing = domain.publisher(options).expect("a publisher");
+  auto fixed = domain.publisher().expect("a publisher");
+  auto grows = PublisherOptions<int[]>().allocation_strategy(iox2ps::AllocationStrategy::PowerOfTwo).initial_max_slice_len(0);
+  auto growing = domain.publisher(grows).expect("a publisher");
   CHECK(fixed.loan_slice(3).error() == Error::LoanExceedsMaxLoanSize);
   const int values[] = {1, 2, 3, 4, 5};
   CHECK(growing.send_copy(values, 5)->delivered() == std::size_t(1));
@@ -268,7 +418,7 @@ static void a_publisher_grows() {
 
 static void a_late_subscriber_gets_the_history() {
   Config<int> config(11);
-  config.history_size = 1;
+  config.history_size(1);
   auto domain = made(config);
   auto publisher = domain.publisher().expect("a publisher");
   for (int n : {1, 2}) CHECK(publisher.send_copy(n)->delivered() == std::size_t(0));
@@ -279,7 +429,7 @@ static void a_late_subscriber_gets_the_history() {
 
 static void a_header_says_where_a_message_comes_from() {
   Config<std::uint16_t[]> config(13, 3);
-  config.node_id = {6, 5};
+  config.node_id(Id{6, 5});
   auto domain = made(config);
   auto first = domain.publisher().expect("a publisher");
   auto second = domain.publisher().expect("a publisher");
@@ -289,7 +439,7 @@ static void a_header_says_where_a_message_comes_from() {
     CHECK(publisher->send_copy(values, 3).has_value());
     auto sample = *subscriber.receive().expect("a receive");
     auto header = sample.header().expect("a header");
-    CHECK(header.node_id == iox2ps::Id{6, 5} && header.publisher == publisher->id() && header.number_of_elements == 3);
+    CHECK(header.node_id == Id{6, 5} && header.publisher == publisher->id() && header.number_of_elements == 3);
     sample.release();
     CHECK(sample.header().error() == Error::NotLive);
   }
@@ -312,14 +462,14 @@ static void connections_and_books_are_counted() {
 
 static void settings_say_how_many_slots_a_publisher_has() {
   Config<int> config(15);
-  config.max_subscribers = 2;
-  config.subscriber_max_buffer_size = 3;
-  config.subscriber_max_borrowed_samples = 4;
-  config.history_size = 5;
-  config.publisher_max_loaned_samples = 6;
+  config.max_subscribers(2);
+  config.subscriber_max_buffer_size(3);
+  config.subscriber_max_borrowed_samples(4);
+  config.history_size(5);
+  config.publisher_max_loaned_samples(6);
   CHECK(config.worst_case_slots() == std::size_t(2 * (3 + 4) + 5 + 6));
   CHECK(config.worst_case_slots(1) == std::size_t(2 * (3 + 4) + 5 + 1));
-  config.max_subscribers = SIZE_MAX;
+  config.max_subscribers(SIZE_MAX);
   CHECK(!config.worst_case_slots());
 }
 
@@ -329,6 +479,13 @@ static void errors_have_texts() {
 }
 
 int main() {
+  a_domain_that_was_moved_from_is_empty();
+  settings_are_read_back();
+  options_are_as_the_domain_says_but_for_what_is_set();
+  warnings_name_what_they_are_of();
+  results_are_read_in_several_ways();
+  a_publisher_that_goes_takes_no_memory();
+  a_loan_whose_values_throw_is_given_back();
   a_value_is_written_and_read_in_place();
   messages_stay_where_they_are();
   slices_have_the_length_of_their_loan();

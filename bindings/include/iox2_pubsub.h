@@ -1,4 +1,5 @@
-/* Publish-subscribe inside one program: the calls of the proved library iox2_pubsub for C and C++.
+/** @file
+ * Publish-subscribe inside one program: the calls of the proved library iox2_pubsub for C11 and C++11 or later.
  * Messages are bytes, as many as each loan says, up to a limit that the domain is made with.
  *
  * What a caller owes, and nothing else:
@@ -23,24 +24,32 @@
  * Threads. Nothing here starts a thread, takes a lock, waits, or keeps state outside of a domain. So threads may call
  * different domains at a time, and a domain may go from one thread to another. Threads that share one have a lock for it:
  *  - each call that takes the domain is made with the lock, also one that only asks: it takes the domain out of its
- *    iox2ps_domain_t and puts it back;
+ *    iox2ps_domain_t and puts it back. For the same reason no call takes a const domain: to a C compiler const would
+ *    say that nothing is written there;
  *  - payloads need no lock. The bytes of a loan are its holder's from the call that lends it to the call that sends or
  *    discards it; those of a sample are read by whoever likes, by several threads at a time, from the call that receives
  *    it to the call that releases it. No other call touches them. They aren't touched once the ending call has begun,
  *    by whichever thread;
  *  - numbers may be handed on as any struct may: by the lock, a queue or a join;
- *  - to wait for a message (IOX2PS_NO_SAMPLE) or for room (IOX2PS_BLOCKED), wait at a condition variable of the lock, and try
- *    again. A message may have come after each send, retry and giving up, also one that returned IOX2PS_BLOCKED, after an
- *    update of a publisher's connections, and after a publisher was made or closed; room, after a receive and after a
- *    subscriber was closed; and a publisher that returned IOX2PS_PUBLISHER_IS_BLOCKED may be free after a retry or a giving
- *    up. A release makes no room in a buffer;
+ *  - to wait for a message (IOX2PS_NO_SAMPLE), for room (IOX2PS_BLOCKED), for an earlier send (IOX2PS_PUBLISHER_IS_BLOCKED) or for
+ *    a loan (IOX2PS_LOAN_ERROR_EXCEEDS_MAX_LOANS, IOX2PS_LOAN_ERROR_OUT_OF_MEMORY), wait at a condition variable of the lock, and
+ *    try again once another thread has made such a call:
+ *     - for a message: a send, a retry or a giving up, also one that returned IOX2PS_BLOCKED, an update of a publisher's
+ *       connections, or a publisher made or closed;
+ *     - for room: a receive, or a subscriber closed. A release makes no room in a buffer;
+ *     - for an earlier send: a retry or a giving up;
+ *     - for a loan: a send, a discard, a release, a receive that copies, a retry, a giving up, or an update of the publisher's
+ *       connections, which alone takes back what waited for a subscriber that was closed;
  *  - iox2ps_domain_destroy is called when no thread will call, read or write any more.
  * With the lock, all calls of a domain are one list, and what is proved of a list of calls is so of that one, in the order
  * in which the lock was taken. bindings/c/threads.c is such a program; iox2_pubsub_shared.hpp has a lock in it.
  *
  * Each call returns IOX2PS_OK, which is 0, or one of the codes that stand at it. Where it says nothing
  * else, a call that doesn't return IOX2PS_OK changes neither the domain nor what its pointers point to,
- * and IOX2PS_NO_DOMAIN says that the iox2ps_domain_t has no domain. */
+ * and IOX2PS_NO_DOMAIN says that the iox2ps_domain_t has no domain. A compiler that can, warns where the code is dropped.
+ *
+ * A field whose name is reserved_ has to be 0, as the calls that fill its struct leave it. Today nothing reads it; a later
+ * version may refuse or use what isn't 0. Fields whose names end in _ are otherwise for the library alone. */
 #ifndef IOX2_PUBSUB_H
 #define IOX2_PUBSUB_H
 
@@ -51,204 +60,275 @@
 extern "C" {
 #endif
 
-/* What a call returns, as a uint32_t. iox2ps_error_text has a text for each. */
+#define IOX2PS_VERSION_MAJOR 0 /**< the first number of this header's version */
+#define IOX2PS_VERSION_MINOR 1 /**< the second number */
+#define IOX2PS_VERSION_PATCH 0 /**< the third number */
+
+/** The version as one number, which grows with each version. */
+#define IOX2PS_VERSION (IOX2PS_VERSION_MAJOR * 65536 + IOX2PS_VERSION_MINOR * 256 + IOX2PS_VERSION_PATCH)
+
+/** The version as words. */
+#define IOX2PS_VERSION_TEXT IOX2PS_WORDS_OF_(IOX2PS_VERSION_MAJOR, IOX2PS_VERSION_MINOR, IOX2PS_VERSION_PATCH)
+#define IOX2PS_WORDS_OF_(major, minor, patch) IOX2PS_WORDS_(major, minor, patch)
+#define IOX2PS_WORDS_(major, minor, patch) #major "." #minor "." #patch
+
+/** Stands at each function whose result has to be looked at: a compiler that can, warns where it is dropped. */
+#ifndef IOX2PS_NODISCARD
+#if defined(__cplusplus) && __cplusplus >= 201703L
+#define IOX2PS_NODISCARD [[nodiscard]]
+#elif defined(__GNUC__)
+#define IOX2PS_NODISCARD __attribute__((warn_unused_result))
+#else
+#define IOX2PS_NODISCARD
+#endif
+#endif
+
+/** What a call returns: one of iox2ps_status_e. */
+typedef uint32_t iox2ps_status_t;
+
+/** The codes of iox2ps_status_t. iox2ps_error_text() has a text for each. */
 typedef enum iox2ps_status_e {
-  IOX2PS_OK = 0,
-  IOX2PS_NO_DOMAIN = 1,            /* none was made, or it was destroyed */
-  IOX2PS_NOT_LIVE = 2,             /* the numbers name nothing that is live in this domain */
-  IOX2PS_NO_SAMPLE = 3,            /* no message waits */
-  IOX2PS_OUT_OF_MEMORY = 4,        /* there is no memory for the domain */
-  IOX2PS_HAS_DOMAIN = 5,           /* there is one already */
-  IOX2PS_BLOCKED = 6,              /* the send waits for a subscriber whose buffer is full */
-  IOX2PS_PUBLISHER_IS_BLOCKED = 7, /* an earlier send of the publisher waits, and nothing was done */
-  IOX2PS_INVALID_SETTINGS = 8,     /* a field has none of its values */
-  IOX2PS_TOO_SMALL = 9,            /* the message is longer than the room for it */
-  IOX2PS_LOAN_ERROR_OUT_OF_MEMORY = 10,
-  IOX2PS_LOAN_ERROR_EXCEEDS_MAX_LOANS = 11,
-  IOX2PS_LOAN_ERROR_EXCEEDS_MAX_LOAN_SIZE = 12,
-  IOX2PS_LOAN_ERROR_INTERNAL_FAILURE = 13,
-  IOX2PS_SEND_ERROR_CONNECTION_BROKEN_SINCE_SENDER_NO_LONGER_EXISTS = 20,
-  IOX2PS_SEND_ERROR_CONNECTION_CORRUPTED = 21,
+  IOX2PS_OK = 0, /**< the call did what it is to do */
+  IOX2PS_NO_DOMAIN = 1, /**< none was made, or it was destroyed */
+  IOX2PS_NOT_LIVE = 2, /**< the numbers name nothing that is live in this domain */
+  IOX2PS_NO_SAMPLE = 3, /**< no message waits */
+  IOX2PS_OUT_OF_MEMORY = 4, /**< there is no memory for the domain */
+  IOX2PS_HAS_DOMAIN = 5, /**< there is one already */
+  IOX2PS_BLOCKED = 6, /**< the send waits for a subscriber whose buffer is full */
+  IOX2PS_PUBLISHER_IS_BLOCKED = 7, /**< an earlier send of the publisher waits, and nothing was done */
+  IOX2PS_INVALID_SETTINGS = 8, /**< a field has none of its values */
+  IOX2PS_TOO_SMALL = 9, /**< the message is longer than the room for it */
+  IOX2PS_LOAN_ERROR_OUT_OF_MEMORY = 10, /**< each slot is in use, or memory may not grow further */
+  IOX2PS_LOAN_ERROR_EXCEEDS_MAX_LOANS = 11, /**< as many loans are out as the publisher may have */
+  IOX2PS_LOAN_ERROR_EXCEEDS_MAX_LOAN_SIZE = 12, /**< longer than the publisher's greatest, and it doesn't grow */
+  IOX2PS_LOAN_ERROR_INTERNAL_FAILURE = 13, /**< memory is to grow and can't, or no number is left for a message */
+  IOX2PS_SEND_ERROR_CONNECTION_BROKEN_SINCE_SENDER_NO_LONGER_EXISTS = 20, /**< the loan's publisher is closed */
+  IOX2PS_SEND_ERROR_CONNECTION_CORRUPTED = 21, /**< never returned */
+  /** A handler let the send fail at a full buffer; others may have the message. */
   IOX2PS_SEND_ERROR_UNABLE_TO_DELIVER = 22,
-  IOX2PS_SEND_ERROR_INTERNAL_ERROR = 23,
-  IOX2PS_SEND_ERROR_CONNECTION_INCOMPATIBLE_BUFFER_SIZE = 24,
+  IOX2PS_SEND_ERROR_INTERNAL_ERROR = 23, /**< never returned */
+  IOX2PS_SEND_ERROR_CONNECTION_INCOMPATIBLE_BUFFER_SIZE = 24, /**< never returned */
+  /** As IOX2PS_CONNECTION_FAILURE_OUT_OF_MEMORY, and nobody has the message. */
   IOX2PS_SEND_ERROR_CONNECTION_OUT_OF_MEMORY = 25,
+  /** As IOX2PS_CONNECTION_FAILURE_EXPIRED_BUFFER_FULL, and nobody has the message. */
   IOX2PS_SEND_ERROR_CONNECTION_EXPIRED_BUFFER_FULL = 26,
-  IOX2PS_SEND_ERROR_CONNECTION_UNABLE_TO_MAP = 27,
+  IOX2PS_SEND_ERROR_CONNECTION_UNABLE_TO_MAP = 27, /**< never returned */
+  /** Messages wait, but of each of their publishers as many samples are held as may be. */
   IOX2PS_RECEIVE_ERROR_EXCEEDS_MAX_BORROWS = 30,
-  IOX2PS_RECEIVE_ERROR_CONNECTION_INCOMPATIBLE_BUFFER_SIZE = 34,
+  IOX2PS_RECEIVE_ERROR_CONNECTION_INCOMPATIBLE_BUFFER_SIZE = 34, /**< never returned */
+  /** As IOX2PS_CONNECTION_FAILURE_OUT_OF_MEMORY, and nothing was received. */
   IOX2PS_RECEIVE_ERROR_CONNECTION_OUT_OF_MEMORY = 35,
+  /** As IOX2PS_CONNECTION_FAILURE_EXPIRED_BUFFER_FULL, and nothing was received. */
   IOX2PS_RECEIVE_ERROR_CONNECTION_EXPIRED_BUFFER_FULL = 36,
-  IOX2PS_RECEIVE_ERROR_CONNECTION_UNABLE_TO_MAP = 37,
-  IOX2PS_CONNECTION_FAILURE_INCOMPATIBLE_BUFFER_SIZE = 44,
+  IOX2PS_RECEIVE_ERROR_CONNECTION_UNABLE_TO_MAP = 37, /**< never returned */
+  IOX2PS_CONNECTION_FAILURE_INCOMPATIBLE_BUFFER_SIZE = 44, /**< never returned */
+  /** Memory for a connection was refused, and the port is one that fails then. */
   IOX2PS_CONNECTION_FAILURE_OUT_OF_MEMORY = 45,
+  /** The subscriber has samples of more closed publishers than there is room for. */
   IOX2PS_CONNECTION_FAILURE_EXPIRED_BUFFER_FULL = 46,
-  IOX2PS_CONNECTION_FAILURE_UNABLE_TO_MAP = 47,
-  IOX2PS_PUBLISHER_CREATE_ERROR_EXCEEDS_MAX_SUPPORTED_PUBLISHERS = 50,
+  IOX2PS_CONNECTION_FAILURE_UNABLE_TO_MAP = 47, /**< never returned */
+  IOX2PS_PUBLISHER_CREATE_ERROR_EXCEEDS_MAX_SUPPORTED_PUBLISHERS = 50, /**< as many are open as the domain allows */
+  /** Memory for its messages was refused, or there can't be so much. */
   IOX2PS_PUBLISHER_CREATE_ERROR_UNABLE_TO_CREATE_DATA_SEGMENT = 51,
-  IOX2PS_PUBLISHER_CREATE_ERROR_FAILED_TO_DEPLOY_THREADSAFETY_POLICY = 52,
-  IOX2PS_PUBLISHER_CREATE_ERROR_UNABLE_TO_CREATE_PORT_TAG = 53,
+  IOX2PS_PUBLISHER_CREATE_ERROR_FAILED_TO_DEPLOY_THREADSAFETY_POLICY = 52, /**< other memory was refused */
+  IOX2PS_PUBLISHER_CREATE_ERROR_UNABLE_TO_CREATE_PORT_TAG = 53, /**< no id is left for a port */
+  /** As many are there as the domain allows; a closed one counts until its last sample is released. */
   IOX2PS_SUBSCRIBER_CREATE_ERROR_EXCEEDS_MAX_SUPPORTED_SUBSCRIBERS = 60,
-  IOX2PS_SUBSCRIBER_CREATE_ERROR_BUFFER_SIZE_EXCEEDS_MAX = 61,
-  IOX2PS_SUBSCRIBER_CREATE_ERROR_FAILED_TO_DEPLOY_THREADSAFETY_POLICY = 62,
-  IOX2PS_SUBSCRIBER_CREATE_ERROR_UNABLE_TO_CREATE_PORT_TAG = 63
+  IOX2PS_SUBSCRIBER_CREATE_ERROR_BUFFER_SIZE_EXCEEDS_MAX = 61, /**< a larger buffer than the domain allows */
+  IOX2PS_SUBSCRIBER_CREATE_ERROR_FAILED_TO_DEPLOY_THREADSAFETY_POLICY = 62, /**< memory was refused */
+  IOX2PS_SUBSCRIBER_CREATE_ERROR_UNABLE_TO_CREATE_PORT_TAG = 63 /**< no id is left for a port */
 } iox2ps_status_e;
 
-/* What a publisher does where a subscriber's buffer is full and the domain doesn't overflow. */
+/** What a publisher does where a subscriber's buffer is full and the domain doesn't overflow. */
 typedef enum iox2ps_backpressure_strategy_e {
-  IOX2PS_RETRY_UNTIL_DELIVERED = 0, /* the send is blocked: it is tried again, or given up */
-  IOX2PS_DISCARD_DATA = 1           /* the subscriber doesn't get the message */
+  IOX2PS_RETRY_UNTIL_DELIVERED = 0, /**< the send is blocked: it is tried again, or given up */
+  IOX2PS_DISCARD_DATA = 1 /**< the subscriber doesn't get the message */
 } iox2ps_backpressure_strategy_e;
 
-/* What always answers in place of the strategy. */
+/** What always answers in place of the strategy. */
 typedef enum iox2ps_backpressure_handler_e {
-  IOX2PS_BACKPRESSURE_NONE = 0,             /* the strategy does */
-  IOX2PS_BACKPRESSURE_FOLLOW_STRATEGY = 1,
-  IOX2PS_BACKPRESSURE_RETRY = 2,
-  IOX2PS_BACKPRESSURE_DISCARD_DATA = 3,
-  IOX2PS_BACKPRESSURE_DISCARD_DATA_AND_FAIL = 4
+  IOX2PS_BACKPRESSURE_NONE = 0, /**< the strategy does */
+  IOX2PS_BACKPRESSURE_FOLLOW_STRATEGY = 1, /**< the strategy does, by a handler that asks it */
+  IOX2PS_BACKPRESSURE_RETRY = 2, /**< the send is blocked */
+  IOX2PS_BACKPRESSURE_DISCARD_DATA = 3, /**< the subscriber doesn't get the message */
+  IOX2PS_BACKPRESSURE_DISCARD_DATA_AND_FAIL = 4 /**< the same, and the send fails in the end */
 } iox2ps_backpressure_handler_e;
 
-/* What a port does where memory for a connection is refused. */
+/** What a port does where memory for a connection is refused. */
 typedef enum iox2ps_degradation_e {
-  IOX2PS_DEGRADATION_IGNORE = 0, /* go on without it */
-  IOX2PS_DEGRADATION_WARN = 1,   /* and the domain warns of it */
-  IOX2PS_DEGRADATION_FAIL = 2    /* let the call fail */
+  IOX2PS_DEGRADATION_IGNORE = 0, /**< go on without it */
+  IOX2PS_DEGRADATION_WARN = 1, /**< and the domain warns of it */
+  IOX2PS_DEGRADATION_FAIL = 2 /**< let the call fail */
 } iox2ps_degradation_e;
 
-/* How a publisher's memory grows where a loan doesn't fit. */
+/** How a publisher's memory grows where a loan doesn't fit. */
 typedef enum iox2ps_allocation_strategy_e {
-  IOX2PS_ALLOCATION_STATIC = 0,      /* it doesn't: the loan is refused */
-  IOX2PS_ALLOCATION_BEST_FIT = 1,    /* by slots for messages as long as the longest so far */
-  IOX2PS_ALLOCATION_POWER_OF_TWO = 2 /* by slots as long as the next power of two */
+  IOX2PS_ALLOCATION_STATIC = 0, /**< it doesn't: the loan is refused */
+  IOX2PS_ALLOCATION_BEST_FIT = 1, /**< by slots for messages as long as the longest so far */
+  IOX2PS_ALLOCATION_POWER_OF_TWO = 2 /**< by slots as long as the next power of two */
 } iox2ps_allocation_strategy_e;
 
-/* What a warning is of. iox2ps_error_text has a text for each. */
+/** What a warning is of. iox2ps_error_text has a text for each. */
 typedef enum iox2ps_warning_e {
+  /** There is less room for closed publishers than samples that may be borrowed, which is taken in its place. */
   IOX2PS_WARNING_EXPIRED_BUFFER_RAISED = 100,
-  IOX2PS_WARNING_PUBLISHER_PARTLY_CONNECTED = 101,
+  IOX2PS_WARNING_PUBLISHER_PARTLY_CONNECTED = 101, /**< a publisher was made, and its first update of connections failed */
+  /** A subscriber was made, and its first update of connections failed. */
   IOX2PS_WARNING_SUBSCRIBER_PARTLY_CONNECTED = 102,
-  IOX2PS_WARNING_CONNECTION_NOT_MADE = 103,
+  IOX2PS_WARNING_CONNECTION_NOT_MADE = 103, /**< memory for a connection was refused */
+  /** Messages of a closed publisher were lost before they were received, for want of room for its connection. */
   IOX2PS_WARNING_EXPIRED_DATA_DISCARDED = 104
 } iox2ps_warning_e;
 
-/* A domain, which its iox2ps_domain_t owns: null where there is none. */
-typedef struct iox2ps_domain_t { void *domain_; } iox2ps_domain_t;
-#ifdef __cplusplus
-#define IOX2PS_DOMAIN_INIT iox2ps_domain_t{nullptr}
-#else
-#define IOX2PS_DOMAIN_INIT ((iox2ps_domain_t){0})
-#endif
+/** A domain, which its iox2ps_domain_t owns. */
+typedef struct iox2ps_domain_t {
+  void *domain_; /**< null where there is none */
+} iox2ps_domain_t;
 
-/* A number of 128 bits. */
-typedef struct iox2ps_wide_t { uint64_t low, high; } iox2ps_wide_t;
+/** What an iox2ps_domain_t begins with, also one that is static. */
+#define IOX2PS_DOMAIN_INIT {0}
 
-/* The settings of a domain. */
+/** A number of 128 bits. */
+typedef struct iox2ps_wide_t {
+  uint64_t low;  /**< the number modulo 2 to the 64th */
+  uint64_t high; /**< the rest of it */
+} iox2ps_wide_t;
+
+/** The settings of a domain. A publisher takes its memory when it is made, as many slots of payload_size bytes as
+ * iox2ps_worst_case_slots() says:
+ *
+ *     max_subscribers * (subscriber_max_buffer_size + subscriber_max_borrowed_samples) + history_size + its loans
+ *
+ * so that no loan is ever refused for want of a slot. By default these are 8 * (2 + 2) + 0 + 2 = 34. */
 typedef struct iox2ps_config_t {
-  iox2ps_wide_t service_id;                      /* names the domain */
-  iox2ps_wide_t node_id;                         /* what the header of each message names */
-  size_t payload_size;                         /* how many bytes a message of a publisher may have, where its
-                                                  options say nothing else; a multiple of the alignment */
-  size_t payload_alignment;                    /* 1, 2, 4, 8 or 16: to what each payload is aligned */
-  size_t max_publishers;                       /* how many may be open at a time */
-  size_t max_subscribers;                      /* how many there may be at a time */
-  size_t subscriber_max_buffer_size;           /* messages of one publisher that may wait; 0 counts as 1 */
-  size_t subscriber_max_borrowed_samples;      /* samples of one publisher that a subscriber may hold */
-  size_t history_size;                         /* messages that a publisher keeps for later subscribers */
-  size_t subscriber_expired_connection_buffer; /* connections to closed publishers that are kept */
-  size_t publisher_max_loaned_samples;         /* loans of a publisher that may be out at a time */
-  uint32_t enable_safe_overflow;               /* not 0: a full buffer lets its oldest message go */
-  uint32_t backpressure_strategy;              /* an iox2ps_backpressure_strategy_e */
+  iox2ps_wide_t service_id; /**< names the domain */
+  iox2ps_wide_t node_id;    /**< what the header of each message names */
+  size_t payload_size;      /**< how many bytes a message of a publisher may have, where its options say nothing else;
+                                 a multiple of the alignment */
+  size_t payload_alignment; /**< 1, 2, 4, 8 or 16: to what each payload is aligned */
+  size_t max_publishers;    /**< how many may be open at a time; 2 by default */
+  size_t max_subscribers;   /**< how many there may be at a time; 8 by default. Each counts in the memory of each
+                                 publisher, also where it is never made */
+  size_t subscriber_max_buffer_size;           /**< messages of one publisher that may wait; 0 counts as 1; 2 by default */
+  size_t subscriber_max_borrowed_samples;      /**< samples of one publisher that a subscriber may hold; 2 by default */
+  size_t history_size;                         /**< messages that a publisher keeps for later subscribers; 0 by default */
+  size_t subscriber_expired_connection_buffer; /**< connections to closed publishers that are kept */
+  size_t publisher_max_loaned_samples;         /**< loans of a publisher that may be out at a time; 2 by default */
+  uint32_t enable_safe_overflow;  /**< not 0, as by default: a full buffer lets its oldest message go */
+  uint32_t backpressure_strategy; /**< an iox2ps_backpressure_strategy_e, which counts where this is 0 */
 } iox2ps_config_t;
 
-/* What one publisher has other than the domain's settings say. */
+/** What one publisher has other than the domain's settings say. iox2ps_publisher_options_of() fills it. */
 typedef struct iox2ps_publisher_options_t {
-  size_t max_loaned_samples;      /* loans that may be out at a time */
-  size_t initial_max_slice_len;   /* how many bytes a message may have, as long as memory isn't to grow; a multiple
-                                     of the domain's alignment, and not 0 where memory may grow */
-  size_t preallocated_samples;    /* how many slots it asks for: it has so many, but no more than
-                                     iox2ps_worst_case_slots; 0 asks for nothing, and it has the worst case. With
-                                     fewer a loan may be refused with IOX2PS_LOAN_ERROR_OUT_OF_MEMORY, or needs more
-                                     memory where that may grow */
-  uint32_t backpressure_strategy; /* an iox2ps_backpressure_strategy_e */
-  uint32_t backpressure_handler;  /* an iox2ps_backpressure_handler_e */
-  uint32_t degradation;           /* an iox2ps_degradation_e */
-  uint32_t allocation_strategy;   /* an iox2ps_allocation_strategy_e: by default, and without options, static */
+  size_t max_loaned_samples;      /**< loans that may be out at a time */
+  size_t initial_max_slice_len;   /**< how many bytes a message may have, as long as memory isn't to grow; a multiple
+                                       of the domain's alignment, and not 0 where memory may grow */
+  size_t preallocated_samples;    /**< how many slots it asks for: it has so many, but no more than
+                                       iox2ps_worst_case_slots; 0 asks for nothing, and it has the worst case. With
+                                       fewer a loan may be refused with IOX2PS_LOAN_ERROR_OUT_OF_MEMORY, or needs more
+                                       memory where that may grow */
+  uint32_t backpressure_strategy; /**< an iox2ps_backpressure_strategy_e */
+  uint32_t backpressure_handler;  /**< an iox2ps_backpressure_handler_e */
+  uint32_t degradation;           /**< an iox2ps_degradation_e */
+  uint32_t allocation_strategy;   /**< an iox2ps_allocation_strategy_e: by default, and without options, static */
 } iox2ps_publisher_options_t;
 
-/* What one subscriber has other than the domain's settings say. */
+/** What one subscriber has other than the domain's settings say. iox2ps_subscriber_options_of() fills it. */
 typedef struct iox2ps_subscriber_options_t {
-  size_t buffer_size;   /* messages of one publisher that may wait; 0 counts as 1 */
-  uint32_t degradation; /* an iox2ps_degradation_e */
-  uint32_t reserved_;
+  size_t buffer_size;   /**< messages of one publisher that may wait; 0 counts as 1 */
+  uint32_t degradation; /**< an iox2ps_degradation_e */
+  uint32_t reserved_;   /**< 0 */
 } iox2ps_subscriber_options_t;
 
-/* The numbers of what stands in a domain. Only equality of service_id, id, publisher, subscriber and
- * number is meant for a program; what ends in _ says where the domain looks first. */
+/** The numbers of a publisher. As of each struct of numbers below, only equality of service_id, id, publisher,
+ * subscriber and number is meant for a program; what ends in _ says where the domain looks first. */
 typedef struct iox2ps_publisher_t {
-  iox2ps_wide_t service_id, id;
-  size_t place_;
-  size_t initial_max_slice_len; /* how many bytes a message may have, as long as memory isn't to grow */
-  uint32_t backpressure_strategy;
-  uint32_t reserved_;
+  iox2ps_wide_t service_id;       /**< that of its domain */
+  iox2ps_wide_t id;               /**< that no other port of its domain has */
+  size_t place_;                  /**< where it is looked for first */
+  size_t initial_max_slice_len;   /**< how many bytes a message may have, as long as memory isn't to grow */
+  uint32_t backpressure_strategy; /**< an iox2ps_backpressure_strategy_e */
+  uint32_t reserved_;             /**< 0 */
 } iox2ps_publisher_t;
 
+/** The numbers of a subscriber. */
 typedef struct iox2ps_subscriber_t {
-  iox2ps_wide_t service_id, id;
-  size_t place_;
-  size_t buffer_size; /* how many messages of one publisher may wait */
+  iox2ps_wide_t service_id; /**< that of its domain */
+  iox2ps_wide_t id;         /**< that no other port of its domain has */
+  size_t place_;            /**< where it is looked for first */
+  size_t buffer_size;       /**< how many messages of one publisher may wait */
 } iox2ps_subscriber_t;
 
-/* A message that a publisher has lent. */
+/** The numbers of a message that a publisher has lent. */
 typedef struct iox2ps_loan_t {
-  iox2ps_wide_t service_id, publisher, number;
-  size_t place_, book_, slot_;
+  iox2ps_wide_t service_id; /**< that of its domain */
+  iox2ps_wide_t publisher;  /**< the id of its publisher */
+  iox2ps_wide_t number;     /**< that no other message of its domain has */
+  size_t place_;            /**< where its publisher is looked for first */
+  size_t book_;             /**< where its publisher's slots are looked for first */
+  size_t slot_;             /**< where it is looked for first */
 } iox2ps_loan_t;
 
-/* A send that waits for a subscriber whose buffer is full. */
+/** The numbers of a send that waits for a subscriber whose buffer is full. */
 typedef struct iox2ps_blocked_t {
-  iox2ps_wide_t service_id, publisher, number;
-  size_t place_, book_, slot_;
+  iox2ps_wide_t service_id; /**< that of its domain */
+  iox2ps_wide_t publisher;  /**< the id of its publisher */
+  iox2ps_wide_t number;     /**< that of the message */
+  size_t place_;            /**< where its publisher is looked for first */
+  size_t book_;             /**< where its publisher's slots are looked for first */
+  size_t slot_;             /**< where it is looked for first */
 } iox2ps_blocked_t;
 
-/* A message that a subscriber has borrowed. Its origin is the id of the publisher that sent it, which no call asks
- * for. */
+/** The numbers of a message that a subscriber has borrowed. */
 typedef struct iox2ps_sample_t {
-  iox2ps_wide_t service_id, origin, subscriber, number;
-  size_t connection_, book_, slot_;
+  iox2ps_wide_t service_id; /**< that of its domain */
+  iox2ps_wide_t origin;     /**< the id of the publisher that sent it, which no call asks for */
+  iox2ps_wide_t subscriber; /**< the id of its subscriber */
+  iox2ps_wide_t number;     /**< that of the message */
+  size_t connection_;       /**< where its connection is looked for first */
+  size_t book_;             /**< where its publisher's slots are looked for first */
+  size_t slot_;             /**< where it is looked for first */
 } iox2ps_sample_t;
 
-/* Where a message comes from. */
+/** Where a message comes from. */
 typedef struct iox2ps_header_t {
-  iox2ps_wide_t node_id, publisher;
-  uint64_t number_of_elements; /* its bytes */
+  iox2ps_wide_t node_id;       /**< that of the settings */
+  iox2ps_wide_t publisher;     /**< the id of the publisher that sent it */
+  uint64_t number_of_elements; /**< its bytes */
 } iox2ps_header_t;
 
-/* Something that a domain did or left undone without failing the call. */
+/** Something that a domain did or left undone without failing the call. */
 typedef struct iox2ps_warning_t {
-  iox2ps_wide_t publisher, subscriber; /* 0 where the warning names none */
-  uint32_t kind;                     /* an iox2ps_warning_e */
-  uint32_t failure;                  /* one of IOX2PS_CONNECTION_FAILURE_.. where it has one, else 0 */
+  iox2ps_wide_t publisher;  /**< the id of the publisher that it names, or 0 */
+  iox2ps_wide_t subscriber; /**< the id of the subscriber that it names, or 0 */
+  uint32_t kind;            /**< an iox2ps_warning_e */
+  uint32_t failure;         /**< one of IOX2PS_CONNECTION_FAILURE_.. where it has one, else 0 */
 } iox2ps_warning_t;
 
-/* ---- settings and texts; none of these looks at a domain, and those that return nothing can't fail */
+/** @name Settings and texts
+ * None of these looks at a domain, and those that return nothing can't fail.
+ * @{ */
 
-/* The defaults of a domain for messages of one type, as iox2ps_config_defaults(&config, 7, sizeof(T),
+/** The defaults of a domain for messages of one type, as iox2ps_config_defaults(&config, 7, sizeof(T),
  * _Alignof(T)): 2 publishers with 2 loans each, 8 subscribers with buffers of 2 and 2 borrowed samples, no
  * history, overflow. */
 void iox2ps_config_defaults(iox2ps_config_t *config, uint64_t service_id, size_t payload_size, size_t payload_alignment);
 
-/* What a port has that is made without options in a domain with these settings. */
+/** What a publisher has that is made without options in a domain with these settings. */
 void iox2ps_publisher_options_of(const iox2ps_config_t *config, iox2ps_publisher_options_t *options);
+
+/** What a subscriber has that is made without options in a domain with these settings. */
 void iox2ps_subscriber_options_of(const iox2ps_config_t *config, iox2ps_subscriber_options_t *options);
 
-/* How many slots a publisher with so many loans has, where its options ask for no fewer. IOX2PS_INVALID_SETTINGS where that doesn't fit size_t. */
-uint32_t iox2ps_worst_case_slots(const iox2ps_config_t *config, size_t loans, size_t *slots);
+/** How many slots a publisher with so many loans has, where its options ask for no fewer. IOX2PS_INVALID_SETTINGS
+ * where that doesn't fit size_t. */
+IOX2PS_NODISCARD iox2ps_status_t iox2ps_worst_case_slots(const iox2ps_config_t *config, size_t loans, size_t *slots);
 
-/* The text of a code or of the kind of a warning, which ends in a zero byte and lies there for good; len
+/** The text of a code or of the kind of a warning, which ends in a zero byte and lies there for good; len
  * is without that byte. Each number has one. */
 void iox2ps_error_text_at(uint32_t code, const char **text, size_t *len);
 
+/** The same without the length. */
 static inline const char *iox2ps_error_text(uint32_t code) {
   const char *text;
   size_t len;
@@ -256,136 +336,177 @@ static inline const char *iox2ps_error_text(uint32_t code) {
   return text;
 }
 
-/* ---- domains */
+/** @}
+ * @name Domains
+ * @{ */
 
-/* Makes a domain. IOX2PS_HAS_DOMAIN where there is one; IOX2PS_INVALID_SETTINGS for an alignment that is
+/** Makes a domain. IOX2PS_HAS_DOMAIN where there is one; IOX2PS_INVALID_SETTINGS for an alignment that is
  * none, a payload_size that is no multiple of it, or an unknown strategy; IOX2PS_OUT_OF_MEMORY. */
-uint32_t iox2ps_domain_create(iox2ps_domain_t *domain, const iox2ps_config_t *config);
+IOX2PS_NODISCARD iox2ps_status_t iox2ps_domain_create(iox2ps_domain_t *domain, const iox2ps_config_t *config);
 
-/* Frees the domain with all that is in it. Its owner calls this once; a second call returns
+/** Frees the domain with all that is in it. Its owner calls this once; a second call returns
  * IOX2PS_NO_DOMAIN. */
-uint32_t iox2ps_domain_destroy(iox2ps_domain_t *domain);
+IOX2PS_NODISCARD iox2ps_status_t iox2ps_domain_destroy(iox2ps_domain_t *domain);
 
-/* Reads the settings back. */
-uint32_t iox2ps_domain_config(iox2ps_domain_t *domain, iox2ps_config_t *config);
+/** Reads the settings back. */
+IOX2PS_NODISCARD iox2ps_status_t iox2ps_domain_config(iox2ps_domain_t *domain, iox2ps_config_t *config);
 
-/* How many connections the domain keeps, how many books of slots, and how often memory for a connection
- * was refused since it was made. */
-uint32_t iox2ps_domain_connection_count(iox2ps_domain_t *domain, size_t *count);
-uint32_t iox2ps_domain_book_count(iox2ps_domain_t *domain, size_t *count);
-uint32_t iox2ps_domain_refused_connections(iox2ps_domain_t *domain, uint64_t *count);
+/** How many connections the domain keeps. */
+IOX2PS_NODISCARD iox2ps_status_t iox2ps_domain_connection_count(iox2ps_domain_t *domain, size_t *count);
 
-/* How many of its last warnings the domain has, 32 at most, and one of them, the oldest first. Reading
- * forgets none. IOX2PS_NOT_LIVE where there are not so many. */
-uint32_t iox2ps_domain_warning_count(iox2ps_domain_t *domain, size_t *count);
-uint32_t iox2ps_domain_warning(iox2ps_domain_t *domain, size_t index, iox2ps_warning_t *warning);
+/** How many books of slots the domain has: that of each publisher, and that of a closed one until nobody holds a slot
+ * of it. */
+IOX2PS_NODISCARD iox2ps_status_t iox2ps_domain_book_count(iox2ps_domain_t *domain, size_t *count);
 
-/* ---- publishers */
+/** How often memory for a connection was refused since the domain was made. */
+IOX2PS_NODISCARD iox2ps_status_t iox2ps_domain_refused_connections(iox2ps_domain_t *domain, uint64_t *count);
 
-/* Makes a publisher, as the settings say or with options. IOX2PS_INVALID_SETTINGS for options with an
- * unknown number or a length that is no multiple of the alignment; IOX2PS_PUBLISHER_CREATE_ERROR_... */
-uint32_t iox2ps_publisher_create(iox2ps_domain_t *domain, iox2ps_publisher_t *publisher);
-uint32_t iox2ps_publisher_create_with(iox2ps_domain_t *domain, const iox2ps_publisher_options_t *options,
-                                    iox2ps_publisher_t *publisher);
+/** How many of its last warnings the domain has, 32 at most. */
+IOX2PS_NODISCARD iox2ps_status_t iox2ps_domain_warning_count(iox2ps_domain_t *domain, size_t *count);
 
-/* Closes a publisher. IOX2PS_NOT_LIVE, IOX2PS_PUBLISHER_IS_BLOCKED. */
-uint32_t iox2ps_publisher_close(iox2ps_domain_t *domain, const iox2ps_publisher_t *publisher);
+/** One of the last warnings, of which 0 is the oldest. Reading forgets none. IOX2PS_NOT_LIVE where there are not so
+ * many. */
+IOX2PS_NODISCARD iox2ps_status_t iox2ps_domain_warning(iox2ps_domain_t *domain, size_t index, iox2ps_warning_t *warning);
 
-/* Whether a send of the publisher waits: 1 or 0. IOX2PS_NOT_LIVE. */
-uint32_t iox2ps_publisher_is_blocked(iox2ps_domain_t *domain, const iox2ps_publisher_t *publisher, uint32_t *is_blocked);
+/** @}
+ * @name Publishers
+ * @{ */
 
-/* Makes the publisher's connections with subscribers that came, and removes those with closed ones, as
+/** Makes a publisher, as the settings say. IOX2PS_PUBLISHER_CREATE_ERROR_... */
+IOX2PS_NODISCARD iox2ps_status_t iox2ps_publisher_create(iox2ps_domain_t *domain, iox2ps_publisher_t *publisher);
+
+/** The same with options. Also IOX2PS_INVALID_SETTINGS, for an unknown number or a length that is no multiple of the
+ * alignment. */
+IOX2PS_NODISCARD iox2ps_status_t iox2ps_publisher_create_with(iox2ps_domain_t *domain,
+                                                              const iox2ps_publisher_options_t *options,
+                                                              iox2ps_publisher_t *publisher);
+
+/** Closes a publisher. IOX2PS_NOT_LIVE, IOX2PS_PUBLISHER_IS_BLOCKED. */
+IOX2PS_NODISCARD iox2ps_status_t iox2ps_publisher_close(iox2ps_domain_t *domain, const iox2ps_publisher_t *publisher);
+
+/** Whether a send of the publisher waits: 1 or 0. IOX2PS_NOT_LIVE. */
+IOX2PS_NODISCARD iox2ps_status_t iox2ps_publisher_is_blocked(iox2ps_domain_t *domain, const iox2ps_publisher_t *publisher,
+                                                             uint32_t *is_blocked);
+
+/** Makes the publisher's connections with subscribers that came, and removes those with closed ones, as
  * each send does first. IOX2PS_NOT_LIVE, IOX2PS_PUBLISHER_IS_BLOCKED, IOX2PS_CONNECTION_FAILURE_..., after which
  * the other connections are made all the same. */
-uint32_t iox2ps_publisher_update_connections(iox2ps_domain_t *domain, const iox2ps_publisher_t *publisher);
+IOX2PS_NODISCARD iox2ps_status_t iox2ps_publisher_update_connections(iox2ps_domain_t *domain,
+                                                                     const iox2ps_publisher_t *publisher);
 
-/* Lends a message of so many bytes, each of which is 0, and says where they lie. They may be read and
+/** Lends a message of so many bytes, each of which is 0, and says where they lie. They may be read and
  * written there until the loan is sent or discarded or the domain is destroyed, whatever else is called in
  * between. IOX2PS_NOT_LIVE, IOX2PS_PUBLISHER_IS_BLOCKED, IOX2PS_LOAN_ERROR_...: EXCEEDS_MAX_LOAN_SIZE of a static
  * publisher alone, INTERNAL_FAILURE where memory is to grow and can't, or no number is left for the message. */
-uint32_t iox2ps_publisher_loan(iox2ps_domain_t *domain, const iox2ps_publisher_t *publisher, size_t len,
-                             iox2ps_loan_t *loan, void **payload);
+IOX2PS_NODISCARD iox2ps_status_t iox2ps_publisher_loan(iox2ps_domain_t *domain, const iox2ps_publisher_t *publisher,
+                                                       size_t len, iox2ps_loan_t *loan, void **payload);
 
-/* The same, but the bytes are unspecified: what earlier messages of this publisher left there, or 0. So it
+/** The same, but the bytes are unspecified: what earlier messages of this publisher left there, or 0. So it
  * costs the same for any length that the memory was used for before. */
-uint32_t iox2ps_publisher_loan_uninit(iox2ps_domain_t *domain, const iox2ps_publisher_t *publisher, size_t len,
-                                    iox2ps_loan_t *loan, void **payload);
+IOX2PS_NODISCARD iox2ps_status_t iox2ps_publisher_loan_uninit(iox2ps_domain_t *domain, const iox2ps_publisher_t *publisher,
+                                                              size_t len, iox2ps_loan_t *loan, void **payload);
 
-/* Sends a copy of the bytes: a loan and its send in one call, which returns what either returns, and has
+/** Sends a copy of the bytes: a loan and its send in one call, which returns what either returns, and has
  * no loan left. */
-uint32_t iox2ps_publisher_send_copy(iox2ps_domain_t *domain, const iox2ps_publisher_t *publisher,
-                                  const void *bytes, size_t len, size_t *receivers, iox2ps_blocked_t *blocked);
+IOX2PS_NODISCARD iox2ps_status_t iox2ps_publisher_send_copy(iox2ps_domain_t *domain, const iox2ps_publisher_t *publisher,
+                                                            const void *bytes, size_t len, size_t *receivers,
+                                                            iox2ps_blocked_t *blocked);
 
-/* ---- loans */
+/** @}
+ * @name Loans
+ * @{ */
 
-/* Sends a message, and says how many subscribers took it. With IOX2PS_BLOCKED it waits for one whose buffer
+/** Sends a message, and says how many subscribers took it. With IOX2PS_BLOCKED it waits for one whose buffer
  * is full, and blocked names the send. The loan is spent with IOX2PS_OK, IOX2PS_BLOCKED and each
  * IOX2PS_SEND_ERROR_..., and stays with IOX2PS_NOT_LIVE and IOX2PS_PUBLISHER_IS_BLOCKED. */
-uint32_t iox2ps_loan_send(iox2ps_domain_t *domain, const iox2ps_loan_t *loan, size_t *receivers, iox2ps_blocked_t *blocked);
+IOX2PS_NODISCARD iox2ps_status_t iox2ps_loan_send(iox2ps_domain_t *domain, const iox2ps_loan_t *loan, size_t *receivers,
+                                                  iox2ps_blocked_t *blocked);
 
-/* Gives a loan back unsent. IOX2PS_NOT_LIVE. */
-uint32_t iox2ps_loan_discard(iox2ps_domain_t *domain, const iox2ps_loan_t *loan);
+/** Gives a loan back unsent. IOX2PS_NOT_LIVE. */
+IOX2PS_NODISCARD iox2ps_status_t iox2ps_loan_discard(iox2ps_domain_t *domain, const iox2ps_loan_t *loan);
 
-/* Where the bytes of a loan lie, as iox2ps_publisher_loan says it. IOX2PS_NOT_LIVE. */
-uint32_t iox2ps_loan_payload(iox2ps_domain_t *domain, const iox2ps_loan_t *loan, void **payload, size_t *len);
+/** Where the bytes of a loan lie, as iox2ps_publisher_loan() says it. IOX2PS_NOT_LIVE. */
+IOX2PS_NODISCARD iox2ps_status_t iox2ps_loan_payload(iox2ps_domain_t *domain, const iox2ps_loan_t *loan, void **payload,
+                                                     size_t *len);
 
-/* ---- sends that wait */
+/** @}
+ * @name Sends that wait
+ * @{ */
 
-/* Tries the send again at the subscriber that it waits for, and goes on to the others. elapsed is in
- * nanoseconds since it was first blocked there. With IOX2PS_BLOCKED it waits on, by the same numbers; with
- * IOX2PS_OK and IOX2PS_SEND_ERROR_UNABLE_TO_DELIVER it has ended. IOX2PS_NOT_LIVE. */
-uint32_t iox2ps_blocked_retry(iox2ps_domain_t *domain, const iox2ps_blocked_t *blocked, uint64_t elapsed, size_t *receivers);
+/** Tries the send again at the subscriber that it waits for, and goes on to the others. With IOX2PS_BLOCKED it waits
+ * on, by the same numbers; with IOX2PS_OK and IOX2PS_SEND_ERROR_UNABLE_TO_DELIVER it has ended. IOX2PS_NOT_LIVE.
+ *
+ * elapsed is how many nanoseconds ago the send was first blocked there. A handler of full buffers is told it, so that it
+ * may let a send go that waits too long. The handlers of this header always answer the same, so that here each number does
+ * the same: a program that measures no time says 0. */
+IOX2PS_NODISCARD iox2ps_status_t iox2ps_blocked_retry(iox2ps_domain_t *domain, const iox2ps_blocked_t *blocked,
+                                                      uint64_t elapsed, size_t *receivers);
 
-/* Gives up the subscriber that the send waits for, and goes on to the others. Returns as a retry does. */
-uint32_t iox2ps_blocked_give_up(iox2ps_domain_t *domain, const iox2ps_blocked_t *blocked, size_t *receivers);
+/** Gives up the subscriber that the send waits for, and goes on to the others. Returns as a retry does. */
+IOX2PS_NODISCARD iox2ps_status_t iox2ps_blocked_give_up(iox2ps_domain_t *domain, const iox2ps_blocked_t *blocked,
+                                                        size_t *receivers);
 
-/* ---- subscribers */
+/** @}
+ * @name Subscribers
+ * @{ */
 
-/* Makes a subscriber, as the settings say or with options. IOX2PS_INVALID_SETTINGS,
- * IOX2PS_SUBSCRIBER_CREATE_ERROR_... */
-uint32_t iox2ps_subscriber_create(iox2ps_domain_t *domain, iox2ps_subscriber_t *subscriber);
-uint32_t iox2ps_subscriber_create_with(iox2ps_domain_t *domain, const iox2ps_subscriber_options_t *options,
-                                     iox2ps_subscriber_t *subscriber);
+/** Makes a subscriber, as the settings say. IOX2PS_SUBSCRIBER_CREATE_ERROR_... */
+IOX2PS_NODISCARD iox2ps_status_t iox2ps_subscriber_create(iox2ps_domain_t *domain, iox2ps_subscriber_t *subscriber);
 
-/* Closes a subscriber. Its samples stay. IOX2PS_NOT_LIVE. */
-uint32_t iox2ps_subscriber_close(iox2ps_domain_t *domain, const iox2ps_subscriber_t *subscriber);
+/** The same with options. Also IOX2PS_INVALID_SETTINGS, for an unknown number. */
+IOX2PS_NODISCARD iox2ps_status_t iox2ps_subscriber_create_with(iox2ps_domain_t *domain,
+                                                               const iox2ps_subscriber_options_t *options,
+                                                               iox2ps_subscriber_t *subscriber);
 
-/* Updates the subscriber's connections, and says whether a message waits: 1 or 0. IOX2PS_NOT_LIVE,
+/** Closes a subscriber. Its samples stay. IOX2PS_NOT_LIVE. */
+IOX2PS_NODISCARD iox2ps_status_t iox2ps_subscriber_close(iox2ps_domain_t *domain, const iox2ps_subscriber_t *subscriber);
+
+/** Updates the subscriber's connections, and says whether a message waits: 1 or 0. IOX2PS_NOT_LIVE,
  * IOX2PS_CONNECTION_FAILURE_..., after which the other connections are made all the same. */
-uint32_t iox2ps_subscriber_has_samples(iox2ps_domain_t *domain, const iox2ps_subscriber_t *subscriber, uint32_t *waits);
+IOX2PS_NODISCARD iox2ps_status_t iox2ps_subscriber_has_samples(iox2ps_domain_t *domain, const iox2ps_subscriber_t *subscriber,
+                                                               uint32_t *waits);
 
-/* Makes the subscriber's connections with publishers that came, as each receive does first.
+/** Makes the subscriber's connections with publishers that came, as each receive does first.
  * IOX2PS_NOT_LIVE, IOX2PS_CONNECTION_FAILURE_... */
-uint32_t iox2ps_subscriber_update_connections(iox2ps_domain_t *domain, const iox2ps_subscriber_t *subscriber);
+IOX2PS_NODISCARD iox2ps_status_t iox2ps_subscriber_update_connections(iox2ps_domain_t *domain,
+                                                                      const iox2ps_subscriber_t *subscriber);
 
-/* Updates the subscriber's connections and receives a message, and says where its bytes lie. They may be
+/** Updates the subscriber's connections and receives a message, and says where its bytes lie. They may be
  * read there until the sample is released or the domain destroyed, whatever else is called in between, and
  * are never written. With IOX2PS_NO_SAMPLE and IOX2PS_RECEIVE_ERROR_... connections may have changed.
- * IOX2PS_NOT_LIVE. */
-uint32_t iox2ps_subscriber_receive(iox2ps_domain_t *domain, const iox2ps_subscriber_t *subscriber, iox2ps_sample_t *sample,
-                                 const void **payload, size_t *len);
+ * IOX2PS_NOT_LIVE. Messages of one publisher come in the order in which they were sent. */
+IOX2PS_NODISCARD iox2ps_status_t iox2ps_subscriber_receive(iox2ps_domain_t *domain, const iox2ps_subscriber_t *subscriber,
+                                                           iox2ps_sample_t *sample, const void **payload, size_t *len);
 
-/* Receives a message, copies it to bytes, and releases it: a receive, a copy and a release in one call, and
+/** Receives a message, copies it to bytes, and releases it: a receive, a copy and a release in one call, and
  * len is how many bytes were written. With IOX2PS_TOO_SMALL, which says that the message has more than room
  * bytes, nothing is lost: sample names the message, which is to be copied or read and released, len says how
  * long it is, and bytes are as they were. sample is changed with IOX2PS_TOO_SMALL alone. */
-uint32_t iox2ps_subscriber_receive_copy(iox2ps_domain_t *domain, const iox2ps_subscriber_t *subscriber,
-                                      void *bytes, size_t room, size_t *len, iox2ps_sample_t *sample);
+IOX2PS_NODISCARD iox2ps_status_t iox2ps_subscriber_receive_copy(iox2ps_domain_t *domain,
+                                                                const iox2ps_subscriber_t *subscriber, void *bytes,
+                                                                size_t room, size_t *len, iox2ps_sample_t *sample);
 
-/* ---- samples */
+/** @}
+ * @name Samples
+ * @{ */
 
-/* Where the bytes of a sample lie, as iox2ps_subscriber_receive says it. IOX2PS_NOT_LIVE. */
-uint32_t iox2ps_sample_payload(iox2ps_domain_t *domain, const iox2ps_sample_t *sample, const void **payload, size_t *len);
+/** Where the bytes of a sample lie, as iox2ps_subscriber_receive() says it. IOX2PS_NOT_LIVE. */
+IOX2PS_NODISCARD iox2ps_status_t iox2ps_sample_payload(iox2ps_domain_t *domain, const iox2ps_sample_t *sample,
+                                                       const void **payload, size_t *len);
 
-/* Copies the bytes of a sample. With IOX2PS_TOO_SMALL, which says that there are more than room, len says how
+/** Copies the bytes of a sample. With IOX2PS_TOO_SMALL, which says that there are more than room, len says how
  * many there are, and bytes are as they were. IOX2PS_NOT_LIVE. */
-uint32_t iox2ps_sample_copy(iox2ps_domain_t *domain, const iox2ps_sample_t *sample, void *bytes, size_t room, size_t *len);
+IOX2PS_NODISCARD iox2ps_status_t iox2ps_sample_copy(iox2ps_domain_t *domain, const iox2ps_sample_t *sample, void *bytes,
+                                                    size_t room, size_t *len);
 
-/* Where the message comes from. IOX2PS_NOT_LIVE. */
-uint32_t iox2ps_sample_header(iox2ps_domain_t *domain, const iox2ps_sample_t *sample, iox2ps_header_t *header);
+/** Where the message comes from. IOX2PS_NOT_LIVE. */
+IOX2PS_NODISCARD iox2ps_status_t iox2ps_sample_header(iox2ps_domain_t *domain, const iox2ps_sample_t *sample,
+                                                      iox2ps_header_t *header);
 
-/* Gives a message back. IOX2PS_NOT_LIVE. */
-uint32_t iox2ps_sample_release(iox2ps_domain_t *domain, const iox2ps_sample_t *sample);
+/** Gives a message back. IOX2PS_NOT_LIVE. */
+IOX2PS_NODISCARD iox2ps_status_t iox2ps_sample_release(iox2ps_domain_t *domain, const iox2ps_sample_t *sample);
+
+/** @} */
 
 #ifdef __cplusplus
 }

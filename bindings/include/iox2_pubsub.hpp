@@ -1,132 +1,43 @@
-/* Publish-subscribe inside one program, for C++17: the calls of iox2_pubsub.h with types, and with handles
+/** @file
+ * Publish-subscribe inside one program, for C++17: the calls of iox2_pubsub.h with types, and with handles
  * that give back what they have.
  *
  * A Domain<P> has messages of the type P alone: a trivially copyable T, or T[] for slices of such values.
  * So what is received was written as a P. Its ports, loans and samples keep it alive. Handles are moved and
- * not copied; one that was moved from, or whose loan was sent, is empty: its calls return Error::NotLive,
- * and it isn't read.
+ * not copied, but for a Domain; one that was moved from, or whose loan was sent, is empty: its calls return
+ * Error::NotLive, and it isn't read.
  *
- * Nothing is thrown but std::bad_alloc, where a domain is made. What a Domain<P> makes is for one thread at a time.
- * iox2_pubsub_shared.hpp has domains for several threads. */
+ * Nothing is thrown but std::bad_alloc by Domain::warnings(), which fills a vector, and what the default constructor of
+ * a message's own type throws; then the loan is given back. No destructor throws. It compiles without exceptions.
+ *
+ * What a Domain<P> makes is for one thread at a time. iox2_pubsub_shared.hpp has domains for several threads. */
 #ifndef IOX2_PUBSUB_HPP
 #define IOX2_PUBSUB_HPP
 
-#include "iox2_pubsub.h"
+#if __cplusplus < 201703L && (!defined(_MSVC_LANG) || _MSVC_LANG < 201703L)
+#error "iox2_pubsub.hpp is for C++17 and later: compile with -std=c++17"
+#else
 
+#include "iox2_pubsub_results.hpp"
+#include "iox2_pubsub_settings.hpp"
+
+#include <algorithm>
 #include <chrono>
 #include <cstddef>
 #include <cstdint>
-#include <cstdio>
-#include <cstdlib>
-#include <limits>
+#include <cstring>
+#include <memory>
 #include <new>
 #include <optional>
 #include <type_traits>
 #include <utility>
-#include <variant>
 #include <vector>
 
 namespace iox2ps {
 
-/* Why a call was refused. Each has the number that iox2_pubsub.h says, and text() says it in words. */
-enum class Error : std::uint32_t {
-  NotLive = IOX2PS_NOT_LIVE,
-  OutOfMemory = IOX2PS_OUT_OF_MEMORY,
-  PublisherIsBlocked = IOX2PS_PUBLISHER_IS_BLOCKED,
-  InvalidSettings = IOX2PS_INVALID_SETTINGS,
-  LoanOutOfMemory = IOX2PS_LOAN_ERROR_OUT_OF_MEMORY,
-  LoanExceedsMaxLoans = IOX2PS_LOAN_ERROR_EXCEEDS_MAX_LOANS,
-  LoanExceedsMaxLoanSize = IOX2PS_LOAN_ERROR_EXCEEDS_MAX_LOAN_SIZE,
-  LoanInternalFailure = IOX2PS_LOAN_ERROR_INTERNAL_FAILURE,
-  SendConnectionBrokenSinceSenderNoLongerExists = IOX2PS_SEND_ERROR_CONNECTION_BROKEN_SINCE_SENDER_NO_LONGER_EXISTS,
-  SendConnectionCorrupted = IOX2PS_SEND_ERROR_CONNECTION_CORRUPTED,
-  SendUnableToDeliver = IOX2PS_SEND_ERROR_UNABLE_TO_DELIVER,
-  SendInternalError = IOX2PS_SEND_ERROR_INTERNAL_ERROR,
-  SendConnectionIncompatibleBufferSize = IOX2PS_SEND_ERROR_CONNECTION_INCOMPATIBLE_BUFFER_SIZE,
-  SendConnectionOutOfMemory = IOX2PS_SEND_ERROR_CONNECTION_OUT_OF_MEMORY,
-  SendConnectionExpiredBufferFull = IOX2PS_SEND_ERROR_CONNECTION_EXPIRED_BUFFER_FULL,
-  SendConnectionUnableToMap = IOX2PS_SEND_ERROR_CONNECTION_UNABLE_TO_MAP,
-  ReceiveExceedsMaxBorrows = IOX2PS_RECEIVE_ERROR_EXCEEDS_MAX_BORROWS,
-  ReceiveConnectionIncompatibleBufferSize = IOX2PS_RECEIVE_ERROR_CONNECTION_INCOMPATIBLE_BUFFER_SIZE,
-  ReceiveConnectionOutOfMemory = IOX2PS_RECEIVE_ERROR_CONNECTION_OUT_OF_MEMORY,
-  ReceiveConnectionExpiredBufferFull = IOX2PS_RECEIVE_ERROR_CONNECTION_EXPIRED_BUFFER_FULL,
-  ReceiveConnectionUnableToMap = IOX2PS_RECEIVE_ERROR_CONNECTION_UNABLE_TO_MAP,
-  ConnectionIncompatibleBufferSize = IOX2PS_CONNECTION_FAILURE_INCOMPATIBLE_BUFFER_SIZE,
-  ConnectionOutOfMemory = IOX2PS_CONNECTION_FAILURE_OUT_OF_MEMORY,
-  ConnectionExpiredBufferFull = IOX2PS_CONNECTION_FAILURE_EXPIRED_BUFFER_FULL,
-  ConnectionUnableToMap = IOX2PS_CONNECTION_FAILURE_UNABLE_TO_MAP,
-  PublisherExceedsMaxSupportedPublishers = IOX2PS_PUBLISHER_CREATE_ERROR_EXCEEDS_MAX_SUPPORTED_PUBLISHERS,
-  PublisherUnableToCreateDataSegment = IOX2PS_PUBLISHER_CREATE_ERROR_UNABLE_TO_CREATE_DATA_SEGMENT,
-  PublisherFailedToDeployThreadsafetyPolicy = IOX2PS_PUBLISHER_CREATE_ERROR_FAILED_TO_DEPLOY_THREADSAFETY_POLICY,
-  PublisherUnableToCreatePortTag = IOX2PS_PUBLISHER_CREATE_ERROR_UNABLE_TO_CREATE_PORT_TAG,
-  SubscriberExceedsMaxSupportedSubscribers = IOX2PS_SUBSCRIBER_CREATE_ERROR_EXCEEDS_MAX_SUPPORTED_SUBSCRIBERS,
-  SubscriberBufferSizeExceedsMax = IOX2PS_SUBSCRIBER_CREATE_ERROR_BUFFER_SIZE_EXCEEDS_MAX,
-  SubscriberFailedToDeployThreadsafetyPolicy = IOX2PS_SUBSCRIBER_CREATE_ERROR_FAILED_TO_DEPLOY_THREADSAFETY_POLICY,
-  SubscriberUnableToCreatePortTag = IOX2PS_SUBSCRIBER_CREATE_ERROR_UNABLE_TO_CREATE_PORT_TAG
-};
-
-inline const char *text(Error error) { return iox2ps_error_text(static_cast<std::uint32_t>(error)); }
-
-/* A value, or why there is none. */
-template <typename V> class [[nodiscard]] Result {
-public:
-  Result(V value) : held_(std::in_place_index<0>, std::move(value)) {}
-  Result(Error error) : held_(std::in_place_index<1>, error) {}
-
-  bool has_value() const { return held_.index() == 0; }
-  explicit operator bool() const { return has_value(); }
-
-  /* Asks that there is a value; else the program ends. */
-  V &operator*() & { return value(); }
-  const V &operator*() const & { return const_cast<Result *>(this)->value(); }
-  V &&operator*() && { return std::move(value()); }
-  V *operator->() { return &value(); }
-  const V *operator->() const { return &const_cast<Result *>(this)->value(); }
-
-  /* Asks that there is none; else the program ends. */
-  Error error() const {
-    if (has_value()) end("error() of a value");
-    return std::get<1>(held_);
-  }
-
-  /* The value; where there is none the program ends, and says these words and the error's. */
-  V expect(const char *words) && {
-    if (!has_value()) end(words);
-    return std::move(std::get<0>(held_));
-  }
-
-private:
-  V &value() {
-    if (!has_value()) end("no value");
-    return std::get<0>(held_);
-  }
-  [[noreturn]] void end(const char *words) const {
-    std::fprintf(stderr, "iox2: %s: %s\n", words, has_value() ? "there is a value" : text(std::get<1>(held_)));
-    std::abort();
-  }
-
-  std::variant<V, Error> held_;
-};
-
-/* Nothing, or why a call was refused. */
-using Done = Result<std::monostate>;
-
-/* A port's or a message's number, which no other of its domain has. */
-struct Id {
-  std::uint64_t low, high;
-  friend bool operator==(Id a, Id b) { return a.low == b.low && a.high == b.high; }
-  friend bool operator!=(Id a, Id b) { return !(a == b); }
-};
-
-/* Where a message comes from, and how many values it has. */
-struct Header {
-  Id node_id, publisher;
-  std::size_t number_of_elements;
-};
-
 struct OneThread;
 
-/* M is for which threads the handles are: OneThread, or ManyThreads of iox2_pubsub_shared.hpp. */
+// M says for which threads the handles are: OneThread, or ManyThreads of iox2_pubsub_shared.hpp.
 template <typename P, typename M = OneThread> class Domain;
 template <typename P, typename M = OneThread> class Publisher;
 template <typename P, typename M = OneThread> class Subscriber;
@@ -134,75 +45,79 @@ template <typename P, typename M = OneThread> class Loan;
 template <typename P, typename M = OneThread> class Sample;
 template <typename P, typename M = OneThread> class BlockedSend;
 
-/* Who may go on once a call was made: those who wait for a message, and those whose send waits for room. */
-enum class Wakes { Nobody, Receivers, Senders, Both };
+/** For what a thread waits. */
+enum class Waits : unsigned {
+  Message = 1, /**< a message */
+  Room = 2,    /**< room in the buffer that a blocked send has to reach */
+  Free = 4,    /**< that the publisher's earlier send ends */
+  Loan = 8     /**< a loan */
+};
 
-/* Until when a call waits, or for good. */
+/** What a call may have brought to those who wait: a sum of the same. */
+using Brings = unsigned;
+constexpr Brings operator|(Waits one, Waits other) { return static_cast<Brings>(one) | static_cast<Brings>(other); } /**< both */
+constexpr Brings operator|(Brings some, Waits other) { return some | static_cast<Brings>(other); }                   /**< all of them */
+constexpr Brings only(Waits one) { return static_cast<Brings>(one); }                                                /**< one */
+
+/** Until when a call waits, or for good. */
 using Until = std::optional<std::chrono::steady_clock::time_point>;
 
-/* The handles of a domain are for one thread at a time, and nothing is locked. */
+/** The handles of a domain are for one thread at a time, and nothing is locked. */
 struct OneThread {
+  /** How many handles a domain has. */
   class Count {
   public:
-    void add() { count_++; }
-    bool is_last() { return --count_ == 0; }
+    void add() { count_++; }                 /**< one more */
+    bool is_last() { return --count_ == 0; } /**< one less, and whether it was the last */
 
   private:
     std::size_t count_ = 1;
   };
 
-  template <typename Call> std::uint32_t call(Wakes, Call &&make) { return make(); }
+  /** Makes a call. */
+  template <typename Call> iox2ps_status_t call(Brings, Call &&make) { return make(); }
 };
 
 namespace detail {
 
-template <typename P> using Element = std::remove_extent_t<P>;
+/* A publisher that went while a send of it waits, and closes when that has ended. It is made with the publisher, so that
+ * no destructor takes memory. */
+struct Orphan {
+  iox2ps_publisher_t port;
+  std::unique_ptr<Orphan> next;
+};
 
-template <typename P> constexpr bool is_slice = std::is_array_v<P>;
-
-template <typename P> constexpr void check() {
-  using T = Element<P>;
-  static_assert(!is_slice<P> || std::extent_v<P> == 0, "a slice is T[], without a number");
-  static_assert(std::is_object_v<T> && !std::is_const_v<T> && !std::is_volatile_v<T>, "a message is of a plain type");
-  static_assert(std::is_trivially_copyable_v<T>, "a message is trivially copyable: nothing of it is ever destroyed");
-  static_assert(alignof(T) <= 16, "the alignment of a message is at most 16");
-}
-
-inline Id id_of(iox2ps_wide_t wide) { return Id{wide.low, wide.high}; }
-
-inline Error error_of(std::uint32_t code) { return static_cast<Error>(code); }
-
-inline Done done(std::uint32_t code) {
-  if (code == IOX2PS_OK) return std::monostate{};
-  return error_of(code);
-}
-
-/* The domain that its handles share, and the publishers that went while a send of theirs was blocked. */
+/* The domain that its handles share. */
 template <typename M> struct Shared {
   iox2ps_domain_t domain = IOX2PS_DOMAIN_INIT;
   typename M::Count holders;
   M threads;
-  std::vector<iox2ps_publisher_t> orphans;
+  std::unique_ptr<Orphan> orphans;
 
   Shared() = default;
   Shared(const Shared &) = delete;
   Shared &operator=(const Shared &) = delete;
-  ~Shared() { iox2ps_domain_destroy(&domain); }
+  ~Shared() {
+    static_cast<void>(iox2ps_domain_destroy(&domain));
+    while (orphans) orphans = std::move(orphans->next);
+  }
 
   /* These two are parts of calls. */
-  std::uint32_t close_publisher(const iox2ps_publisher_t &publisher) {
-    std::uint32_t code = iox2ps_publisher_close(&domain, &publisher);
-    if (code == IOX2PS_PUBLISHER_IS_BLOCKED) orphans.push_back(publisher);
+  iox2ps_status_t close_publisher(std::unique_ptr<Orphan> publisher) {
+    iox2ps_status_t code = iox2ps_publisher_close(&domain, &publisher->port);
+    if (code != IOX2PS_PUBLISHER_IS_BLOCKED) return code;
+    publisher->next = std::move(orphans);
+    orphans = std::move(publisher);
     return code;
   }
 
   void close_orphan(iox2ps_wide_t id) {
-    for (std::size_t at = 0; at < orphans.size(); at++) {
-      if (id_of(orphans[at].id) != id_of(id)) continue;
-      iox2ps_publisher_close(&domain, &orphans[at]);
-      orphans.erase(orphans.begin() + static_cast<std::ptrdiff_t>(at));
-      return;
-    }
+    std::unique_ptr<Orphan> *at = &orphans;
+    while (*at && id_of((*at)->port.id) != id_of(id)) at = &(*at)->next;
+    if (!*at) return;
+    static_cast<void>(iox2ps_publisher_close(&domain, &(*at)->port));
+    std::unique_ptr<Orphan> next = std::move((*at)->next);
+    *at = std::move(next);
   }
 };
 
@@ -227,106 +142,120 @@ public:
   Shared<M> *operator->() const { return shared_; }
 
   /* Makes calls with no other between them, and returns the code of the last. No function of a user runs there. */
-  template <typename Call> std::uint32_t call(Wakes wakes, Call &&make) const {
-    return shared_->threads.call(wakes, [&] { return make(&shared_->domain); });
+  template <typename Call> iox2ps_status_t call(Brings brings, Call &&make) const {
+    return shared_->threads.call(brings, [&] { return make(&shared_->domain); });
   }
 
-  /* Makes them again until their code is another than this one, each time when something came that may help. */
-  template <typename Call> std::uint32_t wait(std::uint32_t code, Wakes wakes, Until until, Call &&make) const {
-    return shared_->threads.wait(code, wakes, until, [&] { return make(&shared_->domain); });
+  /* The same of calls that bring nothing to anybody. */
+  template <typename Call> iox2ps_status_t ask(Call &&make) const { return call(0, std::forward<Call>(make)); }
+
+  /* Makes them again as long as their code says that the port still waits, each time when something came that may help. */
+  template <typename Call>
+  iox2ps_status_t wait(Waits what, const iox2ps_wide_t &port, Brings brings, Until until, Call &&make) const {
+    static_assert(!std::is_same_v<M, OneThread>, "only the handles of a domain for several threads wait");
+    return shared_->threads.wait(what, id_of(port), brings, until, [&] { return make(&shared_->domain); });
   }
 
 private:
   Shared<M> *shared_ = nullptr;
 };
 
+/* A time that C counts, where none is negative. */
+constexpr std::uint64_t elapsed_of(std::chrono::nanoseconds elapsed) {
+  return static_cast<std::uint64_t>(std::max(elapsed, std::chrono::nanoseconds(0)).count());
+}
+
+/* So long from now, or for good where that is later than a time can be. */
+inline Until after(std::chrono::nanoseconds timeout) {
+  auto now = std::chrono::steady_clock::now();
+  if (timeout > std::chrono::steady_clock::time_point::max() - now) return std::nullopt;
+  return now + timeout;
+}
+
 /* The value at these bytes, or the first of a slice. */
 template <typename T> const T *at(const void *bytes) { return std::launder(static_cast<const T *>(bytes)); }
 
-/* How a message is read: as a value, or as a slice of values. */
+} // namespace detail
+
+/** How a message is read where it lies: as a value, or as a slice of values. */
 template <typename P, typename T> class View {
 public:
-  T &operator*() const { return *data_; }
-  T *operator->() const { return data_; }
+  T &operator*() const { return *data_; }  /**< the value */
+  T *operator->() const { return data_; }  /**< the value's members */
 
 protected:
+  View() = default; /**< of nothing */
+
+  /** What it is of. */
   void see(T *data, std::size_t) { data_ = data; }
+
+private:
   T *data_ = nullptr;
 };
 
+/** A slice of values, which is read and gone over as a container is. */
 template <typename E, typename T> class View<E[], T> {
 public:
-  T &operator[](std::size_t index) const { return data_[index]; }
-  T *data() const { return data_; }
-  std::size_t size() const { return size_; }
-  bool empty() const { return size_ == 0; }
-  T *begin() const { return data_; }
-  T *end() const { return data_ + size_; }
+  T &operator[](std::size_t index) const { return data_[index]; } /**< one of the values */
+  T *data() const { return data_; }                               /**< the first of them */
+  std::size_t size() const { return size_; }                      /**< how many there are */
+  bool empty() const { return size_ == 0; }                       /**< whether there is none */
+  T *begin() const { return data_; }                              /**< the first of them */
+  T *end() const { return data_ + size_; }                        /**< past the last of them */
 
 protected:
+  View() = default; /**< of nothing */
+
+  /** What it is of. */
   void see(T *data, std::size_t size) {
     data_ = data;
     size_ = size;
   }
+
+private:
   T *data_ = nullptr;
   std::size_t size_ = 0;
 };
 
-} // namespace detail
-
-/* The settings of a domain, which begin as its defaults and are set field by field, as iox2ps_config_t says.
- * For slices the second number is how many values a message may have. */
-template <typename P> struct Config : iox2ps_config_t {
-  using Element = detail::Element<P>;
-
-  explicit Config(std::uint64_t id, std::size_t max_slice_len = 1) : iox2ps_config_t{} {
-    detail::check<P>();
-    iox2ps_config_defaults(this, id, bytes(max_slice_len), alignof(Element));
-  }
-
-  /* How many bytes so many values have, or as many as there can be. */
-  static constexpr std::size_t bytes(std::size_t values) {
-    constexpr std::size_t greatest = std::numeric_limits<std::size_t>::max();
-    return values > greatest / sizeof(Element) ? greatest - greatest % alignof(Element) : values * sizeof(Element);
-  }
-
-  /* How many slots a publisher has that is made without options, or none where the number doesn't fit. */
-  std::optional<std::size_t> worst_case_slots() const { return worst_case_slots(publisher_max_loaned_samples); }
-
-  /* The same of one with so many loans. */
-  std::optional<std::size_t> worst_case_slots(std::size_t loans) const {
-    std::size_t slots = 0;
-    if (iox2ps_worst_case_slots(this, loans, &slots) != IOX2PS_OK) return std::nullopt;
-    return slots;
-  }
-};
-
-/* What came of a message that was sent: how many subscribers took it, or the send that waits. */
-template <typename P, typename M = OneThread> class Sent {
+/** What came of a message that was sent: how many subscribers took it, or the send that waits. In a domain without
+ * overflow it has to be looked at: a send that waits and is dropped is given up. */
+template <typename P, typename M = OneThread> class [[nodiscard]] Sent {
 public:
-  explicit Sent(std::size_t count) : count_(count) {}
-  explicit Sent(BlockedSend<P, M> blocked) : blocked_(std::move(blocked)) {}
-
-  /* How many subscribers took it, or none where it waits. */
+  /** How many subscribers took it, or none where it waits. */
   std::optional<std::size_t> delivered() const {
     if (blocked_) return std::nullopt;
     return count_;
   }
 
-  /* The send that waits for a subscriber whose buffer is full. Where it isn't taken it is given up. */
+  /** The send that waits for a subscriber whose buffer is full. Where it isn't taken it is given up. */
   std::optional<BlockedSend<P, M>> &blocked() { return blocked_; }
 
 private:
+  friend class Loan<P, M>;
+  friend class Publisher<P, M>;
+
+  /* A send that is blocked is tried again until it has ended, or until then. */
+  static Result<Sent> reach_all(Result<Sent> sent, Until until) {
+    if (!sent || !sent->blocked_) return sent;
+    auto retried = sent->blocked_->blocking_retry(until);
+    if (!retried) return retried.error();
+    if (!*retried) return sent;
+    return Sent(**retried);
+  }
+
+  explicit Sent(std::size_t count) : count_(count) {}
+  explicit Sent(BlockedSend<P, M> blocked) : blocked_(std::move(blocked)) {}
+
   std::size_t count_ = 0;
   std::optional<BlockedSend<P, M>> blocked_;
 };
 
-/* A send that waits. Its publisher lends and sends nothing meanwhile. When it is destroyed, it is given up at
+/** A send that waits. Its publisher lends and sends nothing meanwhile. When it is destroyed, it is given up at
  * every full subscriber. */
-template <typename P, typename M> class BlockedSend {
+template <typename P, typename M> class [[nodiscard]] BlockedSend {
 public:
-  BlockedSend(detail::Hold<M> hold, const iox2ps_blocked_t &blocked) : hold_(std::move(hold)), blocked_(blocked) {}
-  BlockedSend(BlockedSend &&) noexcept = default;
+  BlockedSend(BlockedSend &&) noexcept = default; /**< leaves the other empty */
+  /** Gives up what it was, and leaves the other empty. */
   BlockedSend &operator=(BlockedSend &&other) noexcept {
     if (this != &other) {
       end();
@@ -337,56 +266,65 @@ public:
   }
   ~BlockedSend() { end(); }
 
-  /* Whether it still waits. */
-  explicit operator bool() const { return static_cast<bool>(hold_); }
-  Id publisher() const { return detail::id_of(blocked_.publisher); }
+  explicit operator bool() const { return static_cast<bool>(hold_); }           /**< whether it still waits */
+  Id publisher() const { return detail::id_of(blocked_.publisher); }            /**< whose send it is */
 
-  /* Tries the subscriber again that it waits for, and goes on to the others: how many took the message, or none
-   * where it waits on. The time is since it was first blocked there. */
+  /** Tries the subscriber again that it waits for, and goes on to the others: how many took the message, or none
+   * where it waits on. The time is since it was first blocked there, as iox2ps_blocked_retry() says; a negative one counts
+   * as 0. */
   Result<std::optional<std::size_t>> retry(std::chrono::nanoseconds elapsed = {}) {
     if (!hold_) return Error::NotLive;
     std::size_t count = 0;
-    std::uint32_t code = hold_.call(Wakes::Both, [&](iox2ps_domain_t *domain) { return again(domain, elapsed, &count); });
+    iox2ps_status_t code = hold_.call(brings, [&](iox2ps_domain_t *domain) { return again(domain, elapsed, &count); });
     return ended(code, count);
   }
 
-  /* For several threads alone: tries again whenever there may be room, until the send has ended or, where a time is
+  /** For several threads alone: tries again whenever there may be room, until the send has ended or, where a time is
    * given, that has passed, or until waits are stopped. */
   Result<std::optional<std::size_t>> blocking_retry(Until until = {}) {
     if (!hold_) return Error::NotLive;
     std::size_t count = 0;
     auto started = std::chrono::steady_clock::now();
-    std::uint32_t code = hold_.wait(IOX2PS_BLOCKED, Wakes::Both, until, [&](iox2ps_domain_t *domain) {
+    iox2ps_status_t code = hold_.wait(Waits::Room, blocked_.publisher, brings, until, [&](iox2ps_domain_t *domain) {
       return again(domain, std::chrono::steady_clock::now() - started, &count);
     });
     return ended(code, count);
   }
+  /** The same, for so long. */
   Result<std::optional<std::size_t>> timed_retry(std::chrono::nanoseconds timeout) {
-    return blocking_retry(std::chrono::steady_clock::now() + timeout);
+    return blocking_retry(detail::after(timeout));
   }
 
-  /* Gives up the subscriber that it waits for, and goes on to the others. Answers as retry. */
+  /** Gives up the subscriber that it waits for, and goes on to the others. Answers as retry. */
   Result<std::optional<std::size_t>> give_up() {
     if (!hold_) return Error::NotLive;
     std::size_t count = 0;
-    std::uint32_t code = hold_.call(Wakes::Both, [&](iox2ps_domain_t *domain) {
+    iox2ps_status_t code = hold_.call(brings, [&](iox2ps_domain_t *domain) {
       return over(iox2ps_blocked_give_up(domain, &blocked_, &count));
     });
     return ended(code, count);
   }
 
 private:
-  std::uint32_t again(iox2ps_domain_t *domain, std::chrono::nanoseconds elapsed, std::size_t *count) {
-    return over(iox2ps_blocked_retry(domain, &blocked_, static_cast<std::uint64_t>(elapsed.count()), count));
+  friend class Loan<P, M>;
+  friend class Publisher<P, M>;
+
+  /* Others may have got the message on its way, and where it has ended its publisher is free, and its slot perhaps. */
+  static constexpr Brings brings = Waits::Message | Waits::Free | Waits::Loan;
+
+  BlockedSend(detail::Hold<M> hold, const iox2ps_blocked_t &blocked) : hold_(std::move(hold)), blocked_(blocked) {}
+
+  iox2ps_status_t again(iox2ps_domain_t *domain, std::chrono::nanoseconds elapsed, std::size_t *count) {
+    return over(iox2ps_blocked_retry(domain, &blocked_, detail::elapsed_of(elapsed), count));
   }
 
   /* Where a send has ended, a publisher that went meanwhile closes. */
-  std::uint32_t over(std::uint32_t code) {
+  iox2ps_status_t over(iox2ps_status_t code) {
     if (code != IOX2PS_BLOCKED) hold_->close_orphan(blocked_.publisher);
     return code;
   }
 
-  Result<std::optional<std::size_t>> ended(std::uint32_t code, std::size_t count) {
+  Result<std::optional<std::size_t>> ended(iox2ps_status_t code, std::size_t count) {
     if (code == IOX2PS_BLOCKED) return std::optional<std::size_t>();
     hold_ = detail::Hold<M>();
     if (code != IOX2PS_OK) return detail::error_of(code);
@@ -401,20 +339,18 @@ private:
   iox2ps_blocked_t blocked_;
 };
 
-/* A message that was lent: it is written where it lies, by *, -> or as a slice, and sent. It is given back when
+/** A message that was lent: it is written where it lies, by *, -> or as a slice, and sent. It is given back when
  * it is destroyed. */
-template <typename P, typename M> class Loan : public detail::View<P, detail::Element<P>> {
+template <typename P, typename M> class Loan : public View<P, detail::Element<P>> {
 public:
-  using Element = detail::Element<P>;
+  using Element = detail::Element<P>; /**< a value, of which the message has one or more */
 
-  Loan(detail::Hold<M> hold, const iox2ps_loan_t &loan, Element *data, std::size_t size) : hold_(std::move(hold)), loan_(loan) {
-    this->see(data, size);
-  }
-  Loan(Loan &&) noexcept = default;
+  Loan(Loan &&) noexcept = default; /**< leaves the other empty */
+  /** Discards what it was, and leaves the other empty. */
   Loan &operator=(Loan &&other) noexcept {
     if (this != &other) {
       discard();
-      detail::View<P, Element>::operator=(other);
+      View<P, Element>::operator=(other);
       hold_ = std::move(other.hold_);
       loan_ = other.loan_;
     }
@@ -422,50 +358,49 @@ public:
   }
   ~Loan() { discard(); }
 
-  explicit operator bool() const { return static_cast<bool>(hold_); }
-  Id publisher() const { return detail::id_of(loan_.publisher); }
-  Id number() const { return detail::id_of(loan_.number); }
+  explicit operator bool() const { return static_cast<bool>(hold_); } /**< whether there is a message */
+  Id publisher() const { return detail::id_of(loan_.publisher); }     /**< whose message it is */
+  Id number() const { return detail::id_of(loan_.number); }           /**< that no other message has */
 
-  /* Sends the message, and leaves this empty; with Error::PublisherIsBlocked it stays. */
+  /** Sends the message, and leaves this empty; with Error::PublisherIsBlocked it stays. */
   Result<Sent<P, M>> send() {
     if (!hold_) return Error::NotLive;
     std::size_t count = 0;
     iox2ps_blocked_t blocked;
-    std::uint32_t code = hold_.call(Wakes::Receivers, [&](iox2ps_domain_t *domain) {
+    iox2ps_status_t code = hold_.call(Waits::Message | Waits::Loan, [&](iox2ps_domain_t *domain) {
       return iox2ps_loan_send(domain, &loan_, &count, &blocked);
     });
     return sent(code, count, blocked);
   }
 
-  /* For several threads alone: waits until no earlier send of its publisher waits, and then until the message has
+  /** For several threads alone: waits until no earlier send of its publisher waits, and then until the message has
    * reached everybody; or, where a time is given, until that has passed, or until waits are stopped. */
   Result<Sent<P, M>> blocking_send(Until until = {}) {
     if (!hold_) return Error::NotLive;
     std::size_t count = 0;
     iox2ps_blocked_t blocked;
-    std::uint32_t code = hold_.wait(IOX2PS_PUBLISHER_IS_BLOCKED, Wakes::Receivers, until, [&](iox2ps_domain_t *domain) {
+    Brings brings = Waits::Message | Waits::Loan;
+    iox2ps_status_t code = hold_.wait(Waits::Free, loan_.publisher, brings, until, [&](iox2ps_domain_t *domain) {
       return iox2ps_loan_send(domain, &loan_, &count, &blocked);
     });
-    auto sent_now = sent(code, count, blocked);
-    if (!sent_now || !sent_now->blocked()) return sent_now;
-    auto retried = sent_now->blocked()->blocking_retry(until);
-    if (!retried) return retried.error();
-    if (!*retried) return sent_now;
-    return Sent<P, M>(**retried);
+    return Sent<P, M>::reach_all(sent(code, count, blocked), until);
   }
-  Result<Sent<P, M>> timed_send(std::chrono::nanoseconds timeout) {
-    return blocking_send(std::chrono::steady_clock::now() + timeout);
-  }
+  /** The same, for so long. */
+  Result<Sent<P, M>> timed_send(std::chrono::nanoseconds timeout) { return blocking_send(detail::after(timeout)); }
 
-  /* Gives the loan back unsent. */
+  /** Gives the loan back unsent. */
   void discard() {
     if (!hold_) return;
-    hold_.call(Wakes::Nobody, [&](iox2ps_domain_t *domain) { return iox2ps_loan_discard(domain, &loan_); });
+    hold_.call(only(Waits::Loan), [&](iox2ps_domain_t *domain) { return iox2ps_loan_discard(domain, &loan_); });
     hold_ = detail::Hold<M>();
   }
 
 private:
-  Result<Sent<P, M>> sent(std::uint32_t code, std::size_t count, const iox2ps_blocked_t &blocked) {
+  friend class Publisher<P, M>;
+
+  Loan(detail::Hold<M> hold, const iox2ps_loan_t &loan) : hold_(std::move(hold)), loan_(loan) {}
+
+  Result<Sent<P, M>> sent(iox2ps_status_t code, std::size_t count, const iox2ps_blocked_t &blocked) {
     if (code == IOX2PS_PUBLISHER_IS_BLOCKED) return Error::PublisherIsBlocked;
     detail::Hold<M> hold = std::move(hold_);
     if (code == IOX2PS_OK) return Sent<P, M>(count);
@@ -477,21 +412,18 @@ private:
   iox2ps_loan_t loan_;
 };
 
-/* A message that was received: it is read where it lies, by *, -> or as a slice. It is given back when it is
+/** A message that was received: it is read where it lies, by *, -> or as a slice. It is given back when it is
  * destroyed, and until then counts against what its subscriber may borrow. */
-template <typename P, typename M> class Sample : public detail::View<P, const detail::Element<P>> {
+template <typename P, typename M> class Sample : public View<P, const detail::Element<P>> {
 public:
-  using Element = detail::Element<P>;
+  using Element = detail::Element<P>; /**< a value, of which the message has one or more */
 
-  Sample(detail::Hold<M> hold, const iox2ps_sample_t &sample, const Element *data, std::size_t size)
-      : hold_(std::move(hold)), sample_(sample) {
-    this->see(data, size);
-  }
-  Sample(Sample &&) noexcept = default;
+  Sample(Sample &&) noexcept = default; /**< leaves the other empty */
+  /** Releases what it was, and leaves the other empty. */
   Sample &operator=(Sample &&other) noexcept {
     if (this != &other) {
       release();
-      detail::View<P, const Element>::operator=(other);
+      View<P, const Element>::operator=(other);
       hold_ = std::move(other.hold_);
       sample_ = other.sample_;
     }
@@ -499,16 +431,16 @@ public:
   }
   ~Sample() { release(); }
 
-  explicit operator bool() const { return static_cast<bool>(hold_); }
-  Id origin() const { return detail::id_of(sample_.origin); }
-  Id subscriber() const { return detail::id_of(sample_.subscriber); }
-  Id number() const { return detail::id_of(sample_.number); }
+  explicit operator bool() const { return static_cast<bool>(hold_); }  /**< whether there is a message */
+  Id origin() const { return detail::id_of(sample_.origin); }          /**< the publisher that sent it */
+  Id subscriber() const { return detail::id_of(sample_.subscriber); }  /**< the subscriber that received it */
+  Id number() const { return detail::id_of(sample_.number); }          /**< that no other message has */
 
-  /* Where the message comes from. */
+  /** Where the message comes from. */
   Result<Header> header() const {
     if (!hold_) return Error::NotLive;
     iox2ps_header_t header;
-    std::uint32_t code = hold_.call(Wakes::Nobody, [&](iox2ps_domain_t *domain) {
+    iox2ps_status_t code = hold_.ask([&](iox2ps_domain_t *domain) {
       return iox2ps_sample_header(domain, &sample_, &header);
     });
     if (code != IOX2PS_OK) return detail::error_of(code);
@@ -516,137 +448,243 @@ public:
                   static_cast<std::size_t>(header.number_of_elements) / sizeof(Element)};
   }
 
-  /* Gives the message back. */
+  /** Gives the message back. */
   void release() {
     if (!hold_) return;
-    hold_.call(Wakes::Nobody, [&](iox2ps_domain_t *domain) { return iox2ps_sample_release(domain, &sample_); });
+    hold_.call(only(Waits::Loan), [&](iox2ps_domain_t *domain) { return iox2ps_sample_release(domain, &sample_); });
     hold_ = detail::Hold<M>();
   }
 
 private:
+  friend class Subscriber<P, M>;
+
+  Sample(detail::Hold<M> hold, const iox2ps_sample_t &sample, const Element *data, std::size_t size)
+      : hold_(std::move(hold)), sample_(sample) {
+    this->see(data, size);
+  }
+
   detail::Hold<M> hold_;
   iox2ps_sample_t sample_;
 };
 
-/* Sends messages to every subscriber of its domain, until it is destroyed. One that goes while a send of it is
+/** Sends messages to every subscriber of its domain, until it is destroyed. One that goes while a send of it is
  * blocked closes when that send has ended. */
 template <typename P, typename M> class Publisher {
 public:
-  using Element = detail::Element<P>;
+  using Element = detail::Element<P>; /**< a value, of which a message has one or more */
 
-  Publisher(detail::Hold<M> hold, const iox2ps_publisher_t &port) : hold_(std::move(hold)), port_(port) {}
-  Publisher(Publisher &&) noexcept = default;
+  Publisher(Publisher &&) noexcept = default; /**< leaves the other empty */
+  /** Closes what it was, and leaves the other empty. */
   Publisher &operator=(Publisher &&other) noexcept {
     if (this != &other) {
       close();
       hold_ = std::move(other.hold_);
       port_ = other.port_;
+      orphan_ = std::move(other.orphan_);
     }
     return *this;
   }
   ~Publisher() { close(); }
 
-  explicit operator bool() const { return static_cast<bool>(hold_); }
-  Id id() const { return detail::id_of(port_.id); }
-  iox2ps_backpressure_strategy_e backpressure_strategy() const {
-    return static_cast<iox2ps_backpressure_strategy_e>(port_.backpressure_strategy);
+  explicit operator bool() const { return static_cast<bool>(hold_); } /**< whether it is open */
+  Id id() const { return detail::id_of(port_.id); }                   /**< that no other port of its domain has */
+
+  /** What it does at a full buffer. */
+  BackpressureStrategy backpressure_strategy() const {
+    return static_cast<BackpressureStrategy>(port_.backpressure_strategy);
   }
 
-  /* How many values a message may have. */
+  /** How many values a message may have. */
   std::size_t initial_max_slice_len() const { return port_.initial_max_slice_len / sizeof(Element); }
 
-  /* Lends a message with its default value. */
+  /** Lends a message with its default value. */
   template <typename Q = P, std::enable_if_t<!detail::is_slice<Q>, int> = 0> Result<Loan<P, M>> loan() {
     return loan(Element());
   }
 
-  /* Lends a message with this value. */
+  /** Lends a message with this value. */
   template <typename Q = P, std::enable_if_t<!detail::is_slice<Q>, int> = 0> Result<Loan<P, M>> loan(const Element &value) {
-    return lend(1, [&](std::uint8_t *bytes) { return new (bytes) Element(value); });
+    return lend(1, begin_value(value), at_once());
   }
 
-  /* Lends a message of so many values, each with its default. */
+  /** Lends a message of so many values, each with its default. */
   template <typename Q = P, std::enable_if_t<detail::is_slice<Q>, int> = 0> Result<Loan<P, M>> loan_slice(std::size_t len) {
-    return lend(len, [&](std::uint8_t *bytes) {
-      for (std::size_t at = 0; at < len; at++) new (bytes + at * sizeof(Element)) Element();
-      return reinterpret_cast<Element *>(bytes);
-    });
+    return lend(len, begin_values(len), at_once());
   }
 
-  /* Lends a message with an unspecified value: one that a message had before, or zeros. */
+  /** Lends a message with an unspecified value: one that a message had before, or zeros. */
   template <typename Q = P, std::enable_if_t<!detail::is_slice<Q>, int> = 0> Result<Loan<P, M>> loan_uninit() {
-    return lend(1, [](std::uint8_t *bytes) { return reinterpret_cast<Element *>(bytes); });
+    return lend(1, begin_nothing(), at_once());
   }
 
-  /* Lends a message of so many unspecified values. It costs the same for any length that was lent before. */
+  /** Lends a message of so many unspecified values. It costs the same for any length that was lent before. */
   template <typename Q = P, std::enable_if_t<detail::is_slice<Q>, int> = 0> Result<Loan<P, M>> loan_slice_uninit(std::size_t len) {
-    return lend(len, [](std::uint8_t *bytes) { return reinterpret_cast<Element *>(bytes); });
+    return lend(len, begin_nothing(), at_once());
   }
 
-  /* Sends a copy of the value. */
+  /** Sends a copy of the value. The loan, the copy and the send are made with no other call between. */
   template <typename Q = P, std::enable_if_t<!detail::is_slice<Q>, int> = 0> Result<Sent<P, M>> send_copy(const Element &value) {
-    return send(loan(value));
+    return copied(&value, 1, at_once(sends));
   }
 
-  /* Sends a copy of the values. */
+  /** Sends a copy of the values. */
   template <typename Q = P, std::enable_if_t<detail::is_slice<Q>, int> = 0>
   Result<Sent<P, M>> send_copy(const Element *values, std::size_t len) {
-    return send(lend(len, [&](std::uint8_t *bytes) {
-      for (std::size_t at = 0; at < len; at++) new (bytes + at * sizeof(Element)) Element(values[at]);
-      return reinterpret_cast<Element *>(bytes);
-    }));
+    return copied(values, len, at_once(sends));
   }
 
-  /* Whether a send waits for a subscriber whose buffer is full. */
+  /** For several threads alone: lends a message with its default value. Waits while an earlier send of the publisher does,
+   * while as many loans are out as it may have, or while no slot is free; or, where a time is given, until that has passed, or
+   * until waits are stopped. The error then is that of the last try. What is too long is refused at once. Where memory
+   * grows, it also waits while memory is refused. */
+  template <typename Q = P, std::enable_if_t<!detail::is_slice<Q>, int> = 0> Result<Loan<P, M>> blocking_loan(Until until = {}) {
+    return lend(1, begin_value(Element()), waiting(until));
+  }
+  /** The same, with an unspecified value. */
+  template <typename Q = P, std::enable_if_t<!detail::is_slice<Q>, int> = 0> Result<Loan<P, M>> blocking_loan_uninit(Until until = {}) {
+    return lend(1, begin_nothing(), waiting(until));
+  }
+  /** The same, of so many values, each with its default. */
+  template <typename Q = P, std::enable_if_t<detail::is_slice<Q>, int> = 0>
+  Result<Loan<P, M>> blocking_loan_slice(std::size_t len, Until until = {}) {
+    return lend(len, begin_values(len), waiting(until));
+  }
+  /** The same, of so many unspecified values. */
+  template <typename Q = P, std::enable_if_t<detail::is_slice<Q>, int> = 0>
+  Result<Loan<P, M>> blocking_loan_slice_uninit(std::size_t len, Until until = {}) {
+    return lend(len, begin_nothing(), waiting(until));
+  }
+  /** As blocking_loan, for so long. */
+  template <typename Q = P, std::enable_if_t<!detail::is_slice<Q>, int> = 0>
+  Result<Loan<P, M>> timed_loan(std::chrono::nanoseconds timeout) {
+    return blocking_loan(detail::after(timeout));
+  }
+  /** As blocking_loan_slice, for so long. */
+  template <typename Q = P, std::enable_if_t<detail::is_slice<Q>, int> = 0>
+  Result<Loan<P, M>> timed_loan_slice(std::size_t len, std::chrono::nanoseconds timeout) {
+    return blocking_loan_slice(len, detail::after(timeout));
+  }
+
+  /** For several threads alone: sends a copy as soon as there is a loan for it, and waits until it has reached everybody;
+   * or, where a time is given, until that has passed, or until waits are stopped. */
+  template <typename Q = P, std::enable_if_t<!detail::is_slice<Q>, int> = 0>
+  Result<Sent<P, M>> blocking_send_copy(const Element &value, Until until = {}) {
+    return Sent<P, M>::reach_all(copied(&value, 1, waiting(until, sends)), until);
+  }
+  /** The same, of values. */
+  template <typename Q = P, std::enable_if_t<detail::is_slice<Q>, int> = 0>
+  Result<Sent<P, M>> blocking_send_copy(const Element *values, std::size_t len, Until until = {}) {
+    return Sent<P, M>::reach_all(copied(values, len, waiting(until, sends)), until);
+  }
+  /** The same, for so long. */
+  template <typename Q = P, std::enable_if_t<!detail::is_slice<Q>, int> = 0>
+  Result<Sent<P, M>> timed_send_copy(const Element &value, std::chrono::nanoseconds timeout) {
+    return blocking_send_copy(value, detail::after(timeout));
+  }
+
+  /** Whether a send waits for a subscriber whose buffer is full. */
   bool is_blocked() const {
     std::uint32_t answer = 0;
     if (!hold_) return false;
-    hold_.call(Wakes::Nobody, [&](iox2ps_domain_t *domain) { return iox2ps_publisher_is_blocked(domain, &port_, &answer); });
+    hold_.ask([&](iox2ps_domain_t *domain) { return iox2ps_publisher_is_blocked(domain, &port_, &answer); });
     return answer != 0;
   }
 
-  /* Makes the connections with subscribers that came, as each send does first. */
+  /** Makes the connections with subscribers that came, as each send does first. */
   Done update_connections() {
     if (!hold_) return Error::NotLive;
-    return detail::done(hold_.call(Wakes::Receivers, [&](iox2ps_domain_t *domain) {
+    return detail::done(hold_.call(Waits::Message | Waits::Loan, [&](iox2ps_domain_t *domain) {
       return iox2ps_publisher_update_connections(domain, &port_);
     }));
   }
 
+  /** Closes it, or lets it close when a send of it that waits has ended. */
   void close() {
     if (!hold_) return;
-    hold_.call(Wakes::Receivers, [&](iox2ps_domain_t *) { return hold_->close_publisher(port_); });
+    hold_.call(only(Waits::Message), [&](iox2ps_domain_t *) { return hold_->close_publisher(std::move(orphan_)); });
     hold_ = detail::Hold<M>();
   }
 
 private:
-  template <typename Begin> Result<Loan<P, M>> lend(std::size_t len, Begin begin) {
-    if (!hold_) return Error::NotLive;
-    iox2ps_loan_t loan;
-    void *bytes = nullptr;
-    std::uint32_t code = hold_.call(Wakes::Nobody, [&](iox2ps_domain_t *domain) {
-      return iox2ps_publisher_loan_uninit(domain, &port_, Config<P>::bytes(len), &loan, &bytes);
-    });
-    if (code != IOX2PS_OK) return detail::error_of(code);
-    return Loan<P, M>(hold_, loan, begin(static_cast<std::uint8_t *>(bytes)), len);
+  friend class Domain<P, M>;
+
+  Publisher(detail::Hold<M> hold, std::unique_ptr<detail::Orphan> orphan)
+      : hold_(std::move(hold)), port_(orphan->port), orphan_(std::move(orphan)) {}
+
+  static constexpr Brings sends = Waits::Message | Waits::Loan;
+
+  /* How a loan's bytes become its values. */
+  static auto begin_value(const Element &value) {
+    return [value](std::uint8_t *bytes) { return new (bytes) Element(value); };
+  }
+  static auto begin_values(std::size_t len) {
+    return [len](std::uint8_t *bytes) {
+      for (std::size_t at = 0; at < len; at++) new (bytes + at * sizeof(Element)) Element();
+      return reinterpret_cast<Element *>(bytes);
+    };
+  }
+  static auto begin_nothing() {
+    return [](std::uint8_t *bytes) { return reinterpret_cast<Element *>(bytes); };
   }
 
-  static Result<Sent<P, M>> send(Result<Loan<P, M>> loan) {
-    if (!loan) return loan.error();
-    return loan->send();
+  /* How a call is made that may be refused now: once, or again whenever something came that may help. */
+  auto at_once(Brings brings = 0) const {
+    return [this, brings](auto &&make) { return hold_.call(brings, make); };
+  }
+  auto waiting(Until until, Brings brings = only(Waits::Message)) const {
+    return [this, until, brings](auto &&make) {
+      return hold_.wait(Waits::Loan, port_.id, brings, until, [&](iox2ps_domain_t *domain) {
+        iox2ps_status_t code = make(domain);
+        /* A closed subscriber's slots come back by an update of the connections alone, which a loan doesn't make. */
+        if (code != IOX2PS_LOAN_ERROR_OUT_OF_MEMORY) return code;
+        if (iox2ps_publisher_update_connections(domain, &port_) != IOX2PS_OK) return code;
+        return make(domain);
+      });
+    };
+  }
+
+  template <typename Begin, typename Make> Result<Loan<P, M>> lend(std::size_t len, Begin begin, Make make) {
+    if (!hold_) return Error::NotLive;
+    iox2ps_loan_t numbers;
+    void *bytes = nullptr;
+    iox2ps_status_t code = make([&](iox2ps_domain_t *domain) {
+      return iox2ps_publisher_loan_uninit(domain, &port_, detail::bytes_of<Element>(len), &numbers, &bytes);
+    });
+    if (code != IOX2PS_OK) return detail::error_of(code);
+    Loan<P, M> loan(hold_, numbers); // gives the message back where a default constructor throws
+    loan.see(begin(static_cast<std::uint8_t *>(bytes)), len);
+    return loan;
+  }
+
+  template <typename Make> Result<Sent<P, M>> copied(const Element *values, std::size_t len, Make make) {
+    if (!hold_) return Error::NotLive;
+    std::size_t count = 0;
+    iox2ps_blocked_t blocked;
+    iox2ps_status_t code = make([&](iox2ps_domain_t *domain) {
+      iox2ps_loan_t loan;
+      void *bytes = nullptr;
+      iox2ps_status_t lent = iox2ps_publisher_loan_uninit(domain, &port_, detail::bytes_of<Element>(len), &loan, &bytes);
+      if (lent != IOX2PS_OK) return lent;
+      if (len > 0) std::memcpy(bytes, values, len * sizeof(Element));
+      return iox2ps_loan_send(domain, &loan, &count, &blocked);
+    });
+    if (code == IOX2PS_OK) return Sent<P, M>(count);
+    if (code == IOX2PS_BLOCKED) return Sent<P, M>(BlockedSend<P, M>(hold_, blocked));
+    return detail::error_of(code);
   }
 
   detail::Hold<M> hold_;
   iox2ps_publisher_t port_;
+  std::unique_ptr<detail::Orphan> orphan_; // what it becomes where it goes while a send of it waits
 };
 
-/* Receives the messages of every publisher of its domain, until it is destroyed. */
+/** Receives the messages of every publisher of its domain, until it is destroyed. */
 template <typename P, typename M> class Subscriber {
 public:
-  using Element = detail::Element<P>;
+  using Element = detail::Element<P>; /**< a value, of which a message has one or more */
 
-  Subscriber(detail::Hold<M> hold, const iox2ps_subscriber_t &port) : hold_(std::move(hold)), port_(port) {}
-  Subscriber(Subscriber &&) noexcept = default;
+  Subscriber(Subscriber &&) noexcept = default; /**< leaves the other empty */
+  /** Closes what it was, and leaves the other empty. */
   Subscriber &operator=(Subscriber &&other) noexcept {
     if (this != &other) {
       close();
@@ -657,173 +695,267 @@ public:
   }
   ~Subscriber() { close(); }
 
-  explicit operator bool() const { return static_cast<bool>(hold_); }
-  Id id() const { return detail::id_of(port_.id); }
-  std::size_t buffer_size() const { return port_.buffer_size; }
+  explicit operator bool() const { return static_cast<bool>(hold_); } /**< whether it is open */
+  Id id() const { return detail::id_of(port_.id); }                   /**< that no other port of its domain has */
+  std::size_t buffer_size() const { return port_.buffer_size; }       /**< how many messages of one publisher may wait */
 
-  /* The next message of some publisher, or none where none waits. Those of one publisher come in the order in
+  /** The next message of some publisher, or none where none waits. Those of one publisher come in the order in
    * which they were sent. */
   Result<std::optional<Sample<P, M>>> receive() {
     if (!hold_) return Error::NotLive;
     Got got;
-    std::uint32_t code = hold_.call(Wakes::Senders, [&](iox2ps_domain_t *domain) { return next(domain, got); });
+    iox2ps_status_t code = hold_.call(only(Waits::Room), [&](iox2ps_domain_t *domain) { return next(domain, got); });
     return received(code, got);
   }
 
-  /* For several threads alone: waits for a message; or, where a time is given, until that has passed, or until waits
+  /** For several threads alone: waits for a message; or, where a time is given, until that has passed, or until waits
    * are stopped. */
   Result<std::optional<Sample<P, M>>> blocking_receive(Until until = {}) {
     if (!hold_) return Error::NotLive;
     Got got;
-    std::uint32_t code = hold_.wait(IOX2PS_NO_SAMPLE, Wakes::Senders, until, [&](iox2ps_domain_t *domain) {
+    iox2ps_status_t code = hold_.wait(Waits::Message, port_.id, only(Waits::Room), until, [&](iox2ps_domain_t *domain) {
       return next(domain, got);
     });
     return received(code, got);
   }
+  /** The same, for so long. */
   Result<std::optional<Sample<P, M>>> timed_receive(std::chrono::nanoseconds timeout) {
-    return blocking_receive(std::chrono::steady_clock::now() + timeout);
+    return blocking_receive(detail::after(timeout));
   }
 
-  /* Whether a message waits, also one that can't be received yet. */
+  /** The next message as a copy: a receive, a copy and a release with no other call between. */
+  template <typename Q = P, std::enable_if_t<!detail::is_slice<Q>, int> = 0> Result<std::optional<Element>> receive_copy() {
+    if (!hold_) return Error::NotLive;
+    Copy copy;
+    return copy.of(hold_.call(copies, [&](iox2ps_domain_t *domain) { return copy.next(domain, port_); }));
+  }
+
+  /** For several threads alone: waits as blocking_receive does. */
+  template <typename Q = P, std::enable_if_t<!detail::is_slice<Q>, int> = 0>
+  Result<std::optional<Element>> blocking_receive_copy(Until until = {}) {
+    if (!hold_) return Error::NotLive;
+    Copy copy;
+    auto next = [&](iox2ps_domain_t *domain) { return copy.next(domain, port_); };
+    return copy.of(hold_.wait(Waits::Message, port_.id, copies, until, next));
+  }
+  /** The same, for so long. */
+  template <typename Q = P, std::enable_if_t<!detail::is_slice<Q>, int> = 0>
+  Result<std::optional<Element>> timed_receive_copy(std::chrono::nanoseconds timeout) {
+    return blocking_receive_copy(detail::after(timeout));
+  }
+
+  /** For several threads alone: waits for one message after the other, and gives each to read as a const Sample, which reads
+   * it where it lies and without the lock. Ends where read returns false, or waits are stopped. A message is given back
+   * in the call that asks for the next, so that each takes the lock once. */
+  template <typename Read> Done blocking_for_each(Read &&read) {
+    if (!hold_) return Error::NotLive;
+    std::optional<Sample<P, M>> last;
+    while (true) {
+      Got got;
+      bool is_held = last.has_value();
+      iox2ps_status_t code = hold_.wait(Waits::Message, port_.id, copies, {}, [&](iox2ps_domain_t *domain) {
+        if (std::exchange(is_held, false)) static_cast<void>(iox2ps_sample_release(domain, &last->sample_));
+        return next(domain, got);
+      });
+      if (last) last->hold_ = detail::Hold<M>(); // it was released
+      if (code == IOX2PS_NO_SAMPLE) return std::monostate{};
+      if (code != IOX2PS_OK) return detail::error_of(code);
+      last.reset();
+      last.emplace(sample_of(got));
+      if (!read(static_cast<const Sample<P, M> &>(*last))) return std::monostate{};
+    }
+  }
+
+  /** Whether a message waits, also one that can't be received yet. */
   Result<bool> has_samples() {
     if (!hold_) return Error::NotLive;
     std::uint32_t waits = 0;
-    std::uint32_t code = hold_.call(Wakes::Nobody, [&](iox2ps_domain_t *domain) {
+    iox2ps_status_t code = hold_.ask([&](iox2ps_domain_t *domain) {
       return iox2ps_subscriber_has_samples(domain, &port_, &waits);
     });
     if (code != IOX2PS_OK) return detail::error_of(code);
     return waits != 0;
   }
 
-  /* Makes the connections with publishers that came, as each receive does first. */
+  /** Makes the connections with publishers that came, as each receive does first. */
   Done update_connections() {
     if (!hold_) return Error::NotLive;
-    return detail::done(hold_.call(Wakes::Nobody, [&](iox2ps_domain_t *domain) {
+    return detail::done(hold_.ask([&](iox2ps_domain_t *domain) {
       return iox2ps_subscriber_update_connections(domain, &port_);
     }));
   }
 
+  /** Closes it. Its samples stay. */
   void close() {
     if (!hold_) return;
-    hold_.call(Wakes::Senders, [&](iox2ps_domain_t *domain) { return iox2ps_subscriber_close(domain, &port_); });
+    hold_.call(Waits::Room | Waits::Loan, [&](iox2ps_domain_t *domain) { return iox2ps_subscriber_close(domain, &port_); });
     hold_ = detail::Hold<M>();
   }
 
 private:
+  friend class Domain<P, M>;
+
+  static constexpr Brings copies = Waits::Room | Waits::Loan;
+
+  Subscriber(detail::Hold<M> hold, const iox2ps_subscriber_t &port) : hold_(std::move(hold)), port_(port) {}
+
   struct Got {
     iox2ps_sample_t sample;
     const void *bytes = nullptr;
     std::size_t len = 0;
   };
 
-  std::uint32_t next(iox2ps_domain_t *domain, Got &got) const {
+  iox2ps_status_t next(iox2ps_domain_t *domain, Got &got) const {
     return iox2ps_subscriber_receive(domain, &port_, &got.sample, &got.bytes, &got.len);
   }
 
-  Result<std::optional<Sample<P, M>>> received(std::uint32_t code, const Got &got) const {
+  Result<std::optional<Sample<P, M>>> received(iox2ps_status_t code, const Got &got) const {
     std::optional<Sample<P, M>> none;
     if (code == IOX2PS_NO_SAMPLE) return none;
     if (code != IOX2PS_OK) return detail::error_of(code);
-    const Element *first = got.len == 0 ? nullptr : detail::at<Element>(got.bytes);
-    return std::optional<Sample<P, M>>(Sample<P, M>(hold_, got.sample, first, got.len / sizeof(Element)));
+    return std::optional<Sample<P, M>>(sample_of(got));
   }
+
+  Sample<P, M> sample_of(const Got &got) const {
+    const Element *first = got.len == 0 ? nullptr : detail::at<Element>(got.bytes);
+    return Sample<P, M>(hold_, got.sample, first, got.len / sizeof(Element));
+  }
+
+  /* A message's copy, as bytes of its type. */
+  struct Copy {
+    alignas(Element) unsigned char bytes[sizeof(Element)];
+    std::size_t len = 0;
+
+    iox2ps_status_t next(iox2ps_domain_t *domain, const iox2ps_subscriber_t &port) {
+      iox2ps_sample_t sample;
+      return iox2ps_subscriber_receive_copy(domain, &port, bytes, sizeof bytes, &len, &sample);
+    }
+    Result<std::optional<Element>> of(iox2ps_status_t code) const {
+      if (code == IOX2PS_NO_SAMPLE) return std::optional<Element>();
+      if (code != IOX2PS_OK) return detail::error_of(code);
+      return std::optional<Element>(*detail::at<Element>(bytes));
+    }
+  };
 
   detail::Hold<M> hold_;
   iox2ps_subscriber_t port_;
 };
 
-/* A service whose messages are of the type P. Copies are the same domain. */
+/** A service whose messages are of the type P. Copies are the same domain. One that was moved from is empty: it makes
+ * nothing, and has no settings, no warnings and nothing to count. */
 template <typename P, typename M> class Domain {
 public:
+  /** Makes a domain. Error::InvalidSettings, Error::OutOfMemory. */
   static Result<Domain> create(const Config<P> &config) {
-    detail::Hold<M> hold(new detail::Shared<M>);
-    std::uint32_t code = iox2ps_domain_create(&hold->domain, &config);
+    detail::Hold<M> hold(new (std::nothrow) detail::Shared<M>);
+    if (!hold) return Error::OutOfMemory;
+    iox2ps_status_t code = iox2ps_domain_create(&hold->domain, &detail::Raw::of(config));
     if (code != IOX2PS_OK) return detail::error_of(code);
     return Domain(std::move(hold));
   }
 
-  Result<Publisher<P, M>> publisher() { return publisher(publisher_options()); }
-  Result<Subscriber<P, M>> subscriber() { return subscriber(subscriber_options()); }
+  explicit operator bool() const { return static_cast<bool>(hold_); } /**< whether there is a domain */
 
-  /* What a port has that is made without options. */
-  iox2ps_publisher_options_t publisher_options() const {
-    iox2ps_config_t settings = config();
-    iox2ps_publisher_options_t options;
-    iox2ps_publisher_options_of(&settings, &options);
-    return options;
-  }
-  iox2ps_subscriber_options_t subscriber_options() const {
-    iox2ps_config_t settings = config();
-    iox2ps_subscriber_options_t options;
-    iox2ps_subscriber_options_of(&settings, &options);
-    return options;
-  }
-
-  /* initial_max_slice_len of the options is in bytes, as Config<P>::bytes gives them, and for a single value
-   * counts for nothing. Where memory may grow, 0 counts as 1 value. */
-  Result<Publisher<P, M>> publisher(iox2ps_publisher_options_t options) {
-    bool begins_empty = options.allocation_strategy != IOX2PS_ALLOCATION_STATIC && options.initial_max_slice_len == 0;
-    if (!detail::is_slice<P> || begins_empty) options.initial_max_slice_len = Config<P>::bytes(1);
-    iox2ps_publisher_t port;
-    std::uint32_t code = hold_.call(Wakes::Receivers, [&](iox2ps_domain_t *domain) {
-      return iox2ps_publisher_create_with(domain, &options, &port);
+  /** Makes a publisher, which has what the settings say but for these options. */
+  Result<Publisher<P, M>> publisher(const PublisherOptions<P> &options = {}) {
+    if (!hold_) return Error::NotLive;
+    std::unique_ptr<detail::Orphan> made(new (std::nothrow) detail::Orphan);
+    if (!made) return Error::OutOfMemory;
+    iox2ps_status_t code = hold_.call(only(Waits::Message), [&](iox2ps_domain_t *domain) {
+      iox2ps_config_t settings;
+      iox2ps_status_t read = iox2ps_domain_config(domain, &settings);
+      if (read != IOX2PS_OK) return read;
+      auto raw = detail::Raw::options(options, settings);
+      return iox2ps_publisher_create_with(domain, &raw, &made->port);
     });
     if (code != IOX2PS_OK) return detail::error_of(code);
-    return Publisher<P, M>(hold_, port);
+    return Publisher<P, M>(hold_, std::move(made));
   }
-  Result<Subscriber<P, M>> subscriber(const iox2ps_subscriber_options_t &options) {
+
+  /** Makes a subscriber, which has what the settings say but for these options. */
+  Result<Subscriber<P, M>> subscriber(const SubscriberOptions &options = {}) {
+    if (!hold_) return Error::NotLive;
     iox2ps_subscriber_t port;
-    std::uint32_t code = hold_.call(Wakes::Nobody, [&](iox2ps_domain_t *domain) {
-      return iox2ps_subscriber_create_with(domain, &options, &port);
+    iox2ps_status_t code = hold_.ask([&](iox2ps_domain_t *domain) {
+      iox2ps_config_t settings;
+      iox2ps_status_t read = iox2ps_domain_config(domain, &settings);
+      if (read != IOX2PS_OK) return read;
+      auto raw = detail::Raw::options(options, settings);
+      return iox2ps_subscriber_create_with(domain, &raw, &port);
     });
     if (code != IOX2PS_OK) return detail::error_of(code);
     return Subscriber<P, M>(hold_, port);
   }
 
-  iox2ps_config_t config() const {
-    iox2ps_config_t settings = {};
-    ask([&](iox2ps_domain_t *domain) { return iox2ps_domain_config(domain, &settings); });
+  /** The settings that it was made with. */
+  Result<Config<P>> config() const {
+    Config<P> settings(0);
+    iox2ps_status_t code = ask([&](iox2ps_domain_t *domain) {
+      return iox2ps_domain_config(domain, &detail::Raw::of(settings));
+    });
+    if (code != IOX2PS_OK) return detail::error_of(code);
     return settings;
   }
 
-  /* The last warnings, 32 at most, the oldest first. */
-  std::vector<iox2ps_warning_t> warnings() const {
-    std::vector<iox2ps_warning_t> all;
+  /** The last warnings, 32 at most, the oldest first. */
+  std::vector<Warning> warnings() const {
+    std::vector<Warning> all;
     iox2ps_warning_t warning;
     auto next = [&](iox2ps_domain_t *domain) { return iox2ps_domain_warning(domain, all.size(), &warning); };
-    while (ask(next) == IOX2PS_OK) all.push_back(warning);
+    while (ask(next) == IOX2PS_OK) all.push_back(detail::warning_of(warning));
     return all;
   }
 
-  /* How many connections the domain has, and how many books of slots: that of each publisher, and that of a closed one
-   * until nobody holds a slot of it. */
+  /** How many connections the domain has. */
   std::size_t connection_count() const {
     std::size_t count = 0;
     ask([&](iox2ps_domain_t *domain) { return iox2ps_domain_connection_count(domain, &count); });
     return count;
   }
+
+  /** How many books of slots the domain has: that of each publisher, and that of a closed one until nobody holds a slot
+   * of it. */
   std::size_t book_count() const {
     std::size_t count = 0;
     ask([&](iox2ps_domain_t *domain) { return iox2ps_domain_book_count(domain, &count); });
     return count;
   }
 
-  /* How often memory for a connection was refused. */
+  /** How often memory for a connection was refused. */
   std::uint64_t refused_connections() const {
     std::uint64_t count = 0;
     ask([&](iox2ps_domain_t *domain) { return iox2ps_domain_refused_connections(domain, &count); });
     return count;
   }
 
-  /* For several threads alone: lets no call wait any longer: each tries once, and returns what it found. So a program
+  /** Makes calls of iox2_pubsub.h on the domain with no other between them, and returns the code that make returns: for
+   * what goes between domains, and has no handles. brings says what they may have brought to those who wait. No function
+   * of a handle is called by make. */
+  template <typename Call> iox2ps_status_t call(Brings brings, Call &&make) const {
+    if (!hold_) return IOX2PS_NOT_LIVE;
+    return hold_.call(brings, std::forward<Call>(make));
+  }
+
+  /** For several threads alone: makes them again as long as their code says that this port still waits, each time when
+   * something came that may help; or, where a time is given, until that has passed, or until waits are stopped. */
+  template <typename Call>
+  iox2ps_status_t wait(Waits what, Id port, Brings brings, Until until, Call &&make) const {
+    if (!hold_) return IOX2PS_NOT_LIVE;
+    return hold_.wait(what, {port.low, port.high}, brings, until, std::forward<Call>(make));
+  }
+
+  /** For several threads alone: lets no call wait any longer: each tries once, and returns what it found. So a program
    * ends its threads. With false calls wait again. */
-  void stop_waits(bool stopped = true) { hold_->threads.stop(stopped); }
+  void stop_waits(bool stopped = true) {
+    if (hold_) hold_->threads.stop(stopped);
+  }
 
 private:
   explicit Domain(detail::Hold<M> hold) : hold_(std::move(hold)) {}
 
-  template <typename Question> std::uint32_t ask(Question &&question) const {
-    return hold_.call(Wakes::Nobody, std::forward<Question>(question));
+  template <typename Question> iox2ps_status_t ask(Question &&question) const {
+    if (!hold_) return IOX2PS_NOT_LIVE;
+    return hold_.ask(std::forward<Question>(question));
   }
 
   detail::Hold<M> hold_;
@@ -831,4 +963,5 @@ private:
 
 } // namespace iox2ps
 
+#endif // C++17
 #endif

@@ -1,4 +1,5 @@
-/* Domains that several threads use at a time, for C++17: the classes of iox2_pubsub.hpp over a lock.
+/** @file
+ * Domains that several threads use at a time, for C++17: the classes of iox2_pubsub.hpp over a lock.
  *
  * Each call of the library is made under the domain's lock, so that all calls are one list, as for one thread. A handle
  * may be given to another thread, and the calls of one publisher or subscriber that are const or receive, loan and send
@@ -6,8 +7,16 @@
  * by those that have its samples. A Loan, a Sample and a BlockedSend are used by one thread at a time, as a std::vector
  * is; several may read one Sample.
  *
- * What waits, waits at a condition variable: blocking_receive and timed_receive, blocking_send and timed_send,
- * blocking_retry and timed_retry. stop_waits of the domain ends all waits. */
+ * blocking_.. and timed_.. calls wait for a message, for room, for a publisher's earlier send, or for a loan. Whoever waits
+ * stands in the domain's list, and is woken by the call that may have brought something: one after the other, so that
+ * those who are woken don't all want the lock at once. stop_waits of the domain ends all waits.
+ *
+ * The lock is a std::mutex. Another may be brought: a class with lock() and unlock() that no other thread passes between the
+ * two, as SharedDomain<P, MyLock>. One that knows priorities says `static constexpr bool wakes_all = true;`, so that nobody
+ * waits until a thread that was woken earlier, and may have a lower priority, has had its turn.
+ * `static constexpr unsigned looks = 0;` says that a thread sleeps at once, and looks for no change first.
+ *
+ * Nothing more is thrown than by iox2_pubsub.hpp, but std::bad_alloc by the calls that wait. */
 #ifndef IOX2_PUBSUB_SHARED_HPP
 #define IOX2_PUBSUB_SHARED_HPP
 
@@ -15,79 +24,256 @@
 
 #include <atomic>
 #include <condition_variable>
+#include <memory>
 #include <mutex>
+#include <thread>
 
 namespace iox2ps {
 
-/* The handles of a domain are for many threads, under its lock. */
-class ManyThreads {
+namespace detail {
+
+/* Where a thread sleeps until it is woken. */
+class Sleeper {
 public:
+  void wake() {
+    {
+      std::lock_guard<std::mutex> lock(mutex_);
+      woken_ = true;
+    }
+    signal_.notify_one();
+  }
+
+  void sleep(Until until) {
+    std::unique_lock<std::mutex> lock(mutex_);
+    auto is_woken = [this] { return woken_; };
+    if (until) signal_.wait_until(lock, *until, is_woken);
+    else signal_.wait(lock, is_woken);
+    woken_ = false;
+  }
+
+private:
+  std::mutex mutex_;
+  std::condition_variable signal_;
+  bool woken_ = false;
+};
+
+/* This thread's. It is shared with whoever wakes it, since a thread whose time is up doesn't wait for that. */
+inline const std::shared_ptr<Sleeper> &own_sleeper() {
+  static thread_local const std::shared_ptr<Sleeper> own = std::make_shared<Sleeper>();
+  return own;
+}
+
+/* Those who wait in a domain. All of it is used under the lock. */
+class WaitingList {
+public:
+  bool is_empty() const { return all_.empty(); }
+
+  /* This thread begins to wait. */
+  void add(Waits what, Id port) { all_.push_back({what, port, own_sleeper(), false, false}); }
+
+  /* It is back: by a wake-up, because its time is up, or for no reason. */
+  void remove() {
+    for (auto one = all_.begin(); one != all_.end(); ++one) {
+      if (one->sleeper != own_sleeper()) continue;
+      if (one->is_awake) awake_--;
+      all_.erase(one);
+      return;
+    }
+  }
+
+  /* Something came that may help those who wait for it. One that is awake tries again anyway. */
+  void bring(Brings brings) {
+    for (auto &one : all_) {
+      if (!one.is_awake && (brings & helped_by(one.what)) != 0) one.is_due = true;
+    }
+  }
+
+  /* Nothing came for this subscriber, so that no other thread finds it there. */
+  void nothing_for(Id port) {
+    for (auto &one : all_) {
+      if (one.what == Waits::Message && one.port == port) one.is_due = false;
+    }
+  }
+
+  /* Whom to wake once the lock was given back: the first whom something may help. Nobody, where another thread is awake that
+   * will come here, and so wake the next. */
+  std::shared_ptr<Sleeper> next() {
+    for (auto &one : all_) {
+      if (awake_ > 0) break;
+      if (one.is_due) return rouse(one);
+    }
+    return nullptr;
+  }
+
+  /* Wakes all whom something may help. */
+  void wake_all() {
+    for (auto &one : all_) {
+      if (one.is_due) rouse(one)->wake();
+    }
+  }
+
+private:
+  struct Waiting {
+    Waits what;
+    Id port;
+    std::shared_ptr<Sleeper> sleeper;
+    /* Something came that may help; it was woken, and isn't back yet. */
+    bool is_due, is_awake;
+  };
+
+  /* What may bring what is waited for. */
+  static Brings helped_by(Waits what) { return what == Waits::Loan ? Waits::Loan | Waits::Free : only(what); }
+
+  std::shared_ptr<Sleeper> rouse(Waiting &one) {
+    one.is_due = false;
+    one.is_awake = true;
+    awake_++;
+    return one.sleeper;
+  }
+
+  std::vector<Waiting> all_;
+  std::size_t awake_ = 0;
+};
+
+/* Whether a call that waits for this tries again after this code. */
+inline bool waits_on(Waits what, iox2ps_status_t code) {
+  switch (what) {
+  case Waits::Message: return code == IOX2PS_NO_SAMPLE;
+  case Waits::Room: return code == IOX2PS_BLOCKED;
+  case Waits::Free: return code == IOX2PS_PUBLISHER_IS_BLOCKED;
+  case Waits::Loan: break;
+  }
+  return code == IOX2PS_PUBLISHER_IS_BLOCKED || code == IOX2PS_LOAN_ERROR_EXCEEDS_MAX_LOANS
+      || code == IOX2PS_LOAN_ERROR_OUT_OF_MEMORY;
+}
+
+/* Whether a call that returned this may have changed something. */
+inline bool may_change(iox2ps_status_t code) {
+  return code != IOX2PS_NOT_LIVE && code != IOX2PS_NO_SAMPLE && code != IOX2PS_PUBLISHER_IS_BLOCKED;
+}
+
+template <typename Lock, typename = void> constexpr bool wakes_all = false;
+template <typename Lock> constexpr bool wakes_all<Lock, std::enable_if_t<Lock::wakes_all>> = true;
+
+/* How often a thread that waits looks for a change before it sleeps. */
+template <typename Lock, typename = void> constexpr unsigned looks = 10;
+template <typename Lock> constexpr unsigned looks<Lock, std::enable_if_t<(Lock::looks >= 0)>> = Lock::looks;
+
+} // namespace detail
+
+/** The handles of a domain are for many threads, under a lock of this type. */
+template <typename Lock> class ManyThreadsWith {
+public:
+  /** How many handles a domain has. */
   class Count {
   public:
-    void add() { count_.fetch_add(1, std::memory_order_relaxed); }
-    bool is_last() { return count_.fetch_sub(1, std::memory_order_acq_rel) == 1; }
+    void add() { count_.fetch_add(1, std::memory_order_relaxed); } /**< one more */
+    bool is_last() { return count_.fetch_sub(1, std::memory_order_acq_rel) == 1; } /**< one less: was it the last? */
 
   private:
     std::atomic<std::size_t> count_{1};
   };
 
-  template <typename Call> std::uint32_t call(Wakes wakes, Call &&make) {
-    std::unique_lock<std::mutex> lock(mutex_);
-    std::uint32_t code = make();
-    end(lock, wakes, code);
+  /** Makes a call, and wakes those whom it may help. */
+  template <typename Call> iox2ps_status_t call(Brings brings, Call &&make) {
+    std::shared_ptr<detail::Sleeper> woken;
+    iox2ps_status_t code;
+    {
+      std::lock_guard<Lock> lock(lock_);
+      code = make();
+      brought(brings, code);
+      woken = next();
+    }
+    if (woken) woken->wake();
     return code;
   }
 
-  /* Makes calls as long as they return this code. */
-  template <typename Call> std::uint32_t wait(std::uint32_t again, Wakes wakes, Until until, Call &&make) {
-    std::unique_lock<std::mutex> lock(mutex_);
-    bool for_message = again == IOX2PS_NO_SAMPLE;
-    std::condition_variable &signal = for_message ? messages_ : room_;
-    std::size_t &waiting = for_message ? receivers_ : senders_;
+  /** Makes calls as long as their code says that the port still waits, each time when something came that may help. */
+  template <typename Call> iox2ps_status_t wait(Waits what, Id port, Brings brings, Until until, Call &&make) {
+    bool is_listed = false;
     while (true) {
-      std::uint32_t code = make();
-      if (code != again || stopped_ || (until && *until <= std::chrono::steady_clock::now())) {
-        end(lock, wakes, code);
-        return code;
+      std::shared_ptr<detail::Sleeper> woken;
+      iox2ps_status_t code;
+      std::size_t seen;
+      bool is_over;
+      {
+        std::lock_guard<Lock> lock(lock_);
+        if (std::exchange(is_listed, false)) list_.remove();
+        code = make();
+        brought(brings, code);
+        is_over = !detail::waits_on(what, code) || is_stopped_ || (until && *until <= std::chrono::steady_clock::now());
+        if (code == IOX2PS_NO_SAMPLE) list_.nothing_for(port);
+        seen = changes(what).load(std::memory_order_relaxed);
+        woken = next();
       }
-      /* A blocked send that was tried again may have reached others on its way. */
-      if (code == IOX2PS_BLOCKED && receivers_ > 0) messages_.notify_all();
-      waiting++;
-      if (until) signal.wait_until(lock, *until);
-      else signal.wait(lock);
-      waiting--;
+      if (woken) woken->wake();
+      if (is_over) return code;
+      if (looks_out(what, seen)) continue;
+      {
+        std::lock_guard<Lock> lock(lock_);
+        is_listed = seen == changes(what).load(std::memory_order_relaxed);
+        if (is_listed) list_.add(what, port);
+      }
+      if (is_listed) detail::own_sleeper()->sleep(until);
     }
   }
 
-  void stop(bool stopped) {
-    {
-      std::lock_guard<std::mutex> lock(mutex_);
-      stopped_ = stopped;
-    }
-    messages_.notify_all();
-    room_.notify_all();
+  /** No call waits any longer, or calls wait again. */
+  void stop(bool is_stopped) {
+    std::lock_guard<Lock> lock(lock_);
+    is_stopped_ = is_stopped;
+    count(messages_);
+    count(others_);
+    list_.bring(~0u);
+    list_.wake_all();
   }
 
 private:
-  /* Gives the lock back, and then wakes those who may go on. */
-  void end(std::unique_lock<std::mutex> &lock, Wakes wakes, std::uint32_t code) {
-    bool changed = code != IOX2PS_NOT_LIVE && code != IOX2PS_NO_SAMPLE && code != IOX2PS_PUBLISHER_IS_BLOCKED;
-    bool receivers = changed && receivers_ > 0 && (wakes == Wakes::Receivers || wakes == Wakes::Both);
-    bool senders = changed && senders_ > 0 && (wakes == Wakes::Senders || wakes == Wakes::Both);
-    lock.unlock();
-    if (receivers) messages_.notify_all();
-    if (senders) room_.notify_all();
+  void brought(Brings brings, iox2ps_status_t code) {
+    if (code == IOX2PS_BLOCKED) brings &= only(Waits::Message); /* it has ended nothing */
+    if (brings == 0 || !detail::may_change(code)) return;
+    if ((brings & only(Waits::Message)) != 0) count(messages_);
+    if ((brings & ~only(Waits::Message)) != 0) count(others_);
+    if (!list_.is_empty()) list_.bring(brings);
   }
 
-  std::mutex mutex_;
-  std::condition_variable messages_, room_;
-  /* How many threads wait, so that nobody is woken where nobody waits. */
-  std::size_t receivers_ = 0, senders_ = 0;
-  bool stopped_ = false;
+  std::shared_ptr<detail::Sleeper> next() {
+    if (list_.is_empty()) return nullptr;
+    if (!detail::wakes_all<Lock>) return list_.next();
+    list_.wake_all();
+    return nullptr;
+  }
+
+  /* Looks for a change without the lock, for about as long as it takes to fall asleep. */
+  bool looks_out(Waits what, std::size_t seen) {
+    for (unsigned turn = 0; turn < detail::looks<Lock>; turn++) {
+      if (turn > 6) std::this_thread::yield();
+      for (unsigned look = 0; look < 1u << (turn < 6 ? turn : 0); look++) {
+        if (changes(what).load(std::memory_order_relaxed) != seen) return true;
+      }
+    }
+    return false;
+  }
+
+  std::atomic<std::size_t> &changes(Waits what) { return what == Waits::Message ? messages_ : others_; }
+
+  /* Under the lock, so that nothing is lost between the two. */
+  static void count(std::atomic<std::size_t> &changes) {
+    changes.store(changes.load(std::memory_order_relaxed) + 1, std::memory_order_relaxed);
+  }
+
+  Lock lock_;
+  detail::WaitingList list_;
+  bool is_stopped_ = false;
+  /* What came so far: messages, and all else. They are read without the lock too. */
+  std::atomic<std::size_t> messages_{0}, others_{0};
 };
 
-/* A service whose messages are of the type P, for many threads. Copies are the same domain. */
-template <typename P> using SharedDomain = Domain<P, ManyThreads>;
+/** The same, under the standard library's lock. */
+using ManyThreads = ManyThreadsWith<std::mutex>;
+
+/** A service whose messages are of the type P, for many threads. Copies are the same domain. */
+template <typename P, typename Lock = std::mutex> using SharedDomain = Domain<P, ManyThreadsWith<Lock>>;
 
 } // namespace iox2ps
 

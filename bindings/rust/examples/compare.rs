@@ -1,8 +1,8 @@
 //! Passes messages of 64 bytes to subscribers that read each at once: `compare WHAT SUBSCRIBERS MESSAGES`, where
-//! WHAT is `domain` (this crate), `mpsc` (channels of `Arc`s) or `queues` (`VecDeque`s of `Rc`s). Prints the
+//! WHAT is `domain` (this crate), `borrowed` (its handles that borrow their domain), `mpsc` (channels of `Arc`s) or `queues` (`VecDeque`s of `Rc`s). Prints the
 //! nanoseconds that a message took.
 
-use iox2_pubsub::Domain;
+use iox2_pubsub::{Domain, DomainCreateError, Threads};
 use std::collections::VecDeque;
 use std::error::Error;
 use std::rc::Rc;
@@ -17,10 +17,15 @@ fn message(number: u64) -> Message {
 
 // Each returns the sum of what was read.
 
-fn by_domain(subscribers: usize, messages: u64) -> Result<u64, Box<dyn Error>> {
-    let domain = Domain::<Message>::builder(1)
-        .max_subscribers(subscribers)
-        .create()?;
+fn domain(subscribers: usize) -> Result<Domain<Message>, DomainCreateError> {
+    Domain::builder(1).max_subscribers(subscribers).create()
+}
+
+fn by_domain<M: Threads>(
+    domain: &Domain<Message, M>,
+    subscribers: usize,
+    messages: u64,
+) -> Result<u64, Box<dyn Error>> {
     let publisher = domain.publisher()?;
     let subscribers = (0..subscribers)
         .map(|_| domain.subscriber())
@@ -30,7 +35,8 @@ fn by_domain(subscribers: usize, messages: u64) -> Result<u64, Box<dyn Error>> {
         publisher
             .loan_uninit()?
             .write_payload(message(number))
-            .send()?;
+            .send()?
+            .delivered();
         for subscriber in &subscribers {
             while let Some(sample) = subscriber.receive()? {
                 sum += sample[0];
@@ -82,13 +88,14 @@ fn by_queues(subscribers: usize, messages: u64) -> u64 {
 
 fn main() -> Result<(), Box<dyn Error>> {
     let words: Vec<String> = std::env::args().collect();
-    let [_, what, subscribers, messages] = &words[..] else {
-        return Err("usage: compare domain|mpsc|queues SUBSCRIBERS MESSAGES".into());
+    let (what, subscribers, messages) = match &words[..] {
+        [_, what, subscribers, messages] => (what, subscribers.parse()?, messages.parse()?),
+        _ => return Err("usage: compare domain|borrowed|mpsc|queues SUBSCRIBERS MESSAGES".into()),
     };
-    let (subscribers, messages) = (subscribers.parse()?, messages.parse()?);
     let started = Instant::now();
     let sum = match what.as_str() {
-        "domain" => by_domain(subscribers, messages)?,
+        "domain" => by_domain(&domain(subscribers)?, subscribers, messages)?,
+        "borrowed" => by_domain(&domain(subscribers)?.borrowed(), subscribers, messages)?,
         "mpsc" => by_mpsc(subscribers, messages)?,
         "queues" => by_queues(subscribers, messages),
         _ => return Err("there is no such kind".into()),

@@ -1,6 +1,8 @@
 //! A domain: a service and what stands in it.
 
 use crate::errors::{unexpected, DomainCreateError};
+use crate::guarded::Guarded;
+use crate::lock::{DomainLock, StdLock};
 use crate::numbers::{number, wide};
 use crate::payload::Payload;
 use crate::port_factory::{PortFactoryPublisher, PortFactorySubscriber};
@@ -8,10 +10,13 @@ use crate::publisher::{BackpressureStrategy, Publisher};
 use crate::shared::Shared;
 use crate::subscriber::Subscriber;
 use crate::sys;
-use crate::threads::{Hold, ManyThreads, OneThread, Threads, Wakes};
+use crate::threads::{Borrowed, Brings, ManyThreads, OneThread, Place, Single, Threads};
 use crate::warning::Warning;
 use crate::{PublisherCreateError, SubscriberCreateError};
+use std::fmt;
 use std::marker::PhantomData;
+use std::rc::Rc;
+use std::sync::Arc;
 
 /// A service whose messages are of the type `P`: a value, or a slice of values.
 ///
@@ -24,7 +29,7 @@ pub struct Domain<P: Payload + ?Sized, M: Threads = OneThread> {
 }
 
 /// A domain that several threads use at a time, as its handles may be.
-pub type SharedDomain<P> = Domain<P, ManyThreads>;
+pub type SharedDomain<P, L = StdLock> = Domain<P, ManyThreads<L>>;
 
 impl<P: Payload + ?Sized, M: Threads> Clone for Domain<P, M> {
     fn clone(&self) -> Self {
@@ -51,12 +56,50 @@ impl<T: Copy + 'static> Domain<[T]> {
 }
 
 impl<P: Payload + ?Sized, M: Threads> Domain<P, M> {
+    /// The same domain with handles that borrow it, and so cost less than those that have a counted part in
+    /// it each.
+    ///
+    /// ```
+    /// use iox2_pubsub::{Borrowed, Domain, Publisher};
+    ///
+    /// # fn main() -> Result<(), Box<dyn std::error::Error>> {
+    /// let domain = Domain::<u64>::builder(7).create()?;
+    /// let publisher: Publisher<u64, Borrowed<'_>> = domain.borrowed().publisher()?;
+    /// assert_eq!(publisher.send_copy(7)?.delivered(), Some(0));
+    /// # Ok(())
+    /// # }
+    /// ```
+    ///
+    /// They don't outlive it:
+    ///
+    /// ```compile_fail
+    /// let domain = iox2_pubsub::Domain::<u64>::builder(7).create().unwrap();
+    /// let publisher = domain.borrowed().publisher().unwrap();
+    /// drop(domain);
+    /// drop(publisher);
+    /// ```
+    #[must_use]
+    pub fn borrowed(&self) -> Domain<P, Borrowed<'_, M>> {
+        Domain {
+            hold: &*self.hold,
+            messages: PhantomData,
+        }
+    }
+
     /// Makes a publisher as the settings of the domain say.
+    ///
+    /// # Errors
+    ///
+    /// See [`PublisherCreateError`].
     pub fn publisher(&self) -> Result<Publisher<P, M>, PublisherCreateError> {
         self.publisher_builder().create()
     }
 
     /// Makes a subscriber as the settings of the domain say.
+    ///
+    /// # Errors
+    ///
+    /// See [`SubscriberCreateError`].
     pub fn subscriber(&self) -> Result<Subscriber<P, M>, SubscriberCreateError> {
         self.subscriber_builder().create()
     }
@@ -72,18 +115,21 @@ impl<P: Payload + ?Sized, M: Threads> Domain<P, M> {
     }
 
     /// The number that names the domain.
+    #[must_use]
     pub fn service_id(&self) -> u128 {
         number(self.config().service_id)
     }
 
     /// The last warnings, 32 at most, the oldest first. Reading forgets none.
+    #[must_use]
     pub fn warnings(&self) -> Vec<Warning> {
         (0..)
-            .map_while(|index| Warning::read(&self.hold, index))
+            .map_while(|index| Warning::read(&*self.hold, index))
             .collect()
     }
 
     /// How many connections of a publisher and a subscriber the domain has.
+    #[must_use]
     pub fn connection_count(&self) -> usize {
         let mut count = 0;
         // SAFETY: see `Shared::at`.
@@ -93,6 +139,7 @@ impl<P: Payload + ?Sized, M: Threads> Domain<P, M> {
 
     /// How many books of slots the domain has: that of each publisher, and that of a closed one until
     /// nobody holds a slot of it.
+    #[must_use]
     pub fn book_count(&self) -> usize {
         let mut count = 0;
         // SAFETY: see `Shared::at`.
@@ -101,6 +148,7 @@ impl<P: Payload + ?Sized, M: Threads> Domain<P, M> {
     }
 
     /// How often memory for a connection was refused since the domain was made.
+    #[must_use]
     pub fn refused_connections(&self) -> u64 {
         let mut count = 0;
         // SAFETY: see `Shared::at`.
@@ -118,11 +166,24 @@ impl<P: Payload + ?Sized, M: Threads> Domain<P, M> {
     }
 
     fn ask(&self, question: impl FnOnce(&mut Shared) -> u32) {
-        expect(self.hold.call(Wakes::Nobody, question));
+        expect(self.hold.call(Brings::NOTHING, question));
     }
 }
 
-impl<P: Payload + ?Sized> SharedDomain<P> {
+impl<P: Payload + ?Sized, M: Threads> fmt::Debug for Domain<P, M> {
+    fn fmt(&self, f: &mut fmt::Formatter<'_>) -> fmt::Result {
+        f.debug_struct("Domain")
+            .field("service_id", &self.service_id())
+            .finish_non_exhaustive()
+    }
+}
+
+impl<P, M, L> Domain<P, M>
+where
+    P: Payload + ?Sized,
+    M: Threads<Place = Guarded<L>>,
+    L: DomainLock,
+{
     /// Lets no call wait any longer, here and on other threads: each tries once, and returns what it
     /// found. So a program ends its threads. With `false` calls wait again.
     pub fn stop_waits(&self, stopped: bool) {
@@ -130,6 +191,7 @@ impl<P: Payload + ?Sized> SharedDomain<P> {
     }
 }
 
+#[inline]
 pub(crate) fn expect(code: u32) {
     if code != sys::OK {
         unexpected(code);
@@ -138,6 +200,8 @@ pub(crate) fn expect(code: u32) {
 
 /// The settings of a domain. Unless they are set: 2 publishers with 2 loans each, 8 subscribers with a
 /// buffer of 2 and 2 borrowed samples, no history, overflow.
+#[derive(Clone, Debug)]
+#[must_use = "settings make nothing until `create`"]
 pub struct DomainBuilder<P: Payload + ?Sized> {
     config: sys::Config,
     messages: PhantomData<P>,
@@ -218,6 +282,7 @@ impl<P: Payload + ?Sized> DomainBuilder<P> {
     }
 
     /// How many slots a publisher of the domain has. `None` where the number doesn't fit.
+    #[must_use]
     pub fn worst_case_slots(&self) -> Option<usize> {
         let mut slots = 0;
         let loans = self.config.publisher_max_loaned_samples;
@@ -229,27 +294,49 @@ impl<P: Payload + ?Sized> DomainBuilder<P> {
     }
 
     /// Makes the domain.
+    ///
+    /// # Errors
+    ///
+    /// [`DomainCreateError::OutOfMemory`].
     pub fn create(self) -> Result<Domain<P>, DomainCreateError> {
-        self.make()
+        let shared = self.shared()?;
+        Ok(Domain {
+            hold: Rc::new(Single::new(shared)),
+            messages: PhantomData,
+        })
     }
 
     /// Makes the domain for several threads. Its messages may be read by many at a time, so that they
     /// have to be `Sync`.
+    ///
+    /// # Errors
+    ///
+    /// [`DomainCreateError::OutOfMemory`].
     pub fn create_shared(self) -> Result<SharedDomain<P>, DomainCreateError>
     where
         P: Send + Sync,
     {
-        self.make()
+        self.create_with_lock()
     }
 
-    fn make<M: Threads>(self) -> Result<Domain<P, M>, DomainCreateError> {
-        match Shared::new(&self.config) {
-            Ok(shared) => Ok(Domain {
-                hold: M::Hold::new(shared),
-                messages: PhantomData,
-            }),
-            Err(code) => Err(DomainCreateError::of(code)),
-        }
+    /// The same, with a lock that is brought: see [`DomainLock`].
+    ///
+    /// # Errors
+    ///
+    /// [`DomainCreateError::OutOfMemory`].
+    pub fn create_with_lock<L: DomainLock>(self) -> Result<SharedDomain<P, L>, DomainCreateError>
+    where
+        P: Send + Sync,
+    {
+        let shared = self.shared()?;
+        Ok(Domain {
+            hold: Arc::new(Guarded::new(shared)),
+            messages: PhantomData,
+        })
+    }
+
+    fn shared(&self) -> Result<Shared, DomainCreateError> {
+        Shared::new(&self.config).map_err(DomainCreateError::of)
     }
 }
 

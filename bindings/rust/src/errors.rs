@@ -28,6 +28,7 @@ pub(crate) fn unexpected(code: u32) -> ! {
 macro_rules! errors {
     ($(#[$meta:meta])* $name:ident { $($(#[$of:meta])* $variant:ident = $code:ident,)* }) => {
         $(#[$meta])*
+        #[non_exhaustive]
         #[derive(Clone, Copy, Debug, PartialEq, Eq, Hash)]
         pub enum $name {
             $($(#[$of])* $variant,)*
@@ -42,6 +43,7 @@ macro_rules! errors {
             }
 
             /// The code of the C header.
+            #[must_use]
             pub fn code(self) -> u32 {
                 match self {
                     $($name::$variant => sys::$code,)*
@@ -129,6 +131,7 @@ errors! {
 }
 
 /// Why a message wasn't sent, or not to everybody.
+#[non_exhaustive]
 #[derive(Clone, Copy, Debug, PartialEq, Eq, Hash)]
 pub enum SendError {
     /// The publisher of the loan is closed.
@@ -143,6 +146,8 @@ pub enum SendError {
     UnableToDeliver,
     /// Never returned.
     InternalError,
+    /// An earlier send of the publisher waits. This library's own.
+    PublisherIsBlocked,
 }
 
 impl SendError {
@@ -154,6 +159,7 @@ impl SendError {
             sys::SEND_ERROR_CONNECTION_CORRUPTED => SendError::ConnectionCorrupted,
             sys::SEND_ERROR_UNABLE_TO_DELIVER => SendError::UnableToDeliver,
             sys::SEND_ERROR_INTERNAL_ERROR => SendError::InternalError,
+            sys::PUBLISHER_IS_BLOCKED => SendError::PublisherIsBlocked,
             sys::SEND_ERROR_CONNECTION_INCOMPATIBLE_BUFFER_SIZE
             | sys::SEND_ERROR_CONNECTION_OUT_OF_MEMORY
             | sys::SEND_ERROR_CONNECTION_EXPIRED_BUFFER_FULL
@@ -165,6 +171,7 @@ impl SendError {
     }
 
     /// The code of the C header.
+    #[must_use]
     pub fn code(self) -> u32 {
         match self {
             SendError::ConnectionBrokenSinceSenderNoLongerExists => {
@@ -175,6 +182,7 @@ impl SendError {
             SendError::ConnectionError(failure) => failure.code() - FROM_SEND,
             SendError::UnableToDeliver => sys::SEND_ERROR_UNABLE_TO_DELIVER,
             SendError::InternalError => sys::SEND_ERROR_INTERNAL_ERROR,
+            SendError::PublisherIsBlocked => sys::PUBLISHER_IS_BLOCKED,
         }
     }
 }
@@ -197,11 +205,15 @@ impl Error for SendError {
 
 impl From<LoanError> for SendError {
     fn from(error: LoanError) -> SendError {
-        SendError::LoanError(error)
+        match error {
+            LoanError::PublisherIsBlocked => SendError::PublisherIsBlocked,
+            error => SendError::LoanError(error),
+        }
     }
 }
 
 /// Why a subscriber receives nothing though something may wait.
+#[non_exhaustive]
 #[derive(Clone, Copy, Debug, PartialEq, Eq, Hash)]
 pub enum ReceiveError {
     /// Messages wait, but of each publisher that they come from the subscriber has as many samples
@@ -220,6 +232,7 @@ impl ReceiveError {
     }
 
     /// The code of the C header.
+    #[must_use]
     pub fn code(self) -> u32 {
         match self {
             ReceiveError::ExceedsMaxBorrows => sys::RECEIVE_ERROR_EXCEEDS_MAX_BORROWS,

@@ -23,16 +23,19 @@ impl Header {
     }
 
     /// The node that the settings of the domain name.
+    #[must_use]
     pub fn node_id(&self) -> u128 {
         self.node_id
     }
 
     /// The id of the publisher that sent it.
+    #[must_use]
     pub fn publisher_id(&self) -> u128 {
         self.publisher_id
     }
 
     /// How many values a slice has; 1 of a single value.
+    #[must_use]
     pub fn number_of_elements(&self) -> usize {
         self.number_of_elements
     }

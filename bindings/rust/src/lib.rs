@@ -19,7 +19,7 @@
 //!
 //! let mut loan = publisher.loan_uninit()?.write_payload(Reading { celsius: 20.0 });
 //! loan.celsius += 1.5;
-//! loan.send()?;
+//! assert_eq!(loan.send()?.delivered(), Some(1));
 //!
 //! for sample in &subscriber {
 //!     println!("{} °C", sample?.celsius);
@@ -38,9 +38,9 @@
 //! let domain = Domain::<u64>::builder(7).create_shared()?;
 //! let publisher = domain.publisher()?;
 //! let subscriber = domain.subscriber()?;
-//! let reader = thread::spawn(move || subscriber.blocking_receive().map(|sample| sample.map(|sample| *sample)));
+//! let reader = thread::spawn(move || subscriber.blocking_receive_copy());
 //! let loan = publisher.loan_uninit()?.write_payload(7); // written without the lock
-//! loan.send()?.blocking_wait()?;
+//! assert_eq!(loan.blocking_send()?.delivered(), Some(1));
 //! assert_eq!(reader.join().unwrap()?, Some(7));
 //! # Ok(())
 //! # }
@@ -75,13 +75,20 @@
 //!   half done, so that the lock isn't poisoned: the handles of a thread that panics give back what they have.
 //! - A handle is live in the domain while it exists, and the library tests that too: a wrong one would
 //!   be a panic of this crate.
-#![warn(missing_docs)]
+#![deny(missing_docs, missing_debug_implementations)]
 
+#[cfg(feature = "dds")]
+pub mod dds;
 mod domain;
 mod errors;
+mod events;
+mod guarded;
 mod header;
+mod listeners;
 mod loan;
 mod lock;
+#[cfg(target_os = "linux")]
+mod message_fd;
 mod numbers;
 mod payload;
 mod port_factory;
@@ -90,18 +97,24 @@ mod sample;
 mod send_outcome;
 mod shared;
 mod subscriber;
-#[doc(hidden)]
-pub mod sys;
 mod threads;
+mod timeout;
+mod waiting;
 mod warning;
+
+pub(crate) use iox2_pubsub_sys as sys;
 
 pub use domain::{Domain, DomainBuilder, SharedDomain};
 pub use errors::{
     ConnectionFailure, DomainCreateError, LoanError, PublisherCreateError, ReceiveError, SendError,
     SubscriberCreateError,
 };
+pub use events::Receive;
 pub use header::Header;
-pub use loan::{Loan, LoanUninit};
+pub use loan::{Loan, LoanUninit, Unsent};
+pub use lock::{DomainLock, StdLock};
+#[cfg(target_os = "linux")]
+pub use message_fd::MessageFd;
 pub use payload::Payload;
 pub use port_factory::{
     AllocationStrategy, DegradationAction, PortFactoryPublisher, PortFactorySubscriber,
@@ -110,5 +123,5 @@ pub use publisher::{BackpressureAction, BackpressureStrategy, Publisher};
 pub use sample::Sample;
 pub use send_outcome::{BlockedSend, SendOutcome};
 pub use subscriber::{Incoming, Received, Subscriber};
-pub use threads::{ManyThreads, OneThread, Threads};
+pub use threads::{Borrowed, ManyThreads, MayWait, OneThread, Threads};
 pub use warning::{Warning, WarningKind};

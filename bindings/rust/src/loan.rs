@@ -4,14 +4,17 @@ use crate::domain::expect;
 use crate::errors::SendError;
 use crate::numbers::number;
 use crate::payload::Payload;
-use crate::send_outcome::{BlockedSend, SendOutcome};
+use crate::send_outcome::{outcome, SendOutcome};
+use crate::shared::Shared;
 use crate::sys;
-use crate::threads::{Hold, ManyThreads, OneThread, Threads, Wakes};
+use crate::threads::{Brings, MayWait, OneThread, Place, Threads, Wait, Waits};
+use crate::timeout::after;
+use std::error::Error;
 use std::fmt;
 use std::mem::{ManuallyDrop, MaybeUninit};
 use std::ops::{Deref, DerefMut};
 use std::ptr;
-use std::time::Instant;
+use std::time::{Duration, Instant};
 
 // A loan in its domain, which gets it back when this is dropped.
 struct Lent<M: Threads> {
@@ -22,7 +25,7 @@ struct Lent<M: Threads> {
 impl<M: Threads> Drop for Lent<M> {
     fn drop(&mut self) {
         // SAFETY: see `Shared::at`.
-        expect(self.hold.call(Wakes::Nobody, |shared| unsafe {
+        expect(self.hold.call(Brings::LOAN, |shared| unsafe {
             sys::iox2ps_loan_discard(shared.at(), &self.loan)
         }));
     }
@@ -30,14 +33,16 @@ impl<M: Threads> Drop for Lent<M> {
 
 impl<M: Threads> Lent<M> {
     // Leaves the loan in the domain.
-    fn into_parts(self) -> (M::Hold, sys::Loan) {
+    #[inline]
+    fn into_hold(self) -> M::Hold {
         let this = ManuallyDrop::new(self);
-        // SAFETY: the fields of `this` are never dropped, and each is moved out once.
-        (unsafe { ptr::read(&this.hold) }, this.loan)
+        // SAFETY: the fields of `this` are never dropped, and this one is moved out once.
+        unsafe { ptr::read(&this.hold) }
     }
 }
 
 /// A message that was lent and isn't written yet. It is given back when it is dropped.
+#[must_use = "a loan that isn't sent is given back"]
 pub struct LoanUninit<P: Payload + ?Sized, M: Threads = OneThread> {
     lent: Lent<M>,
     payload: *mut P,
@@ -45,12 +50,13 @@ pub struct LoanUninit<P: Payload + ?Sized, M: Threads = OneThread> {
 
 // SAFETY: what these have is a part in the domain, which may be given to other threads, and the place of
 // a message that is theirs alone until a call under the lock sends it or gives it back.
-unsafe impl<P: Payload + ?Sized + Send + Sync> Send for LoanUninit<P, ManyThreads> {}
-unsafe impl<P: Payload + ?Sized + Send + Sync> Sync for LoanUninit<P, ManyThreads> {}
-unsafe impl<P: Payload + ?Sized + Send + Sync> Send for Loan<P, ManyThreads> {}
-unsafe impl<P: Payload + ?Sized + Send + Sync> Sync for Loan<P, ManyThreads> {}
+unsafe impl<P: Payload + ?Sized + Send + Sync, M: MayWait> Send for LoanUninit<P, M> {}
+unsafe impl<P: Payload + ?Sized + Send + Sync, M: MayWait> Sync for LoanUninit<P, M> {}
+unsafe impl<P: Payload + ?Sized + Send + Sync, M: MayWait> Send for Loan<P, M> {}
+unsafe impl<P: Payload + ?Sized + Send + Sync, M: MayWait> Sync for Loan<P, M> {}
 
 impl<P: Payload + ?Sized, M: Threads> LoanUninit<P, M> {
+    #[inline]
     pub(crate) fn new(hold: M::Hold, loan: sys::Loan, start: *mut u8, bytes: usize) -> Self {
         let lent = Lent { hold, loan };
         let payload = P::at(start, bytes).expect("a loan has room for its type");
@@ -58,6 +64,7 @@ impl<P: Payload + ?Sized, M: Threads> LoanUninit<P, M> {
     }
 
     /// Where the message is to be written.
+    #[inline]
     pub fn payload_mut(&mut self) -> &mut P::Uninit {
         // SAFETY: the bytes stay where they are, and are this loan's alone until it is spent.
         unsafe { &mut *P::uninit(self.payload) }
@@ -68,6 +75,7 @@ impl<P: Payload + ?Sized, M: Threads> LoanUninit<P, M> {
     /// # Safety
     ///
     /// It is written.
+    #[inline]
     pub unsafe fn assume_init(self) -> Loan<P, M> {
         Loan {
             lent: self.lent,
@@ -78,6 +86,7 @@ impl<P: Payload + ?Sized, M: Threads> LoanUninit<P, M> {
 
 impl<T: Copy + 'static, M: Threads> LoanUninit<T, M> {
     /// Writes the message.
+    #[inline]
     pub fn write_payload(mut self, value: T) -> Loan<T, M> {
         self.payload_mut().write(value);
         // SAFETY: it is written.
@@ -109,8 +118,17 @@ impl<T: Copy + 'static, M: Threads> LoanUninit<[T], M> {
     }
 }
 
+impl<P: Payload + ?Sized, M: Threads> fmt::Debug for LoanUninit<P, M> {
+    fn fmt(&self, f: &mut fmt::Formatter<'_>) -> fmt::Result {
+        f.debug_struct("LoanUninit")
+            .field("number", &number(self.lent.loan.number))
+            .finish_non_exhaustive()
+    }
+}
+
 /// A message that was lent and is written: it reads as its payload where that lies, and can be changed
 /// there until it is sent. It is given back when it is dropped.
+#[must_use = "a loan that isn't sent is given back"]
 pub struct Loan<P: Payload + ?Sized, M: Threads = OneThread> {
     lent: Lent<M>,
     payload: *mut P,
@@ -118,74 +136,130 @@ pub struct Loan<P: Payload + ?Sized, M: Threads = OneThread> {
 
 impl<P: Payload + ?Sized, M: Threads> Loan<P, M> {
     /// The id of the publisher that lent it.
+    #[must_use]
     pub fn publisher(&self) -> u128 {
         number(self.lent.loan.publisher)
     }
 
     /// The number that the message has: no other message of the domain has it.
+    #[must_use]
     pub fn number(&self) -> u128 {
         number(self.lent.loan.number)
     }
 
     /// The message itself.
+    #[must_use]
     pub fn payload(&self) -> &P {
         self
     }
 
     /// The message itself, to be changed.
+    #[must_use]
     pub fn payload_mut(&mut self) -> &mut P {
         self
     }
 
-    /// Sends the message. Where that is refused the loan is spent.
+    /// Sends the message.
+    ///
+    /// # Errors
+    ///
+    /// See [`SendError`]. The loan is spent: with `PublisherIsBlocked` it was given back unsent, which
+    /// [`send_or_keep`](Loan::send_or_keep) doesn't.
+    #[inline]
     pub fn send(self) -> Result<SendOutcome<P, M>, SendError> {
-        let (mut receivers, mut blocked) = (0, sys::Blocked::default());
-        let lent = &self.lent;
-        // SAFETY: see `Shared::at`.
-        let code = lent.hold.call(Wakes::Receivers, |shared| unsafe {
-            sys::iox2ps_loan_send(shared.at(), &lent.loan, &mut receivers, &mut blocked)
+        let (mut receivers, mut blocked) = (0, MaybeUninit::uninit());
+        let code = self.lent.hold.call(Brings::SEND, |shared| {
+            send(shared, &self.lent.loan, &mut receivers, &mut blocked)
         });
-        self.outcome(code, receivers, blocked)
+        if code == sys::PUBLISHER_IS_BLOCKED {
+            return Err(SendError::PublisherIsBlocked);
+        }
+        outcome(&self.lent.into_hold(), code, receivers, blocked)
     }
 
-    // What came of a send.
-    fn outcome(
+    /// The same, but where an earlier send of the publisher waits, the loan comes back.
+    ///
+    /// # Errors
+    ///
+    /// Those of [`send`](Loan::send), in [`Unsent`].
+    pub fn send_or_keep(self) -> Result<SendOutcome<P, M>, Unsent<P, M>> {
+        let (mut receivers, mut blocked) = (0, MaybeUninit::uninit());
+        let code = self.lent.hold.call(Brings::SEND, |shared| {
+            send(shared, &self.lent.loan, &mut receivers, &mut blocked)
+        });
+        self.sent_or_kept(code, receivers, blocked)
+    }
+
+    fn sent_or_kept(
         self,
         code: u32,
         receivers: usize,
-        blocked: sys::Blocked,
-    ) -> Result<SendOutcome<P, M>, SendError> {
+        blocked: MaybeUninit<sys::Blocked>,
+    ) -> Result<SendOutcome<P, M>, Unsent<P, M>> {
         if code == sys::PUBLISHER_IS_BLOCKED {
-            return Ok(SendOutcome::PublisherIsBlocked(self));
+            return Err(Unsent {
+                error: SendError::PublisherIsBlocked,
+                loan: Some(self),
+            });
         }
-        let (hold, _spent) = self.lent.into_parts();
-        match code {
-            sys::OK => Ok(SendOutcome::Delivered(receivers)),
-            sys::BLOCKED => Ok(SendOutcome::Blocked(BlockedSend::new(hold, blocked))),
-            _ => Err(SendError::of(code)),
-        }
+        let sent = outcome(&self.lent.into_hold(), code, receivers, blocked);
+        sent.map_err(|error| Unsent { error, loan: None })
     }
 }
 
-impl<P: Payload + ?Sized> Loan<P, ManyThreads> {
-    // Sends it as soon as no earlier send of its publisher waits, and tries until it has reached everybody.
-    pub(crate) fn send_until(
-        self,
-        until: Option<Instant>,
-    ) -> Result<SendOutcome<P, ManyThreads>, SendError> {
-        let (mut receivers, mut blocked) = (0, sys::Blocked::default());
-        let lent = &self.lent;
-        // SAFETY: see `Shared::at`.
-        let code = lent.hold.wait_for_publisher(until, |shared| unsafe {
-            sys::iox2ps_loan_send(shared.at(), &lent.loan, &mut receivers, &mut blocked)
+#[inline]
+fn send(
+    shared: &mut Shared,
+    loan: &sys::Loan,
+    receivers: &mut usize,
+    blocked: &mut MaybeUninit<sys::Blocked>,
+) -> u32 {
+    // SAFETY: see `Shared::at`.
+    unsafe { sys::iox2ps_loan_send(shared.at(), loan, receivers, blocked.as_mut_ptr()) }
+}
+
+impl<P: Payload + ?Sized, M: MayWait> Loan<P, M> {
+    /// Sends the message as soon as no earlier send of its publisher waits, and tries until it has reached
+    /// everybody. It may still wait where waits are stopped (`SharedDomain::stop_waits`).
+    ///
+    /// # Errors
+    ///
+    /// Those of [`send`](Loan::send); `PublisherIsBlocked` only where waits are stopped.
+    pub fn blocking_send(self) -> Result<SendOutcome<P, M>, SendError> {
+        Ok(self.send_until(None)?)
+    }
+
+    /// The same, for so long. What still waits then is in what this returns.
+    ///
+    /// # Errors
+    ///
+    /// Those of [`send`](Loan::send). With `PublisherIsBlocked` the loan comes back in [`Unsent`].
+    pub fn timed_send(self, timeout: Duration) -> Result<SendOutcome<P, M>, Unsent<P, M>> {
+        self.send_until(after(timeout))
+    }
+
+    fn send_until(self, until: Option<Instant>) -> Result<SendOutcome<P, M>, Unsent<P, M>> {
+        let (mut receivers, mut blocked) = (0, MaybeUninit::uninit());
+        let wait = Wait {
+            what: Waits::Free,
+            port: self.lent.loan.publisher,
+            until,
+            brings: Brings::SEND,
+        };
+        let code = self.lent.hold.wait(wait, |shared| {
+            send(shared, &self.lent.loan, &mut receivers, &mut blocked)
         });
-        self.outcome(code, receivers, blocked)
+        let outcome = self.sent_or_kept(code, receivers, blocked)?;
+        outcome
+            .wait_until(until)
+            .map_err(|error| Unsent { error, loan: None })
     }
 }
 
 impl<P: Payload + ?Sized, M: Threads> Deref for Loan<P, M> {
     type Target = P;
 
+    #[inline]
     fn deref(&self) -> &P {
         // SAFETY: the bytes stay where they are and are this loan's alone until it is spent, its domain
         // is there, and they are written.
@@ -194,6 +268,7 @@ impl<P: Payload + ?Sized, M: Threads> Deref for Loan<P, M> {
 }
 
 impl<P: Payload + ?Sized, M: Threads> DerefMut for Loan<P, M> {
+    #[inline]
     fn deref_mut(&mut self) -> &mut P {
         // SAFETY: as above.
         unsafe { &mut *self.payload }
@@ -208,3 +283,46 @@ impl<P: Payload + ?Sized + fmt::Debug, M: Threads> fmt::Debug for Loan<P, M> {
             .finish()
     }
 }
+
+/// A send that was refused: why, and the loan, where it isn't spent.
+pub struct Unsent<P: Payload + ?Sized, M: Threads = OneThread> {
+    error: SendError,
+    loan: Option<Loan<P, M>>,
+}
+
+impl<P: Payload + ?Sized, M: Threads> Unsent<P, M> {
+    /// Why it was refused.
+    #[must_use]
+    pub fn error(&self) -> SendError {
+        self.error
+    }
+
+    /// The loan as it was, where an earlier send of its publisher waits; else it is spent.
+    #[must_use]
+    pub fn into_loan(self) -> Option<Loan<P, M>> {
+        self.loan
+    }
+}
+
+impl<P: Payload + ?Sized, M: Threads> From<Unsent<P, M>> for SendError {
+    fn from(unsent: Unsent<P, M>) -> SendError {
+        unsent.error
+    }
+}
+
+impl<P: Payload + ?Sized, M: Threads> fmt::Debug for Unsent<P, M> {
+    fn fmt(&self, f: &mut fmt::Formatter<'_>) -> fmt::Result {
+        f.debug_struct("Unsent")
+            .field("error", &self.error)
+            .field("loan", &self.loan.as_ref().map(Loan::number))
+            .finish()
+    }
+}
+
+impl<P: Payload + ?Sized, M: Threads> fmt::Display for Unsent<P, M> {
+    fn fmt(&self, f: &mut fmt::Formatter<'_>) -> fmt::Result {
+        self.error.fmt(f)
+    }
+}
+
+impl<P: Payload + ?Sized, M: Threads> Error for Unsent<P, M> {}

@@ -1,193 +1,53 @@
-//! A lock, and what waits for a change of what it guards.
+//! The lock of a domain that threads share.
 
-pub(crate) use imp::{Guard, Lock, Signal};
+use std::fmt;
+use std::sync::{Mutex, PoisonError};
 
-#[cfg(not(iox2_pthread_lock))]
-mod imp {
-    use std::sync::{Condvar, Mutex, MutexGuard, PoisonError};
-    use std::time::{Duration, Instant};
+/// A lock under which the calls of a shared domain are made. [`StdLock`] is the one that is there; another is
+/// brought by [`DomainBuilder::create_with_lock`](crate::DomainBuilder::create_with_lock), for example one that
+/// lends its holder the priority of whoever waits for it.
+///
+/// # Safety
+///
+/// While [`hold`](DomainLock::hold) runs what it was given, no other thread runs what was given to the same lock,
+/// and what one has written the next one sees. The lock is given back where what runs panics, too.
+pub unsafe trait DomainLock: Send + Sync + 'static {
+    /// Whether all threads that may go on are woken at once. Else they are woken one by one, each by the one
+    /// before, so that they don't all want the lock together; but then a thread waits until the one that was
+    /// woken before it has run, whatever its priority.
+    const WAKES_ALL: bool = false;
 
-    pub(crate) type Guard<'l, T> = MutexGuard<'l, T>;
+    /// How often a thread that waits looks for a change before it sleeps: up to 6 short looks, and then after
+    /// others were let run. 0 for one that sleeps at once.
+    const LOOKS: u32 = 10;
 
-    pub(crate) struct Lock<T>(Mutex<T>);
+    /// A lock that nobody has.
+    fn new() -> Self;
 
-    impl<T> Lock<T> {
-        pub(crate) fn new(value: T) -> Self {
-            Lock(Mutex::new(value))
-        }
+    /// Takes the lock, runs this, and gives the lock back.
+    fn hold<R>(&self, run: impl FnOnce() -> R) -> R;
+}
 
-        // A panic leaves nothing half done here: what runs under the lock are calls of the archive, which
-        // don't unwind, and counts. So the poison says nothing.
-        #[inline]
-        pub(crate) fn lock(&self) -> Guard<'_, T> {
-            self.0.lock().unwrap_or_else(PoisonError::into_inner)
-        }
-    }
+/// The standard library's lock.
+pub struct StdLock(Mutex<()>);
 
-    pub(crate) struct Signal(Condvar);
-
-    impl Signal {
-        pub(crate) fn new() -> Self {
-            Signal(Condvar::new())
-        }
-
-        pub(crate) fn wake_all(&self) {
-            self.0.notify_all();
-        }
-
-        // Until it is woken or this moment has come, or for no reason at all.
-        pub(crate) fn wait<'l, T>(
-            &self,
-            guard: Guard<'l, T>,
-            until: Option<Instant>,
-        ) -> Guard<'l, T> {
-            match until {
-                None => self.0.wait(guard).unwrap_or_else(PoisonError::into_inner),
-                Some(until) => {
-                    let left = until.saturating_duration_since(Instant::now());
-                    if left == Duration::ZERO {
-                        return guard;
-                    }
-                    match self.0.wait_timeout(guard, left) {
-                        Ok((guard, _)) => guard,
-                        Err(poison) => poison.into_inner().0,
-                    }
-                }
-            }
-        }
+impl fmt::Debug for StdLock {
+    fn fmt(&self, f: &mut fmt::Formatter<'_>) -> fmt::Result {
+        f.write_str("StdLock")
     }
 }
 
-// The same by the C library's calls, which helgrind and the thread sanitizer know. For tests.
-#[cfg(iox2_pthread_lock)]
-mod imp {
-    use std::cell::UnsafeCell;
-    use std::ffi::c_void;
-    use std::ops::{Deref, DerefMut};
-    use std::time::{Duration, Instant, SystemTime, UNIX_EPOCH};
-
-    #[repr(C)]
-    struct Timespec {
-        seconds: i64,
-        nanoseconds: i64,
+// SAFETY: it is a mutex.
+unsafe impl DomainLock for StdLock {
+    fn new() -> Self {
+        StdLock(Mutex::new(()))
     }
 
-    extern "C" {
-        fn pthread_mutex_init(mutex: *mut c_void, attributes: *const c_void) -> i32;
-        fn pthread_mutex_destroy(mutex: *mut c_void) -> i32;
-        fn pthread_mutex_lock(mutex: *mut c_void) -> i32;
-        fn pthread_mutex_unlock(mutex: *mut c_void) -> i32;
-        fn pthread_cond_init(signal: *mut c_void, attributes: *const c_void) -> i32;
-        fn pthread_cond_destroy(signal: *mut c_void) -> i32;
-        fn pthread_cond_wait(signal: *mut c_void, mutex: *mut c_void) -> i32;
-        fn pthread_cond_timedwait(
-            signal: *mut c_void,
-            mutex: *mut c_void,
-            until: *const Timespec,
-        ) -> i32;
-        fn pthread_cond_broadcast(signal: *mut c_void) -> i32;
-    }
-
-    // More than a mutex or a condition variable of the C library has, on the heap, where it stays.
-    type Room = Box<UnsafeCell<[u64; 16]>>;
-
-    fn room() -> Room {
-        Box::new(UnsafeCell::new([0; 16]))
-    }
-
-    pub(crate) struct Lock<T> {
-        mutex: Room,
-        value: UnsafeCell<T>,
-    }
-
-    unsafe impl<T: Send> Send for Lock<T> {}
-    unsafe impl<T: Send> Sync for Lock<T> {}
-
-    impl<T> Lock<T> {
-        pub(crate) fn new(value: T) -> Self {
-            let mutex = room();
-            unsafe { pthread_mutex_init(mutex.get().cast(), std::ptr::null()) };
-            Lock {
-                mutex,
-                value: UnsafeCell::new(value),
-            }
-        }
-
-        pub(crate) fn lock(&self) -> Guard<'_, T> {
-            unsafe { pthread_mutex_lock(self.mutex.get().cast()) };
-            Guard(self)
-        }
-    }
-
-    impl<T> Drop for Lock<T> {
-        fn drop(&mut self) {
-            unsafe { pthread_mutex_destroy(self.mutex.get().cast()) };
-        }
-    }
-
-    pub(crate) struct Guard<'l, T>(&'l Lock<T>);
-
-    impl<T> Deref for Guard<'_, T> {
-        type Target = T;
-        fn deref(&self) -> &T {
-            unsafe { &*self.0.value.get() }
-        }
-    }
-
-    impl<T> DerefMut for Guard<'_, T> {
-        fn deref_mut(&mut self) -> &mut T {
-            unsafe { &mut *self.0.value.get() }
-        }
-    }
-
-    impl<T> Drop for Guard<'_, T> {
-        fn drop(&mut self) {
-            unsafe { pthread_mutex_unlock(self.0.mutex.get().cast()) };
-        }
-    }
-
-    pub(crate) struct Signal(Room);
-
-    unsafe impl Send for Signal {}
-    unsafe impl Sync for Signal {}
-
-    impl Signal {
-        pub(crate) fn new() -> Self {
-            let signal = room();
-            unsafe { pthread_cond_init(signal.get().cast(), std::ptr::null()) };
-            Signal(signal)
-        }
-
-        pub(crate) fn wake_all(&self) {
-            unsafe { pthread_cond_broadcast(self.0.get().cast()) };
-        }
-
-        pub(crate) fn wait<'l, T>(
-            &self,
-            guard: Guard<'l, T>,
-            until: Option<Instant>,
-        ) -> Guard<'l, T> {
-            let (signal, mutex) = (self.0.get().cast(), guard.0.mutex.get().cast());
-            match until {
-                None => unsafe { pthread_cond_wait(signal, mutex) },
-                Some(until) => {
-                    let left = until.saturating_duration_since(Instant::now());
-                    let now = SystemTime::now().duration_since(UNIX_EPOCH);
-                    let at = now.unwrap_or(Duration::ZERO) + left;
-                    let at = Timespec {
-                        seconds: at.as_secs() as i64,
-                        nanoseconds: i64::from(at.subsec_nanos()),
-                    };
-                    unsafe { pthread_cond_timedwait(signal, mutex, &at) }
-                }
-            };
-            guard
-        }
-    }
-
-    impl Drop for Signal {
-        fn drop(&mut self) {
-            unsafe { pthread_cond_destroy(self.0.get().cast()) };
-        }
+    // A panic leaves nothing half done: what runs under the lock are calls of the archive, which don't unwind,
+    // and counts. So the poison says nothing.
+    #[inline]
+    fn hold<R>(&self, run: impl FnOnce() -> R) -> R {
+        let _guard = self.0.lock().unwrap_or_else(PoisonError::into_inner);
+        run()
     }
 }

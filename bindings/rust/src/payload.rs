@@ -66,6 +66,7 @@ pub trait Payload: sealed::Sealed + 'static {
 
     /// So many bytes have so many elements, or the greatest number of bytes that there can be.
     #[doc(hidden)]
+    #[must_use]
     fn greatest_size(elements: usize) -> usize {
         let greatest = usize::MAX - usize::MAX % Self::ALIGNMENT;
         elements.checked_mul(Self::SIZE).unwrap_or(greatest)

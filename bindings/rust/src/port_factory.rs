@@ -6,7 +6,8 @@ use crate::payload::Payload;
 use crate::publisher::{BackpressureAction, BackpressureStrategy, Publisher};
 use crate::subscriber::Subscriber;
 use crate::sys;
-use crate::threads::{Hold, OneThread, Threads, Wakes};
+use crate::threads::{Brings, OneThread, Place, Threads};
+use std::fmt;
 
 /// What a port does where memory for a connection is refused.
 #[derive(Clone, Copy, Debug, PartialEq, Eq, Hash)]
@@ -33,6 +34,7 @@ pub enum AllocationStrategy {
 }
 
 /// The settings of a publisher.
+#[must_use = "settings make nothing until `create`"]
 pub struct PortFactoryPublisher<'d, P: Payload + ?Sized, M: Threads = OneThread> {
     domain: &'d Domain<P, M>,
     options: sys::PublisherOptions,
@@ -95,8 +97,9 @@ impl<'d, P: Payload + ?Sized, M: Threads> PortFactoryPublisher<'d, P, M> {
     // 0 asks for nothing, and an answer of 0 counts as 1. Where the worst case doesn't fit, the
     // publisher is refused, and nothing is asked.
     fn asked_slots(&self) -> usize {
-        let Some(callback) = &self.preallocated else {
-            return 0;
+        let callback = match &self.preallocated {
+            Some(callback) => callback,
+            None => return 0,
         };
         let mut worst = 0;
         let (config, loans) = (self.domain.config(), self.options.max_loaned_samples);
@@ -108,6 +111,10 @@ impl<'d, P: Payload + ?Sized, M: Threads> PortFactoryPublisher<'d, P, M> {
     }
 
     /// Makes the publisher.
+    ///
+    /// # Errors
+    ///
+    /// See [`PublisherCreateError`].
     pub fn create(mut self) -> Result<Publisher<P, M>, PublisherCreateError> {
         self.options.preallocated_samples = self.asked_slots();
         // Memory that grows begins with some.
@@ -117,7 +124,7 @@ impl<'d, P: Payload + ?Sized, M: Threads> PortFactoryPublisher<'d, P, M> {
         let mut port = sys::Publisher::default();
         let hold = &self.domain.hold;
         // SAFETY: see `Shared::at`.
-        let code = hold.call(Wakes::Receivers, |shared| unsafe {
+        let code = hold.call(Brings::MESSAGE, |shared| unsafe {
             sys::iox2ps_publisher_create_with(shared.at(), &self.options, &mut port)
         });
         match code {
@@ -127,7 +134,7 @@ impl<'d, P: Payload + ?Sized, M: Threads> PortFactoryPublisher<'d, P, M> {
     }
 }
 
-impl<'d, T: Copy + 'static, M: Threads> PortFactoryPublisher<'d, [T], M> {
+impl<T: Copy + 'static, M: Threads> PortFactoryPublisher<'_, [T], M> {
     /// How many values a message may have, as long as memory isn't to grow.
     pub fn initial_max_slice_len(mut self, value: usize) -> Self {
         self.options.initial_max_slice_len = <[T]>::greatest_size(value);
@@ -136,6 +143,7 @@ impl<'d, T: Copy + 'static, M: Threads> PortFactoryPublisher<'d, [T], M> {
 }
 
 /// The settings of a subscriber.
+#[must_use = "settings make nothing until `create`"]
 pub struct PortFactorySubscriber<'d, P: Payload + ?Sized, M: Threads = OneThread> {
     domain: &'d Domain<P, M>,
     options: sys::SubscriberOptions,
@@ -162,16 +170,36 @@ impl<'d, P: Payload + ?Sized, M: Threads> PortFactorySubscriber<'d, P, M> {
     }
 
     /// Makes the subscriber.
+    ///
+    /// # Errors
+    ///
+    /// See [`SubscriberCreateError`].
     pub fn create(self) -> Result<Subscriber<P, M>, SubscriberCreateError> {
         let mut port = sys::Subscriber::default();
         let hold = &self.domain.hold;
         // SAFETY: see `Shared::at`.
-        let code = hold.call(Wakes::Nobody, |shared| unsafe {
+        let code = hold.call(Brings::NOTHING, |shared| unsafe {
             sys::iox2ps_subscriber_create_with(shared.at(), &self.options, &mut port)
         });
         match code {
             sys::OK => Ok(Subscriber::new(hold.clone(), port)),
             _ => Err(SubscriberCreateError::of(code)),
         }
+    }
+}
+
+impl<P: Payload + ?Sized, M: Threads> fmt::Debug for PortFactoryPublisher<'_, P, M> {
+    fn fmt(&self, f: &mut fmt::Formatter<'_>) -> fmt::Result {
+        f.debug_struct("PortFactoryPublisher")
+            .field("options", &self.options)
+            .finish_non_exhaustive()
+    }
+}
+
+impl<P: Payload + ?Sized, M: Threads> fmt::Debug for PortFactorySubscriber<'_, P, M> {
+    fn fmt(&self, f: &mut fmt::Formatter<'_>) -> fmt::Result {
+        f.debug_struct("PortFactorySubscriber")
+            .field("options", &self.options)
+            .finish_non_exhaustive()
     }
 }

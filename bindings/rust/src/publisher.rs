@@ -1,15 +1,18 @@
 //! Sends messages.
 
+use crate::domain::expect;
 use crate::errors::{ConnectionFailure, LoanError, SendError};
 use crate::loan::{Loan, LoanUninit};
 use crate::numbers::number;
 use crate::payload::Payload;
-use crate::send_outcome::{BlockedSend, SendOutcome};
+use crate::send_outcome::{outcome, SendOutcome};
 use crate::shared::Shared;
 use crate::sys;
-use crate::threads::{Hold, ManyThreads, OneThread, Threads, Wakes};
+use crate::threads::{Brings, MayWait, OneThread, Place, Threads, Wait, Waits};
+use crate::timeout::after;
+use std::fmt;
 use std::marker::PhantomData;
-use std::mem::size_of;
+use std::mem::{size_of, MaybeUninit};
 use std::ptr::null_mut;
 use std::time::{Duration, Instant};
 
@@ -55,11 +58,13 @@ impl<P: Payload + ?Sized, M: Threads> Publisher<P, M> {
     }
 
     /// The publisher's id, which no other port of the domain has.
+    #[must_use]
     pub fn id(&self) -> u128 {
         number(self.port.id)
     }
 
     /// What it does at a full buffer, where there is no overflow.
+    #[must_use]
     pub fn backpressure_strategy(&self) -> BackpressureStrategy {
         match self.port.backpressure_strategy {
             0 => BackpressureStrategy::RetryUntilDelivered,
@@ -68,19 +73,24 @@ impl<P: Payload + ?Sized, M: Threads> Publisher<P, M> {
     }
 
     /// Whether a send waits for a subscriber whose buffer is full. Nothing is lent or sent meanwhile.
+    #[must_use]
     pub fn is_blocked(&self) -> bool {
         let mut is_blocked = 0;
         // SAFETY: see `Shared::at`.
-        crate::domain::expect(self.hold.call(Wakes::Nobody, |shared| unsafe {
+        expect(self.hold.call(Brings::NOTHING, |shared| unsafe {
             sys::iox2ps_publisher_is_blocked(shared.at(), &self.port, &mut is_blocked)
         }));
         is_blocked != 0
     }
 
     /// Makes the connections with subscribers that came, as each send does first.
+    ///
+    /// # Errors
+    ///
+    /// See [`ConnectionFailure`]. The other connections are made all the same, but with `PublisherIsBlocked`.
     pub fn update_connections(&self) -> Result<(), ConnectionFailure> {
         // SAFETY: see `Shared::at`.
-        let code = self.hold.call(Wakes::Receivers, |shared| unsafe {
+        let code = self.hold.call(Brings::SEND, |shared| unsafe {
             sys::iox2ps_publisher_update_connections(shared.at(), &self.port)
         });
         match code {
@@ -89,27 +99,98 @@ impl<P: Payload + ?Sized, M: Threads> Publisher<P, M> {
         }
     }
 
+    #[inline]
     fn lend(&self, bytes: usize) -> Result<LoanUninit<P, M>, LoanError> {
-        let mut loan = sys::Loan::default();
-        let mut start = null_mut();
-        // SAFETY: see `Shared::at`.
-        let code = self.hold.call(Wakes::Nobody, |shared| unsafe {
-            sys::iox2ps_publisher_loan_uninit(shared.at(), &self.port, bytes, &mut loan, &mut start)
+        let (mut loan, mut start) = (MaybeUninit::uninit(), null_mut());
+        let code = self.hold.call(Brings::NOTHING, |shared| {
+            lend(shared, &self.port, bytes, &mut loan, &mut start)
         });
-        match code {
-            sys::OK => Ok(LoanUninit::new(self.hold.clone(), loan, start, bytes)),
-            _ => Err(LoanError::of(code)),
+        taken(&self.hold, code, loan, start, bytes)
+    }
+}
+
+impl<P: Payload + ?Sized, M: MayWait> Publisher<P, M> {
+    fn lend_until(
+        &self,
+        bytes: usize,
+        until: Option<Instant>,
+    ) -> Result<LoanUninit<P, M>, LoanError> {
+        let (mut loan, mut start) = (MaybeUninit::uninit(), null_mut());
+        // The update may bring a history.
+        let wait = self.wait_for_loan(until, Brings::MESSAGE);
+        let code = self.hold.wait(wait, |shared| {
+            let code = lend(shared, &self.port, bytes, &mut loan, &mut start);
+            if !update_for_slots(shared, &self.port, code) {
+                return code;
+            }
+            lend(shared, &self.port, bytes, &mut loan, &mut start)
+        });
+        taken(&self.hold, code, loan, start, bytes)
+    }
+
+    fn wait_for_loan(&self, until: Option<Instant>, brings: Brings) -> Wait {
+        Wait {
+            what: Waits::Loan,
+            port: self.port.id,
+            until,
+            brings,
         }
     }
 }
 
+// Places for what a call lends. They are given one by one, since a struct of them would be written before.
+#[inline]
+fn lend(
+    shared: &mut Shared,
+    port: &sys::Publisher,
+    bytes: usize,
+    loan: &mut MaybeUninit<sys::Loan>,
+    start: &mut *mut u8,
+) -> u32 {
+    // SAFETY: see `Shared::at`.
+    unsafe { sys::iox2ps_publisher_loan_uninit(shared.at(), port, bytes, loan.as_mut_ptr(), start) }
+}
+
+// A closed subscriber's slots come back by an update of the connections alone, which a loan doesn't make.
+fn update_for_slots(shared: &mut Shared, port: &sys::Publisher, code: u32) -> bool {
+    // SAFETY: see `Shared::at`. A loan says what it comes to.
+    code == sys::LOAN_ERROR_OUT_OF_MEMORY
+        && unsafe { sys::iox2ps_publisher_update_connections(shared.at(), port) } == sys::OK
+}
+
+#[inline]
+fn taken<P: Payload + ?Sized, M: Threads>(
+    hold: &M::Hold,
+    code: u32,
+    loan: MaybeUninit<sys::Loan>,
+    start: *mut u8,
+    bytes: usize,
+) -> Result<LoanUninit<P, M>, LoanError> {
+    if code != sys::OK {
+        return Err(LoanError::of(code));
+    }
+    // SAFETY: with this code it is written.
+    let loan = unsafe { loan.assume_init() };
+    Ok(LoanUninit::new(hold.clone(), loan, start, bytes))
+}
+
 impl<T: Copy + 'static, M: Threads> Publisher<T, M> {
     /// Lends a message that isn't written yet.
+    ///
+    /// # Errors
+    ///
+    /// See [`LoanError`].
+    #[inline]
     pub fn loan_uninit(&self) -> Result<LoanUninit<T, M>, LoanError> {
         self.lend(size_of::<T>())
     }
 
     /// Lends a message with its default value.
+    ///
+    /// # Errors
+    ///
+    /// See [`LoanError`].
+    #[inline]
     pub fn loan(&self) -> Result<Loan<T, M>, LoanError>
     where
         T: Default,
@@ -118,93 +199,107 @@ impl<T: Copy + 'static, M: Threads> Publisher<T, M> {
     }
 
     /// Sends a copy of the value. The loan, the copy and the send are made with no other call between.
+    ///
+    /// # Errors
+    ///
+    /// See [`SendError`].
+    #[inline]
     pub fn send_copy(&self, value: T) -> Result<SendOutcome<T, M>, SendError> {
-        let mut sent = Sending::default();
-        let code = self.hold.call(Wakes::Receivers, |shared| {
-            sent.send_copy(shared, &self.port, value)
+        let (mut receivers, mut blocked) = (0, MaybeUninit::uninit());
+        let code = self.hold.call(Brings::SEND, |shared| {
+            send_copy(shared, &self.port, value, &mut receivers, &mut blocked)
         });
-        self.sent(code, sent)
-    }
-
-    fn sent(&self, code: u32, sent: Sending) -> Result<SendOutcome<T, M>, SendError> {
-        match code {
-            sys::OK => Ok(SendOutcome::Delivered(sent.receivers)),
-            sys::BLOCKED => Ok(SendOutcome::Blocked(BlockedSend::new(
-                self.hold.clone(),
-                sent.blocked,
-            ))),
-            _ => Err(SendError::of(code)),
-        }
+        outcome(&self.hold, code, receivers, blocked)
     }
 }
 
-// What a loan and its send have come to.
-#[derive(Default)]
-struct Sending {
-    receivers: usize,
-    blocked: sys::Blocked,
-}
-
-impl Sending {
-    fn send_copy<T: Copy + 'static>(
-        &mut self,
-        shared: &mut Shared,
-        port: &sys::Publisher,
-        value: T,
-    ) -> u32 {
-        let (mut loan, mut start) = (sys::Loan::default(), null_mut());
-        let bytes = size_of::<T>();
-        // SAFETY: see `Shared::at`.
-        let code = unsafe {
-            sys::iox2ps_publisher_loan_uninit(shared.at(), port, bytes, &mut loan, &mut start)
-        };
-        if code != sys::OK {
-            return code;
-        }
-        let payload = T::at(start, bytes).expect("a loan has room for its type");
-        let (receivers, blocked) = (&mut self.receivers, &mut self.blocked);
-        // SAFETY: the bytes are this loan's alone; and see `Shared::at`.
-        unsafe {
-            payload.write(value);
-            sys::iox2ps_loan_send(shared.at(), &loan, receivers, blocked)
-        }
+#[inline]
+fn send_copy<T: Copy + 'static>(
+    shared: &mut Shared,
+    port: &sys::Publisher,
+    value: T,
+    receivers: &mut usize,
+    blocked: &mut MaybeUninit<sys::Blocked>,
+) -> u32 {
+    let (mut loan, mut start) = (MaybeUninit::uninit(), null_mut());
+    let code = lend(shared, port, size_of::<T>(), &mut loan, &mut start);
+    if code != sys::OK {
+        return code;
+    }
+    let payload = T::at(start, size_of::<T>()).expect("a loan has room for its type");
+    // SAFETY: the bytes are this loan's alone, which is written; and see `Shared::at`.
+    unsafe {
+        payload.write(value);
+        sys::iox2ps_loan_send(shared.at(), loan.as_ptr(), receivers, blocked.as_mut_ptr())
     }
 }
 
-impl<T: Copy + 'static> Publisher<T, ManyThreads> {
-    /// Sends a copy of the value. Waits until no earlier send of this publisher waits, and then until it has
-    /// reached everybody. It waits on where waits are stopped (`SharedDomain::stop_waits`).
-    pub fn blocking_send_copy(&self, value: T) -> Result<SendOutcome<T, ManyThreads>, SendError> {
+impl<T: Copy + 'static, M: MayWait> Publisher<T, M> {
+    /// Lends a message that isn't written yet. Waits while an earlier send of the publisher does, while as
+    /// many loans are out as it may have, or while no slot is free. Where its memory grows, it also waits
+    /// while memory is refused.
+    ///
+    /// # Errors
+    ///
+    /// Those of [`loan_uninit`](Publisher::loan_uninit), those that are waited for only where waits are
+    /// stopped (`SharedDomain::stop_waits`).
+    pub fn blocking_loan_uninit(&self) -> Result<LoanUninit<T, M>, LoanError> {
+        self.lend_until(size_of::<T>(), None)
+    }
+
+    /// The same, for so long.
+    ///
+    /// # Errors
+    ///
+    /// Those of [`loan_uninit`](Publisher::loan_uninit), as they are when the time is up.
+    pub fn timed_loan_uninit(&self, timeout: Duration) -> Result<LoanUninit<T, M>, LoanError> {
+        self.lend_until(size_of::<T>(), after(timeout))
+    }
+
+    /// Sends a copy of the value. Waits for its loan as [`blocking_loan_uninit`](Publisher::blocking_loan_uninit)
+    /// does, and then until it has reached everybody. It may still wait where waits are stopped.
+    ///
+    /// # Errors
+    ///
+    /// Those of [`send_copy`](Publisher::send_copy), those that are waited for only where waits are stopped.
+    pub fn blocking_send_copy(&self, value: T) -> Result<SendOutcome<T, M>, SendError> {
         self.send_copy_until(value, None)
     }
 
     /// The same, for so long. What still waits then is in what this returns.
+    ///
+    /// # Errors
+    ///
+    /// Those of [`send_copy`](Publisher::send_copy), as they are when the time is up.
     pub fn timed_send_copy(
         &self,
         value: T,
         timeout: Duration,
-    ) -> Result<SendOutcome<T, ManyThreads>, SendError> {
-        self.send_copy_until(value, Instant::now().checked_add(timeout))
+    ) -> Result<SendOutcome<T, M>, SendError> {
+        self.send_copy_until(value, after(timeout))
     }
 
     fn send_copy_until(
         &self,
         value: T,
         until: Option<Instant>,
-    ) -> Result<SendOutcome<T, ManyThreads>, SendError> {
-        let mut sent = Sending::default();
-        let code = self
-            .hold
-            .wait_for_publisher(until, |shared| sent.send_copy(shared, &self.port, value));
-        match self.sent(code, sent)? {
-            SendOutcome::Blocked(blocked) => blocked.retry_until(until),
-            outcome => Ok(outcome),
-        }
+    ) -> Result<SendOutcome<T, M>, SendError> {
+        let (mut receivers, mut blocked) = (0, MaybeUninit::uninit());
+        let wait = self.wait_for_loan(until, Brings::SEND);
+        let code = self.hold.wait(wait, |shared| {
+            let code = send_copy(shared, &self.port, value, &mut receivers, &mut blocked);
+            if !update_for_slots(shared, &self.port, code) {
+                return code;
+            }
+            send_copy(shared, &self.port, value, &mut receivers, &mut blocked)
+        });
+        outcome(&self.hold, code, receivers, blocked)?.wait_until(until)
     }
 }
 
 impl<T: Copy + 'static, M: Threads> Publisher<[T], M> {
     /// How many values a message may have, as long as memory isn't to grow.
+    #[must_use]
     pub fn initial_max_slice_len(&self) -> usize {
         self.port
             .initial_max_slice_len
@@ -213,11 +308,19 @@ impl<T: Copy + 'static, M: Threads> Publisher<[T], M> {
     }
 
     /// Lends a message of so many values, none of which is written yet.
+    ///
+    /// # Errors
+    ///
+    /// See [`LoanError`].
     pub fn loan_slice_uninit(&self, len: usize) -> Result<LoanUninit<[T], M>, LoanError> {
         self.lend(<[T]>::greatest_size(len))
     }
 
     /// Lends a message of so many default values.
+    ///
+    /// # Errors
+    ///
+    /// See [`LoanError`].
     pub fn loan_slice(&self, len: usize) -> Result<Loan<[T], M>, LoanError>
     where
         T: Default,
@@ -226,6 +329,10 @@ impl<T: Copy + 'static, M: Threads> Publisher<[T], M> {
     }
 
     /// Sends a copy of the values.
+    ///
+    /// # Errors
+    ///
+    /// See [`SendError`].
     pub fn send_slice_copy(&self, values: &[T]) -> Result<SendOutcome<[T], M>, SendError> {
         self.loan_slice_uninit(values.len())?
             .write_from_slice(values)
@@ -233,9 +340,44 @@ impl<T: Copy + 'static, M: Threads> Publisher<[T], M> {
     }
 }
 
+impl<T: Copy + 'static, M: MayWait> Publisher<[T], M> {
+    /// Lends a message of so many values, none of which is written yet. Waits while an earlier send of the
+    /// publisher does, while as many loans are out as it may have, or while no slot is free.
+    ///
+    /// # Errors
+    ///
+    /// Those of [`loan_slice_uninit`](Publisher::loan_slice_uninit), those that are waited for only where
+    /// waits are stopped. A message that is too long is refused at once.
+    pub fn blocking_loan_slice_uninit(&self, len: usize) -> Result<LoanUninit<[T], M>, LoanError> {
+        self.lend_until(<[T]>::greatest_size(len), None)
+    }
+
+    /// The same, for so long.
+    ///
+    /// # Errors
+    ///
+    /// Those of [`loan_slice_uninit`](Publisher::loan_slice_uninit), as they are when the time is up.
+    pub fn timed_loan_slice_uninit(
+        &self,
+        len: usize,
+        timeout: Duration,
+    ) -> Result<LoanUninit<[T], M>, LoanError> {
+        self.lend_until(<[T]>::greatest_size(len), after(timeout))
+    }
+}
+
+impl<P: Payload + ?Sized, M: Threads> fmt::Debug for Publisher<P, M> {
+    fn fmt(&self, f: &mut fmt::Formatter<'_>) -> fmt::Result {
+        f.debug_struct("Publisher")
+            .field("id", &self.id())
+            .field("backpressure_strategy", &self.backpressure_strategy())
+            .finish_non_exhaustive()
+    }
+}
+
 impl<P: Payload + ?Sized, M: Threads> Drop for Publisher<P, M> {
     fn drop(&mut self) {
         let close = |shared: &mut Shared| shared.close_publisher(&self.port);
-        self.hold.call(Wakes::Receivers, close);
+        self.hold.call(Brings::MESSAGE, close);
     }
 }

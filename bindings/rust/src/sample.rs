@@ -6,7 +6,7 @@ use crate::numbers::number;
 use crate::payload::Payload;
 use crate::shared::Shared;
 use crate::sys;
-use crate::threads::{Hold, ManyThreads, OneThread, Threads, Wakes};
+use crate::threads::{Brings, MayWait, OneThread, Place, Threads};
 use std::fmt;
 use std::mem::ManuallyDrop;
 use std::ops::Deref;
@@ -14,6 +14,7 @@ use std::ptr;
 
 /// A message that was received, which reads as its payload where that lies. It is given back when it
 /// is dropped, and until then it counts against what its subscriber may borrow.
+#[must_use = "a sample that isn't read is given back"]
 pub struct Sample<P: Payload + ?Sized, M: Threads = OneThread> {
     hold: M::Hold,
     sample: sys::Sample,
@@ -23,13 +24,14 @@ pub struct Sample<P: Payload + ?Sized, M: Threads = OneThread> {
 // SAFETY: what it has is a part in the domain, which may be given to other threads, and the place of a
 // message that nobody writes until it is released, by a call under the lock. Many threads may read it
 // at a time, by this or by the samples of other subscribers, and `P` is `Sync`.
-unsafe impl<P: Payload + ?Sized + Send + Sync> Send for Sample<P, ManyThreads> {}
-unsafe impl<P: Payload + ?Sized + Send + Sync> Sync for Sample<P, ManyThreads> {}
+unsafe impl<P: Payload + ?Sized + Send + Sync, M: MayWait> Send for Sample<P, M> {}
+unsafe impl<P: Payload + ?Sized + Send + Sync, M: MayWait> Sync for Sample<P, M> {}
 
 impl<P: Payload + ?Sized, M: Threads> Sample<P, M> {
+    #[inline]
     pub(crate) fn new(hold: M::Hold, sample: sys::Sample, start: *const u8, len: usize) -> Self {
         let payload =
-            P::at(start.cast_mut(), len).expect("each message of a domain is of its type");
+            P::at(start as *mut u8, len).expect("each message of a domain is of its type");
         Sample {
             hold,
             sample,
@@ -38,25 +40,29 @@ impl<P: Payload + ?Sized, M: Threads> Sample<P, M> {
     }
 
     /// The id of the publisher that sent it.
+    #[must_use]
     pub fn origin(&self) -> u128 {
         number(self.sample.origin)
     }
 
     /// The id of the subscriber that received it.
+    #[must_use]
     pub fn subscriber(&self) -> u128 {
         number(self.sample.subscriber)
     }
 
     /// The number of the message: no other message of the domain has it.
+    #[must_use]
     pub fn number(&self) -> u128 {
         number(self.sample.number)
     }
 
     /// Where it comes from.
+    #[must_use]
     pub fn header(&self) -> Header {
         let mut header = sys::Header::default();
         // SAFETY: see `Shared::at`.
-        expect(self.hold.call(Wakes::Nobody, |shared| unsafe {
+        expect(self.hold.call(Brings::NOTHING, |shared| unsafe {
             sys::iox2ps_sample_header(shared.at(), &self.sample, &mut header)
         }));
         Header::of(&header, P::SIZE)
@@ -71,6 +77,7 @@ impl<P: Payload + ?Sized, M: Threads> Sample<P, M> {
     }
 
     /// The message itself.
+    #[must_use]
     pub fn payload(&self) -> &P {
         self
     }
@@ -79,6 +86,7 @@ impl<P: Payload + ?Sized, M: Threads> Sample<P, M> {
 impl<P: Payload + ?Sized, M: Threads> Deref for Sample<P, M> {
     type Target = P;
 
+    #[inline]
     fn deref(&self) -> &P {
         // SAFETY: the bytes stay where they are and aren't written until the sample is released, and
         // its domain is there, since this has a part in it. They were sent as a `P`.
@@ -87,11 +95,10 @@ impl<P: Payload + ?Sized, M: Threads> Deref for Sample<P, M> {
 }
 
 impl<P: Payload + ?Sized, M: Threads> Drop for Sample<P, M> {
+    #[inline]
     fn drop(&mut self) {
-        expect(
-            self.hold
-                .call(Wakes::Nobody, |shared| release(shared, &self.sample)),
-        );
+        let release = |shared: &mut Shared| release(shared, &self.sample);
+        expect(self.hold.call(Brings::LOAN, release));
     }
 }
 

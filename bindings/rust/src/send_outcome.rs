@@ -1,59 +1,70 @@
 //! What came of a send.
 
 use crate::errors::{unexpected, SendError};
-use crate::loan::Loan;
 use crate::numbers::number;
 use crate::payload::Payload;
 use crate::shared::Shared;
 use crate::sys;
-use crate::threads::{Hold, ManyThreads, OneThread, Threads, Wakes};
+use crate::threads::{Brings, MayWait, OneThread, Place, Threads, Wait, Waits};
+use crate::timeout::after;
 use std::fmt;
 use std::marker::PhantomData;
-use std::mem::ManuallyDrop;
+use std::mem::{ManuallyDrop, MaybeUninit};
 use std::ptr;
 use std::time::{Duration, Instant};
 
 /// What came of a message that was sent.
+#[must_use = "a send that is blocked is given up where it is dropped"]
 pub enum SendOutcome<P: Payload + ?Sized, M: Threads = OneThread> {
     /// So many subscribers took it.
     Delivered(usize),
     /// It waits for a subscriber whose buffer is full.
     Blocked(BlockedSend<P, M>),
-    /// An earlier send of its publisher waits. Nothing was done, and this is the loan again.
-    PublisherIsBlocked(Loan<P, M>),
 }
 
 impl<P: Payload + ?Sized, M: Threads> SendOutcome<P, M> {
-    /// How many subscribers took the message, where it doesn't wait.
+    /// How many subscribers took the message. `None` where it was blocked, and is given up by this call at
+    /// every subscriber whose buffer is full.
+    #[inline]
     pub fn delivered(self) -> Option<usize> {
         match self {
             SendOutcome::Delivered(count) => Some(count),
-            _ => None,
+            SendOutcome::Blocked(_) => None,
+        }
+    }
+
+    /// The send that waits, where it does.
+    #[must_use = "a send that is blocked is given up where it is dropped"]
+    pub fn blocked(self) -> Option<BlockedSend<P, M>> {
+        match self {
+            SendOutcome::Delivered(_) => None,
+            SendOutcome::Blocked(blocked) => Some(blocked),
         }
     }
 }
 
-impl<P: Payload + ?Sized> SendOutcome<P, ManyThreads> {
+impl<P: Payload + ?Sized, M: MayWait> SendOutcome<P, M> {
     /// Waits until the message has reached everybody, or was refused. It waits on where waits are
     /// stopped (`SharedDomain::stop_waits`).
+    ///
+    /// # Errors
+    ///
+    /// Those of [`BlockedSend::retry`].
     pub fn blocking_wait(self) -> Result<Self, SendError> {
         self.wait_until(None)
     }
 
     /// The same, for so long. What still waits then is in what this returns.
+    ///
+    /// # Errors
+    ///
+    /// Those of [`BlockedSend::retry`].
     pub fn timed_wait(self, timeout: Duration) -> Result<Self, SendError> {
-        match Instant::now().checked_add(timeout) {
-            Some(until) => self.wait_until(Some(until)),
-            None => self.wait_until(None),
-        }
+        self.wait_until(after(timeout))
     }
 
-    fn wait_until(self, until: Option<Instant>) -> Result<Self, SendError> {
-        let outcome = match self {
-            SendOutcome::PublisherIsBlocked(loan) => loan.send_until(until)?,
-            outcome => outcome,
-        };
-        match outcome {
+    pub(crate) fn wait_until(self, until: Option<Instant>) -> Result<Self, SendError> {
+        match self {
             SendOutcome::Blocked(blocked) => blocked.retry_until(until),
             outcome => Ok(outcome),
         }
@@ -63,49 +74,51 @@ impl<P: Payload + ?Sized> SendOutcome<P, ManyThreads> {
 impl<P: Payload + ?Sized, M: Threads> fmt::Debug for SendOutcome<P, M> {
     fn fmt(&self, f: &mut fmt::Formatter<'_>) -> fmt::Result {
         match self {
-            SendOutcome::Delivered(count) => write!(f, "Delivered({count})"),
-            SendOutcome::Blocked(_) => write!(f, "Blocked(..)"),
-            SendOutcome::PublisherIsBlocked(_) => write!(f, "PublisherIsBlocked(..)"),
+            SendOutcome::Delivered(count) => f.debug_tuple("Delivered").field(count).finish(),
+            SendOutcome::Blocked(blocked) => f.debug_tuple("Blocked").field(blocked).finish(),
         }
     }
 }
 
 /// A send that waits for a subscriber whose buffer is full. Its publisher lends and sends nothing until
 /// it has ended. When it is dropped it is given up at every full subscriber.
+#[must_use = "a send that is blocked is given up where it is dropped"]
 pub struct BlockedSend<P: Payload + ?Sized, M: Threads = OneThread> {
     hold: M::Hold,
-    blocked: sys::Blocked,
+    // In a box, since a send is seldom blocked, and what came of it is passed on by value.
+    blocked: Box<sys::Blocked>,
     message: PhantomData<P>,
 }
 
 impl<P: Payload + ?Sized, M: Threads> BlockedSend<P, M> {
-    pub(crate) fn new(hold: M::Hold, blocked: sys::Blocked) -> Self {
-        BlockedSend {
-            hold,
-            blocked,
-            message: PhantomData,
-        }
-    }
-
     /// The id of the publisher that waits.
+    #[must_use]
     pub fn publisher(&self) -> u128 {
         number(self.blocked.publisher)
     }
 
     /// Tries the send again at the subscriber that it waits for, and goes on to the others. `elapsed`
     /// is the time since it was first blocked there.
+    ///
+    /// # Errors
+    ///
+    /// [`SendError::UnableToDeliver`], where the publisher's handler failed the send.
     pub fn retry(self, elapsed: Duration) -> Result<SendOutcome<P, M>, SendError> {
         let mut count = 0;
-        let code = self.hold.call(Wakes::Both, |shared| {
+        let code = self.hold.call(Brings::RETRY, |shared| {
             retry(shared, &self.blocked, elapsed, &mut count)
         });
         self.outcome(code, count)
     }
 
     /// Gives up the subscriber that the send waits for, and goes on to the others.
+    ///
+    /// # Errors
+    ///
+    /// Those of [`retry`](BlockedSend::retry).
     pub fn give_up(self) -> Result<SendOutcome<P, M>, SendError> {
         let mut count = 0;
-        let code = self.hold.call(Wakes::Both, |shared| {
+        let code = self.hold.call(Brings::RETRY, |shared| {
             give_up(shared, &self.blocked, &mut count)
         });
         self.outcome(code, count)
@@ -117,7 +130,7 @@ impl<P: Payload + ?Sized, M: Threads> BlockedSend<P, M> {
         }
         let this = ManuallyDrop::new(self);
         // SAFETY: the fields of `this` are never dropped, and each is moved out once.
-        drop(unsafe { ptr::read(&this.hold) });
+        drop(unsafe { (ptr::read(&this.hold), ptr::read(&this.blocked)) });
         match code {
             sys::OK => Ok(SendOutcome::Delivered(count)),
             _ => Err(SendError::of(code)),
@@ -125,26 +138,47 @@ impl<P: Payload + ?Sized, M: Threads> BlockedSend<P, M> {
     }
 }
 
-impl<P: Payload + ?Sized> BlockedSend<P, ManyThreads> {
-    /// Tries the send again whenever there may be room, until it has ended.
-    pub fn blocking_retry(self) -> Result<SendOutcome<P, ManyThreads>, SendError> {
+impl<P: Payload + ?Sized, M: MayWait> BlockedSend<P, M> {
+    /// Tries the send again whenever there may be room, until it has ended. It waits on where waits are
+    /// stopped.
+    ///
+    /// # Errors
+    ///
+    /// Those of [`retry`](BlockedSend::retry).
+    pub fn blocking_retry(self) -> Result<SendOutcome<P, M>, SendError> {
         self.retry_until(None)
     }
 
     /// The same, for so long.
-    pub fn timed_retry(self, timeout: Duration) -> Result<SendOutcome<P, ManyThreads>, SendError> {
-        self.retry_until(Instant::now().checked_add(timeout))
+    ///
+    /// # Errors
+    ///
+    /// Those of [`retry`](BlockedSend::retry).
+    pub fn timed_retry(self, timeout: Duration) -> Result<SendOutcome<P, M>, SendError> {
+        self.retry_until(after(timeout))
     }
 
-    pub(crate) fn retry_until(
-        self,
-        until: Option<Instant>,
-    ) -> Result<SendOutcome<P, ManyThreads>, SendError> {
+    fn retry_until(self, until: Option<Instant>) -> Result<SendOutcome<P, M>, SendError> {
         let (started, mut count) = (Instant::now(), 0);
-        let code = self.hold.wait_for_room(until, |shared| {
+        let wait = Wait {
+            what: Waits::Room,
+            port: self.blocked.publisher,
+            until,
+            brings: Brings::RETRY,
+        };
+        let code = self.hold.wait(wait, |shared| {
             retry(shared, &self.blocked, started.elapsed(), &mut count)
         });
         self.outcome(code, count)
+    }
+}
+
+impl<P: Payload + ?Sized, M: Threads> fmt::Debug for BlockedSend<P, M> {
+    fn fmt(&self, f: &mut fmt::Formatter<'_>) -> fmt::Result {
+        f.debug_struct("BlockedSend")
+            .field("publisher", &self.publisher())
+            .field("number", &number(self.blocked.number))
+            .finish()
     }
 }
 
@@ -152,7 +186,7 @@ impl<P: Payload + ?Sized, M: Threads> Drop for BlockedSend<P, M> {
     fn drop(&mut self) {
         let mut count = 0;
         // Each of these passes a subscriber over, so that it ends.
-        let code = self.hold.call(Wakes::Both, |shared| loop {
+        let code = self.hold.call(Brings::RETRY, |shared| loop {
             let code = give_up(shared, &self.blocked, &mut count);
             if code != sys::BLOCKED {
                 break code;
@@ -161,6 +195,26 @@ impl<P: Payload + ?Sized, M: Threads> Drop for BlockedSend<P, M> {
         if code == sys::NOT_LIVE {
             unexpected(code);
         }
+    }
+}
+
+// Of a send that returned this code.
+#[inline]
+pub(crate) fn outcome<P: Payload + ?Sized, M: Threads>(
+    hold: &M::Hold,
+    code: u32,
+    receivers: usize,
+    blocked: MaybeUninit<sys::Blocked>,
+) -> Result<SendOutcome<P, M>, SendError> {
+    match code {
+        sys::OK => Ok(SendOutcome::Delivered(receivers)),
+        sys::BLOCKED => Ok(SendOutcome::Blocked(BlockedSend {
+            hold: hold.clone(),
+            // SAFETY: with this code it is written.
+            blocked: Box::new(unsafe { blocked.assume_init() }),
+            message: PhantomData,
+        })),
+        _ => Err(SendError::of(code)),
     }
 }
 

@@ -4,6 +4,7 @@ use crate::sys;
 use std::ptr::null_mut;
 
 /// The one owner of the library's domain. Its pointer is never copied out of it.
+#[allow(missing_debug_implementations)]
 pub struct Shared {
     domain: sys::Domain,
     // Publishers that were dropped while a send of theirs was blocked. They close with it.
@@ -31,6 +32,7 @@ impl Shared {
     // SAFETY of every call that takes this: its pointers are of locals or of fields that live through
     // the call, of the header's types, and the mutable ones aren't shared. Only one call at a time works
     // on the domain, since this takes it mutably, and no call calls back.
+    #[inline]
     pub(crate) fn at(&mut self) -> *mut sys::Domain {
         &mut self.domain
     }

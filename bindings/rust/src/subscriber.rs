@@ -7,7 +7,9 @@ use crate::payload::Payload;
 use crate::sample::{release, Sample};
 use crate::shared::Shared;
 use crate::sys;
-use crate::threads::{Hold, ManyThreads, OneThread, Threads, Wakes};
+use crate::threads::{Brings, MayWait, OneThread, Place, Threads, Wait, Waits};
+use crate::timeout::after;
+use std::fmt;
 use std::iter::FusedIterator;
 use std::marker::PhantomData;
 use std::mem::{size_of, MaybeUninit};
@@ -17,8 +19,8 @@ use std::time::{Duration, Instant};
 
 /// Receives the messages of every publisher of its domain, until it is dropped.
 pub struct Subscriber<P: Payload + ?Sized, M: Threads = OneThread> {
-    hold: M::Hold,
-    port: sys::Subscriber,
+    pub(crate) hold: M::Hold,
+    pub(crate) port: sys::Subscriber,
     messages: PhantomData<P>,
 }
 
@@ -32,31 +34,46 @@ impl<P: Payload + ?Sized, M: Threads> Subscriber<P, M> {
     }
 
     /// The subscriber's id, which no other port of the domain has.
+    #[must_use]
     pub fn id(&self) -> u128 {
         number(self.port.id)
     }
 
     /// How many messages of one publisher may wait.
+    #[must_use]
     pub fn buffer_size(&self) -> usize {
         self.port.buffer_size
     }
 
     /// The next message of some publisher, or `None` where none waits. The messages of one publisher
     /// come in the order in which they were sent.
+    ///
+    /// # Errors
+    ///
+    /// See [`ReceiveError`].
+    #[inline]
     pub fn receive(&self) -> Result<Option<Sample<P, M>>, ReceiveError> {
-        let mut got = Got::default();
-        let code = self
-            .hold
-            .call(Wakes::Senders, |shared| got.receive(shared, &self.port));
-        self.sample(code, got)
+        let (mut sample, mut start, mut len) = (MaybeUninit::uninit(), null(), 0);
+        let code = self.hold.call(Brings::ROOM, |shared| {
+            receive_next(shared, &self.port, &mut sample, &mut start, &mut len)
+        });
+        self.sample(code, sample, start, len)
     }
 
+    // What a receive has written that returned this code.
     #[inline]
-    fn sample(&self, code: u32, got: Got) -> Result<Option<Sample<P, M>>, ReceiveError> {
+    pub(crate) fn sample(
+        &self,
+        code: u32,
+        sample: MaybeUninit<sys::Sample>,
+        start: *const u8,
+        len: usize,
+    ) -> Result<Option<Sample<P, M>>, ReceiveError> {
         match code {
             sys::OK => {
-                let hold = self.hold.clone();
-                Ok(Some(Sample::new(hold, got.sample, got.start, got.len)))
+                // SAFETY: with this code it is written.
+                let sample = unsafe { sample.assume_init() };
+                Ok(Some(Sample::new(self.hold.clone(), sample, start, len)))
             }
             sys::NO_SAMPLE => Ok(None),
             _ => Err(ReceiveError::of(code)),
@@ -72,10 +89,14 @@ impl<P: Payload + ?Sized, M: Threads> Subscriber<P, M> {
     }
 
     /// Whether a message waits, also one that can't be received yet.
+    ///
+    /// # Errors
+    ///
+    /// See [`ConnectionFailure`]. The other connections are made all the same.
     pub fn has_samples(&self) -> Result<bool, ConnectionFailure> {
         let mut waits = 0;
         // SAFETY: see `Shared::at`.
-        let code = self.hold.call(Wakes::Nobody, |shared| unsafe {
+        let code = self.hold.call(Brings::NOTHING, |shared| unsafe {
             sys::iox2ps_subscriber_has_samples(shared.at(), &self.port, &mut waits)
         });
         match code {
@@ -85,9 +106,13 @@ impl<P: Payload + ?Sized, M: Threads> Subscriber<P, M> {
     }
 
     /// Makes the connections with publishers that came, as each receive does first.
+    ///
+    /// # Errors
+    ///
+    /// See [`ConnectionFailure`]. The other connections are made all the same.
     pub fn update_connections(&self) -> Result<(), ConnectionFailure> {
         // SAFETY: see `Shared::at`.
-        let code = self.hold.call(Wakes::Nobody, |shared| unsafe {
+        let code = self.hold.call(Brings::NOTHING, |shared| unsafe {
             sys::iox2ps_subscriber_update_connections(shared.at(), &self.port)
         });
         match code {
@@ -99,28 +124,37 @@ impl<P: Payload + ?Sized, M: Threads> Subscriber<P, M> {
 
 impl<T: Copy + 'static, M: Threads> Subscriber<T, M> {
     /// The next message as a copy: a receive, a copy and a release with no other call between.
+    ///
+    /// # Errors
+    ///
+    /// See [`ReceiveError`].
+    #[inline]
     pub fn receive_copy(&self) -> Result<Option<T>, ReceiveError> {
         let mut value = MaybeUninit::uninit();
-        let code = self.hold.call(Wakes::Senders, |shared| {
+        let code = self.hold.call(Brings::COPY, |shared| {
             copy_next(shared, &self.port, &mut value)
         });
         copied(code, value)
     }
 }
 
+#[inline]
 fn copy_next<T: Copy + 'static>(
     shared: &mut Shared,
     port: &sys::Subscriber,
     value: &mut MaybeUninit<T>,
 ) -> u32 {
-    let (mut len, mut sample) = (0, sys::Sample::default());
-    let (bytes, room) = (value.as_mut_ptr().cast(), size_of::<T>());
+    let (mut len, mut sample) = (0, MaybeUninit::uninit());
+    let (bytes, room, sample) = (
+        value.as_mut_ptr().cast(),
+        size_of::<T>(),
+        sample.as_mut_ptr(),
+    );
     // SAFETY: see `Shared::at`.
-    unsafe {
-        sys::iox2ps_subscriber_receive_copy(shared.at(), port, bytes, room, &mut len, &mut sample)
-    }
+    unsafe { sys::iox2ps_subscriber_receive_copy(shared.at(), port, bytes, room, &mut len, sample) }
 }
 
+#[inline]
 fn copied<T>(code: u32, value: MaybeUninit<T>) -> Result<Option<T>, ReceiveError> {
     match code {
         // SAFETY: it is the copy of a message, and each message of a domain is of its type.
@@ -130,129 +164,150 @@ fn copied<T>(code: u32, value: MaybeUninit<T>) -> Result<Option<T>, ReceiveError
     }
 }
 
-impl<T: Copy + 'static> Subscriber<T, ManyThreads> {
+impl<T: Copy + 'static, M: MayWait> Subscriber<T, M> {
     /// Waits for a message, and gives a copy of it. `None` where waits are stopped.
+    ///
+    /// # Errors
+    ///
+    /// See [`ReceiveError`].
     pub fn blocking_receive_copy(&self) -> Result<Option<T>, ReceiveError> {
         self.copy_until(None)
     }
 
     /// The same, for so long. `None` where none came, or waits are stopped.
+    ///
+    /// # Errors
+    ///
+    /// See [`ReceiveError`].
     pub fn timed_receive_copy(&self, timeout: Duration) -> Result<Option<T>, ReceiveError> {
-        self.copy_until(Instant::now().checked_add(timeout))
+        self.copy_until(after(timeout))
     }
 
     fn copy_until(&self, until: Option<Instant>) -> Result<Option<T>, ReceiveError> {
         let mut value = MaybeUninit::uninit();
+        let wait = self.wait_for_message(until, Brings::COPY);
         let code = self
             .hold
-            .wait_for_message(until, |shared| copy_next(shared, &self.port, &mut value));
+            .wait(wait, |shared| copy_next(shared, &self.port, &mut value));
         copied(code, value)
     }
 }
 
-// What a call has received.
-struct Got {
-    sample: sys::Sample,
-    start: *const u8,
-    len: usize,
+// The places are given one by one, since a struct of them would be written before.
+#[inline]
+pub(crate) fn receive_next(
+    shared: &mut Shared,
+    port: &sys::Subscriber,
+    sample: &mut MaybeUninit<sys::Sample>,
+    start: &mut *const u8,
+    len: &mut usize,
+) -> u32 {
+    // SAFETY: see `Shared::at`.
+    unsafe { sys::iox2ps_subscriber_receive(shared.at(), port, sample.as_mut_ptr(), start, len) }
 }
 
-impl Default for Got {
-    fn default() -> Self {
-        Got {
-            sample: sys::Sample::default(),
-            start: null(),
-            len: 0,
-        }
-    }
-}
-
-impl Got {
-    #[inline]
-    fn receive(&mut self, shared: &mut Shared, port: &sys::Subscriber) -> u32 {
-        let (sample, start, len) = (&mut self.sample, &mut self.start, &mut self.len);
-        // SAFETY: see `Shared::at`.
-        unsafe { sys::iox2ps_subscriber_receive(shared.at(), port, sample, start, len) }
-    }
-}
-
-impl<P: Payload + ?Sized> Subscriber<P, ManyThreads> {
+impl<P: Payload + ?Sized, M: MayWait> Subscriber<P, M> {
     /// Waits for a message. `None` where waits are stopped (`SharedDomain::stop_waits`).
-    pub fn blocking_receive(&self) -> Result<Option<Sample<P, ManyThreads>>, ReceiveError> {
+    ///
+    /// # Errors
+    ///
+    /// See [`ReceiveError`].
+    pub fn blocking_receive(&self) -> Result<Option<Sample<P, M>>, ReceiveError> {
         self.receive_until(None)
     }
 
     /// Waits for a message, for so long. `None` where none came, or waits are stopped.
-    pub fn timed_receive(
-        &self,
-        timeout: Duration,
-    ) -> Result<Option<Sample<P, ManyThreads>>, ReceiveError> {
-        self.receive_until(Instant::now().checked_add(timeout))
+    ///
+    /// # Errors
+    ///
+    /// See [`ReceiveError`].
+    pub fn timed_receive(&self, timeout: Duration) -> Result<Option<Sample<P, M>>, ReceiveError> {
+        self.receive_until(after(timeout))
     }
 
-    fn receive_until(
-        &self,
-        until: Option<Instant>,
-    ) -> Result<Option<Sample<P, ManyThreads>>, ReceiveError> {
-        let mut got = Got::default();
-        let code = self
-            .hold
-            .wait_for_message(until, |shared| got.receive(shared, &self.port));
-        self.sample(code, got)
+    fn receive_until(&self, until: Option<Instant>) -> Result<Option<Sample<P, M>>, ReceiveError> {
+        let (mut sample, mut start, mut len) = (MaybeUninit::uninit(), null(), 0);
+        let wait = self.wait_for_message(until, Brings::ROOM);
+        let code = self.hold.wait(wait, |shared| {
+            receive_next(shared, &self.port, &mut sample, &mut start, &mut len)
+        });
+        self.sample(code, sample, start, len)
+    }
+
+    fn wait_for_message(&self, until: Option<Instant>, brings: Brings) -> Wait {
+        Wait {
+            what: Waits::Message,
+            port: self.port.id,
+            until,
+            brings,
+        }
     }
 
     /// Waits for one message after the other, and reads each where it lies, without the lock. Ends where
-    /// the function breaks off, or waits are stopped. A message is given back in the call that asks for the next, so that each takes
-    /// the lock once.
+    /// the function breaks off, or waits are stopped. A message is given back in the call that asks for
+    /// the next, so that each takes the lock once.
+    ///
+    /// # Errors
+    ///
+    /// See [`ReceiveError`].
     pub fn blocking_for_each(
         &self,
         mut read: impl FnMut(&P) -> ControlFlow<()>,
     ) -> Result<(), ReceiveError> {
         let mut last = None;
         loop {
-            let mut got = Got::default();
-            let code = self.hold.wait_for_message(None, |shared| {
+            let (mut sample, mut start, mut len) = (MaybeUninit::uninit(), null(), 0);
+            let wait = self.wait_for_message(None, Brings::COPY);
+            let code = self.hold.wait(wait, |shared| {
                 if let Some(sample) = last.take().map(Sample::into_number) {
                     release(shared, &sample);
                 }
-                got.receive(shared, &self.port)
+                receive_next(shared, &self.port, &mut sample, &mut start, &mut len)
             });
-            let Some(sample) = self.sample(code, got)? else {
-                return Ok(());
-            };
-            if read(&sample).is_break() {
-                return Ok(());
+            match self.sample(code, sample, start, len)? {
+                Some(sample) if read(&sample).is_continue() => last = Some(sample),
+                _ => return Ok(()),
             }
-            last = Some(sample);
         }
     }
 
     /// Waits for one message after the other, and ends where waits are stopped or a call is refused;
     /// the refusal is the last that it gives.
-    pub fn blocking_iter(&self) -> Incoming<'_, P> {
+    pub fn blocking_iter(&self) -> Incoming<'_, P, M> {
         Incoming {
             subscriber: Some(self),
         }
     }
 }
 
-impl<P: Payload + ?Sized, M: Threads> Drop for Subscriber<P, M> {
-    fn drop(&mut self) {
-        // SAFETY: see `Shared::at`. A send may wait for this subscriber.
-        expect(self.hold.call(Wakes::Senders, |shared| unsafe {
-            sys::iox2ps_subscriber_close(shared.at(), &self.port)
-        }));
+impl<P: Payload + ?Sized, M: Threads> fmt::Debug for Subscriber<P, M> {
+    fn fmt(&self, f: &mut fmt::Formatter<'_>) -> fmt::Result {
+        f.debug_struct("Subscriber")
+            .field("id", &self.id())
+            .field("buffer_size", &self.buffer_size())
+            .finish_non_exhaustive()
     }
 }
 
-/// What comes to a subscriber.
-pub struct Incoming<'s, P: Payload + ?Sized> {
-    // None once the last was given.
-    subscriber: Option<&'s Subscriber<P, ManyThreads>>,
+impl<P: Payload + ?Sized, M: Threads> Drop for Subscriber<P, M> {
+    fn drop(&mut self) {
+        // SAFETY: see `Shared::at`. A send may wait for this subscriber, and slots come back.
+        expect(self.hold.call(Brings::COPY, |shared| unsafe {
+            sys::iox2ps_subscriber_close(shared.at(), &self.port)
+        }));
+        self.hold.forget(self.port.id);
+    }
 }
 
-impl<P: Payload + ?Sized> Iterator for Incoming<'_, P> {
-    type Item = Result<Sample<P, ManyThreads>, ReceiveError>;
+/// What comes to a subscriber: an iterator that waits.
+#[must_use = "it receives nothing until it is iterated"]
+pub struct Incoming<'s, P: Payload + ?Sized, M: MayWait> {
+    // None once the last was given.
+    subscriber: Option<&'s Subscriber<P, M>>,
+}
+
+impl<P: Payload + ?Sized, M: MayWait> Iterator for Incoming<'_, P, M> {
+    type Item = Result<Sample<P, M>, ReceiveError>;
 
     fn next(&mut self) -> Option<Self::Item> {
         let received = self.subscriber?.blocking_receive().transpose();
@@ -263,9 +318,18 @@ impl<P: Payload + ?Sized> Iterator for Incoming<'_, P> {
     }
 }
 
-impl<P: Payload + ?Sized> FusedIterator for Incoming<'_, P> {}
+impl<P: Payload + ?Sized, M: MayWait> FusedIterator for Incoming<'_, P, M> {}
 
-/// What waits for a subscriber.
+impl<P: Payload + ?Sized, M: MayWait> fmt::Debug for Incoming<'_, P, M> {
+    fn fmt(&self, f: &mut fmt::Formatter<'_>) -> fmt::Result {
+        f.debug_struct("Incoming")
+            .field("subscriber", &self.subscriber)
+            .finish()
+    }
+}
+
+/// What waits for a subscriber: an iterator that ends where nothing does.
+#[must_use = "it receives nothing until it is iterated"]
 pub struct Received<'s, P: Payload + ?Sized, M: Threads = OneThread> {
     // None once the last was given.
     subscriber: Option<&'s Subscriber<P, M>>,
@@ -274,6 +338,7 @@ pub struct Received<'s, P: Payload + ?Sized, M: Threads = OneThread> {
 impl<P: Payload + ?Sized, M: Threads> Iterator for Received<'_, P, M> {
     type Item = Result<Sample<P, M>, ReceiveError>;
 
+    #[inline]
     fn next(&mut self) -> Option<Self::Item> {
         let received = self.subscriber?.receive().transpose();
         if !matches!(received, Some(Ok(_))) {
@@ -284,6 +349,14 @@ impl<P: Payload + ?Sized, M: Threads> Iterator for Received<'_, P, M> {
 }
 
 impl<P: Payload + ?Sized, M: Threads> FusedIterator for Received<'_, P, M> {}
+
+impl<P: Payload + ?Sized, M: Threads> fmt::Debug for Received<'_, P, M> {
+    fn fmt(&self, f: &mut fmt::Formatter<'_>) -> fmt::Result {
+        f.debug_struct("Received")
+            .field("subscriber", &self.subscriber)
+            .finish()
+    }
+}
 
 impl<'s, P: Payload + ?Sized, M: Threads> IntoIterator for &'s Subscriber<P, M> {
     type Item = Result<Sample<P, M>, ReceiveError>;

@@ -1,9 +1,13 @@
-//! For which threads the handles of a domain are.
+//! For which threads the handles of a domain are, and how they hold it.
 
-use crate::lock::{Guard, Lock, Signal};
+use crate::guarded::Guarded;
+use crate::lock::{DomainLock, StdLock};
 use crate::shared::Shared;
 use crate::sys;
 use std::cell::UnsafeCell;
+use std::fmt;
+use std::marker::PhantomData;
+use std::ops::Deref;
 use std::rc::Rc;
 use std::sync::Arc;
 use std::time::Instant;
@@ -11,216 +15,187 @@ use std::time::Instant;
 mod sealed {
     pub trait Sealed {}
     impl Sealed for super::OneThread {}
-    impl Sealed for super::ManyThreads {}
+    impl<L> Sealed for super::ManyThreads<L> {}
+    impl<M: super::Threads> Sealed for super::Borrowed<'_, M> {}
 }
 
-/// For which threads the handles of a domain are: [`OneThread`] or [`ManyThreads`].
-pub trait Threads: sealed::Sealed + 'static {
+/// For which threads the handles of a domain are: [`OneThread`], [`ManyThreads`], or either of them
+/// [`Borrowed`].
+pub trait Threads: sealed::Sealed {
     #[doc(hidden)]
-    type Hold: Hold;
+    type Place: Place;
+    #[doc(hidden)]
+    type Hold: Clone + Deref<Target = Self::Place>;
 }
 
-/// The handles stay on the thread that made the domain, and nothing is locked.
+/// Of [`Threads`] those whose calls may wait: [`ManyThreads`], also [`Borrowed`].
+pub trait MayWait: Threads {}
+
+/// The handles stay on the thread that made the domain, and nothing is locked. Each has a counted part
+/// in the domain.
+#[derive(Debug)]
 pub enum OneThread {}
 
 /// The handles may be given to other threads and be used by several at a time. Each call of the library
-/// is made under the domain's lock.
-pub enum ManyThreads {}
+/// is made under the domain's lock, which is a [`StdLock`] unless another is brought. Each handle has a
+/// counted part in the domain.
+pub struct ManyThreads<L = StdLock>(PhantomData<L>);
+
+/// The handles borrow their domain, and count nothing: a message costs less, and no handle outlives the
+/// [`Domain`](crate::Domain) that was borrowed.
+pub struct Borrowed<'d, M: Threads = OneThread>(PhantomData<&'d M>);
+
+impl<L> fmt::Debug for ManyThreads<L> {
+    fn fmt(&self, f: &mut fmt::Formatter<'_>) -> fmt::Result {
+        f.write_str("ManyThreads")
+    }
+}
+
+impl<M: Threads> fmt::Debug for Borrowed<'_, M> {
+    fn fmt(&self, f: &mut fmt::Formatter<'_>) -> fmt::Result {
+        f.write_str("Borrowed")
+    }
+}
 
 impl Threads for OneThread {
-    type Hold = Local;
+    type Place = Single;
+    type Hold = Rc<Single>;
 }
 
-impl Threads for ManyThreads {
-    type Hold = Locked;
+impl<L: DomainLock> Threads for ManyThreads<L> {
+    type Place = Guarded<L>;
+    type Hold = Arc<Guarded<L>>;
 }
 
-/// Who may go on once a call was made.
+impl<'d, M: Threads> Threads for Borrowed<'d, M>
+where
+    M::Place: 'd,
+{
+    type Place = M::Place;
+    type Hold = &'d M::Place;
+}
+
+impl<L: DomainLock> MayWait for ManyThreads<L> {}
+impl<'d, M: MayWait> MayWait for Borrowed<'d, M> where M::Place: 'd {}
+
+/// What a call may have brought to those who wait: a sum of these.
 #[doc(hidden)]
-#[derive(Clone, Copy, PartialEq, Eq)]
-pub enum Wakes {
-    Nobody,
-    /// Those who wait for a message: one may have come.
-    Receivers,
-    /// Those whose send waits: there may be room, or an earlier send of the publisher has ended.
-    Senders,
-    Both,
-}
+#[derive(Clone, Copy, Debug, PartialEq, Eq)]
+pub struct Brings(pub(crate) u8);
 
-/// A part in a domain.
-#[doc(hidden)]
-pub trait Hold: Clone {
-    fn new(shared: Shared) -> Self;
+impl Brings {
+    pub(crate) const NOTHING: Brings = Brings(0);
+    pub(crate) const MESSAGE: Brings = Brings(1);
+    pub(crate) const ROOM: Brings = Brings(2);
+    /// A publisher's send has ended.
+    pub(crate) const FREE: Brings = Brings(4);
+    /// A loan has ended, or a slot came back.
+    pub(crate) const LOAN: Brings = Brings(8);
+    pub(crate) const ALL: Brings = Brings(15);
 
-    /// Makes calls of the library, with no other between them, and returns the code of the last.
-    /// What runs here is this crate's alone: no function of a user, which could call again.
-    fn call(&self, wakes: Wakes, calls: impl FnOnce(&mut Shared) -> u32) -> u32;
-}
+    /// Of a loan's send, and of a copy's.
+    pub(crate) const SEND: Brings = Brings::MESSAGE.and(Brings::LOAN);
+    /// Of a retry and of a giving up.
+    pub(crate) const RETRY: Brings = Brings::SEND.and(Brings::FREE);
+    /// Of a receive with its release.
+    pub(crate) const COPY: Brings = Brings::ROOM.and(Brings::LOAN);
 
-/// A part in a domain that stays on its thread.
-#[doc(hidden)]
-pub struct Local(Rc<UnsafeCell<Shared>>);
+    const fn and(self, other: Brings) -> Brings {
+        Brings(self.0 | other.0)
+    }
 
-impl Clone for Local {
     #[inline]
-    fn clone(&self) -> Self {
-        Local(self.0.clone())
+    pub(crate) const fn meets(self, other: Brings) -> bool {
+        self.0 & other.0 != 0
     }
 }
 
-impl Hold for Local {
-    fn new(shared: Shared) -> Self {
-        Local(Rc::new(UnsafeCell::new(shared)))
+/// For what a thread waits.
+#[doc(hidden)]
+#[derive(Clone, Copy, Debug, PartialEq, Eq)]
+pub enum Waits {
+    Message,
+    /// Where the next buffer is full that a blocked send has to reach.
+    Room,
+    /// That the publisher's earlier send ends.
+    Free,
+    Loan,
+}
+
+impl Waits {
+    /// Whether a call that waits for this tries again after this code.
+    pub(crate) fn goes_on(self, code: u32) -> bool {
+        match self {
+            Waits::Message => code == sys::NO_SAMPLE,
+            Waits::Room => code == sys::BLOCKED,
+            Waits::Free => code == sys::PUBLISHER_IS_BLOCKED,
+            Waits::Loan => matches!(
+                code,
+                sys::PUBLISHER_IS_BLOCKED
+                    | sys::LOAN_ERROR_EXCEEDS_MAX_LOANS
+                    | sys::LOAN_ERROR_OUT_OF_MEMORY
+            ),
+        }
     }
 
+    /// What may bring it.
+    pub(crate) fn helped_by(self) -> Brings {
+        match self {
+            Waits::Message => Brings::MESSAGE,
+            Waits::Room => Brings::ROOM,
+            Waits::Free => Brings::FREE,
+            Waits::Loan => Brings::LOAN.and(Brings::FREE),
+        }
+    }
+}
+
+/// A wait: for what, of which port, until when or for good, and what its calls bring to others.
+#[doc(hidden)]
+#[derive(Clone, Copy, Debug)]
+pub struct Wait {
+    pub(crate) what: Waits,
+    pub(crate) port: sys::Wide,
+    pub(crate) until: Option<Instant>,
+    pub(crate) brings: Brings,
+}
+
+/// Where a domain lies.
+#[doc(hidden)]
+pub trait Place {
+    /// Makes calls of the library, with no other between them, and returns the code of the last. What runs
+    /// here is this crate's alone: no function of a user, which could call again.
+    fn call(&self, brings: Brings, calls: impl FnOnce(&mut Shared) -> u32) -> u32;
+
+    /// Makes them again as long as the wait goes on, each time when something came that may help.
+    fn wait(&self, wait: Wait, calls: impl FnMut(&mut Shared) -> u32) -> u32;
+
+    /// A subscriber goes: no task waits for it, and nothing is called for it any longer.
+    fn forget(&self, port: sys::Wide);
+}
+
+/// A domain that stays on its thread.
+#[doc(hidden)]
+#[allow(missing_debug_implementations)]
+pub struct Single(UnsafeCell<Shared>);
+
+impl Single {
+    pub(crate) fn new(shared: Shared) -> Self {
+        Single(UnsafeCell::new(shared))
+    }
+}
+
+impl Place for Single {
     #[inline]
-    fn call(&self, _: Wakes, calls: impl FnOnce(&mut Shared) -> u32) -> u32 {
+    fn call(&self, _: Brings, calls: impl FnOnce(&mut Shared) -> u32) -> u32 {
         // SAFETY: this is the only reference: `calls` don't come back here, and no other thread has
-        // a part, since this isn't `Send`.
+        // a part, since this isn't `Sync`.
         calls(unsafe { &mut *self.0.get() })
     }
-}
 
-/// A part in a domain with a lock.
-#[doc(hidden)]
-pub struct Locked(Arc<Guarded>);
-
-struct Guarded {
-    state: Lock<State>,
-    messages: Signal,
-    room: Signal,
-}
-
-struct State {
-    shared: Shared,
-    // How many threads wait at each signal, so that nobody is woken where nobody waits.
-    receivers: usize,
-    senders: usize,
-    waits_are_stopped: bool,
-}
-
-impl Clone for Locked {
-    #[inline]
-    fn clone(&self) -> Self {
-        Locked(self.0.clone())
-    }
-}
-
-impl Hold for Locked {
-    fn new(shared: Shared) -> Self {
-        Locked(Arc::new(Guarded {
-            state: Lock::new(State {
-                shared,
-                receivers: 0,
-                senders: 0,
-                waits_are_stopped: false,
-            }),
-            messages: Signal::new(),
-            room: Signal::new(),
-        }))
+    fn wait(&self, wait: Wait, calls: impl FnMut(&mut Shared) -> u32) -> u32 {
+        self.call(wait.brings, calls)
     }
 
     #[inline]
-    fn call(&self, wakes: Wakes, calls: impl FnOnce(&mut Shared) -> u32) -> u32 {
-        let mut state = self.0.state.lock();
-        let code = calls(&mut state.shared);
-        self.end(state, wakes, code);
-        code
-    }
-}
-
-impl Locked {
-    // Gives the lock back, and then wakes those who may go on.
-    #[inline]
-    fn end(&self, state: Guard<'_, State>, wakes: Wakes, code: u32) {
-        let changed = !matches!(
-            code,
-            sys::NOT_LIVE | sys::NO_SAMPLE | sys::PUBLISHER_IS_BLOCKED
-        );
-        let receivers =
-            changed && state.receivers > 0 && matches!(wakes, Wakes::Receivers | Wakes::Both);
-        let senders = changed && state.senders > 0 && matches!(wakes, Wakes::Senders | Wakes::Both);
-        drop(state);
-        if receivers {
-            self.0.messages.wake_all();
-        }
-        if senders {
-            self.0.room.wake_all();
-        }
-    }
-
-    /// Makes calls as long as their code says that they are to be made again, each time when something
-    /// came that may help. Ends too when this moment has come, or where waits are stopped.
-    fn call_until(
-        &self,
-        waits_for: Wakes,
-        wakes: Wakes,
-        until: Option<Instant>,
-        again: impl Fn(u32) -> bool,
-        mut calls: impl FnMut(&mut Shared) -> u32,
-    ) -> u32 {
-        let mut state = self.0.state.lock();
-        loop {
-            let code = calls(&mut state.shared);
-            if !again(code) || state.waits_are_stopped || is_over(until) {
-                self.end(state, wakes, code);
-                return code;
-            }
-            // A blocked send that was tried again may have reached others on its way.
-            if code == sys::BLOCKED && state.receivers > 0 {
-                self.0.messages.wake_all();
-            }
-            state = if waits_for == Wakes::Receivers {
-                state.receivers += 1;
-                let mut state = self.0.messages.wait(state, until);
-                state.receivers -= 1;
-                state
-            } else {
-                state.senders += 1;
-                let mut state = self.0.room.wait(state, until);
-                state.senders -= 1;
-                state
-            };
-        }
-    }
-
-    /// Until a message is there: the calls return NO_SAMPLE as long as none is.
-    pub(crate) fn wait_for_message(
-        &self,
-        until: Option<Instant>,
-        calls: impl FnMut(&mut Shared) -> u32,
-    ) -> u32 {
-        let again = |code| code == sys::NO_SAMPLE;
-        self.call_until(Wakes::Receivers, Wakes::Senders, until, again, calls)
-    }
-
-    /// Until there is room: the calls return BLOCKED as long as there is none.
-    pub(crate) fn wait_for_room(
-        &self,
-        until: Option<Instant>,
-        calls: impl FnMut(&mut Shared) -> u32,
-    ) -> u32 {
-        let again = |code| code == sys::BLOCKED;
-        self.call_until(Wakes::Senders, Wakes::Both, until, again, calls)
-    }
-
-    /// Until no send of a publisher waits: the calls return PUBLISHER_IS_BLOCKED as long as one does.
-    pub(crate) fn wait_for_publisher(
-        &self,
-        until: Option<Instant>,
-        calls: impl FnMut(&mut Shared) -> u32,
-    ) -> u32 {
-        let again = |code| code == sys::PUBLISHER_IS_BLOCKED;
-        self.call_until(Wakes::Senders, Wakes::Receivers, until, again, calls)
-    }
-
-    pub(crate) fn stop_waits(&self, stopped: bool) {
-        self.0.state.lock().waits_are_stopped = stopped;
-        self.0.messages.wake_all();
-        self.0.room.wake_all();
-    }
-}
-
-fn is_over(until: Option<Instant>) -> bool {
-    matches!(until, Some(until) if until <= Instant::now())
+    fn forget(&self, _: sys::Wide) {}
 }

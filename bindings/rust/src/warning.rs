@@ -3,10 +3,11 @@
 use crate::errors::{text, ConnectionFailure};
 use crate::numbers::number;
 use crate::sys;
-use crate::threads::{Hold, Wakes};
+use crate::threads::{Brings, Place};
 use std::fmt;
 
 /// What a warning is of.
+#[non_exhaustive]
 #[derive(Clone, Copy, Debug, PartialEq, Eq, Hash)]
 pub enum WarningKind {
     /// A subscriber was made in a domain whose room for closed publishers is below the number of
@@ -38,10 +39,10 @@ pub struct Warning {
 
 impl Warning {
     // `None` past the last one.
-    pub(crate) fn read(hold: &impl Hold, index: usize) -> Option<Warning> {
+    pub(crate) fn read(place: &impl Place, index: usize) -> Option<Warning> {
         let mut warning = sys::Warning::default();
         // SAFETY: see `Shared::at`.
-        let code = hold.call(Wakes::Nobody, |shared| unsafe {
+        let code = place.call(Brings::NOTHING, |shared| unsafe {
             sys::iox2ps_domain_warning(shared.at(), index, &mut warning)
         });
         if code != sys::OK {

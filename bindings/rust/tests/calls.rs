@@ -2,7 +2,7 @@
 
 use iox2_pubsub::{
     AllocationStrategy, BackpressureAction, BackpressureStrategy, ConnectionFailure, Domain,
-    LoanError, PublisherCreateError, ReceiveError, SendError, SendOutcome, SubscriberCreateError,
+    LoanError, PublisherCreateError, ReceiveError, SendError, SubscriberCreateError,
 };
 use std::error::Error;
 use std::time::Duration;
@@ -71,7 +71,7 @@ fn messages_come_in_order_and_stay_where_they_are() {
     );
     let at = &*first as *const u64;
     for n in 10..200 {
-        publisher.send_copy(n).unwrap();
+        publisher.send_copy(n).unwrap().delivered();
     }
     assert_eq!((*first, *second), (0, 1));
     assert_eq!(&*first as *const u64, at);
@@ -89,7 +89,7 @@ fn what_waits_is_iterated_and_ends_with_a_refusal() {
     let publisher = domain.publisher().unwrap();
     let subscriber = domain.subscriber().unwrap();
     for n in 0..5 {
-        publisher.send_copy(n).unwrap();
+        publisher.send_copy(n).unwrap().delivered();
     }
     let mut held = Vec::new();
     let mut refusals = Vec::new();
@@ -123,15 +123,15 @@ fn slices_have_the_length_of_their_loan() {
     let mut loan = publisher.loan_slice(3).unwrap();
     assert_eq!(loan[..], [0, 0, 0]);
     loan[1] = 5;
-    loan.send().unwrap();
-    publisher.send_slice_copy(&[1; 100]).unwrap();
+    loan.send().unwrap().delivered();
+    publisher.send_slice_copy(&[1; 100]).unwrap().delivered();
     assert_eq!(subscriber.receive().unwrap().unwrap()[..], [0, 5, 0]);
     assert_eq!(subscriber.receive().unwrap().unwrap()[..], [1; 100]);
     let squares = publisher
         .loan_slice_uninit(4)
         .unwrap()
         .write_from_fn(|i| (i * i) as u16);
-    squares.send().unwrap();
+    squares.send().unwrap().delivered();
     assert_eq!(subscriber.receive().unwrap().unwrap()[..], [0, 1, 4, 9]);
 }
 
@@ -186,7 +186,7 @@ fn alignments_up_to_16_are_kept() {
     let domain = Domain::<Block>::builder(7).create().unwrap();
     let publisher = domain.publisher().unwrap();
     let subscriber = domain.subscriber().unwrap();
-    publisher.send_copy(Block([9; 48])).unwrap();
+    publisher.send_copy(Block([9; 48])).unwrap().delivered();
     let sample = subscriber.receive().unwrap().unwrap();
     assert_eq!(&*sample as *const Block as usize % 16, 0);
     assert_eq!(sample.0, [9; 48]);
@@ -198,7 +198,7 @@ fn samples_and_ports_outlive_the_domain_that_made_them() {
     let publisher = domain.publisher().unwrap();
     let subscriber = domain.subscriber().unwrap();
     drop(domain);
-    publisher.send_copy(5).unwrap();
+    publisher.send_copy(5).unwrap().delivered();
     let sample = subscriber.receive().unwrap().unwrap();
     drop(publisher);
     drop(subscriber);
@@ -271,8 +271,8 @@ fn a_loan_of_a_dropped_publisher_is_not_sent() {
 fn a_late_subscriber_gets_the_history() {
     let domain = Domain::<u8>::builder(12).history_size(1).create().unwrap();
     let publisher = domain.publisher().unwrap();
-    publisher.send_copy(1).unwrap();
-    publisher.send_copy(2).unwrap();
+    publisher.send_copy(1).unwrap().delivered();
+    publisher.send_copy(2).unwrap().delivered();
     let subscriber = domain.subscriber().unwrap();
     publisher.update_connections().unwrap();
     subscriber.update_connections().unwrap();
@@ -293,9 +293,11 @@ fn a_blocked_send_is_tried_again() {
     let subscriber = domain.subscriber().unwrap();
     assert_eq!(publisher.send_copy(1).unwrap().delivered(), Some(1));
     let waits = publisher.loan().unwrap();
-    let SendOutcome::Blocked(blocked) = publisher.send_copy(2).unwrap() else {
-        panic!("the buffer is full");
-    };
+    let blocked = publisher
+        .send_copy(2)
+        .unwrap()
+        .blocked()
+        .expect("the buffer is full");
     assert!(publisher.is_blocked());
     assert_eq!(blocked.publisher(), publisher.id());
     assert_eq!(publisher.loan().err(), Some(LoanError::PublisherIsBlocked));
@@ -303,12 +305,18 @@ fn a_blocked_send_is_tried_again() {
         publisher.update_connections(),
         Err(ConnectionFailure::PublisherIsBlocked)
     );
-    let SendOutcome::PublisherIsBlocked(waits) = waits.send().unwrap() else {
-        panic!("the publisher is blocked");
-    };
-    let SendOutcome::Blocked(blocked) = blocked.retry(Duration::from_millis(1)).unwrap() else {
-        panic!("the buffer is still full");
-    };
+    let unsent = waits.send_or_keep().unwrap_err();
+    assert_eq!(unsent.error(), SendError::PublisherIsBlocked);
+    assert_eq!(
+        publisher.send_copy(9).unwrap_err(),
+        SendError::PublisherIsBlocked
+    );
+    let waits = unsent.into_loan().expect("the loan comes back");
+    let blocked = blocked
+        .retry(Duration::from_millis(1))
+        .unwrap()
+        .blocked()
+        .expect("the buffer is still full");
     assert_eq!(*subscriber.receive().unwrap().unwrap(), 1);
     assert_eq!(blocked.retry(Duration::MAX).unwrap().delivered(), Some(1));
     assert_eq!(*subscriber.receive().unwrap().unwrap(), 2);
@@ -321,17 +329,23 @@ fn a_blocked_send_is_given_up_by_a_call_or_when_it_is_dropped() {
     let domain = keeping(14);
     let publisher = domain.publisher().unwrap();
     let full = [domain.subscriber().unwrap(), domain.subscriber().unwrap()];
-    publisher.send_copy(1).unwrap();
-    let SendOutcome::Blocked(blocked) = publisher.send_copy(2).unwrap() else {
-        panic!("both buffers are full");
-    };
-    let SendOutcome::Blocked(blocked) = blocked.give_up().unwrap() else {
-        panic!("the other buffer is full");
-    };
+    publisher.send_copy(1).unwrap().delivered();
+    let blocked = publisher
+        .send_copy(2)
+        .unwrap()
+        .blocked()
+        .expect("both buffers are full");
+    let blocked = blocked
+        .give_up()
+        .unwrap()
+        .blocked()
+        .expect("the other buffer is full");
     assert_eq!(blocked.give_up().unwrap().delivered(), Some(0));
-    let SendOutcome::Blocked(blocked) = publisher.send_copy(3).unwrap() else {
-        panic!("both buffers are full");
-    };
+    let blocked = publisher
+        .send_copy(3)
+        .unwrap()
+        .blocked()
+        .expect("both buffers are full");
     drop(blocked);
     assert!(!publisher.is_blocked());
     for subscriber in &full {
@@ -350,10 +364,12 @@ fn a_publisher_that_is_dropped_while_it_is_blocked_closes_later() {
         .unwrap();
     let publisher = domain.publisher().unwrap();
     let subscriber = domain.subscriber().unwrap();
-    publisher.send_copy(1).unwrap();
-    let SendOutcome::Blocked(blocked) = publisher.send_copy(2).unwrap() else {
-        panic!("the buffer is full");
-    };
+    publisher.send_copy(1).unwrap().delivered();
+    let blocked = publisher
+        .send_copy(2)
+        .unwrap()
+        .blocked()
+        .expect("the buffer is full");
     drop(publisher);
     assert!(domain.publisher().is_err());
     assert_eq!(*subscriber.receive().unwrap().unwrap(), 1);
@@ -435,7 +451,10 @@ fn a_publisher_grows() {
     for strategy in [AllocationStrategy::BestFit, AllocationStrategy::PowerOfTwo] {
         let builder = domain.publisher_builder().allocation_strategy(strategy);
         let growing = builder.initial_max_slice_len(0).create().unwrap();
-        growing.send_slice_copy(&[1, 2, 3, 4, 5]).unwrap();
+        growing
+            .send_slice_copy(&[1, 2, 3, 4, 5])
+            .unwrap()
+            .delivered();
         let sample = subscriber.receive().unwrap().unwrap();
         let long = growing.loan_slice(1000).unwrap();
         assert_eq!(long.len(), 1000);
@@ -456,7 +475,7 @@ fn a_header_says_where_a_message_comes_from() {
     let publishers = [domain.publisher().unwrap(), domain.publisher().unwrap()];
     let subscriber = domain.subscriber().unwrap();
     for publisher in &publishers {
-        publisher.send_slice_copy(&[1, 2, 3]).unwrap();
+        publisher.send_slice_copy(&[1, 2, 3]).unwrap().delivered();
         let header = subscriber.receive().unwrap().unwrap().header();
         assert_eq!(
             (header.node_id(), header.publisher_id()),
@@ -467,7 +486,7 @@ fn a_header_says_where_a_message_comes_from() {
 
     let domain = Domain::<Pose>::builder(20).create().unwrap();
     let (publisher, subscriber) = (domain.publisher().unwrap(), domain.subscriber().unwrap());
-    publisher.send_copy(pose(1)).unwrap();
+    publisher.send_copy(pose(1)).unwrap().delivered();
     let header = subscriber.receive().unwrap().unwrap().header();
     assert_eq!((header.node_id(), header.number_of_elements()), (0, 1));
 }
@@ -478,7 +497,7 @@ fn connections_and_books_are_counted() {
     assert_eq!((domain.connection_count(), domain.book_count()), (0, 0));
     let publisher = domain.publisher().unwrap();
     let subscriber = domain.subscriber().unwrap();
-    publisher.send_copy(1).unwrap();
+    publisher.send_copy(1).unwrap().delivered();
     assert_eq!((domain.connection_count(), domain.book_count()), (1, 1));
     let sample = subscriber.receive().unwrap().unwrap();
     drop(publisher);

@@ -5,7 +5,7 @@
 
 mod world;
 
-use iox2_pubsub::sys::*;
+use iox2_pubsub_sys::*;
 use std::collections::HashSet;
 use std::mem::{size_of, zeroed};
 use std::ptr::{null, null_mut};
@@ -345,7 +345,7 @@ fn payloads_are_aligned_as_the_settings_say() {
             let code = unsafe { iox2ps_loan_send(&mut domain, &loan, &mut count, &mut blocked) };
             assert_eq!(code, OK);
             let (_, read) = receive(&mut domain, &subscriber);
-            assert_eq!((read.as_ptr(), read.len()), (start.cast_const(), len));
+            assert_eq!((read.as_ptr(), read.len()), (start as *const u8, len));
         }
         destroy(&mut domain);
     }

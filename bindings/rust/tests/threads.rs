@@ -79,7 +79,7 @@ fn a_loan_and_a_sample_cross_threads_in_place() {
             scope.spawn(|| (0..1000).for_each(|_| assert_eq!(read(&sample), 7)));
         }
         for number in 8..200 {
-            publisher.send_copy(message(number)).unwrap();
+            publisher.send_copy(message(number)).unwrap().delivered();
         }
     });
     // It outlives its ports, and goes on another thread.
@@ -105,11 +105,11 @@ fn a_receive_waits_for_a_message() {
         tell.send(read(&copy)).unwrap();
     });
     thread::sleep(MOMENT);
-    publisher.send_copy(message(1)).unwrap();
+    publisher.send_copy(message(1)).unwrap().delivered();
     assert_eq!(told.recv(), Ok(1));
     thread::sleep(MOMENT);
     let loan = publisher.loan_uninit().unwrap().write_payload(message(2));
-    loan.send().unwrap();
+    loan.send().unwrap().delivered();
     assert_eq!(told.recv(), Ok(2));
     waiting.join().unwrap();
 }
@@ -126,7 +126,7 @@ fn a_receive_waits_for_so_long() {
         .unwrap()
         .is_none());
     let publisher = domain.publisher().unwrap();
-    publisher.send_copy(message(3)).unwrap();
+    publisher.send_copy(message(3)).unwrap().delivered();
     // What waits already is given at once, whatever the time.
     assert_eq!(
         subscriber
@@ -135,7 +135,7 @@ fn a_receive_waits_for_so_long() {
             .map(|m| read(&m)),
         Some(3)
     );
-    publisher.send_copy(message(4)).unwrap();
+    publisher.send_copy(message(4)).unwrap().delivered();
     let sample = subscriber.timed_receive(Duration::MAX).unwrap().unwrap();
     assert_eq!(read(&sample), 4);
 }
@@ -145,7 +145,7 @@ fn stopping_ends_all_waits() {
     let domain = keeping(1);
     let publisher = domain.publisher().unwrap();
     let full = domain.subscriber().unwrap();
-    publisher.send_copy(message(1)).unwrap();
+    publisher.send_copy(message(1)).unwrap().delivered();
     let waiting_send = blocked(publisher.send_copy(message(2)).unwrap());
     let idle = domain.publisher().unwrap();
     let subscriber = domain.subscriber().unwrap();
@@ -157,11 +157,11 @@ fn stopping_ends_all_waits() {
         assert!(!receives.is_finished() && !sends.is_finished());
         domain.stop_waits(true);
         assert_eq!(receives.join().unwrap(), 0);
-        blocked(sends.join().unwrap());
+        drop(blocked(sends.join().unwrap()));
     });
     // Nothing waits now, and what is there is found all the same.
     assert!(subscriber.blocking_receive().unwrap().is_none());
-    idle.send_copy(message(5)).unwrap();
+    idle.send_copy(message(5)).unwrap().delivered();
     assert_eq!(read(&subscriber.blocking_receive().unwrap().unwrap()), 5);
     domain.stop_waits(false);
     assert!(subscriber.timed_receive(MOMENT).unwrap().is_none());
@@ -173,7 +173,7 @@ fn a_send_waits_for_room() {
     let domain = keeping(1);
     let publisher = domain.publisher().unwrap();
     let subscriber = domain.subscriber().unwrap();
-    publisher.send_copy(message(1)).unwrap();
+    publisher.send_copy(message(1)).unwrap().delivered();
     let started = Instant::now();
     let sent = publisher.timed_send_copy(message(2), MOMENT).unwrap();
     assert!(started.elapsed() >= MOMENT);
@@ -193,7 +193,7 @@ fn a_send_waits_no_longer_for_a_subscriber_that_goes() {
     let domain = keeping(1);
     let publisher = domain.publisher().unwrap();
     let subscriber = domain.subscriber().unwrap();
-    publisher.send_copy(message(1)).unwrap();
+    publisher.send_copy(message(1)).unwrap().delivered();
     thread::scope(|scope| {
         let sends = scope.spawn(|| {
             publisher
@@ -213,7 +213,7 @@ fn a_send_that_waits_again_has_reached_those_before() {
     let domain = keeping(1);
     let publisher = domain.publisher().unwrap();
     let subscribers: Vec<_> = (0..3).map(|_| domain.subscriber().unwrap()).collect();
-    publisher.send_copy(message(1)).unwrap();
+    publisher.send_copy(message(1)).unwrap().delivered();
     assert_eq!(read(&subscribers[1].receive().unwrap().unwrap()), 1);
     let waits = blocked(publisher.send_copy(message(2)).unwrap());
     thread::scope(|scope| {
@@ -234,7 +234,7 @@ fn a_send_that_ends_lets_the_next_of_its_publisher_go() {
         let domain = keeping(1);
         let publisher = domain.publisher().unwrap();
         let subscriber = domain.subscriber().unwrap();
-        publisher.send_copy(message(1)).unwrap();
+        publisher.send_copy(message(1)).unwrap().delivered();
         let first = blocked(publisher.send_copy(message(2)).unwrap());
         thread::scope(|scope| {
             let second = scope.spawn(|| publisher.blocking_send_copy(message(3)).unwrap());
@@ -253,18 +253,11 @@ fn sends_of_one_publisher_wait_for_each_other() {
     let publisher = domain.publisher().unwrap();
     let subscriber = domain.subscriber().unwrap();
     let loan = publisher.loan_uninit().unwrap().write_payload(message(3));
-    publisher.send_copy(message(1)).unwrap();
+    publisher.send_copy(message(1)).unwrap().delivered();
     let first = blocked(publisher.send_copy(message(2)).unwrap());
-    let Ok(SendOutcome::PublisherIsBlocked(loan)) = loan.send() else {
-        panic!()
-    };
+    let loan = loan.send_or_keep().unwrap_err().into_loan().unwrap();
     thread::scope(|scope| {
-        let second = scope.spawn(|| {
-            SendOutcome::PublisherIsBlocked(loan)
-                .blocking_wait()
-                .unwrap()
-                .delivered()
-        });
+        let second = scope.spawn(|| loan.blocking_send().unwrap().delivered());
         let third = scope.spawn(|| {
             publisher
                 .blocking_send_copy(message(4))
@@ -297,7 +290,7 @@ fn a_publisher_that_goes_while_its_send_waits_closes_then() {
     let domain = keeping(1);
     let publisher = domain.publisher().unwrap();
     let subscriber = domain.subscriber().unwrap();
-    publisher.send_copy(message(1)).unwrap();
+    publisher.send_copy(message(1)).unwrap().delivered();
     let waits = blocked(publisher.send_copy(message(2)).unwrap());
     thread::spawn(move || drop(publisher)).join().unwrap();
     let sends = thread::spawn(move || waits.blocking_retry().unwrap().delivered());
@@ -313,10 +306,10 @@ fn a_thread_that_panics_gives_back_what_it_has() {
     let domain = keeping(1);
     let publisher = domain.publisher().unwrap();
     let subscriber = domain.subscriber().unwrap();
-    publisher.send_copy(message(1)).unwrap();
+    publisher.send_copy(message(1)).unwrap().delivered();
     let sample = subscriber.receive().unwrap().unwrap();
     let loan = publisher.loan_uninit().unwrap();
-    publisher.send_copy(message(2)).unwrap();
+    publisher.send_copy(message(2)).unwrap().delivered();
     let waits = blocked(publisher.send_copy(message(3)).unwrap());
     let panics = thread::spawn(move || {
         let _all = (sample, loan, waits);
@@ -332,7 +325,7 @@ fn a_thread_that_panics_gives_back_what_it_has() {
     ];
     assert!(publisher.loan_uninit().is_err());
     drop(loans);
-    publisher.send_copy(message(4)).unwrap();
+    publisher.send_copy(message(4)).unwrap().delivered();
     assert_eq!(read(&subscriber.receive().unwrap().unwrap()), 4);
 }
 
@@ -385,7 +378,10 @@ fn threads_share_the_messages_of_one_subscriber() {
             });
         }
         for number in 0..MESSAGES {
-            publisher.blocking_send_copy(message(number)).unwrap();
+            publisher
+                .blocking_send_copy(message(number))
+                .unwrap()
+                .delivered();
         }
         let mut all: Vec<u64> = told.iter().take(MESSAGES as usize).collect();
         domain.stop_waits(true);
@@ -409,7 +405,10 @@ fn each_message_is_given_back_when_the_next_is_asked_for() {
             ended.map(|()| all)
         });
         for number in 0..100 {
-            publisher.blocking_send_copy(message(number)).unwrap();
+            publisher
+                .blocking_send_copy(message(number))
+                .unwrap()
+                .delivered();
         }
         while subscriber.has_samples().unwrap() {
             thread::yield_now();
@@ -418,7 +417,7 @@ fn each_message_is_given_back_when_the_next_is_asked_for() {
         assert_eq!(reads.join().unwrap(), Ok((0..100).collect()));
     });
     // Where the function panics, the message is given back too.
-    publisher.send_copy(message(100)).unwrap();
+    publisher.send_copy(message(100)).unwrap().delivered();
     let panics = thread::scope(|scope| {
         scope
             .spawn(|| subscriber.blocking_for_each(|_| panic!("as this test wants it")))
@@ -427,7 +426,7 @@ fn each_message_is_given_back_when_the_next_is_asked_for() {
     });
     assert!(panics);
     for number in 0..3 {
-        publisher.send_copy(message(number)).unwrap();
+        publisher.send_copy(message(number)).unwrap().delivered();
     }
     let samples: Vec<_> = (0..2)
         .map(|_| subscriber.receive().unwrap().unwrap())

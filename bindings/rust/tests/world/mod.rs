@@ -1,6 +1,6 @@
 //! Domains to try numbers in, and calls that have to be refused.
 
-use iox2_pubsub::sys::*;
+use iox2_pubsub_sys::*;
 use std::mem::MaybeUninit;
 use std::ptr::{null, null_mut};
 use std::slice;

@@ -1,0 +1,165 @@
+/** @file
+ * What calls of iox2_pubsub.hpp return: a value, or why there is none. It is included there. */
+#ifndef IOX2_PUBSUB_RESULTS_HPP
+#define IOX2_PUBSUB_RESULTS_HPP
+
+#include "iox2_pubsub.h"
+
+#include <cstdint>
+#include <cstdio>
+#include <cstdlib>
+#include <functional>
+#include <type_traits>
+#include <utility>
+#include <variant>
+
+/** All names of the C++ headers. */
+namespace iox2ps {
+
+/** Why a call was refused. Each has the number that iox2_pubsub.h says, and text() says it in words. */
+enum class Error : std::uint32_t {
+  NotLive = IOX2PS_NOT_LIVE,                        /**< the handle is empty: it was moved from, sent or ended */
+  OutOfMemory = IOX2PS_OUT_OF_MEMORY,               /**< there is no memory for the domain or the handle */
+  PublisherIsBlocked = IOX2PS_PUBLISHER_IS_BLOCKED, /**< an earlier send of the publisher waits, and nothing was done */
+  InvalidSettings = IOX2PS_INVALID_SETTINGS,        /**< a setting has none of its values */
+
+  LoanOutOfMemory = IOX2PS_LOAN_ERROR_OUT_OF_MEMORY,                   /**< each slot is in use */
+  LoanExceedsMaxLoans = IOX2PS_LOAN_ERROR_EXCEEDS_MAX_LOANS,           /**< as many loans are out as may be */
+  LoanExceedsMaxLoanSize = IOX2PS_LOAN_ERROR_EXCEEDS_MAX_LOAN_SIZE,    /**< too long, and memory doesn't grow */
+  LoanInternalFailure = IOX2PS_LOAN_ERROR_INTERNAL_FAILURE,            /**< memory is to grow and can't, or no number is left */
+
+  /** The loan's publisher is closed. */
+  SendConnectionBrokenSinceSenderNoLongerExists = IOX2PS_SEND_ERROR_CONNECTION_BROKEN_SINCE_SENDER_NO_LONGER_EXISTS,
+  SendConnectionCorrupted = IOX2PS_SEND_ERROR_CONNECTION_CORRUPTED, /**< never returned */
+  SendUnableToDeliver = IOX2PS_SEND_ERROR_UNABLE_TO_DELIVER,        /**< a handler failed it; others may have the message */
+  SendInternalError = IOX2PS_SEND_ERROR_INTERNAL_ERROR,             /**< never returned */
+  /** Never returned. */
+  SendConnectionIncompatibleBufferSize = IOX2PS_SEND_ERROR_CONNECTION_INCOMPATIBLE_BUFFER_SIZE,
+  /** As ConnectionOutOfMemory, and nobody has the message. */
+  SendConnectionOutOfMemory = IOX2PS_SEND_ERROR_CONNECTION_OUT_OF_MEMORY,
+  /** As ConnectionExpiredBufferFull, and nobody has the message. */
+  SendConnectionExpiredBufferFull = IOX2PS_SEND_ERROR_CONNECTION_EXPIRED_BUFFER_FULL,
+  SendConnectionUnableToMap = IOX2PS_SEND_ERROR_CONNECTION_UNABLE_TO_MAP, /**< never returned */
+
+  /** Messages wait, but of each of their publishers as many samples are held as may be. */
+  ReceiveExceedsMaxBorrows = IOX2PS_RECEIVE_ERROR_EXCEEDS_MAX_BORROWS,
+  /** Never returned. */
+  ReceiveConnectionIncompatibleBufferSize = IOX2PS_RECEIVE_ERROR_CONNECTION_INCOMPATIBLE_BUFFER_SIZE,
+  /** As ConnectionOutOfMemory, and nothing was received. */
+  ReceiveConnectionOutOfMemory = IOX2PS_RECEIVE_ERROR_CONNECTION_OUT_OF_MEMORY,
+  /** As ConnectionExpiredBufferFull, and nothing was received. */
+  ReceiveConnectionExpiredBufferFull = IOX2PS_RECEIVE_ERROR_CONNECTION_EXPIRED_BUFFER_FULL,
+  ReceiveConnectionUnableToMap = IOX2PS_RECEIVE_ERROR_CONNECTION_UNABLE_TO_MAP, /**< never returned */
+
+  ConnectionIncompatibleBufferSize = IOX2PS_CONNECTION_FAILURE_INCOMPATIBLE_BUFFER_SIZE, /**< never returned */
+  ConnectionOutOfMemory = IOX2PS_CONNECTION_FAILURE_OUT_OF_MEMORY, /**< memory was refused to a port that fails then */
+  /** The subscriber has samples of more closed publishers than there is room for. */
+  ConnectionExpiredBufferFull = IOX2PS_CONNECTION_FAILURE_EXPIRED_BUFFER_FULL,
+  ConnectionUnableToMap = IOX2PS_CONNECTION_FAILURE_UNABLE_TO_MAP, /**< never returned */
+
+  /** As many publishers are open as the domain allows. */
+  PublisherExceedsMaxSupportedPublishers = IOX2PS_PUBLISHER_CREATE_ERROR_EXCEEDS_MAX_SUPPORTED_PUBLISHERS,
+  /** Memory for its messages was refused, or there can't be so much. */
+  PublisherUnableToCreateDataSegment = IOX2PS_PUBLISHER_CREATE_ERROR_UNABLE_TO_CREATE_DATA_SEGMENT,
+  /** Other memory was refused. */
+  PublisherFailedToDeployThreadsafetyPolicy = IOX2PS_PUBLISHER_CREATE_ERROR_FAILED_TO_DEPLOY_THREADSAFETY_POLICY,
+  /** No id is left for a port. */
+  PublisherUnableToCreatePortTag = IOX2PS_PUBLISHER_CREATE_ERROR_UNABLE_TO_CREATE_PORT_TAG,
+
+  /** As many subscribers are there as the domain allows; a closed one counts until its last sample is released. */
+  SubscriberExceedsMaxSupportedSubscribers = IOX2PS_SUBSCRIBER_CREATE_ERROR_EXCEEDS_MAX_SUPPORTED_SUBSCRIBERS,
+  /** A larger buffer than the domain allows. */
+  SubscriberBufferSizeExceedsMax = IOX2PS_SUBSCRIBER_CREATE_ERROR_BUFFER_SIZE_EXCEEDS_MAX,
+  /** Memory was refused. */
+  SubscriberFailedToDeployThreadsafetyPolicy = IOX2PS_SUBSCRIBER_CREATE_ERROR_FAILED_TO_DEPLOY_THREADSAFETY_POLICY,
+  /** No id is left for a port. */
+  SubscriberUnableToCreatePortTag = IOX2PS_SUBSCRIBER_CREATE_ERROR_UNABLE_TO_CREATE_PORT_TAG
+};
+
+/** An error in words, which lie there for good. */
+inline const char *text(Error error) { return iox2ps_error_text(static_cast<std::uint32_t>(error)); }
+
+/** A value, or why there is none. What asks for a value that isn't there ends the program, and says why on standard
+ * error: value(), *, -> and expect(). */
+template <typename V> class [[nodiscard]] Result {
+public:
+  Result(V value) : held_(std::in_place_index<0>, std::move(value)) {} /**< a value */
+  Result(Error error) : held_(std::in_place_index<1>, error) {}        /**< none */
+
+  bool has_value() const noexcept { return held_.index() == 0; }       /**< whether there is a value */
+  explicit operator bool() const noexcept { return has_value(); }      /**< the same */
+
+  V &value() & { return there("no value"); }                           /**< the value */
+  const V &value() const & { return there("no value"); }               /**< the value */
+  V &&value() && { return std::move(there("no value")); }              /**< the value */
+  V &operator*() & { return value(); }                                 /**< the value */
+  const V &operator*() const & { return value(); }                     /**< the value */
+  V &&operator*() && { return std::move(*this).value(); }              /**< the value */
+  V *operator->() { return &value(); }                                 /**< the value's members */
+  const V *operator->() const { return &value(); }                     /**< the value's members */
+
+  /** The value; where there is none the program ends, and says these words and the error's. */
+  V expect(const char *words) && { return std::move(there(words)); }
+
+  /** The value, or this one where there is none. */
+  template <typename U> V value_or(U &&other) const & {
+    return has_value() ? value() : static_cast<V>(std::forward<U>(other));
+  }
+  /** The value, moved out, or this one where there is none. */
+  template <typename U> V value_or(U &&other) && {
+    return has_value() ? std::move(*this).value() : static_cast<V>(std::forward<U>(other));
+  }
+
+  /** What a function makes of the value, which is a Result too; or the error, where there is no value. */
+  template <typename F> auto and_then(F &&next) & { return then(*this, std::forward<F>(next)); }
+  /** The same. */
+  template <typename F> auto and_then(F &&next) const & { return then(*this, std::forward<F>(next)); }
+  /** The same, with the value moved out. */
+  template <typename F> auto and_then(F &&next) && { return then(std::move(*this), std::forward<F>(next)); }
+
+  /** Why there is no value. Where there is one the program ends. */
+  Error error() const {
+    if (has_value()) end("error() of a value");
+    return *std::get_if<1>(&held_);
+  }
+
+private:
+  template <typename Self, typename F> static auto then(Self &&self, F &&next) {
+    using Next = std::decay_t<decltype(std::invoke(std::forward<F>(next), *std::forward<Self>(self)))>;
+    if (!self.has_value()) return Next(self.error());
+    return Next(std::invoke(std::forward<F>(next), *std::forward<Self>(self)));
+  }
+
+  V &there(const char *words) {
+    if (!has_value()) end(words);
+    return *std::get_if<0>(&held_);
+  }
+  const V &there(const char *words) const {
+    if (!has_value()) end(words);
+    return *std::get_if<0>(&held_);
+  }
+  [[noreturn]] void end(const char *words) const {
+    std::fprintf(stderr, "iox2_pubsub: %s: %s\n", words, has_value() ? "there is a value" : text(error()));
+    std::abort();
+  }
+
+  std::variant<V, Error> held_;
+};
+
+/** Nothing, or why a call was refused. */
+using Done = Result<std::monostate>;
+
+namespace detail {
+
+inline Error error_of(iox2ps_status_t code) { return static_cast<Error>(code); }
+
+inline Done done(iox2ps_status_t code) {
+  if (code == IOX2PS_OK) return std::monostate{};
+  return error_of(code);
+}
+
+} // namespace detail
+
+} // namespace iox2ps
+
+#endif

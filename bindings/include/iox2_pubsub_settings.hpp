@@ -1,0 +1,321 @@
+/** @file
+ * The settings of domains and ports, and what a domain says of itself, for iox2_pubsub.hpp. It is included there.
+ *
+ * Each setting is set by a call of its name, and read by the same call without an argument:
+ *
+ *     Config<Pose> config(7);
+ *     config.max_subscribers(2).history_size(1).enable_safe_overflow(false);
+ *     auto strategy = config.backpressure_strategy();
+ */
+#ifndef IOX2_PUBSUB_SETTINGS_HPP
+#define IOX2_PUBSUB_SETTINGS_HPP
+
+#include "iox2_pubsub_results.hpp"
+
+#include <cstddef>
+#include <limits>
+#include <optional>
+
+namespace iox2ps {
+
+/** The number of a domain, a port or a message, which no other of its domain has. */
+struct Id {
+  std::uint64_t low;  /**< the number modulo 2 to the 64th */
+  std::uint64_t high; /**< the rest of it */
+  friend bool operator==(Id a, Id b) { return a.low == b.low && a.high == b.high; } /**< whether it is the same */
+  friend bool operator!=(Id a, Id b) { return !(a == b); }                          /**< whether it is another */
+};
+
+/** What a publisher does where a subscriber's buffer is full and the domain doesn't overflow. */
+enum class BackpressureStrategy : std::uint32_t {
+  RetryUntilDelivered = IOX2PS_RETRY_UNTIL_DELIVERED, /**< the send is blocked: it is tried again, or given up */
+  DiscardData = IOX2PS_DISCARD_DATA                   /**< the subscriber doesn't get the message */
+};
+
+/** What a publisher's handler always answers where a buffer is full. */
+enum class BackpressureAction : std::uint32_t {
+  FollowStrategy = IOX2PS_BACKPRESSURE_FOLLOW_STRATEGY,         /**< do as the strategy says */
+  Retry = IOX2PS_BACKPRESSURE_RETRY,                            /**< the send is blocked */
+  DiscardData = IOX2PS_BACKPRESSURE_DISCARD_DATA,               /**< the subscriber doesn't get the message */
+  DiscardDataAndFail = IOX2PS_BACKPRESSURE_DISCARD_DATA_AND_FAIL /**< the same, and the send fails in the end */
+};
+
+/** What a port does where memory for a connection is refused. */
+enum class DegradationAction : std::uint32_t {
+  Ignore = IOX2PS_DEGRADATION_IGNORE,      /**< go on without it */
+  Warn = IOX2PS_DEGRADATION_WARN,          /**< and the domain warns of it */
+  DegradeAndFail = IOX2PS_DEGRADATION_FAIL /**< let the call fail */
+};
+
+/** How a publisher's memory grows where a loan doesn't fit. */
+enum class AllocationStrategy : std::uint32_t {
+  Static = IOX2PS_ALLOCATION_STATIC,          /**< it doesn't: the loan is refused */
+  BestFit = IOX2PS_ALLOCATION_BEST_FIT,       /**< by slots for messages as long as the longest so far */
+  PowerOfTwo = IOX2PS_ALLOCATION_POWER_OF_TWO /**< by slots as long as the next power of two */
+};
+
+namespace detail {
+
+template <typename P> using Element = std::remove_extent_t<P>;
+
+template <typename P> constexpr bool is_slice = std::is_array_v<P>;
+
+template <typename P> constexpr void check() {
+  using T = Element<P>;
+  static_assert(!is_slice<P> || std::extent_v<P> == 0, "a slice is T[], without a number");
+  static_assert(std::is_object_v<T> && !std::is_const_v<T> && !std::is_volatile_v<T>, "a message is of a plain type");
+  static_assert(std::is_trivially_copyable_v<T>, "a message is trivially copyable: nothing of it is ever destroyed");
+  static_assert(alignof(T) <= 16, "the alignment of a message is at most 16");
+}
+
+/* How many bytes so many values have, or as many as there can be. */
+template <typename T> constexpr std::size_t bytes_of(std::size_t values) {
+  constexpr std::size_t greatest = std::numeric_limits<std::size_t>::max();
+  return values > greatest / sizeof(T) ? greatest - greatest % alignof(T) : values * sizeof(T);
+}
+
+inline Id id_of(iox2ps_wide_t wide) { return Id{wide.low, wide.high}; }
+
+/* The structs of C behind settings, for the calls alone. */
+struct Raw {
+  template <typename S> static auto &of(S &settings) { return settings.raw_; }
+  template <typename O> static auto options(const O &options, const iox2ps_config_t &config) { return options.raw(config); }
+};
+
+} // namespace detail
+
+/** The settings of a domain, whatever its messages are. */
+class ServiceConfig {
+public:
+  Id service_id() const { return detail::id_of(raw_.service_id); } /**< names the domain */
+  Id node_id() const { return detail::id_of(raw_.node_id); }       /**< what the header of each message names */
+  std::size_t payload_size() const { return raw_.payload_size; }   /**< how many bytes a message may have */
+  std::size_t payload_alignment() const { return raw_.payload_alignment; } /**< to how many bytes each is aligned */
+  std::size_t max_publishers() const { return raw_.max_publishers; }       /**< how many may be open at a time */
+  /** How many subscribers there may be at a time. Each counts in the memory of each publisher. */
+  std::size_t max_subscribers() const { return raw_.max_subscribers; }
+  /** How many messages of one publisher may wait for a subscriber. */
+  std::size_t subscriber_max_buffer_size() const { return raw_.subscriber_max_buffer_size; }
+  /** How many samples of one publisher a subscriber may hold. */
+  std::size_t subscriber_max_borrowed_samples() const { return raw_.subscriber_max_borrowed_samples; }
+  /** How many messages a publisher keeps for later subscribers. */
+  std::size_t history_size() const { return raw_.history_size; }
+  /** How many connections to closed publishers are kept. */
+  std::size_t subscriber_expired_connection_buffer() const { return raw_.subscriber_expired_connection_buffer; }
+  /** How many loans of a publisher may be out at a time. */
+  std::size_t publisher_max_loaned_samples() const { return raw_.publisher_max_loaned_samples; }
+  /** Whether a full buffer lets its oldest message go. */
+  bool enable_safe_overflow() const { return raw_.enable_safe_overflow != 0; }
+  /** What a publisher does at a full buffer where that isn't so. */
+  BackpressureStrategy backpressure_strategy() const { return static_cast<BackpressureStrategy>(raw_.backpressure_strategy); }
+
+  /** How many slots a publisher has that is made without options, or none where the number doesn't fit. */
+  std::optional<std::size_t> worst_case_slots() const { return worst_case_slots(raw_.publisher_max_loaned_samples); }
+
+  /** The same of one with so many loans. */
+  std::optional<std::size_t> worst_case_slots(std::size_t loans) const {
+    std::size_t slots = 0;
+    if (iox2ps_worst_case_slots(&raw_, loans, &slots) != IOX2PS_OK) return std::nullopt;
+    return slots;
+  }
+
+protected:
+  ServiceConfig() = default; /**< of no domain */
+
+  iox2ps_config_t raw_ = {}; /**< what C has of it */
+
+private:
+  friend struct detail::Raw;
+};
+
+/** The settings of a domain whose messages are of the type P, which begin as the defaults that
+ * iox2ps_config_defaults() says. */
+template <typename P> class Config : public ServiceConfig {
+public:
+  using Element = detail::Element<P>; /**< a value, of which a message has one or more */
+
+  /** The defaults of the domain with this number. The second number is how many values a slice may have, and counts for
+   * nothing where a message is one value. */
+  explicit Config(std::uint64_t id, std::size_t max_slice_len = 1) {
+    detail::check<P>();
+    std::size_t values = detail::is_slice<P> ? max_slice_len : 1;
+    iox2ps_config_defaults(&raw_, id, detail::bytes_of<Element>(values), alignof(Element));
+  }
+
+  using ServiceConfig::backpressure_strategy;
+  using ServiceConfig::enable_safe_overflow;
+  using ServiceConfig::history_size;
+  using ServiceConfig::max_publishers;
+  using ServiceConfig::max_subscribers;
+  using ServiceConfig::node_id;
+  using ServiceConfig::publisher_max_loaned_samples;
+  using ServiceConfig::service_id;
+  using ServiceConfig::subscriber_expired_connection_buffer;
+  using ServiceConfig::subscriber_max_borrowed_samples;
+  using ServiceConfig::subscriber_max_buffer_size;
+
+  /** Names the domain by more than 64 bits. */
+  Config &service_id(Id id) { return set(raw_.service_id, {id.low, id.high}); }
+  /** What the header of each message names. */
+  Config &node_id(Id id) { return set(raw_.node_id, {id.low, id.high}); }
+  /** How many publishers may be open at a time. */
+  Config &max_publishers(std::size_t value) { return set(raw_.max_publishers, value); }
+  /** How many subscribers there may be at a time. Each counts in the memory of each publisher. */
+  Config &max_subscribers(std::size_t value) { return set(raw_.max_subscribers, value); }
+  /** How many messages of one publisher may wait for a subscriber; 0 counts as 1. */
+  Config &subscriber_max_buffer_size(std::size_t value) { return set(raw_.subscriber_max_buffer_size, value); }
+  /** How many samples of one publisher a subscriber may hold. */
+  Config &subscriber_max_borrowed_samples(std::size_t value) { return set(raw_.subscriber_max_borrowed_samples, value); }
+  /** How many messages a publisher keeps for later subscribers. */
+  Config &history_size(std::size_t value) { return set(raw_.history_size, value); }
+  /** How many connections to closed publishers are kept. */
+  Config &subscriber_expired_connection_buffer(std::size_t value) {
+    return set(raw_.subscriber_expired_connection_buffer, value);
+  }
+  /** How many loans of a publisher may be out at a time. */
+  Config &publisher_max_loaned_samples(std::size_t value) { return set(raw_.publisher_max_loaned_samples, value); }
+  /** Whether a full buffer lets its oldest message go. It takes a bool and nothing that only converts to one. */
+  template <typename B, std::enable_if_t<std::is_same_v<B, bool>, int> = 0> Config &enable_safe_overflow(B value) {
+    return set(raw_.enable_safe_overflow, value ? 1u : 0u);
+  }
+  /** What a publisher does at a full buffer where that isn't so. */
+  Config &backpressure_strategy(BackpressureStrategy value) {
+    return set(raw_.backpressure_strategy, static_cast<std::uint32_t>(value));
+  }
+
+private:
+  template <typename T> Config &set(T &field, std::common_type_t<T> value) {
+    field = value;
+    return *this;
+  }
+};
+
+/** What one publisher has other than its domain's settings say. What isn't set is as in the domain. */
+template <typename P> class PublisherOptions {
+public:
+  /** How many loans may be out at a time. */
+  PublisherOptions &max_loaned_samples(std::size_t value) { return set(max_loaned_samples_, value); }
+  /** How many values a message may have, as long as memory isn't to grow. Where it may grow, 0 counts as 1. */
+  template <typename Q = P, std::enable_if_t<detail::is_slice<Q>, int> = 0>
+  PublisherOptions &initial_max_slice_len(std::size_t values) {
+    return set(initial_max_slice_len_, detail::bytes_of<detail::Element<P>>(values));
+  }
+  /** For how many slots it asks: it has so many, but no more than Config::worst_case_slots(); 0 asks for nothing. */
+  PublisherOptions &preallocated_samples(std::size_t value) { return set(preallocated_samples_, value); }
+  /** What it does at a full buffer where the domain doesn't overflow. */
+  PublisherOptions &backpressure_strategy(BackpressureStrategy value) { return set(backpressure_strategy_, value); }
+  /** What always answers there in place of the strategy. */
+  PublisherOptions &backpressure_handler(BackpressureAction value) { return set(backpressure_handler_, value); }
+  /** What it does where memory for a connection is refused. */
+  PublisherOptions &degradation_handler(DegradationAction value) { return set(degradation_, value); }
+  /** How its memory grows where a loan doesn't fit. */
+  PublisherOptions &allocation_strategy(AllocationStrategy value) { return set(allocation_strategy_, value); }
+
+private:
+  friend struct detail::Raw;
+
+  template <typename T> PublisherOptions &set(std::optional<T> &field, T value) {
+    field = value;
+    return *this;
+  }
+
+  iox2ps_publisher_options_t raw(const iox2ps_config_t &config) const {
+    iox2ps_publisher_options_t raw;
+    iox2ps_publisher_options_of(&config, &raw);
+    raw.max_loaned_samples = max_loaned_samples_.value_or(raw.max_loaned_samples);
+    raw.initial_max_slice_len = initial_max_slice_len_.value_or(raw.initial_max_slice_len);
+    raw.preallocated_samples = preallocated_samples_.value_or(raw.preallocated_samples);
+    put(raw.backpressure_strategy, backpressure_strategy_);
+    put(raw.backpressure_handler, backpressure_handler_);
+    put(raw.degradation, degradation_);
+    put(raw.allocation_strategy, allocation_strategy_);
+    bool grows = raw.allocation_strategy != IOX2PS_ALLOCATION_STATIC;
+    if (grows && raw.initial_max_slice_len == 0) raw.initial_max_slice_len = sizeof(detail::Element<P>);
+    return raw;
+  }
+
+  template <typename E> static void put(std::uint32_t &field, const std::optional<E> &value) {
+    if (value) field = static_cast<std::uint32_t>(*value);
+  }
+
+  std::optional<std::size_t> max_loaned_samples_, initial_max_slice_len_, preallocated_samples_;
+  std::optional<BackpressureStrategy> backpressure_strategy_;
+  std::optional<BackpressureAction> backpressure_handler_;
+  std::optional<DegradationAction> degradation_;
+  std::optional<AllocationStrategy> allocation_strategy_;
+};
+
+/** What one subscriber has other than its domain's settings say. What isn't set is as in the domain. */
+class SubscriberOptions {
+public:
+  /** How many messages of one publisher may wait; 0 counts as 1. */
+  SubscriberOptions &buffer_size(std::size_t value) {
+    buffer_size_ = value;
+    return *this;
+  }
+  /** What it does where memory for a connection is refused. */
+  SubscriberOptions &degradation_handler(DegradationAction value) {
+    degradation_ = value;
+    return *this;
+  }
+
+private:
+  friend struct detail::Raw;
+
+  iox2ps_subscriber_options_t raw(const iox2ps_config_t &config) const {
+    iox2ps_subscriber_options_t raw;
+    iox2ps_subscriber_options_of(&config, &raw);
+    raw.buffer_size = buffer_size_.value_or(raw.buffer_size);
+    if (degradation_) raw.degradation = static_cast<std::uint32_t>(*degradation_);
+    return raw;
+  }
+
+  std::optional<std::size_t> buffer_size_;
+  std::optional<DegradationAction> degradation_;
+};
+
+/** Where a message comes from. */
+struct Header {
+  Id node_id;                     /**< that of the settings */
+  Id publisher;                   /**< that of the publisher that sent it */
+  std::size_t number_of_elements; /**< how many values it has */
+};
+
+/** What a warning is of. */
+enum class WarningKind : std::uint32_t {
+  /** There is less room for closed publishers than samples that may be borrowed, which is taken in its place. */
+  ExpiredBufferRaised = IOX2PS_WARNING_EXPIRED_BUFFER_RAISED,
+  /** A publisher was made, and its first update of connections failed. */
+  PublisherPartlyConnected = IOX2PS_WARNING_PUBLISHER_PARTLY_CONNECTED,
+  /** A subscriber was made, and its first update of connections failed. */
+  SubscriberPartlyConnected = IOX2PS_WARNING_SUBSCRIBER_PARTLY_CONNECTED,
+  /** Memory for a connection was refused. */
+  ConnectionNotMade = IOX2PS_WARNING_CONNECTION_NOT_MADE,
+  /** Messages of a closed publisher were lost before they were received, for want of room for its connection. */
+  ExpiredDataDiscarded = IOX2PS_WARNING_EXPIRED_DATA_DISCARDED
+};
+
+/** The kind in words, which lie there for good. */
+inline const char *text(WarningKind kind) { return iox2ps_error_text(static_cast<std::uint32_t>(kind)); }
+
+/** Something that a domain did or left undone without failing the call. */
+struct Warning {
+  WarningKind kind;             /**< what it is of */
+  std::optional<Id> publisher;  /**< the publisher that it names */
+  std::optional<Id> subscriber; /**< the subscriber that it names */
+  std::optional<Error> failure; /**< how an update of connections failed, as ConnectionOutOfMemory */
+};
+
+namespace detail {
+
+inline Warning warning_of(const iox2ps_warning_t &raw) {
+  auto named = [](iox2ps_wide_t id) { return id_of(id) == Id{0, 0} ? std::optional<Id>() : id_of(id); };
+  return Warning{static_cast<WarningKind>(raw.kind), named(raw.publisher), named(raw.subscriber),
+                 raw.failure == 0 ? std::optional<Error>() : error_of(raw.failure)};
+}
+
+} // namespace detail
+
+} // namespace iox2ps
+
+#endif

@@ -1,0 +1,43 @@
+//! Says where the archive `libiox2_pubsub.a` lies, which `tools/bindings` makes: in the folder that `IOX2_PUBSUB_LIB_DIR`
+//! names, or in `lib` beside this crate's folder, or in `out/lib` there. Without it programs are checked and documented,
+//! but not linked.
+
+use std::env;
+use std::path::PathBuf;
+
+const ARCHIVE: &str = "libiox2_pubsub.a";
+
+fn folders() -> Vec<PathBuf> {
+    let here = PathBuf::from(env::var_os("CARGO_MANIFEST_DIR").expect("cargo sets it"));
+    match env::var_os("IOX2_PUBSUB_LIB_DIR") {
+        Some(folder) => vec![PathBuf::from(folder)],
+        None => vec![here.join("../lib"), here.join("../out/lib")],
+    }
+}
+
+fn main() {
+    println!("cargo:rerun-if-env-changed=IOX2_PUBSUB_LIB_DIR");
+    let folders = folders();
+    for folder in &folders {
+        println!("cargo:rerun-if-changed={}", folder.join(ARCHIVE).display());
+    }
+    match folders.iter().find(|folder| folder.join(ARCHIVE).exists()) {
+        Some(folder) => {
+            println!("cargo:rustc-link-search=native={}", folder.display());
+            println!("cargo:libdir={}", folder.display());
+        }
+        None => println!(
+            "cargo:warning={ARCHIVE} isn't in {folders:?}, so that nothing can be linked: run `tools/bindings build`, \
+             or set IOX2_PUBSUB_LIB_DIR to the folder that has it"
+        ),
+    }
+    let with_dds = env::var_os("CARGO_FEATURE_DDS").is_some();
+    if with_dds {
+        println!("cargo:rustc-link-lib=static=iox2_pubsub_dds");
+    }
+    println!("cargo:rustc-link-lib=static=iox2_pubsub");
+    if with_dds {
+        println!("cargo:rustc-link-lib=dylib=ddsc");
+        println!("cargo:rustc-link-lib=dylib=stdc++");
+    }
+}

@@ -1,0 +1,242 @@
+//! A domain under its lock, and those who wait in it.
+
+use crate::listeners::{is_listening, Listener, Listeners};
+use crate::lock::DomainLock;
+use crate::shared::Shared;
+use crate::sys::{self, Wide};
+use crate::threads::{Brings, Place, Wait, Waits};
+use crate::waiting::{Sleeper, WaitingList, Wake};
+use std::cell::UnsafeCell;
+use std::hint::spin_loop;
+use std::mem::replace;
+use std::sync::atomic::{AtomicUsize, Ordering};
+use std::task::Waker;
+use std::thread::yield_now;
+use std::time::Instant;
+
+/// A domain that threads share.
+#[doc(hidden)]
+#[allow(missing_debug_implementations)]
+pub struct Guarded<L> {
+    lock: L,
+    state: UnsafeCell<State>,
+    // What came so far: messages, and all else. These are read without the lock too.
+    messages: AtomicUsize,
+    others: AtomicUsize,
+}
+
+struct State {
+    shared: Shared,
+    waiting: WaitingList,
+    is_stopped: bool,
+}
+
+// SAFETY: the state is reached by `with` alone, where the lock lets one thread in at a time, and what it has may
+// go from thread to thread.
+unsafe impl<L: DomainLock> Sync for Guarded<L> {}
+unsafe impl<L: DomainLock> Send for Guarded<L> {}
+
+impl<L: DomainLock> Guarded<L> {
+    pub(crate) fn new(shared: Shared) -> Self {
+        Guarded {
+            lock: L::new(),
+            state: UnsafeCell::new(State {
+                shared,
+                waiting: WaitingList::default(),
+                is_stopped: false,
+            }),
+            messages: AtomicUsize::new(0),
+            others: AtomicUsize::new(0),
+        }
+    }
+
+    // What runs here is this crate's alone, and drops nothing of a user's.
+    #[inline]
+    fn with<R>(&self, run: impl FnOnce(&mut State) -> R) -> R {
+        // SAFETY: one thread at a time is here, and what runs doesn't come back here.
+        self.lock.hold(|| run(unsafe { &mut *self.state.get() }))
+    }
+
+    #[inline]
+    fn changes(&self, what: Waits) -> &AtomicUsize {
+        match what {
+            Waits::Message => &self.messages,
+            _ => &self.others,
+        }
+    }
+
+    // Under the lock: what a call that returned this code has brought, and whom to wake.
+    #[inline]
+    fn brought(&self, state: &mut State, brings: Brings, code: u32) {
+        let brings = match code {
+            // Those before the full buffer have got the message, and nothing has ended.
+            sys::BLOCKED => Brings(brings.0 & Brings::MESSAGE.0),
+            sys::NOT_LIVE | sys::NO_SAMPLE | sys::PUBLISHER_IS_BLOCKED => Brings::NOTHING,
+            _ => brings,
+        };
+        if brings.meets(Brings::MESSAGE) {
+            count(&self.messages);
+        }
+        if brings.0 & !Brings::MESSAGE.0 != 0 {
+            count(&self.others);
+        }
+        if brings != Brings::NOTHING && !state.waiting.is_empty() {
+            state.waiting.bring(brings);
+        }
+    }
+
+    #[inline]
+    fn next(state: &mut State) -> Wake {
+        if state.waiting.is_empty() {
+            return Wake::default();
+        }
+        state.waiting.next(L::WAKES_ALL)
+    }
+
+    // Looks for a change without the lock, for about as long as it takes to fall asleep.
+    fn looks_out(&self, what: Waits, seen: usize) -> bool {
+        for turn in 0..L::LOOKS {
+            if self.changes(what).load(Ordering::Relaxed) != seen {
+                return true;
+            }
+            match turn {
+                0..=6 => (0..1 << turn).for_each(|_| spin_loop()),
+                _ => yield_now(),
+            }
+        }
+        false
+    }
+
+    // Sleeps, unless something came since then. Returns whether it did, by whose name in the list.
+    fn sleep(&self, wait: &Wait, seen: usize) -> Option<std::sync::Arc<Sleeper>> {
+        let sleeper = Sleeper::own();
+        let listed = sleeper.clone();
+        let sleeps = self.with(|state| {
+            let sleeps = self.changes(wait.what).load(Ordering::Relaxed) == seen;
+            if sleeps {
+                state.waiting.add(wait.what, wait.port, listed);
+            }
+            sleeps
+        });
+        sleeps.then(|| {
+            sleeper.sleep(wait.until);
+            sleeper
+        })
+    }
+
+    /// No call waits any longer, or calls wait again.
+    pub(crate) fn stop_waits(&self, is_stopped: bool) {
+        let wake = self.with(|state| {
+            state.is_stopped = is_stopped;
+            count(&self.messages);
+            count(&self.others);
+            state.waiting.bring(Brings::ALL);
+            state.waiting.next(true)
+        });
+        wake.wake();
+    }
+
+    /// Makes calls, and lets this task be woken when a message may have come for the subscriber, where none is
+    /// there. `None` then.
+    pub(crate) fn poll(
+        &self,
+        port: Wide,
+        brings: Brings,
+        waker: &Waker,
+        calls: impl FnOnce(&mut Shared) -> u32,
+    ) -> Option<u32> {
+        let mut waker = Some(waker.clone());
+        let (code, waits, wake) = self.with(|state| {
+            let code = calls(&mut state.shared);
+            self.brought(state, brings, code);
+            let waits = code == sys::NO_SAMPLE && !state.is_stopped;
+            if waits {
+                waker = waker
+                    .take()
+                    .and_then(|waker| state.waiting.add_task(port, waker));
+            }
+            (code, waits, Self::next(state))
+        });
+        wake.wake();
+        (!waits).then_some(code)
+    }
+
+    /// This is called from now on when a message may have come for the subscriber, in place of what was before.
+    pub(crate) fn listen(&self, port: Wide, listener: Option<Listener>) {
+        let old = self.with(|state| {
+            let none = Listeners::default();
+            let listeners = state.waiting.listeners.as_deref().unwrap_or(&none);
+            let listeners = listeners.with(port, listener);
+            replace(&mut state.waiting.listeners, listeners)
+        });
+        drop(old);
+    }
+}
+
+impl<L: DomainLock> Place for Guarded<L> {
+    #[inline]
+    fn call(&self, brings: Brings, calls: impl FnOnce(&mut Shared) -> u32) -> u32 {
+        let (code, wake) = self.with(|state| {
+            let code = calls(&mut state.shared);
+            self.brought(state, brings, code);
+            (code, Self::next(state))
+        });
+        wake.wake();
+        code
+    }
+
+    fn wait(&self, wait: Wait, mut calls: impl FnMut(&mut Shared) -> u32) -> u32 {
+        let mut listed = None;
+        loop {
+            let (code, is_over, seen, wake) = self.with(|state| {
+                if let Some(sleeper) = listed.take() {
+                    state.waiting.remove(&sleeper);
+                }
+                let code = calls(&mut state.shared);
+                self.brought(state, wait.brings, code);
+                if code == sys::NO_SAMPLE {
+                    state.waiting.nothing_for(wait.port);
+                }
+                let is_over = !wait.what.goes_on(code) || state.is_stopped || is_past(wait.until);
+                let seen = self.changes(wait.what).load(Ordering::Relaxed);
+                (code, is_over, seen, Self::next(state))
+            });
+            wake.wake();
+            if is_over || is_listening() {
+                return code;
+            }
+            if !self.looks_out(wait.what, seen) {
+                listed = self.sleep(&wait, seen);
+            }
+        }
+    }
+
+    fn forget(&self, port: Wide) {
+        let gone = self.with(|state| {
+            if state.waiting.is_empty() {
+                return None;
+            }
+            let none = Listeners::default();
+            let listeners = state
+                .waiting
+                .listeners
+                .as_deref()
+                .unwrap_or(&none)
+                .with(port, None);
+            let listeners = replace(&mut state.waiting.listeners, listeners);
+            Some((listeners, state.waiting.remove_tasks(port)))
+        });
+        drop(gone);
+    }
+}
+
+// Under the lock, so that nothing is lost between the two.
+#[inline]
+fn count(changes: &AtomicUsize) {
+    let next = changes.load(Ordering::Relaxed).wrapping_add(1);
+    changes.store(next, Ordering::Relaxed);
+}
+
+fn is_past(until: Option<Instant>) -> bool {
+    matches!(until, Some(until) if until <= Instant::now())
+}

@@ -1,0 +1,168 @@
+//! A lock that is brought, and handles that borrow their domain.
+
+use iox2_pubsub::{
+    BackpressureStrategy, Borrowed, Domain, DomainLock, Loan, ManyThreads, Publisher, Sample,
+    Subscriber, Threads,
+};
+use std::cell::UnsafeCell;
+use std::ffi::c_void;
+use std::thread;
+use std::time::Duration;
+
+extern "C" {
+    fn pthread_mutexattr_init(attributes: *mut c_void) -> i32;
+    fn pthread_mutexattr_destroy(attributes: *mut c_void) -> i32;
+    fn pthread_mutexattr_setprotocol(attributes: *mut c_void, protocol: i32) -> i32;
+    fn pthread_mutexattr_getprotocol(attributes: *const c_void, protocol: *mut i32) -> i32;
+    fn pthread_mutex_init(mutex: *mut c_void, attributes: *const c_void) -> i32;
+    fn pthread_mutex_destroy(mutex: *mut c_void) -> i32;
+    fn pthread_mutex_lock(mutex: *mut c_void) -> i32;
+    fn pthread_mutex_unlock(mutex: *mut c_void) -> i32;
+}
+
+const PTHREAD_PRIO_INHERIT: i32 = 1;
+
+// Lends its holder the priority of whoever waits for it. The C library's mutex has 40 bytes, and stays where it is.
+struct Inheriting(Box<UnsafeCell<[u64; 16]>>);
+
+// SAFETY: a mutex is for many threads.
+unsafe impl Send for Inheriting {}
+unsafe impl Sync for Inheriting {}
+
+struct Unlock<'l>(&'l Inheriting);
+
+impl Drop for Unlock<'_> {
+    fn drop(&mut self) {
+        // SAFETY: it was taken.
+        assert_eq!(unsafe { pthread_mutex_unlock(self.0 .0.get().cast()) }, 0);
+    }
+}
+
+// SAFETY: it is a mutex.
+unsafe impl DomainLock for Inheriting {
+    const WAKES_ALL: bool = true;
+    const LOOKS: u32 = 0;
+
+    fn new() -> Self {
+        let lock = Inheriting(Box::new(UnsafeCell::new([0; 16])));
+        let (mut attributes, mut protocol) = ([0u64; 8], 0);
+        let at: *mut c_void = attributes.as_mut_ptr().cast();
+        // SAFETY: the pointers are of places with room enough.
+        unsafe {
+            assert_eq!(pthread_mutexattr_init(at), 0);
+            assert_eq!(pthread_mutexattr_setprotocol(at, PTHREAD_PRIO_INHERIT), 0);
+            assert_eq!(pthread_mutexattr_getprotocol(at, &mut protocol), 0);
+            assert_eq!(protocol, PTHREAD_PRIO_INHERIT);
+            assert_eq!(pthread_mutex_init(lock.0.get().cast(), at), 0);
+            assert_eq!(pthread_mutexattr_destroy(at), 0);
+        }
+        lock
+    }
+
+    fn hold<R>(&self, run: impl FnOnce() -> R) -> R {
+        // SAFETY: it was made.
+        assert_eq!(unsafe { pthread_mutex_lock(self.0.get().cast()) }, 0);
+        let _unlock = Unlock(self);
+        run()
+    }
+}
+
+impl Drop for Inheriting {
+    fn drop(&mut self) {
+        // SAFETY: nobody has it.
+        assert_eq!(unsafe { pthread_mutex_destroy(self.0.get().cast()) }, 0);
+    }
+}
+
+fn keeping() -> iox2_pubsub::DomainBuilder<u64> {
+    Domain::<u64>::builder(1)
+        .enable_safe_overflow(false)
+        .backpressure_strategy(BackpressureStrategy::RetryUntilDelivered)
+}
+
+// Two producers and four consumers, each of whom gets all in order.
+fn all_in_order<M>(domain: &Domain<u64, M>)
+where
+    M: iox2_pubsub::MayWait,
+    Publisher<u64, M>: Sync,
+    Subscriber<u64, M>: Sync,
+{
+    const MESSAGES: u64 = 1000;
+    let publishers = [domain.publisher().unwrap(), domain.publisher().unwrap()];
+    let subscribers: Vec<_> = (0..4).map(|_| domain.subscriber().unwrap()).collect();
+    thread::scope(|scope| {
+        for (of, publisher) in publishers.iter().enumerate() {
+            scope.spawn(move || {
+                for number in 0..MESSAGES {
+                    let loan = publisher.blocking_loan_uninit().unwrap();
+                    let loan = loan.write_payload(number << 1 | of as u64);
+                    assert_eq!(loan.blocking_send().unwrap().delivered(), Some(4));
+                }
+            });
+        }
+        for subscriber in &subscribers {
+            scope.spawn(move || {
+                let mut next = [0, 0];
+                for sample in subscriber.blocking_iter().take(2 * MESSAGES as usize) {
+                    let value = *sample.unwrap();
+                    assert_eq!(value >> 1, next[(value & 1) as usize]);
+                    next[(value & 1) as usize] += 1;
+                }
+                assert_eq!(next, [MESSAGES; 2]);
+            });
+        }
+    });
+}
+
+#[test]
+fn a_lock_with_inheritance_is_brought() {
+    let domain = keeping().create_with_lock::<Inheriting>().unwrap();
+    all_in_order(&domain);
+    let subscriber = domain.subscriber().unwrap();
+    let waits = Duration::from_millis(5);
+    assert!(subscriber.timed_receive(waits).unwrap().is_none());
+    thread::scope(|scope| {
+        let receives = scope.spawn(|| subscriber.blocking_receive().unwrap().is_none());
+        thread::sleep(waits);
+        domain.stop_waits(true);
+        assert!(receives.join().unwrap());
+    });
+}
+
+#[test]
+fn handles_of_threads_may_borrow_their_domain() {
+    fn goes<T: Send + Sync>() {}
+    goes::<Publisher<u64, Borrowed<'_, ManyThreads>>>();
+    goes::<Loan<u64, Borrowed<'_, ManyThreads>>>();
+    goes::<Sample<[u8], Borrowed<'_, ManyThreads<Inheriting>>>>();
+    let domain = keeping().create_shared().unwrap();
+    all_in_order(&domain.borrowed());
+    all_in_order(&domain.borrowed().borrowed());
+    all_in_order(&domain);
+    assert_eq!(domain.book_count(), 0);
+}
+
+fn passes<M: Threads>(domain: &Domain<u64, M>) {
+    let (publisher, subscriber) = (domain.publisher().unwrap(), domain.subscriber().unwrap());
+    let mut loan = publisher.loan().unwrap();
+    *loan = 7;
+    assert_eq!(loan.send().unwrap().delivered(), Some(1));
+    let sample = subscriber.receive().unwrap().unwrap();
+    drop((publisher, subscriber));
+    assert_eq!(*sample, 7);
+    assert_eq!(domain.book_count(), 1);
+    drop(sample);
+    assert_eq!(domain.book_count(), 0);
+}
+
+#[test]
+fn handles_of_one_thread_may_borrow_their_domain() {
+    let domain = Domain::<u64>::builder(1).create().unwrap();
+    passes(&domain.borrowed());
+    passes(&domain);
+    // Both kinds are of one domain.
+    let publisher = domain.borrowed().publisher().unwrap();
+    let subscriber = domain.subscriber().unwrap();
+    assert_eq!(publisher.send_copy(3).unwrap().delivered(), Some(1));
+    assert_eq!(subscriber.receive_copy().unwrap(), Some(3));
+}

@@ -1,0 +1,347 @@
+//! Calls that wait for loans, waits that are stopped, times of all lengths, and domains that go meanwhile.
+
+use iox2_pubsub::{
+    BackpressureStrategy, Domain, LoanError, ManyThreads, Publisher, SendError, SharedDomain,
+};
+use std::sync::atomic::{AtomicUsize, Ordering};
+use std::sync::mpsc;
+use std::thread;
+use std::time::{Duration, Instant};
+
+const MOMENT: Duration = Duration::from_millis(20);
+
+// Whose full buffers block.
+fn keeping(buffer: usize) -> SharedDomain<u64> {
+    Domain::<u64>::builder(1)
+        .enable_safe_overflow(false)
+        .backpressure_strategy(BackpressureStrategy::RetryUntilDelivered)
+        .subscriber_max_buffer_size(buffer)
+        .subscriber_max_borrowed_samples(8)
+        .create_shared()
+        .unwrap()
+}
+
+// A thread lends once `ends` has been called, and not before.
+fn lends_after(publisher: &Publisher<u64, ManyThreads>, ends: impl FnOnce()) {
+    thread::scope(|scope| {
+        let lends = scope.spawn(|| publisher.blocking_loan_uninit().map(drop));
+        thread::sleep(MOMENT);
+        assert!(!lends.is_finished());
+        ends();
+        assert_eq!(lends.join().unwrap(), Ok(()));
+    });
+}
+
+#[test]
+fn a_loan_waits_for_a_loan_that_is_given_back_or_sent() {
+    let domain = keeping(2);
+    let publisher = domain.publisher().unwrap();
+    let mut out = vec![publisher.loan().unwrap(), publisher.loan().unwrap()];
+    assert_eq!(
+        publisher.timed_loan_uninit(MOMENT).unwrap_err(),
+        LoanError::ExceedsMaxLoans
+    );
+    lends_after(&publisher, || drop(out.pop()));
+    out.push(publisher.loan().unwrap());
+    let sent = out.pop().unwrap();
+    lends_after(&publisher, || {
+        assert_eq!(sent.send().unwrap().delivered(), Some(0));
+    });
+}
+
+#[test]
+fn a_loan_waits_for_a_slot_that_is_released() {
+    let domain = keeping(2);
+    let publisher = domain
+        .publisher_builder()
+        .override_sample_preallocation(|_| 1)
+        .create()
+        .unwrap();
+    let subscriber = domain.subscriber().unwrap();
+    publisher.send_copy(1).unwrap().delivered();
+    let sample = subscriber.receive().unwrap().unwrap();
+    assert_eq!(
+        publisher.timed_loan_uninit(MOMENT).unwrap_err(),
+        LoanError::OutOfMemory
+    );
+    assert_eq!(
+        publisher.timed_send_copy(2, MOMENT).unwrap_err(),
+        SendError::LoanError(LoanError::OutOfMemory)
+    );
+    lends_after(&publisher, || drop(sample));
+    publisher.send_copy(3).unwrap().delivered();
+    lends_after(&publisher, || {
+        assert_eq!(subscriber.receive_copy().unwrap(), Some(3));
+    });
+    publisher.send_copy(4).unwrap().delivered();
+    lends_after(&publisher, || drop(subscriber));
+}
+
+#[test]
+fn a_loan_waits_for_the_end_of_a_send() {
+    let domain = keeping(1);
+    let publisher = domain.publisher().unwrap();
+    let subscriber = domain.subscriber().unwrap();
+    publisher.send_copy(1).unwrap().delivered();
+    let blocked = publisher.send_copy(2).unwrap().blocked().unwrap();
+    assert_eq!(
+        publisher.timed_loan_uninit(MOMENT).unwrap_err(),
+        LoanError::PublisherIsBlocked
+    );
+    lends_after(&publisher, || {
+        assert_eq!(blocked.give_up().unwrap().delivered(), Some(0));
+    });
+    let blocked = publisher.send_copy(3).unwrap().blocked().unwrap();
+    lends_after(&publisher, || {
+        assert_eq!(subscriber.receive_copy().unwrap(), Some(1));
+        let retried = blocked.retry(Duration::ZERO).unwrap();
+        assert_eq!(retried.delivered(), Some(1));
+    });
+    let blocked = publisher.send_copy(4).unwrap().blocked().unwrap();
+    lends_after(&publisher, || drop(blocked));
+}
+
+#[test]
+fn a_loan_of_a_slice_waits_and_one_that_is_too_long_does_not() {
+    let domain = Domain::<[u8]>::slice_builder(1)
+        .max_slice_len(4)
+        .create_shared()
+        .unwrap();
+    let publisher = domain.publisher().unwrap();
+    let _out = [
+        publisher.loan_slice(4).unwrap(),
+        publisher.loan_slice(4).unwrap(),
+    ];
+    assert_eq!(
+        publisher.blocking_loan_slice_uninit(5).unwrap_err(),
+        LoanError::ExceedsMaxLoanSize
+    );
+    assert_eq!(
+        publisher.timed_loan_slice_uninit(4, MOMENT).unwrap_err(),
+        LoanError::ExceedsMaxLoans
+    );
+    domain.stop_waits(true);
+    assert_eq!(
+        publisher.blocking_loan_slice_uninit(4).unwrap_err(),
+        LoanError::ExceedsMaxLoans
+    );
+}
+
+#[test]
+fn many_threads_lend_and_send_by_one_publisher() {
+    const EACH: u64 = 500;
+    let domain = keeping(2);
+    let publisher = domain
+        .publisher_builder()
+        .max_loaned_samples(1)
+        .create()
+        .unwrap();
+    let subscriber = domain.subscriber().unwrap();
+    thread::scope(|scope| {
+        for of in 0..8 {
+            let publisher = &publisher;
+            scope.spawn(move || {
+                for number in 0..EACH {
+                    let loan = publisher.blocking_loan_uninit().unwrap();
+                    let loan = loan.write_payload(of * EACH + number);
+                    let sent = loan.blocking_send().unwrap();
+                    assert_eq!(sent.delivered(), Some(1));
+                }
+            });
+        }
+        let mut all: Vec<u64> = (0..8 * EACH)
+            .map(|_| subscriber.blocking_receive_copy().unwrap().unwrap())
+            .collect();
+        all.sort_unstable();
+        assert!(all.into_iter().eq(0..8 * EACH));
+    });
+}
+
+#[test]
+fn each_of_sixteen_that_wait_is_woken() {
+    let domain = Domain::<u64>::builder(1)
+        .max_subscribers(16)
+        .create_shared()
+        .unwrap();
+    let publisher = domain.publisher().unwrap();
+    let subscribers: Vec<_> = (0..16).map(|_| domain.subscriber().unwrap()).collect();
+    for round in 0..20 {
+        thread::scope(|scope| {
+            for subscriber in &subscribers {
+                scope.spawn(move || {
+                    assert_eq!(subscriber.blocking_receive_copy().unwrap(), Some(round));
+                });
+            }
+            thread::sleep(Duration::from_millis(2));
+            assert_eq!(publisher.send_copy(round).unwrap().delivered(), Some(16));
+        });
+    }
+}
+
+#[test]
+fn threads_of_one_subscriber_get_each_message_once_though_their_time_is_up() {
+    const MESSAGES: usize = 4000;
+    let domain = keeping(4);
+    let publisher = domain.publisher().unwrap();
+    let subscriber = domain.subscriber().unwrap();
+    let received = AtomicUsize::new(0);
+    thread::scope(|scope| {
+        for thread in 0..6 {
+            let (received, subscriber) = (&received, &subscriber);
+            scope.spawn(move || {
+                while received.load(Ordering::SeqCst) < MESSAGES {
+                    let time = Duration::from_micros(30 * thread);
+                    if subscriber.timed_receive(time).unwrap().is_some() {
+                        received.fetch_add(1, Ordering::SeqCst);
+                    }
+                }
+            });
+        }
+        for number in 0..MESSAGES as u64 {
+            publisher.blocking_send_copy(number).unwrap().delivered();
+        }
+    });
+    assert_eq!(received.load(Ordering::SeqCst), MESSAGES);
+}
+
+#[test]
+fn one_message_wakes_no_thread_for_good() {
+    let domain = keeping(4);
+    let publisher = domain.publisher().unwrap();
+    let subscriber = domain.subscriber().unwrap();
+    let (tell, told) = mpsc::channel();
+    thread::scope(|scope| {
+        for _ in 0..3 {
+            let (tell, subscriber) = (tell.clone(), &subscriber);
+            scope.spawn(move || {
+                while let Some(number) = subscriber.blocking_receive_copy().unwrap() {
+                    tell.send(number).unwrap();
+                }
+            });
+        }
+        for number in 0..100 {
+            thread::sleep(Duration::from_micros(500));
+            publisher.send_copy(number).unwrap().delivered();
+            assert_eq!(told.recv_timeout(Duration::from_secs(5)), Ok(number));
+        }
+        domain.stop_waits(true);
+    });
+}
+
+#[test]
+fn waits_are_stopped_twice_and_taken_back() {
+    let domain = keeping(1);
+    let subscriber = domain.subscriber().unwrap();
+    let publisher = domain.publisher().unwrap();
+    for _ in 0..2 {
+        domain.stop_waits(true);
+        domain.stop_waits(true);
+        assert_eq!(subscriber.blocking_receive_copy().unwrap(), None);
+        domain.stop_waits(false);
+        domain.stop_waits(false);
+        thread::scope(|scope| {
+            let receives = scope.spawn(|| subscriber.blocking_receive_copy().unwrap());
+            thread::sleep(MOMENT);
+            assert!(!receives.is_finished());
+            publisher.send_copy(7).unwrap().delivered();
+            assert_eq!(receives.join().unwrap(), Some(7));
+        });
+    }
+    // Many waits at a time are stopped, and taken back at once: each ends or goes on.
+    thread::scope(|scope| {
+        let waits: Vec<_> = (0..8)
+            .map(|_| scope.spawn(|| subscriber.blocking_receive_copy().unwrap()))
+            .collect();
+        thread::sleep(MOMENT);
+        domain.stop_waits(true);
+        domain.stop_waits(false);
+        thread::sleep(MOMENT);
+        domain.stop_waits(true);
+        for wait in waits {
+            assert_eq!(wait.join().unwrap(), None);
+        }
+    });
+}
+
+#[test]
+fn times_of_zero_and_of_the_greatest_length() {
+    let domain = keeping(1);
+    let subscriber = domain.subscriber().unwrap();
+    let publisher = domain.publisher().unwrap();
+    let zero = Duration::ZERO;
+    let started = Instant::now();
+    assert_eq!(subscriber.timed_receive_copy(zero).unwrap(), None);
+    assert!(subscriber.timed_receive(zero).unwrap().is_none());
+    let first = publisher.timed_send_copy(1, zero).unwrap();
+    assert_eq!(first.delivered(), Some(1));
+    let loan = publisher.timed_loan_uninit(zero).unwrap().write_payload(2);
+    let second = loan.timed_send(zero).unwrap().timed_wait(zero).unwrap();
+    let blocked = second.blocked().unwrap().timed_retry(zero).unwrap();
+    let blocked = blocked.blocked().unwrap();
+    assert_eq!(
+        publisher.timed_loan_uninit(zero).unwrap_err(),
+        LoanError::PublisherIsBlocked
+    );
+    assert!(started.elapsed() < Duration::from_secs(5));
+    let greatest = Duration::MAX;
+    thread::scope(|scope| {
+        let retries = scope.spawn(|| blocked.timed_retry(greatest).unwrap().delivered());
+        let sends = scope.spawn(|| {
+            let loan = publisher.timed_loan_uninit(greatest).unwrap();
+            let sent = loan.write_payload(3).timed_send(greatest).unwrap();
+            sent.delivered()
+        });
+        for number in 1..4 {
+            let received = subscriber.timed_receive_copy(greatest).unwrap();
+            assert_eq!(received, Some(number));
+        }
+        assert_eq!(retries.join().unwrap(), Some(1));
+        assert_eq!(sends.join().unwrap(), Some(1));
+    });
+}
+
+#[test]
+fn a_loan_comes_back_where_the_time_is_up() {
+    let domain = keeping(1);
+    let publisher = domain.publisher().unwrap();
+    let subscriber = domain.subscriber().unwrap();
+    let loan = publisher.loan_uninit().unwrap().write_payload(3);
+    publisher.send_copy(1).unwrap().delivered();
+    let blocked = publisher.send_copy(2).unwrap().blocked().unwrap();
+    let unsent = loan.timed_send(MOMENT).unwrap_err();
+    assert_eq!(unsent.error(), SendError::PublisherIsBlocked);
+    assert_eq!(
+        unsent.to_string(),
+        SendError::PublisherIsBlocked.to_string()
+    );
+    let loan = unsent.into_loan().unwrap();
+    domain.stop_waits(true);
+    assert_eq!(
+        loan.blocking_send().unwrap_err(),
+        SendError::PublisherIsBlocked
+    );
+    drop(blocked);
+    // That loan is spent, so that two may be had.
+    let _two = [publisher.loan().unwrap(), publisher.loan().unwrap()];
+    assert_eq!(subscriber.receive_copy().unwrap(), Some(1));
+}
+
+#[test]
+fn a_domain_that_is_dropped_while_others_wait_stays_for_them() {
+    let domain = keeping(1);
+    let publisher = domain.publisher().unwrap();
+    let subscriber = domain.subscriber().unwrap();
+    let receives = thread::spawn(move || {
+        let first = subscriber.blocking_receive_copy().unwrap();
+        let second = subscriber.blocking_receive().unwrap();
+        (first, second.map(|sample| *sample))
+    });
+    thread::sleep(MOMENT);
+    drop(domain);
+    thread::sleep(MOMENT);
+    assert!(!receives.is_finished());
+    publisher.send_copy(1).unwrap().delivered();
+    publisher.blocking_send_copy(2).unwrap().delivered();
+    drop(publisher);
+    assert_eq!(receives.join().unwrap(), (Some(1), Some(2)));
+}
