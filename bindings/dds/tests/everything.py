@@ -22,7 +22,7 @@ grind = "valgrind --quiet --leak-check=full --error-exitcode=9 --errors-for-leak
 # Tests that look at one thing each, with few messages.
 few = ["small", "several", "large", "overflow", "both_ways", "late_joiner", "receiver_killed", "sender_killed", "typed_values",
        "bad_frames", "other_struct", "same_name_other_structure", "second_gateway", "many_domains", "gateways_come_and_go",
-       "threads", "c_calls", "leaves_full"]
+       "threads", "c_calls", "with_security", "leaves_full"]
 ground = ["typed_values", "several", "bad_frames", "other_struct", "second_gateway", "many_domains", "late_joiner", "c_calls"]
 
 def run(words, limit=120, **more):

@@ -4,7 +4,9 @@ builds them. The last line is `N passed, M failed`. Each process has a time limi
 
 Of the environment: WRAP is put before each program with a gateway (valgrind ..), SLOWER multiplies the time limits, and FEW
 makes it fewer messages."""
-import os, sys, time
+import os, shutil, sys, time
+
+import security
 from processes import end, end_all, few, slower, start, topic, uri, wait_for, work
 
 def sound(got):
@@ -204,6 +206,25 @@ def gateways_come_and_go():
     assert got == {"opened": 20, "blocked": 1}, got
     return "20 in %.1f s" % took
 
+def with_security():
+    """Cyclone's DDS Security: programs with certificates talk, one without isn't met, and one may only use its own topic."""
+    if not shutil.which("openssl"): return "not run, since openssl isn't there"
+    name, folder, count = topic(), work, 20 if few else 200
+    security.authority(folder)
+    for who, topics in (("one", "*"), ("two", "*"), ("three", "something/else")): security.program(folder, who, topics)
+    where = lambda who: uri(extra=security.settings(folder, who))
+    to = start("peer", "receive", where("one"), topic=name, mode="retry", expect=count, max=64)
+    outsider = start("cases", "look", topic=name, mode="retry", hold=3)
+    of = start("peer", "send", where("two"), topic=name, mode="retry", count=count, len=64, hold=2)
+    sent, got, seen = end(of), end(to), end(outsider)
+    sound(got)
+    assert got["good"] == count and sent["sent"] == count and seen["readers"] == seen["writers"] == seen["received"] == 0, (got, seen)
+    third = start("cases", "look", where("three"), topic=name, hold=1)
+    try: end(third)
+    except AssertionError: pass
+    assert third.returncode == 3 and name in third.err, (third.returncode, third.err)
+    return "%d came, one without a certificate met nobody, another's topic was refused: %s" % (count, third.err.strip().splitlines()[-1])
+
 def c_calls():
     """A program in C, polled and with threads of its gateway's own under a lock of the program's."""
     for how in ("polled", "threads"):
@@ -286,7 +307,7 @@ def stalled_reader():
 tests = [small, several, large, empty_buffers, slow_reader, overflow, both_ways, late_joiner, without_history, receiver_killed,
          sender_killed, typed_values, bad_frames, bad_frames_for_values, hostile_lengths, other_payload_size, other_struct,
          only_known, other_type, same_name_other_structure, other_qos, second_gateway, many_domains, gateways_come_and_go,
-         woken, best_effort, c_calls, threads, leaves_full, stalled_reader]
+         with_security, woken, best_effort, c_calls, threads, leaves_full, stalled_reader]
 
 if __name__ == "__main__":
     chosen = [test for test in tests if test.__name__ in sys.argv[2:]] if len(sys.argv) > 2 else tests
