@@ -1,17 +1,17 @@
-/* One thread sends, and two receive, under a lock that this program brings: what iox2_pubsub.h says of threads, in the
- * smallest form. Messages are written and read without the lock. Nothing is lost, since a send waits where a buffer is
- * full, and what waits, waits at a condition variable. */
+/* Two threads send by one publisher, which has one loan at a time, and two receive, under a lock that this program brings: what
+ * iox2_pubsub.h says of threads, in the smallest form. Messages are written and read without the lock. Nothing is lost,
+ * since a send waits where a buffer is full, and a loan while there is none: at a condition variable. */
 #include "iox2_pubsub.h"
 #include <pthread.h>
 #include <stdio.h>
 #include <stdlib.h>
 
-typedef struct { uint64_t number; double values[7]; } reading_t;
+typedef struct { uint64_t producer, number; double values[6]; } reading_t;
 
-enum { MESSAGES = 1000, CONSUMERS = 2 };
+enum { MESSAGES = 1000, PRODUCERS = 2, CONSUMERS = 2 };
 
 static pthread_mutex_t lock = PTHREAD_MUTEX_INITIALIZER;
-static pthread_cond_t changed = PTHREAD_COND_INITIALIZER; /* a message came, or there is room */
+static pthread_cond_t changed = PTHREAD_COND_INITIALIZER; /* a message came, or there is room, or a loan */
 static iox2ps_domain_t domain;
 static iox2ps_publisher_t publisher;
 
@@ -29,8 +29,12 @@ static void end(int may_help) {
 }
 static void wait_for_change(void) { check(pthread_cond_wait(&changed, &lock) == 0, "no wait"); }
 
-static void *produce(void *unused) {
-  (void)unused;
+static int waits_for_loan(iox2ps_status_t code) {
+  return code == IOX2PS_LOAN_ERROR_EXCEEDS_MAX_LOANS || code == IOX2PS_PUBLISHER_IS_BLOCKED;
+}
+
+static void *produce(void *given) {
+  uint64_t producer = *(const uint64_t *)given;
   for (uint64_t number = 0; number < MESSAGES; number++) {
     iox2ps_loan_t loan;
     iox2ps_blocked_t blocked;
@@ -38,11 +42,15 @@ static void *produce(void *unused) {
     size_t receivers = 0;
 
     begin();
-    uint32_t code = iox2ps_publisher_loan(&domain, &publisher, sizeof(reading_t), &loan, &payload);
+    iox2ps_status_t code = iox2ps_publisher_loan(&domain, &publisher, sizeof(reading_t), &loan, &payload);
+    while (waits_for_loan(code)) {
+      wait_for_change();
+      code = iox2ps_publisher_loan(&domain, &publisher, sizeof(reading_t), &loan, &payload);
+    }
     end(0);
     check(code == IOX2PS_OK, iox2ps_error_text(code));
 
-    *(reading_t *)payload = (reading_t){.number = number, .values = {0.5}}; /* without the lock */
+    *(reading_t *)payload = (reading_t){producer, number, {0.5}}; /* without the lock */
 
     begin();
     code = iox2ps_loan_send(&domain, &loan, &receivers, &blocked);
@@ -59,13 +67,14 @@ static void *produce(void *unused) {
 
 static void *consume(void *given) {
   const iox2ps_subscriber_t *subscriber = given;
-  for (uint64_t number = 0; number < MESSAGES; number++) {
+  uint64_t next[PRODUCERS] = {0};
+  for (int message = 0; message < PRODUCERS * MESSAGES; message++) {
     iox2ps_sample_t sample;
     const void *payload;
     size_t len;
 
     begin();
-    uint32_t code = iox2ps_subscriber_receive(&domain, subscriber, &sample, &payload, &len);
+    iox2ps_status_t code = iox2ps_subscriber_receive(&domain, subscriber, &sample, &payload, &len);
     while (code == IOX2PS_NO_SAMPLE) {
       wait_for_change();
       code = iox2ps_subscriber_receive(&domain, subscriber, &sample, &payload, &len);
@@ -73,7 +82,8 @@ static void *consume(void *given) {
     end(1);
     check(code == IOX2PS_OK, iox2ps_error_text(code));
 
-    check(((const reading_t *)payload)->number == number, "a message isn't the next"); /* without the lock */
+    const reading_t *reading = payload; /* without the lock */
+    check(reading->number == next[reading->producer]++, "a message isn't the next");
 
     begin();
     code = iox2ps_sample_release(&domain, &sample);
@@ -86,19 +96,24 @@ static void *consume(void *given) {
 int main(void) {
   iox2ps_config_t config;
   iox2ps_subscriber_t subscribers[CONSUMERS];
-  pthread_t producer, consumers[CONSUMERS];
+  uint64_t names[PRODUCERS];
+  pthread_t producers[PRODUCERS], consumers[CONSUMERS];
   iox2ps_config_defaults(&config, 1, sizeof(reading_t), _Alignof(reading_t));
   config.enable_safe_overflow = 0;
+  config.publisher_max_loaned_samples = 1;
   check(iox2ps_domain_create(&domain, &config) == IOX2PS_OK, "no domain");
   check(iox2ps_publisher_create(&domain, &publisher) == IOX2PS_OK, "no publisher");
   for (int i = 0; i < CONSUMERS; i++) {
     check(iox2ps_subscriber_create(&domain, &subscribers[i]) == IOX2PS_OK, "no subscriber");
   }
   for (int i = 0; i < CONSUMERS; i++) check(pthread_create(&consumers[i], NULL, consume, &subscribers[i]) == 0, "no thread");
-  check(pthread_create(&producer, NULL, produce, NULL) == 0, "no thread");
-  pthread_join(producer, NULL);
+  for (int i = 0; i < PRODUCERS; i++) {
+    names[i] = (uint64_t)i;
+    check(pthread_create(&producers[i], NULL, produce, &names[i]) == 0, "no thread");
+  }
+  for (int i = 0; i < PRODUCERS; i++) pthread_join(producers[i], NULL);
   for (int i = 0; i < CONSUMERS; i++) pthread_join(consumers[i], NULL);
   check(iox2ps_domain_destroy(&domain) == IOX2PS_OK, "no domain"); /* all threads have ended */
-  printf("%d messages reached %d threads\n", MESSAGES, CONSUMERS);
+  printf("%d messages reached %d threads\n", PRODUCERS * MESSAGES, CONSUMERS);
   return 0;
 }

@@ -1,6 +1,7 @@
 /* Domains that several threads use, by the C++ handles. */
 #include "iox2_pubsub_shared.hpp"
 #include <array>
+#include <atomic>
 #include <cstdio>
 #include <cstdlib>
 #include <thread>
@@ -133,6 +134,149 @@ void each_gets_all_in_order() {
   for (auto &thread : threads) thread.join();
 }
 
+/* A loan waits until this was called, and not longer. */
+template <typename Ends> void lends_after(iox2ps::Publisher<Message, M> &publisher, Ends ends) {
+  std::atomic<bool> has_lent{false};
+  std::thread lends([&] {
+    auto loan = publisher.blocking_loan();
+    CHECK(loan && *loan);
+    has_lent = true;
+  });
+  std::this_thread::sleep_for(20ms);
+  CHECK(!has_lent);
+  ends();
+  lends.join();
+}
+
+void loans_wait() {
+  auto domain = keeping(1);
+  auto publisher = domain.publisher().expect("a publisher");
+  auto subscriber = domain.subscriber().expect("a subscriber");
+  auto first = publisher.loan(message(1)).expect("a loan");
+  auto second = publisher.loan(message(2)).expect("a loan");
+  CHECK(publisher.timed_loan(20ms).error() == iox2ps::Error::LoanExceedsMaxLoans);
+  lends_after(publisher, [&] { first.discard(); });
+  first = publisher.loan(message(1)).expect("a loan");
+  lends_after(publisher, [&] { CHECK(first.send().expect("a send").delivered() == 1u); });
+  auto waits = blocked(second.send());
+  CHECK(publisher.timed_send_copy(message(3), 1ms).error() == iox2ps::Error::PublisherIsBlocked);
+  lends_after(publisher, [&] { CHECK(waits.give_up().expect("an end") == 0u); });
+  CHECK(first_of(subscriber.receive()) == 1);
+}
+
+void loans_wait_for_slots() {
+  auto domain = keeping(1);
+  auto publisher = domain.publisher(iox2ps::PublisherOptions<Message>().preallocated_samples(1)).expect("a publisher");
+  auto subscriber = domain.subscriber().expect("a subscriber");
+  CHECK(publisher.send_copy(message(1)).expect("a send").delivered() == 1u);
+  auto sample = std::move(*subscriber.receive().expect("a receive"));
+  CHECK(publisher.timed_loan(0ns).error() == iox2ps::Error::LoanOutOfMemory);
+  lends_after(publisher, [&] { sample.release(); });
+  CHECK(publisher.send_copy(message(2)).expect("a send").delivered() == 1u);
+  lends_after(publisher, [&] { CHECK((*subscriber.receive_copy().expect("a receive"))[0] == 2); });
+  CHECK(publisher.send_copy(message(3)).expect("a send").delivered() == 1u);
+  lends_after(publisher, [&] { subscriber.close(); });
+}
+
+void copies_and_all_take_the_lock_once() {
+  constexpr std::uint64_t messages = 1000;
+  auto domain = keeping(2);
+  auto publisher = domain.publisher().expect("a publisher");
+  auto copies = domain.subscriber().expect("a subscriber");
+  auto all = domain.subscriber().expect("a subscriber");
+  std::thread by_copies([&] {
+    for (std::uint64_t number = 0; number < messages; number++) {
+      CHECK((**copies.blocking_receive_copy())[0] == number);
+    }
+  });
+  std::thread by_all([&] {
+    std::uint64_t next = 0;
+    auto read = [&](const iox2ps::Sample<Message, M> &sample) {
+      CHECK((*sample)[0] == next);
+      return ++next < messages;
+    };
+    CHECK(all.blocking_for_each(read).has_value());
+    CHECK(next == messages);
+  });
+  for (std::uint64_t number = 0; number < messages; number++) {
+    CHECK(publisher.blocking_send_copy(message(number)).expect("a send").delivered() == 2u);
+  }
+  by_copies.join();
+  by_all.join();
+  CHECK(publisher.timed_send_copy(message(7), 0ns).expect("a send").delivered() == 2u);
+  CHECK((*copies.timed_receive_copy(-1ns).expect("a receive"))[0] == 7);
+  all.close();
+  copies.close();
+  publisher.close();
+  CHECK(domain.book_count() == 0);
+}
+
+void waits_are_stopped_twice_and_taken_back() {
+  auto domain = keeping(1);
+  auto publisher = domain.publisher().expect("a publisher");
+  auto subscriber = domain.subscriber().expect("a subscriber");
+  domain.stop_waits();
+  domain.stop_waits();
+  CHECK(!subscriber.blocking_receive().expect("a receive"));
+  domain.stop_waits(false);
+  domain.stop_waits(false);
+  std::thread waits([&] { CHECK(first_of(subscriber.blocking_receive()) == 1); });
+  std::this_thread::sleep_for(20ms);
+  CHECK(publisher.send_copy(message(1)).expect("a send").delivered() == 1u);
+  waits.join();
+  /* Times of zero, of less, and of the greatest length. */
+  CHECK(!subscriber.timed_receive(0ns).expect("a receive"));
+  CHECK(!subscriber.timed_receive(-1h).expect("a receive"));
+  CHECK(!subscriber.timed_receive(std::chrono::nanoseconds::min()).expect("a receive"));
+  CHECK(publisher.timed_send_copy(message(2), std::chrono::nanoseconds::max()).expect("a send").delivered() == 1u);
+  CHECK(first_of(subscriber.timed_receive(std::chrono::nanoseconds::max())) == 2);
+}
+
+void a_domain_that_goes_while_others_wait_stays_for_them() {
+  std::optional<Domain> domain = keeping(1);
+  auto publisher = domain->publisher().expect("a publisher");
+  auto subscriber = domain->subscriber().expect("a subscriber");
+  std::thread waits([&] { CHECK(first_of(subscriber.blocking_receive()) == 1); });
+  std::this_thread::sleep_for(20ms);
+  domain.reset();
+  CHECK(publisher.send_copy(message(1)).expect("a send").delivered() == 1u);
+  waits.join();
+}
+
+/* A lock of one's own: it counts, wakes all, and lets no thread look before it sleeps. */
+class Counting {
+public:
+  static constexpr bool wakes_all = true;
+  static constexpr unsigned looks = 0;
+  static inline std::atomic<unsigned> taken{0};
+  void lock() {
+    mutex_.lock();
+    taken++;
+  }
+  void unlock() { mutex_.unlock(); }
+
+private:
+  std::mutex mutex_;
+};
+
+void a_lock_is_brought() {
+  iox2ps::Config<Message> config(1);
+  config.max_subscribers(4);
+  auto domain = iox2ps::SharedDomain<Message, Counting>::create(config).expect("a domain");
+  auto publisher = domain.publisher().expect("a publisher");
+  std::vector<iox2ps::Subscriber<Message, iox2ps::ManyThreadsWith<Counting>>> subscribers;
+  for (int i = 0; i < 4; i++) subscribers.push_back(domain.subscriber().expect("a subscriber"));
+  std::vector<std::thread> threads;
+  for (auto &subscriber : subscribers) {
+    threads.emplace_back([&] { CHECK((**subscriber.blocking_receive_copy())[0] == 5); });
+  }
+  std::this_thread::sleep_for(20ms);
+  unsigned before = Counting::taken;
+  CHECK(publisher.send_copy(message(5)).expect("a send").delivered() == 4u);
+  for (auto &thread : threads) thread.join();
+  CHECK(before > 0 && Counting::taken == before + 5);
+}
+
 } // namespace
 
 int main() {
@@ -140,5 +284,11 @@ int main() {
   receives_wait();
   sends_wait();
   each_gets_all_in_order();
-  std::printf("4 tests passed\n");
+  loans_wait();
+  loans_wait_for_slots();
+  copies_and_all_take_the_lock_once();
+  waits_are_stopped_twice_and_taken_back();
+  a_domain_that_goes_while_others_wait_stays_for_them();
+  a_lock_is_brought();
+  std::printf("10 tests passed\n");
 }

@@ -31,11 +31,15 @@
  *    it to the call that releases it. No other call touches them. They aren't touched once the ending call has begun,
  *    by whichever thread;
  *  - numbers may be handed on as any struct may: by the lock, a queue or a join;
- *  - to wait for a message (IOX2PS_NO_SAMPLE) or for room (IOX2PS_BLOCKED), wait at a condition variable of the lock, and try
- *    again. A message may have come after each send, retry and giving up, also one that returned IOX2PS_BLOCKED, after an
- *    update of a publisher's connections, and after a publisher was made or closed; room, after a receive and after a
- *    subscriber was closed; and a publisher that returned IOX2PS_PUBLISHER_IS_BLOCKED may be free after a retry or a giving
- *    up. A release makes no room in a buffer;
+ *  - to wait for a message (IOX2PS_NO_SAMPLE), for room (IOX2PS_BLOCKED), for an earlier send (IOX2PS_PUBLISHER_IS_BLOCKED) or for
+ *    a loan (IOX2PS_LOAN_ERROR_EXCEEDS_MAX_LOANS, IOX2PS_LOAN_ERROR_OUT_OF_MEMORY), wait at a condition variable of the lock, and
+ *    try again once another thread has made such a call:
+ *     - for a message: a send, a retry or a giving up, also one that returned IOX2PS_BLOCKED, an update of a publisher's
+ *       connections, or a publisher made or closed;
+ *     - for room: a receive, or a subscriber closed. A release makes no room in a buffer;
+ *     - for an earlier send: a retry or a giving up;
+ *     - for a loan: a send, a discard, a release, a receive that copies, a retry, a giving up, or an update of the publisher's
+ *       connections, which alone takes back what waited for a subscriber that was closed;
  *  - iox2ps_domain_destroy is called when no thread will call, read or write any more.
  * With the lock, all calls of a domain are one list, and what is proved of a list of calls is so of that one, in the order
  * in which the lock was taken. bindings/c/threads.c is such a program; iox2_pubsub_shared.hpp has a lock in it.

@@ -593,7 +593,7 @@ public:
   /** Makes the connections with subscribers that came, as each send does first. */
   Done update_connections() {
     if (!hold_) return Error::NotLive;
-    return detail::done(hold_.call(only(Waits::Message), [&](iox2ps_domain_t *domain) {
+    return detail::done(hold_.call(Waits::Message | Waits::Loan, [&](iox2ps_domain_t *domain) {
       return iox2ps_publisher_update_connections(domain, &port_);
     }));
   }
@@ -631,8 +631,16 @@ private:
   auto at_once(Brings brings = 0) const {
     return [this, brings](auto &&make) { return hold_.call(brings, make); };
   }
-  auto waiting(Until until, Brings brings = 0) const {
-    return [this, until, brings](auto &&make) { return hold_.wait(Waits::Loan, port_.id, brings, until, make); };
+  auto waiting(Until until, Brings brings = only(Waits::Message)) const {
+    return [this, until, brings](auto &&make) {
+      return hold_.wait(Waits::Loan, port_.id, brings, until, [&](iox2ps_domain_t *domain) {
+        iox2ps_status_t code = make(domain);
+        /* A closed subscriber's slots come back by an update of the connections alone, which a loan doesn't make. */
+        if (code != IOX2PS_LOAN_ERROR_OUT_OF_MEMORY) return code;
+        if (iox2ps_publisher_update_connections(domain, &port_) != IOX2PS_OK) return code;
+        return make(domain);
+      });
+    };
   }
 
   template <typename Begin, typename Make> Result<Loan<P, M>> lend(std::size_t len, Begin begin, Make make) {

@@ -5,11 +5,13 @@ use crate::guarded::Guarded;
 use crate::lock::DomainLock;
 use crate::payload::Payload;
 use crate::sample::Sample;
-use crate::subscriber::{Got, Subscriber};
+use crate::subscriber::{receive_next, Subscriber};
 use crate::threads::{Brings, MayWait, Threads};
 use std::fmt;
 use std::future::Future;
+use std::mem::MaybeUninit;
 use std::pin::Pin;
+use std::ptr::null;
 use std::sync::Arc;
 use std::task::{Context, Poll};
 
@@ -30,14 +32,13 @@ where
         &self,
         context: &mut Context<'_>,
     ) -> Poll<Result<Option<Sample<P, M>>, ReceiveError>> {
-        let mut got = Got::new();
-        let code = self
-            .hold
-            .poll(self.port.id, Brings::ROOM, context.waker(), |shared| {
-                got.receive(shared, &self.port)
-            });
+        let (mut sample, mut start, mut len) = (MaybeUninit::uninit(), null(), 0);
+        let (port, waker) = (self.port.id, context.waker());
+        let code = self.hold.poll(port, Brings::ROOM, waker, |shared| {
+            receive_next(shared, &self.port, &mut sample, &mut start, &mut len)
+        });
         match code {
-            Some(code) => Poll::Ready(self.sample(code, got)),
+            Some(code) => Poll::Ready(self.sample(code, sample, start, len)),
             None => Poll::Pending,
         }
     }

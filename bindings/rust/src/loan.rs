@@ -4,7 +4,8 @@ use crate::domain::expect;
 use crate::errors::SendError;
 use crate::numbers::number;
 use crate::payload::Payload;
-use crate::send_outcome::{BlockedSend, SendOutcome};
+use crate::send_outcome::{outcome, SendOutcome};
+use crate::shared::Shared;
 use crate::sys;
 use crate::threads::{Brings, MayWait, OneThread, Place, Threads, Wait, Waits};
 use crate::timeout::after;
@@ -166,20 +167,14 @@ impl<P: Payload + ?Sized, M: Threads> Loan<P, M> {
     /// [`send_or_keep`](Loan::send_or_keep) doesn't.
     #[inline]
     pub fn send(self) -> Result<SendOutcome<P, M>, SendError> {
-        let mut sent = Sent::new();
-        let code = self.lent.hold.call(Brings::SEND, |shared| unsafe {
-            // SAFETY: see `Shared::at`.
-            sys::iox2ps_loan_send(
-                shared.at(),
-                &self.lent.loan,
-                &mut sent.receivers,
-                sent.blocked.as_mut_ptr(),
-            )
+        let (mut receivers, mut blocked) = (0, MaybeUninit::uninit());
+        let code = self.lent.hold.call(Brings::SEND, |shared| {
+            send(shared, &self.lent.loan, &mut receivers, &mut blocked)
         });
         if code == sys::PUBLISHER_IS_BLOCKED {
             return Err(SendError::PublisherIsBlocked);
         }
-        sent.outcome(self.lent.into_hold(), code)
+        outcome(&self.lent.into_hold(), code, receivers, blocked)
     }
 
     /// The same, but where an earlier send of the publisher waits, the loan comes back.
@@ -188,29 +183,39 @@ impl<P: Payload + ?Sized, M: Threads> Loan<P, M> {
     ///
     /// Those of [`send`](Loan::send), in [`Unsent`].
     pub fn send_or_keep(self) -> Result<SendOutcome<P, M>, Unsent<P, M>> {
-        let mut sent = Sent::new();
-        let code = self.lent.hold.call(Brings::SEND, |shared| unsafe {
-            // SAFETY: see `Shared::at`.
-            sys::iox2ps_loan_send(
-                shared.at(),
-                &self.lent.loan,
-                &mut sent.receivers,
-                sent.blocked.as_mut_ptr(),
-            )
+        let (mut receivers, mut blocked) = (0, MaybeUninit::uninit());
+        let code = self.lent.hold.call(Brings::SEND, |shared| {
+            send(shared, &self.lent.loan, &mut receivers, &mut blocked)
         });
-        self.sent_or_kept(code, sent)
+        self.sent_or_kept(code, receivers, blocked)
     }
 
-    fn sent_or_kept(self, code: u32, sent: Sent) -> Result<SendOutcome<P, M>, Unsent<P, M>> {
+    fn sent_or_kept(
+        self,
+        code: u32,
+        receivers: usize,
+        blocked: MaybeUninit<sys::Blocked>,
+    ) -> Result<SendOutcome<P, M>, Unsent<P, M>> {
         if code == sys::PUBLISHER_IS_BLOCKED {
             return Err(Unsent {
                 error: SendError::PublisherIsBlocked,
                 loan: Some(self),
             });
         }
-        let sent = sent.outcome(self.lent.into_hold(), code);
+        let sent = outcome(&self.lent.into_hold(), code, receivers, blocked);
         sent.map_err(|error| Unsent { error, loan: None })
     }
+}
+
+#[inline]
+fn send(
+    shared: &mut Shared,
+    loan: &sys::Loan,
+    receivers: &mut usize,
+    blocked: &mut MaybeUninit<sys::Blocked>,
+) -> u32 {
+    // SAFETY: see `Shared::at`.
+    unsafe { sys::iox2ps_loan_send(shared.at(), loan, receivers, blocked.as_mut_ptr()) }
 }
 
 impl<P: Payload + ?Sized, M: MayWait> Loan<P, M> {
@@ -234,60 +239,20 @@ impl<P: Payload + ?Sized, M: MayWait> Loan<P, M> {
     }
 
     fn send_until(self, until: Option<Instant>) -> Result<SendOutcome<P, M>, Unsent<P, M>> {
-        let mut sent = Sent::new();
+        let (mut receivers, mut blocked) = (0, MaybeUninit::uninit());
         let wait = Wait {
             what: Waits::Free,
             port: self.lent.loan.publisher,
             until,
             brings: Brings::SEND,
         };
-        let code = self.lent.hold.wait(wait, |shared| unsafe {
-            // SAFETY: see `Shared::at`.
-            sys::iox2ps_loan_send(
-                shared.at(),
-                &self.lent.loan,
-                &mut sent.receivers,
-                sent.blocked.as_mut_ptr(),
-            )
+        let code = self.lent.hold.wait(wait, |shared| {
+            send(shared, &self.lent.loan, &mut receivers, &mut blocked)
         });
-        let outcome = self.sent_or_kept(code, sent)?;
+        let outcome = self.sent_or_kept(code, receivers, blocked)?;
         outcome
             .wait_until(until)
             .map_err(|error| Unsent { error, loan: None })
-    }
-}
-
-// What a send has written.
-pub(crate) struct Sent {
-    pub(crate) receivers: usize,
-    pub(crate) blocked: MaybeUninit<sys::Blocked>,
-}
-
-impl Sent {
-    #[inline]
-    pub(crate) fn new() -> Self {
-        Sent {
-            receivers: 0,
-            blocked: MaybeUninit::uninit(),
-        }
-    }
-
-    // Of a send that returned this code.
-    #[inline]
-    pub(crate) fn outcome<P: Payload + ?Sized, M: Threads>(
-        self,
-        hold: M::Hold,
-        code: u32,
-    ) -> Result<SendOutcome<P, M>, SendError> {
-        match code {
-            sys::OK => Ok(SendOutcome::Delivered(self.receivers)),
-            sys::BLOCKED => {
-                // SAFETY: with this code it is written.
-                let blocked = unsafe { self.blocked.assume_init() };
-                Ok(SendOutcome::Blocked(BlockedSend::new(hold, blocked)))
-            }
-            _ => Err(SendError::of(code)),
-        }
     }
 }
 

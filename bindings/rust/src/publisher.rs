@@ -2,10 +2,10 @@
 
 use crate::domain::expect;
 use crate::errors::{ConnectionFailure, LoanError, SendError};
-use crate::loan::{Loan, LoanUninit, Sent};
+use crate::loan::{Loan, LoanUninit};
 use crate::numbers::number;
 use crate::payload::Payload;
-use crate::send_outcome::SendOutcome;
+use crate::send_outcome::{outcome, SendOutcome};
 use crate::shared::Shared;
 use crate::sys;
 use crate::threads::{Brings, MayWait, OneThread, Place, Threads, Wait, Waits};
@@ -90,7 +90,7 @@ impl<P: Payload + ?Sized, M: Threads> Publisher<P, M> {
     /// See [`ConnectionFailure`]. The other connections are made all the same, but with `PublisherIsBlocked`.
     pub fn update_connections(&self) -> Result<(), ConnectionFailure> {
         // SAFETY: see `Shared::at`.
-        let code = self.hold.call(Brings::MESSAGE, |shared| unsafe {
+        let code = self.hold.call(Brings::SEND, |shared| unsafe {
             sys::iox2ps_publisher_update_connections(shared.at(), &self.port)
         });
         match code {
@@ -101,11 +101,11 @@ impl<P: Payload + ?Sized, M: Threads> Publisher<P, M> {
 
     #[inline]
     fn lend(&self, bytes: usize) -> Result<LoanUninit<P, M>, LoanError> {
-        let mut lent = Lent::new(bytes);
-        let code = self
-            .hold
-            .call(Brings::NOTHING, |shared| lent.lend(shared, &self.port));
-        lent.taken(self.hold.clone(), code)
+        let (mut loan, mut start) = (MaybeUninit::uninit(), null_mut());
+        let code = self.hold.call(Brings::NOTHING, |shared| {
+            lend(shared, &self.port, bytes, &mut loan, &mut start)
+        });
+        taken(&self.hold, code, loan, start, bytes)
     }
 }
 
@@ -115,10 +115,17 @@ impl<P: Payload + ?Sized, M: MayWait> Publisher<P, M> {
         bytes: usize,
         until: Option<Instant>,
     ) -> Result<LoanUninit<P, M>, LoanError> {
-        let mut lent = Lent::new(bytes);
-        let wait = self.wait_for_loan(until, Brings::NOTHING);
-        let code = self.hold.wait(wait, |shared| lent.lend(shared, &self.port));
-        lent.taken(self.hold.clone(), code)
+        let (mut loan, mut start) = (MaybeUninit::uninit(), null_mut());
+        // The update may bring a history.
+        let wait = self.wait_for_loan(until, Brings::MESSAGE);
+        let code = self.hold.wait(wait, |shared| {
+            let code = lend(shared, &self.port, bytes, &mut loan, &mut start);
+            if !update_for_slots(shared, &self.port, code) {
+                return code;
+            }
+            lend(shared, &self.port, bytes, &mut loan, &mut start)
+        });
+        taken(&self.hold, code, loan, start, bytes)
     }
 
     fn wait_for_loan(&self, until: Option<Instant>, brings: Brings) -> Wait {
@@ -131,43 +138,40 @@ impl<P: Payload + ?Sized, M: MayWait> Publisher<P, M> {
     }
 }
 
-// What a call has lent.
-struct Lent {
+// Places for what a call lends. They are given one by one, since a struct of them would be written before.
+#[inline]
+fn lend(
+    shared: &mut Shared,
+    port: &sys::Publisher,
     bytes: usize,
-    loan: MaybeUninit<sys::Loan>,
-    start: *mut u8,
+    loan: &mut MaybeUninit<sys::Loan>,
+    start: &mut *mut u8,
+) -> u32 {
+    // SAFETY: see `Shared::at`.
+    unsafe { sys::iox2ps_publisher_loan_uninit(shared.at(), port, bytes, loan.as_mut_ptr(), start) }
 }
 
-impl Lent {
-    #[inline]
-    fn new(bytes: usize) -> Self {
-        Lent {
-            bytes,
-            loan: MaybeUninit::uninit(),
-            start: null_mut(),
-        }
-    }
+// A closed subscriber's slots come back by an update of the connections alone, which a loan doesn't make.
+fn update_for_slots(shared: &mut Shared, port: &sys::Publisher, code: u32) -> bool {
+    // SAFETY: see `Shared::at`. A loan says what it comes to.
+    code == sys::LOAN_ERROR_OUT_OF_MEMORY
+        && unsafe { sys::iox2ps_publisher_update_connections(shared.at(), port) } == sys::OK
+}
 
-    #[inline]
-    fn lend(&mut self, shared: &mut Shared, port: &sys::Publisher) -> u32 {
-        let (loan, start) = (self.loan.as_mut_ptr(), &mut self.start);
-        // SAFETY: see `Shared::at`.
-        unsafe { sys::iox2ps_publisher_loan_uninit(shared.at(), port, self.bytes, loan, start) }
+#[inline]
+fn taken<P: Payload + ?Sized, M: Threads>(
+    hold: &M::Hold,
+    code: u32,
+    loan: MaybeUninit<sys::Loan>,
+    start: *mut u8,
+    bytes: usize,
+) -> Result<LoanUninit<P, M>, LoanError> {
+    if code != sys::OK {
+        return Err(LoanError::of(code));
     }
-
-    #[inline]
-    fn taken<P, M>(self, hold: M::Hold, code: u32) -> Result<LoanUninit<P, M>, LoanError>
-    where
-        P: Payload + ?Sized,
-        M: Threads,
-    {
-        if code != sys::OK {
-            return Err(LoanError::of(code));
-        }
-        // SAFETY: with this code it is written.
-        let loan = unsafe { self.loan.assume_init() };
-        Ok(LoanUninit::new(hold, loan, self.start, self.bytes))
-    }
+    // SAFETY: with this code it is written.
+    let loan = unsafe { loan.assume_init() };
+    Ok(LoanUninit::new(hold.clone(), loan, start, bytes))
 }
 
 impl<T: Copy + 'static, M: Threads> Publisher<T, M> {
@@ -201,11 +205,11 @@ impl<T: Copy + 'static, M: Threads> Publisher<T, M> {
     /// See [`SendError`].
     #[inline]
     pub fn send_copy(&self, value: T) -> Result<SendOutcome<T, M>, SendError> {
-        let mut sent = Sent::new();
+        let (mut receivers, mut blocked) = (0, MaybeUninit::uninit());
         let code = self.hold.call(Brings::SEND, |shared| {
-            send_copy(shared, &self.port, value, &mut sent)
+            send_copy(shared, &self.port, value, &mut receivers, &mut blocked)
         });
-        sent.outcome(self.hold.clone(), code)
+        outcome(&self.hold, code, receivers, blocked)
     }
 }
 
@@ -214,19 +218,19 @@ fn send_copy<T: Copy + 'static>(
     shared: &mut Shared,
     port: &sys::Publisher,
     value: T,
-    sent: &mut Sent,
+    receivers: &mut usize,
+    blocked: &mut MaybeUninit<sys::Blocked>,
 ) -> u32 {
-    let mut lent = Lent::new(size_of::<T>());
-    let code = lent.lend(shared, port);
+    let (mut loan, mut start) = (MaybeUninit::uninit(), null_mut());
+    let code = lend(shared, port, size_of::<T>(), &mut loan, &mut start);
     if code != sys::OK {
         return code;
     }
-    let payload = T::at(lent.start, lent.bytes).expect("a loan has room for its type");
-    let (loan, blocked) = (lent.loan.as_ptr(), sent.blocked.as_mut_ptr());
+    let payload = T::at(start, size_of::<T>()).expect("a loan has room for its type");
     // SAFETY: the bytes are this loan's alone, which is written; and see `Shared::at`.
     unsafe {
         payload.write(value);
-        sys::iox2ps_loan_send(shared.at(), loan, &mut sent.receivers, blocked)
+        sys::iox2ps_loan_send(shared.at(), loan.as_ptr(), receivers, blocked.as_mut_ptr())
     }
 }
 
@@ -280,12 +284,16 @@ impl<T: Copy + 'static, M: MayWait> Publisher<T, M> {
         value: T,
         until: Option<Instant>,
     ) -> Result<SendOutcome<T, M>, SendError> {
-        let mut sent = Sent::new();
+        let (mut receivers, mut blocked) = (0, MaybeUninit::uninit());
         let wait = self.wait_for_loan(until, Brings::SEND);
         let code = self.hold.wait(wait, |shared| {
-            send_copy(shared, &self.port, value, &mut sent)
+            let code = send_copy(shared, &self.port, value, &mut receivers, &mut blocked);
+            if !update_for_slots(shared, &self.port, code) {
+                return code;
+            }
+            send_copy(shared, &self.port, value, &mut receivers, &mut blocked)
         });
-        sent.outcome(self.hold.clone(), code)?.wait_until(until)
+        outcome(&self.hold, code, receivers, blocked)?.wait_until(until)
     }
 }
 

@@ -9,7 +9,7 @@ use crate::threads::{Brings, MayWait, OneThread, Place, Threads, Wait, Waits};
 use crate::timeout::after;
 use std::fmt;
 use std::marker::PhantomData;
-use std::mem::ManuallyDrop;
+use std::mem::{ManuallyDrop, MaybeUninit};
 use std::ptr;
 use std::time::{Duration, Instant};
 
@@ -85,19 +85,12 @@ impl<P: Payload + ?Sized, M: Threads> fmt::Debug for SendOutcome<P, M> {
 #[must_use = "a send that is blocked is given up where it is dropped"]
 pub struct BlockedSend<P: Payload + ?Sized, M: Threads = OneThread> {
     hold: M::Hold,
-    blocked: sys::Blocked,
+    // In a box, since a send is seldom blocked, and what came of it is passed on by value.
+    blocked: Box<sys::Blocked>,
     message: PhantomData<P>,
 }
 
 impl<P: Payload + ?Sized, M: Threads> BlockedSend<P, M> {
-    pub(crate) fn new(hold: M::Hold, blocked: sys::Blocked) -> Self {
-        BlockedSend {
-            hold,
-            blocked,
-            message: PhantomData,
-        }
-    }
-
     /// The id of the publisher that waits.
     #[must_use]
     pub fn publisher(&self) -> u128 {
@@ -137,7 +130,7 @@ impl<P: Payload + ?Sized, M: Threads> BlockedSend<P, M> {
         }
         let this = ManuallyDrop::new(self);
         // SAFETY: the fields of `this` are never dropped, and each is moved out once.
-        drop(unsafe { ptr::read(&this.hold) });
+        drop(unsafe { (ptr::read(&this.hold), ptr::read(&this.blocked)) });
         match code {
             sys::OK => Ok(SendOutcome::Delivered(count)),
             _ => Err(SendError::of(code)),
@@ -202,6 +195,26 @@ impl<P: Payload + ?Sized, M: Threads> Drop for BlockedSend<P, M> {
         if code == sys::NOT_LIVE {
             unexpected(code);
         }
+    }
+}
+
+// Of a send that returned this code.
+#[inline]
+pub(crate) fn outcome<P: Payload + ?Sized, M: Threads>(
+    hold: &M::Hold,
+    code: u32,
+    receivers: usize,
+    blocked: MaybeUninit<sys::Blocked>,
+) -> Result<SendOutcome<P, M>, SendError> {
+    match code {
+        sys::OK => Ok(SendOutcome::Delivered(receivers)),
+        sys::BLOCKED => Ok(SendOutcome::Blocked(BlockedSend {
+            hold: hold.clone(),
+            // SAFETY: with this code it is written.
+            blocked: Box::new(unsafe { blocked.assume_init() }),
+            message: PhantomData,
+        })),
+        _ => Err(SendError::of(code)),
     }
 }
 

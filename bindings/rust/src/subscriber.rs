@@ -53,21 +53,27 @@ impl<P: Payload + ?Sized, M: Threads> Subscriber<P, M> {
     /// See [`ReceiveError`].
     #[inline]
     pub fn receive(&self) -> Result<Option<Sample<P, M>>, ReceiveError> {
-        let mut got = Got::new();
-        let code = self
-            .hold
-            .call(Brings::ROOM, |shared| got.receive(shared, &self.port));
-        self.sample(code, got)
+        let (mut sample, mut start, mut len) = (MaybeUninit::uninit(), null(), 0);
+        let code = self.hold.call(Brings::ROOM, |shared| {
+            receive_next(shared, &self.port, &mut sample, &mut start, &mut len)
+        });
+        self.sample(code, sample, start, len)
     }
 
+    // What a receive has written that returned this code.
     #[inline]
-    pub(crate) fn sample(&self, code: u32, got: Got) -> Result<Option<Sample<P, M>>, ReceiveError> {
+    pub(crate) fn sample(
+        &self,
+        code: u32,
+        sample: MaybeUninit<sys::Sample>,
+        start: *const u8,
+        len: usize,
+    ) -> Result<Option<Sample<P, M>>, ReceiveError> {
         match code {
             sys::OK => {
                 // SAFETY: with this code it is written.
-                let sample = unsafe { got.sample.assume_init() };
-                let hold = self.hold.clone();
-                Ok(Some(Sample::new(hold, sample, got.start, got.len)))
+                let sample = unsafe { sample.assume_init() };
+                Ok(Some(Sample::new(self.hold.clone(), sample, start, len)))
             }
             sys::NO_SAMPLE => Ok(None),
             _ => Err(ReceiveError::of(code)),
@@ -187,29 +193,17 @@ impl<T: Copy + 'static, M: MayWait> Subscriber<T, M> {
     }
 }
 
-// What a call has received.
-pub(crate) struct Got {
-    sample: MaybeUninit<sys::Sample>,
-    start: *const u8,
-    len: usize,
-}
-
-impl Got {
-    #[inline]
-    pub(crate) fn new() -> Self {
-        Got {
-            sample: MaybeUninit::uninit(),
-            start: null(),
-            len: 0,
-        }
-    }
-
-    #[inline]
-    pub(crate) fn receive(&mut self, shared: &mut Shared, port: &sys::Subscriber) -> u32 {
-        let (sample, start, len) = (self.sample.as_mut_ptr(), &mut self.start, &mut self.len);
-        // SAFETY: see `Shared::at`.
-        unsafe { sys::iox2ps_subscriber_receive(shared.at(), port, sample, start, len) }
-    }
+// The places are given one by one, since a struct of them would be written before.
+#[inline]
+pub(crate) fn receive_next(
+    shared: &mut Shared,
+    port: &sys::Subscriber,
+    sample: &mut MaybeUninit<sys::Sample>,
+    start: &mut *const u8,
+    len: &mut usize,
+) -> u32 {
+    // SAFETY: see `Shared::at`.
+    unsafe { sys::iox2ps_subscriber_receive(shared.at(), port, sample.as_mut_ptr(), start, len) }
 }
 
 impl<P: Payload + ?Sized, M: MayWait> Subscriber<P, M> {
@@ -232,12 +226,12 @@ impl<P: Payload + ?Sized, M: MayWait> Subscriber<P, M> {
     }
 
     fn receive_until(&self, until: Option<Instant>) -> Result<Option<Sample<P, M>>, ReceiveError> {
-        let mut got = Got::new();
+        let (mut sample, mut start, mut len) = (MaybeUninit::uninit(), null(), 0);
         let wait = self.wait_for_message(until, Brings::ROOM);
-        let code = self
-            .hold
-            .wait(wait, |shared| got.receive(shared, &self.port));
-        self.sample(code, got)
+        let code = self.hold.wait(wait, |shared| {
+            receive_next(shared, &self.port, &mut sample, &mut start, &mut len)
+        });
+        self.sample(code, sample, start, len)
     }
 
     fn wait_for_message(&self, until: Option<Instant>, brings: Brings) -> Wait {
@@ -262,15 +256,15 @@ impl<P: Payload + ?Sized, M: MayWait> Subscriber<P, M> {
     ) -> Result<(), ReceiveError> {
         let mut last = None;
         loop {
-            let mut got = Got::new();
+            let (mut sample, mut start, mut len) = (MaybeUninit::uninit(), null(), 0);
             let wait = self.wait_for_message(None, Brings::COPY);
             let code = self.hold.wait(wait, |shared| {
                 if let Some(sample) = last.take().map(Sample::into_number) {
                     release(shared, &sample);
                 }
-                got.receive(shared, &self.port)
+                receive_next(shared, &self.port, &mut sample, &mut start, &mut len)
             });
-            match self.sample(code, got)? {
+            match self.sample(code, sample, start, len)? {
                 Some(sample) if read(&sample).is_continue() => last = Some(sample),
                 _ => return Ok(()),
             }

@@ -14,6 +14,7 @@ const MOMENT: Duration = Duration::from_millis(20);
 fn domain() -> SharedDomain<u64> {
     Domain::<u64>::builder(1)
         .subscriber_max_buffer_size(8)
+        .enable_safe_overflow(false)
         .create_shared()
         .unwrap()
 }
@@ -66,7 +67,7 @@ fn a_task_waits_for_messages() {
         if number % 10 == 0 {
             thread::sleep(MOMENT / 4);
         }
-        publisher.send_copy(number).unwrap().delivered();
+        publisher.blocking_send_copy(number).unwrap().delivered();
         thread::sleep(Duration::from_micros(300));
     }
     thread::sleep(MOMENT);
@@ -122,7 +123,7 @@ fn two_tasks_share_a_subscriber_and_a_stop_ends_both() {
             })
             .collect();
         for number in 0..200 {
-            publisher.send_copy(number).unwrap().delivered();
+            publisher.blocking_send_copy(number).unwrap().delivered();
             thread::sleep(Duration::from_micros(100));
         }
         while subscriber.has_samples().unwrap() {

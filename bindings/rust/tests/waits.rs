@@ -16,6 +16,7 @@ fn keeping(buffer: usize) -> SharedDomain<u64> {
         .enable_safe_overflow(false)
         .backpressure_strategy(BackpressureStrategy::RetryUntilDelivered)
         .subscriber_max_buffer_size(buffer)
+        .subscriber_max_borrowed_samples(8)
         .create_shared()
         .unwrap()
 }

@@ -144,7 +144,7 @@ impl SlotBook {
             mark: SlotMark::Unwritten,
         };
         let mut slots = Vec::from_slice(alloc, self.slots.as_slice())?;
-        slots.reserve(more)?;
+        slots.reserve_exact(more)?;
         let mut free = Vec::with_capacity(alloc, slots.capacity())?;
         free.extend_from_slice(self.free.as_slice())?;
         add_unused(&mut slots, &mut free, &unused, more);

@@ -1,5 +1,5 @@
-/* Makes random calls on one domain from several threads, by the C++ handles: `stress SEED CALLS THREADS SCRIPT REPLIES`, as
- * rust/src/main.rs does by those of Rust. FAULT plants a fault that the race detectors have to see. */
+/* Makes random calls on one domain from several threads, by the C++ handles: `random SEED CALLS THREADS SCRIPT REPLIES`, as
+ * src/random.rs does by those of Rust. FAULT plants a fault that the race detectors have to see. */
 #include "iox2_pubsub_shared.hpp"
 #include <array>
 #include <cstring>
@@ -11,8 +11,25 @@ extern "C" void lock_order_begin(const char *script, const char *replies);
 extern "C" void lock_order_end(void);
 
 using Message = std::array<std::uint64_t, 8>;
-using M = iox2ps::ManyThreads;
+
+/* A lock under which a thread that waits sleeps at once: helgrind doesn't know atomics, which are looked at without it. */
+class Lock {
+public:
+  static constexpr unsigned looks = 0;
+  void lock() { mutex_.lock(); }
+  void unlock() { mutex_.unlock(); }
+
+private:
+  std::mutex mutex_;
+};
+
+#ifdef NO_LOOKS
+using D = iox2ps::SharedDomain<Message, Lock>;
+using M = iox2ps::ManyThreadsWith<Lock>;
+#else
 using D = iox2ps::SharedDomain<Message>;
+using M = iox2ps::ManyThreads;
+#endif
 using namespace std::chrono_literals;
 
 namespace {
@@ -149,23 +166,36 @@ struct Worker {
   void receive() {
     auto subscriber = pick(random, own.subscribers);
     if (!subscriber) return;
-    auto received = random.below(8) == 0 ? subscriber->timed_receive(200us) : subscriber->receive();
+    switch (random.below(8)) {
+    case 0: return take_in(subscriber->timed_receive(200us));
+    case 1: return look_at(subscriber->receive_copy());
+    case 2: return look_at(subscriber->timed_receive_copy(200us));
+    default: return take_in(subscriber->receive());
+    }
+  }
+
+  static void look_at(const iox2ps::Result<std::optional<Message>> &received) {
+    if (received && *received) read(**received);
+  }
+
+  void take_in(iox2ps::Result<std::optional<iox2ps::Sample<Message, M>>> received) {
     if (!received || !*received) return;
     std::uint64_t number = read(***received);
     own.samples.emplace_back(std::move(**received), number);
   }
 
   void create_publisher() {
-    auto options = domain.publisher_options();
-    options.max_loaned_samples = random.below(4);
-    options.backpressure_strategy = random.below(2) ? IOX2PS_RETRY_UNTIL_DELIVERED : IOX2PS_DISCARD_DATA;
+    iox2ps::PublisherOptions<Message> options;
+    options.max_loaned_samples(random.below(4));
+    options.backpressure_strategy(random.below(2) ? iox2ps::BackpressureStrategy::RetryUntilDelivered
+                                                  : iox2ps::BackpressureStrategy::DiscardData);
     auto made = domain.publisher(options);
     if (made) own.publishers.push_back(std::make_shared<iox2ps::Publisher<Message, M>>(std::move(*made)));
   }
 
   void create_subscriber() {
-    auto options = domain.subscriber_options();
-    options.buffer_size = random.below(5);
+    iox2ps::SubscriberOptions options;
+    options.buffer_size(random.below(5));
     auto made = domain.subscriber(options);
     if (made) own.subscribers.push_back(std::make_shared<iox2ps::Subscriber<Message, M>>(std::move(*made)));
   }
@@ -189,7 +219,7 @@ struct Worker {
     else if (which < 20) {
       auto publisher = pick(random, own.publishers);
       if (!publisher) return;
-      auto loan = publisher->loan();
+      auto loan = random.below(6) == 0 ? publisher->timed_loan(200us) : publisher->loan();
       if (!loan) return;
       (*loan)->fill(++value);
       own.loans.push_back(std::move(*loan));
@@ -198,7 +228,7 @@ struct Worker {
       if (auto publisher = pick(random, own.publishers)) {
         Message message;
         message.fill(++value);
-        sent(publisher->send_copy(message));
+        sent(random.below(4) == 0 ? publisher->timed_send_copy(message, 200us) : publisher->send_copy(message));
       }
     } else if (which < 45) take(random, own.loans);
     else if (which < 53) end_blocked();
@@ -228,13 +258,10 @@ int main(int count, char **words) {
   std::uint64_t reads = 0;
   {
     iox2ps::Config<Message> config(1);
-    config.max_publishers = 1 + random.below(4);
-    config.max_subscribers = 2 + random.below(4);
-    config.subscriber_max_buffer_size = random.below(4);
-    config.subscriber_max_borrowed_samples = 1 + random.below(3);
-    config.history_size = random.below(4);
-    config.subscriber_expired_connection_buffer = random.below(4);
-    config.enable_safe_overflow = random.below(3) == 0;
+    config.max_publishers(1 + random.below(4)).max_subscribers(2 + random.below(4));
+    config.subscriber_max_buffer_size(random.below(4)).subscriber_max_borrowed_samples(1 + random.below(3));
+    config.history_size(random.below(4)).subscriber_expired_connection_buffer(random.below(4));
+    config.enable_safe_overflow(random.below(3) == 0);
     auto domain = D::create(config).expect("a domain");
     Pool pool;
     std::vector<std::unique_ptr<Worker>> workers;
