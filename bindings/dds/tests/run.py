@@ -89,7 +89,7 @@ def without_history():
 def receiver_killed():
     """The receiver is killed among messages, and another one starts: the sender goes on."""
     name, count = topic(), 400 if few else 20000
-    where = uri(lease="1s")
+    where = uri(lease="%gs" % slower)
     first = start("peer", "receive", where, topic=name, mode="retry", die_after=count // 10, expect=count)
     of = start("peer", "send", where, topic=name, mode="retry", count=count, every_us=100, flush=30)
     end(first, 60, killed=True)
@@ -104,7 +104,7 @@ def receiver_killed():
 def sender_killed():
     """The sender is killed and starts again: the receiver has both, each in order."""
     name, count = topic(), 200 if few else 3000
-    where = uri(lease="1s")
+    where = uri(lease="%gs" % slower)
     to = start("peer", "receive", where, topic=name, mode="retry", expect=2 * count, idle=6, ready=os.path.join(work, "killed"))
     wait_for(os.path.join(work, "killed"))
     first = start("peer", "send", where, topic=name, mode="retry", count=10**9, every_us=300)
