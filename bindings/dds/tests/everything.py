@@ -23,7 +23,7 @@ grind = "valgrind --quiet --leak-check=full --error-exitcode=9 --errors-for-leak
 few = ["small", "several", "large", "overflow", "both_ways", "late_joiner", "receiver_killed", "sender_killed", "typed_values",
        "bad_frames", "other_struct", "same_name_other_structure", "second_gateway", "many_domains", "gateways_come_and_go",
        "threads", "c_calls", "with_security", "leaves_full"]
-ground = ["typed_values", "several", "bad_frames", "other_struct", "second_gateway", "many_domains", "late_joiner", "c_calls"]
+ground = ["typed_values", "several", "bad_frames", "many_domains", "c_calls"]
 
 def run(words, limit=120, **more):
     done = subprocess.run(words, stdout=subprocess.PIPE, stderr=subprocess.STDOUT, text=True, timeout=limit,
@@ -124,7 +124,11 @@ def all_steps():
     sane = build("sanitized", os.path.join(work, "moved"), "-DIOX2PS_DDS_TESTS=ON", "-DCMAKE_BUILD_TYPE=None", *flags)
     step("frames, sanitizers", lambda: run([os.path.join(sane, "frames")]).strip())
     step("between processes, sanitizers", tests(sane, few, FEW="1", SLOWER="3"))
-    if shutil.which("valgrind"): step("between processes, valgrind", tests(plain, ground, FEW="1", SLOWER="8", WRAP=grind))
+    flags = ["-DCMAKE_%s_FLAGS=-fsanitize=thread -g -O1" % language for language in ("C", "CXX")]
+    raced = build("raced", os.path.join(work, "moved"), "-DIOX2PS_DDS_TESTS=ON", "-DCMAKE_BUILD_TYPE=None", *flags)
+    races = "exitcode=66 suppressions=" + os.path.join(here, "threads.supp")
+    step("threads, thread sanitizer", tests(raced, ["threads", "c_calls", "woken", "second_gateway"], FEW="1", SLOWER="3", TSAN_OPTIONS=races))
+    if shutil.which("valgrind"): step("between processes, valgrind", tests(plain, ground, FEW="1", SLOWER="4", WRAP=grind))
     else: print("not there, and so not run: valgrind")
 
 if __name__ == "__main__":

@@ -191,7 +191,7 @@ def many_domains():
     name, count = topic(), 20 if few else 200
     options = dict(topic=name, count=count, mode="retry", buffer=64, hold=3 * slower)
     first, second = start("cases", "many", **options), start("cases", "many", **options)
-    seen = end(start("plain", "participants", topic=name, wait_s=int(2 * slower), hold=1))
+    seen = end(start("plain", "participants", topic=name, wait_s=int(20 * slower)))
     for one in (end(first), end(second)): assert one == {"bytes": count, "readings": count, "numbers": count}, one
     assert seen["participants"] == 3, seen  # its own too
     return "%d messages of 3 types each way, by %d participants" % (count, seen["participants"] - 1)
