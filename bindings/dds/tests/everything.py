@@ -82,13 +82,17 @@ def example():
     return two(os.path.join(folder, "gateway"), "from elsewhere")
 
 def page():
-    """The program of the page, and its own line for the compiler."""
-    text = open(readme).read()
+    """The program of the page, and its own lines: in a folder with links, where bindings/out is a copy."""
+    text, tree = open(readme).read(), os.path.join(work, "page")
     program = re.search(r"^```c\+\+\n(.*?)^```$", text, re.M | re.S).group(1)
-    line = re.search(r"^    (g\+\+ .*first_dds.*) && \./first_dds$", text, re.M).group(1)
-    with open(os.path.join(work, "first_dds.cpp"), "w") as file: file.write(program)
-    run(line.replace("bindings/out", os.path.join(work, "moved")).split(), cwd=work)
-    return two(os.path.join(work, "first_dds"), "from another process")
+    lines = re.search(r"((?:^    cmake .*\n)+)^    (g\+\+ .*first_dds.*) && \./first_dds$", text, re.M)
+    os.makedirs(tree + "/bindings/dds")
+    shutil.copytree(out, tree + "/bindings/out")
+    for name in os.listdir(source):
+        if name != "build": os.symlink(os.path.join(source, name), os.path.join(tree, "bindings/dds", name))
+    with open(tree + "/first_dds.cpp", "w") as file: file.write(program)
+    run(["bash", "-e", "-c", lines.group(1) + lines.group(2)], 600, cwd=tree)
+    return two(tree + "/first_dds", "from another process")
 
 def rust(plain):
     """The crate's feature, with a program in C++ on the other side too."""
