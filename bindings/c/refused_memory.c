@@ -1,6 +1,7 @@
 /* Refuses the first allocation of the archive, then the second, and so on, each in a run of its own: ports are made,
- * messages go from two publishers to a subscriber, and all is closed. Each call returns what it says of refused
- * memory, and a second try succeeds. With the ports made no call takes memory.
+ * messages go from two publishers to a subscriber, the memory of a third one grows, and all is closed. Each call returns
+ * what it says of refused memory, and a second try succeeds. With the ports made no call on a message takes memory but
+ * where that grows.
  *
  * It is linked with -Wl,--wrap=malloc -Wl,--wrap=realloc. */
 #include "checks.h"
@@ -25,13 +26,13 @@ static int was_refused(void) {
   return was;
 }
 
-static void make_publisher(iox2ps_domain_t *domain, iox2ps_publisher_t *publisher) {
-  iox2ps_status_t code = iox2ps_publisher_create(domain, publisher);
+static void make_publisher(iox2ps_domain_t *domain, const iox2ps_publisher_options_t *options, iox2ps_publisher_t *publisher) {
+  iox2ps_status_t code = iox2ps_publisher_create_with(domain, options, publisher);
   if (code == IOX2PS_OK) return;
   CHECK(was_refused());
   CHECK(code == IOX2PS_PUBLISHER_CREATE_ERROR_UNABLE_TO_CREATE_DATA_SEGMENT
         || code == IOX2PS_PUBLISHER_CREATE_ERROR_FAILED_TO_DEPLOY_THREADSAFETY_POLICY);
-  IS(iox2ps_publisher_create(domain, publisher), IOX2PS_OK);
+  IS(iox2ps_publisher_create_with(domain, options, publisher), IOX2PS_OK);
 }
 
 static void make_subscriber(iox2ps_domain_t *domain, iox2ps_subscriber_t *subscriber) {
@@ -69,24 +70,54 @@ static size_t pass(iox2ps_domain_t *domain, const iox2ps_publisher_t *publishers
   return received;
 }
 
+/* Lends a message that the publisher's memory has to grow for. Where that is refused, what has room is lent all the same,
+ * and a second try succeeds. */
+static void lend_longer(iox2ps_domain_t *domain, const iox2ps_publisher_t *publisher, size_t len) {
+  iox2ps_loan_t loan;
+  void *payload;
+  uint32_t code = iox2ps_publisher_loan(domain, publisher, len, &loan, &payload);
+  if (code != IOX2PS_OK) {
+    CHECK(was_refused() && code == IOX2PS_LOAN_ERROR_INTERNAL_FAILURE);
+    IS(iox2ps_publisher_loan(domain, publisher, 8, &loan, &payload), IOX2PS_OK);
+    IS(iox2ps_loan_discard(domain, &loan), IOX2PS_OK);
+    IS(iox2ps_publisher_loan(domain, publisher, len, &loan, &payload), IOX2PS_OK);
+  }
+  memset(payload, 7, len);
+  IS(iox2ps_loan_discard(domain, &loan), IOX2PS_OK);
+}
+
+/* The memory of a publisher grows twice. */
+static void grow(iox2ps_domain_t *domain, const iox2ps_publisher_options_t *options) {
+  iox2ps_publisher_options_t growing = *options;
+  iox2ps_publisher_t publisher;
+  growing.allocation_strategy = IOX2PS_ALLOCATION_BEST_FIT;
+  make_publisher(domain, &growing, &publisher);
+  lend_longer(domain, &publisher, 24);
+  lend_longer(domain, &publisher, 72);
+  IS(iox2ps_publisher_close(domain, &publisher), IOX2PS_OK);
+}
+
 /* Returns whether memory was refused. */
 static int run(size_t at) {
   iox2ps_domain_t domain = IOX2PS_DOMAIN_INIT;
   iox2ps_config_t config;
+  iox2ps_publisher_options_t options;
   iox2ps_publisher_t publishers[2];
   iox2ps_subscriber_t subscriber;
   uint64_t connections = 0;
   allocations = looked_at = 0;
   refused_at = at;
   iox2ps_config_defaults(&config, 7, 8, 8);
+  config.max_publishers = 3;
+  iox2ps_publisher_options_of(&config, &options);
   iox2ps_status_t code = iox2ps_domain_create(&domain, &config);
   if (code != IOX2PS_OK) {
     CHECK(code == IOX2PS_OUT_OF_MEMORY && domain.domain_ == NULL && was_refused());
     IS(iox2ps_domain_create(&domain, &config), IOX2PS_OK);
   }
-  make_publisher(&domain, &publishers[0]);
+  make_publisher(&domain, &options, &publishers[0]);
   make_subscriber(&domain, &subscriber);
-  make_publisher(&domain, &publishers[1]);
+  make_publisher(&domain, &options, &publishers[1]);
   size_t first = pass(&domain, publishers, &subscriber);
   IS(iox2ps_domain_refused_connections(&domain, &connections), IOX2PS_OK);
   CHECK(first == 2 || (first == 1 && connections == 1));
@@ -94,6 +125,7 @@ static int run(size_t at) {
   if (connections) CHECK(pass(&domain, publishers, &subscriber) == 2);
   size_t before = allocations;
   CHECK(pass(&domain, publishers, &subscriber) == 2 && allocations == before);
+  grow(&domain, &options);
   for (int i = 0; i < 2; i++) IS(iox2ps_publisher_close(&domain, &publishers[i]), IOX2PS_OK);
   IS(iox2ps_subscriber_close(&domain, &subscriber), IOX2PS_OK);
   IS(iox2ps_domain_destroy(&domain), IOX2PS_OK);

@@ -181,8 +181,19 @@ impl Worker<'_> {
         }
     }
 
+    // One of its own, or one that others have too.
+    fn source(&mut self) -> Option<Arc<Source>> {
+        let own = self.random.of(&self.own.sources).cloned();
+        own.or_else(|| self.random.of(&lock(&self.round.pool).sources).cloned())
+    }
+
+    fn reader(&mut self) -> Option<Arc<Reader>> {
+        let own = self.random.of(&self.own.readers).cloned();
+        own.or_else(|| self.random.of(&lock(&self.round.pool).readers).cloned())
+    }
+
     fn send(&mut self) {
-        let Some(source) = self.random.of(&self.own.sources).cloned() else {
+        let Some(source) = self.source() else {
             return;
         };
         let mut sent = lock(&source.sent);
@@ -246,7 +257,7 @@ impl Worker<'_> {
     }
 
     fn receive(&mut self) {
-        let Some(reader) = self.random.of(&self.own.readers).cloned() else {
+        let Some(reader) = self.reader() else {
             return;
         };
         let round = self.round;
@@ -310,6 +321,9 @@ impl Worker<'_> {
 
     // What a thread has that panics goes with it.
     fn panic(&mut self) {
+        if self.random.below(20) != 0 {
+            return;
+        }
         let samples: Vec<_> = self.own.samples.drain(..).collect();
         let blocked = self.random.take(&mut self.own.blocked);
         if let Some(Waiting(_, message)) = &blocked {
@@ -326,18 +340,18 @@ impl Worker<'_> {
 
     fn act(&mut self) {
         match self.random.below(1000) {
-            0..=29 => self.make_source(),
-            30..=69 => self.make_reader(),
-            70..=399 => self.send(),
-            400..=469 => self.end_blocked(),
-            470..=799 => self.receive(),
-            800..=819 => self.listen(),
-            820..=879 => self.exchange(),
-            880..=949 => drop(self.random.take(&mut self.own.samples)),
-            950..=969 => drop(self.random.take(&mut self.own.sources)),
-            970..=991 => drop(self.random.take(&mut self.own.readers)),
-            992..=993 => self.panic(),
-            994 => self.round.domain.stop_waits(true),
+            0..=9 => self.make_source(),
+            10..=29 => self.make_reader(),
+            30..=299 => self.send(),
+            300..=429 => self.end_blocked(),
+            430..=779 => self.receive(),
+            780..=781 => self.listen(),
+            782..=839 => self.exchange(),
+            840..=979 => drop(self.random.take(&mut self.own.samples)),
+            980..=982 => drop(self.random.take(&mut self.own.sources)),
+            983..=989 => drop(self.random.take(&mut self.own.readers)),
+            990 => self.panic(),
+            991 => self.round.domain.stop_waits(true),
             _ => self.round.domain.stop_waits(false),
         }
         for (sample, message) in &self.own.samples {

@@ -13,6 +13,8 @@ mod blocked_slots;
 #[cfg(test)]
 mod boxes;
 #[cfg(test)]
+mod fickle;
+#[cfg(test)]
 mod handlers;
 #[cfg(test)]
 mod two_domains;

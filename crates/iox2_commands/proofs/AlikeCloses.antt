@@ -14,11 +14,7 @@ use Rattle.iox2_laws.proofs.Puts.{put_at-same}
 use Rattle.iox2_commands.specs.Isolation.{HasBorrowedNothing}
 use Rattle.iox2_commands.specs.Views.{public_part}
 use Rattle.iox2_commands.proofs.AlikeViews.{View, view_of}
-
--- a test that each number passes is passed by all of a list
-all_pass : (test : ℕ → Bool) (ns : List ℕ) → ((n : ℕ) → test n ≡ true) → list_all test ns ≡ true
-all_pass test [] all = refl
-all_pass test (n ∷ ns) all = ap (λ (b : Bool). b && list_all test ns) (all n) ∙ all_pass test ns all
+use Rattle.iox2_laws.proofs.NumberLemmas.{all_pass}
 
 -- a publisher that is due
 abbrev due : Option Publisher → Option Publisher

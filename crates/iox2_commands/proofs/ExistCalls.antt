@@ -38,11 +38,12 @@ use Rattle.iox2_store.specs.declared.errors.PublisherCreateError.{PublisherCreat
 use Rattle.iox2_store.specs.declared.errors.PublisherCreateError.TheVariants.{UnableToCreatePortTag as NoPublisherTag, ExceedsMaxSupportedPublishers, UnableToCreateDataSegment}
 use Rattle.iox2_store.specs.declared.errors.SubscriberCreateError.{SubscriberCreateError}
 use Rattle.iox2_store.specs.declared.errors.SubscriberCreateError.TheVariants.{UnableToCreatePortTag as NoSubscriberTag, BufferSizeExceedsMaxSupportedBufferSizeOfService, ExceedsMaxSupportedSubscribers}
-use Rattle.iox2_laws.proofs.Cases.{by_option, by_bool}
+use Rattle.iox2_laws.proofs.Cases.{by_option, by_bool, match_some}
 use Rattle.iox2_laws.proofs.Puts.{at_each, found_put, found_removed, found_mapped, put_at-same}
 use Rattle.iox2_laws.proofs.PublisherUpdates.{update_publisher_changes}
 use Rattle.iox2_store.specs.machine.Environments.{ample_memory}
-use Rattle.iox2_commands.proofs.ExistUpdates.{ComesWith, anything, at_some, comes_option, comes_bool, is_fixed, AllFixed, deliver_comes, update_publisher_comes, update_subscriber_comes}
+use Rattle.iox2_commands.proofs.ExistUpdates.{ComesWith, anything, comes_option, comes_bool, is_fixed, AllFixed, deliver_comes, update_publisher_comes, update_subscriber_comes}
+use Rattle.iox2_laws.proofs.WaitingReceives.{passes_at}
 
 -- ---- fixed handlers
 
@@ -64,18 +65,6 @@ each_fixed publishers change all same i z e =
     ap (λ (v : Publisher). is_fixed v.backpressure_handler) g ∙ ap is_fixed (same x) ∙ all i x f)
 
 -- ---- receiving
-
--- one of a list that passes
-one_of : (test : ℕ → Bool) (ns : List ℕ) → list_any test ns ≡ true → (n : ℕ) × (test n ≡ true) × (contains ns n ≡ true)
-one_of test [] e = absurd (true≢false (sym e))
-one_of test (n ∷ ns) e = at (one_of test ns) (test n) refl
-  where
-    at : (list_any test ns ≡ true → (k : ℕ) × (test k ≡ true) × (contains ns k ≡ true)) → (b : Bool) → test n ≡ b
-        → (k : ℕ) × (test k ≡ true) × (contains (n ∷ ns) k ≡ true)
-    at rest true f = (n, f, or_left (eqb n n) (contains ns n) (eq-eqb n n refl))
-    at rest false f =
-        let later : (k : ℕ) × (test k ≡ true) × (contains ns k ≡ true) = rest (subst (λ b. (b || list_any test ns) ≡ true) f e) in
-        (later.0, later.1, or_right (eqb n later.0) (contains ns later.0) later.2)
 
 -- where something waits, there is a first
 first_waits : (box : Mailbox) → has_data box ≡ true → (n : ℕ) × (box' : Mailbox) × BorrowsFirst box n box'
@@ -240,7 +229,7 @@ module _ {T U : Type 0} where
         comes_option (State T U) (Option LoanError) (Grants s.next_message) (limit_error checks_length x len) _ _
         (λ _. comes_bool (State T U) (Option LoanError) (Grants s.next_message) (is_static x.allocation_strategy) _ _ (λ _. static_comes) (λ dynamic. dynamic_comes dynamic))
         (λ limit _. (s, Some limit, (refl, refl), refused limit)) in
-        (v.0, v.1, at_some (s.publishers p) x _ _ present v.2, v.3)
+        (v.0, v.1, match_some (s.publishers p) x _ _ present v.2, v.3)
 
     pub grant_written_comes : (value : T) (checks_length : Bool)
         → ComesWith (State T U) (Option LoanError) (GrantWrittenLoan ample_memory value default_header checks_length len s p) (Grants s.next_message)
@@ -254,7 +243,7 @@ module _ {T U : Type 0} where
             let found : (l : Loan T U) × (mid.loans s.next_message ≡ Some l) = g.1 refl in (
               with_loan mid s.next_message (Some (written found.0 value)),
               None,
-              (mid, h, at_some (mid.loans s.next_message) found.0 _ _ found.1 refl),
+              (mid, h, match_some (mid.loans s.next_message) found.0 _ _ found.1 refl),
               (with_loan_fixed mid s.next_message _ g.0, λ _. (_, put_at-same mid.loans s.next_message _)),
             )
         at mid (Some e) h g = (mid, Some e, (mid, h, refl), g)
@@ -272,14 +261,14 @@ module _ {T U : Type 0} where
       let d : ComesWith DeliveryEnd (ℕ → Mailbox) (Deliver ample_memory s.config p x.backpressure_strategy x.backpressure_handler (receiving_buffer s) n retries elapsed place ends count has_failed (s.mailboxes p)) (anything DeliveryEnd (ℕ → Mailbox)) =
       deliver_comes s.config p x.backpressure_strategy x.backpressure_handler (k.handlers p x present) (receiving_buffer s) n retries elapsed place ends count has_failed (s.mailboxes p) in
       let e : ComesTo SendResult (ConcludeSend (with_mailboxes s p d.1) p n d.0) = conclude_comes (with_mailboxes s p d.1) p n d.0 (record { message = k.message; handlers = k.handlers }) in
-      (e.0, e.1, at_some (s.publishers p) x _ _ present (d.0, d.1, d.2, e.2), e.3)
+      (e.0, e.1, match_some (s.publishers p) x _ _ present (d.0, d.1, d.2, e.2), e.3)
 
   publish_comes : (s : State T U) (p : ℕ) (x : Publisher) → s.publishers p ≡ Some x → IsFixed s → (n : ℕ) → ComesTo SendResult (Publish ample_memory s p n)
   publish_comes s p x present k n =
       let d : ComesTo SendResult (DeliverAndConclude ample_memory (published s p n) p n 0 no_time 0 x.ends 0 false) =
       delivers (published s p n) p (remembers x) (put_at-same s.publishers p (option_map remembers (s.publishers p)) ∙ ap (option_map remembers) present)
       (changed_fixed (with_loan s n None) p remembers (λ x. refl) (with_loan_fixed s n None k)) n 0 no_time 0 x.ends 0 false in
-      (d.0, d.1, at_some (s.publishers p) x _ _ present d.2, d.3)
+      (d.0, d.1, match_some (s.publishers p) x _ _ present d.2, d.3)
     where
       remembers : Publisher → Publisher
       remembers x = record x { history = last_n (s.config).history_size (x.history ++ n ∷ []) }
@@ -322,14 +311,14 @@ module _ {T U : Type 0} where
 
       by_ends : can_receive_of limit y boxes y.expired ≡ false → (b : Bool) → can_receive_of limit y boxes (occupants y.ends) ≡ b → ComesTo ReceiveResult (TakeSample s q y)
       by_ends none true f =
-          let one : (p : ℕ) × (can_receive limit (boxes p) ≡ true) × (contains (occupants y.ends) p ≡ true) = one_of (λ p. can_receive limit (boxes p)) (occupants y.ends) f in
+          let one : (p : ℕ) × (can_receive limit (boxes p) ≡ true) × (contains (occupants y.ends) p ≡ true) = passes_at (λ p. can_receive limit (boxes p)) (occupants y.ends) f in
           got one.0 one.1 (subst (λ b. MatchBool b (contains y.expired one.0 ≡ true) (contains (occupants y.ends) one.0 ≡ true)) (sym none) one.2)
       by_ends none false f =
           by_data (list_any-append (λ p. can_receive limit (boxes p)) y.expired (occupants y.ends) ∙ or_from _ _ none f) (has_any_data limit y boxes) refl
 
       by_expired : (b : Bool) → can_receive_of limit y boxes y.expired ≡ b → ComesTo ReceiveResult (TakeSample s q y)
       by_expired true f =
-          let one : (p : ℕ) × (can_receive limit (boxes p) ≡ true) × (contains y.expired p ≡ true) = one_of (λ p. can_receive limit (boxes p)) y.expired f in
+          let one : (p : ℕ) × (can_receive limit (boxes p) ≡ true) × (contains y.expired p ≡ true) = passes_at (λ p. can_receive limit (boxes p)) y.expired f in
           got one.0 one.1 (subst (λ b. MatchBool b (contains y.expired one.0 ≡ true) (contains (occupants y.ends) one.0 ≡ true)) (sym f) one.2)
       by_expired false f = by_ends f (can_receive_of limit y boxes (occupants y.ends)) refl
 
@@ -343,7 +332,7 @@ module _ {T U : Type 0} where
       comes_option (State T U) ReceiveResult (λ s' r. IsFixed s') u.1 _ _
       (λ _.
       let t : ComesTo ReceiveResult (TakeSample u.0 q there.0) = take_comes u.0 q there.0 u.3 in
-      (t.0, t.1, at_some ((u.0).subscribers q) there.0 _ _ there.1 t.2, t.3))
+      (t.0, t.1, match_some ((u.0).subscribers q) there.0 _ _ there.1 t.2, t.3))
       (λ e _. (u.0, Receive_error (CouldNotConnect e), (refl, refl), u.3)) in
       (v.0, v.1, (u.0, u.1, u.2, v.2), v.3)
 
@@ -353,7 +342,7 @@ module _ {T U : Type 0} where
   has_samples_comes s q y present k =
       let u : ComesTo (Option ConnectionFailure) (UpdateSubscriber ample_memory s q) = subscriber_updates s q y present k in
       let there : (z : Subscriber) × ((u.0).subscribers q ≡ Some z) = still_there s u.0 q u.1 u.2 in
-      (u.0, u.1, has_any_data (s.config).subscriber_max_borrowed_samples there.0 (λ p. (u.0).mailboxes p q), (u.2, at_some ((u.0).subscribers q) there.0 _ _ there.1 refl), u.3)
+      (u.0, u.1, has_any_data (s.config).subscriber_max_borrowed_samples there.0 (λ p. (u.0).mailboxes p q), (u.2, match_some ((u.0).subscribers q) there.0 _ _ there.1 refl), u.3)
 
   -- ---- releases and ports
 

@@ -32,8 +32,9 @@ use Rattle.iox2_commands.proofs.Named.{unblocked_is, subscriber_is, blocked_is, 
 use Rattle.iox2_commands.proofs.ReadSteps.{PastSends, past_after}
 use Rattle.iox2_commands.proofs.Reached.{HasReached, goes_on}
 use Rattle.iox2_commands.proofs.AlikeOpen.{state_publisher, state_subscriber, state_loan, state_update, state_question, state_receive, state_retry, state_send}
-use Rattle.iox2_commands.proofs.ExistUpdates.{ComesWith, at_some, is_fixed}
+use Rattle.iox2_commands.proofs.ExistUpdates.{ComesWith, is_fixed}
 use Rattle.iox2_commands.proofs.ExistCalls.{IsFixed, ComesTo, Grants, with_loan_fixed, loan_discarded_fixed, publisher_updates, subscriber_updates, grant_comes, grant_written_comes, delivers, send_comes, receive_comes, has_samples_comes, released_fixed, publisher_closed_fixed, subscriber_closed_fixed, create_publisher_comes, create_subscriber_comes}
+use Rattle.iox2_laws.proofs.Cases.{match_some}
 
 -- a handler that a command gives is fixed
 given_fixed : (o : Option BackpressureAction) → is_fixed (option_map {U = Handler BackpressureAction} (λ action. Fixed action) o) ≡ true
@@ -128,7 +129,7 @@ module _ {T U : Type 0} where
             let found : (l : Loan T U) × (mid.loans s.next_message ≡ Some l) = g.1 refl in
             let sent : Ends (λ o. (s' : State T U) × (result : SendResult) × Send ample_memory mid s.next_message found.0 s' result
             × (o ≡ after_send s' (found.0).publisher s.next_message (entry_of found.0) result)) = sends_loan mid s.next_message found.0 g.0 in
-            (sent.0, (mid, None, h, at_some (mid.loans s.next_message) found.0 _ _ found.1 sent.1), sent.2)
+            (sent.0, (mid, None, h, match_some (mid.loans s.next_message) found.0 _ _ found.1 sent.1), sent.2)
         at mid (Some e) h g = (replied (SendRefused (NotLoaned e)) mid, (mid, Some e, h, refl), g.0)
 
     -- a cell that is there is read
@@ -204,19 +205,19 @@ module _ {T U : Type 0} where
         let sent : (entry : Entry T U) × (m sample.2 ≡ Some entry) = sample_sent of sample e in
         let v : Ends (λ o. MatchOption (slice_get (sent.0).values at) (o ≡ skipped s) (λ value. o ≡ replied (Cell (Some value)) s)) =
         live (slice_get (sent.0).values at) _ (λ value _. ends_so (replied (Cell (Some value)) s) k) in
-        (v.0, at_some (m sample.2) sent.0 _ _ sent.1 v.1, v.2))
+        (v.0, match_some (m sample.2) sent.0 _ _ sent.1 v.1, v.2))
     step_comes (ReadHeader of) =
         ends_option (sample_at s handles of) _ _
         (λ _. live (loan_at s handles of) _ (λ loan _. ends_so (replied (HeaderRead (loan.1).header) s) k))
         (λ sample e.
         let sent : (entry : Entry T U) × (m sample.2 ≡ Some entry) = sample_sent of sample e in
-        (replied (HeaderRead (sent.0).header) s, at_some (m sample.2) sent.0 _ _ sent.1 refl, k))
+        (replied (HeaderRead (sent.0).header) s, match_some (m sample.2) sent.0 _ _ sent.1 refl, k))
     step_comes (ReadUserHeader of) =
         ends_option (sample_at s handles of) _ _
         (λ _. live (loan_at s handles of) _ (λ loan _. ends_so (replied (UserHeader (loan.1).user_header) s) k))
         (λ sample e.
         let sent : (entry : Entry T U) × (m sample.2 ≡ Some entry) = sample_sent of sample e in
-        (replied (UserHeader (sent.0).user_header) s, at_some (m sample.2) sent.0 _ _ sent.1 refl, k))
+        (replied (UserHeader (sent.0).user_header) s, match_some (m sample.2) sent.0 _ _ sent.1 refl, k))
     step_comes (Release of) = live (sample_at s handles of) _ (λ sample _. ends_so _ (released_fixed s sample.0 sample.1 sample.2 k))
     step_comes (Close of) =
         ends_option (unblocked_at s handles of) _ _

@@ -20,6 +20,7 @@ use Rattle.iox2_store.specs.declared.backpressure.BackpressureAction.{Backpressu
 use Rattle.iox2_store.specs.declared.backpressure.BackpressureInfo.{BackpressureInfo}
 use Rattle.iox2_store.specs.declared.errors.ConnectionFailure.{ConnectionFailure}
 use Rattle.iox2_store.specs.machine.Environments.{ample_memory}
+use Rattle.iox2_laws.proofs.Cases.{match_some}
 
 -- A result of a relation between two, of which something holds.
 abbrev pub ComesWith : (S R : Type 0) → (S → R → Type 0) → (S → R → Type 0) → Type 0
@@ -28,10 +29,6 @@ ComesWith S R Rel Good = (s : S) × (r : R) × Rel s r × Good s r
 -- nothing more is asked of it
 abbrev pub anything : (S R : Type 0) → S → R → Type 0
 anything S R s r = Unit {0}
-
--- a fact where an option is known
-pub at_some : {A : Type 0} (o : Option A) (a : A) (P : Type 0) (Q : A → Type 0) → o ≡ Some a → Q a → MatchOption o P Q
-at_some o a P Q e q = subst (λ v. MatchOption v P Q) (sym e) q
 
 -- by cases of an option
 pub comes_option : {A : Type 0} (S R : Type 0) (G : S → R → Type 0) (o : Option A) (P : S → R → Type 0) (Q : A → S → R → Type 0)
@@ -133,7 +130,7 @@ module _ {T U : Type 0} where
       let each : ComesWith SenderSide (Option ConnectionFailure) Walks (anything SenderSide (Option ConnectionFailure)) = for_each_comes AtPlace at_place 0 s.subscriber_places (sender_side s p x) in
       (with_sender_side s p x each.0, each.1, (each.0, each.2, refl), tt))
       (λ _. (s, None, (refl, refl), tt)) in
-      (v.0, v.1, at_some (s.publishers p) x ⊥ _ present v.2)
+      (v.0, v.1, match_some (s.publishers p) x ⊥ _ present v.2)
     where
       AtPlace : (place : ℕ) → (at : Option ℕ) → SenderSide → SenderSide → Option ConnectionFailure → Type 0
       AtPlace = UpdateSenderPlace ample_memory (s.config).service_id p x.degradation_handler x.history (receiving_buffer s) (has_receiver_end s p)
@@ -167,7 +164,7 @@ module _ {T U : Type 0} where
       for_each_comes Disconnects disconnects 0 s.publisher_places first.0 in
       (with_receiver_side s q y later.0, first_failure first.1 later.1, (later.0, (first.0, first.1, later.1, first.2, later.2, refl), refl), tt))
       (λ _. (s, None, (refl, refl), tt)) in
-      (v.0, v.1, at_some (s.subscribers q) y _ _ present v.2)
+      (v.0, v.1, match_some (s.subscribers q) y _ _ present v.2)
     where
       Connects : (place : ℕ) → (at : Option ℕ) → ReceiverSide → ReceiverSide → Option ConnectionFailure → Type 0
       Connects = ConnectAtPlace ample_memory (s.config).service_id q y.degradation_handler (expired_limit s.config) (λ p. has_sender_end s p q)

@@ -16,6 +16,7 @@ use Rattle.iox2_laws.proofs.Puts.{at_each}
 use Rattle.iox2_laws.proofs.PlaceLemmas.{injective_rest}
 use Rattle.iox2_commands.specs.Runs.{IsSubsequence}
 use Rattle.iox2_commands.proofs.Subsequences.{IsSubsequence-refl, IsSubsequence-trans, IsSubsequence-append, IsSubsequence-drop, IsSubsequence-push}
+use Rattle.iox2_laws.proofs.DeliveryLaws.{leads_further}
 
 -- ---- one message is delivered
 
@@ -30,10 +31,6 @@ appended_in_order buffer n box got before h =
     (λ _. behind box.waiting (IsSubsequence-refl box.waiting))
     (λ _. behind (drop 1 box.waiting) (IsSubsequence-drop 1 box.waiting))
 
--- an end behind the first is an end
-later_end : (end : Option ℕ) (rest : List (Option ℕ)) (q : ℕ) → LeadsTo rest q → LeadsTo (end ∷ rest) q
-later_end end rest q l = (suc l.0, l.1)
-
 -- The message n of a publisher was sent last; those at these ends haven't got it. `got` has what each receiver received.
 module _ (p0 : ℕ) (got : ℕ → List ℕ) (before : List ℕ) (n : ℕ) where
   -- Each receiver got no more than was sent, and those at these ends no more than was sent before.
@@ -47,7 +44,7 @@ module _ (p0 : ℕ) (got : ℕ → List ℕ) (before : List ℕ) (n : ℕ) where
   LeftSo (Suspended b) boxes = (b.message ≡ n) × Serving b.ends boxes
 
   one_fewer : (end : Option ℕ) (rest : List (Option ℕ)) (boxes : ℕ → Mailbox) → Serving (end ∷ rest) boxes → Serving rest boxes
-  one_fewer end rest boxes v = record { whole = v.whole; unserved = λ q new l. v.unserved q new (later_end end rest q l) }
+  one_fewer end rest boxes v = record { whole = v.whole; unserved = λ q new l. v.unserved q new (leads_further end rest q l) }
 
   -- one mailbox is written as it was
   rewritten : (ends : List (Option ℕ)) (boxes : ℕ → Mailbox) (q : ℕ) (box : Mailbox) → box ≡ boxes q → Serving ends boxes → Serving ends (put_at boxes q box)
@@ -67,7 +64,7 @@ module _ (p0 : ℕ) (got : ℕ → List ℕ) (before : List ℕ) (n : ℕ) where
         (appended_in_order buffer n (boxes q) (got q) before (v.unserved q new (0, refl)))) (λ _. v.whole r);
     unserved = λ r. at_each boxes q box (λ r b. p0 ≤ r → LeadsTo rest r → IsSubsequence (got r ++ b.waiting) before) r
         (λ _ new l. let same : 0 ≡ suc l.0 = apart 0 (suc l.0) q refl l.1 in absurd (omega arith))
-        (λ _ new l. v.unserved r new (later_end (Some q) rest r l));
+        (λ _ new l. v.unserved r new (leads_further (Some q) rest r l));
   }
 
   module _ (environment : Environment) (c : ServiceConfig) (p : ℕ) (strategy : BackpressureStrategy) (handler : Option (Handler BackpressureAction)) (buffers : ℕ → Option ℕ) where

@@ -19,6 +19,7 @@ use Rattle.iox2_commands.specs.Runs.{IsSubsequence}
 use Rattle.iox2_commands.proofs.Subsequences.{IsSubsequence-trans, IsSubsequence-last_n, IsSubsequence-push, IsSubsequence-more}
 use Rattle.iox2_commands.proofs.Ordered.{Ordered, BlockedInOrder}
 use Rattle.iox2_commands.proofs.OrderSends.{Serving, LeftSo, deliver_in_order}
+use Rattle.iox2_laws.proofs.SendLaws.{injective_drop}
 
 -- the one key or another
 by_key : (i k : ℕ) (R : Type 0) → (i ≡ k → R) → (eqb i k ≡ false → R) → R
@@ -28,11 +29,6 @@ by_key i k R same other = elim (eqb i k) as (λ b. eqb i k ≡ b → R) [ true �
 abbrev BlockedWith : (p0 : ℕ) → (out : ℕ → List ℕ) → (got : ℕ → ℕ → List ℕ) → (p : ℕ) → (ℕ → Mailbox) → BlockedSend → Type 0
 BlockedWith p0 out got p boxes b =
     (before : List ℕ) × (out p ≡ before ++ b.message ∷ []) × ((q : ℕ) → p0 ≤ q → LeadsTo b.ends q → IsSubsequence (got p q ++ (boxes q).waiting) before)
-
--- a list's end has no two ends that lead to the same port where the list hasn't
-injective_drop : (k : ℕ) (xs : List (Option ℕ)) → IsInjective xs → IsInjective (drop k xs)
-injective_drop k xs apart i j id e f =
-    let same : k + i ≡ k + j = apart (k + i) (k + j) id (sym (occupant-drop k xs i) ∙ e) (sym (occupant-drop k xs j) ∙ f) in omega arith
 
 module _ {T U : Type 0} where
   -- Of one publisher the mailboxes have changed, and neither its history nor its ends; and of the others nothing.

@@ -28,17 +28,12 @@ use Rattle.iox2_commands.specs.Runs.{IsSubsequence}
 use Rattle.iox2_commands.proofs.Subsequences.{IsSubsequence-nil, IsSubsequence-refl, IsSubsequence-last_n}
 use Rattle.iox2_commands.proofs.Ordered.{Ordered, quiet_keeps, Quiet, WasPublisher, WasOpen, Waited, same_publisher, same_loan, same_waiting}
 use Rattle.iox2_commands.proofs.OrderSteps.{quiet_refl, due_publisher, opened_mapped}
+use Rattle.iox2_laws.proofs.SenderSides.{end_stays, nothing_after}
 
 -- something is there
 there : {A : Type 0} (o : Option A) → is_some o ≡ true → (a : A) × (o ≡ Some a)
 there None h = absurd (true≢false (sym h))
 there (Some a) h = (a, refl)
-
--- an end at another place stays where one is set
-end_stays : (ends : List (Option ℕ)) (place i r : ℕ) (end : Option ℕ) → (i ≡ place → ⊥) → occupant ends i ≡ Some r → occupant (set_place ends place end) i ≡ Some r
-end_stays ends place i r end apart h =
-    let other : eqb i place ≡ false = ne_eqb i place apart in
-    occupant-set_place ends place end i ∙ rw other h
 
 -- ---- a publisher's update
 
@@ -70,10 +65,6 @@ module _ (places : List (Option ℕ)) (buffers : ℕ → Option ℕ) (boxes : �
         (l'.0, end_stays side.ends place l'.0 r None (λ same. apart r buffer (sym e ∙ ap (occupant side.ends) (sym same) ∙ l'.1) b) l'.1);
     waits = (dropped_in_order side q k).waits;
   }
-
-  nothing_after : (side : SenderSide) (place : ℕ) (end : Option ℕ) → occupant side.ends place ≡ end → occupant (disconnected side place end).ends place ≡ None
-  nothing_after side place None e = e
-  nothing_after side place (Some q) e = occupant-set_place side.ends place None place ∙ rw (eq-eqb place place refl) refl
 
   connected_in_order : (side : SenderSide) (place q buffer : ℕ) → IsInjective places → occupant places place ≡ Some q → buffers q ≡ Some buffer
       → occupant side.ends place ≡ None

@@ -51,7 +51,7 @@ impl<T: Drop> Cells<T> {
         requires { len ≤ self.old.room }
         ensures { self.new ≡ with_items (replicate len None) self.old }
     {
-        self.listed.clear();
+        self.clear();
         self.unlisted = len;
     }
 

@@ -105,17 +105,17 @@ impl<T: Drop> Values<T> {
 }
 
 impl<T: Copy + Drop> Values<T> {
-    /// Writes copies of the items. Where as many values lie there it is one copy of memory.
+    /// Writes copies of the items. Where no fewer values lie there it is one copy of memory.
     pub(crate) fn write_from_slice(&mut self, items: &[T])
         requires { length items.now ≤ self.old.room }
         ensures { self.new ≡ with_items items.now self.old }
     {
-        if self.kept.len() == items.len() {
-            self.kept.copy_from_slice(items);
-            self.written = items.len();
-        } else {
+        if self.kept.len() < items.len() {
             let values = push_copies(self.take_empty(), items);
             self.put(values);
+        } else {
+            self.kept.slice_mut(..items.len()).copy_from_slice(items);
+            self.written = items.len();
         }
     }
 }

@@ -38,7 +38,8 @@ fn remember(publisher: &mut PublisherState, book: &mut SlotBook, slot: usize)
 // The loan in a slot was delivered, and its message enters the history. Either it is out no more, or its
 // publisher waits for a receiver, and there is one holder more for the history. Each of the two says how
 // the send ended, so that nothing is asked again behind them. The progress is copied field by field: a copy
-// of the whole takes what lies between its fields too, which would be cleared at each message.
+// of the whole takes what lies between its fields too, which would be cleared at each message
+// (docs/decisions/cost.md, "What a message takes is cleared and asked once").
 #[inline(always)]
 fn conclude(
     publisher: &mut PublisherState,

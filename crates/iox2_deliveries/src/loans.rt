@@ -59,7 +59,36 @@ pub fn loan<T: Drop, U: Default + Drop>(
     if is_static_at(state, place) {
         loan_static(state, place, checks_length, len)
     } else {
-        loan_growing(state, place, checks_length, len)
+        loan_elsewhere(state, place, checks_length, len)
+    }
+}
+
+// The same of a publisher whose memory grows. The loan has a place of its own here, and is made of its
+// parts: else it would be cleared at each loan of a static publisher, and lie in memory.
+#[inline(always)]
+fn loan_elsewhere<T: Drop, U: Default + Drop>(
+    state: &mut DomainState<T, U>,
+    place: usize,
+    checks_length: bool,
+    len: usize,
+) -> Result<LoanAt, LoanError>
+    requires agrees { IsDomain state.old }
+    requires grows { (x : PublisherFields) × (slice_index_or state.old.publishers place None ≡ Some x) × (is_static x.allocation ≡ false) }
+    requires single { (state.old.config).variant ≡ FixedSize → len ≡ 1 }
+    ensures reaches { IsSomeAnd (slice_index_or state.old.publishers place None) (λ x. LoanReaches U.is_default checks_length len state.old x result state.new) }
+    ensures named { IfOk result (λ loan. IsSomeAnd (slice_index_or state.old.publishers place None) (λ x. IsNamed state.old x loan)) }
+    ensures lies { IfOk result (λ loan. LiesInSlot state.new loan.publisher loan.number loan.book loan.slot) }
+    ensures placed { IfOk result (λ loan. loan.place ≡ place) }
+{
+    match loan_growing(state, place, checks_length, len) {
+        Ok(loan) => Ok(LoanAt {
+            publisher: loan.publisher,
+            number: loan.number,
+            place,
+            book: loan.book,
+            slot: loan.slot,
+        }),
+        Err(error) => Err(error),
     }
 }
 

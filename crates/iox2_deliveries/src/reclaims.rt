@@ -17,7 +17,8 @@ use iox2_slots::{Connection, SlotBook};
 use slab::Slab;
 
 /// A publisher reclaims every slot of its book that was given back in its connections, if none of its
-/// slots is free. A slot that nobody else holds is free then.
+/// slots is free. A slot that nobody else holds is free then. It is asked right before the book is
+/// (docs/decisions/cost.md, "What a message takes is cleared and asked once").
 #[inline(always)]
 pub(crate) fn reclaim_if_full(
     publisher: &PublisherState,

@@ -16,7 +16,7 @@ pub enum HandlerMark<A> {
 }
 
 /// Asks the box of the publisher with an id, which is looked for each time. Where there is none the
-/// strategy is followed.
+/// strategy is followed (docs/decisions/handlers.md, "A box that isn't there follows the strategy").
 #[derive(Drop)]
 pub struct AskedBox<'a, F, G> {
     pub(crate) boxes: &'a Boxes<F, G>,

@@ -27,7 +27,7 @@ mod warnings;
 pub use boxes::{Boxes, PortBoxes};
 pub use degradations::degradation_answer;
 pub use handlers::{AskedBox, HandlerMark};
-pub use loan_slots::LoanAt;
+pub use loan_slots::{LoanAt, is_loan_slot};
 pub use message_slots::MessageSlot;
 pub use options::{PublisherOptions, SubscriberOptions};
 pub use places::{free_place, put_at_place, reserve_place, stands_at};

@@ -155,8 +155,8 @@ fn find_loan_slot(book: &SlotBook, number: u128) -> Option<usize>
     None
 }
 
-// A loan with this number lies in the slot.
-fn is_loan_slot(book: &SlotBook, slot: usize, number: u128) -> bool
+/// Whether a loan with this number lies in the slot.
+pub fn is_loan_slot(book: &SlotBook, slot: usize, number: u128) -> bool
     ensures { IsTrue result ↔ IsLoanSlot book.now slot number }
 {
     if slot >= book.len() {

@@ -1,6 +1,5 @@
 //! What a domain has of a publisher.
 ghost use Rattle.std.specs.Prelude.{◌≡◌, ◌<◌, ◌≤◌, [], length, vec_capacity, IfOk};
-ghost use Rattle.iox2_store.specs.machine.Numbers.{without};
 ghost use Rattle.iox2_ends.specs.Counters.{times};
 
 use crate::boxes::Boxes;
@@ -11,7 +10,7 @@ use crate::ports::Port;
 use circular_buffer::HeapCircularBuffer;
 use iox2_ends::receiver::key_in;
 use iox2_ends::sender::Progress;
-use iox2_slots::place_of;
+use iox2_slots::take_slot;
 use iox2_store::{
     AllocationStrategy, BackpressureAction, BackpressureHandler, BackpressureStrategy,
     DegradationAction, ServiceConfig, UniquePublisherId,
@@ -203,32 +202,7 @@ impl PublisherState {
         requires { times slot self.old.loans ≤ 1 }
         ensures { self.new ≡ with_loan_out slot self.old }
     {
-        remove_slot(&mut self.loans, slot);
-    }
-}
-
-// Takes a slot out that stands there once at most; the others keep their order.
-fn remove_slot(slots: &mut Vec<usize>, slot: usize)
-    requires { times slot slots.old.items ≤ 1 }
-    ensures items { slots.new.items ≡ without slot slots.old.items }
-    ensures capacity { vec_capacity slots.new ≡ vec_capacity slots.old }
-{
-    if slots.last().copied() == Some(slot) {
-        let _ = slots.pop();
-    } else {
-        search_and_remove(slots, slot);
-    }
-}
-
-// The same, wherever the slot stands.
-#[inline(never)]
-fn search_and_remove(slots: &mut Vec<usize>, slot: usize)
-    requires { times slot slots.old.items ≤ 1 }
-    ensures items { slots.new.items ≡ without slot slots.old.items }
-    ensures capacity { vec_capacity slots.new ≡ vec_capacity slots.old }
-{
-    if let Some(place) = place_of(slots, slot) {
-        slots.remove(place);
+        take_slot(&mut self.loans, slot);
     }
 }
 

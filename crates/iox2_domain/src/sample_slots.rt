@@ -173,7 +173,7 @@ impl<T: Drop, U: Default + Drop> DomainState<T, U> {
 
     /// Whether a sample lies in the connection and the slot that it names, and was borrowed last
     /// there. No holders are counted for that. A look-up in books that may be written tests less, and
-    /// nothing is written.
+    /// nothing is written (docs/decisions/cost.md, "Look-ups that can't fail go through `&mut`").
     pub fn is_last_at_hint(&mut self, sample: &SampleAt) -> bool
         requires { IsDomain self.old }
         ensures lies { IsTrue result → LiesAtHint self.old sample.now }

@@ -71,7 +71,8 @@ fn look(connections: &Slab<Connection>, key: Option<usize>) -> Found
     }
 }
 
-// The same. A look-up in connections that may be written tests less, and nothing is written.
+// The same. A look-up in connections that may be written tests less, and nothing is written
+// (docs/decisions/cost.md, "Look-ups that can't fail go through `&mut`").
 fn look_to_take(connections: &mut Slab<Connection>, key: Option<usize>) -> Found
     requires { ForSome key (ContainsKey connections.old) }
     ensures offers { result ≡ offer_at connections.old key }

@@ -178,7 +178,8 @@ fn one_more(missed: usize) -> usize
     missed + 1
 }
 
-// How many places have missed the message, with one at which it came to this.
+// How many places have missed the message, with one at which it came to this
+// (docs/decisions/cost.md, "A delivery counts the places that missed it").
 fn count_missed(missed: usize, reception: Reception) -> usize
     requires fits { missed + 1 < 2 ^ 64 }
     ensures { result + accepted_count (result_of reception) ≡ missed + 1 }

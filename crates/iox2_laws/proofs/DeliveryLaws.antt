@@ -23,7 +23,7 @@ use Rattle.iox2_laws.proofs.MailboxLemmas.{IsWithin-appended, waiting_count-appe
 use Rattle.iox2_laws.proofs.Altered.{in_three, in_first, in_second, in_third, altered, uniform, altered_keeps, mailbox_stays, loan_stays}
 
 -- a further end leads where it did
-leads_further : (end : Option ℕ) (rest : List (Option ℕ)) (q : ℕ) → LeadsTo rest q → LeadsTo (end ∷ rest) q
+pub leads_further : (end : Option ℕ) (rest : List (Option ℕ)) (q : ℕ) → LeadsTo rest q → LeadsTo (end ∷ rest) q
 leads_further end rest q h = (suc h.0, h.1)
 
 -- two ends don't lead to the same port, even without the first

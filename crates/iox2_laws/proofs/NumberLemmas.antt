@@ -1,9 +1,9 @@
 -- Lists of numbers: membership, distinctness, ends of lists, and how many different numbers there are.
-use Rattle.std.proofs.Common.{◌≡◌, ℕ, zero, suc, ◌+◌, ◌*◌, ◌-◌, ◌≤◌, Bool, true, false, cond, not, ◌||◌, List, [], ◌∷◌, ◌++◌, length, drop, refl, sym, ap, ◌∙◌, arith, eqb, ⊎_elim, ◌⊎◌, inl, inr}
+use Rattle.std.proofs.Common.{◌≡◌, ℕ, zero, suc, ◌+◌, ◌*◌, ◌-◌, ◌≤◌, Bool, true, false, cond, not, ◌&&◌, ◌||◌, List, [], ◌∷◌, ◌++◌, length, drop, refl, sym, ap, ◌∙◌, arith, eqb, ⊎_elim, ◌⊎◌, inl, inr}
 use Rattle.std.proofs.lemmas.Bool.{eqb-true, eqb-false, eq-eqb, true≢false, or_cases, or_left, or_right, or_parts, ne_eqb}
 use Rattle.std.proofs.lemmas.List.{length-append, length-drop}
 use Rattle.std.proofs.lemmas.List.Folds.{list_any-append}
-use Rattle.std.specs.List.{flat_map}
+use Rattle.std.specs.List.{flat_map, list_all}
 use Rattle.iox2_store.specs.machine.Numbers.{contains, without, last_n, size, distinct, IsOnce}
 
 -- a number stands in a list that was joined just where it stands in one of the two
@@ -202,6 +202,11 @@ IsOnce-distinct (k ∷ xs) =
       | true ↦ λ _. IsOnce-distinct xs
       | false ↦ λ e. (contains-distinct xs k ∙ e, IsOnce-distinct xs)
     ] refl
+
+-- where each number passes a test, all of a list do
+pub all_pass : (test : ℕ → Bool) (ns : List ℕ) → ((n : ℕ) → test n ≡ true) → list_all test ns ≡ true
+all_pass test [] all = refl
+all_pass test (n ∷ ns) all = ap (λ (b : Bool). b && list_all test ns) (all n) ∙ all_pass test ns all
 
 -- of two lists without repetition, one all of whose numbers stand in the other is no longer
 pub length_le : (xs ys : List ℕ) → IsOnce xs → IsOnce ys → ((n : ℕ) → contains xs n ≡ true → contains ys n ≡ true) → length xs ≤ length ys

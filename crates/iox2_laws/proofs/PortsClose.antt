@@ -45,7 +45,7 @@ module _ {T U : Type 0} (s : State T U) (q : ℕ) (y : Subscriber) where
   mid = subscriber_pruned shut q
 
   -- what holds of both cases holds
-  either : (P : State T U → Type 0) → P (place_freed mid q) → P mid → P (subscriber_closed s q y)
+  pub either : (P : State T U → Type 0) → P (place_freed mid q) → P mid → P (subscriber_closed s q y)
   either P freed kept = cond_both (is_unused mid q) (place_freed mid q) mid P (λ _. freed) (λ _. kept)
 
   -- the subscriber is gone, or it isn't open

@@ -215,7 +215,7 @@ module _ {T U : Type 0} where
   -- ---- the update
 
   -- a publisher that isn't blocked has no blocked send
-  no_blocked_send : (s : State T U) (p : ℕ) (x : Publisher) → s.publishers p ≡ Some x → is_blocked s p ≡ false → x.blocked ≡ None
+  pub no_blocked_send : (s : State T U) (p : ℕ) (x : Publisher) → s.publishers p ≡ Some x → is_blocked s p ≡ false → x.blocked ≡ None
   no_blocked_send s p x e free = nothing x.blocked (rw e at free)
     where
       nothing : (o : Option BlockedSend) → is_some o ≡ false → o ≡ None

@@ -1,8 +1,8 @@
 -- A send, and a blocked send that is tried again or given up, keep a state well-formed.
-use Rattle.std.proofs.Common.{◌≡◌, ℕ, le_refl, ◌+◌, ◌≤◌, Bool, true, false, List, [], ◌∷◌, ◌++◌, drop, drop-drop, refl, sym, ap, subst, ◌∙◌, arith, is_some, ⊎_elim, ◌⊎◌, inl, inr, Option, None, Some}
-use Rattle.std.specs.Option.{option_map, option_map_or}
+use Rattle.std.proofs.Common.{◌≡◌, ℕ, le_refl, ◌+◌, ◌≤◌, Bool, true, false, List, [], ◌∷◌, ◌++◌, drop, drop-drop, refl, sym, ap, subst, ◌∙◌, arith, ⊎_elim, ◌⊎◌, inl, inr, Option, None, Some}
+use Rattle.std.specs.Option.{option_map}
 use Rattle.std.specs.declared.time.Duration.{Duration}
-use Rattle.std.proofs.lemmas.Bool.{true≢false, eqb-false}
+use Rattle.std.proofs.lemmas.Bool.{eqb-false}
 use Rattle.std.proofs.lemmas.Option.{none-some, same_Some}
 use Rattle.iox2_store.specs.machine.Numbers.{put_at, contains, without, last_n}
 use Rattle.iox2_store.specs.machine.Places.{occupant}
@@ -17,7 +17,7 @@ use Rattle.iox2_laws.proofs.Cases.{by_option}
 use Rattle.iox2_laws.proofs.Puts.{put_at-same, put_at-other, at_each}
 use Rattle.iox2_laws.proofs.NumberLemmas.{contains_in_append, contains_one, contains_in_last_n, length-last_n, IsOnce-last_n, IsOnce-push}
 use Rattle.iox2_laws.proofs.PlaceLemmas.{occupant-drop}
-use Rattle.iox2_laws.proofs.PublisherUpdates.{update_publisher_keeps, update_publisher_advances, update_publisher_leaves}
+use Rattle.iox2_laws.proofs.PublisherUpdates.{update_publisher_keeps, update_publisher_advances, update_publisher_leaves, no_blocked_send}
 use Rattle.iox2_laws.proofs.Altered.{same_state, altered}
 use Rattle.iox2_laws.proofs.LoanLaws.{loan_lost_keeps, loan_discarded_keeps}
 use Rattle.iox2_laws.proofs.DeliveryLaws.{Delivered, deliver_is, IsUnderway, ended_keeps, blocked_keeps}
@@ -27,7 +27,7 @@ later_ends : (ends : List (Option ℕ)) (q : ℕ) → LeadsTo (drop 1 ends) q �
 later_ends ends q h = (1 + h.0, sym (occupant-drop 1 ends h.0) ∙ h.1)
 
 -- ends of a list are apart where the list's are
-injective_drop : (k : ℕ) (xs : List (Option ℕ)) → IsInjective xs → IsInjective (drop k xs)
+pub injective_drop : (k : ℕ) (xs : List (Option ℕ)) → IsInjective xs → IsInjective (drop k xs)
 injective_drop k xs apart i j id h e =
     let same : k + i ≡ k + j = apart (k + i) (k + j) id (sym (occupant-drop k xs i) ∙ h) (sym (occupant-drop k xs j) ∙ e) in omega (arith, same)
 
@@ -183,14 +183,6 @@ module _ {T U : Type 0} where
         conclude_published h.0 h.1 s' result (subst (λ (v : Publisher). Delivered (receiving_buffer s) n v.ends v.ends (s.mailboxes p) h.0 h.1) same d) h.3))
 
   -- ---- a loan is sent
-
-  -- a publisher that isn't blocked has no blocked send
-  no_blocked_send : (s : State T U) (p : ℕ) (x : Publisher) → s.publishers p ≡ Some x → is_blocked s p ≡ false → x.blocked ≡ None
-  no_blocked_send s p x here free =
-      elim x.blocked as (λ o. x.blocked ≡ o → o ≡ None) [
-        | None ↦ λ _. refl
-        | Some b ↦ λ e. absurd (true≢false (ap is_some (sym e) ∙ sym (ap (λ o. option_map_or (λ (v : Publisher). is_some v.blocked) o false) here) ∙ free))
-      ] refl
 
   -- a send keeps a state well-formed
   pub send_keeps : (environment : Environment) (s : State T U) (n : ℕ) (l : Loan T U) (s' : State T U) (result : SendResult)

@@ -23,7 +23,7 @@ not_true true h = absurd (h refl)
 not_true false h = refl
 
 -- an end at another place stays where one is set
-end_stays : (ends : List (Option ℕ)) (place i r : ℕ) (end : Option ℕ) → (i ≡ place → ⊥) → occupant ends i ≡ Some r
+pub end_stays : (ends : List (Option ℕ)) (place i r : ℕ) (end : Option ℕ) → (i ≡ place → ⊥) → occupant ends i ≡ Some r
     → occupant (set_place ends place end) i ≡ Some r
 end_stays ends place i r end apart h =
     let other : eqb i place ≡ false = ne_eqb i place apart in
@@ -32,6 +32,11 @@ end_stays ends place i r end apart h =
 -- the end that was set
 pub end_set : (ends : List (Option ℕ)) (place : ℕ) (end : Option ℕ) → occupant (set_place ends place end) place ≡ end
 end_set ends place end = occupant-set_place ends place end place ∙ rw (eq-eqb place place refl) refl
+
+-- where an end goes, nothing stands afterwards
+pub nothing_after : (side : SenderSide) (place : ℕ) (end : Option ℕ) → occupant side.ends place ≡ end → occupant (disconnected side place end).ends place ≡ None
+nothing_after side place None e = e
+nothing_after side place (Some q) e = end_set side.ends place None
 
 module _ {T U : Type 0} where
   -- the bounds of the configuration, and of the receiver's buffer
@@ -164,10 +169,6 @@ module _ {T U : Type 0} where
         → SideKeeps side → SideKeeps (disconnected side place end)
     disconnected_keeps side place None low e apart k = k
     disconnected_keeps side place (Some q) low e apart k = unused_keeps side place q low e (borrows_nothing side place q k e (apart q refl)) k
-
-    nothing_after : (side : SenderSide) (place : ℕ) (end : Option ℕ) → occupant side.ends place ≡ end → occupant (disconnected side place end).ends place ≡ None
-    nothing_after side place None e = e
-    nothing_after side place (Some q) e = end_set side.ends place None
 
     -- An end to the open subscriber at a place is made where none stood, and messages of the history wait there.
     pub connected_with_keeps : (ns : List ℕ) → IsOnce ns → ((n : ℕ) → contains ns n ≡ true → contains x.history n ≡ true)

@@ -1,5 +1,5 @@
 -- Subscribers that aren't due for an update, and which operations leave them so.
-use Rattle.std.proofs.Common.{◌≡◌, ℕ, suc, ◌+◌, List, drop, Bool, true, false, cond, not, ◌&&◌, refl, sym, ap, subst, ◌∙◌, arith, ◌<◌, Option, None, Some, inl, inr}
+use Rattle.std.proofs.Common.{◌≡◌, ℕ, ◌+◌, List, drop, Bool, true, false, cond, not, ◌&&◌, refl, sym, ap, ◌∙◌, arith, ◌<◌, Option, None, Some, inl, inr}
 use Rattle.std.specs.List.{list_all}
 use Rattle.std.specs.declared.time.Duration.{Duration}
 use Rattle.std.specs.Option.{option_map, option_map_or}
@@ -16,7 +16,6 @@ use Rattle.iox2_store.specs.machine.Ports.{CreateSubscriber, FirstSubscriberUpda
 use Rattle.iox2_store.specs.machine.Receives.{ReceiveResult, Got_sample, No_sample, Receive_error, TakeSample, Receive}
 use Rattle.iox2_store.specs.machine.Releases.{pruned, is_unused, place_freed, unborrowed, subscriber_pruned, released}
 use Rattle.iox2_store.specs.machine.Sends.{Send, Retry, GiveUp, DeliverAndConclude, ConcludeSend, SendResult, more_retries, published, with_mailboxes}
-use Rattle.iox2_store.specs.machine.Waiting.{waiting_for}
 use Rattle.iox2_store.specs.machine.WellFormed.{IsWellFormed}
 use Rattle.iox2_store.specs.declared.errors.ConnectionFailure.{ConnectionFailure}
 use Rattle.iox2_store.specs.declared.errors.LoanError.{LoanError}
@@ -27,7 +26,7 @@ use Rattle.iox2_laws.proofs.Cases.{by_option, by_bool}
 use Rattle.iox2_laws.proofs.CallCases.{grant_cases, subscriber_cases}
 use Rattle.iox2_laws.proofs.Puts.{put_at-other, at_each}
 use Rattle.iox2_laws.proofs.PortsStay.{update_subscriber_stays}
-use Rattle.iox2_laws.proofs.WaitingReceives.{update_subscriber_updates, take_waits}
+use Rattle.iox2_laws.proofs.WaitingReceives.{update_subscriber_updates}
 
 module _ {T U : Type 0} where
   -- The subscriber is open, and not due for an update.
@@ -106,15 +105,6 @@ module _ {T U : Type 0} where
       ])
       (λ _ h. same_subscribers s s' (stay_same s s' h.0) i is))
 
-  -- one that isn't due has nothing to update
-  updated_already : (environment : Environment) (s : State T U) (q : ℕ) (s' : State T U) (failure : Option ConnectionFailure)
-      → UpdateSubscriber environment s q s' failure → IsUpdated s q → (s' ≡ s) × (failure ≡ None)
-  updated_already environment s q s' failure h is =
-      by_option ((s' ≡ s) × (failure ≡ None)) (s.subscribers q) _ _ h (λ _ v. absurd v) (λ y present h.
-      by_bool ((s' ≡ s) × (failure ≡ None)) y.is_due _ _ h
-      (λ due h. absurd (true≢false (sym due ∙ ap (λ (z : Subscriber). z.is_due) (same_Some y is.0 (sym present ∙ is.1)) ∙ is.3)))
-      (λ _ h. h))
-
   taken_subscribers : (s : State T U) (q : ℕ) (y : Subscriber) (s' : State T U) (result : ReceiveResult) → TakeSample s q y s' result → s'.subscribers ≡ s.subscribers
   taken_subscribers s q y s' (Got_sample p n) h = ap (λ (t : State T U). t.subscribers) h.3
   taken_subscribers s q y s' No_sample h = ap (λ (t : State T U). t.subscribers) h.1
@@ -142,17 +132,6 @@ module _ {T U : Type 0} where
       (λ none k. by_option (IsUpdated s' q) ((h.0).subscribers q) _ _ k (λ _ v. absurd v) (λ z _ k.
       same_subscribers h.0 s' (taken_subscribers h.0 q z s' result k) q (update_leaves_updated environment s q h.0 h.1 none y here is_open h.2)))
       (λ e _ k. absurd (fine _ k.1))
-
-  -- exactly one fewer waits, where the subscriber wasn't due
-  pub receive_one_fewer : (environment : Environment) (s : State T U) (q p n : ℕ) (s' : State T U) → IsWellFormed s → IsUpdated s q → Receive environment s q s' (Got_sample p n) → suc (waiting_for s' q) ≡ waiting_for s q
-  receive_one_fewer environment s q p n s' w is h =
-      let already = updated_already environment s q h.0 h.1 h.2 is in
-      by_option (suc (waiting_for s' q) ≡ waiting_for s q) h.1 _ _ h.3
-      (λ _ k. by_option (suc (waiting_for s' q) ≡ waiting_for s q) ((h.0).subscribers q) _ _ k (λ _ v. absurd v) (λ y at k.
-      let here : s.subscribers q ≡ Some y = ap (λ (t : State T U). t.subscribers q) (sym already.0) ∙ at in
-      let open_now : y.is_open ≡ true = ap (λ (z : Subscriber). z.is_open) (same_Some y is.0 (sym here ∙ is.1)) ∙ is.2 in
-      take_waits s q y s' p n w here open_now (subst (λ (t : State T U). TakeSample t q y s' (Got_sample p n)) already.0 k)))
-      (λ e _ k. let clash : Got_sample p n ≡ Receive_error _ = k.1 in absurd cc)
 
   -- ---- a release
 

@@ -2,20 +2,20 @@
 use Rattle.std.proofs.Common.{◌≡◌, ℕ, ◌≤◌, Bool, true, false, cond, ◌&&◌, ◌||◌, List, [], length, refl, sym, ap, subst, ◌∙◌, arith, Option, None, Some, inl, inr}
 use Rattle.std.specs.Prelude.{◌≢◌, MatchOption}
 use Rattle.std.specs.Option.{option_map, option_map_or}
-use Rattle.std.proofs.lemmas.Bool.{ne_eqb, cond_both, true≢false}
+use Rattle.std.proofs.lemmas.Bool.{ne_eqb, true≢false}
 use Rattle.std.proofs.lemmas.Option.{none-some}
 use Rattle.iox2_store.specs.machine.Mailbox.{Mailbox, waiting_dropped, has_numbers}
 use Rattle.iox2_store.specs.machine.Numbers.{contains}
 use Rattle.iox2_store.specs.machine.Places.{occupant, occupants, is_port}
 use Rattle.iox2_store.specs.machine.Ports.{publisher_gone, mailbox_after_publisher, publisher_closed, mailbox_after_subscriber, subscriber_shut, subscriber_closed}
 use Rattle.iox2_store.specs.machine.Records.{Publisher, Subscriber}
-use Rattle.iox2_store.specs.machine.Releases.{subscriber_pruned, place_freed, is_unused, pruned}
+use Rattle.iox2_store.specs.machine.Releases.{subscriber_pruned, pruned}
 use Rattle.iox2_store.specs.machine.State.{State, connected_publishers}
 use Rattle.iox2_store.specs.machine.Waiting.{waiting_from, waiting_for}
 use Rattle.iox2_store.specs.machine.WellFormed.{IsWellFormed}
 use Rattle.iox2_laws.proofs.NumberLemmas.{contains_in_append}
 use Rattle.iox2_laws.proofs.PlaceLemmas.{is_port-false, leads_to}
-use Rattle.iox2_laws.proofs.PortsClose.{subscriber_closed_shut, subscriber_closed_others}
+use Rattle.iox2_laws.proofs.PortsClose.{subscriber_closed_shut, subscriber_closed_others, either}
 use Rattle.iox2_laws.proofs.Puts.{put_at-other, at_each}
 use Rattle.iox2_laws.proofs.UpToDate.{IsUpdated}
 use Rattle.iox2_laws.proofs.WaitingCounts.{by_record, same_from, cond_le, sum_le}
@@ -99,12 +99,8 @@ module _ {T U : Type 0} (s : State T U) (q : ℕ) (y : Subscriber) where
   abbrev mid : State T U
   mid = subscriber_pruned (subscriber_shut s q y) q
 
-  -- what holds of both cases holds
-  either : (P : State T U → Type 0) → P (place_freed mid q) → P mid → P (subscriber_closed s q y)
-  either P freed left = cond_both (is_unused mid q) (place_freed mid q) mid P (λ _. freed) (λ _. left)
-
   pub subscriber_closed_ports : (subscriber_closed s q y).next_port ≡ s.next_port
-  subscriber_closed_ports = either (λ t. t.next_port ≡ s.next_port) refl refl
+  subscriber_closed_ports = either s q y (λ t. t.next_port ≡ s.next_port) refl refl
 
   -- nothing waits for the subscriber that closed
   pub subscriber_closed_none : (p : ℕ) → waiting_from (subscriber_closed s q y) p q ≡ []
@@ -125,7 +121,7 @@ module _ {T U : Type 0} (s : State T U) (q : ℕ) (y : Subscriber) where
       let left : (mid.mailboxes p i).waiting ≡ (s.mailboxes p i).waiting =
       ap (λ (box : Mailbox). box.waiting) (put_at-other (s.mailboxes p) q (mailbox_after_subscriber s q p) i (ne_eqb i q away)) in
       same_from s (subscriber_closed s q y) p i (subscriber_closed_others s q y i away)
-      (either (λ t. (t.mailboxes p i).waiting ≡ (s.mailboxes p i).waiting) left left)
+      (either s q y (λ t. (t.mailboxes p i).waiting ≡ (s.mailboxes p i).waiting) left left)
 
   -- each other that wasn't due is not
   pub subscriber_closed_updated : (i : ℕ) → i ≢ q → IsUpdated s i → IsUpdated (subscriber_closed s q y) i

@@ -185,12 +185,12 @@ module _ {T U : Type 0} (environment : Environment) (s : State T U) (q : ℕ) wh
 -- ---- receive
 
 -- whom a message may be received from is connected
-received_from : (borrow_limit : ℕ) (y : Subscriber) (boxes : ℕ → Mailbox) (p : ℕ) → MayReceiveFrom borrow_limit y boxes p → contains (connected_publishers y) p ≡ true
+pub received_from : (borrow_limit : ℕ) (y : Subscriber) (boxes : ℕ → Mailbox) (p : ℕ) → MayReceiveFrom borrow_limit y boxes p → contains (connected_publishers y) p ≡ true
 received_from borrow_limit y boxes p may =
     by_bool (contains (connected_publishers y) p ≡ true) (can_receive_of borrow_limit y boxes y.expired) _ _ may.1
     (λ _ h. contains_left y.expired (occupants y.ends) p h) (λ _ h. contains_right y.expired (occupants y.ends) p h)
 
-open_receives : (is_open is_due known : Bool) (ns : List ℕ) → is_open ≡ true → known ≡ true → cond (is_open && (is_due || known)) ns [] ≡ ns
+pub open_receives : (is_open is_due known : Bool) (ns : List ℕ) → is_open ≡ true → known ≡ true → cond (is_open && (is_due || known)) ns [] ≡ ns
 open_receives true true true ns o k = refl
 open_receives true false true ns o k = refl
 open_receives false is_due known ns o k = absurd (true≢false (sym o))
@@ -338,7 +338,7 @@ module _ {T U : Type 0} (environment : Environment) (s : State T U) (q : ℕ) wh
 -- ---- the question whether anything waits
 
 -- a test that some of the list passes is passed by one of it
-passes_at : (test : ℕ → Bool) (ns : List ℕ) → list_any test ns ≡ true → (n : ℕ) × (test n ≡ true) × (contains ns n ≡ true)
+pub passes_at : (test : ℕ → Bool) (ns : List ℕ) → list_any test ns ≡ true → (n : ℕ) × (test n ≡ true) × (contains ns n ≡ true)
 passes_at test [] some = absurd (true≢false (sym some))
 passes_at test (m ∷ ns) some =
     at (λ later. passes_at test ns later) (test m) refl

@@ -26,6 +26,7 @@ use slab::Slab;
 // The receipt of a message that was taken. Where the connection stands is read from it as it is now,
 // after the message was taken, so that a release which follows finds it read and compared. Look-ups in
 // what may be written test less, and nothing is written.
+// (docs/decisions/cost.md, "A receipt reads its connection after the message was taken".)
 fn receipt_of(
     connections: &mut Slab<Connection>,
     books: &mut Slab<SlotBook>,

@@ -17,7 +17,8 @@ use iox2_store::{BackpressureFn, ConnectionFailure, DegradationFn, UniquePublish
 use iox2_updates::update_publisher;
 
 /// Whether a publisher's written loan lies where its handle says, and its publisher is due for no update:
-/// so it may be sent at once, where its publisher has no handler.
+/// so it may be sent at once, where its publisher has no handler. It returns at each test that fails
+/// (docs/decisions/cost.md, "A call goes on where its look-up ended").
 #[inline(always)]
 pub fn is_ready<T: Drop, U: Default + Drop>(state: &DomainState<T, U>, loan: &LoanAt) -> bool
     requires agrees { IsDomain state.now }

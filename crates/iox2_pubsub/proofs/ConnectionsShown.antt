@@ -36,7 +36,8 @@ use Rattle.iox2_pubsub.proofs.LiveParts.{buffer-parts}
 use Rattle.iox2_pubsub.proofs.PayloadLists.{map_same}
 use Rattle.iox2_pubsub.proofs.ServedLists.{send-served, send-counts, send-full}
 use Rattle.iox2_pubsub.proofs.UpToDateShown.{connected, connected-in, up-to-date-in}
-use Rattle.iox2_pubsub.proofs.WaitingShown.{live-open, payload-is, payloads-from-are, same-payload, waiting-is, written-cells}
+use Rattle.iox2_pubsub.proofs.WaitingShown.{live-open, payload-is, payloads-from-are, same-payload, waiting-is}
+use Rattle.iox2_steps.proofs.sends.SentSlots.{values-of}
 
 module _ {T U F G : Type 0} (kept : Kept T U F G) (m : Messages T U) (s : State T U) (shown : Shows kept m s) (p : ℕ) (subscriber : Subscriber) where
   -- the payloads are those of what the machine has waiting
@@ -64,7 +65,7 @@ loan-values : {T U F G : Type 0} (kept : Kept T U F G) (m : Messages T U) (s : S
 loan-values {T} {U} kept m s shown n l values out reads =
     let has = values-parts kept n values reads in
     let same : l ≡ has.0 = same_Some l has.0 (sym out ∙ ap (λ (t : State T U). t.loans n) shown.state ∙ has.1) in
-    ap (filter_map (λ (cell : Option T). cell)) (ap (λ (k : Loan T U). k.cells) same ∙ has.2) ∙ written-cells values
+    ap (filter_map (λ (cell : Option T). cell)) (ap (λ (k : Loan T U). k.cells) same ∙ has.2) ∙ values-of values
 
 module _ {T U F G : Type 0} (old new : Kept T U F G) (m m' : Messages T U) (s s' : State T U) (shown : Shows old m s) (shown' : Shows new m' s') where
   -- a send that was delivered serves each subscriber with which its publisher is connected

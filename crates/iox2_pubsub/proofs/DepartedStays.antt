@@ -75,9 +75,6 @@ module _ {T U : Type 0} where
   publishers-stay : (s s' : State T U) → PortsStay s s' → PublishersStay s s'
   publishers-stay s s' stay p x at = let there = (stay.remain).publishers p x at in (there.0, there.1)
 
-  themselves : (s s' : State T U) → s'.publishers ≡ s.publishers → PublishersStay s s'
-  themselves s s' same p x at = (x, ap (λ (f : ℕ → Option Publisher). f p) same ∙ at)
-
   pub room-itself : (s s' : State T U) → s' ≡ s → RoomStays s s'
   room-itself s s' same q closes has = subst (λ (t : State T U). HasRoom t q closes) (sym same) has
 

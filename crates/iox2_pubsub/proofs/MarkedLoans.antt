@@ -14,7 +14,7 @@ use Rattle.iox2_domain.specs.LoanCalls.{HoldsUnwritten, HoldsWritten}
 use Rattle.iox2_domain.specs.LoanSlots.{LiesInSlot}
 use Rattle.iox2_domain.proofs.lemmas.slots.Messages.{LiesIn, message_in-parts}
 use Rattle.iox2_domain.proofs.lemmas.loans.LoansOut.{found-out}
-use Rattle.iox2_pubsub.specs.Parts.{written_mark}
+use Rattle.iox2_pubsub.specs.Parts.{IsMarkOf, written_mark}
 
 module _ {T U : Type 0} where
   -- whether what lies in a slot is a written loan
@@ -51,17 +51,20 @@ module _ {T U : Type 0} where
         by Written e = ap is_written_message e
         by Sent e = absurd cc
 
-      pub written-tells : (written_mark mark ≡ true) ↔ HoldsWritten (state_of (kept_of f)) p n
+      written-tells : (written_mark mark ≡ true) ↔ HoldsWritten (state_of (kept_of f)) p n
       written-tells = (
         λ yes. (at.loan, at.is_out, ap (λ (l : Loan T U). l.publisher) (sym (same-loan is_its.0 is_its.1)) ∙ is_its.2, mark-tells ∙ yes),
         λ has. sym mark-tells ∙ ap (λ (l : Loan T U). l.is_written) (sym (same-loan has.0 has.1)) ∙ has.3,
       )
 
-      pub unwritten-tells : (written_mark mark ≡ false) ↔ HoldsUnwritten (state_of (kept_of f)) p n
+      unwritten-tells : (written_mark mark ≡ false) ↔ HoldsUnwritten (state_of (kept_of f)) p n
       unwritten-tells = (
         λ no. (at.loan, at.is_out, ap (λ (l : Loan T U). l.publisher) (sym (same-loan is_its.0 is_its.1)) ∙ is_its.2, mark-tells ∙ no),
         λ has. sym mark-tells ∙ ap (λ (l : Loan T U). l.is_written) (sym (same-loan has.0 has.1)) ∙ has.3,
       )
+
+      pub marks-loan : IsMarkOf f p n mark
+      marks-loan = record { written = written-tells; unwritten = unwritten-tells }
 
   -- a loan that isn't out is neither
   pub no-written : (f : Fields T U) (p n : ℕ) → (HoldsLoan (state_of (kept_of f)) p n → ⊥) → HoldsWritten (state_of (kept_of f)) p n → ⊥

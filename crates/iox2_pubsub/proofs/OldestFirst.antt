@@ -19,24 +19,12 @@ use Rattle.iox2_laws.proofs.NumberLemmas.{contains_left, contains_right}
 use Rattle.iox2_laws.proofs.PortsStay.{PortsStay, update_subscriber_stays}
 use Rattle.iox2_laws.proofs.Puts.{put_at-same}
 use Rattle.iox2_laws.proofs.WaitingCounts.{by_record}
-use Rattle.iox2_laws.proofs.WaitingReceives.{receive_waited}
+use Rattle.iox2_laws.proofs.WaitingReceives.{receive_waited, received_from, open_receives}
 
 -- a list that is there or not, and of which something is there, is there
 there-whole : (b : Bool) (ns : List ℕ) (n : ℕ) → contains (cond b ns []) n ≡ true → cond b ns [] ≡ ns
 there-whole true ns n at = refl
 there-whole false ns n at = absurd (true≢false (sym at))
-
--- whom a message may be received from is connected
-received-from : (borrow_limit : ℕ) (y : Subscriber) (boxes : ℕ → Mailbox) (p : ℕ) → MayReceiveFrom borrow_limit y boxes p → contains (connected_publishers y) p ≡ true
-received-from borrow_limit y boxes p may =
-    by_bool (contains (connected_publishers y) p ≡ true) (can_receive_of borrow_limit y boxes y.expired) _ _ may.1
-    (λ _ h. contains_left y.expired (occupants y.ends) p h) (λ _ h. contains_right y.expired (occupants y.ends) p h)
-
-open-receives : (is_open is_due known : Bool) (ns : List ℕ) → is_open ≡ true → known ≡ true → cond (is_open && (is_due || known)) ns [] ≡ ns
-open-receives true true true ns o k = refl
-open-receives true false true ns o k = refl
-open-receives false is_due known ns o k = absurd (true≢false (sym o))
-open-receives true is_due false ns o k = absurd (true≢false (sym k))
 
 module _ {T U : Type 0} (environment : Environment) (s : State T U) (q : ℕ) where
   -- What waits in the mailbox with p is what waited there, or nothing.
@@ -86,6 +74,6 @@ module _ {T U : Type 0} (environment : Environment) (s : State T U) (q : ℕ) wh
         left =
             ap (λ (t : State T U). waiting_from t p q) k.3
             ∙ by_record (with_mailbox h.0 p q box) p q (Some z) at
-            ∙ open-receives z.is_open z.is_due (contains (connected_publishers z) p) ((with_mailbox h.0 p q box).mailboxes p q).waiting open_now
-            (received-from ((h.0).config).subscriber_max_borrowed_samples z (λ i. (h.0).mailboxes i q) p k.0)
+            ∙ open_receives z.is_open z.is_due (contains (connected_publishers z) p) ((with_mailbox h.0 p q box).mailboxes p q).waiting open_now
+            (received_from ((h.0).config).subscriber_max_borrowed_samples z (λ i. (h.0).mailboxes i q) p k.0)
             ∙ ap (λ (b : Mailbox). b.waiting) (this ∙ (k.2).2)

@@ -502,20 +502,6 @@ second-part first second = record {
   blocked_sends = λ p other. other.1;
 }
 
--- a loan that is sent is no more than the loan and what is spent of a copy
-pub sent-loan-parts : (n p : ℕ) (is_blocked : Bool) → IsPartOf (A_sent_loan n p is_blocked) (Both (A_loan n) (A_sent_copy p is_blocked))
-sent-loan-parts n p is_blocked = record {
-  publishers = λ p other. tt;
-  subscribers = λ q other. tt;
-  loans = λ k other. other.0;
-  samples = λ q k other. tt;
-  blocked_sends = λ r other. apart is_blocked r other.1;
-}
-  where
-    apart : (is_blocked : Bool) (r : ℕ) → IsOtherBlocked (A_sent_copy p is_blocked) r → IsOtherBlocked (A_sent_loan n p is_blocked) r
-    apart true r other = other
-    apart false r other = tt
-
 -- nor is a copy more than a blocked send
 pub sent-copy-part : (p : ℕ) (is_blocked : Bool) → IsPartOf (A_sent_copy p is_blocked) (A_blocked_send p)
 sent-copy-part p is_blocked = record {

@@ -22,6 +22,7 @@ use Rattle.iox2_laws.proofs.Puts.{put_at-same}
 use Rattle.iox2_laws.proofs.Waits.{waits_trans, update_publisher_waits, published_waits}
 use Rattle.iox2_domain.specs.Handlers.{is_failing, may_fail}
 use Rattle.iox2_pubsub.proofs.OverflowSends.{end-passes}
+use Rattle.iox2_steps.proofs.sends.DeliverySteps.{decides-passes}
 
 -- Whether a delivery has failed when it ends or waits.
 abbrev FailedAt : DeliveryEnd → Bool
@@ -30,26 +31,11 @@ FailedAt (Suspended b) = b.has_failed
 
 module _ (e : Environment) (c : ServiceConfig) (p : ℕ) (strategy : BackpressureStrategy) (handler : Option (Handler BackpressureAction)) (buffers : ℕ → Option ℕ) (n : ℕ)
     (mild : (c.enable_safe_overflow ≡ true) ⊎ (may_fail handler ≡ false)) where
-  strategy-passes : (s : BackpressureStrategy) → is_failed (by_strategy s) ≡ false
-  strategy-passes RetryUntilDelivered = refl
-  strategy-passes DiscardData = refl
-
-  action-passes : (action : BackpressureAction) → is_failing action ≡ false → is_failed (by_action strategy action) ≡ false
-  action-passes actions.FollowBackpressureyStrategy none = strategy-passes strategy
-  action-passes actions.Retry none = refl
-  action-passes actions.DiscardData none = refl
-  action-passes actions.DiscardDataAndFail none = none
-
-  decides-passes : (h : Option (Handler BackpressureAction)) → may_fail h ≡ false → (info : BackpressureInfo) (result : PutResult) → Decides e p h strategy info result → is_failed result ≡ false
-  decides-passes None none info result d = ap is_failed d ∙ strategy-passes strategy
-  decides-passes (Some (Fixed action)) none info result d = ap is_failed d ∙ action-passes action none
-  decides-passes (Some Custom) none info result d = absurd (let no : true ≡ false = none in cc)
-
   put-unfailed : may_fail handler ≡ false → (q retries : ℕ) (elapsed : Duration) (buffer : Option ℕ) (box : Mailbox) (result : PutResult) (box' : Mailbox)
       → Put e c p strategy handler buffers n q retries elapsed buffer box result box' → is_failed result ≡ false
   put-unfailed none q retries elapsed None box result box' h = ap is_failed h.0
   put-unfailed none q retries elapsed (Some buffer) box result box' h =
-      by_bool (is_failed result ≡ false) (has_room buffer box || c.enable_safe_overflow) _ _ h (λ _ k. ap is_failed k.0) (λ _ k. decides-passes handler none _ result k.0)
+      by_bool (is_failed result ≡ false) (has_room buffer box || c.enable_safe_overflow) _ _ h (λ _ k. ap is_failed k.0) (λ _ k. decides-passes e p strategy handler none _ result k.0)
 
   end-unfailed : (retries : ℕ) (elapsed : Duration) (end : Option ℕ) (boxes : ℕ → Mailbox) (result : PutResult) (boxes' : ℕ → Mailbox)
       → PutAtEnd e c p strategy handler buffers n retries elapsed end boxes result boxes' → is_failed result ≡ false

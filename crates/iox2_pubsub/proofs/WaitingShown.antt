@@ -46,6 +46,7 @@ use Rattle.iox2_pubsub.proofs.LiveParts.{subscriber-parts}
 use Rattle.iox2_pubsub.proofs.SliceParts.{sample-values, values-parts}
 use Rattle.iox2_pubsub.proofs.PayloadLists.{all_same, parts_same, payloads_same, length-payloads, each_payload, payload_at, map_same}
 use Rattle.iox2_pubsub.proofs.OldestFirst.{receive-first}
+use Rattle.iox2_steps.proofs.sends.SentSlots.{values-of}
 
 -- the payloads are what the domain keeps
 pub payloads-are : {T U F G : Type 0} (kept : Kept T U F G) (subscriber : Subscriber) → payloads kept subscriber ≡ payloads_for (state_of kept) (entries_of kept) subscriber.id
@@ -93,11 +94,6 @@ all-parts payloads values all = all
 parts-all : {T : Type 0} (payloads : List (List T)) (values : List T) → AllByRecursion (λ payload. payload ≡ values) payloads → AreAllSlices payloads values
 unfolding AreAllSlices
 parts-all payloads values all = all
-
--- cells that are all written hold their values
-pub written-cells : {T : Type 0} (values : List T) → filter_map (λ (cell : Option T). cell) (map Some values) ≡ values
-written-cells [] = refl
-written-cells (value ∷ values) = ap (λ vs. value ∷ vs) (written-cells values)
 
 some_there : (ns : List ℕ) (k : ℕ) → contains ns k ≡ true → 0 < length ns
 some_there [] k at = let clash : false ≡ true = at in absurd cc
@@ -265,7 +261,7 @@ module _ {T U F G : Type 0} (old new : Kept T U F G) (m m' : Messages T U) (s s'
           ap (λ (k : Loan T U). k.cells) same ∙ has.2
 
       sent_values : (entry_of l).values ≡ values
-      sent_values = ap (filter_map (λ (cell : Option T). cell)) cells ∙ written-cells values
+      sent_values = ap (filter_map (λ (cell : Option T). cell)) cells ∙ values-of values
 
       waited : (p k : ℕ) → contains (waiting_from s p q) k ≡ true → ⊥
       waited p k at =

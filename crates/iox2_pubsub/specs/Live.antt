@@ -252,10 +252,6 @@ module _ {T U F G : Type 0} (domain : Kept T U F G) where
   unfoldable pub IsUpToDate : Subscriber → Type 0
   IsUpToDate subscriber = (y : MachineSubscriber) × ((state_of domain).subscribers subscriber.id ≡ Some y) × (y.is_open ≡ true) × (y.is_due ≡ false)
 
-  -- How many publishers that were closed the subscriber still has a connection with.
-  unfoldable pub departed : Subscriber → ℕ
-  departed subscriber = departed_at (state_of domain) subscriber.id
-
   -- So many publishers more can be closed, and the subscriber still has room for the connections with all that were: as many as its
   -- domain keeps for a subscriber.
   unfoldable pub HasRoomFor : Subscriber → (closes : ℕ) → Type 0

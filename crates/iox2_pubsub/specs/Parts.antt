@@ -4,10 +4,12 @@ use Rattle.iox2_pubsub.specs.declared.parts.PublisherParts.{PublisherParts}
 use Rattle.iox2_pubsub.specs.declared.parts.SubscriberParts.{SubscriberParts}
 use Rattle.iox2_pubsub.specs.declared.parts.LoanParts.{LoanParts}
 use Rattle.iox2_pubsub.specs.declared.parts.SampleParts.{SampleParts}
-use Rattle.std.specs.Prelude.{◌≡◌, Bool, true, false}
+use Rattle.std.specs.Prelude.{◌≡◌, ◌↔◌, ℕ, Bool, true, false}
 use Rattle.std.specs.declared.option.Option.TheVariants.{Some}
 use Rattle.iox2_store.specs.machine.Records.{Publisher as MachinePublisher}
 use Rattle.iox2_domain.specs.Kept.{Kept, state_of}
+use Rattle.iox2_domain.specs.Fields.{Fields, kept_of}
+use Rattle.iox2_domain.specs.LoanCalls.{HoldsUnwritten, HoldsWritten}
 use Rattle.iox2_slots.specs.declared.slots.mark.SlotMark.{SlotMark}
 use Rattle.iox2_slots.specs.declared.slots.mark.SlotMark.TheVariants.{Written}
 use Rattle.iox2_pubsub.specs.declared.blocked_send.BlockedSend.{BlockedSend}
@@ -93,3 +95,8 @@ LenderIsPlaced domain parts = (x : MachinePublisher) × ((state_of domain).publi
 abbrev pub written_mark : SlotMark → Bool
 written_mark Written = true
 written_mark _ = false
+
+-- The mark says whether the publisher's loan is written, which is out.
+pub record IsMarkOf {T U : Type 0} (f : Fields T U) (p n : ℕ) (mark : SlotMark) : Type 0 where
+  pub written : (written_mark mark ≡ true) ↔ HoldsWritten (state_of (kept_of f)) p n
+  pub unwritten : (written_mark mark ≡ false) ↔ HoldsUnwritten (state_of (kept_of f)) p n

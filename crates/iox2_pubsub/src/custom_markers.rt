@@ -3,6 +3,17 @@
 /// A byte of a custom payload, of which each element has as many as the domain's settings say
 /// (`units_per_element`).
 ///
+/// Example (`crates/iox2_slice_tests/src/custom_payloads.rt`):
+///
+/// ```rust
+/// let loan = publisher.loan_custom_payload(&mut domain, 3);
+/// let loan = loan.expect(&rt, "a loan");
+/// publisher.disown();
+/// let cells = loan.payload(&domain).len();
+/// let elements = loan.header(&domain).number_of_elements();
+/// let message = loan.write_from_fn(&mut domain, |index| CustomPayloadMarker(low_byte(index)));
+/// ```
+///
 /// iceoryx2's `CustomPayloadMarker` (`src/service/builder`).
 #[derive(Debug, Clone, Copy, PartialEq, Eq, Default)]
 pub struct CustomPayloadMarker(pub u8);

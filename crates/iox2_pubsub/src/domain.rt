@@ -24,6 +24,16 @@ use std::marker::Model;
 /// ports may have handlers of `F` for full buffers and of `G` for refused connections, by default
 /// boxes.
 ///
+/// Example (`crates/thermometer/src/main.rt`):
+///
+/// ```rust
+/// let mut domain = Domain::<Reading, ()>::new(rt.alloc(), ServiceConfig::new(1))?;
+/// let subscriber = domain.subscriber_builder().create(&mut domain)?;
+/// let outcome = run(rt, &mut domain, &subscriber);
+/// subscriber.close(&mut domain);
+/// outcome
+/// ```
+///
 /// This library's own, where iceoryx2 has a `Service` and shared memory.
 #[derive(Drop)]
 pub struct Domain<T, U, F = Box<dyn BackpressureFn>, G = Box<dyn DegradationFn>> {

@@ -16,6 +16,14 @@ mod subscriber;
 use iox2_store::BackpressureStrategy;
 
 /// The numbers of a publisher. This library's own.
+///
+/// Example (`crates/iox2_tests/src/parts.rt`):
+///
+/// ```rust
+/// let publisher = domain.publisher_of(parts).expect(rt, "a publisher");
+/// assert!(rt; !publisher.is_blocked(domain));
+/// publisher.close(domain);
+/// ```
 #[derive(Debug, Clone, Copy, PartialEq, Eq)]
 pub struct PublisherParts {
     /// The number of the service.
@@ -31,6 +39,13 @@ pub struct PublisherParts {
 }
 
 /// The numbers of a subscriber. This library's own.
+///
+/// Example (`crates/iox2_tests/src/parts.rt`):
+///
+/// ```rust
+/// let subscriber = domain.subscriber_of(&again).expect(&rt, "a subscriber");
+/// subscriber.close(&mut domain);
+/// ```
 #[derive(Debug, Clone, Copy, PartialEq, Eq)]
 pub struct SubscriberParts {
     /// The number of the service.
@@ -44,6 +59,15 @@ pub struct SubscriberParts {
 }
 
 /// The numbers of a loan, written or not, or of a blocked send. This library's own.
+///
+/// Example (`crates/kept_cost/src/passing.rt`):
+///
+/// ```rust
+/// let Some(loan) = domain.unwritten_of(&oldest) else {
+///     return;
+/// };
+/// let message = loan.write_payload(domain, value);
+/// ```
 #[derive(Debug, Clone, Copy, PartialEq, Eq)]
 pub struct LoanParts {
     /// The number of the service.
@@ -61,6 +85,12 @@ pub struct LoanParts {
 }
 
 /// The numbers of a sample. This library's own.
+///
+/// Example (`crates/kept_cost/src/passing.rt`):
+///
+/// ```rust
+/// Some(subscriber.receive(domain).ok()??.into_parts())
+/// ```
 #[derive(Debug, Clone, Copy, PartialEq, Eq)]
 pub struct SampleParts {
     /// The number of the service.

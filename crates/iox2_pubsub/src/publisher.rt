@@ -16,6 +16,14 @@ use iox2_store::{BackpressureFn, BackpressureStrategy, DegradationFn, Key, Uniqu
 /// Sends messages to every subscriber of its domain. It is a value to be spent: the domain keeps
 /// the publisher until that is closed.
 ///
+/// Example (`crates/thermometer/src/report.rt`):
+///
+/// ```rust
+/// let first = publisher.loan_uninit(domain).unwrap();
+/// let second = publisher.loan_uninit(domain).unwrap();
+/// send_pair(domain, first, second, celsius, later)?;
+/// ```
+///
 /// iceoryx2's `port::publisher::Publisher` (`src/port/publisher.rs`).
 pub struct Publisher {
     pub(crate) service_id: u128,

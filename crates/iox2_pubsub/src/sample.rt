@@ -13,6 +13,17 @@ use iox2_store::{
 /// A message that a subscriber has received and not yet released. It is a value to be spent: until
 /// it is released the message counts among those that the subscriber has borrowed.
 ///
+/// Example (`crates/calling/src/passing.rt`):
+///
+/// ```rust
+/// let Some(sample) = subscriber.receive(domain)? else {
+///     return Ok(None);
+/// };
+/// let celsius = *sample.payload(domain);
+/// sample.release(domain);
+/// Ok(Some(celsius))
+/// ```
+///
 /// iceoryx2's `sample::Sample` (`src/sample.rs`).
 pub struct Sample {
     pub(crate) service_id: u128,

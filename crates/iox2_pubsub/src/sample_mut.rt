@@ -14,6 +14,15 @@ use iox2_store::{BackpressureFn, DegradationFn, Header, Key};
 /// A loan whose payload is written. It is a value to be spent: the domain keeps the loan until its
 /// message was sent or it was discarded.
 ///
+/// Example (`crates/thermometer/src/correction.rt`):
+///
+/// ```rust
+/// let mut message = loan.write_payload(domain, Reading { celsius });
+/// *SampleMut::payload_mut(domain, &mut message) = Reading { celsius: corrected };
+/// message.send(domain)?.delivered();
+/// Ok(())
+/// ```
+///
 /// iceoryx2's `sample_mut::SampleMut` (`src/sample_mut.rs`).
 pub struct SampleMut {
     pub(crate) service_id: u128,

@@ -15,6 +15,13 @@ use iox2_store::{BackpressureFn, DegradationFn, Header, Key};
 /// A loan whose payload isn't written. It is a value to be spent: the domain keeps the loan until
 /// its message was sent or it was discarded.
 ///
+/// Example (`crates/thermometer/src/report.rt`):
+///
+/// ```rust
+/// let message = loan.write_payload(domain, Reading { celsius });
+/// message.send(domain)?.delivered();
+/// ```
+///
 /// iceoryx2's `sample_mut_uninit::SampleMutUninit` (`src/sample_mut_uninit.rs`).
 pub struct SampleMutUninit {
     pub(crate) service_id: u128,

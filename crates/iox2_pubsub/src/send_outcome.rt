@@ -6,6 +6,18 @@ use crate::blocked_send::BlockedSend;
 
 /// What came of a message that was sent.
 ///
+/// Example (`crates/slow_display/src/sending.rt`):
+///
+/// ```rust
+/// for &celsius in readings {
+///     match publisher.send_copy(domain, celsius)? {
+///         SendOutcome::Delivered(_) => {}
+///         SendOutcome::Blocked(waiting) => return Ok(Some(waiting)),
+///     }
+/// }
+/// Ok(None)
+/// ```
+///
 /// This library's own, where iceoryx2's `SampleMut::send` returns the number of receivers alone.
 pub enum SendOutcome {
     /// So many subscribers took it.

@@ -14,6 +14,17 @@ use iox2_store::{BackpressureFn, DegradationFn, Key, UniqueSubscriberId};
 /// Receives the messages of every publisher of its domain. It is a value to be spent: the domain
 /// keeps the subscriber until that is closed.
 ///
+/// Example (`crates/slow_display/src/display.rt`):
+///
+/// ```rust
+/// while let Some(sample) = display.receive(domain)? {
+///     let celsius = *sample.payload(domain);
+///     sample.release(domain);
+///     println!(rt; "{celsius} °C")?;
+/// }
+/// Ok(())
+/// ```
+///
 /// iceoryx2's `port::subscriber::Subscriber` (`src/port/subscriber.rs`).
 pub struct Subscriber {
     pub(crate) service_id: u128,

@@ -8,6 +8,12 @@ use iox2_store::{BackpressureFn, ConnectionFailure, DegradationFn};
 /// A port of which the connections can be updated by a call, in a domain whose messages and boxed
 /// handlers have these types. Each send, receive and question does it too.
 ///
+/// Example (`crates/thermometer/src/report.rt`):
+///
+/// ```rust
+/// publisher.update_connections(domain)?;
+/// ```
+///
 /// iceoryx2's `UpdateConnections` (`src/port/update_connections.rs`).
 pub trait UpdateConnections<T: Drop, U: Default + Drop, F: BackpressureFn, G: DegradationFn> {
     ghost use Rattle.std.specs.declared.option.Option.{Option};

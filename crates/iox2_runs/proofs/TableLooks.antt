@@ -234,10 +234,6 @@ module _ {T U : Type 0} (s : State T U) where
     pub publisher_unboxed : (service p : ℕ) → slice_get table of ≡ Some (Publisher_entry service p) → HasNoBox s p
     publisher_unboxed service p at = let v = handle_of (Publisher_entry service p) at in (v.2).4
 
-    -- nor has one that lent a loan which is written now
-    pub lender_unboxed : (service p n : ℕ) → slice_get table of ≡ Some (Written_entry service p n) → HasNoBox s p
-    lender_unboxed service p n at = let v = handle_of (Written_entry service p n) at in (v.2).3
-
     -- a look-up that finds nothing at any handle with another entry finds nothing here
     lacks : {A : Type 0} (look : Option Handle → Option A) → look None ≡ None → (kind : TableEntry → Bool)
         → ((h : Handle) (e : TableEntry) → IsEntryOf s h e → kind e ≡ false → look (Some h) ≡ None)

@@ -38,7 +38,8 @@ use iox2_store::{BackpressureFn, DegradationFn};
 use made::{Made, disown_all};
 use std::alloc::Global;
 
-// There is a default value of the type. For proofs alone.
+// There is a default value of the type. For proofs alone
+// (docs/decisions/crates.md, "What exists for proofs alone").
 fn has_default<T: Default + Drop>()
     ensures { (value : T) × T.is_default value }
 {

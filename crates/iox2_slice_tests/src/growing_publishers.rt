@@ -249,12 +249,16 @@ fn kept_up_to(
 ) -> usize {
     let shared = Rc::new(alloc, 7_u8).expect(rt, "a value");
     let mut domain: Domain<Rc<u8>, u64> = Domain::new(alloc, slices()).expect(rt, "a domain");
-    let factory = slice_factory(&domain).max_loaned_samples(1).allocation_strategy(strategy);
+    let factory = slice_factory(&domain)
+        .max_loaned_samples(1)
+        .allocation_strategy(strategy);
     let publisher = factory.create(&mut domain).expect(rt, "a publisher");
     for len in 2..longest + 1 {
         assert_sliced(rt, &domain);
         assert_ready(rt, &domain, &publisher);
-        let loan = publisher.loan_slice_uninit(&mut domain, len).expect(rt, "a loan");
+        let loan = publisher
+            .loan_slice_uninit(&mut domain, len)
+            .expect(rt, "a loan");
         let message = loan.write_from_fn(&mut domain, |_| shared.clone().expect(rt, "a share"));
         message.discard(&mut domain);
     }

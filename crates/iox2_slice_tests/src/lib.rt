@@ -7,6 +7,8 @@ mod allocations;
 #[cfg(test)]
 mod custom_payloads;
 #[cfg(test)]
+mod drops;
+#[cfg(test)]
 mod fixtures;
 #[cfg(test)]
 mod growing_publishers;

@@ -1,5 +1,5 @@
 -- Slots of the list of free ones that stand from some slot on.
-use Rattle.std.proofs.Common.{◌≡◌, ℕ, zero, suc, ◌+◌, ◌<◌, ◌≤◌, List, [], ◌∷◌, ◌++◌, length, take, drop, Bool, false, true, cond, ◌-◌, slice_index_or, slice_index, slice_set, map, get_or, replicate, All, refl, ap, sym, subst, ◌∙◌, inl, inr, arith, count_by, eqb}
+use Rattle.std.proofs.Common.{◌≡◌, ℕ, zero, suc, ◌+◌, ◌<◌, ◌≤◌, List, [], ◌∷◌, ◌++◌, length, take, drop, Bool, false, true, cond, ◌-◌, slice_index_or, slice_index, slice_set, map, get_or, replicate, All, refl, ap, sym, subst, ◌∙◌, arith, count_by, eqb}
 use Rattle.std.proofs.lemmas.Bool.{ne_eqb, eq-eqb}
 use Rattle.std.proofs.lemmas.Grind.{common_steps, get_or_default_zero}
 use Rattle.std.proofs.lemmas.List.{get_or-map, get_or-drop, length-append, length-drop, length-map, map-append}

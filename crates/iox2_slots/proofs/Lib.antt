@@ -4,3 +4,4 @@ pub mod LaterSlots
 pub mod LinkLemmas
 pub mod SlotRecords
 pub mod SlotHeaders
+pub mod TakenSlots

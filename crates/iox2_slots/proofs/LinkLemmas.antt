@@ -1,13 +1,11 @@
 -- What a connection's calls are to the lists of its slots.
-use Rattle.std.proofs.Common.{◌≡◌, ℕ, zero, suc, ◌+◌, ◌<◌, ◌==◌, List, [], ◌∷◌, ◌++◌, ◌-◌, true, false, length, drop, take, refl, Option, Some, None, get_or, arith, ap, sym, subst, ◌∙◌, cond, eqb, eq-eqb, Contains, ⊎_elim}
-use Rattle.std.proofs.Math.Seq.{take-suc, take-length}
-use Rattle.std.proofs.lemmas.Bool.{false≢true, ne_eqb, or_cases, or_left, or_right, or_parts}
-use Rattle.std.proofs.lemmas.Option.{slice_get_within, get_or_from_slice_get}
+use Rattle.std.proofs.Common.{◌≡◌, ℕ, zero, suc, ◌+◌, ◌<◌, ◌==◌, List, [], ◌∷◌, ◌++◌, ◌-◌, true, false, length, drop, refl, Option, Some, None, get_or, arith, ap, sym, ◌∙◌, cond, eqb, eq-eqb, Contains, ⊎_elim}
+use Rattle.std.proofs.lemmas.Bool.{false≢true, or_cases, or_left, or_right, or_parts}
 use Rattle.std.proofs.lemmas.List.{length-append}
 use Rattle.std.proofs.lemmas.List.Sums.{sum_by-cons}
-use Rattle.std.specs.Prelude.{count_by, remove, slice_get}
+use Rattle.std.specs.Prelude.{count_by, slice_get}
 use Rattle.iox2_slots.specs.Link.{Link, IsPut, IsTaken, IsDropped, IsReclaimed}
-use Rattle.iox2_store.specs.machine.Numbers.{contains, without, IsOnce}
+use Rattle.iox2_store.specs.machine.Numbers.{contains, without}
 use Rattle.iox2_slots.specs.declared.connection.PutOutcome.TheVariants.{Overwrote}
 
 -- the first waiting slot of a ring was borrowed
@@ -33,7 +31,7 @@ put_over c d (x ∷ xs) slot oldest w room full e f =
     let one : length (x ∷ xs ++ slot ∷ []) - c.buffer ≡ 1 = omega (arith, length-append xs (slot ∷ [])) in
     (refl, ap length w ∙ full, (xs, w ∙ ap (λ (y : ℕ). y ∷ xs) (sym first), rw one at f))
 
--- ---- a slot that goes out of a list in which it stands once
+-- ---- numbers in a list
 
 -- a number that isn't in the list can't be taken out
 pub without-absent : (n : ℕ) (xs : List ℕ) → contains xs n ≡ false → without n xs ≡ xs
@@ -50,12 +48,6 @@ contains-from (x ∷ xs) n h = by h.0 h.1 h.2 (λ k below at. contains-from xs n
   by zero below at later = or_left (eqb x n) (contains xs n) (eq-eqb x n at)
   by (suc k) below at later = or_right (eqb x n) (contains xs n) (later k (omega arith) at)
 
--- what stands at a place passes the test for it
-contains-at : (xs : List ℕ) (place n : ℕ) → slice_get xs place ≡ Some n → contains xs n ≡ true
-contains-at [] place n at = absurd cc
-contains-at (x ∷ xs) zero n at = let same : x ≡ n = cc in or_left (eqb x n) (contains xs n) (eq-eqb x n same)
-contains-at (x ∷ xs) (suc k) n at = or_right (eqb x n) (contains xs n) (contains-at xs k n at)
-
 -- what stands in a list is counted
 pub counted-there : (xs : List ℕ) (n : ℕ) → contains xs n ≡ true → count_by (λ other. other == n) xs ≡ 0 → ⊥
 counted-there [] n h none = false≢true h
@@ -63,33 +55,3 @@ counted-there (x ∷ xs) n h none =
     let all : count_by (λ other. other == n) (x ∷ xs) ≡ cond (eqb x n) 1 0 + count_by (λ other. other == n) xs = sum_by-cons (λ (y : ℕ). cond (eqb y n) 1 0) x xs in
     ⊎_elim (λ same. let one : cond {A = ℕ} (eqb x n) 1 0 ≡ 1 = ap (λ t. cond {A = ℕ} t 1 0) same in omega (arith, all, one, none))
     (λ later. counted-there xs n later (omega (arith, all, none))) (or_cases (eqb x n) (contains xs n) h)
-
--- the slot at a place is taken out
-pub removed-at : (slot : ℕ) (xs : List ℕ) (place : ℕ) → slice_get xs place ≡ Some slot → IsOnce xs → remove xs place ≡ without slot xs
-removed-at slot [] place at once = absurd cc
-removed-at slot (x ∷ xs) zero at once =
-    let same : x ≡ slot = cc in
-    rw (eq-eqb x slot same) (sym (without-absent slot xs (ap (contains xs) (sym same) ∙ once.0)))
-removed-at slot (x ∷ xs) (suc k) at once =
-    let apart : eqb x slot ≡ false = ne_eqb x slot (λ same. false≢true (sym once.0 ∙ ap (contains xs) same ∙ contains-at xs k slot at)) in
-    rw apart (ap (λ r. x ∷ r) (removed-at slot xs k at once.1))
-
-contains-last : (xs : List ℕ) (n : ℕ) → contains (xs ++ n ∷ []) n ≡ true
-contains-last [] n = or_left (eqb n n) (contains [] n) (eq-eqb n n refl)
-contains-last (x ∷ xs) n = or_right (eqb x n) (contains (xs ++ n ∷ []) n) (contains-last xs n)
-
-last-out : (n : ℕ) (xs : List ℕ) → IsOnce (xs ++ n ∷ []) → without n (xs ++ n ∷ []) ≡ xs
-last-out n [] once = rw (eq-eqb n n refl) refl
-last-out n (x ∷ xs) once =
-    let apart : eqb x n ≡ false = ne_eqb x n (λ same. false≢true (sym once.0 ∙ ap (contains (xs ++ n ∷ [])) same ∙ contains-last xs n)) in
-    rw apart (ap (λ r. x ∷ r) (last-out n xs once.1))
-
--- the slot that stands last is taken out
-pub removed-last : (slot : ℕ) (xs : List ℕ) → slice_get xs (length xs - 1) ≡ Some slot → IsOnce xs → take (length xs - 1) xs ≡ without slot xs
-removed-last slot xs at once =
-    let below : length xs - 1 < length xs = slice_get_within xs (length xs - 1) slot at in
-    let last : get_or xs (length xs - 1) 0 ≡ slot = get_or_from_slice_get xs (length xs - 1) slot 0 at in
-    let one : suc (length xs - 1) ≡ length xs = omega arith in
-    let parts : xs ≡ take (length xs - 1) xs ++ slot ∷ [] =
-    sym (take-length xs) ∙ ap (λ (n : ℕ). take n xs) (sym one) ∙ take-suc xs (length xs - 1) 0 below ∙ ap (λ (y : ℕ). take (length xs - 1) xs ++ y ∷ []) last in
-    sym (ap (without slot) parts ∙ last-out slot (take (length xs - 1) xs) (subst IsOnce parts once))

@@ -81,10 +81,10 @@ IsReclaimed old (Some slot) new =
 
 -- ---- bounds
 
--- Waiting and borrowed slots are within their limits, and all slots together within the room for those given back.
+-- Waiting and borrowed slots are within their limits, and all slots together within the two: what is given back takes no more than what was borrowed left.
 pub record IsBounded (c : Link) : Type 0 where
   pub some_room : 0 < c.buffer
   pub waiting : length c.waiting ≤ c.buffer
   pub borrowed : length c.borrowed ≤ c.limit
-  pub load : load c ≤ c.buffer + c.limit + 1
+  pub load : load c ≤ c.buffer + c.limit
   pub fits : c.buffer + c.limit + 1 < 2 ^ 64

@@ -1,10 +1,9 @@
 //! What lies between one publisher and one subscriber: numbers of the publisher's slots.
-ghost use Rattle.std.specs.Prelude.{◌≡◌, ◌+◌, ◌-◌, ◌<◌, ◌≤◌, ◌↔◌, length, slice_get, Some, Contains, IfOk, IsTrue};
+ghost use Rattle.std.specs.Prelude.{◌≡◌, ◌+◌, ◌<◌, ◌↔◌, length, Contains, IfOk, IsTrue};
 ghost use Rattle.iox2_slots.specs.Link.{load, empty_link, has_slots, has_borrowed_slots, can_borrow, with_returned, without_borrowed, IsBounded};
-ghost use Rattle.iox2_store.specs.machine.Numbers.{without, IsOnce};
-ghost use Rattle.std.specs.Vec.{vec_capacity};
+ghost use Rattle.iox2_store.specs.machine.Numbers.{IsOnce};
 
-use crate::place::place_of;
+use crate::place::take_slot;
 use circular_buffer::HeapCircularBuffer;
 use std::alloc::{AllocError, Global};
 use std::marker::Model;
@@ -34,43 +33,6 @@ pub enum PutOutcome {
     Overwrote(usize),
     /// There was no room, and nothing has changed.
     Full,
-}
-
-/// Whether the slot stands last.
-fn is_last(slots: &[usize], slot: usize) -> bool
-    ensures { IsTrue result ↔ (slice_get slots.now (length slots.now - 1) ≡ Some slot) }
-{
-    slots.last().is_some_and(|last| *last == slot)
-}
-
-/// Takes out a slot, which stands in the list once. Where it stands last, there is no search and no
-/// shift.
-fn take_out(slots: &mut Vec<usize>, slot: usize)
-    requires stands { Contains slots.old.items slot }
-    requires once { IsOnce slots.old.items }
-    ensures items { slots.new.items ≡ without slot slots.old.items }
-    ensures len { length slots.new.items + 1 ≡ length slots.old.items }
-    ensures capacity { vec_capacity slots.new ≡ vec_capacity slots.old }
-{
-    if is_last(slots, slot) {
-        slots.pop();
-    } else {
-        search_and_take_out(slots, slot);
-    }
-}
-
-/// The same, wherever the slot stands.
-#[inline(never)]
-fn search_and_take_out(slots: &mut Vec<usize>, slot: usize)
-    requires stands { Contains slots.old.items slot }
-    requires once { IsOnce slots.old.items }
-    ensures items { slots.new.items ≡ without slot slots.old.items }
-    ensures len { length slots.new.items + 1 ≡ length slots.old.items }
-    ensures capacity { vec_capacity slots.new ≡ vec_capacity slots.old }
-{
-    if let Some(place) = place_of(slots, slot) {
-        slots.remove(place);
-    }
 }
 
 /// A connection of one publisher and one subscriber. It holds numbers of the publisher's slots:
@@ -181,9 +143,9 @@ impl Connection {
     }
 
     /// Puts a slot behind those that wait. Where there is no room, the oldest of them goes if
-    /// `overflow` is set, and else nothing changes.
+    /// `overflow` is set, and else nothing changes. What was given back is reclaimed before.
     pub fn put(&mut self, slot: usize, overflow: bool) -> PutOutcome
-        requires { load self.old ≤ self.old.buffer + self.old.limit }
+        requires { length self.old.returned ≡ 0 }
         ensures put { IsPut self.old slot overflow result self.new }
         ensures bounded { IsBounded self.new }
     {
@@ -225,7 +187,7 @@ impl Connection {
         ensures releases { self.new ≡ with_returned slot self.old }
         ensures bounded { IsBounded self.new }
     {
-        take_out(&mut self.borrowed, slot);
+        take_slot(&mut self.borrowed, slot);
         if self.returned.try_push_back(slot).is_err() {
             unreachable!();
         }
@@ -238,7 +200,7 @@ impl Connection {
         ensures goes { self.new ≡ without_borrowed slot self.old }
         ensures bounded { IsBounded self.new }
     {
-        take_out(&mut self.borrowed, slot);
+        take_slot(&mut self.borrowed, slot);
     }
 
     /// Reclaims the slot that was given back first. `None` if there is none.

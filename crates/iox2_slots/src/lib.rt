@@ -6,5 +6,5 @@ mod place;
 mod slots;
 
 pub use connection::{Connection, Home, PutOutcome};
-pub use place::place_of;
+pub use place::take_slot;
 pub use slots::{SlotBook, SlotMark};

@@ -1,10 +1,12 @@
-//! Where a slot stands in a list: among what is borrowed of a connection, or among a publisher's loans.
-ghost use Rattle.std.specs.Prelude.{◌≡◌, ◌==◌, count_by, slice_get, Some, MatchOption};
+//! A slot in a list: among what is borrowed of a connection, or among a publisher's loans.
+ghost use Rattle.std.specs.Prelude.{◌≡◌, ◌==◌, ◌+◌, ◌-◌, ◌≤◌, ◌↔◌, count_by, length, slice_get, Some, MatchOption, Contains, IsTrue};
+ghost use Rattle.std.specs.Vec.{vec_capacity};
+ghost use Rattle.iox2_store.specs.machine.Numbers.{without};
 
 /// A place at which a slot stands. It is looked for from both ends, since either the oldest or the
 /// newest slots go first.
 #[inline(never)]
-pub fn place_of(slots: &[usize], slot: usize) -> Option<usize>
+fn place_of(slots: &[usize], slot: usize) -> Option<usize>
     ensures { MatchOption result (count_by (λ other. other == slot) slots.now ≡ 0) (λ place. slice_get slots.now place ≡ Some slot) }
 {
     for place in 0..slots.len() {
@@ -17,4 +19,39 @@ pub fn place_of(slots: &[usize], slot: usize) -> Option<usize>
         }
     }
     None
+}
+
+// Whether the slot stands last.
+fn is_last(slots: &[usize], slot: usize) -> bool
+    ensures { IsTrue result ↔ (slice_get slots.now (length slots.now - 1) ≡ Some slot) }
+{
+    slots.last().is_some_and(|last| *last == slot)
+}
+
+/// Takes a slot out of a list in which it stands once at most; the others keep their order. Where it
+/// stands last, there is no search and no shift.
+pub fn take_slot(slots: &mut Vec<usize>, slot: usize)
+    requires { count_by (λ other. other == slot) slots.old.items ≤ 1 }
+    ensures items { slots.new.items ≡ without slot slots.old.items }
+    ensures len { Contains slots.old.items slot → length slots.new.items + 1 ≡ length slots.old.items }
+    ensures capacity { vec_capacity slots.new ≡ vec_capacity slots.old }
+{
+    if is_last(slots, slot) {
+        slots.pop();
+    } else {
+        search_and_take(slots, slot);
+    }
+}
+
+// The same, wherever the slot stands.
+#[inline(never)]
+fn search_and_take(slots: &mut Vec<usize>, slot: usize)
+    requires { count_by (λ other. other == slot) slots.old.items ≤ 1 }
+    ensures items { slots.new.items ≡ without slot slots.old.items }
+    ensures len { Contains slots.old.items slot → length slots.new.items + 1 ≡ length slots.old.items }
+    ensures capacity { vec_capacity slots.new ≡ vec_capacity slots.old }
+{
+    if let Some(place) = place_of(slots, slot) {
+        slots.remove(place);
+    }
 }

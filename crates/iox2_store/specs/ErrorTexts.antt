@@ -16,6 +16,8 @@ use Rattle.iox2_store.specs.declared.errors.PublisherCreateError.{PublisherCreat
 use Rattle.iox2_store.specs.declared.errors.PublisherCreateError.TheVariants as publisher
 use Rattle.iox2_store.specs.declared.errors.SubscriberCreateError.{SubscriberCreateError}
 use Rattle.iox2_store.specs.declared.errors.SubscriberCreateError.TheVariants as subscriber
+use Rattle.iox2_store.specs.declared.errors.DomainCreateError.{DomainCreateError}
+use Rattle.iox2_store.specs.declared.errors.DomainCreateError.TheVariants as domain
 
 -- The name of a loan error's variant.
 abbrev pub loan_error_name : LoanError → List ℕ
@@ -90,3 +92,7 @@ publisher_create_error_text error = codes "PublisherCreateError::" ++ publisher_
 -- The refusal of a subscriber is printed as its type's name, two colons and its variant's name.
 abbrev pub subscriber_create_error_text : SubscriberCreateError → List ℕ
 subscriber_create_error_text error = codes "SubscriberCreateError::" ++ subscriber_create_error_name error
+
+-- What is printed for a domain that was not made.
+abbrev pub domain_create_error_text : DomainCreateError → List ℕ
+domain_create_error_text domain.OutOfMemory = codes "DomainCreateError::OutOfMemory"

@@ -1,12 +1,12 @@
 use iox2_store::{
-    ConnectionFailure, LoanError, PublisherCreateError, ReceiveError, SendError,
+    ConnectionFailure, DomainCreateError, LoanError, PublisherCreateError, ReceiveError, SendError,
     SharedMemoryOpenError, SubscriberCreateError, ZeroCopyCreationError,
 };
 use std::alloc::Global;
-use std::fmt::Display;
+use std::error::Error;
 
 // Whether the error prints so.
-fn prints<E: Display + Copy>(alloc: Global, error: E, expected: &str) -> bool {
+fn prints<E: Error + Copy>(alloc: Global, error: E, expected: &str) -> bool {
     match error.to_string(alloc) {
         Ok(text) => text.as_str() == expected,
         Err(_) => false,
@@ -14,7 +14,7 @@ fn prints<E: Display + Copy>(alloc: Global, error: E, expected: &str) -> bool {
 }
 
 // Whether the error prints so behind a word.
-fn prints_behind<E: Display + Copy>(alloc: Global, error: E, expected: &str) -> bool {
+fn prints_behind<E: Error + Copy>(alloc: Global, error: E, expected: &str) -> bool {
     match format!(in alloc; "err {error}") {
         Ok(text) => text.as_str() == expected,
         Err(_) => false,
@@ -50,8 +50,13 @@ fn errors_print_their_types_and_variants(rt: HostRuntime) {
             SubscriberCreateError::FailedToDeployThreadsafetyPolicy,
             "SubscriberCreateError::FailedToDeployThreadsafetyPolicy",
         ),
+        prints(
+            alloc,
+            DomainCreateError::OutOfMemory,
+            "DomainCreateError::OutOfMemory",
+        ),
     ];
-    assert!(rt; printed == [true; 5]);
+    assert!(rt; printed == [true; 6]);
 }
 
 #[test]

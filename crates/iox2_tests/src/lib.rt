@@ -15,6 +15,8 @@ mod discards;
 #[cfg(test)]
 mod domains;
 #[cfg(test)]
+mod drops;
+#[cfg(test)]
 mod fixtures;
 #[cfg(test)]
 mod growing_publishers;

@@ -93,22 +93,28 @@ ok
 skipped
 ";
 
-/// The domain line has less room for departed publishers than messages may be borrowed.
-const WORKED_WARNING: &[u8] = b"warning ExpiredBufferRaised\n";
+/// What is told of a subscriber in a domain that has less room for departed publishers than messages
+/// may be borrowed.
+const RAISED: &[u8] = b"warning ExpiredBufferRaised\n";
+
+/// The same of two subscribers.
+const RAISED_TWICE: &[u8] = b"warning ExpiredBufferRaised\nwarning ExpiredBufferRaised\n";
 
 #[test]
 fn a_message_is_sent_received_and_released(rt: HostRuntime) {
-    Outcome::of(rt.alloc(), WORKED).assert(&rt, 0, WORKED_REPLIES, WORKED_WARNING);
+    Outcome::of(rt.alloc(), WORKED).assert(&rt, 0, WORKED_REPLIES, RAISED);
 }
 
 // Room is taken when connections are made, and not for what may come.
 #[test]
 fn a_limit_may_be_any_number(rt: HostRuntime) {
-    Outcome::of(
-        rt.alloc(),
-        b"domain 1 1 1 1 0 18446744073709551615 keep\nsub 1\npub 1 discard\n",
-    )
-    .assert(&rt, 0, b"ok\nok\n", b"");
+    for text in [
+        b"domain 1 1 1 1 0 18446744073709551615 keep\nsub 1\npub 1 discard\n".as_slice(),
+        b"domain 18446744073709551615 1 1 1 0 1 keep\nsub 1\npub 1 discard\n".as_slice(),
+        b"domain 1 4611686018427387904 1 1 0 1 keep\nsub 1\nsub 1\n".as_slice(),
+    ] {
+        Outcome::of(rt.alloc(), text).assert(&rt, 0, b"ok\nok\n", b"");
+    }
 }
 
 /// Fills the three slots of a publisher with one loan: one is borrowed, one waits and one is lent.
@@ -312,14 +318,15 @@ fn a_malformed_line_is_named(rt: HostRuntime) -> Result<(), Fail> {
     Ok(())
 }
 
+// The second has its carriage return, since no line feed follows.
 #[test]
-fn an_unterminated_last_line_keeps_its_carriage_return(rt: HostRuntime) {
-    Outcome::of(rt.alloc(), b"domain 1 1 1 1 0 0 keep\nloan 0\r").assert(
-        &rt,
-        2,
-        b"",
-        b"line 2: bad command\n",
-    );
+fn the_line_after_the_domain_is_the_second(rt: HostRuntime) {
+    for text in [
+        b"domain 1 1 1 1 0 0 keep\nsub x\n".as_slice(),
+        b"domain 1 1 1 1 0 0 keep\nloan 0\r".as_slice(),
+    ] {
+        Outcome::of(rt.alloc(), text).assert(&rt, 2, b"", b"line 2: bad command\n");
+    }
 }
 
 #[test]
@@ -347,12 +354,7 @@ fn a_number_that_names_nothing_is_skipped(rt: HostRuntime) {
 #[test]
 fn a_script_may_come_in_pieces(rt: HostRuntime) {
     let mut input = Dribble::new(WORKED, None);
-    Outcome::of_input(rt.alloc(), WORKED, &mut input).assert(
-        &rt,
-        0,
-        WORKED_REPLIES,
-        WORKED_WARNING,
-    );
+    Outcome::of_input(rt.alloc(), WORKED, &mut input).assert(&rt, 0, WORKED_REPLIES, RAISED);
 }
 
 #[test]

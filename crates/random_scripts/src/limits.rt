@@ -17,6 +17,8 @@ pub(crate) enum Limit {
     /// The loans of the publisher, or the buffer of the subscriber, that the command at this position
     /// makes.
     Port(usize),
+    /// The slots that the override of the publisher asks for that the command at this position makes.
+    Slots(usize),
 }
 
 /// The limits of settings.
@@ -30,7 +32,8 @@ pub(crate) const LIMITS: [Limit; 6] = [
 ];
 
 impl Limit {
-    /// What the limit is: 0 where the command makes no port with a limit of its own.
+    /// What the limit is: 0 where the command makes no port with a limit of its own, or with an
+    /// override.
     pub(crate) fn of(self, script: &Script) -> usize {
         let config = &script.config;
         match self {
@@ -41,6 +44,7 @@ impl Limit {
             Limit::History => config.history_size,
             Limit::Expired => config.subscriber_expired_connection_buffer,
             Limit::Port(position) => script.commands.get(position).map_or(0, own_limit),
+            Limit::Slots(position) => script.commands.get(position).map_or(0, own_slots),
         }
     }
 
@@ -52,10 +56,18 @@ impl Limit {
         value: usize,
     ) -> Result<Script, Failure> {
         let mut commands = Vec::from_slice(alloc, script.commands.as_slice())?;
-        if let Limit::Port(position) = self {
-            if let Some(command) = commands.get_mut(position) {
-                *command = with_own_limit(*command, value);
+        match self {
+            Limit::Port(position) => {
+                if let Some(command) = commands.get_mut(position) {
+                    *command = with_own_limit(*command, value);
+                }
             }
+            Limit::Slots(position) => {
+                if let Some(command) = commands.get_mut(position) {
+                    set_own_slots(command, value);
+                }
+            }
+            _ => {}
         }
         Ok(Script {
             config: self.set_in(script.config, value),
@@ -73,7 +85,7 @@ impl Limit {
             Limit::Borrowed => config.subscriber_max_borrowed_samples = value,
             Limit::History => config.history_size = value,
             Limit::Expired => config.subscriber_expired_connection_buffer = value,
-            Limit::Port(_) => {}
+            Limit::Port(_) | Limit::Slots(_) => {}
         }
         config
     }
@@ -88,6 +100,28 @@ fn own_limit(command: &Command<u64, u64>) -> usize {
             ..
         } => *size,
         _ => 0,
+    }
+}
+
+// How many slots the override asks for of the publisher that the command makes.
+fn own_slots(command: &Command<u64, u64>) -> usize {
+    match command {
+        Command::CreatePublisher {
+            override_slots: Some(slots),
+            ..
+        } => *slots,
+        _ => 0,
+    }
+}
+
+// Such an override asks for that many.
+fn set_own_slots(command: &mut Command<u64, u64>, value: usize) {
+    if let Command::CreatePublisher {
+        override_slots: Some(slots),
+        ..
+    } = command
+    {
+        *slots = value;
     }
 }
 

@@ -58,6 +58,7 @@ fn limits_of(alloc: Global, script: &Script) -> Result<Vec<Limit>, Failure> {
     if count <= MOST_WITH_PORTS {
         for position in 0..count {
             limits.push(Limit::Port(position))?;
+            limits.push(Limit::Slots(position))?;
         }
     }
     Ok(limits)

@@ -1,6 +1,7 @@
 //! Why a row ends early.
 use iox2_pubsub::{
-    DomainCreateError, PublisherCreateError, ReceiveError, SendError, SubscriberCreateError,
+    DomainCreateError, LoanError, PublisherCreateError, ReceiveError, SendError,
+    SubscriberCreateError,
 };
 use std::alloc::AllocError;
 use std::io;
@@ -22,7 +23,8 @@ impl Failure {
     /// What is said of it.
     pub(crate) fn text(self) -> &'static str {
         match self {
-            Failure::Usage => "usage: refused_rows later_subscriber|later_publisher ANSWER",
+            Failure::Usage =>
+                "usage: refused_rows later_subscriber|later_publisher ANSWER, or growing_publisher STRATEGY",
             Failure::OutOfMemory => "out of memory",
             Failure::Refused => "a call failed",
             Failure::InputOutput => "arguments or output failed",
@@ -66,6 +68,12 @@ impl From<PublisherCreateError> for Failure {
 
 impl From<SubscriberCreateError> for Failure {
     fn from(_error: SubscriberCreateError) -> Self {
+        Failure::Refused
+    }
+}
+
+impl From<LoanError> for Failure {
+    fn from(_error: LoanError) -> Self {
         Failure::Refused
     }
 }

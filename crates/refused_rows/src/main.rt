@@ -1,21 +1,24 @@
-//! Carries out a short row of calls in which a port meets one that comes later, for
-//! `tools/refused_memory`, which has each allocation refused in turn. The arguments say which of the
-//! two comes later, and what each port answers where its connection is refused and whether a box
-//! answers.
+//! Carries out a short row of calls, for `tools/refused_memory`, which has each allocation refused in
+//! turn. In two rows a port meets one that comes later: the arguments say which of the two, and what
+//! each port answers where its connection is refused and whether a box answers. In the third one a
+//! publisher's memory grows, by the strategy that the arguments say.
 #![tactic(auto)]
 
-ghost use Rattle.std.specs.Prelude.{IfOk};
+ghost use Rattle.std.specs.Prelude.{◌≡◌, IfOk};
 ghost use Rattle.iox2_pubsub.specs.Live.{IsSingleValued};
+ghost use Rattle.iox2_pubsub.specs.Slices.{IsSliced};
 
 mod answer;
 mod failure;
+mod growth;
 mod ports;
 mod rows;
 mod warnings;
 
 use answer::{Answer, Handler, Service};
 use failure::Failure;
-use iox2_pubsub::{Domain, DomainCreateError, ServiceConfig};
+use growth::growing_publisher;
+use iox2_pubsub::{AllocationStrategy, Domain, DomainCreateError, ServiceConfig, TypeVariant};
 use rows::{later_publisher, later_subscriber};
 use std::alloc::Global;
 use std::env;
@@ -38,10 +41,23 @@ fn carry_out(rt: &HostRuntime) -> Result<(), Failure> {
     let [_, row, answer] = words.as_slice() else {
         return Err(Failure::Usage);
     };
-    let answer = Answer::parse(answer).ok_or(Failure::Usage)?;
+    let answer = answer.as_str();
     match row.as_str() {
-        "later_subscriber" => meet_subscriber(rt, answer),
-        "later_publisher" => meet_publisher(rt, answer),
+        "later_subscriber" => meet_subscriber(rt, parse_answer(answer)?),
+        "later_publisher" => meet_publisher(rt, parse_answer(answer)?),
+        "growing_publisher" => grow_memory(rt, parse_strategy(answer)?),
+        _ => Err(Failure::Usage),
+    }
+}
+
+fn parse_answer(word: &str) -> Result<Answer, Failure> {
+    Answer::parse(word).ok_or(Failure::Usage)
+}
+
+fn parse_strategy(word: &str) -> Result<AllocationStrategy, Failure> {
+    match word {
+        "best_fit" => Ok(AllocationStrategy::BestFit),
+        "power_of_two" => Ok(AllocationStrategy::PowerOfTwo),
         _ => Err(Failure::Usage),
     }
 }
@@ -57,6 +73,12 @@ fn meet_publisher(rt: &HostRuntime, answer: Answer) -> Result<(), Failure> {
     let handlers = handlers(answer, true);
     let mut domain = domain_of(rt.alloc(), 1, 2)?;
     later_publisher(rt, &mut domain, handlers)?;
+    print_warnings(rt, &domain)
+}
+
+fn grow_memory(rt: &HostRuntime, strategy: AllocationStrategy) -> Result<(), Failure> {
+    let mut domain = sliced_domain(rt.alloc())?;
+    growing_publisher(rt, &mut domain, strategy)?;
     print_warnings(rt, &domain)
 }
 
@@ -80,6 +102,24 @@ fn domain_of(
         subscriber_max_buffer_size: 2,
         history_size: 0,
         enable_safe_overflow: false,
+        ..ServiceConfig::new(7)
+    };
+    Domain::with_handlers(alloc, config)
+}
+
+// The domain of a publisher whose memory grows.
+fn sliced_domain(alloc: Global) -> Result<Service, DomainCreateError>
+    ensures dynamic { IfOk result (λ domain. (domain.config).variant ≡ TypeVariant.Dynamic) }
+    ensures one_unit { IfOk result (λ domain. (domain.config).units_per_element ≡ 1) }
+    ensures sliced { IfOk result (λ domain. IsSliced domain) }
+{
+    let config = ServiceConfig {
+        variant: TypeVariant::Dynamic,
+        max_publishers: 1,
+        max_subscribers: 1,
+        subscriber_max_buffer_size: 1,
+        subscriber_max_borrowed_samples: 3,
+        history_size: 0,
         ..ServiceConfig::new(7)
     };
     Domain::with_handlers(alloc, config)

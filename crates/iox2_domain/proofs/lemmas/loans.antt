@@ -9,7 +9,6 @@ pub mod LendingSteps
 pub mod Lent
 pub mod Loaned
 pub mod LoanSlots
-pub mod RemovedSlots
 pub mod LoansOut
 pub mod LoanChanges
 pub mod LoanCalls

@@ -1,16 +1,16 @@
 //! What a handle made of numbers names is looked for first where the numbers say.
 ghost use Rattle.std.specs.Prelude.{◌≡◌, ◌↔◌, true, slice_index_or, IsTrue, MatchOption, None, Some};
-ghost use Rattle.iox2_store.specs.machine.SingleCalls.{HoldsPublisher, HoldsSample, HoldsSubscriber};
+ghost use Rattle.iox2_store.specs.machine.SingleCalls.{HoldsLoan, HoldsPublisher, HoldsSample, HoldsSubscriber};
 ghost use Rattle.iox2_domain.specs.Kept.{state_of};
 ghost use Rattle.iox2_domain.specs.Fields.{kept_of};
-ghost use Rattle.iox2_domain.specs.Invariant.{IsDomain, is_lent};
+ghost use Rattle.iox2_domain.specs.Invariant.{IsDomain};
 ghost use Rattle.iox2_domain.specs.LoanCalls.{HoldsUnwritten, HoldsWritten};
 ghost use Rattle.iox2_domain.specs.Ports.{PublisherFields, SubscriberFields};
-ghost use Rattle.iox2_domain.specs.LoanSlots.{IsLoanSlot, LiesInSlot};
-ghost use Rattle.iox2_pubsub.specs.Parts.{written_mark};
+ghost use Rattle.iox2_domain.specs.LoanSlots.{LiesInSlot};
+ghost use Rattle.iox2_pubsub.specs.Parts.{IsMarkOf, written_mark};
 
-use iox2_domain::{DomainState, LoanAt, SampleAt};
-use iox2_slots::{SlotBook, SlotMark};
+use iox2_domain::{DomainState, LoanAt, SampleAt, is_loan_slot};
+use iox2_slots::SlotMark;
 use iox2_store::{UniquePublisherId, UniqueSubscriberId};
 
 /// The place of the publisher with this id, where it wasn't closed. It is looked for at the place
@@ -67,22 +67,6 @@ pub(crate) fn find_open_subscriber<T: Drop, U: Default + Drop>(
     }
 }
 
-// A loan with this number lies in the slot.
-fn is_lent_there(book: &SlotBook, slot: usize, number: u128) -> bool
-    ensures { IsTrue result → IsLoanSlot book.now slot number }
-{
-    if slot >= book.len() {
-        return false;
-    }
-    book.holders(slot) > 0 && is_lent(book.mark(slot)) && book.number(slot) == number
-}
-
-fn is_lent(mark: SlotMark) -> bool
-    ensures { result ≡ is_lent mark }
-{
-    matches!(mark, SlotMark::Unwritten | SlotMark::Written)
-}
-
 // The publisher with this id stands at the place, and has the book at the key.
 fn has_book<T: Drop, U: Default + Drop>(
     state: &DomainState<T, U>,
@@ -112,7 +96,7 @@ pub(crate) fn is_lent_at_hint<T: Drop, U: Default + Drop>(
         return false;
     }
     match state.books.get(loan.book) {
-        Some(book) => is_lent_there(book, loan.slot, loan.number),
+        Some(book) => is_loan_slot(book, loan.slot, loan.number),
         None => false,
     }
 }
@@ -123,6 +107,34 @@ fn is_written(mark: SlotMark) -> bool
     matches!(mark, SlotMark::Written)
 }
 
+// What the mark of the publisher's loan is, where it is out.
+fn mark_of<T: Drop, U: Default + Drop>(state: &DomainState<T, U>, loan: &LoanAt) -> Option<SlotMark>
+    requires { IsDomain state.now }
+    ensures { MatchOption result (HoldsLoan (state_of (kept_of state.now)) loan.now.publisher loan.now.number → ⊥) (IsMarkOf state.now loan.now.publisher loan.now.number) }
+{
+    if is_lent_at_hint(state, loan) {
+        return Some(state.books[loan.book].mark(loan.slot));
+    }
+    search_mark(state, loan.publisher, loan.number)
+}
+
+// The same, where the loan doesn't lie in the slot that is named. The publisher's loans are gone
+// through.
+#[inline(never)]
+fn search_mark<T: Drop, U: Default + Drop>(
+    state: &DomainState<T, U>,
+    publisher: UniquePublisherId,
+    number: u128,
+) -> Option<SlotMark>
+    requires { IsDomain state.now }
+    ensures { MatchOption result (HoldsLoan (state_of (kept_of state.now)) publisher number → ⊥) (IsMarkOf state.now publisher number) }
+{
+    let Some(at) = state.find_loan(publisher, number) else {
+        return None;
+    };
+    Some(state.books[at.book].mark(at.slot))
+}
+
 /// Whether the publisher's loan is out and written.
 pub(crate) fn has_written<T: Drop, U: Default + Drop>(
     state: &DomainState<T, U>,
@@ -131,27 +143,10 @@ pub(crate) fn has_written<T: Drop, U: Default + Drop>(
     requires { IsDomain state.now }
     ensures { IsTrue result ↔ HoldsWritten (state_of (kept_of state.now)) loan.now.publisher loan.now.number }
 {
-    if is_lent_at_hint(state, loan) {
-        return is_written(state.books[loan.book].mark(loan.slot));
+    match mark_of(state, loan) {
+        Some(mark) => is_written(mark),
+        None => false,
     }
-    search_written(state, loan.publisher, loan.number)
-}
-
-// The same, where the loan doesn't lie in the slot that is named. The publisher's loans are gone
-// through.
-#[inline(never)]
-fn search_written<T: Drop, U: Default + Drop>(
-    state: &DomainState<T, U>,
-    publisher: UniquePublisherId,
-    number: u128,
-) -> bool
-    requires { IsDomain state.now }
-    ensures { IsTrue result ↔ HoldsWritten (state_of (kept_of state.now)) publisher number }
-{
-    let Some(at) = state.find_loan(publisher, number) else {
-        return false;
-    };
-    is_written(state.books[at.book].mark(at.slot))
 }
 
 /// Whether the publisher's loan is out and isn't written.
@@ -162,27 +157,10 @@ pub(crate) fn has_unwritten<T: Drop, U: Default + Drop>(
     requires { IsDomain state.now }
     ensures { IsTrue result ↔ HoldsUnwritten (state_of (kept_of state.now)) loan.now.publisher loan.now.number }
 {
-    if is_lent_at_hint(state, loan) {
-        return !is_written(state.books[loan.book].mark(loan.slot));
+    match mark_of(state, loan) {
+        Some(mark) => !is_written(mark),
+        None => false,
     }
-    search_unwritten(state, loan.publisher, loan.number)
-}
-
-// The same, where the loan doesn't lie in the slot that is named. The publisher's loans are gone
-// through.
-#[inline(never)]
-fn search_unwritten<T: Drop, U: Default + Drop>(
-    state: &DomainState<T, U>,
-    publisher: UniquePublisherId,
-    number: u128,
-) -> bool
-    requires { IsDomain state.now }
-    ensures { IsTrue result ↔ HoldsUnwritten (state_of (kept_of state.now)) publisher number }
-{
-    let Some(at) = state.find_loan(publisher, number) else {
-        return false;
-    };
-    !is_written(state.books[at.book].mark(at.slot))
 }
 
 /// Whether the subscriber has borrowed the message.

@@ -12,6 +12,16 @@ pub struct NoOverride;
 
 /// What says how many slots a publisher is to have: a closure, which is given the worst case.
 ///
+/// Example (`crates/iox2_tests/src/growing_publishers.rt`):
+///
+/// ```rust
+/// let factory = factory_for(domain)
+///     .max_loaned_samples(loans)
+///     .allocation_strategy(strategy)
+///     .override_sample_preallocation(|_| 1);
+/// factory.create(domain).expect(rt, "a publisher")
+/// ```
+///
 /// iceoryx2's `PreallocatedSamplesOverride` (`src/service/port_factory/publisher.rs`).
 #[derive(Drop)]
 pub struct PreallocatedSamplesOverride<P> {

@@ -36,6 +36,19 @@ use std::marker::Model;
 /// Makes a publisher. It begins with the loans that the domain's settings allow a publisher, and with
 /// their strategy. Its memory is to grow as they say.
 ///
+/// Example (`crates/thermometer/src/main.rt`):
+///
+/// ```rust
+/// let indoors = domain
+///     .publisher_builder()
+///     .max_loaned_samples(2)
+///     .backpressure_strategy(BackpressureStrategy::DiscardData)
+///     .create(domain)?;
+/// let outcome = report_both(rt, domain, &indoors, subscriber);
+/// indoors.close(domain);
+/// outcome
+/// ```
+///
 /// iceoryx2's `PortFactoryPublisher` (`src/service/port_factory/publisher.rs`).
 #[derive(Drop)]
 pub struct PortFactoryPublisher<

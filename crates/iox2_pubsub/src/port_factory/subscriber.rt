@@ -23,6 +23,15 @@ use std::marker::Model;
 
 /// Makes a subscriber. It begins with the largest buffer that the domain allows.
 ///
+/// Example (`crates/slow_display/src/main.rt`):
+///
+/// ```rust
+/// let display = domain.subscriber_builder().create(&mut domain)?;
+/// let outcome = run(&rt, &mut domain, &display, patience);
+/// display.close(&mut domain);
+/// outcome
+/// ```
+///
 /// iceoryx2's `PortFactorySubscriber` (`src/service/port_factory/subscriber.rs`).
 #[derive(Drop)]
 pub struct PortFactorySubscriber<G = Box<dyn DegradationFn>> {

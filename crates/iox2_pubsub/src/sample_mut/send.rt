@@ -102,7 +102,8 @@ impl SampleMut {
 //
 // The outcome is made in each branch: behind both, the compiler would ask anew how the send ended. The boxes
 // are handed on in one call alone, so that where they lie isn't on the path of a message of a publisher
-// without a handler.
+// without a handler (docs/decisions/cost.md, "One call takes the boxes"). The blocked send is made
+// before, of the numbers of the loan that the send spends, and disowned where there is none.
 //
 // iceoryx2's `PublisherSharedState::send_sample` (`src/port/publisher.rs`).
 #[inline(always)]

@@ -13,6 +13,15 @@ use iox2_store::{BackpressureFn, BackpressureStrategy, DegradationFn, Key, Uniqu
 /// Sends slices to every subscriber of its domain. It is a value to be spent, as the publisher of
 /// single values is, and is that publisher with other calls to lend.
 ///
+/// Example (`crates/thermometer/src/series.rt`):
+///
+/// ```rust
+/// let loan = publisher.loan_slice_uninit(domain, 3)?;
+/// let message = loan.write_from_slice(domain, &[18, 19, 20]);
+/// message.send(domain)?.delivered();
+/// Ok(())
+/// ```
+///
 /// iceoryx2's `port::publisher::Publisher` of a slice (`src/port/publisher.rs`).
 pub struct Publisher {
     pub(crate) publisher: crate::Publisher,

@@ -8,6 +8,14 @@ use iox2_store::{BackpressureFn, DegradationFn, Header, Key, UniquePublisherId};
 /// A slice that a subscriber has received and not yet released. It is a value to be spent, as the
 /// sample of a single value is, and is that sample with another view of its payload.
 ///
+/// Example (`crates/thermometer/src/series.rt`):
+///
+/// ```rust
+/// let length = sample.payload(domain).len();
+/// sample.release(domain);
+/// Ok(Some(length))
+/// ```
+///
 /// iceoryx2's `sample::Sample` of a slice (`src/sample.rs`).
 pub struct Sample {
     pub(crate) sample: crate::Sample,

@@ -12,6 +12,15 @@ use iox2_store::{BackpressureFn, DegradationFn, Header, Key, SendError};
 /// A loan of a slice whose payload is written. It is a value to be spent, as the loan of a single
 /// value is, and is that loan with another view of its payload.
 ///
+/// Example (`crates/thermometer/src/series.rt`):
+///
+/// ```rust
+/// let mut message = loan.write_from_fn(domain, |hour| hour as u64);
+/// set_first(SampleMut::payload_mut(domain, &mut message), 12);
+/// message.send(domain)?.delivered();
+/// Ok(())
+/// ```
+///
 /// iceoryx2's `sample_mut::SampleMut` of a slice (`src/sample_mut.rs`).
 pub struct SampleMut {
     pub(crate) sample: crate::SampleMut,

@@ -13,6 +13,13 @@ use iox2_store::{BackpressureFn, DegradationFn, Header, Key};
 /// A loan of a slice whose payload isn't written. It is a value to be spent, as the loan of a single
 /// value is, and is that loan with another view of its payload.
 ///
+/// Example (`crates/thermometer/src/series.rt`):
+///
+/// ```rust
+/// let loan = publisher.loan_slice_uninit(domain, 3).unwrap();
+/// let mut message = loan.write_from_fn(domain, |hour| hour as u64);
+/// ```
+///
 /// iceoryx2's `sample_mut_uninit::SampleMutUninit` of a slice (`src/sample_mut_uninit.rs`).
 pub struct SampleMutUninit {
     pub(crate) sample: crate::SampleMutUninit,

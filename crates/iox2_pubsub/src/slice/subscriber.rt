@@ -13,6 +13,17 @@ use iox2_store::{BackpressureFn, DegradationFn, Key, UniqueSubscriberId};
 /// Receives the slices of every publisher of its domain. It is a value to be spent, as the
 /// subscriber of single values is, and is that subscriber with other samples.
 ///
+/// Example (`crates/thermometer/src/series.rt`):
+///
+/// ```rust
+/// let Some(sample) = subscriber.receive(domain)? else {
+///     return Ok(None);
+/// };
+/// let length = sample.payload(domain).len();
+/// sample.release(domain);
+/// Ok(Some(length))
+/// ```
+///
 /// iceoryx2's `port::subscriber::Subscriber` of a slice (`src/port/subscriber.rs`).
 pub struct Subscriber {
     pub(crate) subscriber: crate::Subscriber,

@@ -55,8 +55,8 @@ impl Model for SlotBook {
 impl SlotBook {
     ghost use Rattle.iox2_slots.specs.SlotBook.{IsAligned, IsInUse, IsUsedFor, TakesFreeSlot, header_in, holders_at, with_holders, with_more_slots};
 
-    /// The book of a new publisher of this node, with so many slots, all of them free. Fails where memory runs
-    /// out; no other call on a book takes memory.
+    /// The book of a new publisher of this node, with so many slots, all of them free. Fails where
+    /// memory runs out. Of the other calls on a book `grown` alone takes memory.
     pub fn new(
         alloc: Global,
         node: UniqueNodeId,
@@ -144,7 +144,7 @@ impl SlotBook {
             mark: SlotMark::Unwritten,
         };
         let mut slots = Vec::from_slice(alloc, self.slots.as_slice())?;
-        slots.reserve(more)?;
+        slots.reserve_exact(more)?;
         let mut free = Vec::with_capacity(alloc, slots.capacity())?;
         free.extend_from_slice(self.free.as_slice())?;
         add_unused(&mut slots, &mut free, &unused, more);

@@ -31,7 +31,7 @@ use Rattle.iox2_domain.specs.Reaches.{Reaches}
 use Rattle.iox2_domain.proofs.lemmas.containers.FreePlaces.{lowest_free-ids, lowest_empty-map}
 use Rattle.iox2_steps.proofs.creations.PublisherEntries.{has_place}
 use Rattle.iox2_domain.proofs.lemmas.fields.ReachesShows.{reaches-then}
-use Rattle.iox2_steps.proofs.creations.SubscriberCreations.{KeepsLoans}
+use Rattle.iox2_steps.proofs.creations.SubscriberCreations.{KeepsLoans, same, joined, warned-keeps}
 
 -- ---- refused or made
 
@@ -96,16 +96,6 @@ put-here : (all : ℕ → Option Publisher) (p : ℕ) (x : Publisher) → put_at
 put-here all p x = rw (eq-eqb p p refl) refl
 
 module _ {T U : Type 0} where
-  same : (s s' : State T U) → s' ≡ s → KeepsLoans s s'
-  same s s' e = record { config = ap (λ (u : State T U). u.config) e; next_message = ap (λ (u : State T U). u.next_message) e; loans = ap (λ (u : State T U). u.loans) e }
-
-  joined : (s t u : State T U) → KeepsLoans s t → KeepsLoans t u → KeepsLoans s u
-  joined s t u first next = record { config = next.config ∙ first.config; next_message = next.next_message ∙ first.next_message; loans = next.loans ∙ first.loans }
-
-  warned-keeps : (s : State T U) (warning : ConnectionFailure → Warning) (failure : Option ConnectionFailure) → KeepsLoans s (with_failure_warning s warning failure)
-  warned-keeps s warning None = record { config = refl; next_message = refl; loans = refl }
-  warned-keeps s warning (Some failure) = record { config = refl; next_message = refl; loans = refl }
-
   warned-publishers : (s : State T U) (warning : ConnectionFailure → Warning) (failure : Option ConnectionFailure) → (with_failure_warning s warning failure).publishers ≡ s.publishers
   warned-publishers s warning None = refl
   warned-publishers s warning (Some failure) = refl

@@ -1,7 +1,7 @@
 -- A domain's fields agree with a new publisher among them.
-use Rattle.std.proofs.Common.{◌≡◌, ℕ, le_refl, zero, suc, ◌+◌, ◌<◌, ◌≤◌, ◌*◌, [], Bool, true, false, cond, eqb, get_or, refl, ap, sym, subst, ◌∙◌, inl, inr, ◌⊎◌, arith, List, length, ◌∷◌, replicate}
+use Rattle.std.proofs.Common.{◌≡◌, ℕ, le_refl, zero, suc, ◌+◌, ◌<◌, ◌≤◌, ◌*◌, [], Bool, true, false, cond, eqb, get_or, refl, ap, sym, subst, ◌∙◌, inl, inr, ◌⊎◌, arith, List, length, replicate}
 use Rattle.std.proofs.lemmas.Bool.{cases_eq, eqb-true}
-use Rattle.std.specs.List.{All, sum_by}
+use Rattle.std.specs.List.{sum_by}
 use Rattle.std.proofs.Math.Nat.{le-min, le-max_left}
 use Rattle.std.proofs.lemmas.Option.{get_or_from_slice_get, slice_get_within}
 use Rattle.std.specs.Prelude.{IsSomeAnd, min, max}
@@ -34,10 +34,7 @@ use Rattle.iox2_domain.proofs.lemmas.fields.NamedBooks.{names-books}
 use Rattle.iox2_domain.proofs.lemmas.containers.Placed.{placed-here}
 use Rattle.iox2_domain.proofs.lemmas.slots.NewBook.{sender_before, no_book, books-apart, book-found, unheld, was_book, away_from, still_book, nothing_in, contents-same, messages-same, numbered-still, lone-still}
 use Rattle.iox2_steps.proofs.creations.PublisherEntered.{PublisherEnters, newcomer, with_entered_publisher, ids_apart, stood, still, publisher-found, entered-is}
-
-nothing_at : {A : Type 0} (i : ℕ) (x : A) → get_or {A = Option A} [] i None ≡ Some x → ⊥
-nothing_at {A} zero x e = cc
-nothing_at {A} (suc i) x e = cc
+use Rattle.iox2_steps.proofs.creations.SubscriberEnteredAgrees.{nothing_at}
 
 length-replicate : (n : ℕ) → length (replicate {A = ℕ} n 0) ≡ n
 length-replicate zero = refl
@@ -207,15 +204,6 @@ module _ {T U : Type 0} (f : Fields T U) (place : ℕ) (given : PublisherSetting
     | inr old ↦ enters.sound.parts.shapes.at k slot b m old.1
         (ap (λ cs. message_in b cs slot) (sym (contents-same f enters.sound slots needed key books contents enters.book k old.0)) ∙ lies)
   ]
-
-  -- the new list has no more places than it had, or the new one
-  filled : (xs : List (Option PublisherFields)) (place i : ℕ) (x : PublisherFields) → place ≤ length xs → i < length (placed xs place x) → (i < length xs) ⊎ (i ≡ place)
-  filled [] zero zero x le lt = inr refl
-  filled [] zero (suc i) x le lt = absurd (omega arith)
-  filled [] (suc place) i x le lt = absurd (omega arith)
-  filled (y ∷ xs) zero i x le lt = inl lt
-  filled (y ∷ xs) (suc place) zero x le lt = inl (omega arith)
-  filled (y ∷ xs) (suc place) (suc i) x le lt = elim (filled xs place i x (omega arith) (omega arith)) [ inl below ↦ inl (omega arith) | inr here ↦ inr (ap suc here) ]
 
   -- each book is somebody's, or left
   kept_books : KeepsBooks after.next_port after.publishers books

@@ -34,13 +34,13 @@ put-here : (all : ℕ → Option Subscriber) (q : ℕ) (y : Subscriber) → put_
 put-here all q y = rw (eq-eqb q q refl) refl
 
 module _ {T U : Type 0} where
-  same : (s s' : State T U) → s' ≡ s → KeepsLoans s s'
+  pub same : (s s' : State T U) → s' ≡ s → KeepsLoans s s'
   same s s' e = record { config = ap (λ (u : State T U). u.config) e; next_message = ap (λ (u : State T U). u.next_message) e; loans = ap (λ (u : State T U). u.loans) e }
 
-  joined : (s t u : State T U) → KeepsLoans s t → KeepsLoans t u → KeepsLoans s u
+  pub joined : (s t u : State T U) → KeepsLoans s t → KeepsLoans t u → KeepsLoans s u
   joined s t u first next = record { config = next.config ∙ first.config; next_message = next.next_message ∙ first.next_message; loans = next.loans ∙ first.loans }
 
-  warned-keeps : (s : State T U) (warning : ConnectionFailure → Warning) (failure : Option ConnectionFailure) → KeepsLoans s (with_failure_warning s warning failure)
+  pub warned-keeps : (s : State T U) (warning : ConnectionFailure → Warning) (failure : Option ConnectionFailure) → KeepsLoans s (with_failure_warning s warning failure)
   warned-keeps s warning None = record { config = refl; next_message = refl; loans = refl }
   warned-keeps s warning (Some failure) = record { config = refl; next_message = refl; loans = refl }
 

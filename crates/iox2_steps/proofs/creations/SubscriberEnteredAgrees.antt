@@ -1,5 +1,5 @@
 -- A domain's fields agree with a new subscriber among them.
-use Rattle.std.proofs.Common.{◌≡◌, ℕ, zero, suc, ◌<◌, [], get_or, refl, ap, sym, subst, ◌∙◌, inl, inr, ◌⊎◌, arith, List, ◌≤◌, length, ◌∷◌, ◌+◌}
+use Rattle.std.proofs.Common.{◌≡◌, ℕ, zero, suc, ◌<◌, [], get_or, refl, ap, sym, subst, ◌∙◌, inl, inr, ◌⊎◌, arith, ◌≤◌, length, ◌+◌}
 use Rattle.std.specs.declared.option.Option.{Option}
 use Rattle.std.specs.declared.option.Option.TheVariants.{None, Some}
 use Rattle.std.specs.Option.{option_map}
@@ -24,7 +24,7 @@ use Rattle.iox2_domain.proofs.lemmas.fields.ExpiredRoom.{count-none}
 use Rattle.iox2_steps.proofs.creations.SubscriberEntered.{with_entered_subscriber, newcomer, ids_apart, stood, still}
 use Rattle.iox2_domain.proofs.lemmas.fields.OpenReceivers.{open-still}
 
-nothing_at : {A : Type 0} (i : ℕ) (x : A) → get_or {A = Option A} [] i None ≡ Some x → ⊥
+pub nothing_at : {A : Type 0} (i : ℕ) (x : A) → get_or {A = Option A} [] i None ≡ Some x → ⊥
 nothing_at {A} zero x e = cc
 nothing_at {A} (suc i) x e = cc
 
@@ -111,15 +111,6 @@ module _ {T U : Type 0} (f : Fields T U) (sound : IsDomain f) (warnings : Warnin
     publishers = λ i x at. let has = sound.parts.books.publishers i x at in record { book = has.book; stands = has.stands; is_its = has.is_its; node = has.node; slots = has.slots; room = has.room };
     no_others = sound.parts.books.no_others;
   }
-
-  -- the new list has no more places than it had, or the new one
-  filled : (xs : List (Option SubscriberFields)) (place i : ℕ) (y : SubscriberFields) → place ≤ length xs → i < length (placed xs place y) → (i < length xs) ⊎ (i ≡ place)
-  filled [] zero zero y le lt = inr refl
-  filled [] zero (suc i) y le lt = absurd (omega arith)
-  filled [] (suc place) i y le lt = absurd (omega arith)
-  filled (x ∷ xs) zero i y le lt = inl lt
-  filled (x ∷ xs) (suc place) zero y le lt = inl (omega arith)
-  filled (x ∷ xs) (suc place) (suc i) y le lt = elim (filled xs place i y (omega arith) (omega arith)) [ inl below ↦ inl (omega arith) | inr here ↦ inr (ap suc here) ]
 
   -- the invariant is kept
   pub entered-agrees : warnings.capacity ≡ warning_limit → place ≤ length f.subscribers → IsWellFormed (state_of (kept_of after)) → IsDomain after

@@ -43,9 +43,6 @@ use Rattle.iox2_domain.proofs.lemmas.slots.Messages.{lies_at, message_in-parts, 
 use Rattle.iox2_domain.proofs.lemmas.slots.RecountedLoans.{loan-publisher}
 
 module _ {T U : Type 0} (f : Fields T U) (sound : IsDomain f) (p n key slot : ℕ) (at : LiesInSlot f p n key slot) (none : look_up (is_publisher p) f.publishers ≡ None) where
-  abbrev b : Book
-  b = at.book
-
   abbrev was : State T U
   was = state_of (kept_of f)
 

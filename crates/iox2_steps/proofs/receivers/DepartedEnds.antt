@@ -1,13 +1,10 @@
 -- A departed publisher's end, to the subscriber that has it.
-use Rattle.std.proofs.Common.{◌≡◌, ◌≢◌, ℕ, zero, suc, List, [], ◌∷◌, map, true, get_or, eqb, ap, sym, ◌∙◌, inl, inr}
-use Rattle.std.proofs.lemmas.Bool.{eqb-true}
-use Rattle.std.proofs.lemmas.Map.Views.{Contains-from_any}
-use Rattle.std.specs.Prelude.{Contains}
+use Rattle.std.proofs.Common.{◌≡◌, ◌≢◌, ℕ, zero, suc, List, [], ◌∷◌, map, true, get_or, ap, sym, ◌∙◌, inl, inr}
 use Rattle.std.specs.declared.option.Option.TheVariants.{None, Some}
 use Rattle.slab.specs.Slab.{get}
 use Rattle.iox2_slots.specs.Link.{Link}
 use Rattle.iox2_store.specs.machine.Numbers.{contains}
-use Rattle.iox2_laws.proofs.NumberLemmas.{contains_in_cons, contains_first, contains_later}
+use Rattle.iox2_laws.proofs.NumberLemmas.{contains_in_cons}
 use Rattle.iox2_domain.specs.Ports.{PublisherFields, SubscriberFields}
 use Rattle.iox2_domain.specs.Invariant.{HasParts, StandsNowhere}
 use Rattle.iox2_domain.specs.Fields.{Fields}
@@ -21,17 +18,6 @@ among (k ∷ keys) key has = elim (contains_in_cons k key keys has) [
   | inl here ↦ (zero, ap Some here)
   | inr later ↦ let there = among keys key later in (suc there.0, there.1)
 ]
-
--- one that stands somewhere is of the list
-pub is-among : (keys : List ℕ) (i key : ℕ) → get_or (map Some keys) i None ≡ Some key → contains keys key ≡ true
-is-among [] zero key at = absurd cc
-is-among [] (suc i) key at = absurd cc
-is-among (k ∷ keys) zero key at = let is : k ≡ key = cc in ap (λ n. contains (k ∷ keys) n) (sym is) ∙ contains_first k keys
-is-among (k ∷ keys) (suc i) key at = contains_later k key keys (is-among keys i key at)
-
--- what a list of numbers has stands in it
-pub contained : (xs : List ℕ) (n : ℕ) → contains xs n ≡ true → Contains xs n
-contained xs n has = Contains-from_any {eq = λ (a b : ℕ). eqb b a} (λ a b e. sym (eqb-true b a e)) n xs has
 
 module _ {T U : Type 0} (f : Fields T U) (parts : HasParts f) where
   -- a publisher that doesn't stand at the place of its end stands nowhere

@@ -33,12 +33,13 @@ use Rattle.iox2_domain.proofs.lemmas.fields.Standing.{expired-gone, leads-among,
 use Rattle.iox2_domain.proofs.lemmas.fields.Views.{held-before}
 use Rattle.iox2_steps.proofs.updates.SenderWalk.{put_at-twice}
 use Rattle.iox2_domain.proofs.lemmas.fields.Parts.{but-of}
-use Rattle.iox2_steps.proofs.receivers.DepartedEnds.{among, contained}
+use Rattle.iox2_steps.proofs.receivers.DepartedEnds.{among}
 use Rattle.iox2_steps.proofs.receivers.LeftEnds.{IsDeparted, LeavesReceiver, left_fields, left-parts, end-expires}
 use Rattle.iox2_steps.proofs.receivers.LeftStates.{left-is, occupants-pushed, occupants-without, same-lead}
 use Rattle.iox2_steps.proofs.receivers.LeftChanges.{parts-warned, present, side-well_formed}
 use Rattle.iox2_steps.proofs.receivers.Retirements.{retired_side, here, absent}
 use Rattle.iox2_steps.proofs.receivers.DroppedEnds.{dropped_fields, dropped-is, dropped-box, dropped-lone, dropped-kept, dropped-gone, dropped-entries, dropped-keeps, expired-fits, removed_fields, removed-parts, removed-is, ends-removed, expired-removed}
+use Rattle.iox2_domain.proofs.lemmas.samples.HintedSamples.{contained}
 
 -- The subscriber y at the place j has this expired connection, of which nothing is borrowed.
 pub record HasExpiredEnd {T U : Type 0} (f : Fields T U) (y : SubscriberFields) (key : ℕ) (c : Link) : Type 0 where

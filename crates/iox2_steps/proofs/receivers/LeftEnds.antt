@@ -18,7 +18,7 @@ use Rattle.iox2_domain.proofs.lemmas.containers.ConnectionKeys.{set_place-here, 
 use Rattle.iox2_domain.proofs.lemmas.fields.ForgetfulSubscribers.{Forgetful, Knows, forgetful}
 use Rattle.iox2_domain.proofs.lemmas.fields.ForgottenKeys.{Forgets, forgotten-parts}
 use Rattle.iox2_domain.proofs.lemmas.fields.LostConnections.{IsEmptyLink, LosesEmpty, loses-one}
-use Rattle.iox2_steps.proofs.receivers.DepartedEnds.{contained}
+use Rattle.iox2_domain.proofs.lemmas.samples.HintedSamples.{contained}
 
 -- The connection is the subscriber y's, and its publisher is gone.
 pub record IsDeparted {T U : Type 0} (f : Fields T U) (y : SubscriberFields) (c : Link) : Type 0 where

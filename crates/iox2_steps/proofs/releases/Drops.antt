@@ -1,30 +1,14 @@
 -- A subscriber's own connections are gone over: those that it alone has go, and borrowed messages are looked for.
-use Rattle.std.proofs.Common.{◌≡◌, ◌≢◌, ◌⊎◌, ℕ, List, Option, None, Some, ap, sym, subst, ◌∙◌, inl, inr}
-use Rattle.std.proofs.lemmas.Bool.{cases_eq}
-use Rattle.std.specs.Prelude.{IsSomeAnd}
-use Rattle.slab.specs.Slab.{Slab, Updates, get}
+use Rattle.std.proofs.Common.{◌⊎◌, ℕ, List, Option, inl, inr}
+use Rattle.slab.specs.Slab.{Slab}
 use Rattle.iox2_slots.specs.Link.{Link}
-use Rattle.iox2_domain.specs.Departures.{BorrowsNothing, DropsUnshared, IsUnshared}
+use Rattle.iox2_domain.specs.Departures.{BorrowsNothing, DropsUnshared}
 use Rattle.iox2_domain.specs.Ports.{PublisherFields}
 
 module _ (publishers : List (Option PublisherFields)) (q : ℕ) where
   -- nothing went, where these are no keys
   pub drops-none : (keys : ℕ → Type 0) (old : Slab Link) → ((k : ℕ) → keys k → ⊥) → DropsUnshared publishers q keys old old
   drops-none keys old none = record { kept = λ k c at. at; others = λ k c at. inl at; done = λ k c has. absurd (none k has) }
-
-  -- the connection at a key goes
-  pub drops-one : (key : ℕ) (old new : Slab Link) → IsSomeAnd (get old key) (IsUnshared publishers q key) → Updates old new key None → DropsUnshared publishers q (λ k. Some key ≡ Some k) old new
-  drops-one key old new unshared goes = record {
-    kept = λ k c at. sym (goes.others k (away k c at)) ∙ at;
-    others = λ k c at. elim (cases_eq k key) [
-      | inl here ↦ inr (subst (λ (i : ℕ). IsUnshared publishers q i c) (sym here) (rw (sym (ap (get old) here) ∙ at) at unshared))
-      | inr other ↦ inl (goes.others k other ∙ at)
-    ];
-    done = λ k c is at. absurd (let same : key ≡ k = cc in away k c at (sym same));
-  }
-    where
-      away : (k : ℕ) (c : Link) → get new k ≡ Some c → k ≢ key
-      away k c at here = let no : None ≡ Some c = sym goes.changed ∙ sym (ap (get new) here) ∙ at in absurd cc
 
   -- first at some keys, and then at others
   pub drops-both : (first second keys : ℕ → Type 0) (old now new : Slab Link) → DropsUnshared publishers q first old now → DropsUnshared publishers q second now new

@@ -18,7 +18,7 @@ use Rattle.iox2_ends.proofs.LookUps.{look_up-there}
 use Rattle.iox2_ends.proofs.MailboxChanges.{both-true, mailbox-there}
 use Rattle.iox2_laws.proofs.FilterLemmas.{passes_all}
 use Rattle.iox2_laws.proofs.MailboxLemmas.{has_numbers-data}
-use Rattle.iox2_laws.proofs.NumberLemmas.{contains_left, contains_right}
+use Rattle.iox2_laws.proofs.NumberLemmas.{contains_left, contains_right, all_pass}
 use Rattle.iox2_laws.proofs.PlaceLemmas.{contains-occupants, leads_to}
 use Rattle.iox2_domain.specs.Departures.{BorrowsNothing, BorrowsSome, IsUnshared, KnowsKey}
 use Rattle.iox2_domain.specs.Fields.{Fields, kept_of, numbers_of, subscriber_of}
@@ -31,11 +31,6 @@ use Rattle.iox2_domain.proofs.lemmas.fields.Views.{mailboxes-are}
 use Rattle.iox2_domain.proofs.lemmas.receives.SenderEnds.{leads-has}
 use Rattle.iox2_domain.proofs.lemmas.slots.HeldMessages.{publisher-there}
 use Rattle.iox2_domain.proofs.lemmas.fields.ConnectionEnds.{subscriber-stands}
-
--- what passes everywhere passes in a list
-all-pass : (test : ℕ → Bool) (ns : List ℕ) → ((n : ℕ) → test n ≡ true) → list_all test ns ≡ true
-all-pass test [] each = refl
-all-pass test (n ∷ ns) each = ap (λ b. b && list_all test ns) (each n) ∙ all-pass test ns each
 
 -- a list whose numbers are none is none
 none-mapped : (number : ℕ → ℕ) (xs : List ℕ) → not (is_nil (map number xs)) ≡ false → xs ≡ []
@@ -97,7 +92,7 @@ module _ {T U : Type 0} (f : Fields T U) (parts : HasParts f) (j : ℕ) (y : Sub
   pub closed-unused : y.is_open ≡ false → BorrowsNowhere f.connections y.id → is_unused t y.id ≡ true
   closed-unused closed nothing =
       unused-is ∙ ap (λ b. not b && list_all (λ p. not (has_borrows (t.mailboxes p y.id))) (connected_publishers port)) closed
-      ∙ all-pass (λ p. not (has_borrows (t.mailboxes p y.id))) (connected_publishers port) (λ p. ap not (no-borrows nothing p))
+      ∙ all_pass (λ p. not (has_borrows (t.mailboxes p y.id))) (connected_publishers port) (λ p. ap not (no-borrows nothing p))
 
   module _ (boxes : (p : ℕ) → MailboxIsWellFormed t p y.id) where
     -- one that has borrowed something isn't

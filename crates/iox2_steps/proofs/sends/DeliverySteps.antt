@@ -32,7 +32,7 @@ use Rattle.iox2_domain.specs.declared.handlers.AskedBox.{AskedBox}
 use Rattle.iox2_domain.specs.Ports.{PublisherFields}
 use Rattle.iox2_domain.specs.Fields.{Fields}
 use Rattle.iox2_domain.specs.Invariant.{IsDomain, IsCounted, details_of, is_subscriber, holders_of, HasParts}
-use Rattle.iox2_domain.specs.Deliveries.{CanSend, SendsSlot, leaving, DeliversFrom, sender_after, book_after, with_delivered, with_history_holder}
+use Rattle.iox2_domain.specs.Deliveries.{CanSend, SendsSlot, leaving, DeliversFrom, sender_after, book_after, with_history_holder}
 use Rattle.iox2_domain.proofs.lemmas.containers.LookUps.{IsOnly-map}
 use Rattle.iox2_domain.proofs.lemmas.slots.PublisherBooks.{sender-linked, book-own}
 use Rattle.iox2_domain.proofs.lemmas.slots.BookChanges.{holders-here}
@@ -53,28 +53,29 @@ use Rattle.iox2_ends.specs.declared.sender.DeliveryOutcome.{DeliveryOutcome}
 use Rattle.iox2_domain.specs.declared.publisher_state.BlockedDelivery.{BlockedDelivery}
 use Rattle.iox2_domain.specs.BlockedSends.{with_outcome, counters_after, GoesOn}
 
+strategy-passes : (s : BackpressureStrategy) → is_failed (by_strategy s) ≡ false
+strategy-passes RetryUntilDelivered = refl
+strategy-passes DiscardData = refl
+
+action-passes : (s : BackpressureStrategy) (action : BackpressureAction) → is_failing action ≡ false → is_failed (by_action s action) ≡ false
+action-passes s actions.FollowBackpressureyStrategy none = strategy-passes s
+action-passes s actions.Retry none = refl
+action-passes s actions.DiscardData none = refl
+action-passes s actions.DiscardDataAndFail none = none
+
+-- where no handler fails a send, what it answers fails none
+pub decides-passes : (e : Environment) (p : ℕ) (strategy : BackpressureStrategy) (h : Option (Handler BackpressureAction)) → may_fail h ≡ false → (info : BackpressureInfo) (result : PutResult) → Decides e p h strategy info result → is_failed result ≡ false
+decides-passes e p strategy None none info result d = ap is_failed d ∙ strategy-passes strategy
+decides-passes e p strategy (Some (Fixed action)) none info result d = ap is_failed d ∙ action-passes strategy action none
+decides-passes e p strategy (Some Custom) none info result d = absurd (let no : true ≡ false = none in cc)
+
 module _ (e : Environment) (c : ServiceConfig) (p : ℕ) (strategy : BackpressureStrategy) (handler : Option (Handler BackpressureAction)) (passes : may_fail handler ≡ false)
     (buffers : ℕ → Option ℕ) (n : ℕ) where
-  strategy-passes : (s : BackpressureStrategy) → is_failed (by_strategy s) ≡ false
-  strategy-passes RetryUntilDelivered = refl
-  strategy-passes DiscardData = refl
-
-  action-passes : (s : BackpressureStrategy) (action : BackpressureAction) → is_failing action ≡ false → is_failed (by_action s action) ≡ false
-  action-passes s actions.FollowBackpressureyStrategy none = strategy-passes s
-  action-passes s actions.Retry none = refl
-  action-passes s actions.DiscardData none = refl
-  action-passes s actions.DiscardDataAndFail none = none
-
-  decides-passes : (h : Option (Handler BackpressureAction)) → may_fail h ≡ false → (info : BackpressureInfo) (result : PutResult) → Decides e p h strategy info result → is_failed result ≡ false
-  decides-passes None none info result d = ap is_failed d ∙ strategy-passes strategy
-  decides-passes (Some (Fixed action)) none info result d = ap is_failed d ∙ action-passes strategy action none
-  decides-passes (Some Custom) none info result d = absurd (let no : true ≡ false = none in cc)
-
   put-passes : (q retries : ℕ) (elapsed : Duration) (buffer : Option ℕ) (box : Mailbox) (result : PutResult) (box' : Mailbox)
       → Put e c p strategy handler buffers n q retries elapsed buffer box result box' → is_failed result ≡ false
   put-passes q retries elapsed None box result box' h = ap is_failed h.0
   put-passes q retries elapsed (Some buffer) box result box' h =
-      by_bool (is_failed result ≡ false) (has_room buffer box || c.enable_safe_overflow) _ _ h (λ _ k. ap is_failed k.0) (λ _ k. decides-passes handler passes _ result k.0)
+      by_bool (is_failed result ≡ false) (has_room buffer box || c.enable_safe_overflow) _ _ h (λ _ k. ap is_failed k.0) (λ _ k. decides-passes e p strategy handler passes _ result k.0)
 
   put_at_end-passes : (retries : ℕ) (elapsed : Duration) (end : Option ℕ) (boxes : ℕ → Mailbox) (result : PutResult) (boxes' : ℕ → Mailbox)
       → PutAtEnd e c p strategy handler buffers n retries elapsed end boxes result boxes' → is_failed result ≡ false
@@ -167,16 +168,6 @@ module _ {T U : Type 0} (f : Fields T U) (y : PublisherFields) (slot : ℕ) (sta
       → Deliver environment f.config y.id y.strategy h (buffers_of (map (option_map details_of) f.subscribers)) (number y.id slot)
       start.retries elapsed start.place (drop start.place (sender_ends f.connections y.keys)) start.count start.has_failed (mailboxes_of number f.connections y.id)
       (end_of (number y.id slot) (sender_ends f.connections y.keys) outcome) (mailboxes_of number new y.id)
-
--- a delivery leaves its publisher's history
-pub delivered-history : (o : DeliveryOutcome) (slot : ℕ) (x : PublisherFields) → (with_delivered o slot x).history ≡ x.history
-delivered-history (DeliveryOutcome.Complete count has_failed) slot x = refl
-delivered-history (DeliveryOutcome.Suspended progress) slot x = refl
-
--- as many slots as before
-pub history-holder-long : (o : DeliveryOutcome) (slot : ℕ) (b : Book) → length (with_history_holder o slot b).holders ≡ length b.holders
-history-holder-long (DeliveryOutcome.Complete count has_failed) slot b = refl
-history-holder-long (DeliveryOutcome.Suspended progress) slot b = length-set b.holders slot _
 
 -- a slot in use is so with a holder more
 pub history-holder-used : (o : DeliveryOutcome) (slot : ℕ) (b : Book) → slot < length b.holders → (r : ℕ) → r < length b.holders → 0 < holders_at b r → IsInUse (with_history_holder o slot b) r

@@ -21,7 +21,7 @@ use Rattle.iox2_domain.specs.LoanCalls.{HoldsWritten}
 use Rattle.iox2_domain.specs.Ports.{PublisherFields}
 use Rattle.iox2_domain.specs.SentLoans.{IsNotUpdated, SendsLoan}
 use Rattle.iox2_domain.proofs.lemmas.fields.ConnectionEnds.{publisher-stands}
-use Rattle.iox2_steps.proofs.sends.Published.{match-some}
+use Rattle.iox2_laws.proofs.Cases.{match_some}
 
 module _ {T U : Type 0} (environment : Environment) (f0 : Fields T U) (sound : IsDomain f0) (p n : ℕ) (holds : HoldsWritten (state_of (kept_of f0)) p n)
     (place : ℕ) (failure : ConnectionFailure) (f1 : Fields T U) (fails : IsNotUpdated environment f0 f1 p place failure) where
@@ -57,7 +57,7 @@ module _ {T U : Type 0} (environment : Environment) (f0 : Fields T U) (sound : I
     loan = holds.0;
     out = holds.1;
     agrees = (d.2).agrees;
-    sends = match-some (s0.publishers holds.0.publisher) _ _ _ (ap s0.publishers (holds.2 ∙ sym fails.is_its) ∙ stands) (
+    sends = match_some (s0.publishers holds.0.publisher) _ _ _ (ap s0.publishers (holds.2 ∙ sym fails.is_its) ∙ stands) (
       u.after,
       Some failure,
       subst (λ (q : ℕ). UpdatePublisher environment s0 q u.after (Some failure)) (fails.is_its ∙ sym holds.2) u.updates,

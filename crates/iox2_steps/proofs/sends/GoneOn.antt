@@ -54,10 +54,11 @@ use Rattle.iox2_domain.proofs.lemmas.slots.LoneLoans.{IsLoneIn, lone-changed, lo
 use Rattle.iox2_domain.proofs.lemmas.slots.Rebooked.{CanRebook, rebooked, rebooked-parts, rebooked-is, rebooked-entries, rebooked-keeps, rebooked-kept}
 use Rattle.iox2_steps.proofs.sends.LoanAlone.{once-times}
 use Rattle.iox2_steps.proofs.sends.SentSlots.{times-without-one, map-without}
-use Rattle.iox2_steps.proofs.sends.Published.{match-some, buffers-are}
+use Rattle.iox2_steps.proofs.sends.Published.{buffers-are}
 use Rattle.iox2_domain.proofs.lemmas.loans.PublisherChanges.{other_slots}
 use Rattle.iox2_domain.proofs.lemmas.slots.Holders.{book-by_id}
 use mathlib.Core.Path.{fun_ext}
+use Rattle.iox2_laws.proofs.Cases.{match_some}
 
 -- a message that was sent has that mark
 mark-sent : {T U : Type 0} (p number : ℕ) (header : _) (content : _) (n : ℕ) (entry : Entry T U) (mark : SlotMark) → Sent_message n entry ≡ message_of {T = T} {U = U} p number header content mark → mark ≡ Sent
@@ -294,7 +295,7 @@ module _ {T U : Type 0} (environment : Environment) (f : Fields T U) (sound : Is
   ends-so (DeliveryOutcome.Suspended progress) is = (is, refl)
 
   concludes : DeliverAndConclude environment s x.id n start.retries elapsed start.place (drop start.place port.ends) start.count start.has_failed (state_of (kept_of after)) (result_of_send outcome)
-  concludes = match-some (s.publishers x.id) port ⊥ _ stands (how, boxes x.id, delivers, ends-so outcome after-shown)
+  concludes = match_some (s.publishers x.id) port ⊥ _ stands (how, boxes x.id, delivers, ends-so outcome after-shown)
 
   -- the ends that remain are among those that remained
   remained : (q : ℕ) → LeadsTo (drop start.place port.ends) q → LeadsTo b.ends q

@@ -6,7 +6,7 @@ use Rattle.std.proofs.lemmas.Option.{same_Some}
 use Rattle.std.specs.Prelude.{slice_get, slice_set, nat_lt}
 use Rattle.std.specs.declared.option.Option.{Option}
 use Rattle.std.specs.declared.option.Option.TheVariants.{None, Some}
-use Rattle.std.specs.Option.{MatchOption, option_map, option_and_then, option_map_or}
+use Rattle.std.specs.Option.{option_map, option_and_then, option_map_or}
 use Rattle.slab.specs.Slab.{get, Slab}
 use Rattle.iox2_store.specs.machine.Delivery.{Deliver, no_time, DeliveryEnd}
 use Rattle.iox2_store.specs.machine.Loans.{entry_of}
@@ -65,10 +65,7 @@ use Rattle.iox2_steps.proofs.sends.SentSlots.{times-without-one}
 use Rattle.iox2_steps.proofs.updates.SenderWalk.{put_at-twice}
 use mathlib.Core.Path.{fun_ext}
 use Rattle.iox2_domain.proofs.lemmas.fields.KeptBooks.{kept-own}
-
--- a fact of what stands there
-pub match-some : {A : Type 0} (o : Option A) (a : A) (P : Type 0) (Q : A → Type 0) → o ≡ Some a → Q a → MatchOption o P Q
-match-some o a P Q e q = subst (λ v. MatchOption v P Q) (sym e) q
+use Rattle.iox2_laws.proofs.Cases.{match_some}
 
 -- a publisher that stands somewhere is in the state, where ids are apart
 named : {T U : Type 0} (f : Fields T U) → ((p : ℕ) → IsOnly (is_publisher p) f.publishers) → (i : ℕ) (x : PublisherFields) → get_or f.publishers i None ≡ Some x
@@ -350,8 +347,8 @@ module _ {T U : Type 0} (environment : Environment) (f : Fields T U) (sound : Is
 
   -- what the send concludes is published
   publishes-so : (h : State T U) (result : SendResult) → ConcludeSend (with_mailboxes (published s x.id n) x.id (boxes x.id)) x.id n how h result → Publish environment s x.id n h result
-  publishes-so h result conclude = match-some (s.publishers x.id) port ⊥ _ stands
-      (match-some ((published s x.id n).publishers x.id) (with_message port) ⊥ _
+  publishes-so h result conclude = match_some (s.publishers x.id) port ⊥ _ stands
+      (match_some ((published s x.id n).publishers x.id) (with_message port) ⊥ _
       (put_at-same s.publishers x.id (option_map with_message (s.publishers x.id)) ∙ ap (option_map with_message) stands)
       (how, boxes x.id, delivers, conclude))
 

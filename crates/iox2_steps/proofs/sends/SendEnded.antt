@@ -10,7 +10,7 @@ use Rattle.iox2_store.specs.machine.Loans.{entry_of}
 use Rattle.iox2_slots.specs.SlotBook.{Book, IsAligned, IsInUse, holders_at}
 use Rattle.iox2_store.specs.machine.Numbers.{put_at, without}
 use Rattle.iox2_store.specs.machine.Records.{Entry, Loan}
-use Rattle.iox2_ends.specs.Counters.{times, stands}
+use Rattle.iox2_ends.specs.Counters.{times}
 use Rattle.iox2_ends.proofs.Counts.{times_push}
 use Rattle.iox2_domain.specs.Ports.{PublisherFields}
 use Rattle.iox2_domain.specs.Kept.{KeptMessage, Lent_message, Sent_message, state_of, entries_of, is_numbered, message_numbered, loan_in, entry_in}

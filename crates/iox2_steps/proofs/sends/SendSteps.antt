@@ -33,9 +33,10 @@ use Rattle.iox2_domain.proofs.lemmas.fields.ConnectionEnds.{publisher-stands}
 use Rattle.iox2_steps.proofs.sends.LoanAlone.{loan-once, loan-alone, loan-own}
 use Rattle.iox2_domain.proofs.lemmas.slots.Messages.{lies_at, message_at-slot}
 use Rattle.iox2_steps.proofs.sends.DeliverySteps.{never-fails}
-use Rattle.iox2_steps.proofs.sends.Published.{match-some, send-publishes}
+use Rattle.iox2_steps.proofs.sends.Published.{send-publishes}
 use Rattle.iox2_domain.proofs.lemmas.loans.LoanSlots.{book-its}
 use Rattle.iox2_steps.proofs.updates.SenderUpdates.{idle-updates}
+use Rattle.iox2_laws.proofs.Cases.{match_some}
 
 -- a loan that lies in its publisher's book may be sent at once where the publisher isn't due
 pub ready-in-book : {T U : Type 0} (environment : Environment) (f : Fields T U) → IsDomain f → (p n place key slot : ℕ)
@@ -109,7 +110,7 @@ module _ {T U : Type 0} (environment : Environment) (f0 : Fields T U) (sound : I
       loan = holds.0;
       out = holds.1;
       agrees = published.agrees;
-      sends = match-some ((state_of (kept_of f0)).publishers holds.0.publisher) _ _ _ (ap (state_of (kept_of f0)).publishers holds.2 ∙ present) (
+      sends = match_some ((state_of (kept_of f0)).publishers holds.0.publisher) _ _ _ (ap (state_of (kept_of f0)).publishers holds.2 ∙ present) (
         u.after,
         None,
         subst (λ (q : ℕ). UpdatePublisher environment (state_of (kept_of f0)) q u.after None) (found.2 ∙ sym holds.2) u.updates,

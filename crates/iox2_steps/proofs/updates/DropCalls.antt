@@ -49,9 +49,6 @@ module _ {T U : Type 0} (before f : Fields T U) (same : f ≡ before) (agrees : 
   pub end-its : IsSomeAnd (get f.connections key) (λ (c : Link). c.home.publisher ≡ x.id)
   end-its = rw there ((end-own f sound i j x here settled key has end.link there).publisher)
 
-  link-is : (c : Link) → get f.connections key ≡ Some c → c ≡ end.link
-  link-is c at = let both : Some c ≡ Some end.link = sym at ∙ there in cc
-
   publisher-is : (z : PublisherFields) → get_or before.publishers i None ≡ Some z → x ≡ z
   publisher-is z at = let both : Some x ≡ Some z = sym here ∙ ap (λ (h : Fields T U). get_or h.publishers i None) same ∙ at in cc
 

@@ -6,7 +6,7 @@ use Rattle.std.specs.declared.option.Option.TheVariants.{None, Some}
 use Rattle.std.specs.Option.{option_map}
 use Rattle.iox2_store.specs.machine.Places.{occupant}
 use Rattle.iox2_store.specs.machine.PublisherUpdate.{UpdateSenderPlace, connected, sender_side, with_sender_side}
-use Rattle.iox2_store.specs.machine.Records.{Publisher, Subscriber, Environment}
+use Rattle.iox2_store.specs.machine.Records.{Publisher, Environment}
 use Rattle.iox2_store.specs.machine.State.{State, receiving_buffer, has_receiver_end}
 use Rattle.iox2_store.specs.machine.WellFormed.{IsWellFormed}
 use Rattle.iox2_store.specs.declared.errors.ConnectionFailure.{ConnectionFailure}
@@ -69,9 +69,6 @@ module _ {T U : Type 0} (f : Fields T U) (i j : ℕ) (x : PublisherFields) (y : 
 
     abbrev P : Publisher
     P = (publisher_of f.books f.connections x).port
-
-    abbrev Q : Subscriber
-    Q = (subscriber_of f.books f.connections y).port
 
     -- what a publisher does from there it does from here
     pub sender-from : (environment : Environment) (f' : Fields T U) (failure : Option ConnectionFailure) → ConnectsSender environment grown i j (with_sender_room n x) f' failure → ConnectsSender environment f i j x f' failure

@@ -45,9 +45,6 @@ use Rattle.iox2_steps.proofs.updates.SenderWalk.{put_at-twice}
 module _ {T U : Type 0} (before f : Fields T U) (same : f ≡ before) (sound : IsDomain f) (i : ℕ) (x : PublisherFields) (here : get_or f.publishers i None ≡ Some x)
     (key : ℕ) (c : Link) (there : get f.connections key ≡ Some c) (its : c.home.publisher ≡ x.id) (empty : load c ≡ 0)
     (b : Book) (at : get f.books x.book ≡ Some b) (b1 : Book) (is1 : b1 ≡ with_counters b b1.holders) (new : Slab Link) (r : Reclaims x.id b.holders f.connections b1.holders new) where
-  abbrev mine : b.publisher ≡ x.id
-  mine = book-own f sound.parts i x here b at
-
   -- the fields without what was given back
   abbrev g : Fields T U
   g = with_reclaimed f sound x.id x.book b at (book-own f sound.parts i x here b at) (book-owned f sound.parts i x here) b1.holders new r

@@ -28,8 +28,9 @@ use Rattle.iox2_domain.proofs.lemmas.containers.ChangedRecords.{changed-here, ch
 use Rattle.iox2_domain.proofs.lemmas.containers.Extensions.{sender_linked, receiver_linked}
 use Rattle.iox2_domain.proofs.lemmas.fields.Standing.{one-publisher, one-subscriber}
 use Rattle.iox2_domain.proofs.lemmas.loans.PublisherChanges.{changed-kept_books}
-use Rattle.iox2_steps.proofs.updates.SenderChanges.{FitsSender, IsNewOfSender, with_keys, with_sender, port_after, sender-is, mailboxes-same}
+use Rattle.iox2_steps.proofs.updates.SenderChanges.{FitsSender, IsNewOfSender, with_keys, with_sender, port_after, sender-is}
 use Rattle.std.proofs.lemmas.Bool.{true≢false}
+use Rattle.iox2_steps.proofs.receivers.MoreConnections.{mailboxes-same}
 
 module _ {T U : Type 0} (f : Fields T U) (sound : IsDomain f) (i : ℕ) (x : PublisherFields) (at : get_or f.publishers i None ≡ Some x)
     (keys : List (Option ℕ)) (key_room : ℕ) (is_due : Bool) (connections : Slab Link) (warnings : WarningRing) (fits : FitsSender f i x keys key_room connections) where
@@ -244,5 +245,5 @@ module _ {T U : Type 0} (f : Fields T U) (sound : IsDomain f) (i : ℕ) (x : Pub
     lone = sound.lone;
     well_formed = well;
     entries = λ p n held_now. sound.entries p n (held-before (state_of (kept_of f)) (state_of (kept_of after)) p n
-        (λ q. ap (λ (boxes : ℕ → ℕ → Mailbox). boxes p q) (mailboxes-same f sound connections fits.extends)) (held p) held_now);
+        (λ q. ap (λ (boxes : ℕ → ℕ → Mailbox). boxes p q) (mailboxes-same f sound.parts connections fits.extends)) (held p) held_now);
   }

@@ -1,5 +1,5 @@
 -- A publisher gets keys of its connections, one of which may be new.
-use Rattle.std.proofs.Common.{◌≡◌, ◌<◌, ◌≤◌, le_refl, ℕ, Bool, false, List, map, get_or, slice_set, refl, ap, sym, ◌∙◌, ◌⊎◌, inl}
+use Rattle.std.proofs.Common.{◌≡◌, ◌<◌, ◌≤◌, le_refl, ℕ, Bool, false, List, map, get_or, slice_set, refl, ap, ◌∙◌, ◌⊎◌, inl}
 use Rattle.std.proofs.lemmas.List.{map-set}
 use Rattle.std.specs.declared.option.Option.{Option}
 use Rattle.std.specs.declared.option.Option.TheVariants.{None, Some}
@@ -7,20 +7,19 @@ use Rattle.std.specs.Option.{option_map}
 use Rattle.slab.specs.Slab.{Slab, get}
 use Rattle.iox2_slots.specs.Link.{Link}
 use Rattle.iox2_store.specs.machine.Numbers.{put_at}
-use Rattle.iox2_store.specs.machine.Places.{occupants}
 use Rattle.iox2_store.specs.machine.Records.{Publisher}
 use Rattle.iox2_ends.specs.Homes.{IsSenderLinked}
-use Rattle.iox2_ends.specs.Mailboxes.{sender_ends, receiver_ends}
+use Rattle.iox2_ends.specs.Mailboxes.{sender_ends}
 use Rattle.iox2_domain.specs.WarningRing.{WarningRing}
 use Rattle.iox2_domain.specs.Ports.{PublisherFields, SubscriberFields}
 use Rattle.iox2_domain.specs.Kept.{Named, state_of, port_named, ids, is_named}
-use Rattle.iox2_domain.specs.Fields.{Fields, kept_of, publisher_of, subscriber_of, numbers_of, blocked_send}
+use Rattle.iox2_domain.specs.Fields.{Fields, kept_of, publisher_of, numbers_of, blocked_send}
 use Rattle.iox2_domain.specs.Invariant.{IsDomain, HasExpiredRoom, is_publisher}
 use Rattle.iox2_domain.proofs.lemmas.containers.LookUps.{IsOnly-map, map-at}
-use Rattle.iox2_domain.proofs.lemmas.fields.Views.{mailboxes-are}
-use Rattle.iox2_domain.proofs.lemmas.containers.ChangedRecords.{changed-ids, changed-ports, map-agrees}
-use Rattle.iox2_domain.proofs.lemmas.containers.Extensions.{Extends, sender_ends-same, receiver_ends-same}
+use Rattle.iox2_domain.proofs.lemmas.containers.ChangedRecords.{changed-ids, changed-ports}
+use Rattle.iox2_domain.proofs.lemmas.containers.Extensions.{Extends}
 use mathlib.Core.Path.{fun_ext}
+use Rattle.iox2_steps.proofs.receivers.MoreConnections.{publishers-same, subscribers-same, mailboxes-same}
 
 -- the publisher with these keys
 abbrev pub with_keys : PublisherFields → List (Option ℕ) → (key_room : ℕ) → Bool → PublisherFields
@@ -58,36 +57,6 @@ pub record FitsSender {T U : Type 0} (f : Fields T U) (i : ℕ) (x : PublisherFi
   pub blocked : option_map (blocked_send (numbers_of f.books x.id) (sender_ends connections keys)) x.blocked
       ≡ option_map (blocked_send (numbers_of f.books x.id) (sender_ends f.connections x.keys)) x.blocked
 
--- what the connections are to the receivers
-module _ {T U : Type 0} (f : Fields T U) (sound : IsDomain f) (connections : Slab Link) (e : Extends f.connections connections) where
-  pub publisher-same : (k : ℕ) (z : PublisherFields) → get_or f.publishers k None ≡ Some z → publisher_of f.books connections z ≡ publisher_of f.books f.connections z
-  publisher-same k z at = ap named (sender_ends-same f.connections connections e z.id z.keys (sound.parts.linked.senders k z at)) where
-    named : List (Option ℕ) → Named Publisher
-    named ends = record (publisher_of f.books f.connections z) { port = record (publisher_of f.books f.connections z).port { ends = ends; blocked = option_map (blocked_send (numbers_of f.books z.id) ends) z.blocked } }
-
-  pub subscriber-same : (k : ℕ) (y : SubscriberFields) → get_or f.subscribers k None ≡ Some y → subscriber_of f.books connections y ≡ subscriber_of f.books f.connections y
-  subscriber-same k y at =
-      λ i. record (subscriber_of f.books f.connections y) { port = record (subscriber_of f.books f.connections y).port { ends = ends i; expired = occupants (expired i) } }
-    where
-      most : ℕ
-      most = (f.config).subscriber_max_borrowed_samples
-
-      ends : receiver_ends connections y.keys ≡ receiver_ends f.connections y.keys
-      ends = receiver_ends-same f.connections connections e y.id (f.config).subscriber_max_borrowed_samples y.keys (sound.parts.linked.receivers k y at)
-
-      expired : receiver_ends connections (map Some y.expired) ≡ receiver_ends f.connections (map Some y.expired)
-      expired = receiver_ends-same f.connections connections e y.id (f.config).subscriber_max_borrowed_samples (map Some y.expired) (sound.parts.linked.expired k y at)
-
-  pub publishers-same : map (option_map (publisher_of f.books connections)) f.publishers ≡ map (option_map (publisher_of f.books f.connections)) f.publishers
-  publishers-same = map-agrees (publisher_of f.books connections) (publisher_of f.books f.connections) f.publishers publisher-same
-
-  pub subscribers-same : map (option_map (subscriber_of f.books connections)) f.subscribers ≡ map (option_map (subscriber_of f.books f.connections)) f.subscribers
-  subscribers-same = map-agrees (subscriber_of f.books connections) (subscriber_of f.books f.connections) f.subscribers subscriber-same
-
-  pub mailboxes-same : (state_of (kept_of (record f { connections = connections }))).mailboxes ≡ (state_of (kept_of f)).mailboxes
-  mailboxes-same = fun_ext (λ p. fun_ext (λ q.
-      mailboxes-are (record f { connections = connections }) p q ∙ e.boxes (numbers_of f.books) p q ∙ sym (mailboxes-are f p q)))
-
 module _ {T U : Type 0} (f : Fields T U) (sound : IsDomain f) (i : ℕ) (x : PublisherFields) (at : get_or f.publishers i None ≡ Some x)
     (keys : List (Option ℕ)) (key_room : ℕ) (is_due : Bool) (connections : Slab Link) (warnings : WarningRing) (fits : FitsSender f i x keys key_room connections) where
   abbrev shown : List (Option (Named Publisher))
@@ -104,7 +73,7 @@ module _ {T U : Type 0} (f : Fields T U) (sound : IsDomain f) (i : ℕ) (x : Pub
       ≡ slice_set shown i (Some (publisher_of f.books connections (with_keys x keys key_room is_due)))
   after-shown =
       map-set (option_map (publisher_of f.books connections)) f.publishers i (Some (with_keys x keys key_room is_due))
-      ∙ ap (λ ns. slice_set ns i (Some (publisher_of f.books connections (with_keys x keys key_room is_due)))) (publishers-same f sound connections fits.extends)
+      ∙ ap (λ ns. slice_set ns i (Some (publisher_of f.books connections (with_keys x keys key_room is_due)))) (publishers-same f sound.parts connections fits.extends)
 
   -- the machine's publisher afterwards
   after-port : (publisher_of f.books connections (with_keys x keys key_room is_due)).port ≡ port_after
@@ -120,9 +89,9 @@ module _ {T U : Type 0} (f : Fields T U) (sound : IsDomain f) (i : ℕ) (x : Pub
   }
   sender-is = λ k. record (state_of (kept_of f)) {
     publishers = all k;
-    subscribers = λ q. port_named q (subscribers-same f sound connections fits.extends k);
-    subscriber_places = ids (subscribers-same f sound connections fits.extends k);
-    mailboxes = mailboxes-same f sound connections fits.extends k;
+    subscribers = λ q. port_named q (subscribers-same f sound.parts connections fits.extends k);
+    subscriber_places = ids (subscribers-same f sound.parts connections fits.extends k);
+    mailboxes = mailboxes-same f sound.parts connections fits.extends k;
     publisher_places = places k;
     warnings = warnings.items;
   } where

@@ -42,14 +42,8 @@ module _ {T U : Type 0} (f : Fields T U) (sound : IsDomain f) (i : ℕ) (x : Pub
   abbrev s : State T U
   s = state_of (kept_of f)
 
-  abbrev P : Publisher
-  P = (publisher_of f.books f.connections x).port
-
   abbrev q : ℕ
   q = (drops.link).home.subscriber
-
-  mine : b.publisher ≡ x.id
-  mine = book-own f sound.parts i x here b at
 
   -- the fields without what waited
   abbrev pub dropped_fields : Fields T U

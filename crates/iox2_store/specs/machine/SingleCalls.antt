@@ -1,5 +1,5 @@
--- Loans that are written at once; what no command does as it stands: loans of slices of default values, and writes through
--- a reference; and the tests of handles.
+-- Loans that are written at once; what no command does as it stands: writes of many values, and loans of slices of default
+-- values; and the tests of handles.
 use Rattle.std.specs.Prelude.{ℕ, Bool, true, List, map, length, ◌≡◌, MatchOption, IsTrue}
 use Rattle.std.specs.List.{All}
 use Rattle.std.specs.declared.option.Option.{Option}
@@ -37,14 +37,6 @@ module _ {T U : Type 0} where
   GrantDefaultSlice environment IsDefaultValue values default_header len s p s' refusal =
       All IsDefaultValue values
       × GrantLoanThen environment default_header true len s p s' refusal (λ mid l. WriteAllFrom mid s.next_message l values s')
-
-  -- What is written through `payload_mut` of an unwritten loan: any of its cells, which may be emptied too.
-  abbrev pub ChangeCells : State T U → (n : ℕ) → Loan T U → (cells : List (Option T)) → State T U → Type 0
-  ChangeCells s n l cells s' = (length cells ≡ length l.cells) × (s' ≡ with_loan s n (Some (record l { cells = cells })))
-
-  -- What is written through `payload_mut` of a written loan: any of its values.
-  abbrev pub ChangeValues : State T U → (n : ℕ) → Loan T U → (values : List T) → State T U → Type 0
-  ChangeValues s n l values s' = ChangeCells s n l (map Some values) s'
 
   -- ---- the tests of handles
 

@@ -1,14 +1,15 @@
-//! How errors are printed: the name of the type, two colons, and the name of the variant, with that
+//! What errors are for `std`: each is an `Error`, and is printed as the name of the type, two colons, and the name of the variant, with that
 //! of its cause in parentheses.
 //!
 //! So iceoryx2 prints them (`Display` of each, beside its declaration).
 ghost use Rattle.std.specs.Prelude.{◌≡◌, Some};
-ghost use Rattle.iox2_store.specs.ErrorTexts.{connection_failure_name, connection_failure_text, loan_error_name, loan_error_text, publisher_create_error_name, publisher_create_error_text, receive_error_text, send_error_text, subscriber_create_error_name, subscriber_create_error_text};
+ghost use Rattle.iox2_store.specs.ErrorTexts.{connection_failure_name, connection_failure_text, domain_create_error_text, loan_error_name, loan_error_text, publisher_create_error_name, publisher_create_error_text, receive_error_text, send_error_text, subscriber_create_error_name, subscriber_create_error_text};
 
 use super::{
-    ConnectionFailure, LoanError, PublisherCreateError, ReceiveError, SendError,
+    ConnectionFailure, DomainCreateError, LoanError, PublisherCreateError, ReceiveError, SendError,
     SharedMemoryOpenError, SubscriberCreateError, ZeroCopyCreationError,
 };
+use std::error::Error;
 use std::fmt;
 
 impl fmt::Display for LoanError {
@@ -18,6 +19,8 @@ impl fmt::Display for LoanError {
         write!(f, "LoanError::{}", self.name())
     }
 }
+
+impl Error for LoanError {}
 
 impl LoanError {
     fn name(&self) -> &'static str
@@ -51,6 +54,8 @@ impl fmt::Display for SendError {
     }
 }
 
+impl Error for SendError {}
+
 impl fmt::Display for ReceiveError {
     ghost output = { λ error. Some (receive_error_text error) };
 
@@ -64,6 +69,8 @@ impl fmt::Display for ReceiveError {
     }
 }
 
+impl Error for ReceiveError {}
+
 impl fmt::Display for ConnectionFailure {
     ghost output = { λ failure. Some (connection_failure_text failure) };
 
@@ -71,6 +78,8 @@ impl fmt::Display for ConnectionFailure {
         write!(f, "ConnectionFailure::{}", self.name())
     }
 }
+
+impl Error for ConnectionFailure {}
 
 impl ConnectionFailure {
     fn name(&self) -> &'static str
@@ -101,6 +110,8 @@ impl fmt::Display for PublisherCreateError {
     }
 }
 
+impl Error for PublisherCreateError {}
+
 impl PublisherCreateError {
     fn name(&self) -> &'static str
         ensures { result.now ≡ publisher_create_error_name self.now }
@@ -124,6 +135,8 @@ impl fmt::Display for SubscriberCreateError {
     }
 }
 
+impl Error for SubscriberCreateError {}
+
 impl SubscriberCreateError {
     fn name(&self) -> &'static str
         ensures { result.now ≡ subscriber_create_error_name self.now }
@@ -142,3 +155,15 @@ impl SubscriberCreateError {
         }
     }
 }
+
+impl fmt::Display for DomainCreateError {
+    ghost output = { λ error. Some (domain_create_error_text error) };
+
+    fn fmt<W: fmt::Write>(&self, f: &mut fmt::Formatter<W>) -> fmt::Result {
+        match self {
+            DomainCreateError::OutOfMemory => write!(f, "DomainCreateError::OutOfMemory"),
+        }
+    }
+}
+
+impl Error for DomainCreateError {}

@@ -1,5 +1,6 @@
 //! Scripts in which sends wait for a full subscriber, and are tried again or given up.
 use super::plan::Plan;
+use super::{RAISED, RAISED_TWICE};
 use std::io::Write;
 use std::test::Fail;
 
@@ -249,21 +250,26 @@ const NOBODY: &[(&str, &str)] = &[
 
 #[test]
 fn a_script_with_blocked_sends_gets_these_replies(rt: HostRuntime) -> Result<(), Fail> {
-    for (domain, lines) in [
-        ("domain 1 1 1 1 0 1 keep", TRIED_AGAIN),
-        ("domain 1 1 1 1 0 1 keep", RELEASED_SLOTS),
-        ("domain 1 2 1 1 0 1 keep", GIVEN_UP),
-        ("domain 1 2 1 1 0 1 keep", GIVEN_UP_TWICE),
-        ("domain 1 3 1 1 0 1 keep", SERVED_ONCE),
-        ("domain 1 1 1 1 1 1 keep", CLOSED_RECEIVER),
-        ("domain 1 3 1 1 0 1 keep", CLOSED_BETWEEN_OTHERS),
-        ("domain 1 1 1 1 0 1 keep", CLOSED_BORROWER),
-        ("domain 1 2 1 1 2 1 keep", HISTORY),
-        ("domain 1 2 3 1 0 1 keep", SMALLER_BUFFER),
-        ("domain 1 1 1 1 0 1 overflow", OVERFLOW),
-        ("domain 1 1 1 1 0 1 keep", NOBODY),
+    for (domain, lines, warnings) in [
+        ("domain 1 1 1 1 0 0 keep", TRIED_AGAIN, RAISED),
+        ("domain 1 1 1 1 0 0 keep", RELEASED_SLOTS, RAISED),
+        ("domain 1 2 1 1 0 0 keep", GIVEN_UP, RAISED_TWICE),
+        ("domain 1 2 1 1 0 1 keep", GIVEN_UP_TWICE, b"".as_slice()),
+        ("domain 1 3 1 1 0 1 keep", SERVED_ONCE, b"".as_slice()),
+        ("domain 1 1 1 1 1 1 keep", CLOSED_RECEIVER, b"".as_slice()),
+        (
+            "domain 1 3 1 1 0 1 keep",
+            CLOSED_BETWEEN_OTHERS,
+            b"".as_slice(),
+        ),
+        ("domain 1 1 1 1 0 1 keep", CLOSED_BORROWER, b"".as_slice()),
+        ("domain 1 2 1 1 2 1 keep", HISTORY, b"".as_slice()),
+        ("domain 1 2 3 1 0 1 keep", SMALLER_BUFFER, b"".as_slice()),
+        ("domain 1 1 1 1 0 1 overflow", OVERFLOW, b"".as_slice()),
+        ("domain 1 1 1 1 0 1 keep", NOBODY, b"".as_slice()),
     ] {
-        Plan::of(rt.alloc(), domain, lines)?.assert(&rt, rt.alloc());
+        let plan = Plan::of(rt.alloc(), domain, lines)?;
+        plan.assert_warned(&rt, rt.alloc(), warnings);
     }
     Ok(())
 }
@@ -286,8 +292,8 @@ fn a_send_may_be_tried_again_often(rt: HostRuntime) -> Result<(), Fail> {
     Ok(())
 }
 
-// In each round three messages are given back before the publisher takes one back: one more than wait
-// and are borrowed at most.
+// In each round two messages are given back while a send waits, and one after it: more than the
+// publisher has slots for, if it didn't reclaim them.
 #[test]
 fn rounds_of_blocked_sends_leave_nothing_behind(rt: HostRuntime) -> Result<(), Fail> {
     let mut plan = Plan::new(rt.alloc(), "domain 1 1 1 1 0 1 keep")?;

@@ -1,12 +1,10 @@
 //! Scripts of three messages for a buffer of two, one of which doesn't arrive.
+use super::RAISED;
 use super::plan::Plan;
 use std::alloc::Global;
 use std::io::Write;
 use std::process::Abort;
 use std::test::Fail;
-
-/// Fewer departed publishers are kept than messages may be borrowed.
-const WARNING: &[u8] = b"warning ExpiredBufferRaised\n";
 
 /// The third message finds so many takers, and these two of the three are received. The domain tells
 /// these warnings.
@@ -39,20 +37,13 @@ fn assert_two_arrive(
 #[test]
 fn with_overflow_the_oldest_message_goes(rt: HostRuntime) -> Result<(), Fail> {
     let alloc = rt.alloc();
-    assert_two_arrive(
-        &rt,
-        alloc,
-        "domain 1 1 2 1 0 0 overflow",
-        1,
-        [2, 3],
-        WARNING,
-    )?;
+    assert_two_arrive(&rt, alloc, "domain 1 1 2 1 0 0 overflow", 1, [2, 3], RAISED)?;
     assert_two_arrive(&rt, alloc, "domain 1 1 2 1 0 1 overflow", 1, [2, 3], b"")
 }
 
 #[test]
 fn without_overflow_a_full_buffer_keeps_what_it_has(rt: HostRuntime) -> Result<(), Fail> {
     let alloc = rt.alloc();
-    assert_two_arrive(&rt, alloc, "domain 1 1 2 1 0 0 keep", 0, [1, 2], WARNING)?;
+    assert_two_arrive(&rt, alloc, "domain 1 1 2 1 0 0 keep", 0, [1, 2], RAISED)?;
     assert_two_arrive(&rt, alloc, "domain 1 1 2 1 0 1 keep", 0, [1, 2], b"")
 }

@@ -1,12 +1,12 @@
 //! Scripts of the calls beside the path of a message.
-use super::Outcome;
 use super::plan::Plan;
+use super::{Outcome, RAISED};
 use std::io::Write;
 use std::test::Fail;
 
 /// A loan that is discarded counts no more. It may be written or not, and is used up then.
 const DISCARDED: &[u8] = b"\
-domain 1 1 1 1 0 1 keep
+domain 1 1 1 1 0 0 keep
 pub 2 discard
 loan 1
 loan 1
@@ -52,7 +52,7 @@ ok 8
 
 #[test]
 fn a_discarded_loan_counts_no_more(rt: HostRuntime) {
-    Outcome::of(rt.alloc(), DISCARDED).assert(&rt, 0, DISCARDED_REPLIES, b"");
+    Outcome::of(rt.alloc(), DISCARDED).assert(&rt, 0, DISCARDED_REPLIES, RAISED);
 }
 
 // The publisher has three slots. What waits and what is borrowed isn't touched by a discard.
@@ -79,7 +79,7 @@ fn a_discarded_loan_frees_its_slot(rt: HostRuntime) -> Result<(), Fail> {
 
 /// What waits is told of also where no more may be received. Publishers and samples aren't asked.
 const ASKED: &[u8] = b"\
-domain 1 1 2 1 0 1 keep
+domain 1 1 2 1 0 0 keep
 sub 2
 pub 1 discard
 copy 2 1
@@ -113,7 +113,7 @@ skipped
 
 #[test]
 fn a_subscriber_says_whether_messages_wait(rt: HostRuntime) {
-    Outcome::of(rt.alloc(), ASKED).assert(&rt, 0, ASKED_REPLIES, b"");
+    Outcome::of(rt.alloc(), ASKED).assert(&rt, 0, ASKED_REPLIES, RAISED);
 }
 
 /// A value is sent at once by a publisher that may lend, and by nothing else.

@@ -1,5 +1,6 @@
 //! Scripts in which ports are closed.
 use super::plan::Plan;
+use super::{RAISED, RAISED_TWICE};
 use std::io::Write;
 use std::test::Fail;
 
@@ -100,8 +101,8 @@ const UNKNOWN_IS_LOST: &[(&str, &str)] = &[
     ("recv 1", "none"),
 ];
 
-/// A subscriber has room for one departed publisher, and has borrowed a message of two. A receive and
-/// a question for messages are refused as its update is, until it gives the first one back.
+/// A subscriber has room for one departed publisher, and has borrowed a message of two. A receive is
+/// refused as its update is, until it gives the first one back.
 const TWO_DEPARTED: &[(&str, &str)] = &[
     ("sub 1", "ok"),
     ("pub 1 discard", "ok"),
@@ -125,13 +126,29 @@ const TWO_DEPARTED: &[(&str, &str)] = &[
         "recv 1",
         "err ReceiveError::ConnectionFailure(FailedToEstablishConnection(ExpiredConnectionBufferFull))",
     ),
+    ("release 6", "ok"),
+    ("has 1", "false"),
+    ("read 12", "ok 2"),
+];
+
+/// The same where the question for messages comes first.
+const ASKED_OF_TWO_DEPARTED: &[(&str, &str)] = &[
+    ("sub 1", "ok"),
+    ("pub 1 discard", "ok"),
+    ("copy 2 1", "ok 1"),
+    ("recv 1", "sample"),
+    ("close 2", "ok"),
+    ("pub 1 discard", "ok"),
+    ("copy 6 2", "ok 1"),
+    ("recv 1", "sample"),
+    ("close 6", "ok"),
+    ("pub 1 discard", "ok"),
     (
         "has 1",
         "err ConnectionFailure::FailedToEstablishConnection(ExpiredConnectionBufferFull)",
     ),
-    ("release 6", "ok"),
+    ("release 4", "ok"),
     ("has 1", "false"),
-    ("read 12", "ok 2"),
 ];
 
 /// The same for an update.
@@ -215,16 +232,26 @@ const LOAN_OF_CLOSED: &[(&str, &str)] = &[
 
 #[test]
 fn a_script_with_closed_ports_gets_these_replies(rt: HostRuntime) -> Result<(), Fail> {
-    for (domain, lines) in [
-        ("domain 1 1 2 2 0 2 keep", CLOSED_PUBLISHER),
-        ("domain 1 1 2 1 0 1 keep", CLOSED_SUBSCRIBER),
-        ("domain 1 1 1 1 0 1 keep", DEPARTED_COMES_FIRST),
-        ("domain 1 1 1 1 0 1 keep", UNKNOWN_IS_LOST),
-        ("domain 1 1 1 1 0 1 keep", TWO_DEPARTED),
-        ("domain 1 1 1 1 0 1 keep", UPDATED_AFTER_RELEASE),
-        ("domain 1 1 1 1 0 1 keep", LOAN_OF_CLOSED),
+    for (domain, lines, warnings) in [
+        ("domain 1 1 2 2 0 2 keep", CLOSED_PUBLISHER, b"".as_slice()),
+        ("domain 1 1 2 1 0 1 keep", CLOSED_SUBSCRIBER, b"".as_slice()),
+        ("domain 1 1 1 1 0 0 keep", DEPARTED_COMES_FIRST, RAISED),
+        ("domain 1 1 1 1 0 0 keep", UNKNOWN_IS_LOST, RAISED),
+        ("domain 1 1 1 1 0 1 keep", TWO_DEPARTED, b"".as_slice()),
+        (
+            "domain 1 1 1 1 0 1 keep",
+            ASKED_OF_TWO_DEPARTED,
+            b"".as_slice(),
+        ),
+        (
+            "domain 1 1 1 1 0 1 keep",
+            UPDATED_AFTER_RELEASE,
+            b"".as_slice(),
+        ),
+        ("domain 1 1 1 1 0 0 keep", LOAN_OF_CLOSED, b"".as_slice()),
     ] {
-        Plan::of(rt.alloc(), domain, lines)?.assert(&rt, rt.alloc());
+        let plan = Plan::of(rt.alloc(), domain, lines)?;
+        plan.assert_warned(&rt, rt.alloc(), warnings);
     }
     Ok(())
 }
@@ -244,7 +271,7 @@ fn lost_messages_are_warned_of(rt: HostRuntime) -> Result<(), Fail> {
 // What is sent while the subscriber is closed goes nowhere, and takes no place of what it borrowed.
 #[test]
 fn a_closed_subscriber_keeps_what_it_borrowed(rt: HostRuntime) -> Result<(), Fail> {
-    let mut plan = Plan::new(rt.alloc(), "domain 1 1 1 1 0 1 keep")?;
+    let mut plan = Plan::new(rt.alloc(), "domain 1 1 1 1 0 0 keep")?;
     let subscriber = plan.call("sub", 1, "ok")?;
     write!(plan.text, "pub 1 discard")?;
     let publisher = plan.end("ok")?;
@@ -262,6 +289,6 @@ fn a_closed_subscriber_keeps_what_it_borrowed(rt: HostRuntime) -> Result<(), Fai
     plan.call("read", sample, "ok 5")?;
     plan.call("release", sample, "ok")?;
     plan.call("sub", 1, "ok")?;
-    plan.assert(&rt, rt.alloc());
+    plan.assert_warned(&rt, rt.alloc(), RAISED_TWICE);
     Ok(())
 }

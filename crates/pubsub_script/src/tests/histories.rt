@@ -1,4 +1,5 @@
 //! Scripts of subscribers that come after messages were sent.
+use super::RAISED;
 use super::plan::Plan;
 use std::alloc::Global;
 use std::io::Write;
@@ -41,7 +42,7 @@ fn assert_received(rt: &impl Abort, alloc: Global, late: &LateSubscriber) -> Res
         plan.call("release", sample, "ok")?;
     }
     plan.call("recv", subscriber, "none")?;
-    plan.assert(rt, alloc);
+    plan.assert_warned(rt, alloc, RAISED);
     Ok(())
 }
 
@@ -49,13 +50,13 @@ fn assert_received(rt: &impl Abort, alloc: Global, late: &LateSubscriber) -> Res
 fn a_late_subscriber_gets_the_last_messages(rt: HostRuntime) -> Result<(), Fail> {
     let nothing: [usize; 0] = [];
     for (domain, buffer, received) in [
-        ("domain 1 1 5 1 5 1 keep", 5, [1, 2, 3].as_slice()),
-        ("domain 1 1 5 1 3 1 keep", 4, [1, 2, 3].as_slice()),
-        ("domain 1 1 2 1 5 1 keep", 2, [2, 3].as_slice()),
-        ("domain 1 1 3 1 3 1 keep", 2, [2, 3].as_slice()),
-        ("domain 1 1 2 1 2 1 keep", 2, [2, 3].as_slice()),
-        ("domain 1 1 2 1 1 1 keep", 2, [3].as_slice()),
-        ("domain 1 1 2 1 0 1 keep", 2, nothing.as_slice()),
+        ("domain 1 1 5 1 5 0 keep", 5, [1, 2, 3].as_slice()),
+        ("domain 1 1 5 1 3 0 keep", 4, [1, 2, 3].as_slice()),
+        ("domain 1 1 2 1 5 0 keep", 2, [2, 3].as_slice()),
+        ("domain 1 1 3 1 3 0 keep", 2, [2, 3].as_slice()),
+        ("domain 1 1 2 1 2 0 keep", 2, [2, 3].as_slice()),
+        ("domain 1 1 2 1 1 0 keep", 2, [3].as_slice()),
+        ("domain 1 1 2 1 0 0 keep", 2, nothing.as_slice()),
     ] {
         let late = LateSubscriber {
             domain,
@@ -73,7 +74,7 @@ fn a_late_subscriber_gets_the_last_messages(rt: HostRuntime) -> Result<(), Fail>
 #[test]
 fn the_history_comes_before_the_next_message(rt: HostRuntime) -> Result<(), Fail> {
     let late = LateSubscriber {
-        domain: "domain 1 1 2 1 2 1 overflow",
+        domain: "domain 1 1 2 1 2 0 overflow",
         buffer: 2,
         sent_before: 2,
         sent_after: 1,
@@ -86,7 +87,7 @@ fn the_history_comes_before_the_next_message(rt: HostRuntime) -> Result<(), Fail
 #[test]
 fn the_history_may_fill_the_buffer(rt: HostRuntime) -> Result<(), Fail> {
     let late = LateSubscriber {
-        domain: "domain 1 1 2 1 2 1 keep",
+        domain: "domain 1 1 2 1 2 0 keep",
         buffer: 2,
         sent_before: 2,
         sent_after: 1,

@@ -1,18 +1,17 @@
 -- A domain's fields agree with one loan more.
-use Rattle.std.proofs.Common.{◌≡◌, ℕ, le_refl, ◌+◌, ◌*◌, ◌<◌, ◌≤◌, List, [], ◌∷◌, ◌++◌, length, Bool, true, false, cond, eqb, get_or, refl, ap, sym, subst, ◌∙◌, inl, inr, arith}
+use Rattle.std.proofs.Common.{◌≡◌, ℕ, le_refl, ◌+◌, ◌*◌, ◌≤◌, List, [], ◌∷◌, ◌++◌, length, Bool, true, false, cond, eqb, get_or, refl, ap, sym, subst, ◌∙◌, inl, inr, arith}
 use Rattle.std.proofs.lemmas.Bool.{cases_eq, eqb-true}
 use Rattle.std.proofs.Math.Nat.{max-le}
-use Rattle.std.proofs.lemmas.List.{length-map, length-set, length-replicate}
+use Rattle.std.proofs.lemmas.List.{length-set, length-replicate}
 use Rattle.std.specs.declared.option.Option.{Option}
 use Rattle.std.specs.declared.option.Option.TheVariants.{None, Some}
 use Rattle.std.specs.Option.{option_map_or}
-use Rattle.std.specs.Prelude.{IsSomeAnd, max}
-use Rattle.std.specs.List.{All, sum_by}
+use Rattle.std.specs.Prelude.{IsSomeAnd}
+use Rattle.std.specs.List.{sum_by}
 use Rattle.slab.specs.Slab.{get}
-use Rattle.iox2_store.specs.machine.Limits.{last_number}
 use Rattle.iox2_store.specs.machine.Records.{Publisher, Environment}
-use Rattle.iox2_store.specs.machine.Numbers.{put_at, size}
-use Rattle.iox2_store.specs.machine.State.{State, held}
+use Rattle.iox2_store.specs.machine.Numbers.{put_at}
+use Rattle.iox2_store.specs.machine.State.{State}
 use Rattle.iox2_slots.specs.SlotBook.{Book, holders_at}
 use Rattle.iox2_contents.specs.SlotContents.{ContentState, unwritten_content}
 use Rattle.iox2_store.specs.machine.Loans.{is_static, loan_granted, GrantLoan}
@@ -25,15 +24,14 @@ use Rattle.iox2_laws.proofs.LoanLaws.{grant_loan_keeps}
 use Rattle.iox2_store.specs.declared.service_config.TypeVariant.TheVariants.{FixedSize}
 use Rattle.iox2_domain.specs.Ports.{PublisherFields, slot_length}
 use Rattle.iox2_domain.specs.Kept.{KeptMessage, Lent_message, state_of}
-use Rattle.iox2_domain.specs.Fields.{Fields, kept_of, publisher_of, numbers_of, is_book_of}
+use Rattle.iox2_domain.specs.Fields.{Fields, kept_of, publisher_of, is_book_of}
 use Rattle.iox2_domain.specs.Invariant.{IsDomain, IsOwned, IsBook, HasBook, HasBooks, IsCounted, HasRoomFrom, HasShape, HasShapes, is_publisher, own_holders, holders_of, is_loan_in}
 use Rattle.iox2_domain.specs.Reaches.{Reaches}
 use Rattle.iox2_domain.specs.Shows.{KeepsEntries}
 use Rattle.iox2_domain.proofs.lemmas.fields.NamedBooks.{names-books}
 use Rattle.iox2_domain.proofs.lemmas.slots.PublisherBooks.{book-owned}
 use Rattle.iox2_domain.proofs.lemmas.fields.KeptBooks.{kept-own}
-use Rattle.iox2_domain.proofs.lemmas.fields.ConnectionEnds.{publisher-stands}
-use Rattle.iox2_domain.proofs.lemmas.slots.SlotsInUse.{its_book, slot-counted, size-free}
+use Rattle.iox2_domain.proofs.lemmas.slots.SlotsInUse.{its_book, slot-counted}
 use Rattle.iox2_domain.proofs.lemmas.slots.Messages.{lies_at, message_at-book, message_at-slot}
 use Rattle.iox2_domain.proofs.lemmas.loans.PublisherChanges.{KeepsSettings, changed-ids_apart, look_up-publisher, changed-linked_same, changed-books, changed-room, changed-plain, changed-kept_books, changed-entries}
 use Rattle.iox2_domain.proofs.lemmas.slots.SlotChanges.{forms-changed}

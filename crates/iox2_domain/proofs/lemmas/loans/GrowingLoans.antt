@@ -1,22 +1,18 @@
 -- A loan of a publisher whose memory grows, as the machine says it.
-use Rattle.std.proofs.Common.{◌≡◌, ℕ, ◌+◌, ◌*◌, ◌^◌, ◌<◌, ◌≤◌, ◌&&◌, nat_lt, Bool, true, false, max, length, get_or, drop, refl, ap, sym, subst, ◌∙◌, inl, inr, ◌⊎◌, arith}
+use Rattle.std.proofs.Common.{◌≡◌, ℕ, ◌+◌, ◌*◌, ◌^◌, ◌<◌, ◌≤◌, ◌&&◌, nat_lt, Bool, true, false, max, length, get_or, drop, refl, ap, sym, subst, ◌∙◌, inl, inr, arith}
 use Rattle.std.proofs.Math.Nat.{mul-le-mul_left, mul-le-mul_right, max-le}
 use Rattle.std.proofs.lemmas.Bool.{ltb-true, lt-ltb}
 use Rattle.std.proofs.lemmas.List.{length-map}
-use Rattle.std.specs.declared.option.Option.{Option}
 use Rattle.std.specs.declared.option.Option.TheVariants.{None, Some}
 use Rattle.std.specs.List.{All}
-use Rattle.slab.specs.Slab.{get}
 use Rattle.iox2_store.specs.declared.allocation.AllocationStrategy.{AllocationStrategy}
 use Rattle.iox2_store.specs.declared.allocation.AllocationStrategy.TheVariants.{Static, BestFit, PowerOfTwo}
-use Rattle.iox2_store.specs.declared.errors.LoanError.{LoanError}
 use Rattle.iox2_store.specs.declared.errors.LoanError.TheVariants.{OutOfMemory, ExceedsMaxLoans, InternalFailure}
 use Rattle.iox2_store.specs.declared.service_config.ServiceConfig.{ServiceConfig}
 use Rattle.iox2_store.specs.machine.Limits.{last_number, segment_limit, segment_fits}
 use Rattle.iox2_store.specs.machine.Loans.{is_static, GrantLoan, IsGuaranteed, loan_granted}
-use Rattle.iox2_store.specs.machine.Numbers.{size}
 use Rattle.iox2_store.specs.machine.Records.{Publisher, Environment}
-use Rattle.iox2_store.specs.machine.State.{State, held}
+use Rattle.iox2_store.specs.machine.State.{State}
 use Rattle.iox2_slots.specs.SlotBook.{Book}
 use Rattle.iox2_ends.specs.Receivers.{HasReclaimed}
 use Rattle.iox2_domain.specs.Fields.{Fields, kept_of, publisher_of, numbers_of}

@@ -1,5 +1,5 @@
 -- A publisher gets a further segment: the fields agree, and keep what they kept.
-use Rattle.std.proofs.Common.{◌≡◌, ◌≢◌, ℕ, le_refl, ◌+◌, ◌*◌, ◌<◌, ◌≤◌, List, length, Bool, true, false, cond, eqb, get_or, slice_set, refl, ap, sym, subst, ◌∙◌, inl, inr, ◌⊎◌, arith}
+use Rattle.std.proofs.Common.{◌≡◌, ◌≢◌, ℕ, le_refl, ◌+◌, ◌*◌, List, length, Bool, true, false, cond, eqb, get_or, refl, ap, sym, subst, ◌∙◌, inl, inr, arith}
 use Rattle.std.proofs.lemmas.Bool.{cases_eq, eq-eqb}
 use Rattle.std.specs.Prelude.{IsSomeAnd, not}
 use Rattle.std.specs.declared.option.Option.{Option}
@@ -7,7 +7,7 @@ use Rattle.std.specs.declared.option.Option.TheVariants.{None, Some}
 use Rattle.std.specs.Option.{option_map_or}
 use Rattle.std.specs.List.{All, sum_by}
 use Rattle.slab.specs.Slab.{Slab, get}
-use Rattle.iox2_slots.specs.SlotBook.{Book, holders_at, with_more_slots}
+use Rattle.iox2_slots.specs.SlotBook.{Book, with_more_slots}
 use Rattle.iox2_contents.specs.SlotContents.{ContentState}
 use Rattle.iox2_store.specs.machine.Loans.{is_static}
 use Rattle.iox2_store.specs.machine.Records.{Loan}
@@ -19,7 +19,7 @@ use Rattle.iox2_ends.proofs.LookUps.{look_up-found}
 use Rattle.iox2_ends.specs.Counters.{times, stands}
 use Rattle.iox2_domain.specs.Fields.{Fields, kept_of, publisher_of, is_book_of}
 use Rattle.iox2_domain.specs.Growth.{Grows, with_segment}
-use Rattle.iox2_domain.specs.Invariant.{IsDomain, IsOwned, IsBook, HasBook, HasBooks, HasForms, HasPublisherRoom, HasSegment, HasRoomFrom, HasShapes, HasParts, IsCounted, IsPlain, is_publisher, is_loan_in, own_holders, holders_of}
+use Rattle.iox2_domain.specs.Invariant.{IsDomain, IsOwned, IsBook, HasBook, HasBooks, HasForms, HasPublisherRoom, HasRoomFrom, HasShapes, HasParts, IsCounted, IsPlain, is_publisher, is_loan_in, own_holders}
 use Rattle.iox2_domain.specs.Kept.{Kept, state_of, entries_of}
 use Rattle.iox2_domain.specs.Ports.{PublisherFields, slot_length}
 use Rattle.iox2_domain.specs.Reaches.{Reaches}

@@ -30,7 +30,7 @@ use Rattle.iox2_domain.proofs.lemmas.loans.ChangedLoan.{one-cell, unwritten-part
 use Rattle.iox2_domain.proofs.lemmas.loans.LoanChanges.{values-written}
 
 -- a list of one element
-one-element : {A : Type 0} (xs : List A) (x : A) → length xs ≡ 1 → slice_get xs 0 ≡ Some x → xs ≡ x ∷ []
+pub one-element : {A : Type 0} (xs : List A) (x : A) → length xs ≡ 1 → slice_get xs 0 ≡ Some x → xs ≡ x ∷ []
 one-element [] x one at = absurd cc
 one-element (y ∷ []) x one at = let same : Some y ≡ Some x = at in cc
 one-element (y ∷ z ∷ xs) x one at = absurd (omega arith)

@@ -22,11 +22,11 @@ use Rattle.iox2_domain.specs.declared.message_slots.MessageSlot.{MessageSlot}
 use Rattle.iox2_domain.specs.Ports.{PublisherFields}
 use Rattle.iox2_domain.specs.Kept.{KeptMessage, Lent_message, Sent_message, state_of}
 use Rattle.iox2_domain.specs.Fields.{Fields, kept_of, publisher_of, numbers_of, message_of, message_in, contents_at}
-use Rattle.iox2_domain.specs.Invariant.{IsDomain, is_lent, holders_of}
+use Rattle.iox2_domain.specs.Invariant.{IsDomain, is_lent}
 use Rattle.iox2_domain.specs.LoanSlots.{IsLoanSlot, IsInNoSlot, HasNoLoan, LendsAt, LiesInSlot}
 use Rattle.iox2_domain.proofs.lemmas.fields.ConnectionEnds.{publisher-stands}
 use Rattle.iox2_domain.proofs.lemmas.slots.Messages.{LiesIn, message_in-parts, held-message, message_at-book, message_at-slot, in_use_within, loan-there, loan-found}
-use Rattle.iox2_domain.proofs.lemmas.slots.Holders.{book-by_id, book-holders}
+use Rattle.iox2_domain.proofs.lemmas.slots.Holders.{book-by_id}
 use Rattle.iox2_domain.proofs.lemmas.slots.PublisherBooks.{book-counts}
 
 module _ {T U : Type 0} where
@@ -84,10 +84,6 @@ module _ {T U : Type 0} (f : Fields T U) (sound : IsDomain f) where
   pub number-at : (key slot : ℕ) (b : Book) → get f.books key ≡ Some b → numbers_of f.books b.publisher slot ≡ slice_index b.numbers slot
   number-at key slot b stands =
       ap (λ o. option_map_or (λ (c : Book). slice_index c.numbers slot) o 0) (book-by_id f.books key b.publisher b (sound.parts.books.one_each b.publisher) stands refl)
-
-  -- how many hold a slot of the book at the key
-  pub holders-at : (key slot : ℕ) (b : Book) → get f.books key ≡ Some b → holders_of f.books b.publisher slot ≡ holders_at b slot
-  holders-at key slot b stands = book-holders f.books key b.publisher b (sound.parts.books.one_each b.publisher) stands refl slot
 
   -- a publisher's book is its own
   pub book-its : (i : ℕ) (x : PublisherFields) (b : Book) → get_or f.publishers i None ≡ Some x → get f.books x.book ≡ Some b → b.publisher ≡ x.id

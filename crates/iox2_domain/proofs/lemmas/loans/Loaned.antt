@@ -93,13 +93,6 @@ module _ {T U : Type 0} (is_default : U → Type 0) (f mid : Fields T U) (sound 
               lent-reaches mid reached.agrees i x at_mid checks len one fits is_default slot x.segments new its (memory_for x.allocation) grants,
             ))
 
-  -- it is the publisher's loan, of the next message
-  pub loan-named : (loan : LoanAt) → IsSomeAnd (get_or mid.publishers i None) (λ z. IsNamed mid z loan) → IsSomeAnd (get_or f.publishers i None) (λ z. IsNamed f z loan)
-  loan-named loan named =
-      let its = subst (λ (o : Option PublisherFields). IsSomeAnd o (λ z. IsNamed mid z loan)) at_mid named in
-      subst (λ (o : Option PublisherFields). IsSomeAnd o (λ z. IsNamed f z loan)) (sym stands.1)
-      (record { publisher = its.publisher; number = its.number ∙ ap (λ (s : State T U). s.next_message) reached.state; book = its.book })
-
   -- the loan lies in the slot that is lent
   pub loan-lies : ((mid.config).variant ≡ FixedSize → len ≡ 1) → LoanDecided mid checks len i None → (loan : LoanAt) (new : Fields T U)
       → IsSomeAnd (get_or mid.publishers i None) (λ z. IsNamed mid z loan)

@@ -111,14 +111,6 @@ module _ {T U : Type 0} (f : Fields T U) (i : ℕ) (x y : PublisherFields) (at :
     | inr away ↦ inr (away, changed-others k away ∙ there)
   ]
 
-  -- somebody with that id stands at each place where somebody with it stood
-  pub changed-stands : (k : ℕ) (z : PublisherFields) → get_or f.publishers k None ≡ Some z
-      → (z' : PublisherFields) × (get_or (slice_set f.publishers i (Some y)) k None ≡ Some z') × (z'.id ≡ z.id)
-  changed-stands k z there = elim (changed-still k z there) [
-    | inl is ↦ (y, rw is.0 changed-here, id ∙ sym (ap (λ (w : PublisherFields). w.id) is.1))
-    | inr away ↦ (z, away.1, refl)
-  ]
-
   test-same : (p : ℕ) → is_publisher p y ≡ is_publisher p x
   test-same p = ap (λ n. eqb n p) id
 

@@ -17,7 +17,8 @@ use Rattle.iox2_domain.proofs.lemmas.slots.NumbersInUse.{contains-map_there}
 use Rattle.iox2_domain.proofs.lemmas.samples.BorrowedNumbers.{live-borrows}
 use Rattle.iox2_domain.proofs.lemmas.samples.SampleEntries.{its-slot}
 
-contained : (xs : List ℕ) (n : ℕ) → contains xs n ≡ true → Contains xs n
+-- what a list of numbers has stands in it
+pub contained : (xs : List ℕ) (n : ℕ) → contains xs n ≡ true → Contains xs n
 contained xs n has = Contains-from_any {eq = λ (a b : ℕ). eqb b a} (λ a b e. sym (eqb-true b a e)) n xs has
 
 module _ {T U : Type 0} (f : Fields T U) (sound : IsDomain f) (q n : ℕ) (live : HoldsSample (state_of (kept_of f)) q n) where

@@ -1,5 +1,5 @@
 -- What lies where a borrowed message lies.
-use Rattle.std.proofs.Common.{◌≡◌, ℕ, ◌<◌, ◌*◌, true, List, [], ◌∷◌, length, refl, ap, sym, ◌∙◌, arith, Some}
+use Rattle.std.proofs.Common.{◌≡◌, ℕ, ◌<◌, ◌*◌, true, length, refl, ap, sym, ◌∙◌, Some}
 use Rattle.std.proofs.lemmas.Bool.{eq-eqb}
 use Rattle.std.specs.Prelude.{slice_get, slice_index}
 use Rattle.iox2_store.specs.machine.Mailbox.{is_borrowed}
@@ -108,9 +108,3 @@ module _ {T U : Type 0} (f : Fields T U) (sound : IsDomain f) (q n : ℕ) (at : 
       let both : Some sample-entry.entry ≡ Some kept.0 = sym sample-entry.is_kept ∙ kept.1 in
       let same : sample-entry.entry ≡ kept.0 = cc in
       sym sample-entry.origin_is ∙ ap (λ (x : Entry T U). (x.header).publisher_id) same ∙ kept.2
-
--- a list of one element has that one
-pub one-element : {A : Type 0} (xs : List A) (x : A) → length xs ≡ 1 → slice_get xs 0 ≡ Some x → xs ≡ x ∷ []
-one-element [] x e at = absurd cc
-one-element (y ∷ []) x e at = let same : y ≡ x = cc in ap (λ z. z ∷ []) same
-one-element (y ∷ z ∷ xs) x e at = absurd (omega arith)

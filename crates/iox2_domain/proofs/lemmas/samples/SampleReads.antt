@@ -17,7 +17,8 @@ use Rattle.iox2_domain.specs.Fields.{Fields, kept_of}
 use Rattle.iox2_domain.specs.Invariant.{IsDomain}
 use Rattle.iox2_domain.specs.SampleSlots.{LiesBorrowed}
 use Rattle.iox2_domain.specs.declared.sample_slots.SampleSlot.{SampleSlot}
-use Rattle.iox2_domain.proofs.lemmas.samples.SampleEntries.{SampleEntry, sample-entry, one-element}
+use Rattle.iox2_domain.proofs.lemmas.samples.SampleEntries.{SampleEntry, sample-entry}
+use Rattle.iox2_domain.proofs.lemmas.loans.LoanCalls.{one-element}
 
 -- a subscriber has borrowed the message that lies there
 pub record IsBorrowedThere {T U : Type 0} (f now : Fields T U) (q n : ℕ) (at : SampleSlot) : Type 0 where

@@ -1,5 +1,5 @@
 -- A publisher's book gets more slots behind its own: nothing of what is kept changes.
-use Rattle.std.proofs.Common.{◌≡◌, ◌≢◌, ℕ, zero, suc, ◌+◌, ◌<◌, ◌≤◌, ◌&&◌, List, [], ◌∷◌, ◌++◌, length, replicate, Bool, true, false, cond, eqb, get_or, slice_set, refl, ap, sym, subst, ◌∙◌, inl, inr, ◌⊎◌, arith}
+use Rattle.std.proofs.Common.{◌≡◌, ◌≢◌, ℕ, zero, suc, ◌+◌, ◌<◌, ◌&&◌, List, [], ◌∷◌, ◌++◌, length, replicate, Bool, true, false, cond, eqb, get_or, slice_set, refl, ap, sym, subst, ◌∙◌, inl, inr, arith}
 use Rattle.std.proofs.lemmas.Bool.{cases_eq, cases_lt}
 use Rattle.std.proofs.lemmas.List.{length-append, length-replicate}
 use Rattle.std.specs.Prelude.{nat_lt, slice_get, slice_index}
@@ -12,12 +12,12 @@ use Rattle.iox2_slots.specs.SlotBook.{Book, IsAligned, holders_at, with_more_slo
 use Rattle.iox2_contents.specs.SlotContents.{ContentState}
 use Rattle.iox2_ends.specs.LookUp.{look_up, IsOnly}
 use Rattle.iox2_ends.proofs.LookUps.{look_up-found}
-use Rattle.iox2_domain.specs.Kept.{KeptMessage, state_of, entries_of, entry_in, loan_in, message_numbered}
-use Rattle.iox2_domain.specs.Fields.{Fields, kept_of, is_book_of, numbers_of, message_in, message_of, contents_at}
+use Rattle.iox2_domain.specs.Kept.{state_of, entries_of, entry_in, loan_in, message_numbered}
+use Rattle.iox2_domain.specs.Fields.{Fields, kept_of, is_book_of, numbers_of, message_in, message_of}
 use Rattle.iox2_domain.specs.Invariant.{IsDomain, HasNumber, IsNumbered, HasLoneLoans, holders_of, is_lent, is_loan_in}
 use Rattle.iox2_domain.proofs.lemmas.containers.SetRecords.{set-here, set-others, IsOnly-set, look_up-set}
-use Rattle.iox2_domain.proofs.lemmas.slots.LoneLoans.{lone-changed, lone-fewer}
-use Rattle.iox2_domain.proofs.lemmas.slots.Messages.{LiesIn, lies_at, message_in-free, message_in-from, message_in-in_use, message_in-parts, message_numbered-same, in_use_within}
+use Rattle.iox2_domain.proofs.lemmas.slots.LoneLoans.{lone-changed}
+use Rattle.iox2_domain.proofs.lemmas.slots.Messages.{lies_at, message_in-free, message_in-from, message_in-in_use, message_numbered-same, in_use_within}
 
 -- ---- one book
 

@@ -17,8 +17,8 @@ use Rattle.iox2_domain.specs.declared.publisher_state.BlockedDelivery.{BlockedDe
 use Rattle.iox2_domain.specs.Kept.{state_of, port_named, ids, box_if_any, stands_between}
 use Rattle.iox2_domain.specs.Fields.{Fields, kept_of, publisher_of, between_of, numbers_of, blocked_send}
 use Rattle.iox2_domain.specs.Invariant.{IsDomain, holders_of}
-use Rattle.iox2_domain.proofs.lemmas.slots.HeldMessages.{own-in_use}
-use Rattle.iox2_domain.proofs.lemmas.slots.SlotsInUse.{connected-in_use, loan-in_use, history-in_use, holders-are}
+use Rattle.iox2_domain.proofs.lemmas.slots.HeldMessages.{own-in_use, standing-in_use}
+use Rattle.iox2_domain.proofs.lemmas.slots.SlotsInUse.{loan-in_use, history-in_use, holders-are}
 use Rattle.iox2_domain.proofs.lemmas.slots.NumbersInUse.{times-there}
 
 -- two views that agree on each record give the same list
@@ -66,10 +66,10 @@ module _ {T U : Type 0} (f : Fields T U) (sound : IsDomain f) (new : Slab Book)
   between-same : (key : ℕ) (c : Link) → get f.connections key ≡ Some c → between_of new f.connections c ≡ between_of f.books f.connections c
   between-same key c at = λ t. record (between_of f.books f.connections c) { box = record { waiting = waiting t; borrowed = borrowed t } } where
     waiting : map (numbers_of new c.home.publisher) c.waiting ≡ map (numbers_of f.books c.home.publisher) c.waiting
-    waiting = map-numbers c.home.publisher c.waiting (λ slot e. connected-in_use f sound key slot c at (omega (arith, times-there slot c.waiting e)))
+    waiting = map-numbers c.home.publisher c.waiting (λ slot e. standing-in_use f sound.parts.counted sound.parts.publisher_ids key slot c at (omega (arith, times-there slot c.waiting e)))
 
     borrowed : map (numbers_of new c.home.publisher) c.borrowed ≡ map (numbers_of f.books c.home.publisher) c.borrowed
-    borrowed = map-numbers c.home.publisher c.borrowed (λ slot e. connected-in_use f sound key slot c at (omega (arith, times-there slot c.borrowed e)))
+    borrowed = map-numbers c.home.publisher c.borrowed (λ slot e. standing-in_use f sound.parts.counted sound.parts.publisher_ids key slot c at (omega (arith, times-there slot c.borrowed e)))
 
   module _ (contents : List (Option (List (ContentState T U)))) (next : ℕ) where
     -- the fields with these books

@@ -6,7 +6,6 @@ use Rattle.std.specs.declared.option.Option.TheVariants.{None, Some}
 use Rattle.std.specs.Option.{option_map_or}
 use Rattle.std.specs.Prelude.{slice_index}
 use Rattle.std.specs.List.{All, sum_by, flat_map}
-use Rattle.std.proofs.lemmas.List.Sums.{get_or-le-sum_by}
 use Rattle.slab.specs.Slab.{get}
 use Rattle.iox2_slots.specs.Link.{Link}
 use Rattle.iox2_store.specs.machine.Mailbox.{numbers_in, Mailbox}
@@ -19,9 +18,7 @@ use Rattle.iox2_ends.specs.Counters.{times, stands, stands_in}
 use Rattle.iox2_ends.specs.LookUp.{look_up}
 use Rattle.iox2_ends.specs.Mailboxes.{is_between, mailbox_of, mailbox_if_any}
 use Rattle.iox2_ends.specs.Receivers.{HasReclaimed}
-use Rattle.iox2_ends.proofs.Counts.{stands-own}
 use Rattle.iox2_ends.proofs.LookUps.{look_up-found, look_up-there}
-use Rattle.iox2_ends.proofs.MailboxChanges.{within_if_some}
 use Rattle.iox2_laws.proofs.Altered.{in_three, in_first, in_second, in_third}
 use Rattle.iox2_laws.proofs.MailboxLemmas.{has_numbers-contains}
 use Rattle.iox2_laws.proofs.NumberLemmas.{contains_in_append, contains_left, contains_right, contains_in_flat_map, contains-flat_map}
@@ -36,15 +33,9 @@ use Rattle.iox2_domain.proofs.lemmas.fields.Views.{mailboxes-are}
 use Rattle.iox2_domain.proofs.lemmas.slots.NumbersInUse.{used, used-there, used-has, used-once, HasApart, length-used_free, length-used_all, length-used_from, times-there, times-stands, contains-map, contains-map_there, sum_by-positive}
 use Rattle.iox2_domain.proofs.lemmas.slots.Holders.{book-by_id, book-holders}
 use Rattle.iox2_domain.proofs.lemmas.slots.PublisherBooks.{book-counts}
+use Rattle.iox2_domain.proofs.lemmas.slots.HeldMessages.{standing-in_use}
 
 module _ {T U : Type 0} (f : Fields T U) (sound : IsDomain f) where
-  -- a slot that stands in a connection has a holder
-  pub connected-in_use : (key slot : ℕ) (c : Link) → get f.connections key ≡ Some c → 0 < stands_in slot c → 0 < holders_of f.books c.home.publisher slot
-  connected-in_use key slot c at some =
-      let part : stands c.home.publisher slot (Some c) ≤ sum_by (stands c.home.publisher slot) f.connections.slots =
-      rw at at (get_or-le-sum_by (stands c.home.publisher slot) f.connections.slots key None (within_if_some f.connections.slots key c at)) in
-      omega (arith, part, sound.parts.counted.at c.home.publisher slot, stands-own c.home.publisher slot c refl)
-
   module _ (i : ℕ) (x : PublisherFields) (at : get_or f.publishers i None ≡ Some x) where
     -- the publisher's book
     pub its_book : HasBook f x
@@ -100,7 +91,7 @@ module _ {T U : Type 0} (f : Fields T U) (sound : IsDomain f) where
       found c slot here some same =
           let there = look_up-there (is_between x.id q) f.connections.slots c here in
           let its : c.home.publisher ≡ x.id = eqb-true c.home.publisher x.id (both (eqb c.home.publisher x.id) (eqb c.home.subscriber q) there.2) in
-          let held : 0 < holders_of f.books c.home.publisher slot = connected-in_use there.0 slot c there.1 some in
+          let held : 0 < holders_of f.books c.home.publisher slot = standing-in_use f sound.parts.counted sound.parts.publisher_ids there.0 slot c there.1 some in
           let held_its : 0 < holders_of f.books x.id slot = subst (λ (p : ℕ). 0 < holders_of f.books p slot) its held in
           (slot, subst (λ (n : ℕ). 0 < n) (holders-are slot) held_its, same)
 

@@ -1,9 +1,12 @@
-use Rattle.std.proofs.Common.{◌∙◌, ap, get_or, sym, Option, None, Some, nat_eq, ℕ, refl}
-use Rattle.std.proofs.lemmas.Bool.{eq-eqb, true≢false}
+use Rattle.std.proofs.Common.{◌≡◌, true, ◌∙◌, ap, get_or, sym, Option, None, Some, nat_eq, ℕ, refl}
+use Rattle.std.proofs.lemmas.Bool.{eq-eqb, eqb-true, true≢false}
 use Rattle.std.specs.Option.{option_eq}
 use Rattle.iox2_domain.proofs.lemmas.containers.ForgottenKeys.{cleared-at, not-there}
-use Rattle.iox2_domain.proofs.lemmas.loans.RemovedSlots.{equal-some}
 use Rattle.iox2_domain.proofs.subscriber_state.clear_key.Goals as goal
+
+equal-some : (o : Option ℕ) (n : ℕ) → option_eq nat_eq o (Some n) ≡ true → o ≡ Some n
+equal-some None n e = absurd cc
+equal-some (Some m) n e = ap Some (eqb-true m n e)
 
 pub returns-then-eq : goal.returns-then-eq
 returns-then-eq c =

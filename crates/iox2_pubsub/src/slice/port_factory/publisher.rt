@@ -32,6 +32,20 @@ use std::marker::Model;
 /// Makes a publisher of slices. It begins with the loans that the domain's settings allow a
 /// publisher, each of one element at most, and with their strategy. Its memory is to grow as they say.
 ///
+/// Example (`crates/thermometer/src/series.rt`):
+///
+/// ```rust
+/// let publisher = domain
+///     .slice_publisher_builder()
+///     .max_loaned_samples(1)
+///     .backpressure_strategy(BackpressureStrategy::DiscardData)
+///     .initial_max_slice_len(3)
+///     .create(domain)?;
+/// let outcome = send_both(domain, &publisher, subscriber);
+/// publisher.close(domain);
+/// outcome
+/// ```
+///
 /// iceoryx2's `PortFactoryPublisher` of a slice (`src/service/port_factory/publisher.rs`).
 #[derive(Drop)]
 pub struct PortFactoryPublisher<

@@ -18,6 +18,16 @@ use std::marker::Model;
 
 /// Makes a subscriber of slices. It begins with the largest buffer that the domain allows.
 ///
+/// Example (`crates/thermometer/src/series.rt`):
+///
+/// ```rust
+/// let mut domain = Domain::<u64, ()>::new(alloc, config)?;
+/// let subscriber = domain.slice_subscriber_builder().create(&mut domain)?;
+/// let outcome = publish(&mut domain, &subscriber);
+/// subscriber.close(&mut domain);
+/// outcome
+/// ```
+///
 /// iceoryx2's `PortFactorySubscriber` of a slice (`src/service/port_factory/subscriber.rs`).
 #[derive(Drop)]
 pub struct PortFactorySubscriber<G = Box<dyn DegradationFn>> {

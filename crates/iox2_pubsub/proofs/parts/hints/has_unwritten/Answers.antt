@@ -1,7 +1,5 @@
 use Rattle.std.proofs.Common.{◌≡◌, Bool, true, false, not, refl, ap, sym, ◌∙◌}
-use Rattle.slab.specs.Slab.{get}
-use Rattle.iox2_domain.specs.Fields.{Fields}
-use Rattle.iox2_pubsub.proofs.MarkedLoans.{unwritten-tells}
+use Rattle.iox2_pubsub.proofs.MarkedLoans.{no-unwritten}
 use Rattle.iox2_pubsub.proofs.parts.hints.has_unwritten.Goals as goal
 
 -- what isn't so is false
@@ -9,8 +7,12 @@ untrue : (r : Bool) → not r ≡ true → r ≡ false
 untrue true e = absurd cc
 untrue false e = refl
 
-pub returns-then-is_lent_at_hint : goal.returns-then-is_lent_at_hint
-returns-then-is_lent_at_hint g c =
-    let told = unwritten-tells {T = g.row.T.Denot} {U = g.row.U.Denot} c.args.state.now c.args.loan.now.publisher c.args.loan.now.number c.args.loan.now.book c.args.loan.now.slot (c.is_lent_at_hint.ensures.lies c.if-is_lent_at_hint.true)
-    c.index.result.now (sym (ap (λ (f : Fields g.row.T.Denot g.row.U.Denot). get f.books c.args.loan.now.book) c.state.view_is) ∙ c.index.ensures) c.mark.result c.mark.ensures in
-    (λ yes. told.0 (sym c.is_written.ensures ∙ untrue c.is_written.result yes), λ has. ap not (c.is_written.ensures ∙ told.1 has))
+pub returns-in-Some : goal.returns-in-Some
+returns-in-Some g c = (
+  λ yes. (c.in-Some.ensures.unwritten).0 (sym c.is_written.ensures ∙ untrue c.is_written.result yes),
+  λ has. ap not (c.is_written.ensures ∙ (c.in-Some.ensures.unwritten).1 has),
+)
+
+pub returns-in-None : goal.returns-in-None
+returns-in-None g c =
+    (λ no. absurd cc, λ held. absurd (no-unwritten {T = g.row.T.Denot} {U = g.row.U.Denot} c.args.state.now c.args.loan.now.publisher c.args.loan.now.number c.in-None.ensures held))

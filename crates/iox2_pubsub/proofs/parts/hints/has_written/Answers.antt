@@ -1,11 +1,13 @@
-use Rattle.std.proofs.Common.{ap, sym, ◌∙◌}
-use Rattle.slab.specs.Slab.{get}
-use Rattle.iox2_domain.specs.Fields.{Fields}
-use Rattle.iox2_pubsub.proofs.MarkedLoans.{written-tells}
+use Rattle.std.proofs.Common.{sym, ◌∙◌}
+use Rattle.iox2_pubsub.proofs.MarkedLoans.{no-written}
 use Rattle.iox2_pubsub.proofs.parts.hints.has_written.Goals as goal
 
-pub returns-then-is_lent_at_hint : goal.returns-then-is_lent_at_hint
-returns-then-is_lent_at_hint g c =
-    let told = written-tells {T = g.row.T.Denot} {U = g.row.U.Denot} c.args.state.now c.args.loan.now.publisher c.args.loan.now.number c.args.loan.now.book c.args.loan.now.slot (c.is_lent_at_hint.ensures.lies c.if-is_lent_at_hint.true)
-    c.index.result.now (sym (ap (λ (f : Fields g.row.T.Denot g.row.U.Denot). get f.books c.args.loan.now.book) c.state.view_is) ∙ c.index.ensures) c.mark.result c.mark.ensures in
-    (λ yes. told.0 (sym c.is_written.ensures ∙ yes), λ has. c.is_written.ensures ∙ told.1 has)
+pub returns-in-Some : goal.returns-in-Some
+returns-in-Some g c = (
+  λ yes. (c.in-Some.ensures.written).0 (sym c.is_written.ensures ∙ yes),
+  λ has. c.is_written.ensures ∙ (c.in-Some.ensures.written).1 has,
+)
+
+pub returns-in-None : goal.returns-in-None
+returns-in-None g c =
+    (λ no. absurd cc, λ held. absurd (no-written {T = g.row.T.Denot} {U = g.row.U.Denot} c.args.state.now c.args.loan.now.publisher c.args.loan.now.number c.in-None.ensures held))

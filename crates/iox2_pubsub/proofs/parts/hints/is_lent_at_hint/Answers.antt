@@ -14,4 +14,4 @@ returns-in-Some-clause-lies g c = λ yes.
     let its : c.in-Some.book.now.publisher ≡ c.args.loan.now.publisher =
     book-its {T = g.row.T.Denot} {U = g.row.U.Denot} c.args.state.now c.requires c.args.loan.now.place stands.0 c.in-Some.book.now stands.1 (ap (get c.args.state.now.books) stands.3 ∙ here) ∙ stands.2 in
     subst (λ (q : ℕ). LiesInSlot {T = g.row.T.Denot} {U = g.row.U.Denot} c.args.state.now q c.args.loan.now.number c.args.loan.now.book c.args.loan.now.slot) its
-    (lies-in-book {T = g.row.T.Denot} {U = g.row.U.Denot} c.args.state.now c.requires c.args.loan.now.book c.args.loan.now.slot c.args.loan.now.number c.in-Some.book.now here (c.is_lent_there.ensures yes))
+    (lies-in-book {T = g.row.T.Denot} {U = g.row.U.Denot} c.args.state.now c.requires c.args.loan.now.book c.args.loan.now.slot c.args.loan.now.number c.in-Some.book.now here (c.is_loan_slot.ensures.0 yes))

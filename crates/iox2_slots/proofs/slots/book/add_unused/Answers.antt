@@ -1,8 +1,6 @@
-use Rattle.std.proofs.Common.{◌≡◌, ◌∙◌, ◌++◌, ◌∷◌, [], ap, sym, subst, replicate, length, map, rules, vec_len}
+use Rattle.std.proofs.Common.{◌≡◌, ◌∙◌, ◌++◌, ◌∷◌, [], ap, sym, replicate, length, rules, vec_len}
 use Rattle.std.proofs.lemmas.Grind.{replicate_next}
 use Rattle.std.proofs.lemmas.List.{append_assoc}
-use Rattle.iox2_slots.specs.SlotFree.{HasFree}
-use Rattle.iox2_slots.specs.declared.slots.slot.Slot.{Slot}
 use Rattle.iox2_slots.proofs.LaterSlots.{free_more}
 use Rattle.iox2_slots.proofs.slots.book.add_unused.Goals as goal
 

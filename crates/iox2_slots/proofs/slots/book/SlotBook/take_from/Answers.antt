@@ -1,4 +1,4 @@
-use Rattle.std.proofs.Common.{refl, ◌≡◌, ◌<◌, ◌∙◌, sym, length, slice_index, arith, rules}
+use Rattle.std.proofs.Common.{refl, ◌≡◌, ◌∙◌, sym, slice_index, arith}
 use Rattle.std.proofs.lemmas.Grind.{get_or_default_zero}
 use Rattle.std.proofs.lemmas.List.{length-map, length-set, map-set}
 use Rattle.iox2_slots.proofs.LaterSlots.{chosen_within, chosen_count, chosen_not_all, free_chosen, none_from}
