@@ -233,7 +233,7 @@ impl Worker<'_> {
         let Some(Waiting(blocked, message)) = self.random.take(&mut self.own.blocked) else {
             return;
         };
-        let outcome = match self.random.below(8) {
+        let outcome = match self.random.below(400) {
             0 => {
                 self.gives_up(message);
                 blocked.give_up()
@@ -242,7 +242,7 @@ impl Worker<'_> {
                 self.gives_up(message);
                 return drop(blocked);
             }
-            2 | 3 => blocked.retry(Duration::ZERO),
+            2..=120 => blocked.retry(Duration::ZERO),
             _ => blocked.timed_retry(TIME),
         };
         if let SendOutcome::Blocked(blocked) = outcome.unwrap() {
@@ -257,6 +257,10 @@ impl Worker<'_> {
     }
 
     fn receive(&mut self) {
+        // Who keeps all keeps others from receiving.
+        if self.own.samples.len() > 1 {
+            drop(self.random.take(&mut self.own.samples));
+        }
         let Some(reader) = self.reader() else {
             return;
         };
@@ -321,7 +325,7 @@ impl Worker<'_> {
 
     // What a thread has that panics goes with it.
     fn panic(&mut self) {
-        if self.random.below(20) != 0 {
+        if self.random.below(100) != 0 {
             return;
         }
         let samples: Vec<_> = self.own.samples.drain(..).collect();
@@ -339,6 +343,10 @@ impl Worker<'_> {
     }
 
     fn act(&mut self) {
+        // A send that waits keeps its publisher from others.
+        if !self.own.blocked.is_empty() && self.random.below(2) == 0 {
+            return self.end_blocked();
+        }
         match self.random.below(1000) {
             0..=9 => self.make_source(),
             10..=29 => self.make_reader(),
