@@ -1,4 +1,5 @@
-# The target iox2_pubsub::iox2_pubsub, for C11 and C++17: the headers and the archive of this folder.
+# The target iox2_pubsub::iox2_pubsub, for C11 and C++17: the headers and the archive of this folder. With the component
+# dds, where that was built, iox2_pubsub::dds too: the gateway to DDS, which needs Cyclone DDS.
 get_filename_component(_iox2_pubsub_folder "${CMAKE_CURRENT_LIST_DIR}/../../.." ABSOLUTE)
 if(NOT TARGET iox2_pubsub::iox2_pubsub)
   add_library(iox2_pubsub::iox2_pubsub STATIC IMPORTED)
@@ -7,3 +8,18 @@ if(NOT TARGET iox2_pubsub::iox2_pubsub)
     INTERFACE_INCLUDE_DIRECTORIES "${_iox2_pubsub_folder}/include")
 endif()
 unset(_iox2_pubsub_folder)
+
+foreach(_component IN LISTS iox2_pubsub_FIND_COMPONENTS)
+  set(iox2_pubsub_${_component}_FOUND FALSE)
+  if(_component STREQUAL "dds" AND EXISTS "${CMAKE_CURRENT_LIST_DIR}/iox2_pubsub_dds.cmake")
+    include(CMakeFindDependencyMacro)
+    find_dependency(CycloneDDS 0.10)
+    find_dependency(Threads)
+    include("${CMAKE_CURRENT_LIST_DIR}/iox2_pubsub_dds.cmake")
+    set(iox2_pubsub_dds_FOUND TRUE)
+  endif()
+  if(iox2_pubsub_FIND_REQUIRED_${_component} AND NOT iox2_pubsub_${_component}_FOUND)
+    set(iox2_pubsub_FOUND FALSE)
+    set(iox2_pubsub_NOT_FOUND_MESSAGE "the component ${_component} isn't in this folder")
+  endif()
+endforeach()

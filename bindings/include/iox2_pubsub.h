@@ -60,7 +60,7 @@
 extern "C" {
 #endif
 
-#define IOX2PS_VERSION_MAJOR 0 /**< the first number of this header's version */
+#define IOX2PS_VERSION_MAJOR 0 /**< the first number of this header's version; that of the archive is iox2ps_version() */
 #define IOX2PS_VERSION_MINOR 1 /**< the second number */
 #define IOX2PS_VERSION_PATCH 0 /**< the third number */
 
@@ -308,6 +308,10 @@ typedef struct iox2ps_warning_t {
 /** @name Settings and texts
  * None of these looks at a domain, and those that return nothing can't fail.
  * @{ */
+
+/** The version of the archive that the program is linked to, as one number. A program that may be linked to another
+ * one than it was compiled for compares it with IOX2PS_VERSION; the classes of C++ do, where a domain is made. */
+IOX2PS_NODISCARD uint32_t iox2ps_version(void);
 
 /** The defaults of a domain for messages of one type, as iox2ps_config_defaults(&config, 7, sizeof(T),
  * _Alignof(T)): 2 publishers with 2 loans each, 8 subscribers with buffers of 2 and 2 borrowed samples, no

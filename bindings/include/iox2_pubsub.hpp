@@ -845,8 +845,9 @@ private:
  * nothing, and has no settings, no warnings and nothing to count. */
 template <typename P, typename M> class Domain {
 public:
-  /** Makes a domain. Error::InvalidSettings, Error::OutOfMemory. */
+  /** Makes a domain. Error::InvalidSettings, Error::OutOfMemory, Error::OtherVersion. */
   static Result<Domain> create(const Config<P> &config) {
+    if (iox2ps_version() != IOX2PS_VERSION) return Error::OtherVersion;
     detail::Hold<M> hold(new (std::nothrow) detail::Shared<M>);
     if (!hold) return Error::OutOfMemory;
     iox2ps_status_t code = iox2ps_domain_create(&hold->domain, &detail::Raw::of(config));
@@ -926,6 +927,22 @@ public:
     std::uint64_t count = 0;
     ask([&](iox2ps_domain_t *domain) { return iox2ps_domain_refused_connections(domain, &count); });
     return count;
+  }
+
+  /** Makes calls of iox2_pubsub.h on the domain with no other between them, and returns the code that make returns: for
+   * what goes between domains, and has no handles. brings says what they may have brought to those who wait. No function
+   * of a handle is called by make. */
+  template <typename Call> iox2ps_status_t call(Brings brings, Call &&make) const {
+    if (!hold_) return IOX2PS_NOT_LIVE;
+    return hold_.call(brings, std::forward<Call>(make));
+  }
+
+  /** For several threads alone: makes them again as long as their code says that this port still waits, each time when
+   * something came that may help; or, where a time is given, until that has passed, or until waits are stopped. */
+  template <typename Call>
+  iox2ps_status_t wait(Waits what, Id port, Brings brings, Until until, Call &&make) const {
+    if (!hold_) return IOX2PS_NOT_LIVE;
+    return hold_.wait(what, {port.low, port.high}, brings, until, std::forward<Call>(make));
   }
 
   /** For several threads alone: lets no call wait any longer: each tries once, and returns what it found. So a program

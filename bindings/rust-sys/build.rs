@@ -31,5 +31,13 @@ fn main() {
              or set IOX2_PUBSUB_LIB_DIR to the folder that has it"
         ),
     }
+    let with_dds = env::var_os("CARGO_FEATURE_DDS").is_some();
+    if with_dds {
+        println!("cargo:rustc-link-lib=static=iox2_pubsub_dds");
+    }
     println!("cargo:rustc-link-lib=static=iox2_pubsub");
+    if with_dds {
+        println!("cargo:rustc-link-lib=dylib=ddsc");
+        println!("cargo:rustc-link-lib=dylib=stdc++");
+    }
 }

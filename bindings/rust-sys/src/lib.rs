@@ -4,6 +4,9 @@
 
 use std::ffi::c_void;
 
+#[cfg(feature = "dds")]
+pub mod dds;
+
 /// The greatest alignment of a payload.
 pub const PAYLOAD_ALIGNMENT: usize = 16;
 

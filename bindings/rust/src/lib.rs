@@ -77,6 +77,8 @@
 //!   be a panic of this crate.
 #![deny(missing_docs, missing_debug_implementations)]
 
+#[cfg(feature = "dds")]
+pub mod dds;
 mod domain;
 mod errors;
 mod events;

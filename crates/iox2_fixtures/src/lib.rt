@@ -24,6 +24,24 @@ pub struct Station {
     pub number: u32,
 }
 
+/// A payload whose default value takes for ever to make, for calls that are to make none.
+#[derive(Drop)]
+pub struct Endless {
+    /// What comes out in the end.
+    pub number: u64,
+}
+
+impl Default for Endless {
+    #[inline(never)]
+    fn default() -> Self {
+        let mut number = 1u64;
+        for step in 0..u64::MAX {
+            number = number.wrapping_mul(6364136223846793005).wrapping_add(step);
+        }
+        Endless { number }
+    }
+}
+
 /// One publisher and one subscriber, without overflow.
 pub fn settings() -> ServiceConfig
     ensures { result ≡ record (default_config 7) { node_id = 3; max_publishers = 1; max_subscribers = 1; enable_safe_overflow = false } }

@@ -49,22 +49,20 @@ fn ending(index: usize) -> Command<u64, u8> {
     match index {
         0 => Command::Close { of: 0 },
         1 => Command::Close { of: 1 },
-        RELEASE => Command::Release { of: 5 },
-        3 => Command::Discard { of: 6 },
+        RELEASE => Command::Release { of: 3 },
+        3 => Command::Discard { of: 4 },
         _ => Command::Nothing,
     }
 }
 
-const READ: Command<u64, u8> = Command::Read { of: 5, at: 0 };
+const READ: Command<u64, u8> = Command::Read { of: 3, at: 0 };
 
 /// A message is received and a loan is out. Then the four end, and the message is read before each.
 fn commands_in_order(alloc: Global, order: Order) -> Result<Vec<Command<u64, u8>>, AllocError> {
     let commands = [
         CREATE_SUBSCRIBER,
         create_publisher(2),
-        Command::LoanUninit { of: 1 },
-        Command::WriteAll { of: 2, value: 5 },
-        Command::Send { of: 2 },
+        Command::SendCopy { of: 1, value: 5 },
         Command::Receive { of: 0 },
         Command::LoanUninit { of: 1 },
         READ,
@@ -84,11 +82,9 @@ fn next_commands(alloc: Global) -> Result<Vec<Command<u64, u8>>, AllocError> {
     let commands = [
         create_publisher(2),
         CREATE_SUBSCRIBER,
-        Command::LoanUninit { of: 0 },
-        Command::WriteAll { of: 2, value: 6 },
-        Command::Send { of: 2 },
+        Command::SendCopy { of: 0, value: 6 },
         Command::Receive { of: 1 },
-        Command::Read { of: 5, at: 0 },
+        Command::Read { of: 3, at: 0 },
     ];
     Ok(Vec::from_array(alloc, commands)?)
 }
@@ -102,12 +98,10 @@ fn read_after(ended: &[usize]) -> Reply<u64, u8> {
     }
 }
 
-fn replies_in_order(order: Order) -> [Reply<u64, u8>; 15] {
+fn replies_in_order(order: Order) -> [Reply<u64, u8>; 13] {
     [
         Reply::SubscriberMade(UniqueSubscriberId::new(1)),
         Reply::PublisherMade(UniquePublisherId::new(2)),
-        Reply::Loaned,
-        Reply::Done,
         Reply::Delivered(1),
         Reply::Sample(UniquePublisherId::new(2)),
         Reply::Loaned,
@@ -122,12 +116,10 @@ fn replies_in_order(order: Order) -> [Reply<u64, u8>; 15] {
     ]
 }
 
-fn next_replies() -> [Reply<u64, u8>; 7] {
+fn next_replies() -> [Reply<u64, u8>; 5] {
     [
         Reply::PublisherMade(UniquePublisherId::new(3)),
         Reply::SubscriberMade(UniqueSubscriberId::new(4)),
-        Reply::Loaned,
-        Reply::Done,
         Reply::Delivered(1),
         Reply::Sample(UniquePublisherId::new(3)),
         Reply::Cell(Some(6)),

@@ -6,8 +6,8 @@ use iox2_fixtures::settings;
 use iox2_pubsub::Domain;
 use iox2_runs::{Command, Reply, compare_runs};
 use iox2_store::{
-    AllocationStrategy, BackpressureStrategy, DegradationAction, ServiceConfig,
-    SubscriberCreateError, UniquePublisherId, UniqueSubscriberId,
+    AllocationStrategy, BackpressureAction, BackpressureStrategy, DegradationAction, SendError,
+    ServiceConfig, SubscriberCreateError, TypeVariant, UniquePublisherId, UniqueSubscriberId,
 };
 use std::alloc::{AllocError, Global};
 use std::process::Abort;
@@ -34,26 +34,59 @@ pub(crate) const PUBLISHER: Command<u64, u8> = Command::CreatePublisher {
     backpressure: None,
 };
 
+// The same with slices of this length, and with this answer to a full subscriber.
+fn publisher_of(length: usize, answer: Option<BackpressureAction>) -> Command<u64, u8> {
+    Command::CreatePublisher {
+        loans: 1,
+        strategy: BackpressureStrategy::DiscardData,
+        allocation: AllocationStrategy::Static,
+        initial_max_slice_len: length,
+        override_slots: None,
+        degradation: DegradationAction::Warn,
+        backpressure: answer,
+    }
+}
+
 // The command, or nothing in its place.
 fn if_kept(is_kept: bool, command: Command<u64, u8>) -> Command<u64, u8> {
     if is_kept { command } else { Command::Nothing }
 }
 
 // Two messages are sent to two subscribers. In between the first subscriber receives one, or doesn't.
-fn two_messages(alloc: Global, receives: bool) -> Result<Commands, AllocError> {
+fn two_messages(
+    alloc: Global,
+    publisher: Command<u64, u8>,
+    receives: bool,
+) -> Result<Commands, AllocError> {
     let commands = [
         SUBSCRIBER,
         SUBSCRIBER,
-        PUBLISHER,
-        Command::LoanUninit { of: 2 },
+        publisher,
+        Command::SendCopy { of: 2, value: 1 },
+        if_kept(receives, Command::Receive { of: 0 }),
+        Command::SendCopy { of: 2, value: 2 },
+        Command::Receive { of: 1 },
+        Command::Read { of: 6, at: 0 },
+        Command::Receive { of: 1 },
+    ];
+    Ok(Vec::from_array(alloc, commands)?)
+}
+
+// The same with two slices of two elements each, of which the second element is read.
+fn two_slices(alloc: Global, receives: bool) -> Result<Commands, AllocError> {
+    let commands = [
+        SUBSCRIBER,
+        SUBSCRIBER,
+        publisher_of(2, None),
+        Command::LoanSlice { of: 2, len: 2 },
         Command::WriteAll { of: 3, value: 1 },
         Command::Send { of: 3 },
         if_kept(receives, Command::Receive { of: 0 }),
-        Command::LoanUninit { of: 2 },
+        Command::LoanSlice { of: 2, len: 2 },
         Command::WriteAll { of: 7, value: 2 },
         Command::Send { of: 7 },
         Command::Receive { of: 1 },
-        Command::Read { of: 10, at: 0 },
+        Command::Read { of: 10, at: 1 },
         Command::Receive { of: 1 },
     ];
     Ok(Vec::from_array(alloc, commands)?)
@@ -109,6 +142,29 @@ fn replies_of((_, replies): End) -> Replies {
     replies
 }
 
+// Two subscribers, each with a buffer of one, which may borrow one message.
+fn two_subscribers() -> ServiceConfig {
+    ServiceConfig {
+        max_subscribers: 2,
+        subscriber_max_buffer_size: 1,
+        subscriber_max_borrowed_samples: 1,
+        ..settings()
+    }
+}
+
+// The replies of both runs on domains with these settings.
+fn compared_on(
+    rt: &impl Abort,
+    alloc: Global,
+    config: &ServiceConfig,
+    commands: Commands,
+    reduced: Commands,
+) -> (Replies, Replies) {
+    let ends: Option<(End, End)> = compare_runs(alloc, config, commands, reduced);
+    let (first, second) = ends.expect(rt, "two runs");
+    (replies_of(first), replies_of(second))
+}
+
 // The replies of both runs, with two subscribers at most.
 fn compared(
     rt: &impl Abort,
@@ -116,20 +172,101 @@ fn compared(
     commands: Commands,
     reduced: Commands,
 ) -> (Replies, Replies) {
-    let config = ServiceConfig {
-        max_subscribers: 2,
-        subscriber_max_buffer_size: 1,
-        subscriber_max_borrowed_samples: 1,
-        ..settings()
-    };
-    let ends: Option<(End, End)> = compare_runs(alloc, &config, commands, reduced);
-    let (first, second) = ends.expect(rt, "two runs");
-    (replies_of(first), replies_of(second))
+    compared_on(rt, alloc, &two_subscribers(), commands, reduced)
+}
+
+// The replies on domains with these settings where the first subscriber receives, and where it doesn't.
+fn two_messages_compared(
+    rt: &impl Abort,
+    alloc: Global,
+    config: &ServiceConfig,
+    publisher: Command<u64, u8>,
+) -> (Replies, Replies) {
+    let commands = two_messages(alloc, publisher, true).expect(rt, "commands");
+    let reduced = two_messages(alloc, publisher, false).expect(rt, "fewer commands");
+    compared_on(rt, alloc, config, commands, reduced)
 }
 
 // What is answered where the first subscriber receives.
-fn answers_with_a_receive() -> [Reply<u64, u8>; 13] {
+fn answers_with_a_receive() -> [Reply<u64, u8>; 9] {
     [
+        Reply::SubscriberMade(UniqueSubscriberId::new(1)),
+        Reply::SubscriberMade(UniqueSubscriberId::new(2)),
+        Reply::PublisherMade(UniquePublisherId::new(3)),
+        Reply::Delivered(2),
+        Reply::Sample(UniquePublisherId::new(3)),
+        Reply::Delivered(1),
+        Reply::Sample(UniquePublisherId::new(3)),
+        Reply::Cell(Some(1)),
+        Reply::NoSample,
+    ]
+}
+
+#[test]
+fn a_subscriber_sees_the_same_beside_a_slower_one(rt: HostRuntime) {
+    let (replies, others) = two_messages_compared(&rt, rt.alloc(), &two_subscribers(), PUBLISHER);
+    let mut slower = answers_with_a_receive();
+    slower[4] = Reply::Done;
+    slower[5] = Reply::Delivered(0);
+    assert!(rt; replies.as_slice() == answers_with_a_receive().as_slice());
+    assert!(rt; others.as_slice() == slower.as_slice());
+}
+
+// The second message takes the place of the first.
+#[test]
+fn runs_are_compared_where_buffers_overflow(rt: HostRuntime) {
+    let config = ServiceConfig {
+        enable_safe_overflow: true,
+        ..two_subscribers()
+    };
+    let (replies, others) = two_messages_compared(&rt, rt.alloc(), &config, PUBLISHER);
+    let mut expected = answers_with_a_receive();
+    expected[5] = Reply::Delivered(2);
+    expected[7] = Reply::Cell(Some(2));
+    assert!(rt; replies.as_slice() == expected.as_slice());
+    expected[4] = Reply::Done;
+    assert!(rt; others.as_slice() == expected.as_slice());
+}
+
+// The second subscriber fails the second send.
+#[test]
+fn runs_are_compared_where_a_handler_fails_sends(rt: HostRuntime) {
+    let publisher = publisher_of(1, Some(BackpressureAction::DiscardDataAndFail));
+    let (replies, others) = two_messages_compared(&rt, rt.alloc(), &two_subscribers(), publisher);
+    let mut expected = answers_with_a_receive();
+    expected[5] = Reply::SendRefused(SendError::UnableToDeliver);
+    assert!(rt; replies.as_slice() == expected.as_slice());
+    expected[4] = Reply::Done;
+    assert!(rt; others.as_slice() == expected.as_slice());
+}
+
+// Nothing is lent, sent at once or received there, and so nothing is read.
+#[test]
+fn runs_are_compared_where_an_element_has_many_units(rt: HostRuntime) {
+    let config = ServiceConfig {
+        units_per_element: 2,
+        ..two_subscribers()
+    };
+    let (replies, others) = two_messages_compared(&rt, rt.alloc(), &config, PUBLISHER);
+    let mut expected = answers_with_a_receive();
+    for index in 3..9 {
+        expected[index] = Reply::Skipped;
+    }
+    assert!(rt; replies.as_slice() == expected.as_slice());
+    expected[4] = Reply::Done;
+    assert!(rt; others.as_slice() == expected.as_slice());
+}
+
+#[test]
+fn runs_are_compared_where_messages_are_slices(rt: HostRuntime) {
+    let config = ServiceConfig {
+        variant: TypeVariant::Dynamic,
+        ..two_subscribers()
+    };
+    let commands = two_slices(rt.alloc(), true).expect(&rt, "commands");
+    let reduced = two_slices(rt.alloc(), false).expect(&rt, "fewer commands");
+    let (replies, others) = compared_on(&rt, rt.alloc(), &config, commands, reduced);
+    let mut expected = [
         Reply::SubscriberMade(UniqueSubscriberId::new(1)),
         Reply::SubscriberMade(UniqueSubscriberId::new(2)),
         Reply::PublisherMade(UniquePublisherId::new(3)),
@@ -143,19 +280,11 @@ fn answers_with_a_receive() -> [Reply<u64, u8>; 13] {
         Reply::Sample(UniquePublisherId::new(3)),
         Reply::Cell(Some(1)),
         Reply::NoSample,
-    ]
-}
-
-#[test]
-fn a_subscriber_sees_the_same_beside_a_slower_one(rt: HostRuntime) {
-    let commands = two_messages(rt.alloc(), true).expect(&rt, "commands");
-    let reduced = two_messages(rt.alloc(), false).expect(&rt, "fewer commands");
-    let (replies, others) = compared(&rt, rt.alloc(), commands, reduced);
-    let mut slower = answers_with_a_receive();
-    slower[6] = Reply::Done;
-    slower[9] = Reply::Delivered(0);
-    assert!(rt; replies.as_slice() == answers_with_a_receive().as_slice());
-    assert!(rt; others.as_slice() == slower.as_slice());
+    ];
+    assert!(rt; replies.as_slice() == expected.as_slice());
+    expected[6] = Reply::Done;
+    expected[9] = Reply::Delivered(0);
+    assert!(rt; others.as_slice() == expected.as_slice());
 }
 
 // What is answered where another subscriber receives and releases a message, and is closed.
@@ -237,17 +366,17 @@ fn a_subscriber_sees_the_same_where_it_is_closed_with_a_sample(rt: HostRuntime) 
     assert!(rt; others.as_slice() == without.as_slice());
 }
 
-// Before these, 33 subscribers were made. The first of the two that follow receives a message.
+// Before these, 100 subscribers were made. The first of the two that follow receives a message.
 const WITH_A_LATE_RECEIVE: [Command<u64, u8>; 9] = [
     SUBSCRIBER,
     SUBSCRIBER,
     PUBLISHER,
-    Command::LoanUninit { of: 35 },
-    Command::WriteAll { of: 36, value: 1 },
-    Command::Send { of: 36 },
-    Command::Receive { of: 33 },
-    Command::Receive { of: 34 },
-    Command::Read { of: 40, at: 0 },
+    Command::LoanUninit { of: 102 },
+    Command::WriteAll { of: 103, value: 1 },
+    Command::Send { of: 103 },
+    Command::Receive { of: 100 },
+    Command::Receive { of: 101 },
+    Command::Read { of: 107, at: 0 },
 ];
 
 // The same, but it receives nothing.
@@ -255,21 +384,21 @@ const WITHOUT_IT_LATE: [Command<u64, u8>; 9] = [
     SUBSCRIBER,
     SUBSCRIBER,
     PUBLISHER,
-    Command::LoanUninit { of: 35 },
-    Command::WriteAll { of: 36, value: 1 },
-    Command::Send { of: 36 },
+    Command::LoanUninit { of: 102 },
+    Command::WriteAll { of: 103, value: 1 },
+    Command::Send { of: 103 },
     Command::Nothing,
-    Command::Receive { of: 34 },
-    Command::Read { of: 40, at: 0 },
+    Command::Receive { of: 101 },
+    Command::Read { of: 107, at: 0 },
 ];
 
-// The commands, after those that make 33 subscribers.
+// The commands, after those that make 100 subscribers.
 fn after_many_subscribers(
     rt: &impl Abort,
     alloc: Global,
     last: &[Command<u64, u8>],
 ) -> Vec<Command<u64, u8>> {
-    let mut commands = Vec::from_array(alloc, [SUBSCRIBER; 33]).expect(rt, "subscribers");
+    let mut commands = Vec::from_array(alloc, [SUBSCRIBER; 100]).expect(rt, "subscribers");
     commands.extend_from_slice(last).expect(rt, "commands");
     commands
 }
@@ -285,7 +414,7 @@ fn met_no_refusal(end: &End) -> bool
 #[test]
 fn runs_are_compared_after_more_warnings_than_are_kept(rt: HostRuntime) {
     let config = ServiceConfig {
-        max_subscribers: 35,
+        max_subscribers: 102,
         subscriber_max_buffer_size: 1,
         subscriber_max_borrowed_samples: 1,
         subscriber_expired_connection_buffer: 0,
@@ -298,11 +427,11 @@ fn runs_are_compared_after_more_warnings_than_are_kept(rt: HostRuntime) {
     assert!(rt; met_no_refusal(&first) && met_no_refusal(&second));
     let replies = replies_of(first);
     let others = replies_of(second);
-    assert!(rt; matches!(replies.get(38), Some(Reply::Delivered(35))));
-    assert!(rt; matches!(replies.get(39), Some(Reply::Sample(_))));
-    assert!(rt; matches!(others.get(39), Some(Reply::Done)));
-    assert!(rt; matches!(replies.get(40), Some(Reply::Sample(_))));
-    assert!(rt; matches!(others.get(40), Some(Reply::Sample(_))));
-    assert!(rt; matches!(replies.get(41), Some(Reply::Cell(Some(1)))));
-    assert!(rt; matches!(others.get(41), Some(Reply::Cell(Some(1)))));
+    assert!(rt; matches!(replies.get(105), Some(Reply::Delivered(102))));
+    assert!(rt; matches!(replies.get(106), Some(Reply::Sample(_))));
+    assert!(rt; matches!(others.get(106), Some(Reply::Done)));
+    assert!(rt; matches!(replies.get(107), Some(Reply::Sample(_))));
+    assert!(rt; matches!(others.get(107), Some(Reply::Sample(_))));
+    assert!(rt; matches!(replies.get(108), Some(Reply::Cell(Some(1)))));
+    assert!(rt; matches!(others.get(108), Some(Reply::Cell(Some(1)))));
 }

@@ -54,6 +54,25 @@ fn check_slots(rt: &impl Abort, alloc: Global, variant: TypeVariant, slots: usiz
     check(rt, alloc, config, &steps);
 }
 
+// Room is taken for the ports that are made, and for the slots that the override asks for.
+#[test]
+fn there_may_be_any_number_of_ports(rt: HostRuntime) {
+    let config = ServiceConfig {
+        max_publishers: usize::MAX,
+        max_subscribers: 1 << 62,
+        ..service(1, 0)
+    };
+    let steps = [
+        (CREATE_SUBSCRIBER, subscriber_made(1)),
+        (overridden_publisher(3), publisher_made(2)),
+        (overridden_publisher(3), publisher_made(3)),
+        (Command::SendCopy { of: 2, value: 5 }, Reply::Delivered(1)),
+        (Command::Receive { of: 0 }, sample_of(3)),
+        (Command::Read { of: 4, at: 0 }, Reply::Cell(Some(5))),
+    ];
+    check(&rt, rt.alloc(), config, &steps);
+}
+
 #[test]
 fn loans_find_as_many_slots_as_the_override_says(rt: HostRuntime) {
     check_slots(&rt, rt.alloc(), TypeVariant::FixedSize, usize::MAX, 3);

@@ -286,7 +286,15 @@ fn the_last_loan_of_a_list_needs_the_last_slot(rt: HostRuntime) {
         history_size: 1,
         ..smallest()
     };
+    let many_messages = ServiceConfig {
+        max_subscribers: 4,
+        subscriber_max_buffer_size: 8,
+        subscriber_max_borrowed_samples: 4,
+        history_size: 3,
+        ..settings()
+    };
     assert_slots_are_needed(&rt, rt.alloc(), &two_subscribers, 8);
+    assert_slots_are_needed(&rt, rt.alloc(), &many_messages, 52);
     assert_slots_are_needed(&rt, rt.alloc(), &nothing_borrowed, 3);
     assert_slots_are_needed(&rt, rt.alloc(), &smallest(), 3);
 }

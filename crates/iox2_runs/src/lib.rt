@@ -14,4 +14,4 @@ pub use iox2_commands::{
     worst_case_of_slots_grants,
 };
 pub use iox2_worst_case::{worst_case_commands, worst_case_is_least, worst_case_is_reached};
-pub use runs::run;
+pub use runs::{Made, carry_out, disown_all, run};

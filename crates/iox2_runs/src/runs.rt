@@ -35,7 +35,7 @@ mod updates;
 use iox2_commands::{Command, Reply};
 use iox2_pubsub::Domain;
 use iox2_store::{BackpressureFn, DegradationFn};
-use made::{Made, disown_all};
+pub use made::{Made, disown_all};
 use std::alloc::Global;
 
 // There is a default value of the type. For proofs alone
@@ -55,8 +55,12 @@ fn shows_a_state<T: Drop, U: Default + Drop, F: BackpressureFn, G: DegradationFn
     domain.config();
 }
 
-// Carries out one command, and returns what it made too.
-fn carry_out<
+/// Carries out one command, as a run does with each of its commands, and returns its reply and what it
+/// made.
+///
+/// `table` has what the commands before it made, each at its command's position, and loses what this one
+/// uses up. What this one made belongs behind it.
+pub fn carry_out<
     T: Copy + Default + Drop,
     U: Copy + Default + Drop,
     F: BackpressureFn,

@@ -9,7 +9,7 @@ use crate::fixtures::{
     assert_live, assert_ready, assert_sliced, close_publisher, close_subscriber, lend_defaults,
     lend_slice, receive_slice, send_slice, slice_factory, slice_publisher, slice_subscriber,
 };
-use iox2_fixtures::settings;
+use iox2_fixtures::{Endless, settings};
 use iox2_pubsub::slice::{Publisher, SampleMut, SampleMutUninit, Subscriber};
 use iox2_pubsub::{DegradationHandler, Domain, UpdateConnections};
 use iox2_store::{DegradationAction, LoanError, PublisherCreateError, ServiceConfig, TypeVariant};
@@ -105,6 +105,41 @@ fn a_slice_has_default_values(rt: HostRuntime) {
     message.discard(&mut domain);
     drop(domain);
     assert!(rt; is_read);
+}
+
+#[test]
+fn no_default_values_are_made_for_a_refused_loan(rt: HostRuntime) {
+    let mut domain: Domain<Endless, ()> = Domain::new(rt.alloc(), slices()).expect(&rt, "a domain");
+    let factory = slice_factory(&domain).max_loaned_samples(0);
+    let publisher = factory.create(&mut domain).expect(&rt, "a publisher");
+    let longer = publisher.loan_slice(&mut domain, 2);
+    let longer = longer.map(|loan| loan.disown());
+    let second = publisher.loan_slice(&mut domain, 1);
+    let second = second.map(|loan| loan.disown());
+    publisher.disown();
+    drop(domain);
+    assert!(rt; longer == Err(LoanError::ExceedsMaxLoanSize));
+    assert!(rt; second == Err(LoanError::ExceedsMaxLoans));
+}
+
+#[test]
+fn a_slice_may_be_long(rt: HostRuntime) {
+    let mut domain: Domain<u64, u64> = Domain::new(rt.alloc(), slices()).expect(&rt, "a domain");
+    let subscriber = slice_subscriber(&rt, &mut domain);
+    let publisher = slice_publisher(&rt, &mut domain, 5000);
+    let loan = lend_slice(&rt, &mut domain, &publisher, 5000);
+    publisher.disown();
+    let message = loan.write_from_fn(&mut domain, |index| index as u64);
+    let takers = send_slice(&rt, &mut domain, message);
+    let sample = receive_slice(&rt, &mut domain, &subscriber);
+    subscriber.disown();
+    let read = sample.payload(&domain);
+    let values = [read.get(17).copied(), read.last().copied()];
+    let length = read.len();
+    sample.disown();
+    drop(domain);
+    assert!(rt; takers == 1 && length == 5000);
+    assert!(rt; values == [Some(17), Some(4999)]);
 }
 
 // How many elements the loan of this length has, which is given back, or why there is none.

@@ -1,6 +1,6 @@
 //! Values that are lent or sent at once.
 use crate::fixtures::{assert_single_valued, publisher_of, receive, send, subscriber_of};
-use iox2_fixtures::{Reading, Station, factory_for, receiver_count, settings};
+use iox2_fixtures::{Endless, Reading, Station, factory_for, receiver_count, settings};
 use iox2_pubsub::{Domain, LoanError, SendError};
 use iox2_store::ServiceConfig;
 
@@ -32,6 +32,20 @@ fn a_value_is_sent_and_received(rt: HostRuntime) {
     assert!(rt; [celsius, header.number_of_elements()] == [4, 1]);
     assert!(rt; [origin, header.publisher_id.value(), header.node_id.value()] == [2, 2, 9]);
     assert!(rt; station == 0);
+}
+
+#[test]
+fn no_default_value_is_made_for_a_refused_loan(rt: HostRuntime) {
+    let mut domain: Domain<Endless, ()> = Domain::new(rt.alloc(), settings()).expect(
+        &rt, "a domain",
+    );
+    let factory = factory_for(&domain).max_loaned_samples(0);
+    let publisher = factory.create(&mut domain).expect(&rt, "a publisher");
+    assert_single_valued(&rt, &domain);
+    let lent = publisher.loan(&mut domain).map(|loan| loan.disown());
+    publisher.disown();
+    drop(domain);
+    assert!(rt; lent == Err(LoanError::ExceedsMaxLoans));
 }
 
 #[test]

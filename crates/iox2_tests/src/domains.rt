@@ -1,6 +1,6 @@
 ghost use Rattle.iox2_pubsub.specs.Slices.{IsSliced};
 
-use crate::fixtures::{domain, publisher_of, subscriber_of};
+use crate::fixtures::{publisher_of, subscriber_of};
 use iox2_fixtures::{Reading, Station, settings};
 use iox2_pubsub::{Domain, UpdateConnections};
 use iox2_store::{ServiceConfig, TypeVariant};
@@ -18,14 +18,23 @@ fn sliced_domain(rt: &impl Abort, alloc: Global) -> Domain<Reading, Station>
     Domain::new(alloc, config).expect(rt, "a domain")
 }
 
+// Any numbers may name the service and the node.
 #[test]
 fn a_new_domain_has_its_settings(rt: HostRuntime) {
-    let domain = domain(&rt, rt.alloc());
-    let is_alike = *domain.config() == settings();
-    let variant = domain.variant();
-    drop(domain);
-    assert!(rt; is_alike);
-    assert!(rt; variant == TypeVariant::FixedSize);
+    for (service_id, node_id) in [(7, 3), (0, u128::MAX), (u128::MAX, 1 << 64)] {
+        let config = ServiceConfig {
+            service_id,
+            node_id,
+            ..settings()
+        };
+        let made: Result<Domain<Reading, Station>, _> = Domain::new(rt.alloc(), config);
+        let domain = made.expect(&rt, "a domain");
+        let is_alike = *domain.config() == config;
+        let variant = domain.variant();
+        drop(domain);
+        assert!(rt; is_alike);
+        assert!(rt; variant == TypeVariant::FixedSize);
+    }
 }
 
 // Ports are made and connected there as elsewhere.

@@ -65,11 +65,13 @@ fn a_domain_holds_its_subscriber_alone(rt: HostRuntime) {
     assert!(rt; live == [true, false, false, false]);
 }
 
+// The factory's copy has the buffer that was set.
 #[test]
 fn a_buffer_of_none_is_one_of_one(rt: HostRuntime) {
     let mut domain = domain(&rt, rt.alloc());
     let factory = domain.subscriber_builder().buffer_size(0);
-    let subscriber = factory.create(&mut domain).expect(&rt, "a subscriber");
+    let copied = factory.internal_partial_clone();
+    let subscriber = copied.create(&mut domain).expect(&rt, "a subscriber");
     let buffer_size = subscriber.buffer_size();
     subscriber.disown();
     drop(domain);

@@ -11,6 +11,7 @@ mod plan;
 mod ports;
 mod streams;
 mod warnings;
+mod words;
 
 use script_runner::{Ending, ScriptError, script};
 use std::alloc::Global;
@@ -240,7 +241,7 @@ fn a_malformed_line_is_named(rt: HostRuntime) -> Result<(), Fail> {
     for line in [
         b"".as_slice(),
         b"  ".as_slice(),
-        b"nothing".as_slice(),
+        b"nothing 1".as_slice(),
         b"domain 1 1 1 1 0 0 keep".as_slice(),
         b"sub".as_slice(),
         b"sub x".as_slice(),
@@ -301,7 +302,7 @@ fn a_malformed_line_is_named(rt: HostRuntime) -> Result<(), Fail> {
         b"update".as_slice(),
         b"update 1 1".as_slice(),
         b"read".as_slice(),
-        b"read 1 0".as_slice(),
+        b"read 1 0 0".as_slice(),
         b"release".as_slice(),
         b"release 1 1".as_slice(),
         // What later scripts may ask for.

@@ -1,24 +1,31 @@
 -- What the lines of a script ask for.
-use Rattle.std.specs.Prelude.{ℕ, List, Bool, codes, Some, None, ◌≡◌, true, false}
+use Rattle.std.specs.Prelude.{ℕ, List, Bool, Option, codes, Some, None, ◌≡◌, ◌⊎◌, ◌+◌, ◌*◌, ◌<◌, true, false}
+use Rattle.std.specs.Duration.{as_nanos}
+use Rattle.std.specs.declared.time.Duration.{Duration}
 use Rattle.std.specs.Str.{IsUtf8}
 use Rattle.script_text.specs.Numbers.{IsNumber, value_of, position_of}
 use Rattle.script_text.specs.Words.{Words, line_words, words_of}
 use Rattle.iox2_store.specs.declared.service_config.ServiceConfig.{ServiceConfig}
-use Rattle.iox2_store.specs.declared.service_config.TypeVariant.TheVariants.{FixedSize}
-use Rattle.iox2_store.specs.declared.allocation.AllocationStrategy.TheVariants.{Static}
+use Rattle.iox2_store.specs.declared.service_config.TypeVariant.{TypeVariant}
+use Rattle.iox2_store.specs.declared.service_config.TypeVariant.TheVariants.{FixedSize, Dynamic}
+use Rattle.iox2_store.specs.declared.allocation.AllocationStrategy.{AllocationStrategy}
+use Rattle.iox2_store.specs.declared.allocation.AllocationStrategy.TheVariants.{Static, BestFit, PowerOfTwo}
 use Rattle.iox2_store.specs.declared.backpressure.BackpressureStrategy.{BackpressureStrategy}
 use Rattle.iox2_store.specs.declared.backpressure.BackpressureStrategy.TheVariants.{RetryUntilDelivered, DiscardData}
-use Rattle.iox2_store.specs.declared.degradation.DegradationAction.TheVariants.{Warn}
+use Rattle.iox2_store.specs.declared.backpressure.BackpressureAction.{BackpressureAction}
+use Rattle.iox2_store.specs.declared.backpressure.BackpressureAction.TheVariants as action
+use Rattle.iox2_store.specs.declared.degradation.DegradationAction.{DegradationAction}
+use Rattle.iox2_store.specs.declared.degradation.DegradationAction.TheVariants.{Ignore, Warn, DegradeAndFail}
 use Rattle.iox2_store.specs.machine.Delivery.{no_time}
 use Rattle.iox2_commands.specs.declared.command.Command.{Command}
 use Rattle.iox2_commands.specs.declared.command.Command.TheVariants as command
 
--- The settings that a domain line names, for single values.
-abbrev pub script_config : (publishers subscribers buffer borrowed history expired : ℕ) (overflow : Bool) → ServiceConfig
-script_config publishers subscribers buffer borrowed history expired overflow = record {
+-- The settings that a domain line names.
+abbrev pub script_config : (variant : TypeVariant) (publishers subscribers buffer borrowed history expired : ℕ) (overflow : Bool) → ServiceConfig
+script_config variant publishers subscribers buffer borrowed history expired overflow = record {
   service_id = 1;
   node_id = 1;
-  variant = FixedSize;
+  variant = variant;
   units_per_element = 1;
   max_publishers = publishers;
   max_subscribers = subscribers;
@@ -54,9 +61,41 @@ abbrev pub IsStrategy : List ℕ → BackpressureStrategy → Type 0
 IsStrategy word RetryUntilDelivered = word ≡ codes "retry"
 IsStrategy word DiscardData = word ≡ codes "discard"
 
--- `domain P S B R H E overflow` or `.. keep` names the settings with P, S, B, R, H and E.
+-- `domain`: messages are single values. `slices`: they are slices.
+abbrev pub IsKind : List ℕ → TypeVariant → Type 0
+IsKind word FixedSize = word ≡ codes "domain"
+IsKind word Dynamic = word ≡ codes "slices"
+
+-- `static`, `bestfit` or `poweroftwo`: how a publisher's memory grows.
+abbrev pub IsAllocation : List ℕ → AllocationStrategy → Type 0
+IsAllocation word Static = word ≡ codes "static"
+IsAllocation word BestFit = word ≡ codes "bestfit"
+IsAllocation word PowerOfTwo = word ≡ codes "poweroftwo"
+
+-- `ignore`, `warn` or `fail`: the answer to a refused connection.
+abbrev pub IsDegradation : List ℕ → DegradationAction → Type 0
+IsDegradation word Ignore = word ≡ codes "ignore"
+IsDegradation word Warn = word ≡ codes "warn"
+IsDegradation word DegradeAndFail = word ≡ codes "fail"
+
+-- `follow`, `retry`, `discard` or `fail`: the answer of a handler of full buffers. `none`: there is no handler.
+abbrev pub IsHandler : List ℕ → Option BackpressureAction → Type 0
+IsHandler word None = word ≡ codes "none"
+IsHandler word (Some action.FollowBackpressureyStrategy) = word ≡ codes "follow"
+IsHandler word (Some action.Retry) = word ≡ codes "retry"
+IsHandler word (Some action.DiscardData) = word ≡ codes "discard"
+IsHandler word (Some action.DiscardDataAndFail) = word ≡ codes "fail"
+
+-- A number, or `most` where none is named.
+abbrev pub IsSizeOrMost : List ℕ → Option ℕ → Type 0
+IsSizeOrMost word None = word ≡ codes "most"
+IsSizeOrMost word (Some size) = IsNumber word × (size ≡ value_of word)
+
+-- `domain P S B R H E overflow` or `.. keep` names the settings with P, S, B, R, H and E, and so does `slices ..`.
 pub record IsDomainLine (words : Words) (config : ServiceConfig) : Type 0 where
-  pub form : HasForm words (codes "domain") 8
+  pub count : words.count ≡ 8
+  pub variant : TypeVariant
+  pub kind : IsKind (words.word 0) variant
   pub publishers : IsNumber (words.word 1)
   pub subscribers : IsNumber (words.word 2)
   pub buffer : IsNumber (words.word 3)
@@ -65,33 +104,70 @@ pub record IsDomainLine (words : Words) (config : ServiceConfig) : Type 0 where
   pub expired : IsNumber (words.word 6)
   pub overflow : Bool
   pub mode : IsMode (words.word 7) overflow
-  pub settings : config ≡ script_config (value_of (words.word 1)) (value_of (words.word 2)) (value_of (words.word 3)) (value_of (words.word 4)) (value_of (words.word 5)) (value_of (words.word 6)) overflow
+  pub settings : config ≡ script_config variant (value_of (words.word 1)) (value_of (words.word 2)) (value_of (words.word 3)) (value_of (words.word 4)) (value_of (words.word 5)) (value_of (words.word 6)) overflow
+
+-- `pub L retry` or `.. discard`: a publisher with so many loans and this strategy, whose memory is static. With five words more:
+-- how its memory grows, the length of a slice that its first slots hold, the number of its slots, and its handlers' answers.
+abbrev pub IsPublisherLine : Words → (loans : ℕ) → BackpressureStrategy → AllocationStrategy → (len : ℕ) → (slots : Option ℕ) → DegradationAction → Option BackpressureAction → Type 0
+IsPublisherLine words loans strategy allocation len slots degradation backpressure =
+    (words.word 0 ≡ codes "pub") × IsNumberAt words 1 loans × IsStrategy (words.word 2) strategy
+    × ((words.count ≡ 3) × (allocation ≡ Static) × (len ≡ 1) × (slots ≡ None) × (degradation ≡ Warn) × (backpressure ≡ None)
+    ⊎ (words.count ≡ 8) × IsAllocation (words.word 3) allocation × IsNumberAt words 4 len × IsSizeOrMost (words.word 5) slots
+    × IsDegradation (words.word 6) degradation × IsHandler (words.word 7) backpressure)
+
+-- `sub B`: a subscriber with this buffer. With one word more: its handler's answer.
+abbrev pub IsSubscriberLine : Words → Option ℕ → DegradationAction → Type 0
+IsSubscriberLine words buffer degradation =
+    (words.word 0 ≡ codes "sub") × IsSizeOrMost (words.word 1) buffer
+    × ((words.count ≡ 2) × (degradation ≡ Warn) ⊎ (words.count ≡ 3) × IsDegradation (words.word 2) degradation)
+
+-- `retry N`: the blocked send is tried again at once. `retry N S D`: after so many seconds and billionths of one.
+abbrev pub IsRetryLine : Words → (of : ℕ) → Duration → Type 0
+IsRetryLine words of elapsed =
+    (words.word 0 ≡ codes "retry") × IsNameAt words 1 of
+    × ((words.count ≡ 2) × (elapsed ≡ no_time)
+    ⊎ (words.count ≡ 4) × IsNumber (words.word 2) × IsNumber (words.word 3) × (value_of (words.word 3) < 1000000000)
+    × (as_nanos elapsed ≡ value_of (words.word 2) * 1000000000 + value_of (words.word 3)))
+
+-- `read N`: the first value of a sample or loan. `read N A`: the one at A, counted from 0.
+abbrev pub IsReadLine : Words → (of at : ℕ) → Type 0
+IsReadLine words of at =
+    (words.word 0 ≡ codes "read") × IsNameAt words 1 of × ((words.count ≡ 2) × (at ≡ 0) ⊎ (words.count ≡ 3) × IsNumberAt words 2 at)
 
 -- What the words of a line after the first ask for.
 abbrev pub IsCommandLine : Words → Command ℕ ℕ → Type 0
--- `pub L retry` or `.. discard`: a publisher with so many loans and this strategy, whose memory is static.
+-- `nothing` does nothing.
+IsCommandLine words command.Nothing = HasForm words (codes "nothing") 1
 IsCommandLine words (command.CreatePublisher loans strategy allocation initial_max_slice_len override_slots degradation backpressure) =
-    HasForm words (codes "pub") 3 × IsNumberAt words 1 loans × IsStrategy (words.word 2) strategy
-    × (allocation ≡ Static) × (initial_max_slice_len ≡ 1) × (override_slots ≡ None) × (degradation ≡ Warn) × (backpressure ≡ None)
--- `sub B`: a subscriber with this buffer.
-IsCommandLine words (command.CreateSubscriber buffer degradation) =
-    HasForm words (codes "sub") 2 × IsNumber (words.word 1) × (buffer ≡ Some (value_of (words.word 1))) × (degradation ≡ Warn)
--- `loan N`, `write N V`, `send N`, `copy N V`, `discard N`, `retry N`, `giveup N`, `update N`, `recv N`, `has N`, `read N`,
--- `release N`, `close N`: calls of a port, of a single value or of a blocked send. A retry comes at once.
+    IsPublisherLine words loans strategy allocation initial_max_slice_len override_slots degradation backpressure
+IsCommandLine words (command.CreateSubscriber buffer degradation) = IsSubscriberLine words buffer degradation
+-- `loan N`, `default N`, `slice N L`: a loan of publisher N, unwritten, of a default value, or of so many elements.
 IsCommandLine words (command.LoanUninit of) = HasForm words (codes "loan") 2 × IsNameAt words 1 of
+IsCommandLine words (command.Loan of) = HasForm words (codes "default") 2 × IsNameAt words 1 of
+IsCommandLine words (command.LoanSlice of len) = HasForm words (codes "slice") 3 × IsNameAt words 1 of × IsNumberAt words 2 len
+-- `write N V`, `cell N A V`, `set N A V`, `init N`, `user N V`: each cell of a loan is written, one cell of an unwritten loan or one
+-- value of a written one; the loan counts as written; its user header is written.
 IsCommandLine words (command.WriteAll of value) = HasForm words (codes "write") 3 × IsNameAt words 1 of × IsNumberAt words 2 value
+IsCommandLine words (command.WriteCell of at value) = HasForm words (codes "cell") 4 × IsNameAt words 1 of × IsNumberAt words 2 at × IsNumberAt words 3 value
+IsCommandLine words (command.SetPayload of at value) = HasForm words (codes "set") 4 × IsNameAt words 1 of × IsNumberAt words 2 at × IsNumberAt words 3 value
+IsCommandLine words (command.AssumeInit of) = HasForm words (codes "init") 2 × IsNameAt words 1 of
+IsCommandLine words (command.WriteHeader of value) = HasForm words (codes "user") 3 × IsNameAt words 1 of × IsNumberAt words 2 value
+-- `send N`, `copy N V`, `discard N`, `giveup N`: calls of a loan, a publisher or a blocked send.
 IsCommandLine words (command.Send of) = HasForm words (codes "send") 2 × IsNameAt words 1 of
 IsCommandLine words (command.SendCopy of value) = HasForm words (codes "copy") 3 × IsNameAt words 1 of × IsNumberAt words 2 value
 IsCommandLine words (command.Discard of) = HasForm words (codes "discard") 2 × IsNameAt words 1 of
-IsCommandLine words (command.Retry of elapsed) = HasForm words (codes "retry") 2 × IsNameAt words 1 of × (elapsed ≡ no_time)
+IsCommandLine words (command.Retry of elapsed) = IsRetryLine words of elapsed
 IsCommandLine words (command.GiveUp of) = HasForm words (codes "giveup") 2 × IsNameAt words 1 of
+-- `update N`, `recv N`, `has N`, `close N`: calls of a port.
 IsCommandLine words (command.Update of) = HasForm words (codes "update") 2 × IsNameAt words 1 of
 IsCommandLine words (command.Receive of) = HasForm words (codes "recv") 2 × IsNameAt words 1 of
 IsCommandLine words (command.HasSamples of) = HasForm words (codes "has") 2 × IsNameAt words 1 of
-IsCommandLine words (command.Read of at) = HasForm words (codes "read") 2 × IsNameAt words 1 of × (at ≡ 0)
-IsCommandLine words (command.Release of) = HasForm words (codes "release") 2 × IsNameAt words 1 of
 IsCommandLine words (command.Close of) = HasForm words (codes "close") 2 × IsNameAt words 1 of
-IsCommandLine words _ = ⊥
+-- `read ..`, `header N`, `user N`, `release N`: calls of a sample; all but the last of a loan too.
+IsCommandLine words (command.Read of at) = IsReadLine words of at
+IsCommandLine words (command.ReadHeader of) = HasForm words (codes "header") 2 × IsNameAt words 1 of
+IsCommandLine words (command.ReadUserHeader of) = HasForm words (codes "user") 2 × IsNameAt words 1 of
+IsCommandLine words (command.Release of) = HasForm words (codes "release") 2 × IsNameAt words 1 of
 
 -- A line is UTF-8, and its words name these settings.
 abbrev pub NamesDomain : List ℕ → ServiceConfig → Type 0

@@ -7,7 +7,7 @@ use Rattle.iox2_commands.specs.declared.reply.Reply.{Reply}
 use Rattle.iox2_commands.specs.declared.reply.Reply.TheVariants as reply
 
 -- The words of a reply: what was asked for, or `ok`; `none` for what isn't there; `err` and the error's text for a
--- refusal. The last three replies come from no line of a script.
+-- refusal. Of a header they are the node, the publisher and the number of elements.
 abbrev pub reply_text : Reply ℕ ℕ → List ℕ
 reply_text reply.Done = codes "ok"
 reply_text reply.Skipped = codes "skipped"
@@ -28,9 +28,9 @@ reply_text (reply.Has true) = codes "true"
 reply_text (reply.Has false) = codes "false"
 reply_text (reply.Cell None) = codes "none"
 reply_text (reply.Cell (Some value)) = codes "ok " ++ decimal value
-reply_text reply.Unwritten = codes "ok"
-reply_text (reply.Header header) = codes "ok"
-reply_text (reply.UserHeader header) = codes "ok"
+reply_text reply.Unwritten = codes "unwritten"
+reply_text (reply.Header header) = codes "ok " ++ decimal header.node_id ++ codes " " ++ decimal header.publisher_id ++ codes " " ++ decimal header.number_of_elements
+reply_text (reply.UserHeader value) = codes "ok " ++ decimal value
 
 -- A reply is printed on a line of its own, which a line feed ends.
 abbrev pub reply_line : Reply ℕ ℕ → List ℕ

@@ -8,6 +8,6 @@ mod print;
 mod warnings;
 
 pub use failure::ScriptError;
-pub use parse::Script;
+pub use parse::{Script, command_of, domain_of};
 pub use print::reply_lines;
 pub use warnings::{WARNING_ROOM, warning_lines};

@@ -1,9 +1,14 @@
 //! What the lines of a script ask for.
-ghost use Rattle.std.specs.Prelude.{◌≡◌, ◌↔◌, ◌<◌, ℕ, Bool, IfErr, IfNone, IfOk, IfSome, IsSome, length};
+ghost use Rattle.std.specs.Prelude.{◌≡◌, ◌↔◌, ◌<◌, ◌*◌, ◌+◌, ℕ, Bool, Option, IfErr, IfNone, IfOk, IfSome, IsSome, length};
+ghost use Rattle.std.specs.Duration.{as_nanos};
+ghost use Rattle.iox2_store.specs.declared.allocation.AllocationStrategy.{AllocationStrategy};
+ghost use Rattle.iox2_store.specs.declared.backpressure.BackpressureAction.{BackpressureAction};
+ghost use Rattle.iox2_store.specs.declared.degradation.DegradationAction.{DegradationAction};
+ghost use Rattle.iox2_store.specs.declared.service_config.TypeVariant.{TypeVariant};
 ghost use Rattle.iox2_store.specs.declared.backpressure.BackpressureStrategy.{BackpressureStrategy};
 ghost use Rattle.iox2_store.specs.declared.service_config.ServiceConfig.{ServiceConfig};
 ghost use Rattle.iox2_commands.specs.declared.command.Command.{Command};
-ghost use Rattle.script_text.specs.Commands.{IsCommandLine, IsDomainLine, IsMode, IsStrategy, NamesCommand, NamesDomain};
+ghost use Rattle.script_text.specs.Commands.{IsAllocation, IsCommandLine, IsDegradation, IsDomainLine, IsHandler, IsKind, IsMode, IsSizeOrMost, IsStrategy, NamesCommand, NamesDomain};
 ghost use Rattle.script_text.specs.Numbers.{IsNumber, position_of, value_of};
 ghost use Rattle.script_text.specs.ScriptText.{IsRefused, IsScript};
 ghost use Rattle.script_text.specs.Words.{line_words, texts, words_in};
@@ -12,7 +17,10 @@ use crate::failure::ScriptError;
 use crate::lines::Lines;
 use arrayvec::ArrayVec;
 use iox2_commands::Command;
-use iox2_store::{AllocationStrategy, BackpressureStrategy, DegradationAction, ServiceConfig};
+use iox2_store::{
+    AllocationStrategy, BackpressureAction, BackpressureStrategy, DegradationAction, ServiceConfig,
+    TypeVariant,
+};
 use std::alloc::Global;
 use std::time::Duration;
 
@@ -51,7 +59,8 @@ impl Script {
     }
 }
 
-fn domain_of(line: &[u8]) -> Option<ServiceConfig>
+/// The settings that a line names, if it is the first of a script: `domain 1 1 2 1 0 0 keep` names some.
+pub fn domain_of(line: &[u8]) -> Option<ServiceConfig>
     ensures reads { IfSome result (NamesDomain line.now) }
     ensures refuses { IfNone result ((config : ServiceConfig) → ¬ NamesDomain line.now config) }
 {
@@ -62,7 +71,9 @@ fn domain_of(line: &[u8]) -> Option<ServiceConfig>
     parse_domain(&words)
 }
 
-fn command_of(line: &[u8]) -> Option<Command<u64, u64>>
+/// The command that a line of a script after the first names, if it names one: `loan 4` names
+/// `LoanUninit` of the command at position 3.
+pub fn command_of(line: &[u8]) -> Option<Command<u64, u64>>
     ensures reads { IfSome result (NamesCommand line.now) }
     ensures refuses { IfNone result ((command : Command ℕ ℕ) → ¬ NamesCommand line.now command) }
 {
@@ -73,7 +84,8 @@ fn command_of(line: &[u8]) -> Option<Command<u64, u64>>
     parse_command(&words)
 }
 
-/// The settings that a domain line names: `domain P S B R H E overflow` or `.. keep`.
+/// The settings that a domain line names: `domain P S B R H E overflow` or `.. keep`, or `slices ..`
+/// where messages are slices.
 ///
 /// `P` and `S` are the greatest numbers of publishers and subscribers, `B` is the greatest buffer,
 /// `R` the greatest number of borrowed samples, `H` the history size, and `E` the room for departed
@@ -83,7 +95,7 @@ fn parse_domain(words: &[&str]) -> Option<ServiceConfig>
     ensures refuses { IfNone result ((config : ServiceConfig) → ¬ IsDomainLine (words_in words.now) config) }
 {
     let [
-        "domain",
+        kind,
         publishers,
         subscribers,
         buffer,
@@ -97,6 +109,7 @@ fn parse_domain(words: &[&str]) -> Option<ServiceConfig>
     };
     Some(ServiceConfig {
         node_id: 1,
+        variant: parse_kind(kind)?,
         max_publishers: parse_size(publishers)?,
         max_subscribers: parse_size(subscribers)?,
         subscriber_max_buffer_size: parse_size(buffer)?,
@@ -122,12 +135,25 @@ fn parse_mode(word: &str) -> Option<bool>
     }
 }
 
+/// What messages are: single values, as `domain` says, or slices.
+fn parse_kind(word: &str) -> Option<TypeVariant>
+    ensures reads { IfSome result (IsKind word.now) }
+    ensures refuses { IfNone result ((variant : TypeVariant) → ¬ IsKind word.now variant) }
+{
+    match word {
+        "domain" => Some(TypeVariant::FixedSize),
+        "slices" => Some(TypeVariant::Dynamic),
+        _ => None,
+    }
+}
+
 /// The command that a line after the first names.
 fn parse_command(words: &[&str]) -> Option<Command<u64, u64>>
     ensures reads { IfSome result (IsCommandLine (words_in words.now)) }
     ensures refuses { IfNone result ((command : Command ℕ ℕ) → ¬ IsCommandLine (words_in words.now) command) }
 {
     let command = match *words {
+        ["nothing"] => Command::Nothing,
         ["pub", loans, strategy] => Command::CreatePublisher {
             loans: parse_size(loans)?,
             strategy: parse_strategy(strategy)?,
@@ -137,22 +163,42 @@ fn parse_command(words: &[&str]) -> Option<Command<u64, u64>>
             degradation: DegradationAction::Warn,
             backpressure: None,
         },
+        [
+            "pub",
+            loans,
+            strategy,
+            allocation,
+            len,
+            slots,
+            degradation,
+            handler,
+        ] => Command::CreatePublisher {
+            loans: parse_size(loans)?,
+            strategy: parse_strategy(strategy)?,
+            allocation: parse_allocation(allocation)?,
+            initial_max_slice_len: parse_size(len)?,
+            override_slots: parse_size_or_most(slots)?,
+            degradation: parse_degradation(degradation)?,
+            backpressure: parse_handler(handler)?,
+        },
         ["sub", buffer] => Command::CreateSubscriber {
-            buffer: Some(parse_size(buffer)?),
+            buffer: parse_size_or_most(buffer)?,
             degradation: DegradationAction::Warn,
         },
-        ["write", of, value] => Command::WriteAll {
-            of: parse_name(of)?,
-            value: parse_number(value)?,
+        ["sub", buffer, degradation] => Command::CreateSubscriber {
+            buffer: parse_size_or_most(buffer)?,
+            degradation: parse_degradation(degradation)?,
         },
-        ["copy", of, value] => Command::SendCopy {
+        ["retry", of, seconds, nanoseconds] => Command::Retry {
             of: parse_name(of)?,
-            value: parse_number(value)?,
+            elapsed: parse_elapsed(seconds, nanoseconds)?,
         },
         [call, of] => {
             let of = parse_name(of)?;
             match call {
                 "loan" => Command::LoanUninit { of },
+                "default" => Command::Loan { of },
+                "init" => Command::AssumeInit { of },
                 "send" => Command::Send { of },
                 "discard" => Command::Discard { of },
                 "retry" => Command::Retry {
@@ -164,14 +210,118 @@ fn parse_command(words: &[&str]) -> Option<Command<u64, u64>>
                 "recv" => Command::Receive { of },
                 "has" => Command::HasSamples { of },
                 "read" => Command::Read { of, at: 0 },
+                "header" => Command::ReadHeader { of },
+                "user" => Command::ReadUserHeader { of },
                 "release" => Command::Release { of },
                 "close" => Command::Close { of },
+                _ => return None,
+            }
+        }
+        [call, of, number] => {
+            let of = parse_name(of)?;
+            match call {
+                "slice" => Command::LoanSlice {
+                    of,
+                    len: parse_size(number)?,
+                },
+                "write" => Command::WriteAll {
+                    of,
+                    value: parse_number(number)?,
+                },
+                "user" => Command::WriteHeader {
+                    of,
+                    value: parse_number(number)?,
+                },
+                "copy" => Command::SendCopy {
+                    of,
+                    value: parse_number(number)?,
+                },
+                "read" => Command::Read {
+                    of,
+                    at: parse_size(number)?,
+                },
+                _ => return None,
+            }
+        }
+        [call, of, at, value] => {
+            let of = parse_name(of)?;
+            let at = parse_size(at)?;
+            let value = parse_number(value)?;
+            match call {
+                "cell" => Command::WriteCell { of, at, value },
+                "set" => Command::SetPayload { of, at, value },
                 _ => return None,
             }
         }
         _ => return None,
     };
     Some(command)
+}
+
+/// How a publisher's memory grows.
+fn parse_allocation(word: &str) -> Option<AllocationStrategy>
+    ensures reads { IfSome result (IsAllocation word.now) }
+    ensures refuses { IfNone result ((allocation : AllocationStrategy) → ¬ IsAllocation word.now allocation) }
+{
+    match word {
+        "static" => Some(AllocationStrategy::Static),
+        "bestfit" => Some(AllocationStrategy::BestFit),
+        "poweroftwo" => Some(AllocationStrategy::PowerOfTwo),
+        _ => None,
+    }
+}
+
+/// The answer to a connection that is refused memory.
+fn parse_degradation(word: &str) -> Option<DegradationAction>
+    ensures reads { IfSome result (IsDegradation word.now) }
+    ensures refuses { IfNone result ((degradation : DegradationAction) → ¬ IsDegradation word.now degradation) }
+{
+    match word {
+        "ignore" => Some(DegradationAction::Ignore),
+        "warn" => Some(DegradationAction::Warn),
+        "fail" => Some(DegradationAction::DegradeAndFail),
+        _ => None,
+    }
+}
+
+/// The answer of a handler of full buffers; `none` says that there is no handler.
+fn parse_handler(word: &str) -> Option<Option<BackpressureAction>>
+    ensures reads { IfSome result (IsHandler word.now) }
+    ensures refuses { IfNone result ((handler : Option BackpressureAction) → ¬ IsHandler word.now handler) }
+{
+    match word {
+        "none" => Some(None),
+        "follow" => Some(Some(BackpressureAction::FollowBackpressureyStrategy)),
+        "retry" => Some(Some(BackpressureAction::Retry)),
+        "discard" => Some(Some(BackpressureAction::DiscardData)),
+        "fail" => Some(Some(BackpressureAction::DiscardDataAndFail)),
+        _ => None,
+    }
+}
+
+/// A number, or `most`, which names none.
+fn parse_size_or_most(word: &str) -> Option<Option<usize>>
+    ensures reads { IfSome result (IsSizeOrMost word.now) }
+    ensures refuses { IfNone result ((size : Option ℕ) → ¬ IsSizeOrMost word.now size) }
+{
+    if word == "most" {
+        return Some(None);
+    }
+    Some(Some(parse_size(word)?))
+}
+
+/// So many seconds, and fewer than a billion nanoseconds.
+fn parse_elapsed(seconds: &str, nanoseconds: &str) -> Option<Duration>
+    ensures known { IsSome result ↔ IsNumber seconds.now × IsNumber nanoseconds.now × (value_of nanoseconds.now < 1000000000) }
+    ensures value { IfSome result (λ elapsed. as_nanos elapsed ≡ value_of seconds.now * 1000000000 + value_of nanoseconds.now) }
+{
+    let seconds = parse_number(seconds)?;
+    let nanoseconds = parse_number(nanoseconds)?;
+    if nanoseconds < 1_000_000_000 {
+        Some(Duration::new(seconds, nanoseconds as u32))
+    } else {
+        None
+    }
 }
 
 /// What a publisher does with a full receiver: `retry` waits for it, `discard` passes it over.

@@ -36,6 +36,14 @@ fn push_reply(text: &mut String, reply: &Reply<u64, u64>) -> Result<(), AllocErr
         Reply::ReceiveRefused(error) => write!(text, "err {error}"),
         Reply::Delivered(count) => write!(text, "ok {count}"),
         Reply::Cell(Some(value)) => write!(text, "ok {value}"),
+        Reply::UserHeader(value) => write!(text, "ok {value}"),
+        Reply::Header(header) => {
+            let node = header.node_id.value();
+            let publisher = header.publisher_id.value();
+            let elements = header.number_of_elements;
+            write!(text, "ok {node} {publisher} {elements}")
+        }
+        Reply::Unwritten => text.push_str("unwritten"),
         Reply::Skipped => text.push_str("skipped"),
         Reply::Blocked => text.push_str("blocked"),
         Reply::Sample(_) => text.push_str("sample"),
@@ -45,7 +53,5 @@ fn push_reply(text: &mut String, reply: &Reply<u64, u64>) -> Result<(), AllocErr
         Reply::Done | Reply::PublisherMade(_) | Reply::SubscriberMade(_) | Reply::Loaned => {
             text.push_str("ok")
         }
-        // No line of a script gets these replies.
-        Reply::Unwritten | Reply::Header(_) | Reply::UserHeader(_) => text.push_str("ok"),
     }
 }

@@ -7,7 +7,7 @@ use iox2_pubsub::{BlockedSend, Publisher, Sample, SampleMut, SampleMutUninit, Su
 use std::mem;
 
 /// What a command made, while nobody has spent it.
-pub(crate) enum Made {
+pub enum Made {
     /// It made nothing, or that was spent.
     Nothing,
     /// A publisher.
@@ -25,8 +25,8 @@ pub(crate) enum Made {
 }
 
 impl Made {
-    // Spends the handle. What it named in the domain stays.
-    fn disown(self) {
+    /// Spends the handle. What it named in the domain stays.
+    pub fn disown(self) {
         match self {
             Made::Nothing => {}
             Made::Publisher(publisher) => publisher.disown(),
@@ -40,7 +40,7 @@ impl Made {
 }
 
 /// Spends each of the handles.
-pub(crate) fn disown_all(mut table: Vec<Made>) {
+pub fn disown_all(mut table: Vec<Made>) {
     while let Some(made) = table.pop() {
         made.disown();
     }

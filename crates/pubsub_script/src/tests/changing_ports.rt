@@ -98,3 +98,24 @@ fn each_message_arrives_while_ports_come_and_go(rt: HostRuntime) -> Result<(), F
     plan.assert(&rt, rt.alloc());
     Ok(())
 }
+
+// The last two are the 601st and the 602nd of the domain.
+#[test]
+fn ports_are_made_and_closed_many_times(rt: HostRuntime) -> Result<(), Fail> {
+    let mut plan = Plan::new(rt.alloc(), "domain 1 1 1 1 0 1 keep")?;
+    for _ in 0..300 {
+        let subscriber = plan.call("sub", 1, "ok")?;
+        write!(plan.text, "pub 1 discard")?;
+        let publisher = plan.end("ok")?;
+        plan.call("close", subscriber, "ok")?;
+        plan.call("close", publisher, "ok")?;
+    }
+    let subscriber = plan.call("sub", 1, "ok")?;
+    write!(plan.text, "pub 1 discard")?;
+    let publisher = plan.end("ok")?;
+    plan.copy(rt.alloc(), publisher, 5, 1)?;
+    let sample = plan.call("recv", subscriber, "sample")?;
+    plan.call("read", sample, "ok 5")?;
+    plan.assert(&rt, rt.alloc());
+    Ok(())
+}

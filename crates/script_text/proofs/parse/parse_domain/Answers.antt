@@ -4,7 +4,9 @@ use Rattle.script_text.proofs.parse.parse_domain.Goals as goal
 
 pub returns-clause-reads : goal.returns-clause-reads
 returns-clause-reads c = record {
-  form = search rules;
+  count = search rules;
+  variant = c.in_ok-parse_kind.field-0;
+  kind = search rules;
   publishers = search rules;
   subscribers = search rules;
   buffer = search rules;
@@ -13,5 +15,5 @@ returns-clause-reads c = record {
   expired = search rules;
   overflow = c.in_ok-parse_mode.field-0;
   mode = search rules;
-  settings = rw c.new.ensures (λ k. script_config (c.in_ok-parse_size.ensures.value k) (c.in_ok-parse_size-2.ensures.value k) (c.in_ok-parse_size-3.ensures.value k) (c.in_ok-parse_size-4.ensures.value k) (c.in_ok-parse_size-5.ensures.value k) (c.in_ok-parse_size-6.ensures.value k) c.in_ok-parse_mode.field-0);
+  settings = rw c.new.ensures (λ k. script_config c.in_ok-parse_kind.field-0 (c.in_ok-parse_size.ensures.value k) (c.in_ok-parse_size-2.ensures.value k) (c.in_ok-parse_size-3.ensures.value k) (c.in_ok-parse_size-4.ensures.value k) (c.in_ok-parse_size-5.ensures.value k) (c.in_ok-parse_size-6.ensures.value k) c.in_ok-parse_mode.field-0);
 }

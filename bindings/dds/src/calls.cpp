@@ -1,0 +1,103 @@
+/* The calls of iox2_pubsub_dds.h. */
+#include "gateway.hpp"
+
+#include <algorithm>
+#include <cstring>
+
+using iox2ps::dds::detail::Gateway;
+using iox2ps::dds::detail::Group;
+using iox2ps::dds::detail::Nanoseconds;
+
+struct iox2ps_dds_gateways_t {
+  std::shared_ptr<Group> group;
+};
+
+struct iox2ps_dds_gateway_t {
+  std::unique_ptr<Gateway> gateway;
+};
+
+namespace {
+
+void say(const std::string &words, char *why, std::size_t room) {
+  if (!why || room == 0) return;
+  std::size_t len = std::min(words.size(), room - 1);
+  std::memcpy(why, words.data(), len);
+  why[len] = 0;
+}
+
+/* What DDS takes as a time that ends. */
+Nanoseconds time_of(std::uint64_t nanoseconds) {
+  return Nanoseconds(static_cast<std::int64_t>(std::min<std::uint64_t>(nanoseconds, std::uint64_t{1} << 60)));
+}
+
+constexpr std::uint32_t ok = IOX2PS_OK, timed_out = IOX2PS_DDS_TIMEOUT, unknown = IOX2PS_DDS_UNKNOWN;
+
+} // namespace
+
+extern "C" {
+
+std::uint32_t iox2ps_dds_gateways_open(std::uint32_t dds_domain, std::size_t max_message_size, iox2ps_dds_gateways_t **gateways,
+                                       char *why, std::size_t room) {
+  std::string words;
+  std::shared_ptr<Group> group = Group::open(dds_domain, max_message_size, words);
+  say(words, why, room);
+  if (!group) return IOX2PS_DDS_REFUSED;
+  *gateways = new iox2ps_dds_gateways_t{std::move(group)};
+  return ok;
+}
+
+void iox2ps_dds_gateways_close(iox2ps_dds_gateways_t *gateways) { delete gateways; }
+
+void iox2ps_dds_forward(iox2ps_dds_gateways_t *gateways, std::size_t most, iox2ps_dds_forwarded_t *forwarded) {
+  *forwarded = gateways->group->forward(most);
+}
+
+void iox2ps_dds_wait(iox2ps_dds_gateways_t *gateways, std::uint64_t nanoseconds, std::size_t most,
+                     iox2ps_dds_forwarded_t *forwarded) {
+  *forwarded = gateways->group->wait(time_of(nanoseconds), most);
+}
+
+void iox2ps_dds_wake(iox2ps_dds_gateways_t *gateways) { gateways->group->wake(); }
+
+std::uint32_t iox2ps_dds_flush(iox2ps_dds_gateways_t *gateways, std::uint64_t nanoseconds) {
+  return gateways->group->flush(time_of(nanoseconds)) ? ok : timed_out;
+}
+
+void iox2ps_dds_settings_defaults(iox2ps_dds_settings_t *settings, std::size_t element_size, std::uint32_t is_slice) {
+  *settings = iox2ps_dds_settings_t{};
+  settings->element_size = element_size;
+  settings->is_slice = is_slice;
+  settings->reader_limit = 64;
+}
+
+std::uint32_t iox2ps_dds_gateway_open(iox2ps_dds_gateways_t *gateways, iox2ps_domain_t *domain,
+                                      const iox2ps_dds_settings_t *settings, iox2ps_dds_gateway_t **gateway, char *why,
+                                      std::size_t room) {
+  std::string words;
+  std::unique_ptr<Gateway> made;
+  std::uint32_t code = Gateway::open(gateways->group, domain, *settings, made, words);
+  say(words, why, room);
+  if (code == ok) *gateway = new iox2ps_dds_gateway_t{std::move(made)};
+  return code;
+}
+
+void iox2ps_dds_gateway_close(iox2ps_dds_gateway_t *gateway) { delete gateway; }
+
+void iox2ps_dds_counts(const iox2ps_dds_gateway_t *gateway, iox2ps_dds_counts_t *counts) {
+  *counts = gateway->gateway->counts().read();
+}
+
+void iox2ps_dds_peers(iox2ps_dds_gateway_t *gateway, iox2ps_dds_peers_t *peers) {
+  *peers = gateway->gateway->topic().peers();
+}
+
+iox2ps_wide_t iox2ps_dds_publisher(const iox2ps_dds_gateway_t *gateway) { return gateway->gateway->publisher(); }
+
+std::uint32_t iox2ps_dds_origin(iox2ps_dds_gateway_t *gateway, iox2ps_wide_t number, iox2ps_dds_origin_t *origin) {
+  return gateway->gateway->incoming().origin(number, *origin) ? ok : unknown;
+}
+
+std::uint32_t iox2ps_dds_start(iox2ps_dds_gateway_t *gateway) { return gateway->gateway->start(); }
+void iox2ps_dds_stop(iox2ps_dds_gateway_t *gateway) { gateway->gateway->stop(); }
+
+} // extern "C"

@@ -1,0 +1,137 @@
+#!/usr/bin/env python3
+"""Builds the gateway to DDS beside the library, and runs all its tests: everything.py BINDINGS_OUT [quick].
+
+BINDINGS_OUT is the folder that tools/bindings makes; the gateway is built into a copy of it, which is then moved. Each step is
+a line; the last one is `N passed, M failed`. Where Cyclone DDS isn't there nothing is run, and a line says so. With `quick`
+the programs aren't run under the sanitizers and valgrind again."""
+import os, re, shutil, subprocess, sys, tempfile
+
+here = os.path.dirname(os.path.abspath(__file__))
+source = os.path.dirname(here)
+readme = os.path.join(source, "..", "README.md")
+out = os.path.abspath(sys.argv[1])
+quick = "quick" in sys.argv[2:]
+work = tempfile.mkdtemp()
+passed = failed = 0
+loopback = ("<CycloneDDS><Domain Id='any'><General><Interfaces><NetworkInterface name='lo'/></Interfaces><AllowMulticast>false"
+            "</AllowMulticast></General><Discovery><ParticipantIndex>auto</ParticipantIndex><Peers><Peer Address='127.0.0.1'/>"
+            "</Peers></Discovery></Domain></CycloneDDS>")
+sanitizers = "-fsanitize=address,undefined -fno-sanitize-recover=all -g -O1"
+suppressions = "--suppressions=" + os.path.join(here, "cyclonedds.supp")
+grind = "valgrind --quiet --leak-check=full --error-exitcode=9 --errors-for-leak-kinds=definite,indirect " + suppressions
+# Tests that look at one thing each, with few messages.
+few = ["small", "several", "large", "overflow", "both_ways", "late_joiner", "receiver_killed", "sender_killed", "typed_values",
+       "bad_frames", "other_struct", "same_name_other_structure", "second_gateway", "many_domains", "gateways_come_and_go",
+       "threads", "c_calls", "leaves_full"]
+ground = ["typed_values", "several", "bad_frames", "other_struct", "second_gateway", "many_domains", "late_joiner", "c_calls"]
+
+def run(words, limit=120, **more):
+    done = subprocess.run(words, stdout=subprocess.PIPE, stderr=subprocess.STDOUT, text=True, timeout=limit,
+                          env=dict(os.environ, CYCLONEDDS_URI=loopback), **more)
+    if done.returncode != 0: raise AssertionError("%s\n%s" % (" ".join(words), done.stdout[-4000:]))
+    return done.stdout
+
+def step(name, what):
+    global passed, failed
+    try: said = what()
+    except Exception as wrong:
+        failed += 1
+        print("FAILED  dds: %s\n%s" % (name, wrong), flush=True)
+        return False
+    passed += 1
+    print("ok      dds: %s: %s" % (name, said), flush=True)
+    return True
+
+def build(name, prefix, *options):
+    folder = os.path.join(work, name)
+    run(["cmake", "-S", source, "-B", folder, "-DCMAKE_PREFIX_PATH=" + prefix] + list(options))
+    run(["cmake", "--build", folder], 600)
+    return folder
+
+def install():
+    """Into a copy of the library's folder, which then moves."""
+    copy, moved = os.path.join(work, "copy"), os.path.join(work, "moved")
+    shutil.copytree(out, copy)
+    folder = build("install", copy)
+    run(["cmake", "--install", folder, "--prefix", copy])
+    os.rename(copy, moved)
+    return "libiox2_pubsub_dds.a of %d KB" % (os.path.getsize(os.path.join(moved, "lib/libiox2_pubsub_dds.a")) // 1000)
+
+def headers_alone():
+    flags = ["-Wall", "-Wextra", "-Wpedantic", "-Wshadow", "-Werror", "-fsyntax-only", "-I", os.path.join(out, "include")]
+    include = os.path.join(source, "include")
+    for standard in ("c11", "c17"): run(["gcc", "-x", "c", "-std=" + standard] + flags + [os.path.join(include, "iox2_pubsub_dds.h")])
+    for standard in ("c++17", "c++20"):
+        for name in ("iox2_pubsub_dds.h", "iox2_pubsub_dds.hpp"):
+            run(["g++", "-x", "c++", "-std=" + standard] + flags + [os.path.join(include, name)])
+    return "as C11, C17, C++17 and C++20"
+
+def two(program, words):
+    """Two processes of a program that ends by itself, each of which has to print these words of the other."""
+    both = [subprocess.Popen([program], stdout=subprocess.PIPE, text=True, env=dict(os.environ, CYCLONEDDS_URI=loopback)) for _ in "ab"]
+    try: said = [one.communicate(timeout=60)[0] for one in both]
+    finally:
+        for one in both: one.kill()
+    for text in said: assert words in text, text[:500]
+    return "each of two processes prints the other's readings"
+
+def example():
+    moved, folder = os.path.join(work, "moved"), os.path.join(work, "example")
+    run(["cmake", "-S", os.path.join(source, "example"), "-B", folder, "-DCMAKE_PREFIX_PATH=" + moved])
+    run(["cmake", "--build", folder])
+    return two(os.path.join(folder, "gateway"), "from elsewhere")
+
+def page():
+    """The program of the page, and its own line for the compiler."""
+    text = open(readme).read()
+    program = re.search(r"^```c\+\+\n(.*?)^```$", text, re.M | re.S).group(1)
+    line = re.search(r"^    (g\+\+ .*first_dds.*) && \./first_dds$", text, re.M).group(1)
+    with open(os.path.join(work, "first_dds.cpp"), "w") as file: file.write(program)
+    run(line.replace("bindings/out", os.path.join(work, "moved")).split(), cwd=work)
+    return two(os.path.join(work, "first_dds"), "from another process")
+
+def rust(plain):
+    """The crate's feature, with a program in C++ on the other side too."""
+    environment = dict(os.environ, IOX2_PUBSUB_LIB_DIR=os.path.join(work, "moved", "lib"), CARGO_TARGET_DIR=os.path.join(work, "target"),
+                       IOX2PS_DDS_CASES=os.path.join(plain, "cases"), CYCLONEDDS_URI=loopback)
+    words = ["cargo", "test", "-j1", "--offline", "--quiet", "--features", "dds", "--test", "dds"]
+    done = subprocess.run(words, cwd=os.path.join(source, "..", "rust"), stdout=subprocess.PIPE, stderr=subprocess.STDOUT, text=True,
+                          timeout=300, env=environment)
+    assert done.returncode == 0, done.stdout[-4000:]
+    return re.search(r"test result: (.*?);", done.stdout).group(1)
+
+def tests(folder, names=(), **environment):
+    def what():
+        done = subprocess.run([sys.executable, os.path.join(here, "run.py"), folder] + list(names), stdout=subprocess.PIPE, text=True,
+                              env=dict(os.environ, **environment), timeout=1200)
+        print("".join("  " + line + "\n" for line in done.stdout.splitlines()[:-1]), end="", flush=True)
+        assert done.returncode == 0, done.stdout.splitlines()[-1]
+        return done.stdout.splitlines()[-1]
+    return what
+
+def all_steps():
+    step("headers alone", headers_alone)
+    if not step("build, install and move", install): return
+    step("example", example)
+    step("the program of bindings/README.md", page)
+    plain = build("plain", os.path.join(work, "moved"), "-DIOX2PS_DDS_TESTS=ON")
+    step("frames", lambda: run([os.path.join(plain, "frames")]).strip())
+    step("between processes", tests(plain))
+    if shutil.which("cargo"): step("rust", lambda: rust(plain))
+    else: print("not there, and so not run: cargo")
+    if quick: return
+    flags = ["-DCMAKE_%s_FLAGS=%s" % (language, sanitizers) for language in ("C", "CXX")]
+    sane = build("sanitized", os.path.join(work, "moved"), "-DIOX2PS_DDS_TESTS=ON", "-DCMAKE_BUILD_TYPE=None", *flags)
+    step("frames, sanitizers", lambda: run([os.path.join(sane, "frames")]).strip())
+    step("between processes, sanitizers", tests(sane, few, FEW="1", SLOWER="3"))
+    if shutil.which("valgrind"): step("between processes, valgrind", tests(plain, ground, FEW="1", SLOWER="8", WRAP=grind))
+    else: print("not there, and so not run: valgrind")
+
+if __name__ == "__main__":
+    if not shutil.which("idlc") or not shutil.which("cmake") or not (os.path.exists("/usr/include/dds/dds.h") or os.environ.get("CycloneDDS_DIR")):
+        print("not there, and so not run: Cyclone DDS (cyclonedds-dev, cyclonedds-tools) or cmake")
+    else:
+        try: all_steps()
+        finally: shutil.rmtree(work, ignore_errors=True)
+    print("%d passed, %d failed" % (passed, failed))
+    sys.exit(failed > 0)

@@ -1,0 +1,62 @@
+"""Starts the programs of the tests as processes that talk over loopback, and ends them."""
+import atexit, json, os, shutil, signal, subprocess, sys, tempfile, time
+
+folder = os.path.abspath(sys.argv[1])
+with_gateway = ("peer", "cases", "calls")
+wrapper = os.environ.get("WRAP", "").split()
+slower = float(os.environ.get("SLOWER", "1"))  # under valgrind
+few = os.environ.get("FEW")  # fewer messages, for slow checkers
+work = tempfile.mkdtemp()
+atexit.register(shutil.rmtree, work, True)
+turn = 0
+started = []
+
+def uri(lease=None, extra=""):
+    discovery = "<LeaseDuration>%s</LeaseDuration>" % lease if lease else ""
+    return ("<CycloneDDS><Domain id='any'><General><Interfaces><NetworkInterface name='lo'/></Interfaces>"
+            "<AllowMulticast>false</AllowMulticast></General><Discovery><ParticipantIndex>auto</ParticipantIndex>"
+            "<Peers><Peer Address='127.0.0.1'/></Peers>" + discovery + "</Discovery>" + extra + "</Domain></CycloneDDS>")
+
+def start(program, role, where=None, **options):
+    words = ["nice", "-n", "10"] + (wrapper if program in with_gateway else []) + [os.path.join(folder, program), role]
+    if program == "liar": words.pop(); words += [options["topic"], str(options["count"])]
+    elif program == "calls": words += [str(options["count"]), options["topic"]]
+    else:
+        for name, value in options.items(): words += [name, str(value)]
+    log = tempfile.TemporaryFile("w+")  # no pipe: a full one would stop the threads of DDS, which write there too
+    process = subprocess.Popen(words, stdout=subprocess.PIPE, stderr=log, text=True,
+                               env=dict(os.environ, CYCLONEDDS_URI=where or uri()))
+    process.log = log
+    started.append(process)
+    return process
+
+def end_all():
+    """What a test that failed has left."""
+    for process in started:
+        process.kill()
+        process.wait()
+    started.clear()
+
+def end(process, limit=60, killed=False):
+    try: out, _ = process.communicate(timeout=limit * slower)
+    except subprocess.TimeoutExpired:
+        process.kill(); process.communicate()
+        raise AssertionError("no end after %d s" % (limit * slower))
+    process.log.seek(0)
+    err = process.err = process.log.read()
+    if killed:
+        assert process.returncode in (-signal.SIGKILL, 128 + signal.SIGKILL), (process.returncode, err)
+        return None
+    assert process.returncode == 0, (process.returncode, out, err[-3000:])
+    return json.loads(out.strip().splitlines()[-1]) if out.strip() else None
+
+def topic():
+    global turn
+    turn += 1
+    return "test/%d/%d" % (os.getpid(), turn)
+
+def wait_for(path, limit=20):
+    until = time.time() + limit * slower
+    while not os.path.exists(path):
+        assert time.time() < until, "not ready"
+        time.sleep(0.02)

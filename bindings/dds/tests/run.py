@@ -1,0 +1,305 @@
+#!/usr/bin/env python3
+"""Runs the tests of the gateway between processes on loopback: run.py FOLDER [NAME..]. FOLDER has their programs, as CMake
+builds them. The last line is `N passed, M failed`. Each process has a time limit, and only what this started is ended.
+
+Of the environment: WRAP is put before each program with a gateway (valgrind ..), SLOWER multiplies the time limits, and FEW
+makes it fewer messages."""
+import os, sys, time
+from processes import end, end_all, few, slower, start, topic, uri, wait_for, work
+
+def sound(got):
+    assert got["not_rising"] == 0 and got["changed"] == 0, got
+    for name in ("take_failed", "write_failed", "receive_failed", "not_sent", "no_loan"): assert got.get(name, 0) == 0, got
+
+def all_of_them(count, length, publishers=1, **options):
+    """Keep-all: each message comes once, in order."""
+    if few: count = max(count // 100, 20)
+    name = topic()
+    to = start("peer", "receive", topic=name, mode="retry", expect=count, max=length, publishers=publishers, **options)
+    of = start("peer", "send", topic=name, mode="retry", count=count, len=length, publishers=publishers, node=5, **options)
+    sent, got = end(of, 180), end(to, 180)
+    sound(got)
+    assert got["good"] == count and got["gaps"] == 0 and set(got["first"]) == {1} and got["missed"] == 0, got
+    assert sent["sent"] == count and sent["acknowledged"] == 1, sent
+    assert got["origins"] == publishers and got["node"] == 5 and got["from_here"] == 0, got
+    return "%d messages of %d B of %d publishers in %.2f s: %d/s" % (count, length, publishers, sent["all_s"], count / sent["all_s"])
+
+def small(): return all_of_them(100000, 64, buffer=64, limit=256, each=32)
+def several(): return all_of_them(30000, 64, publishers=5, buffer=64, each=32)
+def large(): return all_of_them(1000, 1000000, buffer=2, limit=16)
+def empty_buffers(): return all_of_them(2000, 64, buffer=1, limit=1)
+
+def slow_reader():
+    """A slow reader holds back the sender's program: nothing is lost, and little waits."""
+    name, count = topic(), 40 if few else 1500
+    to = start("peer", "receive", topic=name, mode="retry", expect=count, max=20000, buffer=4, limit=8, slow_us=1000)
+    of = start("peer", "send", topic=name, mode="retry", count=count, len=20000, buffer=4, gentle=0)
+    sent, got = end(of, 90), end(to, 90)
+    sound(got)
+    assert got["good"] == count and got["gaps"] == 0, got
+    return "%d of %d, at most %d held, sending took %.2f s" % (got["good"], count, sent["most_held"], sent["sending_s"])
+
+def overflow():
+    """Keep-last: in order, at most once, and what isn't there is counted."""
+    name, count = topic(), 300 if few else 20000
+    to = start("peer", "receive", topic=name, expect=count, idle=2, buffer=8)
+    of = start("peer", "send", topic=name, count=count, buffer=8)
+    sent, got = end(of), end(to)
+    sound(got)
+    here = got["received"] - got["good"]  # what the domain's own full buffer let go
+    before = count - got["received"] - got["missed"]  # the topic's first ones, before any was taken
+    assert 0 <= before <= got["first"][0] - 1 and here >= 0, (sent, got)
+    assert got["good"] + got["gaps"] + got["first"][0] - 1 == count, (sent, got)
+    return "%d of %d came, %d missed and counted, %d let go by the domain's own buffer" % (got["good"], count, got["missed"], here)
+
+def both_ways():
+    """Both send and receive at once with small buffers, so that all of them are full: nobody is stuck."""
+    name, count = topic(), 200 if few else 4000
+    options = dict(topic=name, mode="retry", count=count, len=2000, buffer=2, limit=4)
+    first, second = start("peer", "both", **options), start("peer", "both", **options)
+    one, two = end(first, 120), end(second, 120)
+    for got in (one, two):
+        sound(got)
+        assert got["good"] == count and got["gaps"] == 0 and got["own_seen"] == count, got
+        assert got["sent"] == count and got["received"] == count, got
+        assert got["origins"] == 1 and got["from_here"] == 0 and got["own_origins"] == 0, got
+    return "%d each way in %.2f s; no message came back to its sender" % (count, max(one["all_s"], two["all_s"]))
+
+def late_joiner():
+    """A process that comes later gets the history, and then what follows."""
+    name = topic()
+    of = start("peer", "send", topic=name, count=50, history=10, buffer=16, peers=0, hold=8 * slower)
+    time.sleep(2 * slower)
+    to = start("peer", "receive", topic=name, history=10, buffer=16, expect=10, idle=2)
+    got, sent = end(to), end(of)
+    sound(got)
+    assert got["good"] == 10 and got["first"] == [41] and got["gaps"] == 0, got
+    return "of 50 messages the last 10 came, from the 41st on"
+
+def without_history():
+    name = topic()
+    of = start("peer", "send", topic=name, count=50, peers=0, hold=6 * slower)
+    time.sleep(2 * slower)
+    got = end(start("cases", "look", topic=name, hold=2)); end(of)
+    assert got["received"] == 0 and got["writers"] == 1, got
+    return "of 50 messages none came"
+
+def receiver_killed():
+    """The receiver is killed among messages, and another one starts: the sender goes on."""
+    name, count = topic(), 400 if few else 20000
+    where = uri(lease="1s")
+    first = start("peer", "receive", where, topic=name, mode="retry", die_after=count // 10, expect=count)
+    of = start("peer", "send", where, topic=name, mode="retry", count=count, every_us=100, flush=30)
+    end(first, 60, killed=True)
+    second = start("peer", "receive", where, topic=name, mode="retry", expect=count, idle=3)
+    sent, got = end(of, 90), end(second, 90)
+    sound(got)
+    assert sent["sent"] == count and got["gaps"] == 0 and got["good"] > 0, (sent, got)
+    assert got["first"][0] + got["good"] - 1 == count, got
+    return "killed after %d; the next had %d to %d without a gap, and the sender ended after %.1f s" % (
+        count // 10, got["first"][0], count, sent["all_s"])
+
+def sender_killed():
+    """The sender is killed and starts again: the receiver has both, each in order."""
+    name, count = topic(), 200 if few else 3000
+    where = uri(lease="1s")
+    to = start("peer", "receive", where, topic=name, mode="retry", expect=2 * count, idle=6, ready=os.path.join(work, "killed"))
+    wait_for(os.path.join(work, "killed"))
+    first = start("peer", "send", where, topic=name, mode="retry", count=10**9, every_us=300)
+    time.sleep(2 * slower)
+    first.kill(); end(first, killed=True)
+    second = start("peer", "send", where, topic=name, mode="retry", count=count)
+    sent, got = end(second), end(to, 90)
+    sound(got)
+    assert got["publishers"] == 2 and got["gaps"] == 0 and sent["sent"] == count, (sent, got)
+    return "%d of both processes, none out of order, twice or between left out" % got["good"]
+
+def bad_frames():
+    """Frames that fit no message are counted, the others come."""
+    name, rounds = topic(), 10
+    to = start("peer", "receive", topic=name, expect=10**9, idle=3, max=64, buffer=64, limit=256, mode="retry")
+    end(start("plain", "bad", topic=name, count=rounds, mode="retry")); got = end(to)
+    assert got["received"] == 2 * rounds, got  # the good one, and one without bytes
+    assert got["too_long"] == 2 * rounds and got["other_size"] == 3 * rounds, got
+    return "of %d frames %d too long, %d of another size, %d sent on" % (7 * rounds, got["too_long"], got["other_size"], got["received"])
+
+def bad_frames_for_values():
+    """The same to a domain of single values of 16 bytes: no frame says that it is one value of so many bytes but the last."""
+    name, rounds = topic(), 5
+    to = start("cases", "values", topic=name, expect=1, limit_s=4 * slower, mode="retry", buffer=64)
+    end(start("plain", "bad", topic=name, count=rounds, mode="retry")); got = end(to)
+    assert got["received"] == rounds and got["too_long"] == 4 * rounds and got["other_size"] == 2 * rounds, got
+    return "of %d frames %d too long, %d of another size, %d sent on" % (7 * rounds, got["too_long"], got["other_size"], got["received"])
+
+def hostile_lengths():
+    """Frames of 50 MB never take their memory where messages have 64 bytes, and the next good ones come."""
+    name, rounds = topic(), 4
+    to = start("peer", "receive", topic=name, expect=rounds, idle=5, max=64, buffer=64, limit=256, mode="retry")
+    end(start("plain", "hostile", topic=name, count=rounds, len=50000000, mode="retry")); got = end(to)
+    assert got["received"] == rounds and got["too_long"] == 0 and got["largest_kb"] < 40000, got
+    assert len(to.err.splitlines()) <= 100, to.err[-2000:]
+    return "%d good ones came after each, with %d MB at most; %d lines of log" % (rounds, got["largest_kb"] // 1000, len(to.err.splitlines()))
+
+def typed_values():
+    name = topic()
+    to = start("cases", "values", topic=name, expect=500, mode="retry", buffer=32)
+    end(start("cases", "values", topic=name, count=500, mode="retry", buffer=32)); got = end(to)
+    assert got["good"] == 500 and got["wrong"] == 0, got
+    return "500 values of a struct"
+
+def other_values(role, **options):
+    name = topic()
+    to = start("cases", role, topic=name, expect=1, limit_s=3 * slower, mode="retry", buffer=64, **options)
+    of = start("cases", "values", topic=name, count=50, mode="retry", buffer=64, hold=4 * slower)
+    got = end(to, 40); end(of); return got
+
+def other_payload_size():
+    """Values of 16 bytes meet a domain of slices of bytes: none comes, and each is counted."""
+    name = topic()
+    to = start("peer", "receive", topic=name, expect=10**9, idle=2, first=4 * slower, max=64, mode="retry")
+    of = start("cases", "values", topic=name, count=50, mode="retry"); end(of); got = end(to, 40)
+    assert got["received"] == 0 and got["other_type"] == 50, got
+    return "50 messages of another type counted"
+
+def other_struct():
+    """Another struct of the same size and alignment: its name tells it apart."""
+    got = other_values("voltages")
+    assert got["received"] == 0 and got["other_type"] == 50 and got["wrong"] == 0, got
+    assert got["other_types"] == 2 and "name=Reading" in got["other_type_name"], got
+    return "50 messages counted, of %s" % got["other_type_name"]
+
+def only_known():
+    """Frames of a program that says no type: taken by default, and passed over where the settings say so."""
+    def count(only):
+        name, rounds = topic(), 5
+        to = start("peer", "receive", topic=name, expect=10**9, idle=3, first=5 * slower, max=64, buffer=64, limit=256, mode="retry", only_known=only)
+        end(start("plain", "bad", topic=name, count=rounds, mode="retry")); return end(to)
+    taken, passed = count(0), count(1)
+    assert taken["received"] == 10 and passed["received"] == 0 and passed["other_type"] == 35, (taken, passed)
+    return "10 taken, 35 passed over"
+
+def second_gateway():
+    """A second gateway for a domain or a topic of a process is refused, and one for messages that are too long."""
+    got = end(start("cases", "twice", topic=topic()))
+    assert got == {"refused": 3, "sent": 1, "receivers": 1}, got
+    return "3 refused, and each domain and topic is free again after"
+
+def many_domains():
+    """Three domains of two processes, polled together: each process is one participant of DDS."""
+    name, count = topic(), 20 if few else 200
+    options = dict(topic=name, count=count, mode="retry", buffer=64, hold=3 * slower)
+    first, second = start("cases", "many", **options), start("cases", "many", **options)
+    seen = end(start("plain", "participants", topic=name, wait_s=int(2 * slower), hold=1))
+    for one in (end(first), end(second)): assert one == {"bytes": count, "readings": count, "numbers": count}, one
+    assert seen["participants"] == 3, seen  # its own too
+    return "%d messages of 3 types each way, by %d participants" % (count, seen["participants"] - 1)
+
+def gateways_come_and_go():
+    """Gateways are opened and closed while the reader of another one of the process is full: nobody hangs."""
+    name = topic()
+    to = start("cases", "churn", topic=name, mode="retry", max=2000, buffer=2, limit=4, count=20)
+    of = start("peer", "send", topic=name, mode="retry", count=200, len=2000, buffer=2, gentle=0, flush=30)
+    begun = time.time(); got = end(to, 40); took = time.time() - begun
+    end(of, 60)
+    assert got == {"opened": 20, "blocked": 1}, got
+    return "20 in %.1f s" % took
+
+def c_calls():
+    """A program in C, polled and with threads of its gateway's own under a lock of the program's."""
+    for how in ("polled", "threads"):
+        name, count = topic(), 50 if few else 500
+        for got in map(end, [start("calls", how, topic=name, count=count) for _ in "ab"]):
+            assert got == {"good": count, "wrong": 0, "sent": count, "flushed": 1}, got
+    return "%d each way, polled and with threads" % count
+
+def threads():
+    """Gateways with threads of their own, over domains that threads share."""
+    name, count = topic(), 200 if few else 20000
+    options = dict(topic=name, mode="retry", count=count, buffer=8)
+    first, second = start("cases", "threads", **options), start("cases", "threads", **options)
+    one, two = end(first, 90), end(second, 90)
+    for got in (one, two):
+        sound(got)
+        assert got["good"] == count and got["gaps"] == 0 and got["own_seen"] == count and got["flushed"] == 1, got
+        assert got["sent"] == count and got["received"] == count, got
+    return "%d each way in %.2f s" % (count, max(one["all_s"], two["all_s"]))
+
+def other_type():
+    name = topic()
+    other = start("plain", "other", topic=name, hold=6)
+    got = end(start("cases", "look", topic=name, hold=3)); end(other)
+    assert got["other_types"] >= 2 and got["other_type_name"] == "other::Thing" and got["writers"] == 0 and got["received"] == 0, got
+    return "%d endpoints of %s seen, none matched" % (got["other_types"], got["other_type_name"])
+
+def same_name_other_structure():
+    """Without type information the name alone is compared, as with ROS 2's types: each sample is counted, and nothing is
+    written to DDS's log."""
+    name, count = topic(), 500
+    to = start("peer", "receive", topic=name, expect=10**9, idle=3, first=5 * slower, max=64, mode="retry")
+    time.sleep(0.5)
+    lied = end(start("liar", "liar", topic=name, count=count)); got = end(to, 40)
+    assert lied["matched"] == 1 and lied["acknowledged"] == 0 and to.err == "", (lied, to.err)
+    assert got["malformed"] == count and got["received"] == 0, got
+    return "of %d samples %d were no frames" % (count, got["malformed"])
+
+def other_qos():
+    """A side that wants a history that the other hasn't: no match, and it is counted."""
+    name = topic()
+    without = start("cases", "look", topic=name, history=0, hold=5)
+    got = end(start("cases", "look", topic=name, history=4, hold=3)); one = end(without)
+    assert got["incompatible_writers"] == 1 and got["writers"] == 0 and one["incompatible_readers"] == 1, (got, one)
+    return "counted on both sides"
+
+def woken():
+    got = end(start("cases", "wake", topic=topic()))
+    assert 0.15 < got["first_s"] < 5 and got["both_s"] - got["first_s"] > 0.09, got
+    return "a wait of 10 s ended after %.2f s, the next one waited" % got["first_s"]
+
+def best_effort():
+    name, count = topic(), 100 if few else 2000
+    to = start("peer", "receive", topic=name, reliability="best", mode="discard", expect=count, idle=2, buffer=64)
+    of = start("peer", "send", topic=name, reliability="best", mode="discard", count=count, buffer=64, every_us=200)
+    end(of); got = end(to); sound(got)
+    assert got["good"] > 0 and got["gaps"] == got["missed"], got
+    return "%d of %d came, %d missed and counted" % (got["good"], count, got["missed"])
+
+def leaves_full():
+    """A gateway goes while its reader is full and more comes: it ends soon, and the sender goes on."""
+    name = topic()
+    to = start("peer", "receive", topic=name, mode="retry", expect=50, max=2000, buffer=2, limit=4)
+    of = start("peer", "send", topic=name, mode="retry", count=3000, len=2000, buffer=2, each=1)
+    begun = time.time(); got = end(to, 40); took = time.time() - begun
+    sent = end(of, 60); sound(got)
+    assert sent["sent"] == 3000, sent
+    return "gone after %.1f s with %d, the sender ended after %.1f s" % (took, got["good"], sent["all_s"])
+
+def stalled_reader():
+    """A program that doesn't receive for 14 s, longer than the lease of 10: the topic is held back, and then goes on."""
+    name, count = topic(), 3000
+    to = start("peer", "receive", topic=name, mode="retry", expect=count, max=2000, buffer=2, limit=4, stall_after=100, stall_s=14, idle=20)
+    of = start("peer", "send", topic=name, mode="retry", count=count, len=2000, buffer=2, flush=40)
+    sent, got = end(of, 120), end(to, 120)
+    sound(got)
+    assert got["good"] == count and got["gaps"] == 0, (sent, got)
+    return "%d of %d, sending took %.1f s" % (got["good"], count, sent["all_s"])
+
+tests = [small, several, large, empty_buffers, slow_reader, overflow, both_ways, late_joiner, without_history, receiver_killed,
+         sender_killed, typed_values, bad_frames, bad_frames_for_values, hostile_lengths, other_payload_size, other_struct,
+         only_known, other_type, same_name_other_structure, other_qos, second_gateway, many_domains, gateways_come_and_go,
+         woken, best_effort, c_calls, threads, leaves_full, stalled_reader]
+
+if __name__ == "__main__":
+    chosen = [test for test in tests if test.__name__ in sys.argv[2:]] if len(sys.argv) > 2 else tests
+    passed = failed = 0
+    for test in chosen:
+        begun = time.time()
+        try:
+            said = test()
+            passed += 1
+            print("ok      %s: %s (%.1f s)" % (test.__name__, said, time.time() - begun), flush=True)
+        except Exception as wrong:
+            failed += 1
+            print("FAILED  %s: %s" % (test.__name__, str(wrong)[:1500]), flush=True)
+        end_all()
+    print("%d passed, %d failed" % (passed, failed))
+    sys.exit(failed > 0)

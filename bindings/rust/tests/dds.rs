@@ -1,0 +1,264 @@
+//! A gateway to DDS between two processes over loopback: this one, and the same executable once more.
+#![cfg(feature = "dds")]
+
+use iox2_pubsub::dds::{AnyBytes, Gateway, Gateways, Settings};
+use iox2_pubsub::{BackpressureStrategy, Domain, DomainBuilder};
+use std::env;
+use std::process::{id, Child, Command, Stdio};
+use std::thread;
+use std::time::{Duration, Instant};
+
+const LOOPBACK: &str = "<CycloneDDS><Domain Id='any'><General><Interfaces><NetworkInterface name='lo'/></Interfaces>\
+    <AllowMulticast>false</AllowMulticast></General><Discovery><ParticipantIndex>auto</ParticipantIndex><Peers>\
+    <Peer Address='127.0.0.1'/></Peers></Discovery></Domain></CycloneDDS>";
+const COUNT: u64 = 200;
+
+#[derive(Clone, Copy, Debug, PartialEq)]
+#[repr(C)]
+struct Reading {
+    celsius: f64,
+    number: u64,
+}
+
+// SAFETY: any bytes are two numbers.
+unsafe impl AnyBytes for Reading {}
+
+// Of the same size.
+#[derive(Clone, Copy)]
+#[repr(C)]
+#[allow(dead_code)]
+struct Voltage {
+    volts: f64,
+    number: u64,
+}
+
+// SAFETY: as above.
+unsafe impl AnyBytes for Voltage {}
+
+fn settings() -> DomainBuilder<Reading> {
+    Domain::<Reading>::builder(7)
+        .node_id(u128::from(id()))
+        .subscriber_max_buffer_size(16)
+        .enable_safe_overflow(false)
+        .backpressure_strategy(BackpressureStrategy::RetryUntilDelivered)
+}
+
+// This executable's test of this name, as another process.
+fn other_process(test: &str, topic: &str) -> Child {
+    Command::new(env::current_exe().unwrap())
+        .args(["--exact", test, "--ignored", "--test-threads=1"])
+        .env("IOX2PS_DDS_TOPIC", topic)
+        .env("CYCLONEDDS_URI", LOOPBACK)
+        .stdout(Stdio::null())
+        .spawn()
+        .unwrap()
+}
+
+fn topic(name: &str) -> String {
+    env::var("IOX2PS_DDS_TOPIC").unwrap_or_else(|_| format!("rust/{name}/{}", id()))
+}
+
+fn use_loopback() {
+    env::set_var("CYCLONEDDS_URI", LOOPBACK);
+}
+
+fn both(test: &str, side: fn(&str)) {
+    use_loopback();
+    let topic = topic(test);
+    let mut other = other_process(test, &topic);
+    side(&topic);
+    assert!(other.wait().unwrap().success());
+}
+
+fn reading(number: u64) -> Reading {
+    Reading {
+        celsius: number as f64 / 2.0,
+        number,
+    }
+}
+
+// Sends so many, and receives as many of the other process, each once and in order.
+fn polled(topic: &str) {
+    let domain = settings().create().unwrap();
+    let gateway = Gateway::open(&domain, Settings::topic(topic)).unwrap();
+    let publisher = domain.publisher().unwrap();
+    let subscriber = domain.subscriber().unwrap();
+    let started = Instant::now();
+    while gateway.peers().readers == 0 || gateway.peers().writers == 0 {
+        assert!(
+            started.elapsed() < Duration::from_secs(20),
+            "nobody is there"
+        );
+        gateway.wait(Duration::from_millis(20));
+    }
+    let (mut sent, mut got) = (0, 0);
+    while sent < COUNT || got < COUNT {
+        assert!(
+            started.elapsed() < Duration::from_secs(40),
+            "{sent} sent, {got} came"
+        );
+        if sent < COUNT && gateway.forward().held == 0 {
+            sent += 1;
+            let _ = publisher.send_copy(reading(sent)).unwrap();
+        }
+        gateway.wait(Duration::from_millis(1));
+        while let Some(sample) = subscriber.receive().unwrap() {
+            let Some(origin) = gateway.origin(&sample) else {
+                continue;
+            };
+            got += 1;
+            assert_eq!(*sample, reading(got));
+            assert!(origin.node != 0 && origin.node != u128::from(id()));
+            assert_eq!(sample.origin(), gateway.publisher());
+        }
+    }
+    assert!(gateway.flush(Duration::from_secs(5)));
+    assert_eq!(gateway.counts().sent, COUNT);
+    assert_eq!(gateway.counts().received, COUNT);
+}
+
+// The same with the gateway's own threads, over a domain that threads share.
+fn with_threads(topic: &str) {
+    let domain = settings().create_shared().unwrap();
+    let subscriber = domain.subscriber().unwrap();
+    let publisher = domain.publisher().unwrap();
+    let gateway = Gateway::open(&domain, Settings::topic(topic)).unwrap();
+    let started = Instant::now();
+    while gateway.peers().readers == 0 || gateway.peers().writers == 0 {
+        assert!(
+            started.elapsed() < Duration::from_secs(20),
+            "nobody is there"
+        );
+        gateway.wait(Duration::from_millis(20));
+    }
+    assert!(gateway.start());
+    assert!(!gateway.start());
+    let sender = thread::spawn(move || {
+        for number in 1..=COUNT {
+            let loan = publisher
+                .loan_uninit()
+                .unwrap()
+                .write_payload(reading(number));
+            let _ = loan.blocking_send().unwrap();
+        }
+        publisher
+    });
+    let mut got = 0;
+    while got < COUNT {
+        let sample = subscriber
+            .timed_receive(Duration::from_secs(20))
+            .unwrap()
+            .expect("a message within 20 seconds");
+        if gateway.origin(&sample).is_some() {
+            got += 1;
+            assert_eq!(*sample, reading(got));
+        }
+    }
+    drop(subscriber); // its own messages still came
+    drop(sender.join().unwrap());
+    assert!(gateway.flush(Duration::from_secs(5)));
+    gateway.stop();
+    assert_eq!(gateway.counts().sent, COUNT);
+}
+
+#[test]
+fn between_processes() {
+    both("other_polled", polled);
+}
+
+#[test]
+#[ignore = "a part of between_processes"]
+fn other_polled() {
+    polled(&topic("")); // the topic is the first process's
+}
+
+#[test]
+fn between_processes_with_threads() {
+    both("other_with_threads", with_threads);
+}
+
+#[test]
+#[ignore = "a part of between_processes_with_threads"]
+fn other_with_threads() {
+    with_threads(&topic(""));
+}
+
+#[test]
+fn second_gateways_are_refused() {
+    use_loopback();
+    let topic = topic("second");
+    let (one, other) = (settings().create().unwrap(), settings().create().unwrap());
+    let bytes = Domain::<[u8]>::slice_builder(9)
+        .max_slice_len(100)
+        .create()
+        .unwrap();
+    let all = Gateways::open(0, 100).unwrap();
+    let first = all.add(&one, Settings::topic(&topic)).unwrap();
+    let why = all.add(&one, Settings::topic("other")).unwrap_err();
+    assert!(why.to_string().contains("for the domain"), "{why}");
+    let why = all.add(&other, Settings::topic(&topic)).unwrap_err();
+    assert!(why.to_string().contains("for the topic"), "{why}");
+    let why = all.add(&other, Settings::topic("with\0zero")).unwrap_err();
+    assert!(why.to_string().contains("zero byte"), "{why}");
+    let slices = all
+        .add(&bytes, Settings::topic(&format!("{topic}/bytes")))
+        .unwrap();
+    drop(first);
+    let first = all.add(&other, Settings::topic(&topic)).unwrap();
+    let publisher = bytes.publisher().unwrap();
+    let _ = publisher.send_slice_copy(b"abc").unwrap();
+    assert_eq!(all.forward().sent, 1);
+    assert_eq!((slices.counts().sent, first.counts().sent), (1, 0));
+}
+
+#[test]
+fn a_wait_is_ended_by_another_thread() {
+    use_loopback();
+    let domain = settings().create().unwrap();
+    let gateway = Gateway::open(&domain, Settings::topic(&topic("waker"))).unwrap();
+    let waker = gateway.waker();
+    let started = Instant::now();
+    let other = thread::spawn(move || {
+        thread::sleep(Duration::from_millis(100));
+        waker.wake();
+    });
+    gateway.wait(Duration::from_secs(20));
+    assert!(started.elapsed() < Duration::from_secs(10));
+    other.join().unwrap();
+}
+
+// The struct of C++ that bindings/dds/tests/cases.cpp has, and one of the same size with another name.
+#[test]
+fn a_struct_of_cpp_comes_and_another_does_not() {
+    let Some(cases) = env::var_os("IOX2PS_DDS_CASES") else {
+        return;
+    };
+    use_loopback();
+    for (role, expected) in [("values", 50), ("voltages", 0)] {
+        let topic = topic(role);
+        let domain = settings().subscriber_max_buffer_size(64).create().unwrap();
+        let gateway = Gateway::open(&domain, Settings::topic(&topic)).unwrap();
+        let subscriber = domain.subscriber().unwrap();
+        let mut other = Command::new(&cases)
+            .args([
+                role, "topic", &topic, "count", "50", "mode", "retry", "buffer", "64",
+            ])
+            .stdout(Stdio::null())
+            .spawn()
+            .unwrap();
+        let (mut got, started) = (0, Instant::now());
+        while gateway.counts().received + gateway.counts().other_type < 50 {
+            assert!(started.elapsed() < Duration::from_secs(30));
+            gateway.wait(Duration::from_millis(10));
+            while let Some(sample) = subscriber.receive().unwrap() {
+                got += 1;
+                assert_eq!(*sample, reading(got));
+            }
+        }
+        while subscriber.receive().unwrap().is_some() {
+            got += 1;
+        }
+        assert_eq!(got, expected);
+        assert!(other.wait().unwrap().success());
+    }
+}

@@ -1,0 +1,21 @@
+use Rattle.std.proofs.Common.{refl, []}
+use Rattle.iox2_store.specs.machine.State.{fresh, no_messages}
+use Rattle.iox2_runs.specs.Carries.{defaults_of}
+use Rattle.iox2_runs.proofs.LeavingSteps.{none-placed}
+use Rattle.iox2_recorded.proofs.RecordedCalls.{ran-none, was-run}
+use Rattle.iox2_recorded.proofs.recorded.Recorded.new.Goals as goal
+
+pub returns-clause-recorded : goal.returns-clause-recorded
+returns-clause-recorded g c =
+    let none = ran-none {T = g.row.T.Denot} {U = g.row.U.Denot} (defaults_of g.T.Default.is_default g.U.Default.is_default) c.in-Ok.domain in
+    record {
+      start = c.in-Ok.domain;
+      new = c.in-Ok.ensures.fresh;
+      missed_commands = [];
+      missed_replies = [];
+      ran = rw (c.in_ok-commands.ensures.items, c.in_ok-replies.ensures.items, c.new.ensures.items) none;
+      placed = rw c.new.ensures.items (none-placed {T = g.row.T.Denot} {U = g.row.U.Denot} c.in-Ok.domain);
+      kept = rw (c.in_ok-commands.ensures.items, c.in_ok-replies.ensures.items)
+          (was-run {T = g.row.T.Denot} {U = g.row.U.Denot} (defaults_of g.T.Default.is_default g.U.Default.is_default) c.args.config c.in-Ok.domain c.in-Ok.domain [] [] [] c.in-Ok.ensures.fresh none);
+      whole = λ _. (refl, refl);
+    }
