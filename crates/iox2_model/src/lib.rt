@@ -20,7 +20,9 @@ mod releases;
 mod segments;
 mod sender;
 mod subscriber_update;
+mod views;
 
 pub use error::ModelError;
 pub use memory::Memory;
 pub use model::{Kind, Model};
+pub use views::Thing;

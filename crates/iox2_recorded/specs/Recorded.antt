@@ -1,5 +1,5 @@
 -- What a recorded domain has done, and what of it is kept.
-use Rattle.std.specs.Prelude.{ℕ, Bool, List, [], ◌∷◌, ◌++◌, ◌≡◌, ◌≢◌, ◌==◌, ◌&&◌, map, nat_lt, vec_capacity, vec_len}
+use Rattle.std.specs.Prelude.{Bool, true, List, [], ◌∷◌, ◌++◌, ◌≡◌, ◌≢◌, ◌==◌, ◌&&◌, map, nat_lt, vec_capacity, vec_len}
 use Rattle.iox2_store.specs.machine.Environments.{fixed_handlers}
 use Rattle.iox2_store.specs.machine.State.{State, Messages, fresh, no_messages}
 use Rattle.iox2_store.specs.declared.service_config.ServiceConfig.{ServiceConfig}
@@ -9,7 +9,7 @@ use Rattle.iox2_commands.specs.Outcomes.{Handle, Event}
 use Rattle.iox2_commands.specs.Runs.{Defaults, Run, RunTo}
 use Rattle.iox2_commands.specs.declared.command.Command.{Command}
 use Rattle.iox2_commands.specs.declared.reply.Reply.{Reply}
-use Rattle.iox2_runs.specs.Carries.{entry_for}
+use Rattle.iox2_runs.specs.Carries.{Carries, entry_for}
 use Rattle.iox2_runs.specs.Placed.{ArePlaced}
 use Rattle.iox2_runs.specs.Tables.{IsTable}
 use Rattle.iox2_runs.specs.declared.runs.made.Made.{Made}
@@ -41,8 +41,20 @@ pub record IsRecorded {T U F G : Type 0} (defaults : Defaults T U) (r : Recorded
   pub kept : WasRun defaults r.config r.commands.items r.replies.items
   pub whole : r.missed ≡ 0 → (missed_commands ≡ []) × (missed_replies ≡ [])
 
--- The command and its reply are kept behind the others, if none was missed so far and none is now; else what is kept stays.
+-- No call was missed, and there is room for one more with its reply.
+abbrev pub has_room : {T U F G : Type 0} → Recorded T U F G → Bool
+has_room r = (r.missed == 0) && nat_lt (vec_len r.commands) (vec_capacity r.commands) && nat_lt (vec_len r.replies) (vec_capacity r.replies)
+
+-- The command was carried out with this reply: from whatever the domain showed it steps to what it shows now, and what it made is
+-- named by its position.
+abbrev pub IsCarriedOut : {T U F G : Type 0} → Defaults T U → (old new : Recorded T U F G) → Command T U → Reply T U → Type 0
+IsCarriedOut defaults old new command reply =
+    (table : List Made) × (made : Made) × Carries fixed_handlers defaults old.domain new.domain old.table.items command reply table made × (new.table.items ≡ table ++ made ∷ [])
+
+-- The command and its reply are kept behind the others, if none was missed so far and there is room; else it is missed, and what is
+-- kept stays.
 pub record Keeps {T U F G : Type 0} (old new : Recorded T U F G) (command : Command T U) (reply : Reply T U) : Type 0 where
+  pub room : has_room old ≡ true → new.missed ≡ 0
   pub kept : new.missed ≡ 0 → (old.missed ≡ 0) × (new.commands.items ≡ old.commands.items ++ command ∷ []) × (new.replies.items ≡ old.replies.items ++ reply ∷ [])
   pub missed : new.missed ≢ 0 → (new.commands.items ≡ old.commands.items) × (new.replies.items ≡ old.replies.items)
 
@@ -52,7 +64,3 @@ pub record SameRecording {T U F G : Type 0} (old new : Recorded T U F G) : Type 
   pub commands : new.commands.items ≡ old.commands.items
   pub replies : new.replies.items ≡ old.replies.items
   pub missed : new.missed ≡ old.missed
-
--- No call was missed, and there is room for one more with its reply.
-abbrev pub has_room : {T U F G : Type 0} → Recorded T U F G → Bool
-has_room r = (r.missed == 0) && nat_lt (vec_len r.commands) (vec_capacity r.commands) && nat_lt (vec_len r.replies) (vec_capacity r.replies)

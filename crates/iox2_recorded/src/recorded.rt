@@ -1,6 +1,6 @@
 ghost use Rattle.std.specs.Prelude.{◌≡◌, ◌≢◌, ◌⊎◌, IfErr, IfOk, vec_capacity, vec_len};
 ghost use Rattle.iox2_runs.specs.Carries.{defaults_of};
-ghost use Rattle.iox2_recorded.specs.Recorded.{IsRecorded, Keeps, SameRecording, WasRun, has_room};
+ghost use Rattle.iox2_recorded.specs.Recorded.{IsCarriedOut, IsRecorded, Keeps, SameRecording, WasRun, has_room};
 
 use iox2_pubsub::{Domain, ServiceConfig};
 use iox2_runs::{Command, Made, Reply, carry_out, disown_all};
@@ -65,6 +65,7 @@ impl<
         requires recorded { IsRecorded (defaults_of T.is_default U.is_default) self.old }
         ensures recorded { IsRecorded (defaults_of T.is_default U.is_default) self.new }
         ensures settings { self.new.config ≡ self.old.config }
+        ensures carries { IfOk result (λ reply. IsCarriedOut (defaults_of T.is_default U.is_default) self.old self.new command reply) }
         ensures keeps { IfOk result (λ reply. Keeps self.old self.new command reply) }
         ensures refused { IfErr result (λ _. SameRecording self.old self.new) }
     {

@@ -1,0 +1,130 @@
+//! What a picture of the state shows.
+use crate::model::Model;
+use crate::records::Made;
+
+/// What a command made, by its numbers.
+#[derive(Debug, Clone, Copy, PartialEq, Eq)]
+pub enum Thing {
+    /// Nothing.
+    Nothing,
+    /// The publisher with this id.
+    Publisher(usize),
+    /// The subscriber with this id.
+    Subscriber(usize),
+    /// The loan with this message number.
+    Loan(usize),
+    /// The blocked send of this publisher's message.
+    BlockedSend {
+        publisher: usize,
+        message: usize,
+    },
+    /// The sample of this publisher's message, which this subscriber received.
+    Sample {
+        publisher: usize,
+        subscriber: usize,
+        message: usize,
+    },
+}
+
+impl Model {
+    /// What the command at the position made, also where it isn't live any more.
+    pub fn thing_at(&self, of: usize) -> Thing {
+        match self.made_at(of) {
+            Made::Nothing => Thing::Nothing,
+            Made::Publisher(id) => Thing::Publisher(id),
+            Made::Subscriber(id) => Thing::Subscriber(id),
+            Made::Loan(message) => Thing::Loan(message),
+            Made::BlockedSend { publisher, message } => Thing::BlockedSend { publisher, message },
+            Made::Sample {
+                publisher,
+                subscriber,
+                message,
+            } => Thing::Sample {
+                publisher,
+                subscriber,
+                message,
+            },
+        }
+    }
+
+    /// One more than the greatest id that a port has had: ids are counted from 1.
+    pub fn port_count(&self) -> usize {
+        self.publishers.len().max(self.subscribers.len())
+    }
+
+    /// One more than the greatest number that a message has had: numbers are counted from 1.
+    pub fn message_count(&self) -> usize {
+        self.loans.len()
+    }
+
+    /// Whether the publisher is open.
+    pub fn is_open_publisher(&self, publisher: usize) -> bool {
+        self.is_present(publisher)
+    }
+
+    /// Whether the subscriber is open.
+    pub fn is_open_subscriber(&self, subscriber: usize) -> bool {
+        self.receiving_buffer(subscriber).is_some()
+    }
+
+    /// Whether the publisher delivers to the subscriber.
+    pub fn delivers_to(&self, publisher: usize, subscriber: usize) -> bool {
+        self.has_sender_end(publisher, subscriber)
+    }
+
+    /// The messages of the publisher that wait for the subscriber, oldest first.
+    pub fn waiting(&self, publisher: usize, subscriber: usize) -> &[usize] {
+        match self.mailboxes.get(publisher, subscriber) {
+            Some(mailbox) => mailbox.waiting(),
+            None => &[],
+        }
+    }
+
+    /// The messages of the publisher that the subscriber has received and not released.
+    pub fn borrowed(&self, publisher: usize, subscriber: usize) -> &[usize] {
+        match self.mailboxes.get(publisher, subscriber) {
+            Some(mailbox) => mailbox.borrowed(),
+            None => &[],
+        }
+    }
+
+    /// The message whose send waits for a receiver, if one of the publisher's does.
+    pub fn blocked_message(&self, publisher: usize) -> Option<usize> {
+        match self.publisher(publisher) {
+            Some(record) => record.blocked.map(|delivery| delivery.message),
+            None => None,
+        }
+    }
+
+    /// The publisher's messages that are lent or whose send is blocked.
+    pub fn loans_of(&self, publisher: usize) -> &[usize] {
+        match self.publisher(publisher) {
+            Some(record) => record.loans.as_slice(),
+            None => &[],
+        }
+    }
+
+    /// The publisher's history, oldest message first.
+    pub fn history_of(&self, publisher: usize) -> &[usize] {
+        match self.publisher(publisher) {
+            Some(record) => record.history.as_slice(),
+            None => &[],
+        }
+    }
+
+    /// The first value of a message that was sent.
+    pub fn first_value(&self, message: usize) -> Option<u64> {
+        let Some(entry) = self.entry(message) else {
+            return None;
+        };
+        entry.values.first().copied()
+    }
+
+    /// How many values a message has that was sent.
+    pub fn value_count(&self, message: usize) -> usize {
+        match self.entry(message) {
+            Some(entry) => entry.values.len(),
+            None => 0,
+        }
+    }
+}
