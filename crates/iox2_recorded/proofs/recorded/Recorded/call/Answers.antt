@@ -78,5 +78,6 @@ pub returns-clause-carries : goal.returns-clause-carries
 returns-clause-carries g c =
     let carries = rw c.reserve.ensures.items at c.carry_out.ensures.carries in
     elim c.if-has_room.branch [
-      then-has_room w ↦ rw w.self-is (c.carry_out.new.table.items, c.carry_out.result.1, carries, c.push_reserved.ensures.items)
-    | else-has_room w ↦ rw w.self-is (c.carry_out.new.table.items, c.carry_out.result.1, carries, c.push_reserved.ensures.items) ]
+      | then-has_room w ↦ rw w.self-is (c.carry_out.new.table.items, c.carry_out.result.1, carries, c.push_reserved.ensures.items)
+      | else-has_room w ↦ rw w.self-is (c.carry_out.new.table.items, c.carry_out.result.1, carries, c.push_reserved.ensures.items)
+    ]
