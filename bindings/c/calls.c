@@ -67,8 +67,9 @@ static void a_domain_may_be_static(void) {
   IS(iox2ps_domain_destroy(&in_a_function), IOX2PS_OK);
 }
 
-static void the_version_is_in_words(void) {
+static void the_archive_is_of_the_header_s_version(void) {
   char words[32];
+  CHECK(iox2ps_version() == IOX2PS_VERSION);
   CHECK(IOX2PS_VERSION == (IOX2PS_VERSION_MAJOR << 16 | IOX2PS_VERSION_MINOR << 8 | IOX2PS_VERSION_PATCH));
   sprintf(words, "%d.%d.%d", IOX2PS_VERSION_MAJOR, IOX2PS_VERSION_MINOR, IOX2PS_VERSION_PATCH);
   CHECK(strcmp(words, IOX2PS_VERSION_TEXT) == 0);
@@ -587,7 +588,7 @@ static void slots_are_counted(void) {
 int main(void) {
   settings_are_read_back();
   a_domain_may_be_static();
-  the_version_is_in_words();
+  the_archive_is_of_the_header_s_version();
   a_message_is_written_and_read_where_it_lies();
   a_loan_may_have_unspecified_bytes();
   a_message_is_copied();

@@ -28,8 +28,8 @@
  *    say that nothing is written there;
  *  - payloads need no lock. The bytes of a loan are its holder's from the call that lends it to the call that sends or
  *    discards it; those of a sample are read by whoever likes, by several threads at a time, from the call that receives
- *    it to the call that releases it. No other call touches them. They aren't touched once the ending call has begun,
- *    by whichever thread;
+ *    it to the call that releases it. No other call touches them, but that one which copies a message reads it. A thread
+ *    doesn't touch them once the ending call has begun, whichever thread makes that;
  *  - numbers may be handed on as any struct may: by the lock, a queue or a join;
  *  - to wait for a message (IOX2PS_NO_SAMPLE), for room (IOX2PS_BLOCKED), for an earlier send (IOX2PS_PUBLISHER_IS_BLOCKED) or for
  *    a loan (IOX2PS_LOAN_ERROR_EXCEEDS_MAX_LOANS, IOX2PS_LOAN_ERROR_OUT_OF_MEMORY), wait at a condition variable of the lock, and
@@ -60,7 +60,7 @@
 extern "C" {
 #endif
 
-#define IOX2PS_VERSION_MAJOR 0 /**< the first number of this header's version */
+#define IOX2PS_VERSION_MAJOR 0 /**< the first number of this header's version; that of the archive is iox2ps_version() */
 #define IOX2PS_VERSION_MINOR 1 /**< the second number */
 #define IOX2PS_VERSION_PATCH 0 /**< the third number */
 
@@ -308,6 +308,10 @@ typedef struct iox2ps_warning_t {
 /** @name Settings and texts
  * None of these looks at a domain, and those that return nothing can't fail.
  * @{ */
+
+/** The version of the archive that the program is linked to, as one number. A program that may be linked to another
+ * one than it was compiled for compares it with IOX2PS_VERSION; the classes of C++ do, where a domain is made. */
+IOX2PS_NODISCARD uint32_t iox2ps_version(void);
 
 /** The defaults of a domain for messages of one type, as iox2ps_config_defaults(&config, 7, sizeof(T),
  * _Alignof(T)): 2 publishers with 2 loans each, 8 subscribers with buffers of 2 and 2 borrowed samples, no

@@ -845,8 +845,9 @@ private:
  * nothing, and has no settings, no warnings and nothing to count. */
 template <typename P, typename M> class Domain {
 public:
-  /** Makes a domain. Error::InvalidSettings, Error::OutOfMemory. */
+  /** Makes a domain. Error::InvalidSettings, Error::OutOfMemory, Error::OtherVersion. */
   static Result<Domain> create(const Config<P> &config) {
+    if (iox2ps_version() != IOX2PS_VERSION) return Error::OtherVersion;
     detail::Hold<M> hold(new (std::nothrow) detail::Shared<M>);
     if (!hold) return Error::OutOfMemory;
     iox2ps_status_t code = iox2ps_domain_create(&hold->domain, &detail::Raw::of(config));

@@ -73,11 +73,17 @@ enum class Error : std::uint32_t {
   /** Memory was refused. */
   SubscriberFailedToDeployThreadsafetyPolicy = IOX2PS_SUBSCRIBER_CREATE_ERROR_FAILED_TO_DEPLOY_THREADSAFETY_POLICY,
   /** No id is left for a port. */
-  SubscriberUnableToCreatePortTag = IOX2PS_SUBSCRIBER_CREATE_ERROR_UNABLE_TO_CREATE_PORT_TAG
+  SubscriberUnableToCreatePortTag = IOX2PS_SUBSCRIBER_CREATE_ERROR_UNABLE_TO_CREATE_PORT_TAG,
+
+  /** The program is linked to the archive of another version than that of these headers. */
+  OtherVersion = 0xffffffffu
 };
 
 /** An error in words, which lie there for good. */
-inline const char *text(Error error) { return iox2ps_error_text(static_cast<std::uint32_t>(error)); }
+inline const char *text(Error error) {
+  if (error == Error::OtherVersion) return "OtherVersion: the archive isn't of the headers' version";
+  return iox2ps_error_text(static_cast<std::uint32_t>(error));
+}
 
 /** A value, or why there is none. What asks for a value that isn't there ends the program, and says why on standard
  * error: value(), *, -> and expect(). */

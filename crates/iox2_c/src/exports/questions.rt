@@ -36,6 +36,15 @@ pub extern "C" fn iox2ps_error_text_at(code: u32, text: &mut *const u8, len: &mu
     *len = bytes.len() - 1;
 }
 
+/// The version of the library: 65536 times its first number, 256 times its second, and its third. A
+/// program compares it with that of the header that it was compiled with.
+#[unsafe(no_mangle)]
+pub extern "C" fn iox2ps_version() -> u32
+    ensures { result ≡ 256 }
+{
+    256
+}
+
 /// Makes and removes a publisher's connections.
 #[unsafe(no_mangle)]
 pub extern "C" fn iox2ps_publisher_update_connections(
