@@ -145,7 +145,8 @@ def cargo_test(work):
 def without_archive(work, *words):
     """What needs no archive, where there is none."""
     (work / "empty").mkdir(exist_ok=True)
-    cargo(work, *words, "--offline", "--quiet", IOX2_PUBSUB_LIB_DIR=str(work / "empty"), CARGO_TARGET_DIR=str(work / "target_without"))
+    places = {"IOX2_PUBSUB_LIB_DIR": str(work / "empty"), "CARGO_TARGET_DIR": str(work / "target_without")}
+    cargo(work, *words, "--offline", "--quiet", RUSTFLAGS="-D warnings", RUSTDOCFLAGS="-D warnings", **places)
     return "without a warning"
 
 
