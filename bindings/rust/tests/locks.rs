@@ -180,6 +180,29 @@ fn threads_that_sleep_at_once_are_woken_one_by_one() {
 }
 
 #[test]
+fn a_thread_that_finds_nothing_keeps_no_message_from_others() {
+    let domain = keeping().create_with_lock::<Sleepy>().unwrap();
+    let publisher = domain.publisher().unwrap();
+    let (shared, own) = (domain.subscriber().unwrap(), domain.subscriber().unwrap());
+    let moment = Duration::from_millis(30);
+    thread::scope(|scope| {
+        let two: Vec<_> = (0..2)
+            .map(|_| scope.spawn(|| shared.blocking_receive_copy().unwrap()))
+            .collect();
+        thread::sleep(moment);
+        let third = scope.spawn(|| own.blocking_receive_copy().unwrap());
+        thread::sleep(moment);
+        assert_eq!(publisher.send_copy(7).unwrap().delivered(), Some(2));
+        assert_eq!(third.join().unwrap(), Some(7));
+        thread::sleep(moment);
+        domain.stop_waits(true);
+        let mut got: Vec<_> = two.into_iter().map(|one| one.join().unwrap()).collect();
+        got.sort_unstable();
+        assert_eq!(got, [None, Some(7)]);
+    });
+}
+
+#[test]
 fn handles_of_threads_may_borrow_their_domain() {
     fn goes<T: Send + Sync>() {}
     goes::<Publisher<u64, Borrowed<'_, ManyThreads>>>();
