@@ -177,6 +177,7 @@ pub struct Warning {
 }
 
 extern "C" {
+    pub fn iox2ps_version() -> u32;
     pub fn iox2ps_config_defaults(
         config: *mut Config,
         service_id: u64,

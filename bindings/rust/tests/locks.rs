@@ -159,6 +159,47 @@ fn threads_that_sleep_at_once_are_woken_one_by_one() {
         assert_eq!(publisher.send_copy(7).unwrap().delivered(), Some(1));
         assert_eq!(receives.join().unwrap(), Some(7));
     });
+    // The end of a send wakes who waits for it.
+    let loan = publisher.loan_uninit().unwrap().write_payload(4);
+    for number in 1..3 {
+        assert_eq!(publisher.send_copy(number).unwrap().delivered(), Some(1));
+    }
+    let blocked = publisher.send_copy(3).unwrap().blocked().unwrap();
+    thread::scope(|scope| {
+        let sends = scope.spawn(|| loan.blocking_send().unwrap().delivered());
+        thread::sleep(Duration::from_millis(30));
+        assert_eq!(subscriber.receive_copy().unwrap(), Some(1));
+        let ended = blocked.retry(Duration::ZERO).unwrap();
+        assert_eq!(ended.delivered(), Some(1));
+        thread::sleep(Duration::from_millis(30));
+        for number in 2..5 {
+            assert_eq!(subscriber.blocking_receive_copy().unwrap(), Some(number));
+        }
+        assert_eq!(sends.join().unwrap(), Some(1));
+    });
+}
+
+#[test]
+fn a_thread_that_finds_nothing_keeps_no_message_from_others() {
+    let domain = keeping().create_with_lock::<Sleepy>().unwrap();
+    let publisher = domain.publisher().unwrap();
+    let (shared, own) = (domain.subscriber().unwrap(), domain.subscriber().unwrap());
+    let moment = Duration::from_millis(30);
+    thread::scope(|scope| {
+        let two: Vec<_> = (0..2)
+            .map(|_| scope.spawn(|| shared.blocking_receive_copy().unwrap()))
+            .collect();
+        thread::sleep(moment);
+        let third = scope.spawn(|| own.blocking_receive_copy().unwrap());
+        thread::sleep(moment);
+        assert_eq!(publisher.send_copy(7).unwrap().delivered(), Some(2));
+        assert_eq!(third.join().unwrap(), Some(7));
+        thread::sleep(moment);
+        domain.stop_waits(true);
+        let mut got: Vec<_> = two.into_iter().map(|one| one.join().unwrap()).collect();
+        got.sort_unstable();
+        assert_eq!(got, [None, Some(7)]);
+    });
 }
 
 #[test]
