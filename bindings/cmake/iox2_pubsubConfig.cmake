@@ -6,6 +6,15 @@ if(NOT TARGET iox2_pubsub::iox2_pubsub)
   set_target_properties(iox2_pubsub::iox2_pubsub PROPERTIES
     IMPORTED_LOCATION "${_iox2_pubsub_folder}/lib/libiox2_pubsub.a"
     INTERFACE_INCLUDE_DIRECTORIES "${_iox2_pubsub_folder}/include")
+  # The standards that the headers want, of the languages that the project has.
+  get_property(_iox2_pubsub_languages GLOBAL PROPERTY ENABLED_LANGUAGES)
+  if("C" IN_LIST _iox2_pubsub_languages)
+    set_property(TARGET iox2_pubsub::iox2_pubsub APPEND PROPERTY INTERFACE_COMPILE_FEATURES c_std_11)
+  endif()
+  if("CXX" IN_LIST _iox2_pubsub_languages)
+    set_property(TARGET iox2_pubsub::iox2_pubsub APPEND PROPERTY INTERFACE_COMPILE_FEATURES cxx_std_17)
+  endif()
+  unset(_iox2_pubsub_languages)
 endif()
 unset(_iox2_pubsub_folder)
 

@@ -1,0 +1,1 @@
+"""What tools/bindings and tools/release are made of."""

@@ -1,0 +1,189 @@
+"""The folder as others take it: CMake, pkg-config, installed, the page's programs, the crates of Rust, the gateway to DDS."""
+import os
+import re
+import shutil
+
+from .places import BINDINGS, OUT, is_here
+from .programs import ARCHIVE, GRIND, PAIRS, check_example
+from .steps import Failed, said
+
+READING = "21.5 °C, read by 1\n"
+
+
+# ---- CMake and pkg-config
+
+def moved(work):
+    """The folder at another place."""
+    to = work / "moved folder"
+    if not to.exists():
+        shutil.copytree(OUT, to)
+    return to
+
+
+def cmake_example(work, prefix, c, cpp, name):
+    """The project of bindings/cmake/example, over the folder at this place, by these compilers."""
+    build = work / name
+    said("cmake", "-S", BINDINGS / "cmake/example", "-B", build, f"-DCMAKE_PREFIX_PATH={prefix}", f"-DCMAKE_C_COMPILER={c}", f"-DCMAKE_CXX_COMPILER={cpp}")
+    said("cmake", "--build", build)
+    return check_example(build / "thermometer_c", work=work) + ", " + check_example(build / "thermometer_cpp", work=work)
+
+
+PROJECT = """cmake_minimum_required(VERSION 3.16)
+project(one {languages})
+find_package(iox2_pubsub {version} REQUIRED)
+add_executable(one one.{extension})
+target_link_libraries(one PRIVATE iox2_pubsub::iox2_pubsub)
+"""
+
+
+def project_of(work, languages, extension, version="0.1", fails=False):
+    """A project of one language that says no standard."""
+    folder = work / f"project_{languages}_{version}"
+    folder.mkdir(exist_ok=True)
+    (folder / "CMakeLists.txt").write_text(PROJECT.format(languages=languages, version=version, extension=extension))
+    (folder / f"one.{extension}").write_text(block("c" if extension == "c" else "cpp"))
+    words = ["cmake", "-S", folder, "-B", folder / "build", f"-DCMAKE_PREFIX_PATH={moved(work)}"]
+    if extension == "cpp" and is_here("clang++"):
+        words.append("-DCMAKE_CXX_COMPILER=clang++") # whose own standard is older than 17
+    written = said(*words, fails=fails)
+    if fails:
+        return f"{version} is refused" if "version" in written else written
+    said("cmake", "--build", folder / "build")
+    return prints_reading(folder / "build/one")
+
+
+def install(work, c, cpp):
+    """Installs the folder elsewhere, and builds the example over that."""
+    prefix = work / "prefix"
+    said("cmake", "-S", OUT, "-B", work / "installing")
+    said("cmake", "--install", work / "installing", "--prefix", prefix)
+    return cmake_example(work, prefix, c, cpp, "cmake_installed")
+
+
+def pkg_config(work):
+    """The page's program in C, compiled by what pkg-config says."""
+    environment = {**os.environ, "PKG_CONFIG_PATH": str(moved(work) / "lib/pkgconfig")}
+    flags = said("pkg-config", "--cflags", "--libs", "iox2_pubsub", both=False, env=environment)
+    version = said("pkg-config", "--modversion", "iox2_pubsub", both=False, env=environment).strip()
+    (work / "first.c").write_text(block("c"))
+    said("sh", "-c", f"gcc '{work}/first.c' {flags.strip()} -o '{work}/by_pkg_config'")
+    return f"{version}, {prints_reading(work / 'by_pkg_config')}"
+
+
+def run_packages(steps, work):
+    """All of these."""
+    if is_here("cmake"):
+        for c, cpp in (pair for pair in PAIRS if is_here(pair[0]) and is_here(pair[1])):
+            steps.run(f"cmake, {c} and {cpp}", cmake_example, work, moved(work), c, cpp, f"cmake_{c}")
+        steps.run("cmake --install", install, work, "gcc", "g++")
+        steps.run("cmake, a project of C", project_of, work, "C", "c")
+        steps.run("cmake, a project of C++", project_of, work, "CXX", "cpp")
+        steps.run("cmake, a later version", project_of, work, "C", "c", "0.2", True)
+    else:
+        steps.skip("cmake", "cmake")
+    if is_here("pkg-config"):
+        steps.run("pkg-config", pkg_config, work)
+    else:
+        steps.skip("pkg-config", "pkg-config")
+
+
+# ---- the programs of bindings/README.md
+
+def block(language):
+    """The page's block of code of this language."""
+    return re.search(rf"^```{re.escape(language)}\n(.*?)^```$", (BINDINGS / "README.md").read_text(), re.M | re.S)[1]
+
+
+def prints_reading(*words, **more):
+    """The program has to print its reading."""
+    printed = said(*words, both=False, **more)
+    if printed != READING:
+        raise Failed(f"it printed {printed!r}")
+    return "prints its reading"
+
+
+def readme_program(work, language, *compiler):
+    """One of them, compiled as the page says."""
+    source, program = work / f"first.{language}", work / f"first_{language}"
+    source.write_text(block(language))
+    said(*compiler, "-I", OUT / "include", source, ARCHIVE, "-o", program)
+    return prints_reading(program)
+
+
+def readme_rust(work):
+    """The one in Rust."""
+    folder = work / "first_rust"
+    (folder / "src").mkdir(parents=True, exist_ok=True)
+    (folder / "src/main.rs").write_text(block("rust"))
+    (folder / "Cargo.toml").write_text(f'[package]\nname = "first"\nedition = "2021"\n[dependencies]\niox2_pubsub = {{ path = "{OUT}/rust" }}\n')
+    words = ("cargo", "run", "--offline", "--quiet", "--manifest-path", folder / "Cargo.toml")
+    return prints_reading(*words, env={**os.environ, "CARGO_TARGET_DIR": str(work / "target")})
+
+
+def run_readme(steps, work):
+    """All of these."""
+    steps.run("bindings/README.md, C", readme_program, work, "c", "gcc")
+    steps.run("bindings/README.md, C++", readme_program, work, "cpp", "g++", "-std=c++17")
+    if is_here("cargo"):
+        steps.run("bindings/README.md, Rust", readme_rust, work)
+
+
+# ---- the crates of Rust
+
+def cargo(work, *words, **environment):
+    """What cargo writes in the crate, with what it makes in $work/target."""
+    more = {"CARGO_TARGET_DIR": str(work / "target"), **environment}
+    return said("cargo", *words, cwd=OUT / "rust", env={**os.environ, **more})
+
+
+def cargo_test(work):
+    """The crate's tests, and those in its comments."""
+    results = re.findall(r"^test result: .* (\d+) passed; (\d+) failed", cargo(work, "test", "--offline"), re.M)
+    return f"{sum(int(passed) for passed, _ in results)} passed, {sum(int(failed) for _, failed in results)} failed"
+
+
+def without_archive(work, *words):
+    """What needs no archive, where there is none."""
+    (work / "empty").mkdir(exist_ok=True)
+    cargo(work, *words, "--offline", "--quiet", IOX2_PUBSUB_LIB_DIR=str(work / "empty"), CARGO_TARGET_DIR=str(work / "target_without"))
+    return "without a warning"
+
+
+def cargo_example(work):
+    """The example, which has to print what those of C and C++ print."""
+    cargo(work, "build", "--offline", "--quiet", "--example", "thermometer")
+    return check_example(work / "target/debug/examples/thermometer", work=work)
+
+
+def rust_under_valgrind(work, name):
+    """A file of tests, as cargo has built it. The harness keeps some memory of its own until the end, so that only what is lost counts."""
+    built = [file for file in (work / "target/debug/deps").glob(f"{name}-*") if os.access(file, os.X_OK) and not file.suffix]
+    newest = max(built, key=lambda file: file.stat().st_mtime)
+    lost = ("--show-leak-kinds=definite", "--errors-for-leak-kinds=definite")
+    written = said(*GRIND, *lost, newest, "--test-threads=1")
+    return re.search(r"^test result.*", written, re.M)[0]
+
+
+def run_cargo(steps, work):
+    """All of these."""
+    if not is_here("cargo"):
+        steps.skip("the crates of Rust", "cargo")
+        return
+    steps.run("rust, cargo test", cargo_test, work)
+    steps.run("rust, cargo run --example thermometer", cargo_example, work)
+    steps.run("rust, cargo check without the archive", without_archive, work, "check", "--all-targets")
+    if is_here("cargo-clippy"):
+        steps.run("rust, cargo clippy without the archive", without_archive, work, "clippy", "--all-targets")
+    steps.run("rust, cargo doc without the archive", without_archive, work, "doc", "--no-deps")
+    if is_here("valgrind"):
+        for name in ("calls", "numbers"):
+            steps.run(f"rust/tests/{name}.rs, valgrind", rust_under_valgrind, work, name)
+
+
+# ---- the gateway to DDS
+
+def run_dds(steps):
+    """Its own tests, where they are in the repository."""
+    tests = BINDINGS / "dds/tests/everything.py"
+    if tests.exists():
+        steps.run_counted("the gateway to DDS", tests, OUT)

@@ -1,0 +1,21 @@
+"""Where things lie, and which version they have."""
+import re
+import shutil
+from pathlib import Path
+
+TOP = Path(__file__).resolve().parents[2]
+BINDINGS = TOP / "bindings"
+OUT = BINDINGS / "out"
+HEADER = BINDINGS / "include/iox2_pubsub.h"
+LICENCES = ("LICENSE-APACHE", "LICENSE-MIT")
+
+
+def version():
+    """The version that the header says. It stands there, and is read from there for all else but the crates of Rust."""
+    text = HEADER.read_text()
+    return ".".join(re.search(rf"#define IOX2PS_VERSION_{part} (\d+)", text)[1] for part in ("MAJOR", "MINOR", "PATCH"))
+
+
+def is_here(program):
+    """Whether the program is on the path."""
+    return shutil.which(program) is not None

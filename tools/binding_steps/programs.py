@@ -1,0 +1,93 @@
+"""The programs of C and C++: compiled and run by gcc and clang, with sanitizers and valgrind."""
+import filecmp
+
+from .places import BINDINGS, OUT, is_here
+from .steps import Failed, said
+
+ARCHIVE = OUT / "lib/libiox2_pubsub.a"
+PAIRS = (("gcc", "g++"), ("clang", "clang++"))
+WARNINGS = ("-Wall", "-Wextra", "-Wpedantic", "-Wshadow", "-Werror")
+SANITIZERS = ("-fsanitize=address,undefined", "-fno-sanitize-recover=all", "-g")
+RACES = ("-O1", "-g", "-fsanitize=thread")
+NO_EXCEPTIONS = ("-O1", "-fno-exceptions", "-fno-rtti")
+# The program's own malloc and realloc, of which one call in a run is refused.
+REFUSES = ("-Wl,--wrap=malloc", "-Wl,--wrap=realloc")
+GRIND = ("valgrind", "--quiet", "--leak-check=full", "--error-exitcode=9")
+NOTHING_LEFT = ("--show-leak-kinds=all", "--errors-for-leak-kinds=all")
+# The C++ library keeps some memory of its own until the end.
+BUT_REACHABLE = ("--show-leak-kinds=definite,indirect,possible", "--errors-for-leak-kinds=definite,indirect,possible")
+
+
+def compile_program(compiler, source, standard, program, *flags):
+    """Compiles a file of bindings to a program over the archive."""
+    language = "c++" if standard.startswith("c++") else "c"
+    words = [compiler, "-x", language, f"-std={standard}", *WARNINGS, *flags, "-I", OUT / "include", BINDINGS / source]
+    said(*words, "-x", "none", ARCHIVE, "-pthread", "-o", program)
+    return program
+
+
+def check_example(*words, work, **more):
+    """Runs the example, which has to print what bindings/thermometer.txt says."""
+    printed = work / "printed"
+    printed.write_text(said(*words, both=False, **more))
+    if not filecmp.cmp(printed, BINDINGS / "thermometer.txt", shallow=False):
+        raise Failed(f"it printed other words than bindings/thermometer.txt:\n{printed.read_text()}")
+    return "as bindings/thermometer.txt"
+
+
+def compile_and_run(work, compiler, source, standard, *flags):
+    """Compiles a program and runs it."""
+    program = compile_program(compiler, source, standard, work / source.replace("/", "_").replace(".", "_"), *flags)
+    return check_example(program, work=work) if "thermometer" in source else said(program)
+
+
+def compile_and_grind(work, compiler, source, standard, leaks, *flags):
+    """Compiles a program and runs it under valgrind, which has to find nothing."""
+    program = compile_program(compiler, source, standard, work / "grind", "-O1", "-g", *flags)
+    return said(*GRIND, *leaks, program)
+
+
+# What each compiler of C and C++ runs: the file, the standard, and whether with the sanitizers too.
+ROWS = (
+    ("c/thermometer.c", "c11", True),
+    ("c/calls.c", "c11", True),
+    ("c/bad_input.c", "c11", True),
+    ("c/calls.c", "c++17", True),
+    ("c/bad_input.c", "c++17", True),
+    ("cpp/thermometer.cpp", "c++17", True),
+    ("cpp/tests.cpp", "c++17", True),
+    ("cpp/tests.cpp", "c++20", False),
+    ("c/threads.c", "c11", True),
+    ("cpp/threads.cpp", "c++17", True),
+)
+
+
+def run_pair(steps, work, c, cpp):
+    """The rows of one pair of compilers."""
+    for source, standard, is_sanitized in ROWS:
+        compiler = cpp if standard.startswith("c++") else c
+        name = f"{source}, {compiler} {standard}"
+        steps.run(name, compile_and_run, work, compiler, source, standard, "-O2")
+        if is_sanitized:
+            steps.run(f"{name}, sanitizers", compile_and_run, work, compiler, source, standard, "-O1", *SANITIZERS)
+    steps.run(f"c/refused_memory.c, {c} c11", compile_and_run, work, c, "c/refused_memory.c", "c11", "-O2", *REFUSES)
+    steps.run(f"c/refused_memory.c, {c} c11, sanitizers", compile_and_run, work, c, "c/refused_memory.c", "c11", "-O1", *REFUSES, *SANITIZERS)
+    for standard in ("c++17", "c++20"):
+        steps.run(f"cpp/tests.cpp, {cpp} {standard}, no exceptions", compile_and_run, work, cpp, "cpp/tests.cpp", standard, *NO_EXCEPTIONS)
+    steps.run(f"c/threads.c, {c} c11, thread sanitizer", compile_and_run, work, c, "c/threads.c", "c11", *RACES)
+    steps.run(f"cpp/threads.cpp, {cpp} c++17, thread sanitizer", compile_and_run, work, cpp, "cpp/threads.cpp", "c++17", *RACES)
+
+
+def run_programs(steps, work):
+    """All of them."""
+    for c, cpp in PAIRS:
+        if is_here(c) and is_here(cpp):
+            run_pair(steps, work, c, cpp)
+        else:
+            steps.skip(f"what is compiled by {c} and {cpp}", c if not is_here(c) else cpp)
+    if not is_here("valgrind"):
+        steps.skip("programs under valgrind", "valgrind")
+        return
+    for source, flags in (("c/calls.c", ()), ("c/bad_input.c", ()), ("c/refused_memory.c", REFUSES)):
+        steps.run(f"{source}, valgrind", compile_and_grind, work, "gcc", source, "c11", NOTHING_LEFT, *flags)
+    steps.run("cpp/tests.cpp, valgrind", compile_and_grind, work, "g++", "cpp/tests.cpp", "c++17", BUT_REACHABLE)
