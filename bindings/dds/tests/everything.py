@@ -91,7 +91,7 @@ def page():
     for name in os.listdir(source):
         if name != "build": os.symlink(os.path.join(source, name), os.path.join(tree, "bindings/dds", name))
     with open(tree + "/first_dds.cpp", "w") as file: file.write(program)
-    run(["bash", "-e", "-c", lines.group(1) + lines.group(2)], 600, cwd=tree)
+    run(["bash", "-e", "-c", (lines.group(1) + lines.group(2)).replace("/tmp/dds_build", tree + "/build")], 600, cwd=tree)
     return two(tree + "/first_dds", "from another process")
 
 def rust(plain):

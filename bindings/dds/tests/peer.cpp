@@ -183,15 +183,19 @@ int pong_role(const Options &options) {
   auto publisher = peer.domain.publisher().expect("a publisher");
   auto mine = static_cast<std::uint64_t>(getpid());
   auto last = Clock::now();
+  std::size_t len = options.number("len", 64);
   std::uint64_t answered = 0;
   while (answered < options.number("count", 1000) && seconds_since(last) < 10) {
     peer.gateway.wait(10ms);
+    std::vector<std::uint64_t> questions; // answered when the own answers before are taken out, of which a buffer has few
     while (auto sample = subscriber.receive().expect("a receive")) {
       Head head;
       std::memcpy(&head, sample->data(), sizeof head);
-      if (head.process == mine) continue;
+      if (head.process != mine) questions.push_back(head.number);
+    }
+    for (std::uint64_t number : questions) {
       last = Clock::now();
-      send(peer, publisher, sample->size(), Head{mine, 0, head.number});
+      send(peer, publisher, len, Head{mine, 0, number});
       peer.gateway.forward();
       answered++;
     }
