@@ -32,6 +32,7 @@ def run_bench(work):
     in_c = compile_program("gcc", "c/compare.c", "c11", work / "compare_c", "-O2")
     rows = (
         ("this crate, written in place", [compare, "domain"]),
+        ("the same, handles that borrow", [compare, "borrowed"]),
         ("std::sync::mpsc of Arc", [compare, "mpsc"]),
         ("VecDeque of Rc", [compare, "queues"]),
         ("the C calls, written in place", [in_c]),
