@@ -28,8 +28,8 @@
  *    say that nothing is written there;
  *  - payloads need no lock. The bytes of a loan are its holder's from the call that lends it to the call that sends or
  *    discards it; those of a sample are read by whoever likes, by several threads at a time, from the call that receives
- *    it to the call that releases it. No other call touches them. They aren't touched once the ending call has begun,
- *    by whichever thread;
+ *    it to the call that releases it. No other call touches them, but that one which copies a message reads it. A thread
+ *    doesn't touch them once the ending call has begun, whichever thread makes that;
  *  - numbers may be handed on as any struct may: by the lock, a queue or a join;
  *  - to wait for a message (IOX2PS_NO_SAMPLE), for room (IOX2PS_BLOCKED), for an earlier send (IOX2PS_PUBLISHER_IS_BLOCKED) or for
  *    a loan (IOX2PS_LOAN_ERROR_EXCEEDS_MAX_LOANS, IOX2PS_LOAN_ERROR_OUT_OF_MEMORY), wait at a condition variable of the lock, and

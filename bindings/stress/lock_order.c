@@ -79,9 +79,14 @@ static __thread char me;
 static char *last;
 static size_t switches;
 
+/* A call that copies a message reads its bytes, which other subscribers may have as samples. So it is forbidden the loans
+ * alone. */
+static int reads_a_message;
+
 static void allow(int allowed) {
 #ifdef NO_ACCESS
   for (int kind = LOAN; kind <= SAMPLE; kind += SAMPLE - LOAN) {
+    if (kind == SAMPLE && reads_a_message) continue;
     for (size_t i = 0; i < count[kind]; i++) {
       if (allowed) VALGRIND_MAKE_MEM_DEFINED(live[kind][i].bytes, BYTES);
       else VALGRIND_MAKE_MEM_NOACCESS(live[kind][i].bytes, BYTES);
@@ -318,7 +323,9 @@ REAL(uint32_t, iox2ps_subscriber_receive, iox2ps_domain_t *domain, const iox2ps_
 }
 REAL(uint32_t, iox2ps_subscriber_receive_copy, iox2ps_domain_t *domain, const iox2ps_subscriber_t *it, void *bytes, size_t room, size_t *len, iox2ps_sample_t *sample) {
   uint32_t code;
+  reads_a_message = 1;
   CALL(__real_iox2ps_subscriber_receive_copy(domain, it, bytes, room, len, sample));
+  reads_a_message = 0;
   line("recv", find(SUBSCRIBER, 0, it->id.low)->command);
   if (code == IOX2PS_NO_SAMPLE) { reply("none"); return code; }
   if (code) { reply_error(code); return code; }

@@ -15,7 +15,8 @@
  * but for iox2ps_dds_wake; and nothing is closed twice. Cyclone DDS has threads of its own, which never call a domain.
  *
  * Each call returns IOX2PS_OK, a code of the domain, or one of those below. Where there is a why, it gets words for a
- * refusal, cut to its room and ended by a zero byte; it may be null with a room of 0. */
+ * refusal, cut to its room and ended by a zero byte; it may be null with a room of 0. What opens or starts something
+ * refuses where memory or a thread isn't had; in other calls that ends the program. */
 #ifndef IOX2_PUBSUB_DDS_H
 #define IOX2_PUBSUB_DDS_H
 

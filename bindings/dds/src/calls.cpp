@@ -3,6 +3,7 @@
 
 #include <algorithm>
 #include <cstring>
+#include <exception>
 
 using iox2ps::dds::detail::Gateway;
 using iox2ps::dds::detail::Group;
@@ -30,6 +31,18 @@ Nanoseconds time_of(std::uint64_t nanoseconds) {
   return Nanoseconds(static_cast<std::int64_t>(std::min<std::uint64_t>(nanoseconds, std::uint64_t{1} << 60)));
 }
 
+/* What opens something refuses where memory or a thread isn't had. Elsewhere that ends the program. */
+template <typename Open> std::uint32_t opened(char *why, std::size_t room, Open open) {
+  std::string words;
+  std::uint32_t code = IOX2PS_DDS_REFUSED;
+  try {
+    code = open(words);
+  } catch (const std::exception &error) {
+    return say(error.what(), why, room), code;
+  }
+  return say(words, why, room), code;
+}
+
 constexpr std::uint32_t ok = IOX2PS_OK, timed_out = IOX2PS_DDS_TIMEOUT, unknown = IOX2PS_DDS_UNKNOWN;
 
 } // namespace
@@ -38,12 +51,12 @@ extern "C" {
 
 std::uint32_t iox2ps_dds_gateways_open(std::uint32_t dds_domain, std::size_t max_message_size, iox2ps_dds_gateways_t **gateways,
                                        char *why, std::size_t room) {
-  std::string words;
-  std::shared_ptr<Group> group = Group::open(dds_domain, max_message_size, words);
-  say(words, why, room);
-  if (!group) return IOX2PS_DDS_REFUSED;
-  *gateways = new iox2ps_dds_gateways_t{std::move(group)};
-  return ok;
+  return opened(why, room, [&](std::string &words) -> std::uint32_t {
+    std::shared_ptr<Group> group = Group::open(dds_domain, max_message_size, words);
+    if (!group) return IOX2PS_DDS_REFUSED;
+    *gateways = new iox2ps_dds_gateways_t{std::move(group)};
+    return ok;
+  });
 }
 
 void iox2ps_dds_gateways_close(iox2ps_dds_gateways_t *gateways) { delete gateways; }
@@ -73,12 +86,12 @@ void iox2ps_dds_settings_defaults(iox2ps_dds_settings_t *settings, std::size_t e
 std::uint32_t iox2ps_dds_gateway_open(iox2ps_dds_gateways_t *gateways, iox2ps_domain_t *domain,
                                       const iox2ps_dds_settings_t *settings, iox2ps_dds_gateway_t **gateway, char *why,
                                       std::size_t room) {
-  std::string words;
-  std::unique_ptr<Gateway> made;
-  std::uint32_t code = Gateway::open(gateways->group, domain, *settings, made, words);
-  say(words, why, room);
-  if (code == ok) *gateway = new iox2ps_dds_gateway_t{std::move(made)};
-  return code;
+  return opened(why, room, [&](std::string &words) {
+    std::unique_ptr<Gateway> made;
+    std::uint32_t code = Gateway::open(gateways->group, domain, *settings, made, words);
+    if (code == ok) *gateway = new iox2ps_dds_gateway_t{std::move(made)};
+    return code;
+  });
 }
 
 void iox2ps_dds_gateway_close(iox2ps_dds_gateway_t *gateway) { delete gateway; }
@@ -97,7 +110,9 @@ std::uint32_t iox2ps_dds_origin(iox2ps_dds_gateway_t *gateway, iox2ps_wide_t num
   return gateway->gateway->incoming().origin(number, *origin) ? ok : unknown;
 }
 
-std::uint32_t iox2ps_dds_start(iox2ps_dds_gateway_t *gateway) { return gateway->gateway->start(); }
+std::uint32_t iox2ps_dds_start(iox2ps_dds_gateway_t *gateway) {
+  return opened(nullptr, 0, [&](std::string &) { return gateway->gateway->start(); });
+}
 void iox2ps_dds_stop(iox2ps_dds_gateway_t *gateway) { gateway->gateway->stop(); }
 
 } // extern "C"

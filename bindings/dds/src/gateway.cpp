@@ -116,20 +116,28 @@ void Gateway::forward(iox2ps_dds_forwarded_t &now, std::size_t most) {
 
 /* ---- threads */
 
+bool Gateway::make_waitset() {
+  if (waitset_ > 0) return true;
+  dds_entity_t participant = group_->participant()->entity();
+  if (guard_ <= 0) guard_ = dds_create_guardcondition(participant);
+  waitset_ = dds_create_waitset(participant);
+  return guard_ > 0 && waitset_ > 0 && dds_waitset_attach(waitset_, guard_, 0) == DDS_RETCODE_OK &&
+         dds_waitset_attach(waitset_, topic_->condition(), 0) == DDS_RETCODE_OK;
+}
+
 std::uint32_t Gateway::start() {
   if (has_threads()) return IOX2PS_DDS_HAS_THREADS;
-  if (!caller_.may_wait()) return IOX2PS_DDS_REFUSED;
-  if (waitset_ == 0) {
-    guard_ = dds_create_guardcondition(group_->participant()->entity());
-    waitset_ = dds_create_waitset(group_->participant()->entity());
-    if (guard_ <= 0 || waitset_ <= 0) return IOX2PS_DDS_REFUSED;
-    dds_waitset_attach(waitset_, guard_, 0);
-    dds_waitset_attach(waitset_, topic_->condition(), 0);
-  }
-  group_->detach(*this);
+  if (!caller_.may_wait() || !make_waitset()) return IOX2PS_DDS_REFUSED;
   stops_ = false;
-  out_thread_ = std::thread([this] { run_out(); });
-  in_thread_ = std::thread([this] { run_in(); });
+  group_->detach(*this);
+  try {
+    in_thread_ = std::thread([this] { run_in(); });
+    out_thread_ = std::thread([this] { run_out(); });
+  } catch (...) {
+    if (has_threads()) stop();
+    else group_->attach(*this);
+    throw;
+  }
   return IOX2PS_OK;
 }
 
@@ -138,7 +146,7 @@ void Gateway::stop() {
   stops_ = true;
   dds_set_guardcondition(guard_, true);
   caller_.call(IOX2PS_DDS_MESSAGE | IOX2PS_DDS_ROOM, [](iox2ps_domain_t *) { return static_cast<std::uint32_t>(IOX2PS_OK); });
-  out_thread_.join();
+  if (out_thread_.joinable()) out_thread_.join();
   in_thread_.join();
   group_->attach(*this);
 }

@@ -57,7 +57,7 @@ public:
 
   void forward(iox2ps_dds_forwarded_t &now, std::size_t most);
   std::size_t held() const { return outgoing_->held(); }
-  bool has_threads() const { return out_thread_.joinable(); }
+  bool has_threads() const { return in_thread_.joinable(); }
   bool is_done() const { return has_threads() ? outgoing_->is_done() : held() == 0; }
   dds_entity_t condition() const { return topic_->condition(); }
   Topic &topic() { return *topic_; }
@@ -74,6 +74,7 @@ private:
   std::uint32_t make(const iox2ps_dds_settings_t &settings, std::string &why);
   std::uint32_t make_ports(std::string &why);
   void close_ports();
+  bool make_waitset();
   void run_out();
   void run_in();
 

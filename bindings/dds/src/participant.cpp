@@ -43,7 +43,10 @@ bool Participant::open(std::uint32_t dds_domain, std::string &why) {
   domain_ = dds_create_domain(dds_domain, configuration(max_message_size_).c_str());
   if (domain_ == DDS_RETCODE_PRECONDITION_NOT_MET) domain_ = 0; // the program has made it, with settings of its own
   entity_ = domain_ < 0 ? domain_ : dds_create_participant(dds_domain, nullptr, nullptr);
-  if (entity_ > 0) return true;
+  if (entity_ > 0) {
+    deleter_ = std::thread([this] { delete_all(); });
+    return true;
+  }
   why = "participant in the DDS domain " + std::to_string(dds_domain) + ": " + dds_strretcode(entity_);
   return false;
 }
@@ -74,7 +77,6 @@ void Participant::give_back_topic(const std::string &name) {
 void Participant::delete_later(std::function<void()> deletion) {
   std::lock_guard<std::mutex> lock(mutex_);
   deletions_.push_back(std::move(deletion));
-  if (!deleter_.joinable()) deleter_ = std::thread([this] { delete_all(); });
   changed_.notify_all();
 }
 

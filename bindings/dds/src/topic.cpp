@@ -135,8 +135,7 @@ Topic::~Topic() {
   Taken taken;
   while (ends_->reader > 0 && take(taken) == Take::One) {}
   participant_->give_back_topic(name_);
-  std::shared_ptr<Ends> ends = std::move(ends_);
-  participant_->delete_later([ends] { (void)ends; });
+  participant_->delete_later([ends = std::move(ends_)]() mutable { ends.reset(); }); // nobody else has them
 }
 
 /* ---- out */

@@ -96,7 +96,7 @@ private:
   ddsi_serdata *next_ = nullptr;
   bool full_ = false; // the writer had no room for it
   std::uint64_t number_ = 0;
-  std::int64_t last_code_ = 0;
+  std::atomic<std::int64_t> last_code_{0};
   dds_instance_handle_t last_writer_ = 0; // whose frame was taken last, and what is known of it
   bool last_is_of_type_ = false;
   std::uint64_t *last_number_ = nullptr;

@@ -7,6 +7,7 @@
 #include <stdio.h>
 #include <stdlib.h>
 #include <string.h>
+#include <unistd.h>
 #include <time.h>
 
 typedef struct { double celsius; uint64_t number; } reading_t;
@@ -114,6 +115,7 @@ int main(int count, char **words) {
   uint64_t number, good = 0, wrong = 0, turns;
   iox2ps_dds_peers_t peers = {0};
   iox2ps_dds_counts_t counts;
+  alarm(900); /* a program whose test is gone ends by itself */
   if (count != 4 || !open_all(words[3])) return 3;
   for (turns = 0; turns < 1000 && (peers.readers == 0 || peers.writers == 0); turns++) {
     poll_for(0, 20000000);

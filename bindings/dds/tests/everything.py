@@ -22,8 +22,8 @@ grind = "valgrind --quiet --leak-check=full --error-exitcode=9 --errors-for-leak
 # Tests that look at one thing each, with few messages.
 few = ["small", "several", "large", "overflow", "both_ways", "late_joiner", "receiver_killed", "sender_killed", "typed_values",
        "bad_frames", "other_struct", "same_name_other_structure", "second_gateway", "many_domains", "gateways_come_and_go",
-       "threads", "c_calls", "leaves_full"]
-ground = ["typed_values", "several", "bad_frames", "other_struct", "second_gateway", "many_domains", "late_joiner", "c_calls"]
+       "threads", "c_calls", "with_security", "leaves_full"]
+ground = ["typed_values", "several", "bad_frames", "many_domains", "c_calls"]
 
 def run(words, limit=120, **more):
     done = subprocess.run(words, stdout=subprocess.PIPE, stderr=subprocess.STDOUT, text=True, timeout=limit,
@@ -82,13 +82,17 @@ def example():
     return two(os.path.join(folder, "gateway"), "from elsewhere")
 
 def page():
-    """The program of the page, and its own line for the compiler."""
-    text = open(readme).read()
+    """The program of the page, and its own lines: in a folder with links, where bindings/out is a copy."""
+    text, tree = open(readme).read(), os.path.join(work, "page")
     program = re.search(r"^```c\+\+\n(.*?)^```$", text, re.M | re.S).group(1)
-    line = re.search(r"^    (g\+\+ .*first_dds.*) && \./first_dds$", text, re.M).group(1)
-    with open(os.path.join(work, "first_dds.cpp"), "w") as file: file.write(program)
-    run(line.replace("bindings/out", os.path.join(work, "moved")).split(), cwd=work)
-    return two(os.path.join(work, "first_dds"), "from another process")
+    lines = re.search(r"((?:^    cmake .*\n)+)^    (g\+\+ .*first_dds.*) && \./first_dds$", text, re.M)
+    os.makedirs(tree + "/bindings/dds")
+    shutil.copytree(out, tree + "/bindings/out")
+    for name in os.listdir(source):
+        if name != "build": os.symlink(os.path.join(source, name), os.path.join(tree, "bindings/dds", name))
+    with open(tree + "/first_dds.cpp", "w") as file: file.write(program)
+    run(["bash", "-e", "-c", lines.group(1) + lines.group(2)], 600, cwd=tree)
+    return two(tree + "/first_dds", "from another process")
 
 def rust(plain):
     """The crate's feature, with a program in C++ on the other side too."""
@@ -124,7 +128,11 @@ def all_steps():
     sane = build("sanitized", os.path.join(work, "moved"), "-DIOX2PS_DDS_TESTS=ON", "-DCMAKE_BUILD_TYPE=None", *flags)
     step("frames, sanitizers", lambda: run([os.path.join(sane, "frames")]).strip())
     step("between processes, sanitizers", tests(sane, few, FEW="1", SLOWER="3"))
-    if shutil.which("valgrind"): step("between processes, valgrind", tests(plain, ground, FEW="1", SLOWER="8", WRAP=grind))
+    flags = ["-DCMAKE_%s_FLAGS=-fsanitize=thread -g -O1" % language for language in ("C", "CXX")]
+    raced = build("raced", os.path.join(work, "moved"), "-DIOX2PS_DDS_TESTS=ON", "-DCMAKE_BUILD_TYPE=None", *flags)
+    races = "exitcode=66 suppressions=" + os.path.join(here, "threads.supp")
+    step("threads, thread sanitizer", tests(raced, ["threads", "c_calls", "woken", "second_gateway"], FEW="1", SLOWER="3", TSAN_OPTIONS=races))
+    if shutil.which("valgrind"): step("between processes, valgrind", tests(plain, ground, FEW="1", SLOWER="4", WRAP=grind))
     else: print("not there, and so not run: valgrind")
 
 if __name__ == "__main__":

@@ -188,16 +188,20 @@ int hostile_role(const Options &options) {
   return 0;
 }
 
-/* How many participants of DDS there are. */
+/* How many participants of DDS there are, once there are so many or the time has passed. */
 int participants_role(const Options &options) {
   Plain plain(options, &iox2_msgs_msg_dds__Frame__desc);
   dds_entity_t list = dds_create_reader(plain.participant, DDS_BUILTIN_TOPIC_DCPSPARTICIPANT, nullptr, nullptr);
-  dds_sleepfor(DDS_SECS(static_cast<std::int64_t>(options.number("wait_s", 2))));
-  void *samples[64] = {};
-  dds_sample_info_t infos[64];
-  dds_return_t count = dds_read_mask(list, samples, infos, 64, 64, DDS_ANY_SAMPLE_STATE | DDS_ANY_VIEW_STATE | DDS_ALIVE_INSTANCE_STATE);
+  auto start = Clock::now();
+  dds_return_t count = 0;
+  while (count < static_cast<dds_return_t>(options.number("count", 3)) && seconds_since(start) < static_cast<double>(options.number("wait_s", 20))) {
+    void *samples[64] = {};
+    dds_sample_info_t infos[64];
+    dds_sleepfor(DDS_MSECS(500));
+    count = dds_read_mask(list, samples, infos, 64, 64, DDS_ANY_SAMPLE_STATE | DDS_ANY_VIEW_STATE | DDS_ALIVE_INSTANCE_STATE);
+    if (count > 0) dds_return_loan(list, samples, count);
+  }
   std::printf("{\"participants\": %d}\n", count);
-  if (count > 0) dds_return_loan(list, samples, count);
   return 0;
 }
 

@@ -8,6 +8,7 @@ slower = float(os.environ.get("SLOWER", "1"))  # under valgrind
 few = os.environ.get("FEW")  # fewer messages, for slow checkers
 work = tempfile.mkdtemp()
 atexit.register(shutil.rmtree, work, True)
+nice = os.environ.get("NICE", "10")
 turn = 0
 started = []
 
@@ -18,7 +19,7 @@ def uri(lease=None, extra=""):
             "<Peers><Peer Address='127.0.0.1'/></Peers>" + discovery + "</Discovery>" + extra + "</Domain></CycloneDDS>")
 
 def start(program, role, where=None, **options):
-    words = ["nice", "-n", "10"] + (wrapper if program in with_gateway else []) + [os.path.join(folder, program), role]
+    words = ["nice", "-n", nice] + (wrapper if program in with_gateway else []) + [os.path.join(folder, program), role]
     if program == "liar": words.pop(); words += [options["topic"], str(options["count"])]
     elif program == "calls": words += [str(options["count"]), options["topic"]]
     else:

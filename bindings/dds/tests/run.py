@@ -4,7 +4,9 @@ builds them. The last line is `N passed, M failed`. Each process has a time limi
 
 Of the environment: WRAP is put before each program with a gateway (valgrind ..), SLOWER multiplies the time limits, and FEW
 makes it fewer messages."""
-import os, sys, time
+import os, shutil, sys, time
+
+import security
 from processes import end, end_all, few, slower, start, topic, uri, wait_for, work
 
 def sound(got):
@@ -87,7 +89,7 @@ def without_history():
 def receiver_killed():
     """The receiver is killed among messages, and another one starts: the sender goes on."""
     name, count = topic(), 400 if few else 20000
-    where = uri(lease="1s")
+    where = uri(lease="%gs" % slower)
     first = start("peer", "receive", where, topic=name, mode="retry", die_after=count // 10, expect=count)
     of = start("peer", "send", where, topic=name, mode="retry", count=count, every_us=100, flush=30)
     end(first, 60, killed=True)
@@ -102,7 +104,7 @@ def receiver_killed():
 def sender_killed():
     """The sender is killed and starts again: the receiver has both, each in order."""
     name, count = topic(), 200 if few else 3000
-    where = uri(lease="1s")
+    where = uri(lease="%gs" % slower)
     to = start("peer", "receive", where, topic=name, mode="retry", expect=2 * count, idle=6, ready=os.path.join(work, "killed"))
     wait_for(os.path.join(work, "killed"))
     first = start("peer", "send", where, topic=name, mode="retry", count=10**9, every_us=300)
@@ -189,7 +191,7 @@ def many_domains():
     name, count = topic(), 20 if few else 200
     options = dict(topic=name, count=count, mode="retry", buffer=64, hold=3 * slower)
     first, second = start("cases", "many", **options), start("cases", "many", **options)
-    seen = end(start("plain", "participants", topic=name, wait_s=int(2 * slower), hold=1))
+    seen = end(start("plain", "participants", topic=name, wait_s=int(20 * slower)))
     for one in (end(first), end(second)): assert one == {"bytes": count, "readings": count, "numbers": count}, one
     assert seen["participants"] == 3, seen  # its own too
     return "%d messages of 3 types each way, by %d participants" % (count, seen["participants"] - 1)
@@ -203,6 +205,25 @@ def gateways_come_and_go():
     end(of, 60)
     assert got == {"opened": 20, "blocked": 1}, got
     return "20 in %.1f s" % took
+
+def with_security():
+    """Cyclone's DDS Security: programs with certificates talk, one without isn't met, and one may only use its own topic."""
+    if not shutil.which("openssl"): return "not run, since openssl isn't there"
+    name, folder, count = topic(), work, 20 if few else 200
+    security.authority(folder)
+    for who, topics in (("one", "*"), ("two", "*"), ("three", "something/else")): security.program(folder, who, topics)
+    where = lambda who: uri(extra=security.settings(folder, who))
+    to = start("peer", "receive", where("one"), topic=name, mode="retry", expect=count, max=64)
+    outsider = start("cases", "look", topic=name, mode="retry", hold=3)
+    of = start("peer", "send", where("two"), topic=name, mode="retry", count=count, len=64, hold=2)
+    sent, got, seen = end(of), end(to), end(outsider)
+    sound(got)
+    assert got["good"] == count and sent["sent"] == count and seen["readers"] == seen["writers"] == seen["received"] == 0, (got, seen)
+    third = start("cases", "look", where("three"), topic=name, hold=1)
+    try: end(third)
+    except AssertionError: pass
+    assert third.returncode == 3 and name in third.err, (third.returncode, third.err)
+    return "%d came, one without a certificate met nobody, another's topic was refused: %s" % (count, third.err.strip().splitlines()[-1])
 
 def c_calls():
     """A program in C, polled and with threads of its gateway's own under a lock of the program's."""
@@ -286,7 +307,7 @@ def stalled_reader():
 tests = [small, several, large, empty_buffers, slow_reader, overflow, both_ways, late_joiner, without_history, receiver_killed,
          sender_killed, typed_values, bad_frames, bad_frames_for_values, hostile_lengths, other_payload_size, other_struct,
          only_known, other_type, same_name_other_structure, other_qos, second_gateway, many_domains, gateways_come_and_go,
-         woken, best_effort, c_calls, threads, leaves_full, stalled_reader]
+         with_security, woken, best_effort, c_calls, threads, leaves_full, stalled_reader]
 
 if __name__ == "__main__":
     chosen = [test for test in tests if test.__name__ in sys.argv[2:]] if len(sys.argv) > 2 else tests

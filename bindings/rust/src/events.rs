@@ -38,7 +38,7 @@ where
             receive_next(shared, &self.port, &mut sample, &mut start, &mut len)
         });
         match code {
-            Some(code) => Poll::Ready(self.sample(code, sample, start, len)),
+            Some(code) => Poll::Ready(self.sample(code, &sample, start, len)),
             None => Poll::Pending,
         }
     }

@@ -8,7 +8,6 @@ use crate::threads::{Brings, Place, Wait, Waits};
 use crate::waiting::{Sleeper, WaitingList, Wake};
 use std::cell::UnsafeCell;
 use std::hint::spin_loop;
-use std::mem::replace;
 use std::sync::atomic::{AtomicUsize, Ordering};
 use std::task::Waker;
 use std::thread::yield_now;
@@ -65,31 +64,30 @@ impl<L: DomainLock> Guarded<L> {
         }
     }
 
-    // Under the lock: what a call that returned this code has brought, and whom to wake.
+    // Under the lock: what a call that returned this code has brought. Returns whom to wake, where anybody waits.
     #[inline]
-    fn brought(&self, state: &mut State, brings: Brings, code: u32) {
+    fn brought(&self, state: &mut State, brings: Brings, code: u32) -> Option<Wake> {
         let brings = match code {
-            // Those before the full buffer have got the message, and nothing has ended.
-            sys::BLOCKED => Brings(brings.0 & Brings::MESSAGE.0),
-            sys::NOT_LIVE | sys::NO_SAMPLE | sys::PUBLISHER_IS_BLOCKED => Brings::NOTHING,
-            _ => brings,
+            sys::OK => brings,
+            sys::NO_SAMPLE => Brings::NOTHING,
+            _ => brought_by(brings, code),
         };
+        // What may have come so far, so that one may look for it without the lock.
         if brings.meets(Brings::MESSAGE) {
             count(&self.messages);
         }
-        if brings.0 & !Brings::MESSAGE.0 != 0 {
+        if brings.meets(Brings::OTHERS) {
             count(&self.others);
         }
-        if brings != Brings::NOTHING && !state.waiting.is_empty() {
-            state.waiting.bring(brings);
+        if state.waiting.is_empty() {
+            return None;
         }
+        Some(Self::next(state, brings))
     }
 
-    #[inline]
-    fn next(state: &mut State) -> Wake {
-        if state.waiting.is_empty() {
-            return Wake::default();
-        }
+    #[cold]
+    fn next(state: &mut State, brings: Brings) -> Wake {
+        state.waiting.bring(brings);
         state.waiting.next(L::WAKES_ALL)
     }
 
@@ -148,16 +146,18 @@ impl<L: DomainLock> Guarded<L> {
         let mut waker = Some(waker.clone());
         let (code, waits, wake) = self.with(|state| {
             let code = calls(&mut state.shared);
-            self.brought(state, brings, code);
+            let wake = self.brought(state, brings, code);
             let waits = code == sys::NO_SAMPLE && !state.is_stopped;
             if waits {
                 waker = waker
                     .take()
                     .and_then(|waker| state.waiting.add_task(port, waker));
             }
-            (code, waits, Self::next(state))
+            (code, waits, wake)
         });
-        wake.wake();
+        if let Some(wake) = wake {
+            wake.wake();
+        }
         (!waits).then_some(code)
     }
 
@@ -167,7 +167,7 @@ impl<L: DomainLock> Guarded<L> {
             let none = Listeners::default();
             let listeners = state.waiting.listeners.as_deref().unwrap_or(&none);
             let listeners = listeners.with(port, listener);
-            replace(&mut state.waiting.listeners, listeners)
+            state.waiting.listen(listeners)
         });
         drop(old);
     }
@@ -176,12 +176,15 @@ impl<L: DomainLock> Guarded<L> {
 impl<L: DomainLock> Place for Guarded<L> {
     #[inline]
     fn call(&self, brings: Brings, calls: impl FnOnce(&mut Shared) -> u32) -> u32 {
-        let (code, wake) = self.with(|state| {
+        let mut wake = None;
+        let code = self.with(|state| {
             let code = calls(&mut state.shared);
-            self.brought(state, brings, code);
-            (code, Self::next(state))
+            wake = self.brought(state, brings, code);
+            code
         });
-        wake.wake();
+        if let Some(wake) = wake {
+            wake.wake();
+        }
         code
     }
 
@@ -193,15 +196,17 @@ impl<L: DomainLock> Place for Guarded<L> {
                     state.waiting.remove(&sleeper);
                 }
                 let code = calls(&mut state.shared);
-                self.brought(state, wait.brings, code);
                 if code == sys::NO_SAMPLE {
                     state.waiting.nothing_for(wait.port);
                 }
+                let wake = self.brought(state, wait.brings, code);
                 let is_over = !wait.what.goes_on(code) || state.is_stopped || is_past(wait.until);
                 let seen = self.changes(wait.what).load(Ordering::Relaxed);
-                (code, is_over, seen, Self::next(state))
+                (code, is_over, seen, wake)
             });
-            wake.wake();
+            if let Some(wake) = wake {
+                wake.wake();
+            }
             if is_over || is_listening() {
                 return code;
             }
@@ -223,10 +228,26 @@ impl<L: DomainLock> Place for Guarded<L> {
                 .as_deref()
                 .unwrap_or(&none)
                 .with(port, None);
-            let listeners = replace(&mut state.waiting.listeners, listeners);
+            let listeners = state.waiting.listen(listeners);
             Some((listeners, state.waiting.remove_tasks(port)))
         });
         drop(gone);
+    }
+}
+
+// Of a call that didn't return OK. One that only waits on may not bring anything to others that wait for the same, or
+// they would wake each other without end.
+#[cold]
+fn brought_by(brings: Brings, code: u32) -> Brings {
+    match code {
+        // Those before the full buffer have got the message, and nothing has ended.
+        sys::BLOCKED => brings.only(Brings::MESSAGE),
+        // An update may have been made for it.
+        sys::LOAN_ERROR_OUT_OF_MEMORY => brings.only(Brings::MESSAGE),
+        sys::LOAN_ERROR_EXCEEDS_MAX_LOANS | sys::NOT_LIVE | sys::PUBLISHER_IS_BLOCKED => {
+            Brings::NOTHING
+        }
+        _ => brings,
     }
 }
 

@@ -17,6 +17,7 @@ use std::ptr;
 use std::time::{Duration, Instant};
 
 // A loan in its domain, which gets it back when this is dropped.
+#[repr(C)]
 struct Lent<M: Threads> {
     hold: M::Hold,
     loan: sys::Loan,
@@ -43,9 +44,10 @@ impl<M: Threads> Lent<M> {
 
 /// A message that was lent and isn't written yet. It is given back when it is dropped.
 #[must_use = "a loan that isn't sent is given back"]
+#[repr(C)]
 pub struct LoanUninit<P: Payload + ?Sized, M: Threads = OneThread> {
-    lent: Lent<M>,
     payload: *mut P,
+    lent: Lent<M>,
 }
 
 // SAFETY: what these have is a part in the domain, which may be given to other threads, and the place of
@@ -57,9 +59,9 @@ unsafe impl<P: Payload + ?Sized + Send + Sync, M: MayWait> Sync for Loan<P, M> {
 
 impl<P: Payload + ?Sized, M: Threads> LoanUninit<P, M> {
     #[inline]
-    pub(crate) fn new(hold: M::Hold, loan: sys::Loan, start: *mut u8, bytes: usize) -> Self {
-        let lent = Lent { hold, loan };
+    pub(crate) fn new(hold: M::Hold, loan: &sys::Loan, start: *mut u8, bytes: usize) -> Self {
         let payload = P::at(start, bytes).expect("a loan has room for its type");
+        let lent = Lent { hold, loan: *loan };
         LoanUninit { lent, payload }
     }
 
@@ -129,9 +131,10 @@ impl<P: Payload + ?Sized, M: Threads> fmt::Debug for LoanUninit<P, M> {
 /// A message that was lent and is written: it reads as its payload where that lies, and can be changed
 /// there until it is sent. It is given back when it is dropped.
 #[must_use = "a loan that isn't sent is given back"]
+#[repr(C)]
 pub struct Loan<P: Payload + ?Sized, M: Threads = OneThread> {
-    lent: Lent<M>,
     payload: *mut P,
+    lent: Lent<M>,
 }
 
 impl<P: Payload + ?Sized, M: Threads> Loan<P, M> {
@@ -174,7 +177,7 @@ impl<P: Payload + ?Sized, M: Threads> Loan<P, M> {
         if code == sys::PUBLISHER_IS_BLOCKED {
             return Err(SendError::PublisherIsBlocked);
         }
-        outcome(&self.lent.into_hold(), code, receivers, blocked)
+        outcome(&self.lent.into_hold(), code, receivers, &blocked)
     }
 
     /// The same, but where an earlier send of the publisher waits, the loan comes back.
@@ -202,7 +205,7 @@ impl<P: Payload + ?Sized, M: Threads> Loan<P, M> {
                 loan: Some(self),
             });
         }
-        let sent = outcome(&self.lent.into_hold(), code, receivers, blocked);
+        let sent = outcome(&self.lent.into_hold(), code, receivers, &blocked);
         sent.map_err(|error| Unsent { error, loan: None })
     }
 }

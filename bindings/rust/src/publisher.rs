@@ -105,7 +105,7 @@ impl<P: Payload + ?Sized, M: Threads> Publisher<P, M> {
         let code = self.hold.call(Brings::NOTHING, |shared| {
             lend(shared, &self.port, bytes, &mut loan, &mut start)
         });
-        taken(&self.hold, code, loan, start, bytes)
+        taken(&self.hold, code, &loan, start, bytes)
     }
 }
 
@@ -125,7 +125,7 @@ impl<P: Payload + ?Sized, M: MayWait> Publisher<P, M> {
             }
             lend(shared, &self.port, bytes, &mut loan, &mut start)
         });
-        taken(&self.hold, code, loan, start, bytes)
+        taken(&self.hold, code, &loan, start, bytes)
     }
 
     fn wait_for_loan(&self, until: Option<Instant>, brings: Brings) -> Wait {
@@ -162,7 +162,7 @@ fn update_for_slots(shared: &mut Shared, port: &sys::Publisher, code: u32) -> bo
 fn taken<P: Payload + ?Sized, M: Threads>(
     hold: &M::Hold,
     code: u32,
-    loan: MaybeUninit<sys::Loan>,
+    loan: &MaybeUninit<sys::Loan>,
     start: *mut u8,
     bytes: usize,
 ) -> Result<LoanUninit<P, M>, LoanError> {
@@ -170,7 +170,7 @@ fn taken<P: Payload + ?Sized, M: Threads>(
         return Err(LoanError::of(code));
     }
     // SAFETY: with this code it is written.
-    let loan = unsafe { loan.assume_init() };
+    let loan = unsafe { &*loan.as_ptr() };
     Ok(LoanUninit::new(hold.clone(), loan, start, bytes))
 }
 
@@ -209,7 +209,7 @@ impl<T: Copy + 'static, M: Threads> Publisher<T, M> {
         let code = self.hold.call(Brings::SEND, |shared| {
             send_copy(shared, &self.port, value, &mut receivers, &mut blocked)
         });
-        outcome(&self.hold, code, receivers, blocked)
+        outcome(&self.hold, code, receivers, &blocked)
     }
 }
 
@@ -293,7 +293,7 @@ impl<T: Copy + 'static, M: MayWait> Publisher<T, M> {
             }
             send_copy(shared, &self.port, value, &mut receivers, &mut blocked)
         });
-        outcome(&self.hold, code, receivers, blocked)?.wait_until(until)
+        outcome(&self.hold, code, receivers, &blocked)?.wait_until(until)
     }
 }
 

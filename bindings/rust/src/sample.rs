@@ -15,10 +15,11 @@ use std::ptr;
 /// A message that was received, which reads as its payload where that lies. It is given back when it
 /// is dropped, and until then it counts against what its subscriber may borrow.
 #[must_use = "a sample that isn't read is given back"]
+#[repr(C)]
 pub struct Sample<P: Payload + ?Sized, M: Threads = OneThread> {
+    payload: *const P,
     hold: M::Hold,
     sample: sys::Sample,
-    payload: *const P,
 }
 
 // SAFETY: what it has is a part in the domain, which may be given to other threads, and the place of a
@@ -29,12 +30,12 @@ unsafe impl<P: Payload + ?Sized + Send + Sync, M: MayWait> Sync for Sample<P, M>
 
 impl<P: Payload + ?Sized, M: Threads> Sample<P, M> {
     #[inline]
-    pub(crate) fn new(hold: M::Hold, sample: sys::Sample, start: *const u8, len: usize) -> Self {
+    pub(crate) fn new(hold: M::Hold, sample: &sys::Sample, start: *const u8, len: usize) -> Self {
         let payload =
             P::at(start as *mut u8, len).expect("each message of a domain is of its type");
         Sample {
             hold,
-            sample,
+            sample: *sample,
             payload,
         }
     }

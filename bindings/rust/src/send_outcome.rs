@@ -204,14 +204,14 @@ pub(crate) fn outcome<P: Payload + ?Sized, M: Threads>(
     hold: &M::Hold,
     code: u32,
     receivers: usize,
-    blocked: MaybeUninit<sys::Blocked>,
+    blocked: &MaybeUninit<sys::Blocked>,
 ) -> Result<SendOutcome<P, M>, SendError> {
     match code {
         sys::OK => Ok(SendOutcome::Delivered(receivers)),
         sys::BLOCKED => Ok(SendOutcome::Blocked(BlockedSend {
             hold: hold.clone(),
             // SAFETY: with this code it is written.
-            blocked: Box::new(unsafe { blocked.assume_init() }),
+            blocked: Box::new(unsafe { *blocked.as_ptr() }),
             message: PhantomData,
         })),
         _ => Err(SendError::of(code)),

@@ -57,7 +57,7 @@ impl<P: Payload + ?Sized, M: Threads> Subscriber<P, M> {
         let code = self.hold.call(Brings::ROOM, |shared| {
             receive_next(shared, &self.port, &mut sample, &mut start, &mut len)
         });
-        self.sample(code, sample, start, len)
+        self.sample(code, &sample, start, len)
     }
 
     // What a receive has written that returned this code.
@@ -65,14 +65,14 @@ impl<P: Payload + ?Sized, M: Threads> Subscriber<P, M> {
     pub(crate) fn sample(
         &self,
         code: u32,
-        sample: MaybeUninit<sys::Sample>,
+        sample: &MaybeUninit<sys::Sample>,
         start: *const u8,
         len: usize,
     ) -> Result<Option<Sample<P, M>>, ReceiveError> {
         match code {
             sys::OK => {
                 // SAFETY: with this code it is written.
-                let sample = unsafe { sample.assume_init() };
+                let sample = unsafe { &*sample.as_ptr() };
                 Ok(Some(Sample::new(self.hold.clone(), sample, start, len)))
             }
             sys::NO_SAMPLE => Ok(None),
@@ -231,7 +231,7 @@ impl<P: Payload + ?Sized, M: MayWait> Subscriber<P, M> {
         let code = self.hold.wait(wait, |shared| {
             receive_next(shared, &self.port, &mut sample, &mut start, &mut len)
         });
-        self.sample(code, sample, start, len)
+        self.sample(code, &sample, start, len)
     }
 
     fn wait_for_message(&self, until: Option<Instant>, brings: Brings) -> Wait {
@@ -264,7 +264,7 @@ impl<P: Payload + ?Sized, M: MayWait> Subscriber<P, M> {
                 }
                 receive_next(shared, &self.port, &mut sample, &mut start, &mut len)
             });
-            match self.sample(code, sample, start, len)? {
+            match self.sample(code, &sample, start, len)? {
                 Some(sample) if read(&sample).is_continue() => last = Some(sample),
                 _ => return Ok(()),
             }

@@ -92,6 +92,7 @@ impl Brings {
     /// A loan has ended, or a slot came back.
     pub(crate) const LOAN: Brings = Brings(8);
     pub(crate) const ALL: Brings = Brings(15);
+    pub(crate) const OTHERS: Brings = Brings(14);
 
     /// Of a loan's send, and of a copy's.
     pub(crate) const SEND: Brings = Brings::MESSAGE.and(Brings::LOAN);
@@ -102,6 +103,10 @@ impl Brings {
 
     const fn and(self, other: Brings) -> Brings {
         Brings(self.0 | other.0)
+    }
+
+    pub(crate) const fn only(self, other: Brings) -> Brings {
+        Brings(self.0 & other.0)
     }
 
     #[inline]

@@ -3,7 +3,7 @@
 use crate::listeners::Listeners;
 use crate::sys::Wide;
 use crate::threads::{Brings, Waits};
-use std::mem::take;
+use std::mem::{replace, take};
 use std::sync::atomic::{AtomicBool, Ordering};
 use std::sync::Arc;
 use std::task::Waker;
@@ -71,12 +71,27 @@ pub(crate) struct WaitingList {
     tasks: Vec<(Wide, Waker)>,
     pub(crate) listeners: Option<Arc<Listeners>>,
     messages_came: bool,
+    // Whether any of these is there. It is looked at in each call.
+    is_used: bool,
 }
 
 impl WaitingList {
     #[inline]
     pub(crate) fn is_empty(&self) -> bool {
-        self.threads.is_empty() && self.tasks.is_empty() && self.listeners.is_none()
+        !self.is_used
+    }
+
+    fn look(&mut self) {
+        self.is_used =
+            !self.threads.is_empty() || !self.tasks.is_empty() || self.listeners.is_some();
+    }
+
+    /// The listeners of the domain's subscribers are these from now on. Returns those before, which are to be dropped
+    /// without the lock.
+    pub(crate) fn listen(&mut self, listeners: Option<Arc<Listeners>>) -> Option<Arc<Listeners>> {
+        let before = replace(&mut self.listeners, listeners);
+        self.look();
+        before
     }
 
     /// A thread begins to wait.
@@ -88,6 +103,7 @@ impl WaitingList {
             is_due: false,
             is_awake: false,
         });
+        self.is_used = true;
     }
 
     /// It is back: by a wake-up, because its time is up, or for no reason.
@@ -95,6 +111,7 @@ impl WaitingList {
         let is_it = |one: &Waiting| Arc::ptr_eq(&one.sleeper, sleeper);
         if let Some(at) = self.threads.iter().position(is_it) {
             self.awake -= usize::from(self.threads.remove(at).is_awake);
+            self.look();
         }
     }
 
@@ -120,6 +137,7 @@ impl WaitingList {
             return Some(waker);
         }
         self.tasks.push((port, waker));
+        self.is_used = true;
         None
     }
 
@@ -129,6 +147,7 @@ impl WaitingList {
             .into_iter()
             .partition::<Vec<_>, _>(|task| task.0 == port);
         self.tasks = stay;
+        self.look();
         gone.into_iter().map(|(_, waker)| waker).collect()
     }
 
@@ -156,6 +175,7 @@ impl WaitingList {
         if take(&mut self.messages_came) {
             wake.tasks = take(&mut self.tasks);
             wake.listeners = self.listeners.clone();
+            self.look();
         }
         wake
     }

@@ -6,6 +6,7 @@ use iox2_pubsub::{
 };
 use std::cell::UnsafeCell;
 use std::ffi::c_void;
+use std::sync::Mutex;
 use std::thread;
 use std::time::Duration;
 
@@ -74,6 +75,23 @@ impl Drop for Inheriting {
     }
 }
 
+// Whose threads sleep at once, and are woken one by one.
+struct Sleepy(Mutex<()>);
+
+// SAFETY: it is a mutex.
+unsafe impl DomainLock for Sleepy {
+    const LOOKS: u32 = 0;
+
+    fn new() -> Self {
+        Sleepy(Mutex::new(()))
+    }
+
+    fn hold<R>(&self, run: impl FnOnce() -> R) -> R {
+        let _guard = self.0.lock().unwrap();
+        run()
+    }
+}
+
 fn keeping() -> iox2_pubsub::DomainBuilder<u64> {
     Domain::<u64>::builder(1)
         .enable_safe_overflow(false)
@@ -126,6 +144,20 @@ fn a_lock_with_inheritance_is_brought() {
         thread::sleep(waits);
         domain.stop_waits(true);
         assert!(receives.join().unwrap());
+    });
+}
+
+#[test]
+fn threads_that_sleep_at_once_are_woken_one_by_one() {
+    let domain = keeping().create_with_lock::<Sleepy>().unwrap();
+    all_in_order(&domain);
+    // A call that doesn't wait wakes too.
+    let (publisher, subscriber) = (domain.publisher().unwrap(), domain.subscriber().unwrap());
+    thread::scope(|scope| {
+        let receives = scope.spawn(|| subscriber.blocking_receive_copy().unwrap());
+        thread::sleep(Duration::from_millis(30));
+        assert_eq!(publisher.send_copy(7).unwrap().delivered(), Some(1));
+        assert_eq!(receives.join().unwrap(), Some(7));
     });
 }
 

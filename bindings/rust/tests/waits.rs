@@ -180,7 +180,7 @@ fn each_of_sixteen_that_wait_is_woken() {
 
 #[test]
 fn threads_of_one_subscriber_get_each_message_once_though_their_time_is_up() {
-    const MESSAGES: usize = 4000;
+    const MESSAGES: usize = 800;
     let domain = keeping(4);
     let publisher = domain.publisher().unwrap();
     let subscriber = domain.subscriber().unwrap();

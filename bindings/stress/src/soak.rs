@@ -181,8 +181,19 @@ impl Worker<'_> {
         }
     }
 
+    // One of its own, or one that others have too.
+    fn source(&mut self) -> Option<Arc<Source>> {
+        let own = self.random.of(&self.own.sources).cloned();
+        own.or_else(|| self.random.of(&lock(&self.round.pool).sources).cloned())
+    }
+
+    fn reader(&mut self) -> Option<Arc<Reader>> {
+        let own = self.random.of(&self.own.readers).cloned();
+        own.or_else(|| self.random.of(&lock(&self.round.pool).readers).cloned())
+    }
+
     fn send(&mut self) {
-        let Some(source) = self.random.of(&self.own.sources).cloned() else {
+        let Some(source) = self.source() else {
             return;
         };
         let mut sent = lock(&source.sent);
@@ -222,7 +233,7 @@ impl Worker<'_> {
         let Some(Waiting(blocked, message)) = self.random.take(&mut self.own.blocked) else {
             return;
         };
-        let outcome = match self.random.below(8) {
+        let outcome = match self.random.below(400) {
             0 => {
                 self.gives_up(message);
                 blocked.give_up()
@@ -231,7 +242,7 @@ impl Worker<'_> {
                 self.gives_up(message);
                 return drop(blocked);
             }
-            2 | 3 => blocked.retry(Duration::ZERO),
+            2..=120 => blocked.retry(Duration::ZERO),
             _ => blocked.timed_retry(TIME),
         };
         if let SendOutcome::Blocked(blocked) = outcome.unwrap() {
@@ -246,7 +257,11 @@ impl Worker<'_> {
     }
 
     fn receive(&mut self) {
-        let Some(reader) = self.random.of(&self.own.readers).cloned() else {
+        // Who keeps all keeps others from receiving.
+        if self.own.samples.len() > 1 {
+            drop(self.random.take(&mut self.own.samples));
+        }
+        let Some(reader) = self.reader() else {
             return;
         };
         let round = self.round;
@@ -280,9 +295,10 @@ impl Worker<'_> {
                 0 => reader.subscriber.clear_listener(),
                 1 => drop(reader.subscriber.message_fd().unwrap().reset()),
                 _ => reader.subscriber.set_listener(move || {
-                    add(&counts.called);
-                    if let Some(reader) = weak.upgrade() {
-                        assert!(reader.subscriber.has_samples().is_ok());
+                    if counts.called.fetch_add(1, Ordering::Relaxed) % 16 == 0 {
+                        if let Some(reader) = weak.upgrade() {
+                            assert!(reader.subscriber.has_samples().is_ok());
+                        }
                     }
                 }),
             }
@@ -310,6 +326,9 @@ impl Worker<'_> {
 
     // What a thread has that panics goes with it.
     fn panic(&mut self) {
+        if self.random.below(100) != 0 {
+            return;
+        }
         let samples: Vec<_> = self.own.samples.drain(..).collect();
         let blocked = self.random.take(&mut self.own.blocked);
         if let Some(Waiting(_, message)) = &blocked {
@@ -325,19 +344,23 @@ impl Worker<'_> {
     }
 
     fn act(&mut self) {
+        // A send that waits keeps its publisher from others.
+        if !self.own.blocked.is_empty() && self.random.below(2) == 0 {
+            return self.end_blocked();
+        }
         match self.random.below(1000) {
-            0..=29 => self.make_source(),
-            30..=69 => self.make_reader(),
-            70..=399 => self.send(),
-            400..=469 => self.end_blocked(),
-            470..=799 => self.receive(),
-            800..=819 => self.listen(),
-            820..=879 => self.exchange(),
-            880..=949 => drop(self.random.take(&mut self.own.samples)),
-            950..=969 => drop(self.random.take(&mut self.own.sources)),
-            970..=991 => drop(self.random.take(&mut self.own.readers)),
-            992..=993 => self.panic(),
-            994 => self.round.domain.stop_waits(true),
+            0..=9 => self.make_source(),
+            10..=29 => self.make_reader(),
+            30..=299 => self.send(),
+            300..=429 => self.end_blocked(),
+            430..=779 => self.receive(),
+            780..=781 => self.listen(),
+            782..=839 => self.exchange(),
+            840..=979 => drop(self.random.take(&mut self.own.samples)),
+            980..=982 => drop(self.random.take(&mut self.own.sources)),
+            983..=989 => drop(self.random.take(&mut self.own.readers)),
+            990 => self.panic(),
+            991 => self.round.domain.stop_waits(true),
             _ => self.round.domain.stop_waits(false),
         }
         for (sample, message) in &self.own.samples {

@@ -30,7 +30,7 @@ struct Fickle {
 }
 
 impl BackpressureFn for Fickle {
-    ghost allows = { λ _ _ _. ⊤ };
+    ghost allows = { λ _ _ _. Unit {0} };
 
     fn call(&self, _: &BackpressureInfo) -> BackpressureAction {
         let given = self.given.get();

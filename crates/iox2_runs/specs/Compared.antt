@@ -3,14 +3,17 @@ use Rattle.std.specs.Prelude.{ℕ, true, List, ◌≡◌, slice_get}
 use Rattle.std.specs.List.{All}
 use Rattle.std.specs.declared.option.Option.TheVariants.{Some}
 use Rattle.iox2_store.specs.machine.Environments.{fixed_handlers}
-use Rattle.iox2_store.specs.machine.State.{fresh, no_messages}
+use Rattle.iox2_store.specs.machine.State.{State, Messages, fresh, no_messages}
 use Rattle.iox2_store.specs.declared.service_config.ServiceConfig.{ServiceConfig}
 use Rattle.iox2_domain.specs.Kept.{Kept as Domain}
+use Rattle.iox2_domain.specs.Shows.{Shows}
 use Rattle.iox2_commands.specs.Isolation.{AreIndependent, reads_at}
 use Rattle.iox2_commands.specs.OneDefault.{HasOneDefault}
 use Rattle.iox2_commands.specs.Refusals.{MetNoRefusal, TellsOfRefusals}
-use Rattle.iox2_commands.specs.Points.{PointOf}
-use Rattle.iox2_commands.specs.Runs.{Defaults, only_defaults}
+use Rattle.iox2_commands.specs.Outcomes.{Event}
+use Rattle.iox2_commands.specs.Points.{GrantsLoans, PointOf}
+use Rattle.iox2_commands.specs.RunLaws.{IsFaithful}
+use Rattle.iox2_commands.specs.Runs.{Defaults, Run, only_defaults}
 use Rattle.iox2_commands.specs.Views.{SameView, OmitsOthersFrom}
 use Rattle.iox2_commands.specs.declared.command.Command.{Command}
 use Rattle.iox2_commands.specs.declared.command.Command.TheVariants.{Receive}
@@ -18,9 +21,20 @@ use Rattle.iox2_commands.specs.declared.reply.Reply.{Reply}
 use Rattle.iox2_commands.specs.declared.reply.Reply.TheVariants.{SubscriberMade}
 use Rattle.iox2_runs.specs.DomainRuns.{RunsOnDomain}
 
--- The commands ran on a new domain with these settings, where only one value of each type is a default.
-abbrev pub RanAfresh : {T U F G : Type 0} → Defaults T U → ServiceConfig → List (Command T U) → Domain T U F G → List (Reply T U) → Type 0
-RanAfresh {T} {U} defaults c commands new replies =
+-- The commands ran on a new domain with these settings: from the fresh state they ran, with these replies, to a state that the
+-- domain shows. The run is faithful, and grants the loans that it has to.
+pub record RanAfresh {T U F G : Type 0} (defaults : Defaults T U) (c : ServiceConfig) (commands : List (Command T U)) (new : Domain T U F G) (replies : List (Reply T U)) : Type 0 where
+  pub events : List (Event T U)
+  pub messages : Messages T U
+  pub state : State T U
+  pub shown : Shows new messages state
+  pub run : Run fixed_handlers defaults no_messages (fresh c) commands replies events messages state
+  pub faithful : IsFaithful commands replies events
+  pub grants : GrantsLoans fixed_handlers defaults no_messages (fresh c) commands replies events messages state
+
+-- Where only one value of each type is a default, the run used that one throughout.
+abbrev pub RanWithOneDefault : {T U F G : Type 0} → Defaults T U → ServiceConfig → List (Command T U) → Domain T U F G → List (Reply T U) → Type 0
+RanWithOneDefault {T} {U} defaults c commands new replies =
     HasOneDefault defaults → (default_value : T) (default_header : U) → defaults.IsDefaultValue default_value → defaults.IsDefaultHeader default_header
     → RunsOnDomain (only_defaults default_value default_header) new no_messages (fresh c) commands replies
 

@@ -2,7 +2,7 @@
 ghost use Rattle.std.specs.Prelude.{IfSome};
 ghost use Rattle.iox2_commands.specs.OneDefault.{HasOneDefault};
 ghost use Rattle.iox2_runs.specs.Carries.{defaults_of};
-ghost use Rattle.iox2_runs.specs.Compared.{RanAfresh, AreCompared};
+ghost use Rattle.iox2_runs.specs.Compared.{RanAfresh, RanWithOneDefault, AreCompared};
 
 use crate::runs::run;
 use iox2_commands::{Command, Reply};
@@ -20,7 +20,8 @@ use std::alloc::Global;
 /// of its samples get the same replies. So it is where no publisher's memory is to grow, and each has
 /// as many slots as `worst_case_slots` says and never waits for a receiver, each other subscriber that is closed has
 /// released all its samples before, in both runs, and neither run was refused memory: no port was
-/// refused for want of it, and `refused_connections` of both domains is 0.
+/// refused for want of it, and `refused_connections` of both domains is 0. All this is said of types of
+/// which one value alone is a default. Of any types both lists ran, as `run` says of its own.
 ///
 /// `None` where memory for a domain, or for the replies of a run, is refused.
 pub fn compare_runs<
@@ -39,7 +40,9 @@ pub fn compare_runs<
         (Domain<T, U, F, G>, Vec<Reply<T, U>>),
     ),
 >
-    ensures { IfSome result (λ ends. HasOneDefault (defaults_of T.is_default U.is_default)
+    ensures ran { IfSome result (λ ends. RanAfresh (defaults_of T.is_default U.is_default) config.now commands.items ends.0.0 ends.0.1.items
+        × RanAfresh (defaults_of T.is_default U.is_default) config.now reduced.items ends.1.0 ends.1.1.items) }
+    ensures compared { IfSome result (λ ends. HasOneDefault (defaults_of T.is_default U.is_default)
         → (default_value : T) (default_header : U) → T.is_default default_value → U.is_default default_header
         → AreCompared default_value default_header config.now commands.items reduced.items ends.0.0 ends.0.1.items ends.1.0 ends.1.1.items) }
 {
@@ -59,7 +62,8 @@ fn run_afresh<
     config: &ServiceConfig,
     commands: Vec<Command<T, U>>,
 ) -> Option<(Domain<T, U, F, G>, Vec<Reply<T, U>>)>
-    ensures { IfSome result (λ end. RanAfresh (defaults_of T.is_default U.is_default) config.now commands.items end.0 end.1.items) }
+    ensures ran { IfSome result (λ end. RanAfresh (defaults_of T.is_default U.is_default) config.now commands.items end.0 end.1.items) }
+    ensures one_default { IfSome result (λ end. RanWithOneDefault (defaults_of T.is_default U.is_default) config.now commands.items end.0 end.1.items) }
 {
     let Ok(mut domain) = Domain::with_handlers(alloc, *config) else {
         return None;

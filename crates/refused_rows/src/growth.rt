@@ -1,7 +1,7 @@
 //! The row of a publisher whose memory grows.
 ghost use Rattle.std.specs.Prelude.{◌≡◌, IfOk, IfSome};
 ghost use Rattle.iox2_pubsub.specs.Handles.{as_publisher, as_subscriber, as_unwritten, as_written};
-ghost use Rattle.iox2_pubsub.specs.Live.{IsLivePublisher, IsLiveSubscriber, IsUnwrittenLoan, Stays};
+ghost use Rattle.iox2_pubsub.specs.Live.{IsLivePublisher, IsLiveSubscriber, IsNewIn, IsUnwrittenLoan, Stays, unwritten_loan};
 ghost use Rattle.iox2_pubsub.specs.Slices.{IsSliced};
 
 use crate::answer::Service;
@@ -103,6 +103,7 @@ fn lend(
     requires sliced { IsSliced domain.old }
     requires publisher { IsLivePublisher domain.old (as_publisher publisher.now) }
     ensures live { IfOk result (λ loan. IsUnwrittenLoan domain.new (as_unwritten loan)) }
+    ensures new { IfOk result (λ loan. IsNewIn domain.old (unwritten_loan (as_unwritten loan))) }
     ensures stays { IfOk result (λ _. Stays domain.old domain.new) }
 {
     match publisher.loan_slice_uninit(domain, len) {

@@ -1,0 +1,59 @@
+//! Records what a script calls, and runs recordings again.
+#![tactic(auto)]
+
+mod damage;
+mod failure;
+mod random_lists;
+mod record;
+mod replay;
+mod shortest;
+
+use damage::try_damages;
+use failure::Failure;
+use random_lists::{print_list, try_random_lists};
+use record::record;
+use replay::replay;
+use std::env;
+use std::io::Read;
+use std::process::ExitCode;
+
+fn main(rt: HostRuntime) -> ExitCode {
+    match carry_out(&rt) {
+        Ok(()) => ExitCode::SUCCESS,
+        Err(failure) => {
+            let _ = eprintln!(rt; "{failure}");
+            ExitCode::from(failure.status())
+        }
+    }
+}
+
+// Does what the arguments ask for.
+fn carry_out(rt: &HostRuntime) -> Result<(), Failure> {
+    let words: Vec<String> = env::args(rt)?.collect(rt.alloc())?;
+    match words.as_slice() {
+        [_, task] => match task.as_str() {
+            "replay" => replay(rt, input(rt)?.as_slice()),
+            "record" => record(rt, input(rt)?.as_slice()),
+            _ => Err(Failure::Usage),
+        },
+        [_, task, count, seed] => match task.as_str() {
+            "random" => try_random_lists(rt, number(count)?, number(seed)?),
+            "damage" => try_damages(rt, number(count)?, number(seed)?),
+            "list" => print_list(rt, number(count)?, number(seed)?),
+            _ => Err(Failure::Usage),
+        },
+        _ => Err(Failure::Usage),
+    }
+}
+
+// All that standard input gives.
+fn input(rt: &HostRuntime) -> Result<Vec<u8>, Failure> {
+    let mut text = Vec::new(rt.alloc());
+    rt.stdin().read_to_end(&mut text)?;
+    Ok(text)
+}
+
+// The number that a word says.
+fn number(word: &str) -> Result<u64, Failure> {
+    word.parse().map_err(|_| Failure::Usage)
+}

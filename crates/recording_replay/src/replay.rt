@@ -1,0 +1,75 @@
+//! A recording is run again.
+use crate::failure::Failure;
+use crate::record::recorded;
+use crate::shortest::shortest;
+use recordings::{Recording, load, push_command};
+use std::io;
+
+/// Runs the recording that the text is, and compares each reply with the recorded one. Prints the first
+/// that is another, and the fewest commands that show it.
+pub(crate) fn replay(rt: &HostRuntime, text: &[u8]) -> Result<(), Failure> {
+    let before = load(rt.alloc(), text)?;
+    let after = recorded(rt.alloc(), before.config, before.commands.as_slice())?;
+    let Some(position) = first_difference(&before, &after) else {
+        println!(rt;
+            "{} commands, each with the recorded reply",
+            before.commands.len()
+        )?;
+        return Ok(());
+    };
+    print_difference(rt, &before, &after, position)?;
+    let fewest = shortest(rt.alloc(), &before, position)?;
+    println!(rt;
+        "the shortest list that shows it has {} commands:",
+        fewest.commands.len()
+    )?;
+    print_commands(rt, &fewest)?;
+    let again = recorded(rt.alloc(), fewest.config, fewest.commands.as_slice())?;
+    if let Some(last) = again.replies.last() {
+        println!(rt; "now the last replies {last}")?;
+    }
+    Err(Failure::OtherReply)
+}
+
+/// The position of the first command whose reply is another one.
+pub(crate) fn first_difference(before: &Recording, after: &Recording) -> Option<usize> {
+    before
+        .replies
+        .iter()
+        .zip(after.replies.iter())
+        .position(|(old, new)| *old != *new)
+}
+
+// The first command stands in the fourth line of a recording.
+fn print_difference(
+    rt: &HostRuntime,
+    before: &Recording,
+    after: &Recording,
+    position: usize,
+) -> Result<(), Failure> {
+    let line = position.saturating_add(4);
+    let mut command = String::new(rt.alloc());
+    if let Some(called) = before.commands.get(position) {
+        push_command(&mut command, called)?;
+    }
+    println!(rt; "line {line}: {command}")?;
+    if let (Some(old), Some(new)) = (before.replies.get(position), after.replies.get(position)) {
+        println!(rt; "  before: {old}")?;
+        println!(rt; "  after:  {new}")?;
+    }
+    Ok(())
+}
+
+// The commands with the replies that were recorded.
+fn print_commands(rt: &HostRuntime, recording: &Recording) -> Result<(), Failure> {
+    for (command, reply) in recording.commands.iter().zip(recording.replies.iter()) {
+        let mut text = String::new(rt.alloc());
+        push_command(&mut text, command)?;
+        print_line(rt, text.as_str(), reply.as_str())?;
+    }
+    Ok(())
+}
+
+fn print_line(rt: &HostRuntime, command: &str, reply: &str) -> io::Result<()> {
+    println!(rt; "{command} = {reply}")
+}

@@ -1,0 +1,424 @@
+//! The picture of a long run: how much there was at each port, for some commands at a time.
+use crate::axis::Scale;
+use crate::canvas::{Place, label, line, push_head, rect};
+use crate::curves;
+use crate::failure::Failure;
+use crate::story::{MarkKind, Port, Story, VisitEnd};
+use std::alloc::Global;
+use std::fmt::Write;
+
+// How many columns there are at most, how wide each is, and how high a lane.
+const MOST_COLUMNS: usize = 300;
+
+const COLUMN: usize = 4;
+
+const LANE: usize = 18;
+
+const BAR: usize = 15;
+
+// Where lanes begin.
+const TOP: usize = 64;
+
+// What there is in a column of a lane.
+#[derive(Clone, Copy)]
+struct Cell {
+    messages: usize,
+    refused: usize,
+    lost: usize,
+    blocked: usize,
+}
+
+const EMPTY: Cell = Cell {
+    messages: 0,
+    refused: 0,
+    lost: 0,
+    blocked: 0,
+};
+
+// The ports that share a lane, one after another, and what there is in each column.
+#[derive(Drop)]
+struct FoldedLane {
+    is_publisher: bool,
+    ports: Vec<Port>,
+    cells: Vec<Cell>,
+}
+
+// All lanes, and how commands come into columns.
+#[derive(Drop)]
+struct Folded {
+    lanes: Vec<FoldedLane>,
+    // By id, the lane.
+    positions: Vec<Option<usize>>,
+    // How many commands a column has.
+    group: usize,
+    columns: usize,
+}
+
+/// The scale of the folded picture, by columns, and how many commands a column has.
+pub(crate) fn folded_scale(story: &Story) -> (Scale, usize) {
+    let count = story.commands.len();
+    let group = count.div_ceil(MOST_COLUMNS).max(1);
+    let scale = Scale {
+        left: 120,
+        step: COLUMN,
+        count: count.div_ceil(group),
+    };
+    (scale, group)
+}
+
+/// The folded picture of a run, as the text of an SVG.
+pub(crate) fn folded_picture(alloc: Global, story: &Story) -> Result<String, Failure> {
+    let (Scale { count: columns, .. }, group) = folded_scale(story);
+    let mut folded = Folded {
+        lanes: Vec::new(alloc),
+        positions: Vec::new(alloc),
+        group,
+        columns,
+    };
+    folded.add_side(alloc, story, true)?;
+    folded.add_side(alloc, story, false)?;
+    folded.add_messages(story);
+    folded.add_marks(story);
+    draw(alloc, story, &folded)
+}
+
+impl Folded {
+    // A port goes into a lane whose last port was closed before, or into a lane of its own.
+    fn add_side(
+        &mut self,
+        alloc: Global,
+        story: &Story,
+        is_publisher: bool,
+    ) -> Result<(), Failure> {
+        for port in story.ports.iter() {
+            if port.is_publisher == is_publisher {
+                let lane = self.lane_for(alloc, *port)?;
+                let missing = port
+                    .id
+                    .saturating_add(1)
+                    .saturating_sub(self.positions.len());
+                for _ in 0..missing {
+                    self.positions.push(None)?;
+                }
+                if let Some(position) = self.positions.get_mut(port.id) {
+                    *position = Some(lane);
+                }
+            }
+        }
+        Ok(())
+    }
+
+    fn lane_for(&mut self, alloc: Global, port: Port) -> Result<usize, Failure> {
+        for position in 0..self.lanes.len() {
+            if let Some(lane) = self.lanes.get_mut(position) {
+                if lane.is_publisher == port.is_publisher
+                    && is_free(lane.ports.as_slice(), port.from)
+                {
+                    lane.ports.push(port)?;
+                    return Ok(position);
+                }
+            }
+        }
+        let mut lane = FoldedLane {
+            is_publisher: port.is_publisher,
+            ports: Vec::new(alloc),
+            cells: Vec::new(alloc),
+        };
+        lane.ports.push(port)?;
+        for _ in 0..self.columns {
+            lane.cells.push(EMPTY)?;
+        }
+        self.lanes.push(lane)?;
+        Ok(self.lanes.len().saturating_sub(1))
+    }
+
+    fn column(&self, at: usize) -> usize {
+        at / self.group.max(1)
+    }
+
+    fn cell_mut(&mut self, port: usize, column: usize) -> Option<&mut Cell> {
+        let Some(Some(position)) = self.positions.get(port).copied() else {
+            return None;
+        };
+        match self.lanes.get_mut(position) {
+            Some(lane) => lane.cells.get_mut(column),
+            None => None,
+        }
+    }
+
+    // A message is there in each column from one time to another.
+    fn add_message(&mut self, port: usize, from: usize, to: usize) {
+        let first = self.column(from);
+        let last = self.column(to);
+        for column in first..last.saturating_add(1) {
+            if let Some(cell) = self.cell_mut(port, column) {
+                cell.messages = cell.messages.saturating_add(1);
+            }
+        }
+    }
+
+    fn add_messages(&mut self, story: &Story) {
+        let end = story.commands.len();
+        for loan in story.loans.iter() {
+            self.add_message(loan.publisher, loan.from, loan.to.unwrap_or(end));
+        }
+        for visit in story.visits.iter() {
+            let to = visit.to.unwrap_or(end);
+            self.add_message(visit.subscriber, visit.from, to);
+            if visit.end == VisitEnd::Overwritten || visit.end == VisitEnd::Lost {
+                let column = self.column(to);
+                if let Some(cell) = self.cell_mut(visit.subscriber, column) {
+                    cell.lost = cell.lost.saturating_add(1);
+                }
+            }
+        }
+    }
+
+    fn add_marks(&mut self, story: &Story) {
+        for mark in story.marks.iter() {
+            let column = self.column(mark.at);
+            if let Some(cell) = self.cell_mut(mark.port, column) {
+                match mark.kind {
+                    MarkKind::Refused => cell.refused = cell.refused.saturating_add(1),
+                    MarkKind::Discarded => cell.lost = cell.lost.saturating_add(1),
+                    MarkKind::Blocked => cell.blocked = cell.blocked.saturating_add(1),
+                    _ => {}
+                }
+            }
+        }
+    }
+
+    // The most that there is in a cell.
+    fn most(&self) -> usize {
+        let mut most = 1usize;
+        for lane in self.lanes.iter() {
+            for cell in lane.cells.iter() {
+                most = most.max(cell.messages);
+            }
+        }
+        most
+    }
+}
+
+// Whether the last of these ports was closed before.
+fn is_free(ports: &[Port], from: usize) -> bool {
+    match ports.last() {
+        Some(Port { to: Some(to), .. }) => *to < from,
+        _ => false,
+    }
+}
+
+fn draw(alloc: Global, story: &Story, folded: &Folded) -> Result<String, Failure> {
+    let (scale, _) = folded_scale(story);
+    let lanes = folded.lanes.len().saturating_mul(LANE);
+    let bottom = TOP.saturating_add(lanes);
+    let curves_top = bottom.saturating_add(40);
+    let height = curves_top.saturating_add(curves::HEIGHT).saturating_add(20);
+    let width = scale.right().saturating_add(30).max(880);
+    let mut svg = String::new(alloc);
+    push_head(&mut svg, width, height)?;
+    push_title(&mut svg, story, folded)?;
+    let most = folded.most();
+    for (position, lane) in folded.lanes.iter().enumerate() {
+        let y = TOP.saturating_add(position.saturating_mul(LANE));
+        push_lane(&mut svg, alloc, folded, lane, scale, y, most)?;
+    }
+    push_times(&mut svg, story, scale, folded.group, bottom)?;
+    curves::push_curves(&mut svg, story, scale, curves_top)?;
+    svg.push_str("</svg>\n")?;
+    Ok(svg)
+}
+
+fn push_title(svg: &mut String, story: &Story, folded: &Folded) -> Result<(), Failure> {
+    let commands = story.commands.len();
+    let ports = story.ports.len();
+    let group = folded.group;
+    write!(
+        svg,
+        "<text class=\"title\" x=\"6\" y=\"16\">{commands} commands, {group} in each column; {ports} ports, one after another in a lane</text>\n"
+    )?;
+    let y = 32;
+    label(
+        svg,
+        26,
+        y,
+        "note",
+        "height of a bar: messages that are lent by a publisher, or that wait for a subscriber or are received",
+    )?;
+    push_key(svg, 10, 24, "#0072B2")?;
+    let y = 50;
+    push_key(svg, 10, 42, "#D55E00")?;
+    label(svg, 26, y, "note", "calls refused")?;
+    push_key(svg, 126, 42, "#CC79A7")?;
+    label(svg, 142, y, "note", "sends blocked")?;
+    push_key(svg, 246, 42, "#000000")?;
+    label(
+        svg,
+        262,
+        y,
+        "note",
+        "messages lost, overwritten or not delivered",
+    )
+}
+
+fn push_key(svg: &mut String, x: usize, y: usize, color: &str) -> Result<(), Failure> {
+    let place = Place {
+        x,
+        y,
+        width: 10,
+        height: 10,
+    };
+    rect(svg, place, "key", color, "")
+}
+
+fn push_lane(
+    svg: &mut String,
+    alloc: Global,
+    folded: &Folded,
+    lane: &FoldedLane,
+    scale: Scale,
+    y: usize,
+    most: usize,
+) -> Result<(), Failure> {
+    let kind = if lane.is_publisher {
+        "publisher"
+    } else {
+        "subscriber"
+    };
+    if let Some(port) = lane.ports.first() {
+        let more = if lane.ports.len() > 1 { " .." } else { "" };
+        let base = y.saturating_add(12);
+        write!(
+            svg,
+            "<text class=\"port\" x=\"6\" y=\"{base}\">{kind} {}{more}</text>\n",
+            port.id
+        )?;
+    }
+    push_lives(svg, folded, lane, scale, y)?;
+    for (column, cell) in lane.cells.iter().enumerate() {
+        if cell.messages > 0 || cell.refused > 0 || cell.lost > 0 || cell.blocked > 0 {
+            let said = cell_text(alloc, *cell, column, folded.group)?;
+            push_cell(svg, *cell, scale, column, y, most, said.as_str())?;
+        }
+    }
+    Ok(())
+}
+
+// When the lane's ports were open.
+fn push_lives(
+    svg: &mut String,
+    folded: &Folded,
+    lane: &FoldedLane,
+    scale: Scale,
+    y: usize,
+) -> Result<(), Failure> {
+    for port in lane.ports.iter() {
+        let x = scale.x(folded.column(port.from));
+        let end = match port.to {
+            Some(at) => scale.x(folded.column(at)),
+            None => scale.right(),
+        };
+        let place = Place {
+            x,
+            y,
+            width: end.saturating_sub(x).max(2),
+            height: BAR,
+        };
+        rect(svg, place, "life", "#e6e6e6", "")?;
+    }
+    Ok(())
+}
+
+fn cell_text(alloc: Global, cell: Cell, column: usize, group: usize) -> Result<String, Failure> {
+    let first = column.saturating_mul(group).saturating_add(1);
+    let last = column.saturating_add(1).saturating_mul(group);
+    let mut text = String::new(alloc);
+    write!(
+        text,
+        "commands {first} to {last}: {} messages",
+        cell.messages
+    )?;
+    let Cell {
+        refused,
+        lost,
+        blocked,
+        ..
+    } = cell;
+    if refused > 0 {
+        write!(text, ", {refused} calls refused")?;
+    }
+    if blocked > 0 {
+        write!(text, ", {blocked} sends blocked")?;
+    }
+    if lost > 0 {
+        write!(text, ", {lost} lost or not delivered")?;
+    }
+    Ok(text)
+}
+
+fn push_cell(
+    svg: &mut String,
+    cell: Cell,
+    scale: Scale,
+    column: usize,
+    y: usize,
+    most: usize,
+    said: &str,
+) -> Result<(), Failure> {
+    let up = cell.messages.saturating_mul(BAR) / most.max(1);
+    let up = if cell.messages > 0 { up.max(2) } else { 0 };
+    let x = scale.left.saturating_add(column.saturating_mul(COLUMN));
+    let place = Place {
+        x,
+        y: y.saturating_add(BAR.saturating_sub(up)),
+        width: COLUMN,
+        height: up,
+    };
+    rect(svg, place, "held", "#0072B2", said)?;
+    push_tick(svg, x, y, cell.refused, "#D55E00")?;
+    push_tick(svg, x, y.saturating_add(4), cell.blocked, "#CC79A7")?;
+    push_tick(svg, x, y.saturating_add(11), cell.lost, "#000000")
+}
+
+fn push_tick(
+    svg: &mut String,
+    x: usize,
+    y: usize,
+    count: usize,
+    color: &str,
+) -> Result<(), Failure> {
+    if count == 0 {
+        return Ok(());
+    }
+    let place = Place {
+        x,
+        y,
+        width: COLUMN,
+        height: 4,
+    };
+    rect(svg, place, "tick", color, "")
+}
+
+// The numbers of some commands below the lanes.
+fn push_times(
+    svg: &mut String,
+    story: &Story,
+    scale: Scale,
+    group: usize,
+    y: usize,
+) -> Result<(), Failure> {
+    let columns = story.commands.len().div_ceil(group.max(1));
+    for tenth in 0..11usize {
+        let column = columns.saturating_mul(tenth) / 10;
+        let x = scale.left.saturating_add(column.saturating_mul(COLUMN));
+        let below = y.saturating_add(5);
+        line(svg, (x, y), (x, below), "grid", "#000")?;
+        let number = column.saturating_mul(group).saturating_add(1);
+        let base = y.saturating_add(16);
+        write!(
+            svg,
+            "<text class=\"number\" x=\"{x}\" y=\"{base}\">{number}</text>\n"
+        )?;
+    }
+    Ok(())
+}

@@ -1,0 +1,452 @@
+//! The model carries out the commands of a recording, and what it does is noted.
+use crate::failure::Failure;
+use crate::holders::Holders;
+use crate::mailboxes::Mailboxes;
+use crate::story::{Loan, LoanEnd, Mark, MarkKind, Point, Port, Story};
+use iox2_commands::{Command, Reply};
+use iox2_model::{Memory, Model, Thing};
+use iox2_store::UniquePublisherId;
+use recordings::{Recording, push_command, push_reply};
+use std::alloc::Global;
+
+/// What became of ports and messages in the recording.
+pub(crate) fn story_of(alloc: Global, recording: &Recording) -> Result<Story, Failure> {
+    let mut follower = Follower::new(alloc, recording)?;
+    for (command, reply) in recording.commands.iter().zip(recording.replies.iter()) {
+        follower.step(alloc, *command, reply.as_str())?;
+    }
+    let Follower {
+        model,
+        mut story,
+        ..
+    } = follower;
+    for message in 0..model.message_count() {
+        let value = model.first_value(message).unwrap_or(0);
+        story.values.push((value, model.value_count(message)))?;
+    }
+    Ok(story)
+}
+
+#[derive(Drop)]
+struct Follower {
+    model: Model,
+    story: Story,
+    mailboxes: Mailboxes,
+    holders: Holders,
+    // By id, the history that a publisher had after its last command.
+    histories: Vec<Vec<usize>>,
+}
+
+// Whom a command is on: the publisher and the subscriber are 0 where there are none.
+#[derive(Clone, Copy)]
+struct Object {
+    publisher: usize,
+    subscriber: usize,
+    message: usize,
+}
+
+impl Object {
+    fn port(self) -> usize {
+        self.publisher.max(self.subscriber)
+    }
+}
+
+impl Follower {
+    fn new(alloc: Global, recording: &Recording) -> Result<Follower, Failure> {
+        Ok(Follower {
+            model: Model::new(alloc, recording.config, Memory::ample())?,
+            story: Story {
+                commands: Vec::new(alloc),
+                replies: Vec::new(alloc),
+                ports: Vec::new(alloc),
+                loans: Vec::new(alloc),
+                visits: Vec::new(alloc),
+                marks: Vec::new(alloc),
+                points: Vec::new(alloc),
+                values: Vec::new(alloc),
+            },
+            mailboxes: Mailboxes::new(alloc),
+            holders: Holders::new(alloc),
+            histories: Vec::new(alloc),
+        })
+    }
+
+    fn step(
+        &mut self,
+        alloc: Global,
+        command: Command<u64, u64>,
+        recorded: &str,
+    ) -> Result<(), Failure> {
+        let at = self.story.commands.len();
+        let messages = self.model.message_count();
+        let object = self.object_of(of_command(command));
+        let reply = self.model.carry_out(command, given(recorded))?;
+        self.note_texts(alloc, &command, &reply, recorded, object)?;
+        self.note_made(at)?;
+        self.note_loan(at, command, &reply, object, messages)?;
+        self.note_marks(at, command, &reply, object)?;
+        self.follow_mailboxes(at, command, object)?;
+        self.note_discards(at, &reply, object, messages)?;
+        self.follow_history(alloc, object.publisher)?;
+        self.story.points.push(Point {
+            slots: self.holders.used(),
+            waiting: self.mailboxes.waiting(),
+        })?;
+        Ok(())
+    }
+
+    fn object_of(&self, of: Option<usize>) -> Object {
+        let mut object = Object {
+            publisher: 0,
+            subscriber: 0,
+            message: 0,
+        };
+        match of.map_or(Thing::Nothing, |of| self.model.thing_at(of)) {
+            Thing::Nothing => {}
+            Thing::Publisher(id) => object.publisher = id,
+            Thing::Subscriber(id) => object.subscriber = id,
+            Thing::Loan(message) => {
+                object.publisher = self.lender_of(message);
+                object.message = message;
+            }
+            Thing::BlockedSend { publisher, message } => {
+                object.publisher = publisher;
+                object.message = message;
+            }
+            Thing::Sample {
+                publisher,
+                subscriber,
+                message,
+            } => {
+                object = Object {
+                    publisher,
+                    subscriber,
+                    message,
+                }
+            }
+        }
+        object
+    }
+
+    fn lender_of(&self, message: usize) -> usize {
+        for loan in self.story.loans.iter() {
+            if loan.message == message {
+                return loan.publisher;
+            }
+        }
+        0
+    }
+
+    fn mark(&mut self, at: usize, port: usize, kind: MarkKind) -> Result<(), Failure> {
+        self.story.marks.push(Mark { at, port, kind })?;
+        Ok(())
+    }
+
+    fn note_texts(
+        &mut self,
+        alloc: Global,
+        command: &Command<u64, u64>,
+        reply: &Reply<u64, u64>,
+        recorded: &str,
+        object: Object,
+    ) -> Result<(), Failure> {
+        let at = self.story.commands.len();
+        let mut text = String::new(alloc);
+        push_command(&mut text, command)?;
+        self.story.commands.push(text)?;
+        let mut text = String::new(alloc);
+        push_reply(&mut text, reply)?;
+        if text.as_str() != recorded {
+            text.push_str(", but recorded was: ")?;
+            text.push_str(recorded)?;
+            self.mark(at, object.port(), MarkKind::OtherReply)?;
+        }
+        self.story.replies.push(text)?;
+        Ok(())
+    }
+
+    // A port that the command made.
+    fn note_made(&mut self, at: usize) -> Result<(), Failure> {
+        let (id, is_publisher) = match self.model.thing_at(at) {
+            Thing::Publisher(id) => (id, true),
+            Thing::Subscriber(id) => (id, false),
+            _ => return Ok(()),
+        };
+        self.story.ports.push(Port {
+            id,
+            is_publisher,
+            from: at,
+            to: None,
+        })?;
+        Ok(())
+    }
+
+    // A loan that the command took or ended.
+    fn note_loan(
+        &mut self,
+        at: usize,
+        command: Command<u64, u64>,
+        reply: &Reply<u64, u64>,
+        object: Object,
+        messages: usize,
+    ) -> Result<(), Failure> {
+        if self.model.message_count() > messages {
+            self.holders.hold(messages)?;
+            self.story.loans.push(Loan {
+                message: messages,
+                publisher: object.publisher,
+                from: at,
+                blocked: None,
+                to: None,
+                end: LoanEnd::Out,
+            })?;
+        }
+        let message = match command {
+            Command::SendCopy { .. } => messages,
+            _ => object.message,
+        };
+        match (command, reply) {
+            (_, Reply::Blocked) => self.block_loan(at, message),
+            (_, Reply::Delivered(_)) => self.end_loan(at, message, LoanEnd::Sent),
+            (Command::Send { .. }, Reply::SendRefused(_))
+            | (Command::SendCopy { .. }, Reply::SendRefused(_))
+            | (Command::Retry { .. }, Reply::SendRefused(_))
+            | (Command::GiveUp { .. }, Reply::SendRefused(_)) => {
+                self.end_loan(at, message, LoanEnd::Refused)
+            }
+            (Command::Discard { .. }, Reply::Done) => {
+                self.end_loan(at, message, LoanEnd::Discarded)
+            }
+            _ => {}
+        }
+        Ok(())
+    }
+
+    fn block_loan(&mut self, at: usize, message: usize) {
+        for index in 0..self.story.loans.len() {
+            if let Some(loan) = self.story.loans.get_mut(index) {
+                if loan.message == message && loan.blocked.is_none() {
+                    loan.blocked = Some(at);
+                }
+            }
+        }
+    }
+
+    fn end_loan(&mut self, at: usize, message: usize, end: LoanEnd) {
+        for index in 0..self.story.loans.len() {
+            if let Some(loan) = self.story.loans.get_mut(index) {
+                if loan.message == message && loan.to.is_none() {
+                    loan.to = Some(at);
+                    loan.end = end;
+                    self.holders.let_go(message);
+                }
+            }
+        }
+    }
+
+    fn note_marks(
+        &mut self,
+        at: usize,
+        command: Command<u64, u64>,
+        reply: &Reply<u64, u64>,
+        object: Object,
+    ) -> Result<(), Failure> {
+        let port = object.port();
+        match reply {
+            Reply::Skipped => self.mark(at, port, MarkKind::Skipped),
+            Reply::Blocked => self.mark(at, port, MarkKind::Blocked),
+            Reply::PublisherRefused(_)
+            | Reply::SubscriberRefused(_)
+            | Reply::LoanRefused(_)
+            | Reply::SendRefused(_)
+            | Reply::UpdateRefused(_)
+            | Reply::ReceiveRefused(_) => self.mark(at, port, MarkKind::Refused),
+            Reply::Done => match command {
+                Command::Close { .. } => self.close_port(at, object),
+                _ => Ok(()),
+            },
+            _ => Ok(()),
+        }
+    }
+
+    // The port is closed. A subscriber keeps the connection of a publisher of which it has messages.
+    fn close_port(&mut self, at: usize, object: Object) -> Result<(), Failure> {
+        let id = object.port();
+        for index in 0..self.story.ports.len() {
+            if let Some(port) = self.story.ports.get_mut(index) {
+                if port.id == id {
+                    port.to = Some(at);
+                }
+            }
+        }
+        self.mark(at, id, MarkKind::Closed)?;
+        for subscriber in 0..self.model.port_count() {
+            if self.mailboxes.is_used(object.publisher, subscriber) {
+                self.mark(at, subscriber, MarkKind::Expired)?;
+            }
+        }
+        Ok(())
+    }
+
+    // The mailboxes of the ports that the command is on.
+    fn follow_mailboxes(
+        &mut self,
+        at: usize,
+        command: Command<u64, u64>,
+        object: Object,
+    ) -> Result<(), Failure> {
+        let sends = match command {
+            Command::Send { .. }
+            | Command::SendCopy { .. }
+            | Command::Retry { .. }
+            | Command::GiveUp { .. } => true,
+            _ => false,
+        };
+        for port in 1..self.model.port_count() {
+            if object.publisher != 0 {
+                self.follow_mailbox(at, object.publisher, port, sends)?;
+            }
+            if object.subscriber != 0 && port != object.publisher {
+                self.follow_mailbox(at, port, object.subscriber, false)?;
+            }
+        }
+        Ok(())
+    }
+
+    fn follow_mailbox(
+        &mut self,
+        at: usize,
+        publisher: usize,
+        subscriber: usize,
+        sends: bool,
+    ) -> Result<(), Failure> {
+        let overwrites = sends && self.model.is_open_subscriber(subscriber);
+        self.mailboxes.follow(
+            &self.model,
+            at,
+            publisher,
+            subscriber,
+            overwrites,
+            &mut self.story.visits,
+            &mut self.holders,
+        )
+    }
+
+    // Where a send has ended, connected subscribers that the message didn't reach.
+    fn note_discards(
+        &mut self,
+        at: usize,
+        reply: &Reply<u64, u64>,
+        object: Object,
+        messages: usize,
+    ) -> Result<(), Failure> {
+        let has_ended = match reply {
+            Reply::Delivered(_) | Reply::SendRefused(_) => true,
+            _ => false,
+        };
+        let message = if object.message == 0 {
+            messages
+        } else {
+            object.message
+        };
+        if !has_ended || self.model.value_count(message) == 0 {
+            return Ok(());
+        }
+        let publisher = object.publisher;
+        let since = self.first_sent(at, message);
+        for subscriber in 1..self.model.port_count() {
+            if self.model.delivers_to(publisher, subscriber)
+                && self.model.is_open_subscriber(subscriber)
+                && !self.has_visited(subscriber, message, since)
+            {
+                self.mark(at, subscriber, MarkKind::Discarded)?;
+            }
+        }
+        Ok(())
+    }
+
+    // When the message was sent that has ended now: it may have been blocked before.
+    fn first_sent(&self, at: usize, message: usize) -> usize {
+        for loan in self.story.loans.iter().rev() {
+            if loan.message == message {
+                return loan.blocked.unwrap_or(at);
+            }
+        }
+        at
+    }
+
+    // Whether the message has come to the subscriber since then. The last visits stand last.
+    fn has_visited(&self, subscriber: usize, message: usize, since: usize) -> bool {
+        for visit in self.story.visits.iter().rev() {
+            if visit.from < since {
+                return false;
+            }
+            if visit.message == message && visit.subscriber == subscriber {
+                return true;
+            }
+        }
+        false
+    }
+
+    // The messages in the publisher's history are held there.
+    fn follow_history(&mut self, alloc: Global, publisher: usize) -> Result<(), Failure> {
+        let missing = publisher
+            .saturating_add(1)
+            .saturating_sub(self.histories.len());
+        for _ in 0..missing {
+            self.histories.push(Vec::new(alloc))?;
+        }
+        let now = Vec::from_slice(alloc, self.model.history_of(publisher))?;
+        for message in now.iter() {
+            self.holders.hold(*message)?;
+        }
+        if let Some(before) = self.histories.get_mut(publisher) {
+            for message in before.iter() {
+                self.holders.let_go(*message);
+            }
+            *before = now;
+        }
+        Ok(())
+    }
+}
+
+// The reply that the model is to have where it has a choice: the publisher of a sample.
+fn given(recorded: &str) -> Option<Reply<u64, u64>> {
+    let Some(origin) = recorded.strip_prefix("sample ") else {
+        return None;
+    };
+    match origin.parse::<u128>() {
+        Ok(origin) => Some(Reply::Sample(UniquePublisherId::new(origin))),
+        Err(_) => None,
+    }
+}
+
+// The position that a command names.
+fn of_command(command: Command<u64, u64>) -> Option<usize> {
+    match command {
+        Command::Nothing | Command::CreatePublisher { .. } | Command::CreateSubscriber { .. } => {
+            None
+        }
+        Command::LoanUninit { of }
+        | Command::Loan { of }
+        | Command::LoanSlice { of, .. }
+        | Command::WriteCell { of, .. }
+        | Command::WriteAll { of, .. }
+        | Command::AssumeInit { of }
+        | Command::WriteHeader { of, .. }
+        | Command::SetPayload { of, .. }
+        | Command::Send { of }
+        | Command::SendCopy { of, .. }
+        | Command::Discard { of }
+        | Command::Retry { of, .. }
+        | Command::GiveUp { of }
+        | Command::Update { of }
+        | Command::Receive { of }
+        | Command::HasSamples { of }
+        | Command::Read { of, .. }
+        | Command::ReadHeader { of }
+        | Command::ReadUserHeader { of }
+        | Command::Release { of }
+        | Command::Close { of } => Some(of),
+    }
+}

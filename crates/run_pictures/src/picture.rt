@@ -1,0 +1,320 @@
+//! The picture of a run, in which each message and each command can be read.
+use crate::axis::{Scale, label_height, push_commands};
+use crate::canvas::{Place, color_of, label, line, push_head, rect};
+use crate::curves;
+use crate::failure::Failure;
+use crate::folded::folded_picture;
+use crate::lanes::{Lane, Lanes};
+use crate::legend::{self, push_legend, push_waiting};
+use crate::marks::{mark_text, push_lost, push_mark};
+use crate::story::{Loan, LoanEnd, Mark, Story, Visit, VisitEnd};
+use std::alloc::Global;
+use std::fmt::Write;
+
+// Of more commands or ports a folded picture is drawn.
+const MOST_COMMANDS: usize = 240;
+
+const MOST_PORTS: usize = 24;
+
+/// The picture of a run, as the text of an SVG. Where it is too large to be read, it is folded.
+pub(crate) fn picture(alloc: Global, story: &Story) -> Result<String, Failure> {
+    if is_folded(story) {
+        return folded_picture(alloc, story);
+    }
+    let scale = Scale::new(story.commands.len());
+    let top = legend::HEIGHT.saturating_add(16);
+    let lanes = Lanes::new(alloc, story, top)?;
+    let labels = lanes.bottom.saturating_add(label_height(story));
+    let height = labels.saturating_add(curves::HEIGHT).saturating_add(24);
+    let width = scale.right().saturating_add(30).max(880);
+    let mut svg = String::new(alloc);
+    push_head(&mut svg, width, height)?;
+    push_legend(&mut svg, 14)?;
+    push_lanes(&mut svg, &lanes, scale)?;
+    push_commands(&mut svg, story, scale, top, lanes.bottom)?;
+    push_ways(&mut svg, story, &lanes, scale)?;
+    push_loans(&mut svg, alloc, story, &lanes, scale)?;
+    push_visits(&mut svg, alloc, story, &lanes, scale)?;
+    push_marks(&mut svg, alloc, story, &lanes, scale)?;
+    curves::push_curves(&mut svg, story, scale, labels)?;
+    svg.push_str("</svg>\n")?;
+    Ok(svg)
+}
+
+/// Whether the picture of a run is folded.
+pub(crate) fn is_folded(story: &Story) -> bool {
+    story.commands.len() > MOST_COMMANDS || story.ports.len() > MOST_PORTS
+}
+
+fn push_lanes(svg: &mut String, lanes: &Lanes, scale: Scale) -> Result<(), Failure> {
+    for lane in lanes.lanes.iter() {
+        let width = scale.right().saturating_sub(scale.left);
+        let all = Place {
+            x: scale.left,
+            y: lane.top,
+            width,
+            height: lane.height,
+        };
+        rect(svg, all, "lane", "#f4f4f4", "")?;
+        let x = scale.x(lane.port.from);
+        let life = Place {
+            x,
+            width: scale.end(lane.port.to).saturating_sub(x),
+            ..all
+        };
+        rect(svg, life, "life", "#e6e6e6", "")?;
+        push_name(svg, *lane)?;
+    }
+    Ok(())
+}
+
+fn push_name(svg: &mut String, lane: Lane) -> Result<(), Failure> {
+    let y = lane.top.saturating_add(13);
+    let kind = if lane.port.is_publisher {
+        "publisher"
+    } else {
+        "subscriber"
+    };
+    write!(
+        svg,
+        "<text class=\"port\" x=\"6\" y=\"{y}\">{kind} {}</text>\n",
+        lane.port.id
+    )?;
+    if lane.port.is_publisher {
+        let place = Place {
+            x: 6,
+            y: y.saturating_add(5),
+            width: 40,
+            height: 6,
+        };
+        rect(svg, place, "color", color_of(lane.port.id), "")?;
+    }
+    Ok(())
+}
+
+// The lines from publishers to the mailboxes that their messages come to.
+fn push_ways(svg: &mut String, story: &Story, lanes: &Lanes, scale: Scale) -> Result<(), Failure> {
+    for (visit, row) in story.visits.iter().zip(lanes.visit_rows.iter()) {
+        let (Some(from), Some(to)) = (lanes.of(visit.publisher), lanes.of(visit.subscriber)) else {
+            continue;
+        };
+        let x = scale.x(visit.from);
+        let (start, class) = match loan_row(story, lanes, visit) {
+            Some(row) => (from.row(row).saturating_add(6), "way"),
+            None => (from.top.saturating_add(from.height), "late"),
+        };
+        let end = to.row(*row).saturating_add(6);
+        line(svg, (x, start), (x, end), class, color_of(visit.publisher))?;
+    }
+    Ok(())
+}
+
+// The row of the visit's loan, where the message was sent by the command that brought it there.
+fn loan_row(story: &Story, lanes: &Lanes, visit: &Visit) -> Option<usize> {
+    for (loan, row) in story.loans.iter().zip(lanes.loan_rows.iter()) {
+        if loan.message == visit.message {
+            let first = loan.blocked.or(loan.to).unwrap_or(visit.from);
+            let last = loan.to.unwrap_or(visit.from);
+            if first <= visit.from && visit.from <= last {
+                return Some(*row);
+            }
+        }
+    }
+    None
+}
+
+fn push_loans(
+    svg: &mut String,
+    alloc: Global,
+    story: &Story,
+    lanes: &Lanes,
+    scale: Scale,
+) -> Result<(), Failure> {
+    for (loan, row) in story.loans.iter().zip(lanes.loan_rows.iter()) {
+        if let Some(lane) = lanes.of(loan.publisher) {
+            let said = loan_text(alloc, story, loan)?;
+            let y = lane.row(*row);
+            let color = color_of(loan.publisher);
+            let x = scale.x(loan.from);
+            let end = scale.end(loan.to);
+            let middle = match loan.blocked {
+                Some(at) => scale.x(at),
+                None => end,
+            };
+            rect(svg, bar(x, middle, y), "lent", color, said.as_str())?;
+            if loan.blocked.is_some() {
+                rect(svg, bar(middle, end, y), "blocked", color, said.as_str())?;
+            }
+            push_bar_label(svg, alloc, story, loan.message, x, end, y)?;
+        }
+    }
+    Ok(())
+}
+
+// The bar between two times. It is never too narrow to be seen.
+fn bar(x: usize, end: usize, y: usize) -> Place {
+    let width = end.saturating_sub(x);
+    if width < 6 {
+        Place {
+            x: x.saturating_sub(3),
+            y,
+            width: 6,
+            height: 12,
+        }
+    } else {
+        Place {
+            x,
+            y,
+            width,
+            height: 12,
+        }
+    }
+}
+
+fn loan_text(alloc: Global, story: &Story, loan: &Loan) -> Result<String, Failure> {
+    let mut text = message_text(alloc, story, loan.message)?;
+    write!(text, ": lent by command {}", loan.from.saturating_add(1))?;
+    if let Some(at) = loan.blocked {
+        write!(text, ", its send blocked by {}", at.saturating_add(1))?;
+    }
+    if let Some(at) = loan.to {
+        let what = match loan.end {
+            LoanEnd::Discarded => "given back",
+            LoanEnd::Refused => "refused",
+            _ => "sent",
+        };
+        write!(text, ", {what} by {}", at.saturating_add(1))?;
+    }
+    Ok(text)
+}
+
+fn push_visits(
+    svg: &mut String,
+    alloc: Global,
+    story: &Story,
+    lanes: &Lanes,
+    scale: Scale,
+) -> Result<(), Failure> {
+    for (visit, row) in story.visits.iter().zip(lanes.visit_rows.iter()) {
+        if let Some(lane) = lanes.of(visit.subscriber) {
+            let said = visit_text(alloc, story, visit)?;
+            let y = lane.row(*row);
+            let color = color_of(visit.publisher);
+            let x = scale.x(visit.from);
+            let end = scale.end(visit.to);
+            let middle = match visit.received {
+                Some(at) => scale.x(at),
+                None => end,
+            };
+            push_waiting(svg, bar(x, middle, y), color, said.as_str())?;
+            if visit.received.is_some() {
+                rect(svg, bar(middle, end, y), "held", color, said.as_str())?;
+            }
+            if visit.end == VisitEnd::Overwritten || visit.end == VisitEnd::Lost {
+                push_lost(
+                    svg,
+                    end,
+                    y.saturating_add(6),
+                    visit.end == VisitEnd::Overwritten,
+                )?;
+            }
+            push_bar_label(svg, alloc, story, visit.message, x, end, y)?;
+        }
+    }
+    Ok(())
+}
+
+fn visit_text(alloc: Global, story: &Story, visit: &Visit) -> Result<String, Failure> {
+    let mut text = message_text(alloc, story, visit.message)?;
+    let (publisher, subscriber) = (visit.publisher, visit.subscriber);
+    write!(text, " of publisher {publisher} at subscriber {subscriber}")?;
+    write!(
+        text,
+        ": there since command {}",
+        visit.from.saturating_add(1)
+    )?;
+    if let Some(at) = visit.received {
+        write!(text, ", received by {}", at.saturating_add(1))?;
+    }
+    if let Some(at) = visit.to {
+        let what = match visit.end {
+            VisitEnd::Overwritten => "overwritten",
+            VisitEnd::Lost => "lost",
+            _ => "released",
+        };
+        write!(text, ", {what} by {}", at.saturating_add(1))?;
+    }
+    Ok(text)
+}
+
+/// The number of a message, and its value where it was sent.
+pub(crate) fn message_text(
+    alloc: Global,
+    story: &Story,
+    message: usize,
+) -> Result<String, Failure> {
+    let mut text = String::new(alloc);
+    write!(text, "#{message}")?;
+    match story.values.get(message) {
+        Some((value, 1)) => write!(text, " = {value}")?,
+        Some((_, 0)) | None => {}
+        Some((value, _)) => write!(text, " = {value} ..")?,
+    }
+    Ok(text)
+}
+
+// The message's number and value, or the number alone where there is little room.
+fn push_bar_label(
+    svg: &mut String,
+    alloc: Global,
+    story: &Story,
+    message: usize,
+    x: usize,
+    end: usize,
+    y: usize,
+) -> Result<(), Failure> {
+    let text = message_text(alloc, story, message)?;
+    let width = end.saturating_sub(x);
+    let y = y.saturating_add(10);
+    let x = x.saturating_add(3);
+    if width >= text.len().saturating_mul(6).saturating_add(8) {
+        return label(svg, x, y, "message", text.as_str());
+    }
+    if width >= 20 {
+        write!(
+            svg,
+            "<text class=\"small\" x=\"{x}\" y=\"{y}\">#{message}</text>\n"
+        )?;
+    }
+    Ok(())
+}
+
+fn push_marks(
+    svg: &mut String,
+    alloc: Global,
+    story: &Story,
+    lanes: &Lanes,
+    scale: Scale,
+) -> Result<(), Failure> {
+    for mark in story.marks.iter() {
+        let top = match lanes.of(mark.port) {
+            Some(lane) => lane.top,
+            None => legend::HEIGHT.saturating_sub(2),
+        };
+        let said = mark_said(alloc, story, *mark)?;
+        let (x, y) = (scale.x(mark.at), top.saturating_add(9));
+        push_mark(svg, x, y, mark.kind, said.as_str())?;
+    }
+    Ok(())
+}
+
+/// What a mark says: what it is, the command and its reply.
+pub(crate) fn mark_said(alloc: Global, story: &Story, mark: Mark) -> Result<String, Failure> {
+    let mut text = String::new(alloc);
+    let command = mark.at.saturating_add(1);
+    write!(text, "{}: command {command}", mark_text(mark.kind))?;
+    if let (Some(called), Some(reply)) = (story.commands.get(mark.at), story.replies.get(mark.at)) {
+        write!(text, " {} = {}", called.as_str(), reply.as_str())?;
+    }
+    Ok(text)
+}

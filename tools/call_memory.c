@@ -1,0 +1,93 @@
+/* Makes the calls of iox2_c that take no memory, in as many rounds as its argument says, and then closes its ports, or with -1 does
+ * neither; for tools/memory_of_messages, which counts the allocations. A call with another result than it must have ends the
+ * program. */
+#include "../bindings/include/iox2_pubsub.h"
+#include <stdio.h>
+#include <stdlib.h>
+
+/* The call returns this code. */
+static void must(iox2ps_status_t got, iox2ps_status_t code, int line) {
+  if (got == code) return;
+  fprintf(stderr, "call_memory.c:%d: %s\n", line, iox2ps_error_text(got));
+  exit(2);
+}
+
+#define IS(call, code) must(call, code, __LINE__)
+#define OK(call) IS(call, IOX2PS_OK)
+
+/* What is asked and read of a domain. */
+static void ask(iox2ps_domain_t *domain, const iox2ps_publisher_t *publisher, const iox2ps_subscriber_t *subscriber) {
+  iox2ps_config_t config;
+  size_t count;
+  uint64_t refused;
+  uint32_t answer;
+  OK(iox2ps_domain_config(domain, &config));
+  OK(iox2ps_worst_case_slots(&config, 2, &count));
+  OK(iox2ps_domain_connection_count(domain, &count));
+  OK(iox2ps_domain_book_count(domain, &count));
+  OK(iox2ps_domain_warning_count(domain, &count));
+  OK(iox2ps_domain_refused_connections(domain, &refused));
+  OK(iox2ps_publisher_is_blocked(domain, publisher, &answer));
+  OK(iox2ps_subscriber_has_samples(domain, subscriber, &answer));
+}
+
+/* A sample is received, read and released. */
+static void receive(iox2ps_domain_t *domain, const iox2ps_subscriber_t *subscriber) {
+  iox2ps_sample_t sample;
+  iox2ps_header_t header;
+  const void *payload;
+  size_t len;
+  char bytes[8];
+  OK(iox2ps_subscriber_receive(domain, subscriber, &sample, &payload, &len));
+  OK(iox2ps_sample_payload(domain, &sample, &payload, &len));
+  OK(iox2ps_sample_copy(domain, &sample, bytes, sizeof bytes, &len));
+  OK(iox2ps_sample_header(domain, &sample, &header));
+  OK(iox2ps_sample_release(domain, &sample));
+}
+
+/* Loans are discarded, and messages sent, one of which waits twice and is given up. All are received. */
+static void round_of_calls(iox2ps_domain_t *domain, const iox2ps_publisher_t *publisher, const iox2ps_subscriber_t *subscriber) {
+  iox2ps_loan_t loan;
+  iox2ps_blocked_t blocked;
+  void *payload;
+  size_t len, receivers;
+  OK(iox2ps_publisher_update_connections(domain, publisher));
+  OK(iox2ps_subscriber_update_connections(domain, subscriber));
+  OK(iox2ps_publisher_loan(domain, publisher, 8, &loan, &payload));
+  OK(iox2ps_loan_payload(domain, &loan, &payload, &len));
+  OK(iox2ps_loan_discard(domain, &loan));
+  OK(iox2ps_publisher_loan_uninit(domain, publisher, 8, &loan, &payload));
+  OK(iox2ps_loan_send(domain, &loan, &receivers, &blocked));
+  IS(iox2ps_publisher_send_copy(domain, publisher, "message", 8, &receivers, &blocked), IOX2PS_BLOCKED);
+  IS(iox2ps_blocked_retry(domain, &blocked, 1, &receivers), IOX2PS_BLOCKED);
+  ask(domain, publisher, subscriber);
+  receive(domain, subscriber);
+  OK(iox2ps_blocked_retry(domain, &blocked, 2, &receivers));
+  IS(iox2ps_publisher_send_copy(domain, publisher, "message", 8, &receivers, &blocked), IOX2PS_BLOCKED);
+  OK(iox2ps_blocked_give_up(domain, &blocked, &receivers));
+  receive(domain, subscriber);
+  ask(domain, publisher, subscriber);
+}
+
+int main(int argc, char **argv) {
+  int rounds = argc == 2 ? atoi(argv[1]) : 1;
+  iox2ps_domain_t domain = IOX2PS_DOMAIN_INIT;
+  iox2ps_config_t config;
+  iox2ps_publisher_t publisher;
+  iox2ps_subscriber_t subscriber;
+  iox2ps_config_defaults(&config, 7, 8, 8);
+  config.subscriber_max_buffer_size = 1;
+  config.enable_safe_overflow = 0;
+  OK(iox2ps_domain_create(&domain, &config));
+  OK(iox2ps_subscriber_create(&domain, &subscriber));
+  OK(iox2ps_publisher_create(&domain, &publisher));
+  /* The subscriber learns of the publisher. */
+  OK(iox2ps_subscriber_update_connections(&domain, &subscriber));
+  for (int i = 0; i < rounds; i++) round_of_calls(&domain, &publisher, &subscriber);
+  if (rounds >= 0) {
+    OK(iox2ps_publisher_close(&domain, &publisher));
+    OK(iox2ps_subscriber_close(&domain, &subscriber));
+  }
+  OK(iox2ps_domain_destroy(&domain));
+  return 0;
+}
