@@ -1,7 +1,8 @@
 //! Publishers of slices whose memory grows.
 ghost use Rattle.iox2_pubsub.specs.Live.{IsUnwritten, Stays};
 ghost use Rattle.iox2_pubsub.specs.Slices.{IsSliced};
-ghost use Rattle.std.specs.Prelude.{IfOk};
+ghost use Rattle.iox2_store.specs.declared.service_config.TypeVariant.TheVariants.{Dynamic};
+ghost use Rattle.std.specs.Prelude.{◌≡◌, IfOk};
 
 use crate::fixtures::{
     assert_live, assert_ready, assert_sliced, close_publisher, close_subscriber, receive_slice,
@@ -180,6 +181,7 @@ fn lengths_rise_and_fall_around_a_sample_that_is_kept(rt: HostRuntime) {
     for value in 0..lengths.len() {
         send(&rt, &mut domain, &publisher, lengths[value], value as u64);
         assert!(rt; reads(&rt, &domain, &kept, kept_length, kept_value));
+        assert!(rt; domain.holds_sample(kept.key()));
         kept.release(&mut domain);
         kept = receive_slice(&rt, &mut domain, &subscriber);
         kept_length = lengths[value];
@@ -187,6 +189,7 @@ fn lengths_rise_and_fall_around_a_sample_that_is_kept(rt: HostRuntime) {
     }
     close_publisher(&rt, &mut domain, publisher);
     assert!(rt; reads(&rt, &domain, &kept, kept_length, kept_value));
+    assert!(rt; domain.holds_sample(kept.key()));
     kept.release(&mut domain);
     assert_live(&rt, &domain, &subscriber);
     close_subscriber(&rt, &mut domain, subscriber);
@@ -198,20 +201,27 @@ fn loans_of_each_segment_are_out_at_once(rt: HostRuntime) {
     let mut domain: Domain<u64, u64> = Domain::new(rt.alloc(), slices()).expect(&rt, "a domain");
     let publisher = growing(&rt, &mut domain, 3, AllocationStrategy::PowerOfTwo);
     let short = lend(&rt, &mut domain, &publisher, 1).expect(&rt, "a loan");
+    let short_length = short.payload(&domain).len();
     let middle = lend(&rt, &mut domain, &publisher, 3).expect(&rt, "a loan");
+    let middle_length = middle.payload(&domain).len();
     let long = lend(&rt, &mut domain, &publisher, 9).expect(&rt, "a loan");
+    let long_length = long.payload(&domain).len();
     let fourth = lends(&rt, &mut domain, &publisher, 1);
-    let lengths = [
-        short.payload(&domain).len(),
-        middle.payload(&domain).len(),
-        long.payload(&domain).len(),
-    ];
     short.disown();
     middle.disown();
     long.disown();
     close_publisher(&rt, &mut domain, publisher);
     assert!(rt; fourth == Err(LoanError::ExceedsMaxLoans));
-    assert!(rt; lengths == [1, 3, 9]);
+    assert!(rt; [short_length, middle_length, long_length] == [1, 3, 9]);
+}
+
+// Asserts that messages are slices, of elements of any number of units.
+fn assert_dynamic(rt: &impl Abort, domain: &Domain<CustomPayloadMarker, CustomHeaderMarker>)
+    ensures sliced { IsSliced domain.now }
+    ensures dynamic { (domain.now.config).variant ≡ Dynamic }
+{
+    let config = domain.config();
+    assert!(rt; matches!(config.variant, TypeVariant::Dynamic));
 }
 
 #[test]
@@ -227,12 +237,15 @@ fn bytes_of_elements_with_units_grow_too(rt: HostRuntime) {
     let factory = slice_factory(&domain).allocation_strategy(AllocationStrategy::BestFit);
     let publisher = factory.create(&mut domain).expect(&rt, "a publisher");
     assert_ready(&rt, &domain, &publisher);
+    assert_dynamic(&rt, &domain);
     let loan = publisher
         .loan_custom_payload(&mut domain, 3)
         .expect(&rt, "a loan");
+    assert_dynamic(&rt, &domain);
     let bytes = loan.payload(&domain).len();
     loan.disown();
     assert_ready(&rt, &domain, &publisher);
+    assert_dynamic(&rt, &domain);
     let unfit = publisher.loan_custom_payload(&mut domain, usize::MAX / 40);
     let unfit = unfit.map(|loan| loan.disown());
     publisher.disown();
@@ -240,20 +253,15 @@ fn bytes_of_elements_with_units_grow_too(rt: HostRuntime) {
     assert!(rt; unfit == Err(LoanError::InternalFailure));
 }
 
-// How many values are kept after loans of rising length were written and given back.
-fn kept_up_to(
-    rt: &impl Abort,
-    alloc: Global,
-    strategy: AllocationStrategy,
-    longest: usize,
-) -> usize {
+// How many values are kept after loans of rising length, each below the end, were written and given back.
+fn kept_below(rt: &impl Abort, alloc: Global, strategy: AllocationStrategy, end: usize) -> usize {
     let shared = Rc::new(alloc, 7_u8).expect(rt, "a value");
     let mut domain: Domain<Rc<u8>, u64> = Domain::new(alloc, slices()).expect(rt, "a domain");
     let factory = slice_factory(&domain)
         .max_loaned_samples(1)
         .allocation_strategy(strategy);
     let publisher = factory.create(&mut domain).expect(rt, "a publisher");
-    for len in 2..longest + 1 {
+    for len in 2..end {
         assert_sliced(rt, &domain);
         assert_ready(rt, &domain, &publisher);
         let loan = publisher
@@ -269,8 +277,8 @@ fn kept_up_to(
 
 #[test]
 fn what_lay_in_older_segments_is_dropped(rt: HostRuntime) {
-    let best_fit = kept_up_to(&rt, rt.alloc(), AllocationStrategy::BestFit, 255);
-    let powers = kept_up_to(&rt, rt.alloc(), AllocationStrategy::PowerOfTwo, 255);
+    let best_fit = kept_below(&rt, rt.alloc(), AllocationStrategy::BestFit, 256);
+    let powers = kept_below(&rt, rt.alloc(), AllocationStrategy::PowerOfTwo, 256);
     assert!(rt; best_fit == 256);
     assert!(rt; powers < 1024);
 }
