@@ -184,7 +184,7 @@ def run_cargo(steps, work):
 # ---- the gateway to DDS
 
 def run_dds(steps):
-    """Its own tests, where they are in the repository."""
+    """Those of its own tests that need no other process: how soon that comes depends on what else the machine does."""
     tests = BINDINGS / "dds/tests/everything.py"
     if tests.exists():
-        steps.run_counted("the gateway to DDS", tests, OUT)
+        steps.run_counted("the gateway to DDS, in one process", tests, OUT, "quick")

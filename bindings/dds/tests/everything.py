@@ -3,7 +3,7 @@
 
 BINDINGS_OUT is the folder that tools/bindings makes; the gateway is built into a copy of it, which is then moved. Each step is
 a line; the last one is `N passed, M failed`. Where Cyclone DDS isn't there nothing is run, and a line says so. With `quick`
-the programs aren't run under the sanitizers and valgrind again."""
+only what one process does is run: no test waits for another process, nor is anything run under the sanitizers and valgrind."""
 import os, re, shutil, subprocess, sys, tempfile
 
 here = os.path.dirname(os.path.abspath(__file__))
@@ -116,14 +116,14 @@ def tests(folder, names=(), **environment):
 def all_steps():
     step("headers alone", headers_alone)
     if not step("build, install and move", install): return
-    step("example", example)
-    step("the program of bindings/README.md", page)
     plain = build("plain", os.path.join(work, "moved"), "-DIOX2PS_DDS_TESTS=ON")
     step("frames", lambda: run([os.path.join(plain, "frames")]).strip())
+    if quick: return
+    step("example", example)
+    step("the program of bindings/README.md", page)
     step("between processes", tests(plain))
     if shutil.which("cargo"): step("rust", lambda: rust(plain))
     else: print("not there, and so not run: cargo")
-    if quick: return
     flags = ["-DCMAKE_%s_FLAGS=%s" % (language, sanitizers) for language in ("C", "CXX")]
     sane = build("sanitized", os.path.join(work, "moved"), "-DIOX2PS_DDS_TESTS=ON", "-DCMAKE_BUILD_TYPE=None", *flags)
     step("frames, sanitizers", lambda: run([os.path.join(sane, "frames")]).strip())
