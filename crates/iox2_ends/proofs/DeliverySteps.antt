@@ -1,15 +1,15 @@
 -- One put of a delivery, seen from the machine.
-use Rattle.std.proofs.Common.{◌≡◌, ◌<◌, ◌≤◌, ◌+◌, length, drop, ℕ, List, [], ◌∷◌, Bool, true, false, ◌&&◌, ◌||◌, eqb, nat_lt, Option, None, Some, get_or, refl, ap, sym, ◌∙◌, subst, arith}
+use Rattle.std.proofs.Common.{◌≡◌, ◌<◌, ◌≤◌, ◌+◌, length, drop, ℕ, List, [], ◌∷◌, Bool, true, false, cond, not, ◌&&◌, ◌||◌, eqb, nat_lt, Option, None, Some, get_or, refl, ap, sym, ◌∙◌, subst, inl, inr, ◌⊎◌, arith}
 use Rattle.std.proofs.lemmas.Bool.{eqb-true, ne_eqb}
 use Rattle.std.proofs.lemmas.List.{drop_more, drop_all, map-append, length-map}
 use Rattle.std.proofs.Math.ListN.{get_or-map}
 use Rattle.std.specs.Option.{option_map, option_and_then}
 use Rattle.std.specs.Prelude.{IsSomeAnd}
 use Rattle.slab.specs.Slab.{Slab, get, with_value, ContainsKey}
-use Rattle.iox2_slots.specs.Link.{Link, IsPut}
+use Rattle.iox2_slots.specs.Link.{Link, is_shut, IsPut}
 use Rattle.iox2_store.specs.machine.Mailbox.{Mailbox}
 use Rattle.iox2_store.specs.machine.Records.{Environment}
-use Rattle.iox2_store.specs.machine.Delivery.{PutResult, Skipped, DeliveryEnd, Put, is_blocking, is_failed, accepted_count}
+use Rattle.iox2_store.specs.machine.Delivery.{PutResult, Skipped, DeliveryEnd, Put, channel_buffer, is_blocking, is_failed, accepted_count}
 use Rattle.iox2_store.specs.declared.service_config.ServiceConfig.{ServiceConfig}
 use Rattle.iox2_slots.specs.declared.connection.Home.{Home}
 use Rattle.iox2_slots.specs.declared.connection.PutOutcome.{PutOutcome}
@@ -22,7 +22,7 @@ use Rattle.iox2_ends.specs.declared.sender.DeliveryOutcome.{DeliveryOutcome}
 use Rattle.iox2_ends.specs.LookUp.{look_up, IsOnly}
 use Rattle.iox2_ends.specs.Mailboxes.{mailbox_of, mailboxes_of, subscriber_of_key, sender_ends}
 use Rattle.iox2_ends.specs.Homes.{SameHomes, KeepsOthers, IsSenders, IsSenderLinked, fixed_of}
-use Rattle.iox2_ends.specs.Receivers.{has_id, buffer_if_open, buffers_of, is_open_one, is_open_at, KnowsReceivers, IsReadyToDeliver}
+use Rattle.iox2_ends.specs.Receivers.{has_id, buffer_if_open, buffers_of, is_open_one, is_open_at, takes_at, KnowsReceivers, IsReadyToDeliver}
 use Rattle.iox2_ends.specs.Handlers.{marks_of}
 use Rattle.iox2_ends.specs.Deliveries.{result_of, end_of, retries_at, elapsed_at, ComesTo, PutsMessage, DeliversMessage}
 use Rattle.iox2_ends.proofs.LookUps.{look_up-found, look_up-there}
@@ -75,6 +75,31 @@ buffers-closed slab receivers key c knows at not_receiving = by (look_up (has_id
       let shut : (eqb y.port_id c.home.subscriber && y.is_open) ≡ false = rw here at not_receiving in
       rw (rw found.2 at shut) refl
 
+-- what a connection that takes messages says of its receiver and of its channel
+takes-both : (receivers : List (Option ReceiverDetails)) (i : ℕ) (c : Link) → takes_at receivers i c ≡ true → (is_open_at receivers i c.home.subscriber ≡ true) × (not (is_shut c) ≡ true)
+takes-both receivers i c h = both-true (is_open_at receivers i c.home.subscriber) (not (is_shut c)) h
+
+takes-open : (receivers : List (Option ReceiverDetails)) (i : ℕ) (c : Link) → takes_at receivers i c ≡ true → is_open_at receivers i c.home.subscriber ≡ true
+takes-open receivers i c h = (takes-both receivers i c h).0
+
+takes-shut : (receivers : List (Option ReceiverDetails)) (i : ℕ) (c : Link) → takes_at receivers i c ≡ true → is_shut c ≡ false
+takes-shut receivers i c h = by (is_shut c) (takes-both receivers i c h).1 where
+  by : (b : Bool) → not b ≡ true → b ≡ false
+  by true e = absurd cc
+  by false e = refl
+
+-- one that doesn't has a receiver that isn't open, or a closed channel
+takes-not : (receivers : List (Option ReceiverDetails)) (i : ℕ) (c : Link) → takes_at receivers i c ≡ false → (is_open_at receivers i c.home.subscriber ≡ false) ⊎ (is_shut c ≡ true)
+takes-not receivers i c h = by (is_open_at receivers i c.home.subscriber) (is_shut c) h where
+  by : (a b : Bool) → (a && not b) ≡ false → (a ≡ false) ⊎ (b ≡ true)
+  by false b e = inl refl
+  by true true e = inr refl
+  by true false e = absurd cc
+
+cond-same : {A : Type 0} (b : Bool) (x : A) → cond b x x ≡ x
+cond-same true x = refl
+cond-same false x = refl
+
 -- ---- a put
 
 lt-true : (a b : ℕ) → a < b → nat_lt a b ≡ true
@@ -122,7 +147,7 @@ module _ {p : ℕ} {slab : Slab Link} {keys : List (Option ℕ)} {receivers : Li
       KeepsOthers-updated p slab (with_value slab key d) key c (Some d) was_c (home-of c was_c).publisher (Updates-with_value slab key c d was_c)
 
   -- a put is the machine's, at the end to which the place leads
-  pub put-puts : {F : Type 0} (environment : Environment) (config : ServiceConfig) (v : Delivery) (handler : Option (BackpressureHandler F)) (o : PutOutcome) (c d : Link) (result : Reception) → v.publisher ≡ p → get slab key ≡ Some c → is_open_at receivers i c.home.subscriber ≡ true
+  pub put-puts : {F : Type 0} (environment : Environment) (config : ServiceConfig) (v : Delivery) (handler : Option (BackpressureHandler F)) (o : PutOutcome) (c d : Link) (result : Reception) → v.publisher ≡ p → get slab key ≡ Some c → takes_at receivers i c ≡ true
       → IsPut c v.slot config.enable_safe_overflow o d → ComesTo environment config v handler i c.home.subscriber o (result_of result) → (number : ℕ → ℕ → ℕ)
       → PutsMessage environment config v handler receivers (number p v.slot) i (subscriber_of_key slab (get_or keys i None)) (mailboxes_of number slab p) (result_of result) (mailboxes_of number (with_value slab key d) p)
   put-puts environment config v handler o c d result by_p was_c receiving put comes number =
@@ -133,15 +158,25 @@ module _ {p : ℕ} {slab : Slab Link} {keys : List (Option ℕ)} {receivers : Li
             (home-of c was_c).publisher (ap (λ (t : Home × ℕ × ℕ × Bool). t.0) (put-fixed c v.slot config.enable_safe_overflow o d put)) (Updates-with_value slab key c d was_c) q),
       )
     where
-      goes : Put environment config v.publisher v.strategy (marks_of handler) (buffers_of receivers) (number p v.slot) c.home.subscriber (retries_at v i) (elapsed_at v i) (buffers_of receivers c.home.subscriber) (mailboxes_of number slab p c.home.subscriber) (result_of result) (mailbox_of (number p) d)
-      goes = rw (mailbox-there number slab key p c.home.subscriber c ready.apart was_c (home-of c was_c).publisher refl, buffers-open slab receivers key i c ready.knows (ready.one_id c.home.subscriber) was_c receiving)
+      goes : Put environment config v.publisher v.strategy (marks_of handler) (buffers_of receivers) (number p v.slot) c.home.subscriber (retries_at v i) (elapsed_at v i) (channel_buffer 0 (mailboxes_of number slab p c.home.subscriber) (buffers_of receivers c.home.subscriber)) (mailboxes_of number slab p c.home.subscriber) (result_of result) (mailbox_of (number p) d)
+      goes = rw (mailbox-there number slab key p c.home.subscriber c ready.apart was_c (home-of c was_c).publisher refl, takes-shut receivers i c receiving, buffers-open slab receivers key i c ready.knows (ready.one_id c.home.subscriber) was_c (takes-open receivers i c receiving))
           (put-mailbox environment (number p) config v handler i c.home.subscriber (buffers_of receivers) c d o (result_of result) put comes)
 
-  -- a closed receiver is skipped
-  pub put-passes : {F : Type 0} (environment : Environment) (config : ServiceConfig) (v : Delivery) (handler : Option (BackpressureHandler F)) (c : Link) → get slab key ≡ Some c → is_open_at receivers i c.home.subscriber ≡ false → (number : ℕ → ℕ → ℕ)
+  -- a closed receiver is skipped, and so is a closed channel
+  pub put-passes : {F : Type 0} (environment : Environment) (config : ServiceConfig) (v : Delivery) (handler : Option (BackpressureHandler F)) (c : Link) → get slab key ≡ Some c → takes_at receivers i c ≡ false → (number : ℕ → ℕ → ℕ)
       → PutsMessage environment config v handler receivers (number p v.slot) i (subscriber_of_key slab (get_or keys i None)) (mailboxes_of number slab p) Skipped (mailboxes_of number slab p)
   put-passes environment config v handler c was_c shut number =
-      rw (at, was_c) (mailboxes_of number slab p c.home.subscriber, rw (buffers-closed slab receivers key c ready.knows was_c (rw (home-of c was_c).place shut)) (refl, refl), put_at-own (mailboxes_of number slab p) c.home.subscriber)
+      rw (at, was_c) (mailboxes_of number slab p c.home.subscriber, skipped, put_at-own (mailboxes_of number slab p) c.home.subscriber)
+    where
+      none : channel_buffer 0 (mailboxes_of number slab p c.home.subscriber) (buffers_of receivers c.home.subscriber) ≡ None
+      none = ap (λ (box : Mailbox). channel_buffer 0 box (buffers_of receivers c.home.subscriber)) (mailbox-there number slab key p c.home.subscriber c ready.apart was_c (home-of c was_c).publisher refl)
+          ∙ elim (takes-not receivers i c shut) [
+            | inl away ↦ ap (cond (is_shut c) None) (buffers-closed slab receivers key c ready.knows was_c (rw (home-of c was_c).place away)) ∙ cond-same (is_shut c) None
+            | inr closed ↦ ap (λ (b : Bool). cond b None (buffers_of receivers c.home.subscriber)) closed
+          ]
+
+      skipped : Put environment config v.publisher v.strategy (marks_of handler) (buffers_of receivers) (number p v.slot) c.home.subscriber (retries_at v i) (elapsed_at v i) (channel_buffer 0 (mailboxes_of number slab p c.home.subscriber) (buffers_of receivers c.home.subscriber)) (mailboxes_of number slab p c.home.subscriber) Skipped (mailboxes_of number slab p c.home.subscriber)
+      skipped = rw none (refl, refl)
 
 -- ---- the loop
 

@@ -21,13 +21,14 @@ nothing : (xs : List ℕ) → length xs ≡ 0 → xs ≡ []
 nothing [] e = refl
 nothing (x ∷ xs) e = absurd (omega arith)
 
--- two connections in which no slot stands, at one place and with the same limits
-alike : (c d : Link) → fixed_of d ≡ fixed_of c → load c ≡ 0 → load d ≡ 0 → d ≡ c
-alike c d fixed none_c none_d = λ t. record {
+-- two connections in which no slot stands, at one place, with the same limits and the same channel
+alike : (c d : Link) → fixed_of d ≡ fixed_of c → d.channel ≡ c.channel → load c ≡ 0 → load d ≡ 0 → d ≡ c
+alike c d fixed channel none_c none_d = λ t. record {
   home = (fixed t).0;
   buffer = (fixed t).1;
   limit = (fixed t).2;
   is_open = (fixed t).3;
+  channel = channel t;
   waiting = (nothing d.waiting (omega (arith, none_d)) ∙ sym (nothing c.waiting (omega (arith, none_c)))) t;
   borrowed = (nothing d.borrowed (omega (arith, none_d)) ∙ sym (nothing c.borrowed (omega (arith, none_c)))) t;
   returned = (nothing d.returned (omega (arith, none_d)) ∙ sym (nothing c.returned (omega (arith, none_c)))) t;
@@ -51,7 +52,7 @@ still-empty p holders holders' old new apart r key c at none = by (get new key) 
       let lent : length d.borrowed ≡ length c.borrowed = sym (length-map d.borrowed (λ s. s)) ∙ ap (λ (box : Mailbox). length box.borrowed) there ∙ length-map c.borrowed (λ s. s) in
       let now : returned_count new key ≡ length d.returned = ap (λ o. option_map_or (λ (x : Link). length x.returned) o 0) e in
       let then : returned_count old key ≡ length c.returned = ap (λ o. option_map_or (λ (x : Link). length x.returned) o 0) at in
-      e ∙ ap Some (alike c d fixed none (omega (arith, none, waits, lent, now, then, r.recounts.fewer key)))
+      e ∙ ap Some (alike c d fixed (ap (λ (box : Mailbox). box.channels 0) there) none (omega (arith, none, waits, lent, now, then, r.recounts.fewer key)))
 
 -- ---- sums
 

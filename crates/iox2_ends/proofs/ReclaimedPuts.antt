@@ -15,7 +15,7 @@ use Rattle.iox2_ends.specs.declared.sender.Delivery.{Delivery}
 use Rattle.iox2_ends.specs.declared.sender.Reception.{Reception}
 use Rattle.iox2_ends.specs.Mailboxes.{mailboxes_of, subscriber_of_key}
 use Rattle.iox2_ends.specs.Counters.{IsCovered, HoldsItself, GrowsAlone, CanLeave, one_holder_more, recounted, stands}
-use Rattle.iox2_ends.specs.Receivers.{is_open_at, IsReadyToDeliver}
+use Rattle.iox2_ends.specs.Receivers.{is_open_at, takes_at, IsReadyToDeliver}
 use Rattle.iox2_ends.specs.Recounts.{Recounts}
 use Rattle.iox2_ends.specs.Reclaims.{IsHeld, Reclaims, ReclaimsFrom}
 use Rattle.iox2_ends.specs.Deliveries.{result_of, ComesTo, PutsMessage}
@@ -89,8 +89,8 @@ module _ {p : ℕ} {slab : Slab Link} {keys : List (Option ℕ)} {receivers : Li
         (subst (λ (boxes : ℕ → Mailbox). PutsMessage environment config v handler receivers (number p v.slot) i (subscriber_of_key emptied (get_or keys i None)) boxes (result_of result) boxes')
         (ap (λ (all : ℕ → ℕ → Mailbox). all p) (reclaims.mailboxes number)) puts)
 
-    -- a closed receiver is skipped
-    pub reclaim-passes : {F : Type 0} (environment : Environment) (config : ServiceConfig) (v : Delivery) (handler : Option (BackpressureHandler F)) → is_open_at receivers i c.home.subscriber ≡ false → (number : ℕ → ℕ → ℕ)
+    -- a closed receiver is skipped, and so is a closed channel
+    pub reclaim-passes : {F : Type 0} (environment : Environment) (config : ServiceConfig) (v : Delivery) (handler : Option (BackpressureHandler F)) → takes_at receivers i c ≡ false → (number : ℕ → ℕ → ℕ)
         → PutsMessage environment config v handler receivers (number p v.slot) i (subscriber_of_key slab (get_or keys i None)) (mailboxes_of number slab p) Skipped (mailboxes_of number emptied p)
     reclaim-passes environment config v handler shut number =
         from-emptied environment config v handler Reception.Skipped (mailboxes_of number emptied p) number (put-passes i key ready-emptied at environment config v handler c stands_c shut number)
@@ -132,7 +132,7 @@ module _ {p : ℕ} {slab : Slab Link} {keys : List (Option ℕ)} {receivers : Li
         pub put-alone : GrowsAlone slot hs (recounted o slot hs')
         put-alone = record { others = λ n differs. omega (arith, (recounted-alone o slot hs' (in_range hs' slot some) reclaim-can_leave).others n differs, r.shrinks n) }
 
-    pub reclaim-puts : {F : Type 0} (environment : Environment) (config : ServiceConfig) (v : Delivery) (handler : Option (BackpressureHandler F)) (o : PutOutcome) (d : Link) (result : Reception) → v.publisher ≡ p → is_open_at receivers i c.home.subscriber ≡ true
+    pub reclaim-puts : {F : Type 0} (environment : Environment) (config : ServiceConfig) (v : Delivery) (handler : Option (BackpressureHandler F)) (o : PutOutcome) (d : Link) (result : Reception) → v.publisher ≡ p → takes_at receivers i c ≡ true
         → IsPut c v.slot config.enable_safe_overflow o d → ComesTo environment config v handler i c.home.subscriber o (result_of result) → (number : ℕ → ℕ → ℕ)
         → PutsMessage environment config v handler receivers (number p v.slot) i (subscriber_of_key slab (get_or keys i None)) (mailboxes_of number slab p) (result_of result) (mailboxes_of number (with_value slab key d) p)
     reclaim-puts environment config v handler o d result by_p receiving put comes number =

@@ -5,7 +5,7 @@ use Rattle.std.specs.declared.option.Option.TheVariants.{None, Some}
 use Rattle.std.specs.Option.{option_map, option_and_then}
 use Rattle.slab.specs.Slab.{Slab, get}
 use Rattle.iox2_slots.specs.Link.{Link}
-use Rattle.iox2_store.specs.machine.Mailbox.{Mailbox, empty_mailbox}
+use Rattle.iox2_store.specs.machine.Mailbox.{Mailbox, Channel, open_channel, empty_mailbox}
 use Rattle.iox2_store.specs.machine.Numbers.{put_at}
 use Rattle.iox2_ends.specs.LookUp.{look_up}
 
@@ -13,9 +13,13 @@ use Rattle.iox2_ends.specs.LookUp.{look_up}
 abbrev pub is_between : (p q : ℕ) → Link → Bool
 is_between p q c = (c.home.publisher == p) && (c.home.subscriber == q)
 
+-- The channels of a connection that has this channel 0; all others are new.
+abbrev pub channels_of : Channel → ℕ → Channel
+channels_of channel = put_at (λ _. open_channel) 0 channel
+
 -- The mailbox that a connection is, where its slots have these numbers.
 abbrev pub mailbox_of : (ℕ → ℕ) → Link → Mailbox
-mailbox_of number c = record { waiting = map number c.waiting; borrowed = map number c.borrowed }
+mailbox_of number c = record { waiting = map number c.waiting; borrowed = map number c.borrowed; channels = channels_of c.channel }
 
 -- The mailbox that a connection is, or an empty one.
 abbrev pub mailbox_if_any : (ℕ → ℕ) → Option Link → Mailbox

@@ -1,10 +1,10 @@
 -- The subscribers at their places, as a publisher that delivers sees them.
-use Rattle.std.specs.Prelude.{◌≡◌, ℕ, Bool, true, false, cond, ◌&&◌, ◌==◌, List, [], slice_index_or}
+use Rattle.std.specs.Prelude.{◌≡◌, ℕ, Bool, true, false, cond, not, ◌&&◌, ◌==◌, List, [], slice_index_or}
 use Rattle.std.specs.declared.option.Option.{Option}
 use Rattle.std.specs.declared.option.Option.TheVariants.{None, Some}
 use Rattle.std.specs.Option.{option_and_then}
 use Rattle.slab.specs.Slab.{Slab, get}
-use Rattle.iox2_slots.specs.Link.{Link}
+use Rattle.iox2_slots.specs.Link.{Link, is_shut}
 use Rattle.iox2_ends.specs.LookUp.{look_up, IsOnly}
 use Rattle.iox2_ends.specs.Homes.{IsApart, IsSenderLinked}
 use Rattle.iox2_ends.specs.declared.sender.ReceiverDetails.{ReceiverDetails}
@@ -29,6 +29,10 @@ is_open_one q (Some y) = (y.port_id == q) && y.is_open
 -- The receiver with that id stands at the place, and is open.
 abbrev pub is_open_at : List (Option ReceiverDetails) → (place q : ℕ) → Bool
 is_open_at receivers place q = is_open_one q (slice_index_or receivers place None)
+
+-- The connection takes messages: its receiver stands at the place and is open, and its channel isn't closed.
+abbrev pub takes_at : List (Option ReceiverDetails) → (place : ℕ) → Link → Bool
+takes_at receivers place c = is_open_at receivers place c.home.subscriber && not (is_shut c)
 
 -- A subscriber that is there stands at the place that its connections name, and has their buffer.
 pub record KnowsReceivers (connections : Slab Link) (receivers : List (Option ReceiverDetails)) : Type 0 where

@@ -12,6 +12,7 @@ pub mod SubscriberUpdate
 pub mod Loans
 pub mod LoansLeft
 pub mod Sends
+pub mod Channels
 pub mod Receives
 pub mod Releases
 pub mod Ports

@@ -7,7 +7,7 @@ use Rattle.std.specs.declared.option.Option.TheVariants.{None, Some}
 use Rattle.iox2_store.specs.machine.Limits.{buffer_limit, worst_case, last_number, fits, segment_fits}
 use Rattle.iox2_store.specs.machine.Numbers.{put_at}
 use Rattle.iox2_store.specs.machine.Places.{occupant, is_port, vacated, free_place, set_place}
-use Rattle.iox2_store.specs.machine.Mailbox.{Mailbox, waiting_dropped}
+use Rattle.iox2_store.specs.machine.Mailbox.{Mailbox, settled, given_up}
 use Rattle.iox2_store.specs.machine.Records.{Publisher, Subscriber, PublisherSettings, SubscriberSettings, Fixed, Environment}
 use Rattle.iox2_store.specs.machine.State.{State, with_warning, is_present, publishers_due, subscribers_due}
 use Rattle.iox2_store.specs.machine.PublisherUpdate.{UpdatePublisher}
@@ -120,11 +120,11 @@ module _ {T U : Type 0} where
   -- ---- close
 
   -- The mailbox of a publisher that closes and q: what is borrowed stays, and what waits stays where q is open and has
-  -- its end.
+  -- its end. Where nothing is left of it, it is as if it had never been.
   abbrev pub mailbox_after_publisher : State T U → (p : ℕ) → Publisher → (q : ℕ) → Mailbox
   mailbox_after_publisher s p x q =
       cond (option_map_or (λ (y : Subscriber). y.is_open && is_port (occupant y.ends x.place) p) (s.subscribers q) false)
-      (s.mailboxes p q) (waiting_dropped (s.mailboxes p q))
+      (settled (s.mailboxes p q)) (given_up (s.mailboxes p q))
 
   -- The publisher p is gone, its place is free, and what waits from it for nobody is lost.
   abbrev pub publisher_gone : State T U → (p : ℕ) → Publisher → State T U
@@ -145,7 +145,7 @@ module _ {T U : Type 0} where
 
   -- The mailbox of p and a subscriber that closes: what waits from a departed publisher is lost.
   abbrev pub mailbox_after_subscriber : State T U → (q p : ℕ) → Mailbox
-  mailbox_after_subscriber s q p = cond (is_present s p) (s.mailboxes p q) (waiting_dropped (s.mailboxes p q))
+  mailbox_after_subscriber s q p = cond (is_present s p) (s.mailboxes p q) (given_up (s.mailboxes p q))
 
   -- The subscriber q takes no messages any more, and every publisher is due.
   abbrev pub subscriber_shut : State T U → (q : ℕ) → Subscriber → State T U

@@ -4,9 +4,9 @@ use Rattle.std.specs.Prelude.{ℕ, Bool, false, cond, List, ◌≡◌, ◌⊎◌
 use Rattle.std.specs.Bool.{MatchBool}
 use Rattle.std.specs.declared.option.Option.{Option}
 use Rattle.std.specs.declared.option.Option.TheVariants.{None, Some}
-use Rattle.iox2_store.specs.machine.Numbers.{put_at, last_n}
+use Rattle.iox2_store.specs.machine.Numbers.{put_at}
 use Rattle.iox2_store.specs.machine.Places.{occupant, set_place, is_port}
-use Rattle.iox2_store.specs.machine.Mailbox.{Mailbox, with_waiting, waiting_dropped}
+use Rattle.iox2_store.specs.machine.Mailbox.{Mailbox, with_history_handed, waiting_dropped, given_up}
 use Rattle.iox2_store.specs.machine.Records.{Publisher, Handler, Environment}
 use Rattle.iox2_store.specs.machine.State.{State, Warnings, receiving_buffer, has_receiver_end}
 use Rattle.iox2_store.specs.machine.Connections.{ForEachPlace, ConnectionRefused}
@@ -40,17 +40,21 @@ sender_action buffers (Some q) end =
 abbrev pub dropped : SenderSide → (q : ℕ) → SenderSide
 dropped side q = record side { mailboxes = put_at side.mailboxes q (waiting_dropped (side.mailboxes q)) }
 
--- The end at the place goes, if there is one, and what waits in its mailbox with it.
+-- The end at the place goes, if there is one, and its mailbox with it: it led to a subscriber that is gone.
 abbrev pub disconnected : SenderSide → (place : ℕ) → (end : Option ℕ) → SenderSide
 disconnected side place None = side
-disconnected side place (Some q) = record (dropped side q) { ends = set_place side.ends place None }
+disconnected side place (Some q) = record side {
+  ends = set_place side.ends place None;
+  mailboxes = put_at side.mailboxes q (given_up (side.mailboxes q));
+}
 
--- An end to q is made at the place, and the last messages of the history that the buffer holds wait there.
+-- An end to q is made at the place, and the last messages of the history that the buffer holds wait there in channel 0,
+-- where that isn't closed.
 -- (iceoryx2: `port/publisher.rs`, `deliver_sample_history`.)
 abbrev pub connected : (history : List ℕ) → SenderSide → (place q buffer : ℕ) → SenderSide
 connected history side place q buffer = record side {
   ends = set_place side.ends place (Some q);
-  mailboxes = put_at side.mailboxes q (with_waiting (last_n buffer history) (side.mailboxes q));
+  mailboxes = put_at side.mailboxes q (with_history_handed buffer history (side.mailboxes q));
 }
 
 -- The update of the publisher p with that history and handler; `buffers` has those of open subscribers, and
