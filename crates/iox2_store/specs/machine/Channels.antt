@@ -1,6 +1,6 @@
 -- Channels of connections: what the ports ask of them, and how ports change them. No message moves by these.
 -- (iceoryx2: `port/details/receiver.rs` and `port/details/sender.rs`, the calls on channels.)
-use Rattle.std.specs.Prelude.{ℕ, zero, suc, Bool, false, cond, List, [], ◌∷◌, ◌≡◌, ◌×◌, MatchOption}
+use Rattle.std.specs.Prelude.{ℕ, zero, suc, Bool, false, cond, List, [], ◌∷◌, ◌≡◌, MatchOption}
 use Rattle.std.specs.List.{list_all, list_any}
 use Rattle.std.specs.Option.{option_map, option_map_or}
 use Rattle.std.specs.declared.option.Option.{Option}
