@@ -4,7 +4,7 @@ use Rattle.std.specs.Bool.{MatchBool}
 use Rattle.std.specs.declared.time.Duration.{Duration}
 use Rattle.iox2_store.specs.machine.Mailbox.{Mailbox, has_room}
 use Rattle.iox2_store.specs.machine.Records.{Handler, Fixed, Custom, Environment}
-use Rattle.iox2_store.specs.machine.Delivery.{channel_buffer, PutResult, DeliveryEnd, is_blocking, is_failed, accepted_count, no_time, Decides, Put, PutAtEnd, Deliver}
+use Rattle.iox2_store.specs.machine.Delivery.{PutResult, DeliveryEnd, is_blocking, is_failed, accepted_count, no_time, Decides, Put, PutAtEnd, Deliver}
 use Rattle.iox2_store.specs.declared.service_config.ServiceConfig.{ServiceConfig}
 use Rattle.iox2_store.specs.declared.backpressure.BackpressureAction.{BackpressureAction}
 use Rattle.iox2_store.specs.declared.backpressure.BackpressureInfo.{BackpressureInfo}
@@ -35,7 +35,7 @@ module _ (e e' : Environment) (c : ServiceConfig) (p : ℕ) (strategy : Backpres
   put_at_end-any : (retries : ℕ) (elapsed : Duration) (end : Option ℕ) (boxes : ℕ → Mailbox) (result : PutResult) (boxes' : ℕ → Mailbox)
       → PutAtEnd e c p strategy handler buffers n retries elapsed end boxes result boxes' → PutAtEnd e' c p strategy handler buffers n retries elapsed end boxes result boxes'
   put_at_end-any retries elapsed None boxes result boxes' h = h
-  put_at_end-any retries elapsed (Some q) boxes result boxes' h = (h.0, put-any q retries elapsed (channel_buffer 0 (boxes q) (buffers q)) (boxes q) result h.0 h.1, h.2)
+  put_at_end-any retries elapsed (Some q) boxes result boxes' h = (h.0, put-any q retries elapsed (buffers q) (boxes q) result h.0 h.1, h.2)
 
   -- what is delivered where a box may answer so is delivered where it may answer as much
   pub Deliver-any : (retries : ℕ) (elapsed : Duration) (place : ℕ) (ends : List (Option ℕ)) (count : ℕ) (has_failed : Bool) (boxes : ℕ → Mailbox) (how : DeliveryEnd) (boxes' : ℕ → Mailbox)

@@ -5,7 +5,8 @@ use Rattle.std.specs.declared.option.Option.TheVariants.{None, Some}
 use Rattle.std.specs.Option.{option_map, option_and_then}
 use Rattle.slab.specs.Slab.{Slab, get}
 use Rattle.iox2_slots.specs.Link.{Link}
-use Rattle.iox2_store.specs.machine.Mailbox.{Mailbox, Channel, open_channel, empty_mailbox}
+use Rattle.iox2_store.specs.machine.Channel.{Channel, new_channels}
+use Rattle.iox2_store.specs.machine.Mailbox.{Mailbox, empty_mailbox}
 use Rattle.iox2_store.specs.machine.Numbers.{put_at}
 use Rattle.iox2_ends.specs.LookUp.{look_up}
 
@@ -13,13 +14,9 @@ use Rattle.iox2_ends.specs.LookUp.{look_up}
 abbrev pub is_between : (p q : ℕ) → Link → Bool
 is_between p q c = (c.home.publisher == p) && (c.home.subscriber == q)
 
--- The channels of a connection that has this channel 0; all others are new.
-abbrev pub channels_of : Channel → ℕ → Channel
-channels_of channel = put_at (λ _. open_channel) 0 channel
-
 -- The mailbox that a connection is, where its slots have these numbers.
 abbrev pub mailbox_of : (ℕ → ℕ) → Link → Mailbox
-mailbox_of number c = record { waiting = map number c.waiting; borrowed = map number c.borrowed; channels = channels_of c.channel }
+mailbox_of number c = record { waiting = map number c.waiting; borrowed = map number c.borrowed }
 
 -- The mailbox that a connection is, or an empty one.
 abbrev pub mailbox_if_any : (ℕ → ℕ) → Option Link → Mailbox
@@ -29,6 +26,19 @@ mailbox_if_any number (Some c) = mailbox_of number c
 -- The mailboxes by the publisher's id, then the subscriber's.
 abbrev pub mailboxes_of : (number : ℕ → ℕ → ℕ) → Slab Link → ℕ → ℕ → Mailbox
 mailboxes_of number connections p q = mailbox_if_any (number p) (look_up (is_between p q) connections.slots)
+
+-- The channels of a connection that has this channel 0; all others are new.
+abbrev pub channels_of : Channel → ℕ → Channel
+channels_of channel = put_at new_channels 0 channel
+
+-- The channels of a connection, or new ones.
+abbrev pub channels_if_any : Option Link → ℕ → Channel
+channels_if_any None = new_channels
+channels_if_any (Some c) = channels_of c.channel
+
+-- The channels by the publisher's id, then the subscriber's.
+abbrev pub channels_in : Slab Link → ℕ → ℕ → ℕ → Channel
+channels_in connections p q = channels_if_any (look_up (is_between p q) connections.slots)
 
 -- The mailboxes with this one between p and q.
 abbrev pub with_box : (ℕ → ℕ → Mailbox) → (p q : ℕ) → Mailbox → ℕ → ℕ → Mailbox

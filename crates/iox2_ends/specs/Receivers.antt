@@ -5,7 +5,9 @@ use Rattle.std.specs.declared.option.Option.TheVariants.{None, Some}
 use Rattle.std.specs.Option.{option_and_then}
 use Rattle.slab.specs.Slab.{Slab, get}
 use Rattle.iox2_slots.specs.Link.{Link, is_shut}
+use Rattle.iox2_store.specs.machine.Channel.{is_closed}
 use Rattle.iox2_ends.specs.LookUp.{look_up, IsOnly}
+use Rattle.iox2_ends.specs.Mailboxes.{channels_in}
 use Rattle.iox2_ends.specs.Homes.{IsApart, IsSenderLinked}
 use Rattle.iox2_ends.specs.declared.sender.ReceiverDetails.{ReceiverDetails}
 
@@ -20,6 +22,10 @@ buffer_if_open y = cond y.is_open (Some y.buffer_size) None
 -- The buffers of the receivers that are open, by id.
 abbrev pub buffers_of : List (Option ReceiverDetails) → ℕ → Option ℕ
 buffers_of receivers q = option_and_then buffer_if_open (look_up (has_id q) receivers)
+
+-- The buffers of the receivers that take messages of the publisher p, by id: they are open, and so is their channel.
+abbrev pub taking_buffers : Slab Link → (p : ℕ) → List (Option ReceiverDetails) → ℕ → Option ℕ
+taking_buffers connections p receivers q = cond (is_closed (channels_in connections p q 0)) None (buffers_of receivers q)
 
 -- It is the receiver with that id, and open.
 abbrev pub is_open_one : (q : ℕ) → Option ReceiverDetails → Bool

@@ -3,7 +3,7 @@ use Rattle.std.specs.Prelude.{◌≡◌, ℕ, ◌+◌, ◌<◌, ◌≤◌, ◌^�
 use Rattle.std.specs.declared.option.Option.{Option}
 use Rattle.std.specs.declared.option.Option.TheVariants.{None, Some}
 use Rattle.iox2_store.specs.machine.Numbers.{is_nil, without}
-use Rattle.iox2_store.specs.machine.Mailbox.{Channel, open_channel, closed_state, channel_after}
+use Rattle.iox2_store.specs.machine.Channel.{Channel, new_channel, closed_state, is_in_state, is_closed, with_state, with_hint}
 use Rattle.iox2_slots.specs.declared.connection.Home.{Home}
 use Rattle.iox2_slots.specs.declared.connection.PutOutcome.{PutOutcome}
 use Rattle.iox2_slots.specs.declared.connection.PutOutcome.TheVariants.{Taken, Overwrote, Full}
@@ -21,7 +21,7 @@ pub record Link : Type 0 where
 
 -- A new connection: no slot stands in it, its channel is open, and it isn't marked as open.
 abbrev pub empty_link : Home → (buffer limit : ℕ) → Link
-empty_link home buffer limit = record { home = home; buffer = buffer; limit = limit; is_open = false; channel = open_channel; waiting = []; borrowed = []; returned = [] }
+empty_link home buffer limit = record { home = home; buffer = buffer; limit = limit; is_open = false; channel = new_channel; waiting = []; borrowed = []; returned = [] }
 
 -- ---- reading
 
@@ -43,7 +43,7 @@ can_borrow c = has_slots c && nat_lt (length c.borrowed) c.limit
 
 -- The channel is closed: it takes no slot.
 abbrev pub is_shut : Link → Bool
-is_shut c = c.channel.state == closed_state
+is_shut c = is_closed c.channel
 
 -- ---- changing
 
@@ -91,15 +91,15 @@ with_mark is_open c = record c { is_open = is_open && not (is_shut c) }
 
 -- The channel comes into this state. One that closes isn't marked as open any more.
 abbrev pub with_channel_state : (state : ℕ) → Link → Link
-with_channel_state state c = record c { is_open = c.is_open && not (state == closed_state); channel = channel_after state c.channel }
+with_channel_state state c = record c { is_open = c.is_open && not (state == closed_state); channel = with_state state c.channel }
 
 -- The channel, where it is in the state `expected`, comes into this one.
 abbrev pub state_changed : (expected state : ℕ) → Link → Link
-state_changed expected state c = cond (c.channel.state == expected) (with_channel_state state c) c
+state_changed expected state c = cond (is_in_state expected c.channel) (with_channel_state state c) c
 
 -- The channel, where it is in the state `expected`, has a hint.
 abbrev pub hint_set : (expected : ℕ) → Link → Link
-hint_set expected c = cond (c.channel.state == expected) (record c { channel = record c.channel { has_hint = true } }) c
+hint_set expected c = cond (is_in_state expected c.channel) (record c { channel = with_hint c.channel }) c
 
 -- ---- bounds
 

@@ -1,11 +1,11 @@
 -- One message is delivered to the receivers of its publisher, by rising place.
-use Rattle.std.specs.Prelude.{ℕ, Bool, true, false, cond, ◌||◌, List, [], ◌∷◌, ◌≡◌, ◌+◌, MatchOption}
+use Rattle.std.specs.Prelude.{ℕ, Bool, true, false, ◌||◌, List, [], ◌∷◌, ◌≡◌, ◌+◌, MatchOption}
 use Rattle.std.specs.Bool.{MatchBool}
 use Rattle.std.specs.declared.option.Option.{Option}
 use Rattle.std.specs.declared.option.Option.TheVariants.{None, Some}
 use Rattle.std.specs.declared.time.Duration.{Duration}
 use Rattle.iox2_store.specs.machine.Numbers.{put_at}
-use Rattle.iox2_store.specs.machine.Mailbox.{Mailbox, is_closed, has_room, with_appended}
+use Rattle.iox2_store.specs.machine.Mailbox.{Mailbox, has_room, with_appended}
 use Rattle.iox2_store.specs.machine.Records.{Handler, Fixed, Custom, Environment, BlockedSend}
 use Rattle.iox2_store.specs.declared.service_config.ServiceConfig.{ServiceConfig}
 use Rattle.iox2_store.specs.declared.backpressure.BackpressureStrategy.{BackpressureStrategy}
@@ -67,15 +67,12 @@ Decides environment p (Some (Fixed action)) strategy info result = result ≡ by
 Decides environment p (Some Custom) strategy info result =
     (action : BackpressureAction) × environment.backpressure_answers p info action × (result ≡ by_action strategy action)
 
--- The buffer of a receiver, or none where the channel of its mailbox is closed: a message put there is skipped.
-abbrev pub channel_buffer : (channel : ℕ) → Mailbox → (buffer : Option ℕ) → Option ℕ
-channel_buffer channel box buffer = cond (is_closed channel box) None buffer
-
 -- No time has passed.
 abbrev pub no_time : Duration
 no_time = record { secs = 0; nanos = 0 }
 
--- The message n of the publisher p, whose mailboxes stand by the subscriber's id; `buffers` has those of open subscribers.
+-- The message n of the publisher p, whose mailboxes stand by the subscriber's id; `buffers` has those of open subscribers
+-- whose channel isn't closed.
 module _ (environment : Environment) (c : ServiceConfig) (p : ℕ) (strategy : BackpressureStrategy) (handler : Option (Handler BackpressureAction)) (buffers : ℕ → Option ℕ) (n : ℕ) where
   -- What the handler is told of the receiver q.
   abbrev pub info_of : (q retries : ℕ) → Duration → BackpressureInfo
@@ -87,7 +84,7 @@ module _ (environment : Environment) (c : ServiceConfig) (p : ℕ) (strategy : B
     elapsed_time = elapsed;
   }
 
-  -- A receiver without a buffer takes nothing, and is skipped. Any other takes the message where it has room, or where safe overflow is on. Else the
+  -- A closed receiver is skipped. An open one takes the message where it has room, or where safe overflow is on. Else the
   -- handler decides, or the strategy where there is no handler.
   abbrev pub Put : (q retries : ℕ) → Duration → (buffer : Option ℕ) → Mailbox → PutResult → Mailbox → Type 0
   Put q retries elapsed None box result box' = (result ≡ Skipped) × (box' ≡ box)
@@ -96,13 +93,12 @@ module _ (environment : Environment) (c : ServiceConfig) (p : ℕ) (strategy : B
       ((result ≡ Accepted) × (box' ≡ with_appended buffer n box))
       (Decides environment p handler strategy (info_of q retries elapsed) result × (box' ≡ box))
 
-  -- The message is put into the mailbox to which the end leads, which takes nothing where its channel is closed; where
-  -- there is no end nothing happens.
+  -- The message is put into the mailbox to which the end leads; where there is none nothing happens.
   abbrev pub PutAtEnd : (retries : ℕ) → Duration → (end : Option ℕ) → (ℕ → Mailbox) → PutResult → (ℕ → Mailbox) → Type 0
   PutAtEnd retries elapsed end boxes result boxes' =
       MatchOption end
       ((result ≡ Skipped) × (boxes' ≡ boxes))
-      (λ q. (box : Mailbox) × Put q retries elapsed (channel_buffer 0 (boxes q) (buffers q)) (boxes q) result box × (boxes' ≡ put_at boxes q box))
+      (λ q. (box : Mailbox) × Put q retries elapsed (buffers q) (boxes q) result box × (boxes' ≡ put_at boxes q box))
 
   -- The message is put at each of these ends in turn, which stand from that place on, until a receiver blocks it. The
   -- first is asked with these retries and this elapsed time, the others anew.

@@ -1,51 +1,21 @@
 -- What lies between one publisher and one subscriber: numbers of messages. Only this file looks into a mailbox.
-use Rattle.std.specs.Prelude.{ℕ, Bool, false, true, not, ◌&&◌, List, [], ◌∷◌, ◌++◌, length, drop, cond, ◌≡◌, ◌≤◌, ◌-◌, ◌^◌, ◌==◌, nat_lt}
-use Rattle.iox2_store.specs.machine.Numbers.{contains, without, is_nil, last_n, put_at, IsOnce}
-
--- How a channel stands. No message changes this.
-pub record Channel : Type 0 where
-  pub state : ℕ
-  pub has_hint : Bool  -- whether it was hinted that its other side disconnects
+use Rattle.std.specs.Prelude.{ℕ, Bool, not, ◌&&◌, List, [], ◌∷◌, ◌++◌, length, drop, cond, ◌≡◌, ◌≤◌, nat_lt}
+use Rattle.iox2_store.specs.machine.Numbers.{contains, without, is_nil, IsOnce}
 
 -- The numbers of one publisher's messages that one subscriber may receive, and that it has.
 pub record Mailbox : Type 0 where
   pub waiting : List ℕ  -- delivered and not yet received, oldest first
   pub borrowed : List ℕ  -- received and not yet released, in the order of receipt
-  pub channels : ℕ → Channel  -- by number
 
--- The state of a new channel.
-abbrev pub open_state : ℕ
-open_state = 0
-
--- The state of a closed channel, which takes no message.
-abbrev pub closed_state : ℕ
-closed_state = 2 ^ 64 - 1
-
--- A new channel: it is open, and has no hint.
-abbrev pub open_channel : Channel
-open_channel = record { state = open_state; has_hint = false }
-
--- Nothing waits and nothing is borrowed, and all channels are new. This also stands for no mailbox.
+-- Nothing waits and nothing is borrowed.
 abbrev pub empty_mailbox : Mailbox
-empty_mailbox = record { waiting = []; borrowed = []; channels = λ _. open_channel }
+empty_mailbox = record { waiting = []; borrowed = [] }
 
 -- ---- reading
 
 -- All numbers in the mailbox.
 abbrev pub numbers_in : Mailbox → List ℕ
 numbers_in box = box.waiting ++ box.borrowed
-
--- The channel is in this state.
-abbrev pub is_in_state : (channel state : ℕ) → Mailbox → Bool
-is_in_state channel state box = (box.channels channel).state == state
-
--- The channel is closed: it takes no message, and keeps what waits.
-abbrev pub is_closed : (channel : ℕ) → Mailbox → Bool
-is_closed channel box = is_in_state channel closed_state box
-
--- The channel is in this state, and has a hint.
-abbrev pub is_hinted : (channel state : ℕ) → Mailbox → Bool
-is_hinted channel state box = is_in_state channel state box && (box.channels channel).has_hint
 
 -- Something waits or is borrowed.
 abbrev pub has_numbers : Mailbox → Bool
@@ -85,21 +55,9 @@ with_appended buffer n box = record box { waiting = cond (has_room buffer box) b
 abbrev pub with_waiting : List ℕ → Mailbox → Mailbox
 with_waiting ns box = record box { waiting = ns }
 
--- The last numbers of a history wait in channel 0, as many as the buffer holds; where it is closed the mailbox stays.
-abbrev pub with_history_handed : (buffer : ℕ) → (history : List ℕ) → Mailbox → Mailbox
-with_history_handed buffer history box = cond (is_closed 0 box) box (with_waiting (last_n buffer history) box)
-
 -- What waits is lost; what is borrowed stays.
 abbrev pub waiting_dropped : Mailbox → Mailbox
 waiting_dropped box = record box { waiting = [] }
-
--- A mailbox whose last end goes: a drained one is as if it had never been, and its channels are new again.
-abbrev pub settled : Mailbox → Mailbox
-settled box = cond (has_numbers box) box empty_mailbox
-
--- What waits is lost, and where nothing is borrowed the mailbox is as if it had never been.
-abbrev pub given_up : Mailbox → Mailbox
-given_up box = settled (waiting_dropped box)
 
 -- The first number that waits becomes borrowed.
 abbrev pub BorrowsFirst : Mailbox → (n : ℕ) → Mailbox → Type 0
@@ -109,20 +67,6 @@ BorrowsFirst box n box' =
 -- The number is no longer borrowed.
 abbrev pub with_released : ℕ → Mailbox → Mailbox
 with_released n box = record box { borrowed = without n box.borrowed }
-
--- A channel that comes into a state. A change of the state takes the hint away.
-abbrev pub channel_after : (state : ℕ) → Channel → Channel
-channel_after state k = cond (k.state == state) k (record { state = state; has_hint = false })
-
--- The channel, where it is in the state `expected`, comes into this one.
-abbrev pub with_state : (channel expected state : ℕ) → Mailbox → Mailbox
-with_state channel expected state box =
-    cond (is_in_state channel expected box) (record box { channels = put_at box.channels channel (channel_after state (box.channels channel)) }) box
-
--- The channel, where it is in the state `expected`, has a hint.
-abbrev pub with_hint : (channel expected : ℕ) → Mailbox → Mailbox
-with_hint channel expected box =
-    cond (is_in_state channel expected box) (record box { channels = put_at box.channels channel (record (box.channels channel) { has_hint = true }) }) box
 
 -- ---- bounds
 

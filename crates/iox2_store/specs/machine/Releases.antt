@@ -5,9 +5,9 @@ use Rattle.std.specs.Option.{option_map_or}
 use Rattle.std.specs.declared.option.Option.TheVariants.{None}
 use Rattle.iox2_store.specs.machine.Numbers.{put_at}
 use Rattle.iox2_store.specs.machine.Places.{places_kept, vacated}
-use Rattle.iox2_store.specs.machine.Mailbox.{Mailbox, has_numbers, has_borrows, with_released, settled}
+use Rattle.iox2_store.specs.machine.Mailbox.{has_numbers, has_borrows, with_released}
 use Rattle.iox2_store.specs.machine.Records.{Subscriber}
-use Rattle.iox2_store.specs.machine.State.{State, is_present, has_sender_end, connected_publishers, with_mailbox, subscriber_changed, publishers_due}
+use Rattle.iox2_store.specs.machine.State.{State, is_present, connected_publishers, with_mailbox, subscriber_changed, publishers_due, settled}
 
 module _ {T U : Type 0} where
   -- q still has to do with p: p wasn't closed, or some message of it waits or is borrowed.
@@ -22,29 +22,20 @@ module _ {T U : Type 0} where
   abbrev pub is_unused : State T U → (q : ℕ) → Bool
   is_unused s q = option_map_or (λ (y : Subscriber). not y.is_open && list_all (λ p. not (has_borrows (s.mailboxes p q))) (connected_publishers y)) (s.subscribers q) false
 
-  -- The mailbox of p and a subscriber that is gone: without the publisher's end it is as if it had never been.
-  abbrev pub mailbox_after_leaving : State T U → (q p : ℕ) → Mailbox
-  mailbox_after_leaving s q p = cond (has_sender_end s p q) (s.mailboxes p q) (settled (s.mailboxes p q))
-
   -- The subscriber q is gone and its place is free; every publisher is due.
   abbrev pub place_freed : State T U → (q : ℕ) → State T U
   place_freed s q = publishers_due (record s {
     subscribers = put_at s.subscribers q None;
     subscriber_places = vacated q s.subscriber_places;
-    mailboxes = λ p. put_at (s.mailboxes p) q (mailbox_after_leaving s q p);
   })
 
   -- A closed subscriber that has borrowed nothing is gone.
   abbrev pub freed_if_unused : State T U → (q : ℕ) → State T U
   freed_if_unused s q = cond (is_unused s q) (place_freed s q) s
 
-  -- What is left of a mailbox of p: a drained one of a departed publisher is as if it had never been.
-  abbrev pub settled_if_gone : State T U → (p : ℕ) → Mailbox → Mailbox
-  settled_if_gone s p box = cond (is_present s p) box (settled box)
-
   -- The message n of p is borrowed by q no more.
   abbrev pub unborrowed : State T U → (p q n : ℕ) → State T U
-  unborrowed s p q n = with_mailbox s p q (settled_if_gone s p (with_released n (s.mailboxes p q)))
+  unborrowed s p q n = with_mailbox s p q (with_released n (s.mailboxes p q))
 
   -- The subscriber q forgets the departed publishers of which it has no message any more.
   abbrev pub subscriber_pruned : State T U → (q : ℕ) → State T U
@@ -54,4 +45,4 @@ module _ {T U : Type 0} where
   -- last borrowed message where it was closed.
   -- (iceoryx2: `sample.rs`, `Sample`'s drop, and `port/details/receiver.rs`, `release_offset`.)
   abbrev pub released : State T U → (p q n : ℕ) → State T U
-  released s p q n = freed_if_unused (subscriber_pruned (unborrowed s p q n) q) q
+  released s p q n = settled (freed_if_unused (subscriber_pruned (unborrowed s p q n) q) q)

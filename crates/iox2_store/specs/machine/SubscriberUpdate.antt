@@ -7,9 +7,9 @@ use Rattle.std.specs.declared.option.Option.TheVariants.{None, Some}
 use Rattle.iox2_store.specs.machine.Limits.{expired_limit}
 use Rattle.iox2_store.specs.machine.Numbers.{put_at, without}
 use Rattle.iox2_store.specs.machine.Places.{occupant, set_place}
-use Rattle.iox2_store.specs.machine.Mailbox.{Mailbox, has_borrows, given_up}
+use Rattle.iox2_store.specs.machine.Mailbox.{Mailbox, has_borrows, waiting_dropped}
 use Rattle.iox2_store.specs.machine.Records.{Subscriber, Handler, Environment}
-use Rattle.iox2_store.specs.machine.State.{State, Warnings, has_sender_end, warned}
+use Rattle.iox2_store.specs.machine.State.{State, Warnings, has_sender_end, warned, settled}
 use Rattle.iox2_store.specs.machine.Connections.{ForEachPlace, ConnectionRefused, first_failure, expired_buffer_full}
 use Rattle.iox2_store.specs.declared.degradation.DegradationAction.{DegradationAction}
 use Rattle.iox2_store.specs.declared.errors.ConnectionFailure.{ConnectionFailure}
@@ -48,10 +48,10 @@ retirement_of limit boxes expired p =
     cond (nat_lt (length expired) limit) Keep_expired
     (cond (has_borrows (boxes p)) (evict_or_refuse (first_without_borrows boxes expired)) Discard_data)
 
--- What waits from the departed publisher p is lost, and where nothing of it is borrowed its mailbox is, with a warning.
+-- What waits from the departed publisher p is lost, with a warning.
 abbrev pub data_discarded : (q : ℕ) → ReceiverSide → (p : ℕ) → ReceiverSide
 data_discarded q side p = record side {
-  mailboxes = put_at side.mailboxes p (given_up (side.mailboxes p));
+  mailboxes = put_at side.mailboxes p (waiting_dropped (side.mailboxes p));
   warnings = warned side.warnings (ExpiredDataDiscarded p q);
 }
 
@@ -141,5 +141,5 @@ module _ {T U : Type 0} where
       ((side : ReceiverSide)
       × UpdateReceiverSide environment (s.config).service_id q y.degradation_handler (expired_limit s.config) (λ p. has_sender_end s p q)
       s.publisher_places (receiver_side s q y) side failure
-      × (s' ≡ with_receiver_side s q y side))
+      × (s' ≡ settled (with_receiver_side s q y side)))
       ((s' ≡ s) × (failure ≡ None)))
