@@ -13,6 +13,7 @@ pub mod Standing
 pub mod OpenPorts
 pub mod NamedBooks
 pub mod KeptBooks
+pub mod KeptChannels
 pub mod ExpiredRoom
 pub mod OpenReceivers
 pub mod OwnKeys

@@ -12,6 +12,7 @@ use Rattle.iox2_ends.proofs.MailboxChanges.{was}
 use Rattle.iox2_domain.specs.Kept.{state_of, port_named, ids}
 use Rattle.iox2_domain.specs.Fields.{Fields, kept_of, numbers_of}
 use Rattle.iox2_domain.specs.Invariant.{IsLinked, IsBetweenOpen, SenderHas}
+use Rattle.iox2_domain.proofs.lemmas.fields.KeptChannels.{channels-are, channels-still}
 use Rattle.iox2_domain.proofs.lemmas.fields.Views.{mailboxes-are}
 use Rattle.iox2_domain.proofs.lemmas.fields.SameSeats.{SameSeats, seat_of, seated-publisher_of_key, seated-subscriber_of_key, senders-seated, receivers-seated, sender-seated, open-seated, linked-seated}
 use mathlib.Core.Path.{fun_ext}
@@ -46,12 +47,16 @@ module _ {T U : Type 0} (f : Fields T U) (new : Slab Link) (same : SameHomes f.c
   seats : SameSeats f.connections new
   seats = seats-of f.connections new same
 
+  channels : (state_of (kept_of with_connections)).channels ≡ (state_of (kept_of f)).channels
+  channels = channels-are with_connections ∙ channels-still f.connections new same ∙ sym (channels-are f)
+
   -- the machine knows of the connections by the mailboxes alone
   pub connections-are : state_of (kept_of with_connections) ≡ record (state_of (kept_of f)) { mailboxes = mailboxes_of (numbers_of f.books) new }
   connections-are = λ i. record (state_of (kept_of f)) {
     publishers = λ p. port_named p (map (option_map (senders-seated f new seats i)) f.publishers);
     subscribers = λ q. port_named q (map (option_map (receivers-seated f new seats i)) f.subscribers);
     mailboxes = boxes i;
+    channels = channels i;
     publisher_places = ids (map (option_map (senders-seated f new seats i)) f.publishers);
     subscriber_places = ids (map (option_map (receivers-seated f new seats i)) f.subscribers);
   }
