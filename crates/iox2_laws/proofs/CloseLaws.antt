@@ -24,7 +24,7 @@ use Rattle.iox2_laws.proofs.PlaceLemmas.{occupant-vacated, vacated_keeps, length
 use Rattle.iox2_laws.proofs.PlaceLemmas.{injective_places_kept, is_port-true}
 use Rattle.iox2_laws.proofs.MailboxLemmas.{has_numbers-borrows, has_numbers-data, has_numbers_dropped, IsWithin-dropped, contains_in_dropped}
 use Rattle.iox2_laws.proofs.Freed.{freed_if_unused_keeps, freed_if_unused_advances}
-use Rattle.iox2_laws.proofs.PortChanges.{changed, places_agree_by, place_of_publisher, place_of_subscriber, publisher_kept, subscriber_kept, loan_kept, settled_keeps}
+use Rattle.iox2_laws.proofs.PortChanges.{changed, places_agree_by, place_of_publisher, place_of_subscriber, publisher_kept, subscriber_kept, loan_kept, sender_reset_keeps, receiver_reset_keeps}
 use Rattle.iox2_laws.proofs.PortChanges.{RestIsWellFormed, IsNearlyWellFormed, publishers_due_nearly, subscribers_due_keeps}
 use Rattle.iox2_laws.proofs.PortLaws.{advances_trans}
 
@@ -247,7 +247,7 @@ module _ {T U : Type 0} where
   pub publisher_closed_keeps : (s : State T U) → IsWellFormed s → (p : ℕ) (x : Publisher) → s.publishers p ≡ Some x → IsWellFormed (publisher_closed s p x)
   publisher_closed_keeps s w p x here =
       let t : State T U = subscribers_pruned (publisher_gone s p x) in
-      settled_keeps (subscribers_due t) (subscribers_due_keeps t (publisher_gone_keeps s w p x))
+      sender_reset_keeps (subscribers_due t) p (subscribers_due_keeps t (publisher_gone_keeps s w p x))
 
   -- A publisher that is closed lets no counter fall.
   pub publisher_closed_advances : (s : State T U) (p : ℕ) (x : Publisher) → Advances s (publisher_closed s p x)
@@ -407,7 +407,7 @@ module _ {T U : Type 0} where
   pub subscriber_closed_keeps : (s : State T U) → IsWellFormed s → (q : ℕ) (y : Subscriber) → s.subscribers q ≡ Some y → IsWellFormed (subscriber_closed s q y)
   subscriber_closed_keeps s w q y here =
       let t : State T U = subscriber_pruned (subscriber_shut s q y) q in
-      settled_keeps (freed_if_unused t q) (freed_if_unused_keeps t q (closed_nearly s w q y here))
+      receiver_reset_keeps (freed_if_unused t q) q (freed_if_unused_keeps t q (closed_nearly s w q y here))
 
   -- A subscriber that is closed lets no counter fall.
   pub subscriber_closed_advances : (s : State T U) (q : ℕ) (y : Subscriber) → Advances s (subscriber_closed s q y)

@@ -9,7 +9,7 @@ use Rattle.iox2_store.specs.machine.Places.{occupant, occupants}
 use Rattle.iox2_store.specs.machine.Channel.{Channel}
 use Rattle.iox2_store.specs.machine.Mailbox.{Mailbox, numbers_in, has_numbers, has_borrows, waiting_count}
 use Rattle.iox2_store.specs.machine.Records.{Loan, Publisher, Subscriber}
-use Rattle.iox2_store.specs.machine.State.{State, Warnings, publishers_due, subscribers_due, settled}
+use Rattle.iox2_store.specs.machine.State.{State, Warnings, publishers_due, subscribers_due, sender_channels_reset, receiver_channels_reset}
 use Rattle.iox2_store.specs.machine.WellFormed.{LeadsTo, PlacesAgree, publisher_place, subscriber_place, BlockedIsWellFormed, PublisherIsWellFormed}
 use Rattle.iox2_store.specs.machine.WellFormed.{SubscriberIsWellFormed, MailboxIsWellFormed, LoanIsWellFormed, IsWellFormed}
 use Rattle.iox2_laws.proofs.Puts.{found_mapped}
@@ -289,9 +289,12 @@ module _ {T U : Type 0} where
       s' : State T U
       s' = record s { channels = channels }
 
-  -- So a state is well-formed where the channels of ports that aren't connected become new.
-  pub settled_keeps : (s : State T U) → IsWellFormed s → IsWellFormed (settled s)
-  settled_keeps s w = with_all_channels_keeps s w (settled s).channels
+  -- So a state stays well-formed where the channels of ports that aren't connected become new.
+  pub sender_reset_keeps : (s : State T U) (p : ℕ) → IsWellFormed s → IsWellFormed (sender_channels_reset s p)
+  sender_reset_keeps s p w = with_all_channels_keeps s w (sender_channels_reset s p).channels
+
+  pub receiver_reset_keeps : (s : State T U) (q : ℕ) → IsWellFormed s → IsWellFormed (receiver_channels_reset s q)
+  receiver_reset_keeps s q w = with_all_channels_keeps s w (receiver_channels_reset s q).channels
 
   -- A state whose subscribers are due is as well-formed as before.
   pub subscribers_due_keeps : (s : State T U) → IsWellFormed s → IsWellFormed (subscribers_due s)

@@ -10,7 +10,7 @@ use Rattle.iox2_store.specs.machine.Places.{occupant, occupants, is_port}
 use Rattle.iox2_store.specs.machine.Ports.{publisher_gone, mailbox_after_publisher, publisher_closed, mailbox_after_subscriber, subscriber_shut, subscriber_closed}
 use Rattle.iox2_store.specs.machine.Records.{Publisher, Subscriber}
 use Rattle.iox2_store.specs.machine.Releases.{subscriber_pruned, place_freed, is_unused, pruned}
-use Rattle.iox2_store.specs.machine.State.{State, connected_publishers, settled}
+use Rattle.iox2_store.specs.machine.State.{State, connected_publishers, receiver_channels_reset}
 use Rattle.iox2_store.specs.machine.Waiting.{waiting_from, waiting_for}
 use Rattle.iox2_store.specs.machine.WellFormed.{IsWellFormed}
 use Rattle.iox2_laws.proofs.NumberLemmas.{contains_in_append}
@@ -100,8 +100,8 @@ module _ {T U : Type 0} (s : State T U) (q : ℕ) (y : Subscriber) where
   mid = subscriber_pruned (subscriber_shut s q y) q
 
   -- what holds of both cases holds
-  either : (P : State T U → Type 0) → P (settled (place_freed mid q)) → P (settled mid) → P (subscriber_closed s q y)
-  either P freed left = cond_both (is_unused mid q) (place_freed mid q) mid (λ t. P (settled t)) (λ _. freed) (λ _. left)
+  either : (P : State T U → Type 0) → P (receiver_channels_reset (place_freed mid q) q) → P (receiver_channels_reset mid q) → P (subscriber_closed s q y)
+  either P freed left = cond_both (is_unused mid q) (place_freed mid q) mid (λ t. P (receiver_channels_reset t q)) (λ _. freed) (λ _. left)
 
   pub subscriber_closed_ports : (subscriber_closed s q y).next_port ≡ s.next_port
   subscriber_closed_ports = either (λ t. t.next_port ≡ s.next_port) refl refl

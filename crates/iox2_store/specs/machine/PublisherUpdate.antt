@@ -9,7 +9,7 @@ use Rattle.iox2_store.specs.machine.Places.{occupant, set_place, is_port}
 use Rattle.iox2_store.specs.machine.Channel.{is_closed}
 use Rattle.iox2_store.specs.machine.Mailbox.{Mailbox, with_waiting, waiting_dropped}
 use Rattle.iox2_store.specs.machine.Records.{Publisher, Handler, Environment}
-use Rattle.iox2_store.specs.machine.State.{State, Warnings, receiving_buffer, has_receiver_end, settled}
+use Rattle.iox2_store.specs.machine.State.{State, Warnings, receiving_buffer, has_receiver_end, sender_channels_reset}
 use Rattle.iox2_store.specs.machine.Connections.{ForEachPlace, ConnectionRefused}
 use Rattle.iox2_store.specs.declared.degradation.DegradationAction.{DegradationAction}
 use Rattle.iox2_store.specs.declared.errors.ConnectionFailure.{ConnectionFailure}
@@ -104,5 +104,5 @@ module _ {T U : Type 0} where
       ((side : SenderSide)
       × ForEachPlace (UpdateSenderPlace environment (s.config).service_id p x.degradation_handler (history_for s p x) (receiving_buffer s) (has_receiver_end s p))
       0 s.subscriber_places (sender_side s p x) side failure
-      × (s' ≡ settled (with_sender_side s p x side)))
+      × (s' ≡ sender_channels_reset (with_sender_side s p x side) p))
       ((s' ≡ s) × (failure ≡ None)))

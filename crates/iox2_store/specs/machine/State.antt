@@ -125,9 +125,17 @@ module _ {T U : Type 0} where
   abbrev pub with_channels : State T U → (p q : ℕ) → (ℕ → Channel) → State T U
   with_channels s p q channels = record s { channels = put_at s.channels p (put_at (s.channels p) q channels) }
 
-  -- Where p and q aren't connected, or not any more, their channels are new: no two ports are connected twice.
-  abbrev pub settled : State T U → State T U
-  settled s = record s { channels = λ p q. cond (is_linked s p q) (s.channels p q) new_channels }
+  -- The channels of p and q where these are connected; else new ones, for what was set while they were is forgotten.
+  abbrev pub channels_if_linked : State T U → (p q : ℕ) → ℕ → Channel
+  channels_if_linked s p q = cond (is_linked s p q) (s.channels p q) new_channels
+
+  -- The publisher p's channels are new where it isn't connected any more. No two ports are connected twice.
+  abbrev pub sender_channels_reset : State T U → (p : ℕ) → State T U
+  sender_channels_reset s p = record s { channels = put_at s.channels p (channels_if_linked s p) }
+
+  -- The subscriber q's channels are new where it isn't connected any more.
+  abbrev pub receiver_channels_reset : State T U → (q : ℕ) → State T U
+  receiver_channels_reset s q = record s { channels = λ p. put_at (s.channels p) q (channels_if_linked s p q) }
 
   -- The loan n has these contents now, or none.
   abbrev pub with_loan : State T U → (n : ℕ) → Option (Loan T U) → State T U
