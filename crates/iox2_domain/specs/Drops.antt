@@ -14,6 +14,8 @@ use Rattle.iox2_domain.specs.Ports.{PublisherFields, SubscriberFields}
 use Rattle.iox2_domain.specs.Kept.{state_of, entries_of}
 use Rattle.iox2_domain.specs.Fields.{Fields, kept_of, publisher_of}
 use Rattle.iox2_domain.specs.Invariant.{IsDomain}
+use Rattle.iox2_domain.specs.KeptLinks.{IsAbsent, ChannelsFollow}
+use Rattle.iox2_domain.specs.Midway.{with_channels_of}
 
 -- No subscriber stands at the place j with this id.
 abbrev pub StandsElsewhere : List (Option SubscriberFields) → (j q : ℕ) → Type 0
@@ -50,6 +52,7 @@ module _ {T U : Type 0} where
   pub record LosesSenderEnd (f : Fields T U) (i j : ℕ) (x : PublisherFields) (f' : Fields T U) : Type 0 where
     pub agrees : IsDomain f'
     pub fields : f' ≡ record f { publishers = slice_set f.publishers i (Some (record x { keys = set_place x.keys j None })); connections = f'.connections; books = f'.books }
-    pub state : state_of (kept_of f') ≡ with_sender_side (state_of (kept_of f)) x.id (publisher_of f.books f.connections x).port
-        (disconnected (sender_side (state_of (kept_of f)) x.id (publisher_of f.books f.connections x).port) j (occupant (publisher_of f.books f.connections x).port.ends j))
+    pub channels : ChannelsFollow (λ home. home.publisher ≡ x.id) (IsAbsent f.publishers f.subscribers) f.connections f'.connections
+    pub state : state_of (kept_of f') ≡ with_channels_of f' (with_sender_side (state_of (kept_of f)) x.id (publisher_of f.books f.connections x).port
+        (disconnected (sender_side (state_of (kept_of f)) x.id (publisher_of f.books f.connections x).port) j (occupant (publisher_of f.books f.connections x).port.ends j)))
     pub entries : (n : ℕ) (entry : Entry T U) → entries_of (kept_of f') n ≡ Some entry → entries_of (kept_of f) n ≡ Some entry

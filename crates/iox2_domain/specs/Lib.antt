@@ -1,4 +1,5 @@
 pub mod Boxes
+pub mod ChannelChanges
 pub mod Handlers
 pub mod Ports
 pub mod Kept
@@ -16,6 +17,7 @@ pub mod Questions
 pub mod Lending
 pub mod Updates
 pub mod Departures
+pub mod KeptLinks
 pub mod Midway
 pub mod NewPublisher
 pub mod SubscriberEntry

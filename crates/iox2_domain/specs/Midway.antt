@@ -3,20 +3,13 @@ use Rattle.std.specs.Prelude.{◌≡◌, ℕ}
 use Rattle.std.specs.declared.option.Option.TheVariants.{Some}
 use Rattle.iox2_store.specs.machine.Records.{Entry}
 use Rattle.iox2_store.specs.machine.State.{State}
-use Rattle.slab.specs.Slab.{Slab, get}
+use Rattle.slab.specs.Slab.{get}
 use Rattle.iox2_slots.specs.Link.{Link}
 use Rattle.iox2_domain.specs.Kept.{state_of, entries_of}
 use Rattle.iox2_domain.specs.Fields.{Fields, kept_of}
+use Rattle.iox2_domain.specs.KeptLinks.{HasLink}
 use Rattle.iox2_domain.specs.Shows.{KeepsEntries}
 use Rattle.iox2_domain.specs.Invariant.{HasParts, HasLoneLoans, KeepsBooksBut}
-
--- A connection stands there between the same ports, with the same channel.
-pub record HasLink (connections : Slab Link) (d : Link) : Type 0 where
-  pub key : ℕ
-  pub link : Link
-  pub stands : get connections key ≡ Some link
-  pub home : link.home ≡ d.home
-  pub channel : link.channel ≡ d.channel
 
 module _ {T U : Type 0} where
   -- The state with the channels of the connections that these fields have.

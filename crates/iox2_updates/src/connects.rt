@@ -215,7 +215,8 @@ fn hand_out_history<T: Drop, U: Default + Drop>(
 }
 
 // The publisher at a place that isn't due, with no end at a subscriber's place, gets one if an open
-// subscriber stands there. The last messages of its history wait in it, as many as fit. Where memory
+// subscriber stands there. The last messages of its history wait in it, as many as fit, but where its
+// channel is closed. Where memory
 // for a connection is refused, its handler is asked.
 fn connect_sender<T: Drop, U: Default + Drop, F: BackpressureFn, G: DegradationFn>(
     state: &mut DomainState<T, U>,
@@ -237,7 +238,9 @@ fn connect_sender<T: Drop, U: Default + Drop, F: BackpressureFn, G: DegradationF
     }
     match make_sender_end(state, boxes, publisher_place, subscriber_place) {
         Ok(key) => {
-            hand_out_history(state, publisher_place, key);
+            if !state.connections[key].is_closed() {
+                hand_out_history(state, publisher_place, key);
+            }
             mark_end(state, publisher_place, subscriber_place);
             None
         }

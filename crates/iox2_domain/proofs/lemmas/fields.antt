@@ -14,6 +14,7 @@ pub mod OpenPorts
 pub mod NamedBooks
 pub mod KeptBooks
 pub mod KeptChannels
+pub mod Rechanneled
 pub mod ExpiredRoom
 pub mod OpenReceivers
 pub mod OwnKeys
