@@ -15,7 +15,7 @@ use Rattle.iox2_domain.specs.Kept.{state_of, entries_of}
 use Rattle.iox2_domain.specs.Fields.{Fields, kept_of, publisher_of}
 use Rattle.iox2_domain.specs.Invariant.{IsDomain}
 use Rattle.iox2_domain.specs.Updates.{changed_at, with_sender_room, with_receiver_rooms, sender_room, receiver_room, expired_room_at, subscriber_but_room}
-use Rattle.iox2_domain.specs.KeptLinks.{IsAbsent, ChannelsFollow}
+use Rattle.iox2_domain.specs.KeptLinks.{ChannelsFollow}
 use Rattle.iox2_domain.specs.Midway.{with_channels_of}
 use Rattle.iox2_domain.specs.Reaches.{Reaches}
 
@@ -39,7 +39,7 @@ module _ {T U : Type 0} where
   -- Of the connections of the publisher x some were made, and others lost whose subscribers are gone; all others keep their
   -- channels.
   abbrev pub SenderChannelsFollow : Fields T U → PublisherFields → Fields T U → Type 0
-  SenderChannelsFollow f x f' = ChannelsFollow (λ home. home.publisher ≡ x.id) (IsAbsent f.publishers f.subscribers) f.connections f'.connections
+  SenderChannelsFollow f x f' = ChannelsFollow (λ home. home.publisher ≡ x.id) (λ p q. (state_of (kept_of f)).subscribers q ≡ None) f.connections f'.connections
 
 module _ {T U : Type 0} (environment : Environment) where
   -- The publisher x at the place i, which isn't due, has got its end at the subscriber's place j, through the connection at

@@ -76,7 +76,7 @@ module _ {T U : Type 0} (f : Fields T U) (parts : HasParts f) (j : ℕ) (y : Sub
     grows = grows;
     expired_grows = expired_grows;
     rooms = record { at = parts.expired_room.at };
-    extends = record { apart = record { one = parts.apart.one }; sums = λ p slot. refl; boxes = λ number p q. refl; grows = λ key c at. at };
+    extends = record { apart = record { one = parts.apart.one }; sums = λ p slot. refl; boxes = λ number p q. refl; channels = λ p q. refl; grows = λ key c at. at };
     linked = record { at = (parts.linked.receivers j y at).at };
     places = λ place key c at_key at_c. parts.linked.receiver_places j place key y c at at_key at_c;
     keeps = λ place key at. at;

@@ -10,6 +10,8 @@ use Rattle.iox2_ends.specs.Homes.{SameHomes, fixed_of}
 use Rattle.iox2_ends.specs.Mailboxes.{is_between, channels_of, channels_if_any, channels_in}
 use Rattle.iox2_domain.specs.Kept.{state_of, stands_between, channels_if_between}
 use Rattle.iox2_domain.specs.Fields.{Fields, kept_of, between_of}
+use Rattle.iox2_domain.specs.Midway.{with_channels_of}
+use Rattle.iox2_store.specs.machine.State.{State}
 use Rattle.iox2_domain.proofs.lemmas.containers.LookUps.{look_up-map}
 use mathlib.Core.Path.{fun_ext}
 
@@ -23,6 +25,14 @@ module _ {T U : Type 0} (f : Fields T U) where
       by : (o : Option Link) → channels_if_between (option_map (between_of f.books f.connections) o) ≡ channels_if_any o
       by None = refl
       by (Some c) = refl
+
+-- a state that is kept is kept, whatever is said of its channels
+pub but-channels : {T U : Type 0} (f : Fields T U) (s : State T U) → state_of (kept_of f) ≡ s → state_of (kept_of f) ≡ with_channels_of f s
+but-channels f s is = ap (with_channels_of f) is
+
+-- where the channels are the same, the whole state is
+pub whole-state : {T U : Type 0} (f : Fields T U) (s : State T U) → (state_of (kept_of f)).channels ≡ s.channels → state_of (kept_of f) ≡ with_channels_of f s → state_of (kept_of f) ≡ s
+whole-state f s same is = is ∙ ap (λ (channels : ℕ → ℕ → ℕ → Channel). record s { channels = channels }) same
 
 -- records that give the same values, key by key, are found alike by a test on these values
 pub look_up-alike : {A B : Type 0} (g : A → B) (test : B → Bool) (xs ys : List (Option A)) → ((k : ℕ) → option_map g (get_or ys k None) ≡ option_map g (get_or xs k None))
