@@ -19,6 +19,9 @@ use Rattle.iox2_ends.specs.Mailboxes.{mailbox_of, mailboxes_of, with_box, publis
 use Rattle.iox2_ends.specs.Recounts.{Recounts}
 use Rattle.iox2_ends.proofs.DropSteps.{drops-recount}
 use Rattle.iox2_ends.proofs.MailboxChanges.{Updates-with_value, mailbox-there, mailboxes-changed, put_at-own}
+use Rattle.iox2_domain.specs.KeptLinks.{ChannelsFollow}
+use Rattle.iox2_domain.specs.Midway.{with_channels_of}
+use Rattle.iox2_steps.proofs.updates.FollowedChannels.{follow-fewer}
 use Rattle.iox2_domain.specs.Ports.{SubscriberFields}
 use Rattle.iox2_domain.specs.Kept.{state_of, entries_of}
 use Rattle.iox2_domain.specs.Invariant.{HasParts, IsDomain, HasLoneLoans, IsOwned, IsLeft, IsGone}
@@ -139,6 +142,34 @@ module _ {T U : Type 0} (f : Fields T U) (sound : IsDomain f) (j : ℕ) (y : Sub
 
   -- ---- the connection goes
 
+  -- its publisher is gone
+  departed-absent : s.publishers p ≡ None
+  departed-absent =
+      ap (option_map (λ (z : Named Publisher). z.port))
+      (look_up-map (is_named p) (publisher_of f.books f.connections) f.publishers
+      ∙ ap (option_map (publisher_of f.books f.connections)) (look_up-nothing (is_publisher p) f.publishers (λ k x at_x. ne_eqb x.id p (departed.publisher k x at_x))))
+
+  -- all other connections keep their channels
+  pub dropped-follows : ChannelsFollow (λ home. home.subscriber ≡ y.id) (λ r q. s.publishers r ≡ None) f.connections new
+  dropped-follows = follow-fewer (λ home. home.subscriber ≡ y.id) (λ r q. s.publishers r ≡ None) f.connections new fewer lost where
+    others : (k : ℕ) → k ≢ key → get new k ≡ get f.connections k
+    others k away = removes.goes.others k away ∙ (Updates-with_value f.connections key c emptied link).others k away
+
+    fewer : (k : ℕ) (d : Link) → get new k ≡ Some d → get f.connections k ≡ Some d
+    fewer k d at_d = elim (cases_eq k key) [
+      | inl here ↦ absurd (let no : None ≡ Some d = sym removes.goes.changed ∙ sym (ap (get new) here) ∙ at_d in cc)
+      | inr away ↦ sym (others k away) ∙ at_d
+    ]
+
+    lost : (k : ℕ) (d : Link) → get f.connections k ≡ Some d → (get new k ≡ Some d) ⊎ ((d.home.subscriber ≡ y.id) × (s.publishers d.home.publisher ≡ None))
+    lost k d at_d = elim (cases_eq k key) [
+      | inl here ↦
+          let both : Some d ≡ Some c = sym at_d ∙ ap (get f.connections) here ∙ link in
+          let is : d ≡ c = cc in
+          inr (ap (λ (l : Link). l.home.subscriber) is ∙ departed.subscriber, ap (λ (l : Link). s.publishers l.home.publisher) is ∙ departed-absent)
+      | inr away ↦ inl (others k away ∙ at_d)
+    ]
+
   linked : get between key ≡ Some emptied
   linked = (Updates-with_value f.connections key c emptied link).changed
 
@@ -172,15 +203,15 @@ module _ {T U : Type 0} (f : Fields T U) (sound : IsDomain f) (j : ℕ) (y : Sub
     removed_port = record Q { ends = receiver_ends f.connections keys; expired = occupants (receiver_ends f.connections (map Some expired)); is_due = y.is_due }
 
     -- the machine's state then
-    pub removed-is : state_of (kept_of removed_fields) ≡ record s {
+    pub removed-is : state_of (kept_of removed_fields) ≡ with_channels_of removed_fields (record s {
       subscribers = put_at s.subscribers y.id (Some removed_port);
       mailboxes = λ r. put_at (s.mailboxes r) y.id (put_at (λ i. s.mailboxes i y.id) p (waiting_dropped (s.mailboxes p y.id)) r);
-    }
+    })
     removed-is =
         left-is dropped_fields dropped-parts j y at keys expired y.is_due new fits
-        ∙ (λ k. record (dropped-is k) { subscribers = put_at ((dropped-is k).subscribers) y.id (Some (record Q { ends = map (leads k) keys; expired = occupants (map (leads k) (map Some expired)); is_due = y.is_due })) })
+        ∙ ap (with_channels_of removed_fields) ((λ k. record (dropped-is k) { subscribers = put_at ((dropped-is k).subscribers) y.id (Some (record Q { ends = map (leads k) keys; expired = occupants (map (leads k) (map Some expired)); is_due = y.is_due })) })
         ∙ ap (λ (boxes : ℕ → ℕ → Mailbox). record s { subscribers = put_at s.subscribers y.id (Some removed_port); mailboxes = boxes })
-        (dropped-box s.mailboxes p y.id (waiting_dropped (s.mailboxes p y.id)))
+        (dropped-box s.mailboxes p y.id (waiting_dropped (s.mailboxes p y.id))))
 
     -- the keys that are left lead where they led
     pub ends-removed : receiver_ends new keys ≡ receiver_ends f.connections keys

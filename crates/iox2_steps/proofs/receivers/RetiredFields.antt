@@ -16,6 +16,7 @@ use Rattle.iox2_ends.specs.Counters.{with_counters}
 use Rattle.iox2_ends.specs.Retires.{has_borrowed, chosen}
 use Rattle.iox2_ends.specs.declared.retirement.Retirement.{Retirement as Choice}
 use Rattle.iox2_ends.specs.declared.retirement.Retirement.TheVariants.{Refuse as RefuseIt}
+use Rattle.iox2_domain.specs.KeptLinks.{ChannelsFollow}
 use Rattle.iox2_domain.specs.WarningRing.{warning_ring}
 use Rattle.iox2_domain.specs.Ports.{SubscriberFields}
 use Rattle.iox2_domain.specs.Kept.{state_of}
@@ -74,7 +75,9 @@ module _ {T U : Type 0} (f f' f'' : Fields T U) (j : ℕ) (y : SubscriberFields)
           warnings = warnings k;
         });
     others = ap (map (option_map publisher_but_room)) (sym publishers) ∙ changes.others;
-    state = frees.state ∙ changes.state;
+    state = frees.state ∙ changes.state
+        ∙ ap (λ (t : State T U). record (with_receiver_side (state_of (kept_of f)) y.id (subscriber_of f.books f.connections y).port side) { channels = t.channels }) (sym frees.state);
+    channels = subst (λ (c : Slab Link). ChannelsFollow (λ home. home.subscriber ≡ y.id) (λ p q. (state_of (kept_of f)).publishers p ≡ None) f.connections c) connections changes.channels;
     entries = λ n entry e. changes.entries n entry (frees.entries n entry e);
   }
 
