@@ -19,6 +19,7 @@ use Rattle.iox2_ends.proofs.LookUps.{look_up-there, look_up-none, look_up-found,
 use Rattle.iox2_ends.proofs.MailboxChanges.{both-true, is_between-own}
 use Rattle.iox2_ends.proofs.Counts.{stands-own}
 use Rattle.iox2_ends.specs.Leaves.{left_link, holds_slots}
+use Rattle.iox2_domain.specs.KeptLinks.{HasLink, ChannelsFollow}
 use Rattle.iox2_domain.specs.Ports.{SubscriberFields}
 use Rattle.iox2_domain.specs.Invariant.{connection_count, one_if_receivers}
 use Rattle.iox2_domain.proofs.lemmas.containers.FewerSums.{sum-fewer}
@@ -92,6 +93,28 @@ module _ (p : ℕ) (subscribers : List (Option SubscriberFields)) (old new : Sla
   -- it stands where it stood
   pub left-before : (key : ℕ) (d : Link) → get new key ≡ Some d → (c : Link) × (get old key ≡ Some c) × (fixed_of c ≡ fixed_of d)
   left-before key d at_d = let was = left-was key d at_d in (was.0, was.1, elim was.2 [ inl other ↦ ap fixed_of (sym other.1) | inr mine ↦ sym (ap fixed_of mine.1) ])
+
+  -- with the same channel
+  pub left-had : (key : ℕ) (d : Link) → get new key ≡ Some d → HasLink old d
+  left-had key d at_d =
+      let was = left-before key d at_d in
+      record {
+        key = key;
+        link = was.0;
+        stands = was.1;
+        home = ap (λ (t : Home × ℕ × ℕ × Bool × Channel). t.0) was.2;
+        channel = ap (λ (t : Home × ℕ × ℕ × Bool × Channel). t.4) was.2;
+      }
+
+  -- other publishers' connections keep their channels
+  pub left-channels : ChannelsFollow (λ home. home.publisher ≡ p) (λ _ _. Unit {0}) old new
+  left-channels = record {
+    kept = λ key d at. inl (left-had key d at);
+    lost = λ key c at. elim (cases_eq c.home.publisher p) [
+      | inl mine ↦ inr (mine, tt)
+      | inr away ↦ inl (record { key = key; link = c; stands = left-others key c at away; home = refl; channel = refl })
+    ];
+  }
 
   -- no two connections stand between the same ports
   pub left-apart : IsApart old → IsApart new

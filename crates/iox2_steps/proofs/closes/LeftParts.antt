@@ -24,7 +24,7 @@ use Rattle.iox2_domain.specs.Ports.{PublisherFields, SubscriberFields}
 use Rattle.iox2_domain.specs.Kept.{KeptMessage, state_of}
 use Rattle.iox2_domain.specs.Fields.{Fields, kept_of, message_in, contents_at, is_book_of}
 use Rattle.iox2_domain.specs.Shows.{KeepsEntries}
-use Rattle.iox2_domain.specs.Invariant.{IsLinked, HasExpiredRoom, NamesBooks, HasBooks, IsCounted, IsNumbered, HasNumber, HasBook, HasShapes, SenderHas, ReceiverHas, IsPlain, is_publisher, is_subscriber, own_holders, holders_of, is_loan_in, details_of, connection_count, IsBookOf, IsDomain, IsDomainBut, IsGone, IsOwned, IsLeft, IsBetweenOpen}
+use Rattle.iox2_domain.specs.Invariant.{IsLinked, HasExpiredRoom, NamesBooks, HasBooks, IsCounted, IsNumbered, HasNumber, HasBook, HasShapes, SenderHas, ReceiverHas, IsPlain, is_publisher, is_subscriber, own_holders, holders_of, is_loan_in, details_of, connection_count, IsBookOf, IsDomain, IsDomainBut, IsGone, IsOwned, IsLeft, IsBetweenOpen, HasParts}
 use Rattle.iox2_domain.proofs.lemmas.containers.LookUps.{map-at, viewed, look_up-removed}
 use Rattle.iox2_domain.proofs.lemmas.fields.NamedBooks.{names-books}
 use Rattle.iox2_domain.proofs.lemmas.fields.Standing.{some_is, one-publisher}
@@ -439,25 +439,29 @@ module _ {T U : Type 0} (f : Fields T U) (sound : IsDomain f) (i : ℕ) (x : Pub
 
   -- ---- the whole
 
+  -- the fields agree with one another
+  pub leaver-parts : IsUnmarkedSender f.connections i → x.blocked ≡ None → HasParts after
+  leaver-parts unmarked free = record {
+    publisher_ids = publishers-apart;
+    subscriber_ids = subscribers-apart;
+    apart = left-apart x.id f.subscribers f.connections new left sound.parts.apart;
+    linked = linked unmarked;
+    expired_room = room;
+    books = left-books;
+    names = names;
+    counted = counted free;
+    numbered = numbered;
+    publisher_room = λ k y at_y. sound.parts.publisher_room k y (publisher-was k y at_y).1;
+    warning_room = sound.parts.warning_room;
+    shapes = shapes;
+    forms = sound.parts.forms;
+    plain = plain;
+  }
+
   -- the fields agree, where what they keep does
   pub leaver-agrees : IsUnmarkedSender f.connections i → x.blocked ≡ None → IsWellFormed (state_of (kept_of after)) → KeepsEntries (kept_of after) → IsDomainBut x.book after
   leaver-agrees unmarked free well entries = record {
-    parts = record {
-      publisher_ids = publishers-apart;
-      subscriber_ids = subscribers-apart;
-      apart = left-apart x.id f.subscribers f.connections new left sound.parts.apart;
-      linked = linked unmarked;
-      expired_room = room;
-      books = left-books;
-      names = names;
-      counted = counted free;
-      numbered = numbered;
-      publisher_room = λ k y at_y. sound.parts.publisher_room k y (publisher-was k y at_y).1;
-      warning_room = sound.parts.warning_room;
-      shapes = shapes;
-      forms = sound.parts.forms;
-      plain = plain;
-    };
+    parts = leaver-parts unmarked free;
     lone = lone-counters f.books x.book b holders at sound.lone fewer;
     kept_books = kept;
     left_book = left_book;

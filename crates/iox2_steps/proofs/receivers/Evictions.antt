@@ -1,5 +1,5 @@
 -- A departed publisher becomes expired in the place of another one.
-use Rattle.std.proofs.Common.{◌≡◌, ◌≢◌, ℕ, List, [], ◌∷◌, ◌++◌, map, true, false, get_or, refl, ap, sym, ◌∙◌}
+use Rattle.std.proofs.Common.{◌≡◌, ◌≢◌, ℕ, List, [], ◌∷◌, ◌++◌, map, true, false, get_or, refl, ap, sym, subst, ◌∙◌}
 use Rattle.std.proofs.lemmas.List.{set-set}
 use Rattle.std.specs.declared.option.Option.{Option}
 use Rattle.std.specs.declared.option.Option.TheVariants.{None, Some}
@@ -25,6 +25,7 @@ use Rattle.iox2_domain.specs.Midway.{with_channels_of}
 use Rattle.iox2_laws.proofs.PortChanges.{with_all_channels_keeps}
 use Rattle.iox2_domain.specs.WarningRing.{WarningRing, warning_ring}
 use Rattle.iox2_domain.specs.Ports.{SubscriberFields}
+use Rattle.iox2_store.specs.machine.WellFormed.{IsWellFormed}
 use Rattle.iox2_domain.specs.Kept.{state_of}
 use Rattle.iox2_domain.specs.Invariant.{HasParts, IsDomain, IsDomainBut}
 use Rattle.iox2_domain.specs.Fields.{Fields, kept_of, subscriber_of}
@@ -156,12 +157,12 @@ module _ {T U : Type 0} (f : Fields T U) (sound : IsDomain f) (j i : ℕ) (y : S
     state : state_of (kept_of replaced_fields) ≡ with_channels_of replaced_fields (with_receiver_side s y.id Q (retired_side f sound j i y key c end (Evict lost)))
     state =
         (λ k. record (left-is evicted evicted-parts j mid mid-stands (set_place y.keys i None) (without first y.expired ++ key ∷ []) y.is_due new end-fits k) { warnings = warned f.warnings.items (ExpiredDataDiscarded lost y.id) })
-        ∙ ap (with_channels_of replaced_fields) ((λ k. record (removed-is f sound j y end.stands first d old.link lost-departed old.unborrowed b at_b mine holders new removes y.keys (without first y.expired) fits k) {
+        ∙ (λ k. with_channels_of replaced_fields (record (removed-is f sound j y end.stands first d old.link lost-departed old.unborrowed b at_b mine holders new removes y.keys (without first y.expired) fits k) {
           subscribers = put_at ((removed-is f sound j y end.stands first d old.link lost-departed old.unborrowed b at_b mine holders new removes y.keys (without first y.expired) fits k).subscribers) y.id
               (Some (record Q { ends = ends-are k; expired = expired-are k; is_due = y.is_due }));
           warnings = warned f.warnings.items (ExpiredDataDiscarded lost y.id);
-        })
-        ∙ (λ k. record (with_receiver_side s y.id Q (retired_side f sound j i y key c end (Evict lost))) {
+        }))
+        ∙ (λ k. with_channels_of replaced_fields (record (with_receiver_side s y.id Q (retired_side f sound j i y key c end (Evict lost))) {
           subscribers = put_at-twice s.subscribers y.id (Some (record Q { ends = receiver_ends f.connections y.keys; expired = occupants (receiver_ends f.connections (map Some (without first y.expired))); is_due = y.is_due })) (Some (record Q { ends = set_place Q.ends i None; expired = without lost Q.expired ++ p ∷ []; is_due = y.is_due })) k;
         }))
 

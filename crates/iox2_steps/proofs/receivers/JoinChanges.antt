@@ -1,5 +1,5 @@
 -- A subscriber gets keys of its connections, one of which may be new, whichever publishers were closed.
-use Rattle.std.proofs.Common.{◌≡◌, ◌≤◌, le_refl, ℕ, Bool, List, map, get_or, slice_set, refl, ap, ◌∙◌, inl}
+use Rattle.std.proofs.Common.{◌≡◌, ◌≤◌, le_refl, ℕ, Bool, List, map, get_or, slice_set, refl, ap, sym, ◌∙◌, inl, inr}
 use Rattle.std.proofs.lemmas.List.{map-set}
 use Rattle.std.specs.declared.option.Option.{Option}
 use Rattle.std.specs.declared.option.Option.TheVariants.{None, Some}

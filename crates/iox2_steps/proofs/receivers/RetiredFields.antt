@@ -10,7 +10,7 @@ use Rattle.iox2_slots.specs.SlotBook.{Book}
 use Rattle.iox2_store.specs.machine.Limits.{warning_limit, expired_limit}
 use Rattle.iox2_store.specs.machine.Numbers.{contains}
 use Rattle.iox2_store.specs.machine.State.{State, warned}
-use Rattle.iox2_store.specs.machine.SubscriberUpdate.{ReceiverSide, Retirement, is_refused, Keep_expired, Evict, Discard_data}
+use Rattle.iox2_store.specs.machine.SubscriberUpdate.{ReceiverSide, Retirement, is_refused, Keep_expired, Evict, Discard_data, with_receiver_side}
 use Rattle.iox2_store.specs.declared.warning.Warning.TheVariants.{ExpiredDataDiscarded}
 use Rattle.iox2_ends.specs.Counters.{with_counters}
 use Rattle.iox2_ends.specs.Retires.{has_borrowed, chosen}
@@ -20,7 +20,7 @@ use Rattle.iox2_domain.specs.KeptLinks.{ChannelsFollow}
 use Rattle.iox2_domain.specs.WarningRing.{warning_ring}
 use Rattle.iox2_domain.specs.Ports.{SubscriberFields}
 use Rattle.iox2_domain.specs.Kept.{state_of}
-use Rattle.iox2_domain.specs.Fields.{Fields, kept_of}
+use Rattle.iox2_domain.specs.Fields.{Fields, kept_of, subscriber_of}
 use Rattle.iox2_domain.specs.Invariant.{IsDomain, IsDomainBut}
 use Rattle.iox2_domain.specs.Updates.{changed_at, publisher_but_room, without_receiver_key}
 use Rattle.iox2_domain.specs.Reaches.{Reaches}
@@ -42,9 +42,9 @@ spares-same f k key same sound = subst (λ (n : ℕ). IsDomainBut n f) (sym same
 
 -- a book was freed where the step keeps the fields but for the books
 pub frees-book : {T U : Type 0} (f f' : Fields T U) (key : ℕ) → IsDomainBut key f
-    → ((before : Fields T U) (s : State T U) → IsMidway before f s key → IsWellFormed s → Reaches before f' s) → ChangesBooks f f' → FreesBook f f'
+    → ((before : Fields T U) (s : State T U) → IsMidway before f s key → state_of (kept_of f) ≡ s → IsWellFormed s → Reaches before f' s) → ChangesBooks f f' → FreesBook f f'
 frees-book f f' key sound kept books =
-    let attained = kept f (state_of (kept_of f)) (midway-but f key sound) sound.well_formed in
+    let attained = kept f (state_of (kept_of f)) (midway-but f key sound) refl sound.well_formed in
     record { agrees = attained.agrees; fields = books; state = attained.state; entries = attained.entries }
 
 module _ {T U : Type 0} (f f' f'' : Fields T U) (j : ℕ) (y : SubscriberFields) (side : ReceiverSide) (key : ℕ) (changes : ChangesReceiverTo (IsDomainBut key) f j y side f') (frees : FreesBook f' f'') where

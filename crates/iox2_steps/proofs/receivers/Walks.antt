@@ -162,7 +162,7 @@ module _ {T U : Type 0} (environment : Environment) (f : Fields T U) (sound : Is
   Updates o s' failure = MatchOption o ⊥ (λ (z : Subscriber). MatchBool z.is_due
       ((end : ReceiverSide)
       × UpdateReceiverSide environment (f.config).service_id y.id z.degradation_handler (expired_limit f.config) (λ p. has_sender_end s p y.id) s.publisher_places (receiver_side s y.id z) end failure
-      × (s' ≡ with_receiver_side s y.id z end))
+      × (s' ≡ receiver_channels_reset (with_receiver_side s y.id z end) y.id))
       ((s' ≡ s) × (failure ≡ None)))
 
   -- both walks are the update of a subscriber that is due

@@ -25,38 +25,45 @@ link-through connections c d home channel has = record { key = has.key; link = h
 
 -- where none stands, channels are new
 pub none-new : (connections : Slab Link) (p q : ℕ) → NoLink connections p q → channels_in connections p q ≡ new_channels
-none-new connections p q none = ap channels_if_any (look_up-nothing (is_between p q) connections.slots (λ i c at. by (is_between p q c) refl i c at)) where
+none-new connections p q none = ap channels_if_any (look_up-nothing (is_between p q) connections.slots (λ i c at. by (is_between p q c) i c refl at)) where
   by : (b : Bool) → (i : ℕ) (c : Link) → is_between p q c ≡ b → get_or connections.slots i None ≡ Some c → b ≡ false
   by true i c e at =
       let parts = both-true _ _ e in
       absurd (none i c at (eqb-true c.home.publisher p parts.0) (eqb-true c.home.subscriber q parts.1))
   by false i c e at = refl
 
+-- a connection that has the same home and channel stood there
+pub stood : (a b : Slab Link) (key : ℕ) → option_map {U = Home × Channel} (λ (c : Link). (c.home, c.channel)) (get b key) ≡ option_map (λ (c : Link). (c.home, c.channel)) (get a key)
+    → (d : Link) → get b key ≡ Some d → HasLink a d
+stood a b key e d at = by (get a key) refl (sym e ∙ ap (option_map (λ (c : Link). (c.home, c.channel))) at) where
+  by : (o : Option Link) → get a key ≡ o → option_map {U = Home × Channel} (λ (c : Link). (c.home, c.channel)) o ≡ Some (d.home, d.channel) → HasLink a d
+  by None there h = absurd cc
+  by (Some c) there h =
+      let both : (c.home, c.channel) ≡ (d.home, d.channel) = cc in
+      record { key = key; link = c; stands = there; home = ap (λ (t : Home × Channel). t.0) both; channel = ap (λ (t : Home × Channel). t.1) both }
+
+-- where connections stay what they are, so do their channels
+pub same-channels : (old new : Slab Link) → SameHomes old new → SameChannels old new
+same-channels old new same = record {
+  same = λ key. through (get new key) ∙ ap (option_map (λ (t : Home × ℕ × ℕ × Bool × Channel). (t.0, t.4))) (same.same key) ∙ sym (through (get old key));
+} where
+  through : (o : Option Link) → option_map {U = Home × Channel} (λ (c : Link). (c.home, c.channel)) o ≡ option_map (λ (t : Home × ℕ × ℕ × Bool × Channel). (t.0, t.4)) (option_map fixed_of o)
+  through None = refl
+  through (Some c) = refl
+
+pub links-same : (old new : Slab Link) → SameHomes old new → (key : ℕ) (d : Link) → get new key ≡ Some d → HasLink old d
+links-same old new same key = stood old new key ((same-channels old new same).same key)
+
 module _ (Own : Home → Type 0) (Gone : ℕ → ℕ → Type 0) where
   -- nothing becomes of them
   pub follow-still : (old new : Slab Link) → SameChannels old new → ChannelsFollow Own Gone old new
   follow-still old new same = record {
-    kept = λ key d at. inl (stood old new (same.same key) d at);
-    lost = λ key c at. inl (stood new old (sym (same.same key)) c at);
+    kept = λ key d at. inl (stood old new key (same.same key) d at);
+    lost = λ key c at. inl (stood new old key (sym (same.same key)) c at);
   }
-    where
-      stood : (a b : Slab Link) {key : ℕ} → option_map {U = Home × Channel} (λ (c : Link). (c.home, c.channel)) (get b key) ≡ option_map (λ (c : Link). (c.home, c.channel)) (get a key)
-          → (d : Link) → get b key ≡ Some d → HasLink a d
-      stood a b {key} e d at = by (get a key) refl (sym e ∙ ap (option_map (λ (c : Link). (c.home, c.channel))) at) where
-        by : (o : Option Link) → get a key ≡ o → option_map {U = Home × Channel} (λ (c : Link). (c.home, c.channel)) o ≡ Some (d.home, d.channel) → HasLink a d
-        by None there h = absurd cc
-        by (Some c) there h =
-            let both : (c.home, c.channel) ≡ (d.home, d.channel) = cc in
-            record { key = key; link = c; stands = there; home = ap (λ (t : Home × Channel). t.0) both; channel = ap (λ (t : Home × Channel). t.1) both }
 
   pub follow-same : (old new : Slab Link) → SameHomes old new → ChannelsFollow Own Gone old new
-  follow-same old new same = follow-still old new (record {
-    same = λ key. through (get new key) ∙ ap (option_map (λ (t : Home × ℕ × ℕ × Bool × Channel). (t.0, t.4))) (same.same key) ∙ sym (through (get old key));
-  })
-    where
-      through : (o : Option Link) → option_map {U = Home × Channel} (λ (c : Link). (c.home, c.channel)) o ≡ option_map (λ (t : Home × ℕ × ℕ × Bool × Channel). (t.0, t.4)) (option_map fixed_of o)
-      through None = refl
-      through (Some c) = refl
+  follow-same old new same = follow-still old new (same-channels old new same)
 
   -- some go
   pub follow-fewer : (old new : Slab Link) → ((key : ℕ) (c : Link) → get new key ≡ Some c → get old key ≡ Some c)

@@ -14,6 +14,7 @@ use Rattle.iox2_slots.specs.Link.{is_shut, Link, load}
 use Rattle.iox2_slots.specs.SlotBook.{Book, holders_at}
 use Rattle.iox2_store.specs.machine.Mailbox.{Mailbox, with_waiting}
 use Rattle.iox2_store.specs.machine.Numbers.{put_at, last_n}
+use Rattle.iox2_store.specs.machine.Places.{occupant}
 use Rattle.iox2_store.specs.machine.PublisherUpdate.{SenderSide, UpdateSenderPlace, connected, sender_side, with_sender_side}
 use Rattle.iox2_store.specs.machine.Records.{Publisher, Environment}
 use Rattle.iox2_store.specs.machine.State.{State, receiving_buffer, has_receiver_end}
@@ -276,9 +277,9 @@ module _ {T U : Type 0} (environment : Environment) (f : Fields T U) (sound : Is
 
   -- ---- where it isn't
 
-  module _ (c : Link) (at_c : get f1.connections key ≡ Some c) (open : is_shut c ≡ false) where
+  module _ (c : Link) (at_c : get f1.connections key ≡ Some c) (at_open : is_shut c ≡ false) where
    history-is : histories_of f x q ≡ P.history
-   history-is = history-open (ap is_shut (let both : Some made.link ≡ Some c = sym made.stands ∙ at_c in let is : made.link ≡ c = cc in is) ∙ open)
+   history-is = history-open (ap is_shut (let both : Some made.link ≡ Some c = sym made.stands ∙ at_c in let is : made.link ≡ c = cc in is) ∙ at_open)
 
    steps-full : UpdateSenderPlace environment (f.config).service_id x.id P.degradation_handler (histories_of f x) (receiving_buffer s) (has_receiver_end s x.id)
        j (occupant s.subscriber_places j) (sender_side s x.id P) full None

@@ -29,6 +29,7 @@ use Rattle.iox2_domain.proofs.lemmas.containers.LookUps.{look_up-map}
 use Rattle.iox2_domain.proofs.lemmas.fields.ConnectionEnds.{publisher-stands, subscriber-stands, occupant-sender_ends}
 use Rattle.iox2_domain.proofs.lemmas.fields.KeptChannels.{channels-are, whole-state}
 use Rattle.iox2_domain.proofs.lemmas.fields.OwnKeys.{known, receiver-leads}
+use Rattle.iox2_domain.specs.Departures.{KnowsKey}
 use Rattle.iox2_domain.proofs.lemmas.fields.Standing.{some_is}
 use Rattle.iox2_steps.proofs.updates.FollowedChannels.{none-new, follow-there}
 use mathlib.Core.Path.{fun_ext}
@@ -82,7 +83,7 @@ module _ {T U : Type 0} (f : Fields T U) (parts : HasParts f) where
         lead keys i has_key = contains-occupants (receiver_ends f.connections keys) d.home.publisher
             (i, occupant-receiver keys i ∙ ap (publisher_of_key f.connections) has_key ∙ ap (option_map (λ (c : Link). c.home.publisher)) at)
 
-        among : (y : SubscriberFields) → _ → contains (connected_publishers ((subscriber_of f.books f.connections y).port)) d.home.publisher ≡ true
+        among : (y : SubscriberFields) → KnowsKey y key → contains (connected_publishers ((subscriber_of f.books f.connections y).port)) d.home.publisher ≡ true
         among y (inl at_place) = contains_right (occupants (receiver_ends f.connections (map Some y.expired))) (occupants (receiver_ends f.connections y.keys)) d.home.publisher (lead y.keys at_place.0 at_place.1)
         among y (inr listed) = contains_left (occupants (receiver_ends f.connections (map Some y.expired))) (occupants (receiver_ends f.connections y.keys)) d.home.publisher (lead (map Some y.expired) listed.0 listed.1)
 

@@ -1,12 +1,12 @@
 -- What the machine does at an open subscriber's place.
-use Rattle.std.proofs.Common.{◌≡◌, ℕ, Bool, false, cond, List, refl, ap, sym, subst, ◌∙◌}
+use Rattle.std.proofs.Common.{◌≡◌, ℕ, Bool, true, false, cond, List, refl, ap, sym, subst, ◌∙◌, inl, inr}
 use Rattle.std.proofs.lemmas.Bool.{eq-eqb}
 use Rattle.std.specs.declared.option.Option.{Option}
 use Rattle.std.specs.declared.option.Option.TheVariants.{None, Some}
 use Rattle.std.specs.Option.{option_and_then}
 use Rattle.iox2_store.specs.machine.Places.{occupant, is_port}
 use Rattle.iox2_store.specs.machine.Records.{Handler, Environment}
-use Rattle.iox2_store.specs.machine.PublisherUpdate.{SenderSide, SenderAction, Keep_end, Drop_waiting, Disconnect, Connect, sender_action, dropped, disconnected, Performs, UpdateSenderPlace, ConnectSender}
+use Rattle.iox2_store.specs.machine.PublisherUpdate.{SenderSide, SenderAction, Keep_end, Drop_waiting, Disconnect, Connect, connected, sender_action, dropped, disconnected, Performs, UpdateSenderPlace, ConnectSender}
 use Rattle.iox2_store.specs.declared.degradation.DegradationAction.{DegradationAction}
 use Rattle.iox2_store.specs.declared.errors.ConnectionFailure.{ConnectionFailure}
 

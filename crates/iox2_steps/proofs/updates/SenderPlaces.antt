@@ -1,5 +1,5 @@
 -- What a publisher's update comes to at one place, whoever stands there.
-use Rattle.std.proofs.Common.{◌≡◌, ℕ, false, cond, List, map, get_or, slice_set, refl, ap, sym, subst, ◌∙◌, set-set}
+use Rattle.std.proofs.Common.{◌≡◌, ℕ, false, cond, List, [], map, get_or, slice_set, refl, ap, sym, subst, ◌∙◌, set-set}
 use Rattle.std.proofs.lemmas.Bool.{ne_eqb}
 use Rattle.std.proofs.lemmas.List.{set-get_or}
 use Rattle.std.proofs.lemmas.Option.{same_Some}
