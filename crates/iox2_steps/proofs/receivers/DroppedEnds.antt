@@ -10,7 +10,7 @@ use Rattle.iox2_slots.specs.SlotBook.{Book}
 use Rattle.iox2_store.specs.machine.Mailbox.{Mailbox, waiting_dropped, numbers_in}
 use Rattle.iox2_store.specs.machine.Numbers.{put_at, contains, without}
 use Rattle.iox2_store.specs.machine.Places.{occupants, set_place}
-use Rattle.iox2_store.specs.machine.Records.{Entry, Subscriber}
+use Rattle.iox2_store.specs.machine.Records.{Entry, Publisher, Subscriber}
 use Rattle.iox2_store.specs.machine.State.{State}
 use Rattle.iox2_store.specs.Stored.{IsHeldMessage, In_history, In_mailbox, In_blocked_send}
 use Rattle.iox2_laws.proofs.NumberLemmas.{contains_right}
@@ -28,7 +28,7 @@ use Rattle.iox2_domain.specs.Midway.{with_channels_of}
 use Rattle.iox2_steps.proofs.updates.FollowedChannels.{follow-fewer}
 use Rattle.iox2_domain.specs.Ports.{SubscriberFields}
 use Rattle.iox2_domain.specs.Kept.{Named, state_of, entries_of, is_named}
-use Rattle.iox2_domain.specs.Invariant.{HasParts, IsDomain, HasLoneLoans, IsOwned, IsLeft, IsGone}
+use Rattle.iox2_domain.specs.Invariant.{is_publisher, HasParts, IsDomain, HasLoneLoans, IsOwned, IsLeft, IsGone}
 use Rattle.iox2_domain.specs.Fields.{Fields, kept_of, publisher_of, subscriber_of, numbers_of}
 use Rattle.iox2_domain.proofs.lemmas.fields.SameEnds.{with_connections, same-publisher_of_key}
 use Rattle.iox2_domain.proofs.lemmas.fields.Views.{mailboxes-are}
