@@ -10,6 +10,7 @@ use Rattle.iox2_slots.specs.declared.connection.Home.{Home}
 use Rattle.iox2_store.specs.machine.Channel.{Channel}
 use Rattle.iox2_store.specs.machine.Numbers.{contains, put_at}
 use Rattle.iox2_store.specs.machine.Places.{occupants}
+use Rattle.iox2_store.specs.machine.Ports.{subscriber_shut}
 use Rattle.iox2_store.specs.machine.Records.{Publisher, Subscriber}
 use Rattle.iox2_store.specs.machine.Releases.{freed_if_unused, is_unused, place_freed, pruned, subscriber_pruned}
 use Rattle.iox2_store.specs.machine.State.{State, connected_publishers, is_linked, receiver_channels_reset}
@@ -51,6 +52,10 @@ module _ {T U : Type 0} (t : State T U) (q p r : ℕ) (away : r ≢ q) where
   -- and where it forgets publishers
   pub pruned-linked : is_linked (subscriber_pruned t q) p r ≡ is_linked t p r
   pruned-linked = ap (λ (b : Bool). option_map_or (λ (x : Publisher). contains (occupants x.ends) r) (t.publishers p) false || b) (other-linked (option_map {T = Subscriber} (pruned t q) (t.subscribers q)))
+
+  -- and where it takes no messages any more
+  pub shut-linked : (y : Subscriber) → is_linked (subscriber_shut t q y) p r ≡ is_linked t p r
+  shut-linked y = λ k. due-linked (t.publishers p) k || other-linked (Some (record y { is_open = false })) k
 
 -- a mailbox is well-formed whatever the channels are
 pub box-still : {T U : Type 0} (s : State T U) (channels : ℕ → ℕ → ℕ → Channel) (p q : ℕ) → MailboxIsWellFormed s p q → MailboxIsWellFormed (record s { channels = channels }) p q
