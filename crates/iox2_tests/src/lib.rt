@@ -3,7 +3,6 @@
 #![tactic(auto)]
 
 #[cfg(test)]
-mod channels;
 #[cfg(test)]
 mod closes;
 #[cfg(test)]

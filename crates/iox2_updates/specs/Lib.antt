@@ -1,2 +1,2 @@
 -- Words of the steps on connections.
-pub mod ChannelChanges
+

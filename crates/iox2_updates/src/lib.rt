@@ -3,7 +3,6 @@
 //! Each function works on the state of `iox2_domain`, in whose words it says what it does.
 #![tactic(auto)]
 
-mod channels;
 mod connects;
 mod departures;
 mod failures;
@@ -12,10 +11,6 @@ mod receiver_updates;
 mod retirements;
 mod updates;
 
-pub use channels::{
-    ChannelChange, are_all_received, change_received, close_sent, is_sent_hinted, is_sent_in,
-    is_some_received, place_of_receiver,
-};
 pub use departures::{forget_if_empty, free_book_if_unused, leave_if_unused};
 pub use marks::{unmark_publisher, unmark_subscriber};
 pub use receiver_updates::update_subscriber;
