@@ -14,7 +14,7 @@ use Rattle.iox2_slots.specs.declared.slots.mark.SlotMark.{SlotMark}
 use Rattle.iox2_slots.specs.declared.slots.mark.SlotMark.TheVariants.{Unwritten, Written, Sent}
 use Rattle.iox2_store.specs.declared.service_config.ServiceConfig.{ServiceConfig}
 use Rattle.iox2_ends.specs.LookUp.{look_up}
-use Rattle.iox2_ends.specs.Mailboxes.{mailbox_of, channels_of, sender_ends, receiver_ends}
+use Rattle.iox2_ends.specs.Mailboxes.{mailbox_of, sender_ends, receiver_ends}
 use Rattle.iox2_domain.specs.WarningRing.{WarningRing}
 use Rattle.iox2_domain.specs.Ports.{PublisherFields, SubscriberFields}
 use Rattle.iox2_domain.specs.Boxes.{DomainBoxes}
@@ -136,7 +136,7 @@ module _ (books : Slab Book) (connections : Slab Link) where
 
   -- What lies in a connection.
   abbrev pub between_of : Link → Between
-  between_of c = record { publisher = c.home.publisher; subscriber = c.home.subscriber; box = mailbox_of (numbers_of books c.home.publisher) c; channels = channels_of c.channel }
+  between_of c = record { publisher = c.home.publisher; subscriber = c.home.subscriber; box = mailbox_of (numbers_of books c.home.publisher) c; channel = c.channel }
 
 -- What the fields keep, beside these boxes.
 abbrev pub keeping : {T U F G : Type 0} → DomainBoxes F G → Fields T U → Kept T U F G
