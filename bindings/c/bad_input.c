@@ -321,6 +321,7 @@ static void all_is_refused(iox2ps_domain_t *domain, const world_t *world, iox2ps
   REFUSED(iox2ps_domain_refused_connections(domain, &outs.number), code);
   REFUSED(iox2ps_domain_warning_count(domain, &outs.count), code);
   REFUSED(iox2ps_domain_warning(domain, 0, &outs.warning), code);
+  REFUSED(iox2ps_domain_recording(domain, outs.bytes, sizeof outs.bytes, &outs.count, &outs.number), code);
   REFUSED(iox2ps_domain_destroy(domain), code);
   CHECK(domain->domain_ == NULL);
 }

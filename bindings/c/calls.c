@@ -67,6 +67,34 @@ static void a_domain_may_be_static(void) {
   IS(iox2ps_domain_destroy(&in_a_function), IOX2PS_OK);
 }
 
+static void a_domain_is_recorded(void) {
+  iox2ps_domain_t domain = IOX2PS_DOMAIN_INIT;
+  iox2ps_config_t config;
+  iox2ps_publisher_t publisher;
+  char text[200] = "unchanged";
+  size_t len;
+  uint64_t missed;
+  iox2ps_config_defaults(&config, 7, 24, 8);
+  create(&domain, &config);
+  IS(iox2ps_domain_recording(&domain, text, sizeof text, &len, &missed), IOX2PS_OK);
+  CHECK(len == 0 && missed == 0 && !strcmp(text, "unchanged"));
+  IS(iox2ps_domain_create_recorded(&domain, &config, 1, 0), IOX2PS_HAS_DOMAIN);
+  IS(iox2ps_domain_destroy(&domain), IOX2PS_OK);
+  config.payload_alignment = 7;
+  IS(iox2ps_domain_create_recorded(&domain, &config, 1, 0), IOX2PS_INVALID_SETTINGS);
+  config.payload_alignment = 8;
+  IS(iox2ps_domain_create_recorded(&domain, &config, SIZE_MAX, 0), IOX2PS_OUT_OF_MEMORY);
+  IS(iox2ps_domain_create_recorded(&domain, &config, 1, 0), IOX2PS_OK);
+  IS(iox2ps_publisher_create(&domain, &publisher), IOX2PS_OK);
+  IS(iox2ps_publisher_update_connections(&domain, &publisher), IOX2PS_OK);
+  IS(iox2ps_domain_recording(&domain, text, 10, &len, &missed), IOX2PS_TOO_SMALL);
+  CHECK(len > 10 && missed == 1 && !strcmp(text, "unchanged"));
+  IS(iox2ps_domain_recording(&domain, text, sizeof text, &len, &missed), IOX2PS_OK);
+  text[len] = 0;
+  CHECK(missed == 1 && strstr(text, "\npub 2 retry static 24 most warn none = publisher 1\nend 1 "));
+  IS(iox2ps_domain_destroy(&domain), IOX2PS_OK);
+}
+
 static void the_archive_is_of_the_header_s_version(void) {
   char words[32];
   CHECK(iox2ps_version() == IOX2PS_VERSION);
@@ -588,6 +616,7 @@ static void slots_are_counted(void) {
 int main(void) {
   settings_are_read_back();
   a_domain_may_be_static();
+  a_domain_is_recorded();
   the_archive_is_of_the_header_s_version();
   a_message_is_written_and_read_where_it_lies();
   a_loan_may_have_unspecified_bytes();

@@ -418,10 +418,25 @@ static void end_foreign(iox2ps_domain_t *domain) {
   }
 }
 
+/* ---- what was recorded of all this */
+
+static void write_recording(iox2ps_domain_t *domain, const char *name) {
+  FILE *file = fopen(name, "w");
+  size_t len, room;
+  uint64_t missed;
+  if (!file || iox2ps_domain_recording(domain, &len, 0, &room, &missed) != IOX2PS_TOO_SMALL) fail("there is no recording");
+  void *text = malloc(room);
+  if (iox2ps_domain_recording(domain, text, room, &len, &missed) || missed || fwrite(text, 1, len, file) != len
+      || fclose(file)) {
+    fail("the recording can't be written");
+  }
+  free(text);
+}
+
 int main(int count, char **arguments) {
   iox2ps_domain_t domain = IOX2PS_DOMAIN_INIT, other = IOX2PS_DOMAIN_INIT;
   iox2ps_config_t config;
-  if (count != 5) fail("usage: random_calls SEED CALLS SCRIPT REPLIES");
+  if (count != 5 && count != 6) fail("usage: random_calls SEED CALLS SCRIPT REPLIES [RECORDING]");
   state = strtoull(arguments[1], NULL, 10);
   size_t calls = strtoull(arguments[2], NULL, 10);
   script = fopen(arguments[3], "w");
@@ -439,13 +454,16 @@ int main(int count, char **arguments) {
   fprintf(script, "domain %zu %zu %zu %zu %zu %zu %s\n", config.max_publishers, config.max_subscribers,
           config.subscriber_max_buffer_size, config.subscriber_max_borrowed_samples, config.history_size,
           config.subscriber_expired_connection_buffer, config.enable_safe_overflow ? "overflow" : "keep");
-  if (iox2ps_domain_create(&domain, &config)) fail("the domain isn't made");
+  if (count == 6 ? iox2ps_domain_create_recorded(&domain, &config, 100 * calls, 8) : iox2ps_domain_create(&domain, &config)) {
+    fail("the domain isn't made");
+  }
   make_foreign(&other);
   for (size_t i = 0; i < calls; i++) {
     call(&domain, &config);
     look_at_all_messages();
   }
   end_foreign(&other);
+  if (count == 6) write_recording(&domain, arguments[5]);
   if (iox2ps_domain_destroy(&domain)) fail("the domain isn't destroyed");
   if (fclose(script) || fclose(replies)) fail("the files can't be written");
   printf("%zu calls, %zu of them refused for their numbers, %zu lines of script\n", calls, wrong_numbers, command);

@@ -4,7 +4,13 @@
 #include <atomic>
 #include <cstdio>
 #include <cstdlib>
+#include <functional>
+#include <mutex>
 #include <thread>
+#include <vector>
+#ifdef __linux__
+#include <sys/epoll.h>
+#endif
 
 using Message = std::array<std::uint64_t, 8>;
 using Domain = iox2ps::SharedDomain<Message>;
@@ -232,6 +238,32 @@ void waits_are_stopped_twice_and_taken_back() {
   CHECK(first_of(subscriber.timed_receive(std::chrono::nanoseconds::max())) == 2);
 }
 
+#ifdef __cpp_exceptions
+void a_thread_that_throws_gives_back_what_it_has() {
+  auto domain = keeping(1);
+  auto publisher = domain.publisher().expect("a publisher");
+  auto subscriber = domain.subscriber().expect("a subscriber");
+  CHECK(publisher.send_copy(message(1)).expect("a send").delivered() == 1u);
+  std::thread([&] {
+    try {
+      auto sample = std::move(*subscriber.receive().expect("a receive"));
+      CHECK(publisher.send_copy(message(2)).expect("a send").delivered() == 1u);
+      auto waits = blocked(publisher.send_copy(message(3)));
+      auto mine = std::move(subscriber);
+      throw 7;
+    } catch (int) {
+    }
+  }).join();
+  CHECK(!subscriber);
+  auto first = publisher.loan().expect("a loan");
+  auto second = publisher.loan().expect("a loan");
+  CHECK(first.send().expect("a send").delivered() == 0u);
+  second.discard();
+  publisher.close();
+  CHECK(domain.book_count() == 0);
+}
+#endif
+
 void a_domain_that_goes_while_others_wait_stays_for_them() {
   std::optional<Domain> domain = keeping(1);
   auto publisher = domain->publisher().expect("a publisher");
@@ -242,6 +274,218 @@ void a_domain_that_goes_while_others_wait_stays_for_them() {
   CHECK(publisher.send_copy(message(1)).expect("a send").delivered() == 1u);
   waits.join();
 }
+
+/* What is read where it lies is given back in the call that waits for the next: so a loan that waits for its slot goes on. */
+void a_slot_comes_back_while_the_next_message_is_waited_for() {
+  auto domain = keeping(1);
+  auto publisher = domain.publisher(iox2ps::PublisherOptions<Message>().preallocated_samples(1)).expect("a publisher");
+  auto subscriber = domain.subscriber().expect("a subscriber");
+  std::atomic<std::uint64_t> next{0};
+  std::thread reads([&] {
+    auto read = [&](const iox2ps::Sample<Message, M> &sample) {
+      CHECK((*sample)[0] == next);
+      std::this_thread::sleep_for(20ms); // the publisher waits for the one slot
+      return ++next < 3;
+    };
+    CHECK(subscriber.blocking_for_each(read).has_value());
+  });
+  for (std::uint64_t number = 0; number < 3; number++) {
+    CHECK(publisher.timed_send_copy(message(number), 10s).expect("a send").delivered() == 1u);
+  }
+  reads.join();
+  CHECK(next == 3);
+}
+
+using Subscriber = iox2ps::Subscriber<Message, M>;
+using Publisher = iox2ps::Publisher<Message, M>;
+
+void a_listener_is_called_without_the_lock() {
+  auto domain = keeping(8);
+  auto publisher = domain.publisher().expect("a publisher");
+  auto subscriber = domain.subscriber().expect("a subscriber");
+  std::vector<std::uint64_t> all;
+  auto listener = [&] {
+    /* All calls may be made; one that waits tries once. */
+    while (auto one = subscriber.receive_copy().expect("a receive")) all.push_back((*one)[0]);
+    CHECK(!subscriber.blocking_receive().expect("a receive"));
+    CHECK(!subscriber.blocking_receive_copy().expect("a receive"));
+    CHECK(domain.connection_count() == 1);
+  };
+  CHECK(subscriber.set_listener(listener).has_value());
+  for (std::uint64_t number = 0; number < 40; number += 2) {
+    CHECK(publisher.send_copy(message(number)).expect("a send").delivered() == 1u);
+    CHECK(publisher.loan(message(number + 1)).expect("a loan").send().expect("a send").delivered() == 1u);
+  }
+  CHECK(all.size() == 40);
+  for (std::uint64_t number = 0; number < 40; number++) CHECK(all[number] == number);
+  subscriber.clear_listener();
+  subscriber.clear_listener();
+  CHECK(publisher.send_copy(message(7)).expect("a send").delivered() == 1u);
+  CHECK(all.size() == 40 && first_of(subscriber.receive()) == 7);
+  std::size_t stops = 0;
+  CHECK(subscriber.set_listener([&] { stops++; }).has_value());
+  domain.stop_waits();
+  CHECK(stops == 1);
+  subscriber.close();
+  CHECK(subscriber.set_listener([] {}).error() == iox2ps::Error::NotLive);
+}
+
+void a_listener_that_sends_isnt_called_inside_of_itself() {
+  auto domain = keeping(8);
+  auto publisher = domain.publisher().expect("a publisher");
+  auto subscriber = domain.subscriber().expect("a subscriber");
+  auto others = keeping(8);
+  auto there = others.publisher().expect("a publisher");
+  auto far = others.subscriber().expect("a subscriber");
+  std::size_t depth = 0, calls = 0, calls_far = 0;
+  auto listener = [&] {
+    CHECK(depth++ == 0);
+    if (calls++ < 3) {
+      CHECK(publisher.send_copy(message(100)).expect("a send").delivered() == 1u);
+      CHECK(there.send_copy(message(100)).expect("a send").delivered() == 1u);
+      /* A loan that never comes isn't waited for. */
+      auto first = publisher.loan().expect("a loan");
+      auto second = publisher.loan().expect("a loan");
+      CHECK(publisher.blocking_loan().error() == iox2ps::Error::LoanExceedsMaxLoans);
+    }
+    depth--;
+  };
+  CHECK(subscriber.set_listener(listener).has_value());
+  CHECK(far.set_listener([&] {
+    CHECK(depth == 0);
+    calls_far++;
+  }).has_value());
+  CHECK(publisher.send_copy(message(1)).expect("a send").delivered() == 1u);
+  CHECK(calls >= 4 && calls_far == 3);
+  for (std::size_t i = 0; i < 4; i++) CHECK(first_of(subscriber.receive()) == (i == 0 ? 1u : 100u));
+  CHECK(!subscriber.receive().expect("a receive"));
+  /* No thread thinks that it still calls a listener. */
+  auto started = Clock::now();
+  CHECK(!subscriber.timed_receive(20ms).expect("a receive"));
+  CHECK(Clock::now() - started >= 20ms);
+}
+
+void a_listener_goes_with_its_subscriber_and_may_own_other_handles() {
+  auto domain = keeping(8);
+  auto publisher = domain.publisher().expect("a publisher");
+  auto subscriber = domain.subscriber().expect("a subscriber");
+  auto other = std::make_shared<Subscriber>(domain.subscriber().expect("a subscriber"));
+  std::weak_ptr<Subscriber> held = other;
+  auto counted = std::make_shared<int>(0);
+  CHECK(subscriber.set_listener([other = std::move(other), counted] { ++*counted; }).has_value());
+  CHECK(publisher.send_copy(message(1)).expect("a send").delivered() == 2u && *counted == 1);
+  auto moved = std::move(subscriber);
+  CHECK(publisher.send_copy(message(1)).expect("a send").delivered() == 2u && *counted == 2);
+  /* Another takes its place, which has what it uses dropped without the lock: that closes a subscriber. */
+  CHECK(moved.set_listener([counted] { *counted += 10; }).has_value());
+  CHECK(held.expired());
+  CHECK(publisher.send_copy(message(1)).expect("a send").delivered() == 1u && *counted == 12);
+  moved.close();
+  CHECK(counted.use_count() == 1);
+  CHECK(publisher.send_copy(message(1)).expect("a send").delivered() == 0u && *counted == 12);
+  /* One that closes its own subscriber. */
+  auto mine = std::make_shared<Subscriber>(domain.subscriber().expect("a subscriber"));
+  CHECK(mine->set_listener([weak = std::weak_ptr<Subscriber>(mine), counted] {
+    if (auto there = weak.lock()) there->close();
+    ++*counted;
+  }).has_value());
+  CHECK(publisher.send_copy(message(1)).expect("a send").delivered() == 1u && *counted == 13);
+  CHECK(publisher.send_copy(message(1)).expect("a send").delivered() == 0u && *counted == 13);
+}
+
+void each_listener_is_called_for_each_message() {
+  constexpr std::uint64_t messages = 2000;
+  iox2ps::Config<Message> config(1);
+  config.max_subscribers(40);
+  auto domain = Domain::create(config).expect("a domain");
+  std::vector<Publisher> publishers;
+  std::atomic<std::uint64_t> calls{0};
+  std::vector<Subscriber> stay;
+  for (int i = 0; i < 3; i++) {
+    stay.push_back(domain.subscriber().expect("a subscriber"));
+    CHECK(stay.back().set_listener([&] { calls++; }).has_value());
+  }
+  for (int i = 0; i < 2; i++) publishers.push_back(domain.publisher().expect("a publisher"));
+  std::uint64_t before = calls;
+  std::vector<std::thread> threads;
+  for (auto &publisher : publishers) {
+    threads.emplace_back([&] {
+      for (std::uint64_t number = 0; number < messages; number++) {
+        CHECK(publisher.send_copy(message(number)).expect("a send").delivered().has_value());
+      }
+    });
+  }
+  /* Meanwhile others come and go. */
+  for (int turn = 0; turn < 200; turn++) {
+    auto one = domain.subscriber().expect("a subscriber");
+    CHECK(one.set_listener([&] { std::this_thread::yield(); }).has_value());
+    static_cast<void>(one.receive());
+  }
+  for (auto &thread : threads) thread.join();
+  CHECK(calls == before + 3 * 2 * messages);
+}
+
+#ifdef __linux__
+/* Whether it is readable within so many milliseconds. */
+bool is_readable(int loop, int milliseconds) {
+  epoll_event event;
+  return epoll_wait(loop, &event, 1, milliseconds) == 1;
+}
+
+int loop_over(const iox2ps::MessageFd &descriptor) {
+  int loop = epoll_create1(EPOLL_CLOEXEC);
+  epoll_event event{};
+  event.events = EPOLLIN;
+  CHECK(loop >= 0 && epoll_ctl(loop, EPOLL_CTL_ADD, descriptor.fd(), &event) == 0);
+  return loop;
+}
+
+void a_descriptor_is_readable_when_a_message_came() {
+  auto domain = keeping(8);
+  auto publisher = domain.publisher().expect("a publisher");
+  auto subscriber = domain.subscriber().expect("a subscriber");
+  auto descriptor = subscriber.message_fd().expect("a descriptor");
+  int loop = loop_over(descriptor);
+  CHECK(is_readable(loop, 0));
+  descriptor.reset();
+  descriptor.reset();
+  CHECK(!is_readable(loop, 5));
+  for (std::uint64_t number = 0; number < 3; number++) {
+    CHECK(publisher.send_copy(message(number)).expect("a send").delivered() == 1u);
+  }
+  CHECK(is_readable(loop, 0));
+  descriptor.reset();
+  for (std::uint64_t number = 0; number < 3; number++) CHECK(first_of(subscriber.receive()) == number);
+  CHECK(!is_readable(loop, 0));
+  subscriber.close();
+  CHECK(publisher.send_copy(message(7)).expect("a send").delivered() == 0u);
+  CHECK(!is_readable(loop, 0));
+  CHECK(subscriber.message_fd().error() == iox2ps::Error::NotLive);
+  close(loop);
+}
+
+void an_event_loop_misses_nothing() {
+  constexpr std::uint64_t messages = 2000;
+  auto domain = keeping(2);
+  auto publisher = domain.publisher().expect("a publisher");
+  auto subscriber = domain.subscriber().expect("a subscriber");
+  std::thread reads([&] {
+    auto descriptor = subscriber.message_fd().expect("a descriptor");
+    int loop = loop_over(descriptor);
+    std::uint64_t next = 0;
+    while (next < messages) {
+      CHECK(is_readable(loop, 10000));
+      descriptor.reset();
+      while (auto one = subscriber.receive_copy().expect("a receive")) CHECK((*one)[0] == next++);
+    }
+    close(loop);
+  });
+  for (std::uint64_t number = 0; number < messages; number++) {
+    CHECK(publisher.blocking_send_copy(message(number)).expect("a send").delivered() == 1u);
+  }
+  reads.join();
+}
+#endif
 
 /* A lock of one's own: it counts, wakes all, and lets no thread look before it sleeps. */
 class Counting {
@@ -280,15 +524,34 @@ void a_lock_is_brought() {
 } // namespace
 
 int main() {
-  a_message_crosses_threads_in_place();
-  receives_wait();
-  sends_wait();
-  each_gets_all_in_order();
-  loans_wait();
-  loans_wait_for_slots();
-  copies_and_all_take_the_lock_once();
-  waits_are_stopped_twice_and_taken_back();
-  a_domain_that_goes_while_others_wait_stays_for_them();
-  a_lock_is_brought();
-  std::printf("10 tests passed\n");
+  const std::function<void()> tests[] = {
+      a_message_crosses_threads_in_place,
+      receives_wait,
+      sends_wait,
+      each_gets_all_in_order,
+      loans_wait,
+      loans_wait_for_slots,
+      copies_and_all_take_the_lock_once,
+      waits_are_stopped_twice_and_taken_back,
+#ifdef __cpp_exceptions
+      a_thread_that_throws_gives_back_what_it_has,
+#endif
+      a_domain_that_goes_while_others_wait_stays_for_them,
+      a_slot_comes_back_while_the_next_message_is_waited_for,
+      a_listener_is_called_without_the_lock,
+      a_listener_that_sends_isnt_called_inside_of_itself,
+      a_listener_goes_with_its_subscriber_and_may_own_other_handles,
+      each_listener_is_called_for_each_message,
+#ifdef __linux__
+      a_descriptor_is_readable_when_a_message_came,
+      an_event_loop_misses_nothing,
+#endif
+      a_lock_is_brought,
+  };
+  std::size_t passed = 0;
+  for (auto &test : tests) {
+    test();
+    passed++;
+  }
+  std::printf("%zu tests passed\n", passed);
 }

@@ -310,7 +310,8 @@ typedef struct iox2ps_warning_t {
  * @{ */
 
 /** The version of the archive that the program is linked to, as one number. A program that may be linked to another
- * one than it was compiled for compares it with IOX2PS_VERSION; the classes of C++ do, where a domain is made. */
+ * one than it was compiled for compares it with IOX2PS_VERSION; the classes of C++ and the crate of Rust do, where a
+ * domain is made. */
 IOX2PS_NODISCARD uint32_t iox2ps_version(void);
 
 /** The defaults of a domain for messages of one type, as iox2ps_config_defaults(&config, 7, sizeof(T),
@@ -347,6 +348,20 @@ static inline const char *iox2ps_error_text(uint32_t code) {
 /** Makes a domain. IOX2PS_HAS_DOMAIN where there is one; IOX2PS_INVALID_SETTINGS for an alignment that is
  * none, a payload_size that is no multiple of it, or an unknown strategy; IOX2PS_OUT_OF_MEMORY. */
 IOX2PS_NODISCARD iox2ps_status_t iox2ps_domain_create(iox2ps_domain_t *domain, const iox2ps_config_t *config);
+
+/** The same, of which a recording is kept: of its first calls, as many as give this number of commands, with so many
+ * bytes of each message; the others are 0 in the recording. Memory for the commands is taken here, some 150 bytes for
+ * each. A call that makes, sends, receives, closes or updates is one command, and so is each byte of a message that has to
+ * be written or is read; questions that change nothing are none. */
+IOX2PS_NODISCARD iox2ps_status_t iox2ps_domain_create_recorded(iox2ps_domain_t *domain, const iox2ps_config_t *config,
+                                                               size_t commands, size_t bytes);
+
+/** Writes the recording as text, which tools/replay runs again and tools/draw draws: docs/RECORDINGS.md says what is in
+ * it. missed says how many commands had no room: the recording ends before the first of these. len says how long the text
+ * is, also with IOX2PS_TOO_SMALL, where it has more than room bytes and nothing is written; it has no zero byte. The
+ * recording stays, and goes on. That of a domain that isn't recorded is empty. IOX2PS_OUT_OF_MEMORY. */
+IOX2PS_NODISCARD iox2ps_status_t iox2ps_domain_recording(iox2ps_domain_t *domain, void *bytes, size_t room, size_t *len,
+                                                         uint64_t *missed);
 
 /** Frees the domain with all that is in it. Its owner calls this once; a second call returns
  * IOX2PS_NO_DOMAIN. */

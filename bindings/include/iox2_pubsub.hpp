@@ -76,6 +76,9 @@ struct OneThread {
 
   /** Makes a call. */
   template <typename Call> iox2ps_status_t call(Brings, Call &&make) { return make(); }
+
+  /** Nothing is called for a subscriber. */
+  void forget(Id) {}
 };
 
 namespace detail {
@@ -754,8 +757,11 @@ public:
       Got got;
       bool is_held = last.has_value();
       iox2ps_status_t code = hold_.wait(Waits::Message, port_.id, copies, {}, [&](iox2ps_domain_t *domain) {
-        if (std::exchange(is_held, false)) static_cast<void>(iox2ps_sample_release(domain, &last->sample_));
-        return next(domain, got);
+        if (!std::exchange(is_held, false)) return next(domain, got);
+        static_cast<void>(iox2ps_sample_release(domain, &last->sample_));
+        iox2ps_status_t received = next(domain, got);
+        if (received == IOX2PS_NO_SAMPLE) hold_->threads.bring_too(only(Waits::Loan));
+        return received;
       });
       if (last) last->hold_ = detail::Hold<M>(); // it was released
       if (code == IOX2PS_NO_SAMPLE) return std::monostate{};
@@ -785,10 +791,42 @@ public:
     }));
   }
 
+  /** For several threads alone: calls this when a message may have come, from now on, in place of what was set before; but not
+   * for what waits already. It is called without the lock, by the thread whose call brought something, and by several threads
+   * at a time.
+   *
+   * It may receive, send and destroy handles, here and in other domains. A call that waits doesn't wait in it: it tries once, as
+   * where waits are stopped. What its calls bring to listeners is called after it has returned, so one that sends to its own
+   * subscriber each time never ends. One that throws ends the program. A call that has begun may still run when another
+   * listener was set or the subscriber was closed: so let it own what it uses, for example by a std::shared_ptr, but the subscriber
+   * itself by a std::weak_ptr alone, or neither would ever go. */
+  template <typename F> Done set_listener(F &&listener) {
+    if (!hold_) return Error::NotLive;
+    hold_->threads.listen(id(), std::make_shared<const std::function<void()>>(std::forward<F>(listener)));
+    return std::monostate{};
+  }
+
+  /** For several threads alone: calls nothing any longer. A call that has begun may still run. */
+  void clear_listener() {
+    if (hold_) hold_->threads.forget(id());
+  }
+
+  /** For several threads alone, on Linux: a file descriptor for an event loop. It is the subscriber's listener from now on, in
+   * place of another. Error::NoDescriptor where the system has none left. */
+  template <typename N = M> Result<typename N::MessageFd> message_fd() {
+    if (!hold_) return Error::NotLive;
+    auto made = N::MessageFd::create();
+    if (!made) return made;
+    Done set = set_listener([raised = *made] { raised.raise(); });
+    if (!set) return set.error();
+    return made;
+  }
+
   /** Closes it. Its samples stay. */
   void close() {
     if (!hold_) return;
     hold_.call(Waits::Room | Waits::Loan, [&](iox2ps_domain_t *domain) { return iox2ps_subscriber_close(domain, &port_); });
+    hold_->threads.forget(id());
     hold_ = detail::Hold<M>();
   }
 
@@ -850,7 +888,7 @@ public:
     if (iox2ps_version() != IOX2PS_VERSION) return Error::OtherVersion;
     detail::Hold<M> hold(new (std::nothrow) detail::Shared<M>);
     if (!hold) return Error::OutOfMemory;
-    iox2ps_status_t code = iox2ps_domain_create(&hold->domain, &detail::Raw::of(config));
+    iox2ps_status_t code = detail::Raw::create(config, &hold->domain);
     if (code != IOX2PS_OK) return detail::error_of(code);
     return Domain(std::move(hold));
   }
@@ -927,6 +965,22 @@ public:
     std::uint64_t count = 0;
     ask([&](iox2ps_domain_t *domain) { return iox2ps_domain_refused_connections(domain, &count); });
     return count;
+  }
+
+  /** What was recorded so far, where Config::record() asked for it. Error::OutOfMemory. */
+  Result<Recording> recording() const {
+    Recording recording = {};
+    iox2ps_status_t code = ask([&](iox2ps_domain_t *domain) {
+      std::size_t len = 0;
+      iox2ps_status_t read;
+      do {
+        recording.text.resize(len);
+        read = iox2ps_domain_recording(domain, recording.text.data(), recording.text.size(), &len, &recording.missed);
+      } while (read == IOX2PS_TOO_SMALL);
+      return read;
+    });
+    if (code != IOX2PS_OK) return detail::error_of(code);
+    return recording;
   }
 
   /** Makes calls of iox2_pubsub.h on the domain with no other between them, and returns the code that make returns: for

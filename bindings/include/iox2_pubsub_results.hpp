@@ -75,12 +75,15 @@ enum class Error : std::uint32_t {
   /** No id is left for a port. */
   SubscriberUnableToCreatePortTag = IOX2PS_SUBSCRIBER_CREATE_ERROR_UNABLE_TO_CREATE_PORT_TAG,
 
+  /** The system has no file descriptor left. */
+  NoDescriptor = 0xfffffffeu,
   /** The program is linked to the archive of another version than that of these headers. */
   OtherVersion = 0xffffffffu
 };
 
 /** An error in words, which lie there for good. */
 inline const char *text(Error error) {
+  if (error == Error::NoDescriptor) return "NoDescriptor: the system has no file descriptor left";
   if (error == Error::OtherVersion) return "OtherVersion: the archive isn't of the headers' version";
   return iox2ps_error_text(static_cast<std::uint32_t>(error));
 }

@@ -15,6 +15,7 @@
 #include <cstddef>
 #include <limits>
 #include <optional>
+#include <string>
 
 namespace iox2ps {
 
@@ -80,6 +81,7 @@ inline Id id_of(iox2ps_wide_t wide) { return Id{wide.low, wide.high}; }
 struct Raw {
   template <typename S> static auto &of(S &settings) { return settings.raw_; }
   template <typename O> static auto options(const O &options, const iox2ps_config_t &config) { return options.raw(config); }
+  template <typename C> static auto create(const C &config, iox2ps_domain_t *domain) { return config.create(domain); }
 };
 
 } // namespace detail
@@ -182,12 +184,36 @@ public:
   Config &backpressure_strategy(BackpressureStrategy value) {
     return set(raw_.backpressure_strategy, static_cast<std::uint32_t>(value));
   }
+  /** Keeps a recording of the domain's first calls, of this number of commands, with so many bytes of each message:
+   * iox2ps_domain_create_recorded() says more. Domain::recording() gives it. */
+  Config &record(std::size_t commands, std::size_t bytes) {
+    recorded_ = {commands, bytes};
+    return *this;
+  }
 
 private:
+  friend struct detail::Raw;
+
   template <typename T> Config &set(T &field, std::common_type_t<T> value) {
     field = value;
     return *this;
   }
+
+  iox2ps_status_t create(iox2ps_domain_t *domain) const {
+    if (!recorded_) return iox2ps_domain_create(domain, &raw_);
+    return iox2ps_domain_create_recorded(domain, &raw_, recorded_->commands, recorded_->bytes);
+  }
+
+  struct Room {
+    std::size_t commands, bytes;
+  };
+  std::optional<Room> recorded_;
+};
+
+/** What was recorded of a domain. */
+struct Recording {
+  std::string text;     /**< the recording, as docs/RECORDINGS.md says; empty where nothing is recorded */
+  std::uint64_t missed; /**< how many commands had no room: it ends before the first of these */
 };
 
 /** What one publisher has other than its domain's settings say. What isn't set is as in the domain. */

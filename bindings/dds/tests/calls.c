@@ -117,7 +117,7 @@ int main(int count, char **words) {
   iox2ps_dds_counts_t counts;
   alarm(900); /* a program whose test is gone ends by itself */
   if (count != 4 || !open_all(words[3])) return 3;
-  for (turns = 0; turns < 1000 && (peers.readers == 0 || peers.writers == 0); turns++) {
+  for (turns = 0; turns < 3000 && (peers.readers == 0 || peers.writers == 0); turns++) {
     poll_for(0, 20000000);
     iox2ps_dds_peers(gateway, &peers);
   }
@@ -127,7 +127,7 @@ int main(int count, char **words) {
     if (call(NULL, &domain, IOX2PS_DDS_MESSAGE, send_copy, &reading) != IOX2PS_OK) return 5;
     poll_for(threads, 0);
   }
-  for (turns = 0; turns < 5000 && good < wanted; turns++) {
+  for (turns = 0; turns < 30000 && good < wanted; turns++) {
     got_t got;
     poll_for(threads, 2000000);
     while (call(NULL, &domain, IOX2PS_DDS_ROOM, receive_copy, &got) == IOX2PS_OK) {
@@ -136,7 +136,7 @@ int main(int count, char **words) {
       wrong += got.reading.number != good;
     }
   }
-  number = iox2ps_dds_flush(gateways, 5000000000u);
+  number = iox2ps_dds_flush(gateways, 30000000000u);
   iox2ps_dds_counts(gateway, &counts);
   printf("{\"good\": %llu, \"wrong\": %llu, \"sent\": %llu, \"flushed\": %d}\n", (unsigned long long)good, (unsigned long long)wrong,
          (unsigned long long)counts.sent, number == IOX2PS_OK);

@@ -7,10 +7,19 @@
 
 namespace {
 
-/* Says who is there, for some seconds. */
+/* Says who is there: when the test says so, or so many seconds after what it waits for. Options: ready (a file to make), until;
+ * writers, other_types, incompatible (how many it waits for), hold. */
 int look_role(const Options &options) {
   Peer peer = peer_of(options);
-  auto end = Clock::now() + std::chrono::seconds(options.number("hold", 3));
+  options.tell("ready");
+  auto start = Clock::now();
+  auto is_there = [&](const iox2ps::dds::Peers &peers) {
+    return peers.writers >= options.number("writers", 0) && peers.other_types >= options.number("other_types", 0) &&
+           peers.incompatible_writers + peers.incompatible_readers >= options.number("incompatible", 0);
+  };
+  while (!is_there(peer.gateway.peers()) && seconds_since(start) < 60) peer.gateway.wait(10ms);
+  stay(peer.gateway, options);
+  auto end = Clock::now() + std::chrono::seconds(options.number("hold", 0));
   while (Clock::now() < end) peer.gateway.wait(10ms);
   auto peers = peer.gateway.peers();
   std::printf("{\"readers\": %u, \"writers\": %u, \"incompatible_readers\": %u, \"incompatible_writers\": %u, "
@@ -71,12 +80,15 @@ template <typename T> int values_role(const Options &options) {
       (void)publisher.send_copy(T{static_cast<double>(number) / 2, number}).expect("a send");
       while (gateway.forward().held > 0) gateway.wait(1ms);
     }
-    gateway.flush(5s);
-    auto hold = Clock::now() + std::chrono::seconds(options.number("hold", 0));
-    while (Clock::now() < hold) gateway.wait(10ms);
+    gateway.flush(30s);
+    options.tell("sent");
+    stay(gateway, options);
   }
-  while (good < options.number("expect", 0) && seconds_since(start) < static_cast<double>(options.number("limit_s", 15))) {
-    gateway.wait(10ms);
+  Flag until = options.flag("until");
+  while (good < options.number("expect", 0) && seconds_since(start) < 60) {
+    bool over = until.is_up();
+    auto now = gateway.wait(10ms);
+    if (over && now.received + now.dropped == 0) break;
     while (auto sample = subscriber.receive().expect("a receive")) {
       T value = **sample;
       double expected = static_cast<double>(value.number) / 2;
@@ -150,10 +162,9 @@ int many_role(const Options &options) {
     (void)to_numbers.send_copy(static_cast<double>(number)).expect("a send");
     while (all->forward().held > 0) all->wait(1ms);
   }
-  while (!done() && seconds_since(start) < 15) all->wait(10ms);
-  all->flush(5s);
-  auto hold = Clock::now() + std::chrono::seconds(options.number("hold", 0));
-  while (Clock::now() < hold) all->wait(10ms);
+  while (!done() && seconds_since(start) < 60) all->wait(10ms);
+  all->flush(30s);
+  stay(*all, options);
   std::printf("{\"bytes\": %llu, \"readings\": %llu, \"numbers\": %llu}\n", static_cast<unsigned long long>(first->counts().received),
               static_cast<unsigned long long>(second->counts().received), static_cast<unsigned long long>(third->counts().received));
   return 0;
@@ -164,7 +175,7 @@ int churn_role(const Options &options) {
   Peer full = peer_of(options);
   auto subscriber = full.domain.subscriber().expect("a subscriber"); // which nobody empties
   auto start = Clock::now();
-  while (!full.gateway.wait(10ms).blocked && seconds_since(start) < 15) {}
+  while (!full.gateway.wait(10ms).blocked && seconds_since(start) < 60) {}
   std::this_thread::sleep_for(300ms);
   auto other = iox2ps::Domain<Bytes>::create(config_of<Bytes>(options, 64)).expect("a domain");
   std::uint64_t opened = 0;
@@ -196,7 +207,7 @@ int threads_role(const Options &options) {
   });
   Checks checks;
   auto start = Clock::now();
-  while ((checks.good < count || own < count) && seconds_since(start) < 30) {
+  while ((checks.good < count || own < count) && seconds_since(start) < 60) {
     auto sample = subscriber.timed_receive(100ms).expect("a receive");
     if (!sample) continue;
     Head head;

@@ -1,16 +1,17 @@
 #!/usr/bin/env python3
-"""Builds the gateway to DDS beside the library, and runs all its tests: everything.py BINDINGS_OUT [quick].
+"""Builds the gateway to DDS beside the library, and runs all its tests: everything.py BINDINGS_OUT [plain|checked].
 
 BINDINGS_OUT is the folder that tools/bindings makes; the gateway is built into a copy of it, which is then moved. Each step is
-a line; the last one is `N passed, M failed`. Where Cyclone DDS isn't there nothing is run, and a line says so. With `quick`
-only what one process does is run: no test waits for another process, nor is anything run under the sanitizers and valgrind."""
-import os, re, shutil, subprocess, sys, tempfile
+a line; the last one is `N passed, M failed`. Where Cyclone DDS isn't there nothing is run, and a line says so. With `plain`
+nothing is run under the sanitizers and valgrind, and with `checked` nothing else. Tests between processes wait for each other, and
+not for times, so that they pass on a machine that does other work too."""
+import os, re, shutil, subprocess, sys, tempfile, time
 
 here = os.path.dirname(os.path.abspath(__file__))
 source = os.path.dirname(here)
 readme = os.path.join(source, "..", "README.md")
 out = os.path.abspath(sys.argv[1])
-quick = "quick" in sys.argv[2:]
+part = sys.argv[2] if len(sys.argv) > 2 else ""
 work = tempfile.mkdtemp()
 passed = failed = 0
 loopback = ("<CycloneDDS><Domain Id='any'><General><Interfaces><NetworkInterface name='lo'/></Interfaces><AllowMulticast>false"
@@ -25,7 +26,7 @@ few = ["small", "several", "large", "overflow", "both_ways", "late_joiner", "rec
        "threads", "c_calls", "with_security", "leaves_full"]
 ground = ["typed_values", "several", "bad_frames", "many_domains", "c_calls"]
 
-def run(words, limit=120, **more):
+def run(words, limit=600, **more):
     done = subprocess.run(words, stdout=subprocess.PIPE, stderr=subprocess.STDOUT, text=True, timeout=limit,
                           env=dict(os.environ, CYCLONEDDS_URI=loopback), **more)
     if done.returncode != 0: raise AssertionError("%s\n%s" % (" ".join(words), done.stdout[-4000:]))
@@ -33,20 +34,30 @@ def run(words, limit=120, **more):
 
 def step(name, what):
     global passed, failed
+    begun = time.time()
     try: said = what()
     except Exception as wrong:
         failed += 1
         print("FAILED  dds: %s\n%s" % (name, wrong), flush=True)
         return False
     passed += 1
-    print("ok      dds: %s: %s" % (name, said), flush=True)
+    print("ok      dds: %s: %s (%.0f s)" % (name, said, time.time() - begun), flush=True)
     return True
 
 def build(name, prefix, *options):
     folder = os.path.join(work, name)
     run(["cmake", "-S", source, "-B", folder, "-DCMAKE_PREFIX_PATH=" + prefix] + list(options))
-    run(["cmake", "--build", folder], 600)
+    run(["cmake", "--build", folder], 3600)
     return folder
+
+def programs(name, *options):
+    """Where the programs of the tests are, or nothing where they couldn't be built, which is a step that failed."""
+    def what():
+        build(name, os.path.join(work, "moved"), "-DIOX2PS_DDS_TESTS=ON", *options)
+        return "as cmake says"
+    return os.path.join(work, name) if step("build, " + name, what) else None
+
+def flags(words): return ["-DCMAKE_BUILD_TYPE=None"] + ["-DCMAKE_%s_FLAGS=%s" % (language, words) for language in ("C", "CXX")]
 
 def install():
     """Into a copy of the library's folder, which then moves."""
@@ -69,7 +80,7 @@ def headers_alone():
 def two(program, words):
     """Two processes of a program that ends by itself, each of which has to print these words of the other."""
     both = [subprocess.Popen([program], stdout=subprocess.PIPE, text=True, env=dict(os.environ, CYCLONEDDS_URI=loopback)) for _ in "ab"]
-    try: said = [one.communicate(timeout=60)[0] for one in both]
+    try: said = [one.communicate(timeout=180)[0] for one in both]
     finally:
         for one in both: one.kill()
     for text in said: assert words in text, text[:500]
@@ -100,40 +111,46 @@ def rust(plain):
                        IOX2PS_DDS_CASES=os.path.join(plain, "cases"), CYCLONEDDS_URI=loopback)
     words = ["cargo", "test", "-j1", "--offline", "--quiet", "--features", "dds", "--test", "dds"]
     done = subprocess.run(words, cwd=os.path.join(source, "..", "rust"), stdout=subprocess.PIPE, stderr=subprocess.STDOUT, text=True,
-                          timeout=300, env=environment)
+                          timeout=900, env=environment)
     assert done.returncode == 0, done.stdout[-4000:]
     return re.search(r"test result: (.*?);", done.stdout).group(1)
 
 def tests(folder, names=(), **environment):
     def what():
         done = subprocess.run([sys.executable, os.path.join(here, "run.py"), folder] + list(names), stdout=subprocess.PIPE, text=True,
-                              env=dict(os.environ, **environment), timeout=1200)
+                              env=dict(os.environ, **environment), timeout=3600)
         print("".join("  " + line + "\n" for line in done.stdout.splitlines()[:-1]), end="", flush=True)
         assert done.returncode == 0, done.stdout.splitlines()[-1]
         return done.stdout.splitlines()[-1]
     return what
 
-def all_steps():
+def plain_steps(plain):
     step("headers alone", headers_alone)
-    if not step("build, install and move", install): return
-    plain = build("plain", os.path.join(work, "moved"), "-DIOX2PS_DDS_TESTS=ON")
     step("frames", lambda: run([os.path.join(plain, "frames")]).strip())
-    if quick: return
     step("example", example)
     step("the program of bindings/README.md", page)
     step("between processes", tests(plain))
     if shutil.which("cargo"): step("rust", lambda: rust(plain))
     else: print("not there, and so not run: cargo")
-    flags = ["-DCMAKE_%s_FLAGS=%s" % (language, sanitizers) for language in ("C", "CXX")]
-    sane = build("sanitized", os.path.join(work, "moved"), "-DIOX2PS_DDS_TESTS=ON", "-DCMAKE_BUILD_TYPE=None", *flags)
-    step("frames, sanitizers", lambda: run([os.path.join(sane, "frames")]).strip())
-    step("between processes, sanitizers", tests(sane, few, FEW="1", SLOWER="3"))
-    flags = ["-DCMAKE_%s_FLAGS=-fsanitize=thread -g -O1" % language for language in ("C", "CXX")]
-    raced = build("raced", os.path.join(work, "moved"), "-DIOX2PS_DDS_TESTS=ON", "-DCMAKE_BUILD_TYPE=None", *flags)
+
+def checked_steps(plain):
+    sane = programs("sanitized", *flags(sanitizers))
+    if sane:
+        step("frames, sanitizers", lambda: run([os.path.join(sane, "frames")]).strip())
+        step("between processes, sanitizers", tests(sane, few, FEW="1", SLOWER="3"))
+    raced = programs("raced", *flags("-fsanitize=thread -g -O1"))
     races = "exitcode=66 suppressions=" + os.path.join(here, "threads.supp")
-    step("threads, thread sanitizer", tests(raced, ["threads", "c_calls", "woken", "second_gateway"], FEW="1", SLOWER="3", TSAN_OPTIONS=races))
+    few_threads = ["threads", "c_calls", "woken", "second_gateway"]
+    if raced: step("threads, thread sanitizer", tests(raced, few_threads, FEW="1", SLOWER="3", TSAN_OPTIONS=races))
     if shutil.which("valgrind"): step("between processes, valgrind", tests(plain, ground, FEW="1", SLOWER="4", WRAP=grind))
     else: print("not there, and so not run: valgrind")
+
+def all_steps():
+    if not step("build, install and move", install): return
+    plain = programs("plain")
+    if not plain: return
+    if part != "checked": plain_steps(plain)
+    if part != "plain": checked_steps(plain)
 
 if __name__ == "__main__":
     if not shutil.which("idlc") or not shutil.which("cmake") or not (os.path.exists("/usr/include/dds/dds.h") or os.environ.get("CycloneDDS_DIR")):

@@ -60,9 +60,16 @@ template <typename G> bool wait_for_peers(G &gateway, const Options &options) {
   for (;;) {
     auto peers = gateway.peers();
     if (peers.readers >= wanted && peers.writers >= wanted) return true;
-    if (seconds_since(start) > 20) return false;
+    if (seconds_since(start) > 60) return false;
     gateway.wait(20ms);
   }
+}
+
+/* Stays until the test says so, as long as others are to see it. */
+template <typename G> void stay(G &gateway, const Options &options) {
+  Flag until = options.flag("until");
+  auto start = Clock::now();
+  while (!until.path.empty() && !until.is_up() && seconds_since(start) < 120) gateway.wait(10ms);
 }
 
 inline void print_counts(const iox2ps::dds::Counts &counts) {

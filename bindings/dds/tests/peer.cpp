@@ -18,19 +18,22 @@ void send(Peer &peer, iox2ps::Publisher<Bytes> &publisher, std::size_t len, cons
   }
 }
 
-/* Options: count, len, publishers, gentle (0: send on while messages wait for the topic), hold (seconds to stay). */
+/* Options: count, len, publishers, gentle (0: send on while messages wait for the topic), more_when (a file: so many messages more
+ * once it is there), sent (a file to make when all are), until (a file: to stay until it is there). */
 int send_role(const Options &options) {
   Peer peer = peer_of(options);
   std::vector<iox2ps::Publisher<Bytes>> publishers;
   for (std::size_t at = 0; at < options.number("publishers", 1); at++) publishers.push_back(peer.domain.publisher().expect("a publisher"));
   if (options.number("peers", 1) > 0 && !wait_for_peers(peer.gateway, options)) return 4;
-  std::uint64_t count = options.number("count", 1000);
+  Flag more_when = options.flag("more_when");
+  std::uint64_t more = options.number("count", 1000), count = more_when.path.empty() ? more : UINT64_MAX;
   std::size_t len = options.number("len", 64);
   std::uint64_t every = options.number("every_us", 0), forward_each = options.number("each", 1);
   auto start = Clock::now();
   double cpu = cpu_seconds();
   std::size_t most_held = 0;
   for (std::uint64_t number = 0; number < count; number++) {
+    if (count == UINT64_MAX && more_when.is_up()) count = number + more;
     std::size_t which = number % publishers.size();
     send(peer, publishers[which], len, Head{static_cast<std::uint64_t>(getpid()), which, number / publishers.size() + 1});
     if ((number + 1) % forward_each != 0) continue;
@@ -43,8 +46,8 @@ int send_role(const Options &options) {
   bool acknowledged = peer.gateway.flush(std::chrono::seconds(options.number("flush", 20)));
   double all = seconds_since(start);
   cpu = cpu_seconds() - cpu;
-  auto end = Clock::now() + std::chrono::seconds(options.number("hold", 0));
-  while (Clock::now() < end) peer.gateway.wait(10ms);
+  options.tell("sent");
+  stay(peer.gateway, options);
   std::printf("{\"count\": %llu, \"sending_s\": %.3f, \"acknowledged\": %d, \"all_s\": %.3f, \"cpu_s\": %.4f, \"most_held\": %zu, ",
               static_cast<unsigned long long>(count), sending, acknowledged, all, cpu, most_held);
   print_counts(peer.gateway.counts());
@@ -52,19 +55,22 @@ int send_role(const Options &options) {
   return 0;
 }
 
-/* Options: expect, idle (seconds without a message after which it ends; first before there was one), slow_us, die_after, ready (a file to make). */
+/* Options: expect, until (a file: it ends when that is there), idle (seconds without a message after which it ends; first before
+ * there was one), slow_us, die_after, ready (a file to make), seen (a file to make after seen_after messages). */
 int receive_role(const Options &options) {
   Peer peer = peer_of(options);
   auto subscriber = peer.domain.subscriber().expect("a subscriber");
-  if (options.all.count("ready")) std::fclose(std::fopen(options.word("ready", "").c_str(), "w"));
+  options.tell("ready");
+  Flag until = options.flag("until");
   Checks checks;
   Origins origins;
   std::uint64_t expect = options.number("expect", 1000), die_after = options.number("die_after", 0), slow = options.number("slow_us", 0);
   std::uint64_t stall_after = options.number("stall_after", 0), stall = options.number("stall_s", 0);
-  double idle = static_cast<double>(options.number("idle", 5)), first_idle = static_cast<double>(options.number("first", 20));
+  std::uint64_t seen_after = options.number("seen_after", 0);
+  double idle = static_cast<double>(options.number("idle", 30)), first_idle = static_cast<double>(options.number("first", 60));
   auto start = Clock::now(), last = start, first = start;
   double cpu = 0;
-  while (checks.good < expect && seconds_since(last) < (checks.good == 0 ? first_idle : idle)) {
+  while (checks.good < expect && seconds_since(last) < (checks.good == 0 ? first_idle : idle) && !until.is_up()) {
     peer.gateway.wait(10ms);
     while (auto sample = subscriber.receive().expect("a receive")) {
       checks.see(sample->data(), sample->size());
@@ -72,6 +78,7 @@ int receive_role(const Options &options) {
       last = Clock::now();
       if (checks.good == 1) first = last, cpu = cpu_seconds();
       if (checks.good == die_after) raise(SIGKILL);
+      if (checks.good == seen_after) options.tell("seen");
       if (slow > 0) usleep(static_cast<useconds_t>(slow));
       if (stall > 0 && checks.good == stall_after) {
         auto end = Clock::now() + std::chrono::seconds(stall);

@@ -33,6 +33,12 @@ inline long largest_kilobytes() {
   return usage.ru_maxrss;
 }
 
+/* A file by which a test says that something may go on or end. */
+struct Flag {
+  std::string path;
+  bool is_up() const { return !path.empty() && access(path.c_str(), F_OK) == 0; }
+};
+
 struct Options {
   std::map<std::string, std::string> all;
 
@@ -48,6 +54,11 @@ struct Options {
   std::string word(const char *name, const char *otherwise) const {
     auto found = all.find(name);
     return found == all.end() ? otherwise : found->second;
+  }
+  Flag flag(const char *name) const { return {word(name, "")}; }
+  /* Makes the file that the option names, by which the test knows that this came to pass. */
+  void tell(const char *name) const {
+    if (all.count(name)) std::fclose(std::fopen(word(name, "").c_str(), "w"));
   }
   std::uint64_t number(const char *name, std::uint64_t otherwise) const {
     auto found = all.find(name);
@@ -90,16 +101,21 @@ struct Checks {
     good++;
     return head;
   }
-  void print() const {
-    std::printf("\"good\": %llu, \"not_rising\": %llu, \"gaps\": %llu, \"changed\": %llu, \"publishers\": %zu, \"first\": [",
-                static_cast<unsigned long long>(good), static_cast<unsigned long long>(not_rising),
-                static_cast<unsigned long long>(gaps), static_cast<unsigned long long>(changed), last.size());
+  static void print_numbers(const char *name, const std::map<std::pair<std::uint64_t, std::uint64_t>, std::uint64_t> &numbers) {
+    std::printf(", \"%s\": [", name);
     const char *comma = "";
-    for (auto &one : first) {
+    for (auto &one : numbers) {
       std::printf("%s%llu", comma, static_cast<unsigned long long>(one.second));
       comma = ", ";
     }
     std::printf("]");
+  }
+  void print() const {
+    std::printf("\"good\": %llu, \"not_rising\": %llu, \"gaps\": %llu, \"changed\": %llu, \"publishers\": %zu",
+                static_cast<unsigned long long>(good), static_cast<unsigned long long>(not_rising),
+                static_cast<unsigned long long>(gaps), static_cast<unsigned long long>(changed), last.size());
+    print_numbers("first", first);
+    print_numbers("last", last);
   }
 };
 

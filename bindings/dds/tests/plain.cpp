@@ -41,7 +41,7 @@ struct Plain {
   bool wait_for_peers() {
     dds_publication_matched_status_t readers{};
     dds_subscription_matched_status_t writers{};
-    for (int tries = 0; tries < 400; tries++) {
+    for (int tries = 0; tries < 1200; tries++) {
       dds_get_publication_matched_status(writer, &readers);
       dds_get_subscription_matched_status(reader, &writers);
       if (readers.current_count > 0 && writers.current_count > 0) return true;
@@ -88,11 +88,11 @@ int send_role(const Options &options) {
 
 int receive_role(const Options &options) {
   Plain plain(options, &iox2_msgs_msg_dds__Frame__desc);
-  if (options.all.count("ready")) std::fclose(std::fopen(options.word("ready", "").c_str(), "w"));
+  options.tell("ready");
   Checks checks;
   auto last = Clock::now(), first = last;
   double cpu = 0;
-  while (checks.good < options.number("expect", 1000) && seconds_since(last) < (checks.good == 0 ? 20 : 5)) {
+  while (checks.good < options.number("expect", 1000) && seconds_since(last) < (checks.good == 0 ? 60 : 30)) {
     plain.wait();
     while (plain.take()) {
       checks.see(plain.taken.payload._buffer, plain.taken.payload._length);
@@ -208,7 +208,8 @@ int participants_role(const Options &options) {
 int other_role(const Options &options) {
   Plain plain(options, &other_Thing_desc);
   char words[] = "another type";
-  for (std::uint64_t at = 0; at < options.number("hold", 4) * 20; at++) {
+  Flag until = options.flag("until");
+  for (std::uint64_t at = 0; at < 2400 && !until.is_up(); at++) {
     other_Thing thing{static_cast<std::int32_t>(at), words};
     dds_write(plain.writer, &thing);
     dds_sleepfor(DDS_MSECS(50));

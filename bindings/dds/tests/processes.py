@@ -18,13 +18,14 @@ def uri(lease=None, extra=""):
             "<AllowMulticast>false</AllowMulticast></General><Discovery><ParticipantIndex>auto</ParticipantIndex>"
             "<Peers><Peer Address='127.0.0.1'/></Peers>" + discovery + "</Discovery>" + extra + "</Domain></CycloneDDS>")
 
-def start(program, role, where=None, **options):
+def start(program, role, where=None, log_to=None, **options):
     words = ["nice", "-n", nice] + (wrapper if program in with_gateway else []) + [os.path.join(folder, program), role]
     if program == "liar": words.pop(); words += [options["topic"], str(options["count"])]
     elif program == "calls": words += [str(options["count"]), options["topic"]]
     else:
         for name, value in options.items(): words += [name, str(value)]
-    log = tempfile.TemporaryFile("w+")  # no pipe: a full one would stop the threads of DDS, which write there too
+    # No pipe: a full one would stop the threads of DDS, which write there too.
+    log = open(log_to, "w") if log_to else tempfile.TemporaryFile("w+")
     process = subprocess.Popen(words, stdout=subprocess.PIPE, stderr=log, text=True,
                                env=dict(os.environ, CYCLONEDDS_URI=where or uri()))
     process.log = log
@@ -38,13 +39,16 @@ def end_all():
         process.wait()
     started.clear()
 
-def end(process, limit=60, killed=False):
+def end(process, limit=150, killed=False):
     try: out, _ = process.communicate(timeout=limit * slower)
     except subprocess.TimeoutExpired:
         process.kill(); process.communicate()
         raise AssertionError("no end after %d s" % (limit * slower))
-    process.log.seek(0)
-    err = process.err = process.log.read()
+    err = ""
+    if process.log.readable():
+        process.log.seek(0)
+        err = process.log.read()
+    process.err = err
     if killed:
         assert process.returncode in (-signal.SIGKILL, 128 + signal.SIGKILL), (process.returncode, err)
         return None
@@ -56,8 +60,18 @@ def topic():
     turn += 1
     return "test/%d/%d" % (os.getpid(), turn)
 
-def wait_for(path, limit=20):
+def flag():
+    """A file that isn't there yet: by it a program says that something came to pass, or is told so."""
+    global turn
+    turn += 1
+    return os.path.join(work, "flag%d" % turn)
+
+def put_up(path): open(path, "w").close()
+
+def wait_for(path, *programs, limit=120):
+    """Until a program has made the file; none of these may end before."""
     until = time.time() + limit * slower
     while not os.path.exists(path):
-        assert time.time() < until, "not ready"
+        assert time.time() < until, "it didn't come to pass"
+        assert all(program.poll() is None for program in programs), "a program has ended before"
         time.sleep(0.02)

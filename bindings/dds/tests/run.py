@@ -4,10 +4,10 @@ builds them. The last line is `N passed, M failed`. Each process has a time limi
 
 Of the environment: WRAP is put before each program with a gateway (valgrind ..), SLOWER multiplies the time limits, and FEW
 makes it fewer messages."""
-import os, shutil, sys, time
+import os, re, shutil, sys, time
 
 import security
-from processes import end, end_all, few, slower, start, topic, uri, wait_for, work
+from processes import end, end_all, few, flag, put_up, slower, start, topic, uri, wait_for, work
 
 def sound(got):
     assert got["not_rising"] == 0 and got["changed"] == 0, got
@@ -19,7 +19,7 @@ def all_of_them(count, length, publishers=1, **options):
     name = topic()
     to = start("peer", "receive", topic=name, mode="retry", expect=count, max=length, publishers=publishers, **options)
     of = start("peer", "send", topic=name, mode="retry", count=count, len=length, publishers=publishers, node=5, **options)
-    sent, got = end(of, 180), end(to, 180)
+    sent, got = end(of), end(to)
     sound(got)
     assert got["good"] == count and got["gaps"] == 0 and set(got["first"]) == {1} and got["missed"] == 0, got
     assert sent["sent"] == count and sent["acknowledged"] == 1, sent
@@ -36,17 +36,16 @@ def slow_reader():
     name, count = topic(), 40 if few else 1500
     to = start("peer", "receive", topic=name, mode="retry", expect=count, max=20000, buffer=4, limit=8, slow_us=1000)
     of = start("peer", "send", topic=name, mode="retry", count=count, len=20000, buffer=4, gentle=0)
-    sent, got = end(of, 90), end(to, 90)
+    sent, got = end(of), end(to)
     sound(got)
     assert got["good"] == count and got["gaps"] == 0, got
     return "%d of %d, at most %d held, sending took %.2f s" % (got["good"], count, sent["most_held"], sent["sending_s"])
 
 def overflow():
     """Keep-last: in order, at most once, and what isn't there is counted."""
-    name, count = topic(), 300 if few else 20000
-    to = start("peer", "receive", topic=name, expect=count, idle=2, buffer=8)
-    of = start("peer", "send", topic=name, count=count, buffer=8)
-    sent, got = end(of), end(to)
+    name, over, count = topic(), flag(), 300 if few else 20000
+    to = start("peer", "receive", topic=name, expect=count, until=over, buffer=8)
+    sent = end(start("peer", "send", topic=name, count=count, buffer=8)); put_up(over); got = end(to)
     sound(got)
     here = got["received"] - got["good"]  # what the domain's own full buffer let go
     before = count - got["received"] - got["missed"]  # the topic's first ones, before any was taken
@@ -59,7 +58,7 @@ def both_ways():
     name, count = topic(), 200 if few else 4000
     options = dict(topic=name, mode="retry", count=count, len=2000, buffer=2, limit=4)
     first, second = start("peer", "both", **options), start("peer", "both", **options)
-    one, two = end(first, 120), end(second, 120)
+    one, two = end(first), end(second)
     for got in (one, two):
         sound(got)
         assert got["good"] == count and got["gaps"] == 0 and got["own_seen"] == count, got
@@ -69,78 +68,84 @@ def both_ways():
 
 def late_joiner():
     """A process that comes later gets the history, and then what follows."""
-    name = topic()
-    of = start("peer", "send", topic=name, count=50, history=10, buffer=16, peers=0, hold=8 * slower)
-    time.sleep(2 * slower)
-    to = start("peer", "receive", topic=name, history=10, buffer=16, expect=10, idle=2)
-    got, sent = end(to), end(of)
+    name, all_sent, over = topic(), flag(), flag()
+    of = start("peer", "send", topic=name, count=50, history=10, buffer=16, peers=0, sent=all_sent, until=over)
+    wait_for(all_sent, of)
+    got = end(start("peer", "receive", topic=name, history=10, buffer=16, expect=10)); put_up(over); end(of)
     sound(got)
     assert got["good"] == 10 and got["first"] == [41] and got["gaps"] == 0, got
     return "of 50 messages the last 10 came, from the 41st on"
 
 def without_history():
-    name = topic()
-    of = start("peer", "send", topic=name, count=50, peers=0, hold=6 * slower)
-    time.sleep(2 * slower)
-    got = end(start("cases", "look", topic=name, hold=2)); end(of)
+    name, all_sent, over = topic(), flag(), flag()
+    of = start("peer", "send", topic=name, count=50, peers=0, sent=all_sent, until=over)
+    wait_for(all_sent, of)
+    got = end(start("cases", "look", topic=name, writers=1, hold=2)); put_up(over); end(of)
     assert got["received"] == 0 and got["writers"] == 1, got
     return "of 50 messages none came"
 
 def receiver_killed():
     """The receiver is killed among messages, and another one starts: the sender goes on."""
-    name, count = topic(), 400 if few else 20000
-    where = uri(lease="%gs" % slower)
+    name, seen, over, count = topic(), flag(), flag(), 400 if few else 10000
+    where = uri(lease="%gs" % (4 * slower))
     first = start("peer", "receive", where, topic=name, mode="retry", die_after=count // 10, expect=count)
-    of = start("peer", "send", where, topic=name, mode="retry", count=count, every_us=100, flush=30)
-    end(first, 60, killed=True)
-    second = start("peer", "receive", where, topic=name, mode="retry", expect=count, idle=3)
-    sent, got = end(of, 90), end(second, 90)
+    of = start("peer", "send", where, topic=name, mode="retry", count=count, more_when=seen, every_us=100, flush=60)
+    end(first, killed=True)
+    second = start("peer", "receive", where, topic=name, mode="retry", expect=10**9, seen=seen, seen_after=1, until=over)
+    sent = end(of); put_up(over); got = end(second)
     sound(got)
-    assert sent["sent"] == count and got["gaps"] == 0 and got["good"] > 0, (sent, got)
-    assert got["first"][0] + got["good"] - 1 == count, got
+    assert sent["sent"] == sent["count"] and sent["acknowledged"] == 1 and got["gaps"] == 0 and got["good"] >= count, (sent, got)
+    assert got["last"] == [sent["sent"]] and got["first"][0] + got["good"] - 1 == sent["sent"], (sent, got)
     return "killed after %d; the next had %d to %d without a gap, and the sender ended after %.1f s" % (
-        count // 10, got["first"][0], count, sent["all_s"])
+        count // 10, got["first"][0], sent["sent"], sent["all_s"])
 
 def sender_killed():
-    """The sender is killed and starts again: the receiver has both, each in order."""
-    name, count = topic(), 200 if few else 3000
-    where = uri(lease="%gs" % slower)
-    to = start("peer", "receive", where, topic=name, mode="retry", expect=2 * count, idle=6, ready=os.path.join(work, "killed"))
-    wait_for(os.path.join(work, "killed"))
-    first = start("peer", "send", where, topic=name, mode="retry", count=10**9, every_us=300)
-    time.sleep(2 * slower)
+    """The sender is killed and starts again: the receiver has both, each from its first message on, in order."""
+    name, ready, seen, over, count = topic(), flag(), flag(), flag(), 200 if few else 3000
+    to = start("peer", "receive", topic=name, mode="retry", expect=10**9, ready=ready, seen=seen, seen_after=count, until=over)
+    wait_for(ready, to)
+    first = start("peer", "send", topic=name, mode="retry", count=10**9, every_us=300)
+    wait_for(seen, first, to)
     first.kill(); end(first, killed=True)
-    second = start("peer", "send", where, topic=name, mode="retry", count=count)
-    sent, got = end(second), end(to, 90)
+    sent = end(start("peer", "send", topic=name, mode="retry", count=count)); put_up(over); got = end(to)
     sound(got)
-    assert got["publishers"] == 2 and got["gaps"] == 0 and sent["sent"] == count, (sent, got)
+    assert got["publishers"] == 2 and got["gaps"] == 0 and sent["sent"] == count and sent["acknowledged"] == 1, (sent, got)
+    assert set(got["first"]) == {1} and count in got["last"] and sum(got["last"]) == got["good"] >= 2 * count, (sent, got)
     return "%d of both processes, none out of order, twice or between left out" % got["good"]
 
 def bad_frames():
     """Frames that fit no message are counted, the others come."""
-    name, rounds = topic(), 10
-    to = start("peer", "receive", topic=name, expect=10**9, idle=3, max=64, buffer=64, limit=256, mode="retry")
-    end(start("plain", "bad", topic=name, count=rounds, mode="retry")); got = end(to)
+    name, over, rounds = topic(), flag(), 10
+    to = start("peer", "receive", topic=name, expect=10**9, until=over, max=64, buffer=64, limit=256, mode="retry")
+    end(start("plain", "bad", topic=name, count=rounds, mode="retry")); put_up(over); got = end(to)
     assert got["received"] == 2 * rounds, got  # the good one, and one without bytes
     assert got["too_long"] == 2 * rounds and got["other_size"] == 3 * rounds, got
     return "of %d frames %d too long, %d of another size, %d sent on" % (7 * rounds, got["too_long"], got["other_size"], got["received"])
 
 def bad_frames_for_values():
     """The same to a domain of single values of 16 bytes: no frame says that it is one value of so many bytes but the last."""
-    name, rounds = topic(), 5
-    to = start("cases", "values", topic=name, expect=1, limit_s=4 * slower, mode="retry", buffer=64)
-    end(start("plain", "bad", topic=name, count=rounds, mode="retry")); got = end(to)
+    name, over, rounds = topic(), flag(), 5
+    to = start("cases", "values", topic=name, expect=1, until=over, mode="retry", buffer=64)
+    end(start("plain", "bad", topic=name, count=rounds, mode="retry")); put_up(over); got = end(to)
     assert got["received"] == rounds and got["too_long"] == 4 * rounds and got["other_size"] == 2 * rounds, got
     return "of %d frames %d too long, %d of another size, %d sent on" % (7 * rounds, got["too_long"], got["other_size"], got["received"])
 
 def hostile_lengths():
     """Frames of 50 MB never take their memory where messages have 64 bytes, and the next good ones come."""
     name, rounds = topic(), 4
-    to = start("peer", "receive", topic=name, expect=rounds, idle=5, max=64, buffer=64, limit=256, mode="retry")
+    to = start("peer", "receive", topic=name, expect=rounds, max=64, buffer=64, limit=256, mode="retry")
     end(start("plain", "hostile", topic=name, count=rounds, len=50000000, mode="retry")); got = end(to)
     assert got["received"] == rounds and got["too_long"] == 0 and got["largest_kb"] < 40000, got
     assert len(to.err.splitlines()) <= 100, to.err[-2000:]
     return "%d good ones came after each, with %d MB at most; %d lines of log" % (rounds, got["largest_kb"] // 1000, len(to.err.splitlines()))
+
+def full_disk():
+    """Frames of 50 MB again, while the disk is full that Cyclone's log goes to."""
+    name, rounds = topic(), 4
+    to = start("peer", "receive", log_to="/dev/full", topic=name, expect=rounds, max=64, buffer=64, limit=256, mode="retry")
+    end(start("plain", "hostile", topic=name, count=rounds, len=50000000, mode="retry")); got = end(to)
+    assert got["received"] == rounds and got["too_long"] == 0, got
+    return "%d good ones came, and no line of log" % rounds
 
 def typed_values():
     name = topic()
@@ -150,16 +155,19 @@ def typed_values():
     return "500 values of a struct"
 
 def other_values(role, **options):
-    name = topic()
-    to = start("cases", role, topic=name, expect=1, limit_s=3 * slower, mode="retry", buffer=64, **options)
-    of = start("cases", "values", topic=name, count=50, mode="retry", buffer=64, hold=4 * slower)
-    got = end(to, 40); end(of); return got
+    """What a domain of other values has of 50 values, while their sender stays."""
+    name, all_sent, over, gone = topic(), flag(), flag(), flag()
+    to = start("cases", role, topic=name, expect=1, until=over, mode="retry", buffer=64, **options)
+    of = start("cases", "values", topic=name, count=50, mode="retry", buffer=64, sent=all_sent, until=gone)
+    wait_for(all_sent, of, to); put_up(over); got = end(to)
+    put_up(gone); end(of)
+    return got
 
 def other_payload_size():
     """Values of 16 bytes meet a domain of slices of bytes: none comes, and each is counted."""
-    name = topic()
-    to = start("peer", "receive", topic=name, expect=10**9, idle=2, first=4 * slower, max=64, mode="retry")
-    of = start("cases", "values", topic=name, count=50, mode="retry"); end(of); got = end(to, 40)
+    name, over = topic(), flag()
+    to = start("peer", "receive", topic=name, expect=10**9, until=over, max=64, mode="retry")
+    end(start("cases", "values", topic=name, count=50, mode="retry")); put_up(over); got = end(to)
     assert got["received"] == 0 and got["other_type"] == 50, got
     return "50 messages of another type counted"
 
@@ -173,12 +181,24 @@ def other_struct():
 def only_known():
     """Frames of a program that says no type: taken by default, and passed over where the settings say so."""
     def count(only):
-        name, rounds = topic(), 5
-        to = start("peer", "receive", topic=name, expect=10**9, idle=3, first=5 * slower, max=64, buffer=64, limit=256, mode="retry", only_known=only)
-        end(start("plain", "bad", topic=name, count=rounds, mode="retry")); return end(to)
+        name, over, rounds = topic(), flag(), 5
+        to = start("peer", "receive", topic=name, expect=10**9, until=over, max=64, buffer=64, limit=256, mode="retry", only_known=only)
+        end(start("plain", "bad", topic=name, count=rounds, mode="retry")); put_up(over)
+        return end(to)
     taken, passed = count(0), count(1)
     assert taken["received"] == 10 and passed["received"] == 0 and passed["other_type"] == 35, (taken, passed)
     return "10 taken, 35 passed over"
+
+def settings_hold():
+    """What the gateway tells Cyclone of datagrams, and what the user says in its place, as Cyclone itself says it."""
+    def said(more):
+        log = os.path.join(work, "settings%d" % len(more))
+        where = uri(extra="<Tracing><Verbosity>config</Verbosity><OutputFile>%s</OutputFile></Tracing>" % log) + more
+        end(start("cases", "look", where, topic=topic()))
+        return re.search(r"MaxMessageSize/#text: (\S+ \S+)", open(log).read())[1]
+    ours, theirs = said(""), said(",<CycloneDDS><Domain Id='any'><General><MaxMessageSize>8000B</MaxMessageSize></General></Domain></CycloneDDS>")
+    assert ours == "65500 B" and theirs == "8000 B", (ours, theirs)
+    return "%s by itself, and %s where the user says so" % (ours, theirs)
 
 def second_gateway():
     """A second gateway for a domain or a topic of a process is refused, and one for messages that are too long."""
@@ -188,10 +208,10 @@ def second_gateway():
 
 def many_domains():
     """Three domains of two processes, polled together: each process is one participant of DDS."""
-    name, count = topic(), 20 if few else 200
-    options = dict(topic=name, count=count, mode="retry", buffer=64, hold=3 * slower)
+    name, over, count = topic(), flag(), 20 if few else 200
+    options = dict(topic=name, count=count, mode="retry", buffer=64, until=over)
     first, second = start("cases", "many", **options), start("cases", "many", **options)
-    seen = end(start("plain", "participants", topic=name, wait_s=int(20 * slower)))
+    seen = end(start("plain", "participants", topic=name, wait_s=60)); put_up(over)
     for one in (end(first), end(second)): assert one == {"bytes": count, "readings": count, "numbers": count}, one
     assert seen["participants"] == 3, seen  # its own too
     return "%d messages of 3 types each way, by %d participants" % (count, seen["participants"] - 1)
@@ -201,22 +221,23 @@ def gateways_come_and_go():
     name = topic()
     to = start("cases", "churn", topic=name, mode="retry", max=2000, buffer=2, limit=4, count=20)
     of = start("peer", "send", topic=name, mode="retry", count=200, len=2000, buffer=2, gentle=0, flush=30)
-    begun = time.time(); got = end(to, 40); took = time.time() - begun
-    end(of, 60)
+    begun = time.time(); got = end(to); took = time.time() - begun
+    end(of)
     assert got == {"opened": 20, "blocked": 1}, got
     return "20 in %.1f s" % took
 
 def with_security():
     """Cyclone's DDS Security: programs with certificates talk, one without isn't met, and one may only use its own topic."""
     if not shutil.which("openssl"): return "not run, since openssl isn't there"
-    name, folder, count = topic(), work, 20 if few else 200
+    name, folder, ready, over, count = topic(), work, flag(), flag(), 20 if few else 200
     security.authority(folder)
     for who, topics in (("one", "*"), ("two", "*"), ("three", "something/else")): security.program(folder, who, topics)
     where = lambda who: uri(extra=security.settings(folder, who))
+    outsider = start("cases", "look", topic=name, mode="retry", ready=ready, until=over)
+    wait_for(ready, outsider)
     to = start("peer", "receive", where("one"), topic=name, mode="retry", expect=count, max=64)
-    outsider = start("cases", "look", topic=name, mode="retry", hold=3)
-    of = start("peer", "send", where("two"), topic=name, mode="retry", count=count, len=64, hold=2)
-    sent, got, seen = end(of), end(to), end(outsider)
+    sent = end(start("peer", "send", where("two"), topic=name, mode="retry", count=count, len=64)); got = end(to)
+    put_up(over); seen = end(outsider)
     sound(got)
     assert got["good"] == count and sent["sent"] == count and seen["readers"] == seen["writers"] == seen["received"] == 0, (got, seen)
     third = start("cases", "look", where("three"), topic=name, hold=1)
@@ -238,7 +259,7 @@ def threads():
     name, count = topic(), 200 if few else 20000
     options = dict(topic=name, mode="retry", count=count, buffer=8)
     first, second = start("cases", "threads", **options), start("cases", "threads", **options)
-    one, two = end(first, 90), end(second, 90)
+    one, two = end(first), end(second)
     for got in (one, two):
         sound(got)
         assert got["good"] == count and got["gaps"] == 0 and got["own_seen"] == count and got["flushed"] == 1, got
@@ -246,28 +267,27 @@ def threads():
     return "%d each way in %.2f s" % (count, max(one["all_s"], two["all_s"]))
 
 def other_type():
-    name = topic()
-    other = start("plain", "other", topic=name, hold=6)
-    got = end(start("cases", "look", topic=name, hold=3)); end(other)
+    name, over = topic(), flag()
+    other = start("plain", "other", topic=name, until=over)
+    got = end(start("cases", "look", topic=name, other_types=2, hold=2)); put_up(over); end(other)
     assert got["other_types"] >= 2 and got["other_type_name"] == "other::Thing" and got["writers"] == 0 and got["received"] == 0, got
     return "%d endpoints of %s seen, none matched" % (got["other_types"], got["other_type_name"])
 
 def same_name_other_structure():
     """Without type information the name alone is compared, as with ROS 2's types: each sample is counted, and nothing is
     written to DDS's log."""
-    name, count = topic(), 500
-    to = start("peer", "receive", topic=name, expect=10**9, idle=3, first=5 * slower, max=64, mode="retry")
-    time.sleep(0.5)
-    lied = end(start("liar", "liar", topic=name, count=count)); got = end(to, 40)
+    name, over, count = topic(), flag(), 500
+    to = start("peer", "receive", topic=name, expect=10**9, until=over, max=64, mode="retry")
+    lied = end(start("liar", "liar", topic=name, count=count)); put_up(over); got = end(to)
     assert lied["matched"] == 1 and lied["acknowledged"] == 0 and to.err == "", (lied, to.err)
     assert got["malformed"] == count and got["received"] == 0, got
     return "of %d samples %d were no frames" % (count, got["malformed"])
 
 def other_qos():
     """A side that wants a history that the other hasn't: no match, and it is counted."""
-    name = topic()
-    without = start("cases", "look", topic=name, history=0, hold=5)
-    got = end(start("cases", "look", topic=name, history=4, hold=3)); one = end(without)
+    name, over = topic(), flag()
+    without = start("cases", "look", topic=name, history=0, incompatible=1, until=over)
+    got = end(start("cases", "look", topic=name, history=4, incompatible=1, hold=1)); put_up(over); one = end(without)
     assert got["incompatible_writers"] == 1 and got["writers"] == 0 and one["incompatible_readers"] == 1, (got, one)
     return "counted on both sides"
 
@@ -277,10 +297,10 @@ def woken():
     return "a wait of 10 s ended after %.2f s, the next one waited" % got["first_s"]
 
 def best_effort():
-    name, count = topic(), 100 if few else 2000
-    to = start("peer", "receive", topic=name, reliability="best", mode="discard", expect=count, idle=2, buffer=64)
-    of = start("peer", "send", topic=name, reliability="best", mode="discard", count=count, buffer=64, every_us=200)
-    end(of); got = end(to); sound(got)
+    name, over, count = topic(), flag(), 100 if few else 2000
+    to = start("peer", "receive", topic=name, reliability="best", mode="discard", expect=count, until=over, buffer=64)
+    end(start("peer", "send", topic=name, reliability="best", mode="discard", count=count, buffer=64, every_us=200))
+    put_up(over); got = end(to); sound(got)
     assert got["good"] > 0 and got["gaps"] == got["missed"], got
     return "%d of %d came, %d missed and counted" % (got["good"], count, got["missed"])
 
@@ -289,24 +309,24 @@ def leaves_full():
     name = topic()
     to = start("peer", "receive", topic=name, mode="retry", expect=50, max=2000, buffer=2, limit=4)
     of = start("peer", "send", topic=name, mode="retry", count=3000, len=2000, buffer=2, each=1)
-    begun = time.time(); got = end(to, 40); took = time.time() - begun
-    sent = end(of, 60); sound(got)
+    begun = time.time(); got = end(to); took = time.time() - begun
+    sent = end(of); sound(got)
     assert sent["sent"] == 3000, sent
     return "gone after %.1f s with %d, the sender ended after %.1f s" % (took, got["good"], sent["all_s"])
 
 def stalled_reader():
     """A program that doesn't receive for 14 s, longer than the lease of 10: the topic is held back, and then goes on."""
     name, count = topic(), 3000
-    to = start("peer", "receive", topic=name, mode="retry", expect=count, max=2000, buffer=2, limit=4, stall_after=100, stall_s=14, idle=20)
+    to = start("peer", "receive", topic=name, mode="retry", expect=count, max=2000, buffer=2, limit=4, stall_after=100, stall_s=14)
     of = start("peer", "send", topic=name, mode="retry", count=count, len=2000, buffer=2, flush=40)
-    sent, got = end(of, 120), end(to, 120)
+    sent, got = end(of), end(to)
     sound(got)
     assert got["good"] == count and got["gaps"] == 0, (sent, got)
     return "%d of %d, sending took %.1f s" % (got["good"], count, sent["all_s"])
 
 tests = [small, several, large, empty_buffers, slow_reader, overflow, both_ways, late_joiner, without_history, receiver_killed,
-         sender_killed, typed_values, bad_frames, bad_frames_for_values, hostile_lengths, other_payload_size, other_struct,
-         only_known, other_type, same_name_other_structure, other_qos, second_gateway, many_domains, gateways_come_and_go,
+         sender_killed, typed_values, bad_frames, bad_frames_for_values, hostile_lengths, full_disk, other_payload_size, other_struct,
+         only_known, other_type, same_name_other_structure, other_qos, settings_hold, second_gateway, many_domains, gateways_come_and_go,
          with_security, woken, best_effort, c_calls, threads, leaves_full, stalled_reader]
 
 if __name__ == "__main__":

@@ -7,6 +7,20 @@ use std::ffi::c_void;
 #[cfg(feature = "dds")]
 pub mod dds;
 
+/// This crate's version as one number, with which `iox2ps_version` is compared: that of the archive.
+pub const VERSION: u32 = part(env!("CARGO_PKG_VERSION_MAJOR")) << 16
+    | part(env!("CARGO_PKG_VERSION_MINOR")) << 8
+    | part(env!("CARGO_PKG_VERSION_PATCH"));
+
+const fn part(digits: &str) -> u32 {
+    let (digits, mut at, mut number) = (digits.as_bytes(), 0, 0);
+    while at < digits.len() {
+        number = 10 * number + (digits[at] - b'0') as u32;
+        at += 1;
+    }
+    number
+}
+
 /// The greatest alignment of a payload.
 pub const PAYLOAD_ALIGNMENT: usize = 16;
 
@@ -189,6 +203,19 @@ extern "C" {
     pub fn iox2ps_worst_case_slots(config: *const Config, loans: usize, slots: *mut usize) -> u32;
     pub fn iox2ps_error_text_at(code: u32, text: *mut *const u8, len: *mut usize);
     pub fn iox2ps_domain_create(domain: *mut Domain, config: *const Config) -> u32;
+    pub fn iox2ps_domain_create_recorded(
+        domain: *mut Domain,
+        config: *const Config,
+        commands: usize,
+        bytes: usize,
+    ) -> u32;
+    pub fn iox2ps_domain_recording(
+        domain: *mut Domain,
+        bytes: *mut u8,
+        room: usize,
+        len: *mut usize,
+        missed: *mut u64,
+    ) -> u32;
     pub fn iox2ps_domain_destroy(domain: *mut Domain) -> u32;
     pub fn iox2ps_domain_config(domain: *mut Domain, config: *mut Config) -> u32;
     pub fn iox2ps_domain_connection_count(domain: *mut Domain, count: *mut usize) -> u32;

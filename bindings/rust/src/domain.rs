@@ -7,10 +7,11 @@ use crate::numbers::{number, wide};
 use crate::payload::Payload;
 use crate::port_factory::{PortFactoryPublisher, PortFactorySubscriber};
 use crate::publisher::{BackpressureStrategy, Publisher};
+use crate::recording::{Recording, Room};
 use crate::shared::Shared;
 use crate::subscriber::Subscriber;
 use crate::sys;
-use crate::threads::{Borrowed, Brings, ManyThreads, OneThread, Place, Single, Threads};
+use crate::threads::{Borrowed, Brings, ManyThreads, OneThread, Part, Place, Single, Threads};
 use crate::warning::Warning;
 use crate::{PublisherCreateError, SubscriberCreateError};
 use std::fmt;
@@ -158,6 +159,15 @@ impl<P: Payload + ?Sized, M: Threads> Domain<P, M> {
         count
     }
 
+    /// What was recorded so far, where [`DomainBuilder::record`] asked for it.
+    ///
+    /// # Errors
+    ///
+    /// [`DomainCreateError::OutOfMemory`], where there is no memory for the text.
+    pub fn recording(&self) -> Result<Recording, DomainCreateError> {
+        Recording::read(&*self.hold).map_err(DomainCreateError::of)
+    }
+
     pub(crate) fn config(&self) -> sys::Config {
         let mut config = sys::Config::default();
         // SAFETY: see `Shared::at`.
@@ -191,7 +201,7 @@ where
     }
 }
 
-#[inline]
+#[inline(always)]
 pub(crate) fn expect(code: u32) {
     if code != sys::OK {
         unexpected(code);
@@ -204,6 +214,7 @@ pub(crate) fn expect(code: u32) {
 #[must_use = "settings make nothing until `create`"]
 pub struct DomainBuilder<P: Payload + ?Sized> {
     config: sys::Config,
+    recorded: Option<Room>,
     messages: PhantomData<P>,
 }
 
@@ -216,6 +227,7 @@ impl<P: Payload + ?Sized> DomainBuilder<P> {
         config.service_id = wide(service_id);
         DomainBuilder {
             config,
+            recorded: None,
             messages: PhantomData,
         }
     }
@@ -281,6 +293,13 @@ impl<P: Payload + ?Sized> DomainBuilder<P> {
         self
     }
 
+    /// Keeps a recording of the domain's first calls: as many as give this number of commands, with so
+    /// many bytes of each message. The others are 0 in it. [`Domain::recording`] gives it.
+    pub fn record(mut self, commands: usize, bytes: usize) -> Self {
+        self.recorded = Some(Room { commands, bytes });
+        self
+    }
+
     /// How many slots a publisher of the domain has. `None` where the number doesn't fit.
     #[must_use]
     pub fn worst_case_slots(&self) -> Option<usize> {
@@ -297,7 +316,7 @@ impl<P: Payload + ?Sized> DomainBuilder<P> {
     ///
     /// # Errors
     ///
-    /// [`DomainCreateError::OutOfMemory`].
+    /// See [`DomainCreateError`].
     pub fn create(self) -> Result<Domain<P>, DomainCreateError> {
         let shared = self.shared()?;
         Ok(Domain {
@@ -311,7 +330,7 @@ impl<P: Payload + ?Sized> DomainBuilder<P> {
     ///
     /// # Errors
     ///
-    /// [`DomainCreateError::OutOfMemory`].
+    /// See [`DomainCreateError`].
     pub fn create_shared(self) -> Result<SharedDomain<P>, DomainCreateError>
     where
         P: Send + Sync,
@@ -323,20 +342,24 @@ impl<P: Payload + ?Sized> DomainBuilder<P> {
     ///
     /// # Errors
     ///
-    /// [`DomainCreateError::OutOfMemory`].
+    /// See [`DomainCreateError`].
     pub fn create_with_lock<L: DomainLock>(self) -> Result<SharedDomain<P, L>, DomainCreateError>
     where
         P: Send + Sync,
     {
         let shared = self.shared()?;
         Ok(Domain {
-            hold: Arc::new(Guarded::new(shared)),
+            hold: Part::new(Arc::new(Guarded::new(shared))),
             messages: PhantomData,
         })
     }
 
     fn shared(&self) -> Result<Shared, DomainCreateError> {
-        Shared::new(&self.config).map_err(DomainCreateError::of)
+        // SAFETY: it takes no pointer.
+        if unsafe { sys::iox2ps_version() } != sys::VERSION {
+            return Err(DomainCreateError::OtherVersion);
+        }
+        Shared::new(&self.config, self.recorded).map_err(DomainCreateError::of)
     }
 }
 

@@ -61,13 +61,46 @@ macro_rules! errors {
     };
 }
 
-errors! {
-    /// Why a domain wasn't made. This library's own.
-    DomainCreateError {
-        /// Memory was refused.
-        OutOfMemory = OUT_OF_MEMORY,
+/// Why a domain wasn't made. This library's own.
+#[non_exhaustive]
+#[derive(Clone, Copy, Debug, PartialEq, Eq, Hash)]
+pub enum DomainCreateError {
+    /// Memory was refused.
+    OutOfMemory,
+    /// The program is linked to the archive of another version than that of this crate.
+    OtherVersion,
+}
+
+impl DomainCreateError {
+    pub(crate) fn of(code: u32) -> DomainCreateError {
+        match code {
+            sys::OUT_OF_MEMORY => DomainCreateError::OutOfMemory,
+            _ => unexpected(code),
+        }
+    }
+
+    /// The code of the C header, or the greatest number for `OtherVersion`, which has none.
+    #[must_use]
+    pub fn code(self) -> u32 {
+        match self {
+            DomainCreateError::OutOfMemory => sys::OUT_OF_MEMORY,
+            DomainCreateError::OtherVersion => u32::MAX,
+        }
     }
 }
+
+impl fmt::Display for DomainCreateError {
+    fn fmt(&self, f: &mut fmt::Formatter<'_>) -> fmt::Result {
+        match self {
+            DomainCreateError::OutOfMemory => f.write_str(text(self.code())),
+            DomainCreateError::OtherVersion => {
+                f.write_str("OtherVersion: the archive isn't of the crate's version")
+            }
+        }
+    }
+}
+
+impl Error for DomainCreateError {}
 
 errors! {
     /// Why a publisher wasn't made.

@@ -11,7 +11,6 @@ use std::fmt;
 use std::future::Future;
 use std::mem::MaybeUninit;
 use std::pin::Pin;
-use std::ptr::null;
 use std::sync::Arc;
 use std::task::{Context, Poll};
 
@@ -32,13 +31,13 @@ where
         &self,
         context: &mut Context<'_>,
     ) -> Poll<Result<Option<Sample<P, M>>, ReceiveError>> {
-        let (mut sample, mut start, mut len) = (MaybeUninit::uninit(), null(), 0);
+        let mut got = MaybeUninit::uninit();
         let (port, waker) = (self.port.id, context.waker());
         let code = self.hold.poll(port, Brings::ROOM, waker, |shared| {
-            receive_next(shared, &self.port, &mut sample, &mut start, &mut len)
+            receive_next(shared, &self.port, &mut got)
         });
         match code {
-            Some(code) => Poll::Ready(self.sample(code, &sample, start, len)),
+            Some(code) => Poll::Ready(self.sample(code, &got)),
             None => Poll::Pending,
         }
     }

@@ -8,6 +8,7 @@ use crate::threads::{Brings, Place, Wait, Waits};
 use crate::waiting::{Sleeper, WaitingList, Wake};
 use std::cell::UnsafeCell;
 use std::hint::spin_loop;
+use std::mem::take;
 use std::sync::atomic::{AtomicUsize, Ordering};
 use std::task::Waker;
 use std::thread::yield_now;
@@ -19,7 +20,13 @@ use std::time::Instant;
 pub struct Guarded<L> {
     lock: L,
     state: UnsafeCell<State>,
-    // What came so far: messages, and all else. These are read without the lock too.
+    changes: Changes,
+}
+
+// What came so far: messages, and all else. These are read without the lock too, and so lie apart from it.
+#[derive(Default)]
+#[repr(align(128))]
+struct Changes {
     messages: AtomicUsize,
     others: AtomicUsize,
 }
@@ -44,8 +51,7 @@ impl<L: DomainLock> Guarded<L> {
                 waiting: WaitingList::default(),
                 is_stopped: false,
             }),
-            messages: AtomicUsize::new(0),
-            others: AtomicUsize::new(0),
+            changes: Changes::default(),
         }
     }
 
@@ -59,8 +65,8 @@ impl<L: DomainLock> Guarded<L> {
     #[inline]
     fn changes(&self, what: Waits) -> &AtomicUsize {
         match what {
-            Waits::Message => &self.messages,
-            _ => &self.others,
+            Waits::Message => &self.changes.messages,
+            _ => &self.changes.others,
         }
     }
 
@@ -69,15 +75,15 @@ impl<L: DomainLock> Guarded<L> {
     fn brought(&self, state: &mut State, brings: Brings, code: u32) -> Option<Wake> {
         let brings = match code {
             sys::OK => brings,
-            sys::NO_SAMPLE => Brings::NOTHING,
+            sys::NO_SAMPLE => take(&mut state.shared.brings_too),
             _ => brought_by(brings, code),
         };
         // What may have come so far, so that one may look for it without the lock.
         if brings.meets(Brings::MESSAGE) {
-            count(&self.messages);
+            count(&self.changes.messages);
         }
         if brings.meets(Brings::OTHERS) {
-            count(&self.others);
+            count(&self.changes.others);
         }
         if state.waiting.is_empty() {
             return None;
@@ -126,8 +132,8 @@ impl<L: DomainLock> Guarded<L> {
     pub(crate) fn stop_waits(&self, is_stopped: bool) {
         let wake = self.with(|state| {
             state.is_stopped = is_stopped;
-            count(&self.messages);
-            count(&self.others);
+            count(&self.changes.messages);
+            count(&self.changes.others);
             state.waiting.bring(Brings::ALL);
             state.waiting.next(true)
         });

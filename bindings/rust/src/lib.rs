@@ -93,6 +93,7 @@ mod numbers;
 mod payload;
 mod port_factory;
 mod publisher;
+mod recording;
 mod sample;
 mod send_outcome;
 mod shared;
@@ -120,6 +121,7 @@ pub use port_factory::{
     AllocationStrategy, DegradationAction, PortFactoryPublisher, PortFactorySubscriber,
 };
 pub use publisher::{BackpressureAction, BackpressureStrategy, Publisher};
+pub use recording::Recording;
 pub use sample::Sample;
 pub use send_outcome::{BlockedSend, SendOutcome};
 pub use subscriber::{Incoming, Received, Subscriber};

@@ -34,7 +34,7 @@ impl<M: Threads> Drop for Lent<M> {
 
 impl<M: Threads> Lent<M> {
     // Leaves the loan in the domain.
-    #[inline]
+    #[inline(always)]
     fn into_hold(self) -> M::Hold {
         let this = ManuallyDrop::new(self);
         // SAFETY: the fields of `this` are never dropped, and this one is moved out once.
@@ -58,7 +58,7 @@ unsafe impl<P: Payload + ?Sized + Send + Sync, M: MayWait> Send for Loan<P, M> {
 unsafe impl<P: Payload + ?Sized + Send + Sync, M: MayWait> Sync for Loan<P, M> {}
 
 impl<P: Payload + ?Sized, M: Threads> LoanUninit<P, M> {
-    #[inline]
+    #[inline(always)]
     pub(crate) fn new(hold: M::Hold, loan: &sys::Loan, start: *mut u8, bytes: usize) -> Self {
         let payload = P::at(start, bytes).expect("a loan has room for its type");
         let lent = Lent { hold, loan: *loan };
@@ -66,7 +66,7 @@ impl<P: Payload + ?Sized, M: Threads> LoanUninit<P, M> {
     }
 
     /// Where the message is to be written.
-    #[inline]
+    #[inline(always)]
     pub fn payload_mut(&mut self) -> &mut P::Uninit {
         // SAFETY: the bytes stay where they are, and are this loan's alone until it is spent.
         unsafe { &mut *P::uninit(self.payload) }
@@ -77,7 +77,7 @@ impl<P: Payload + ?Sized, M: Threads> LoanUninit<P, M> {
     /// # Safety
     ///
     /// It is written.
-    #[inline]
+    #[inline(always)]
     pub unsafe fn assume_init(self) -> Loan<P, M> {
         Loan {
             lent: self.lent,
@@ -88,7 +88,7 @@ impl<P: Payload + ?Sized, M: Threads> LoanUninit<P, M> {
 
 impl<T: Copy + 'static, M: Threads> LoanUninit<T, M> {
     /// Writes the message.
-    #[inline]
+    #[inline(always)]
     pub fn write_payload(mut self, value: T) -> Loan<T, M> {
         self.payload_mut().write(value);
         // SAFETY: it is written.
@@ -168,12 +168,16 @@ impl<P: Payload + ?Sized, M: Threads> Loan<P, M> {
     ///
     /// See [`SendError`]. The loan is spent: with `PublisherIsBlocked` it was given back unsent, which
     /// [`send_or_keep`](Loan::send_or_keep) doesn't.
-    #[inline]
+    #[inline(always)]
     pub fn send(self) -> Result<SendOutcome<P, M>, SendError> {
         let (mut receivers, mut blocked) = (0, MaybeUninit::uninit());
         let code = self.lent.hold.call(Brings::SEND, |shared| {
             send(shared, &self.lent.loan, &mut receivers, &mut blocked)
         });
+        if code == sys::OK {
+            drop(self.lent.into_hold());
+            return Ok(SendOutcome::Delivered(receivers));
+        }
         if code == sys::PUBLISHER_IS_BLOCKED {
             return Err(SendError::PublisherIsBlocked);
         }
@@ -210,7 +214,7 @@ impl<P: Payload + ?Sized, M: Threads> Loan<P, M> {
     }
 }
 
-#[inline]
+#[inline(always)]
 fn send(
     shared: &mut Shared,
     loan: &sys::Loan,

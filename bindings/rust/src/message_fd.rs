@@ -61,7 +61,8 @@ impl MessageFd {
             Err(error) if error.kind() == ErrorKind::WouldBlock => Ok(()),
             read => read.map(drop),
         };
-        self.0.is_raised.store(false, Ordering::Release);
+        // A swap, so that what was brought by whoever found it raised is seen by the receives after this.
+        self.0.is_raised.swap(false, Ordering::AcqRel);
         read
     }
 }

@@ -6,7 +6,7 @@ use crate::payload::Payload;
 use crate::publisher::{BackpressureAction, BackpressureStrategy, Publisher};
 use crate::subscriber::Subscriber;
 use crate::sys;
-use crate::threads::{Brings, OneThread, Place, Threads};
+use crate::threads::{Brings, Hold, OneThread, Place, Threads};
 use std::fmt;
 
 /// What a port does where memory for a connection is refused.
@@ -128,7 +128,7 @@ impl<'d, P: Payload + ?Sized, M: Threads> PortFactoryPublisher<'d, P, M> {
             sys::iox2ps_publisher_create_with(shared.at(), &self.options, &mut port)
         });
         match code {
-            sys::OK => Ok(Publisher::new(hold.clone(), port)),
+            sys::OK => Ok(Publisher::new(hold.of_port(), port)),
             _ => Err(PublisherCreateError::of(code)),
         }
     }
@@ -182,7 +182,7 @@ impl<'d, P: Payload + ?Sized, M: Threads> PortFactorySubscriber<'d, P, M> {
             sys::iox2ps_subscriber_create_with(shared.at(), &self.options, &mut port)
         });
         match code {
-            sys::OK => Ok(Subscriber::new(hold.clone(), port)),
+            sys::OK => Ok(Subscriber::new(hold.of_port(), port)),
             _ => Err(SubscriberCreateError::of(code)),
         }
     }

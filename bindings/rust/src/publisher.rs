@@ -13,7 +13,7 @@ use crate::timeout::after;
 use std::fmt;
 use std::marker::PhantomData;
 use std::mem::{size_of, MaybeUninit};
-use std::ptr::null_mut;
+use std::ptr::addr_of_mut;
 use std::time::{Duration, Instant};
 
 /// What a publisher does at a full buffer, where there is no overflow.
@@ -99,13 +99,13 @@ impl<P: Payload + ?Sized, M: Threads> Publisher<P, M> {
         }
     }
 
-    #[inline]
+    #[inline(always)]
     fn lend(&self, bytes: usize) -> Result<LoanUninit<P, M>, LoanError> {
-        let (mut loan, mut start) = (MaybeUninit::uninit(), null_mut());
+        let mut lent = MaybeUninit::uninit();
         let code = self.hold.call(Brings::NOTHING, |shared| {
-            lend(shared, &self.port, bytes, &mut loan, &mut start)
+            lend(shared, &self.port, bytes, &mut lent)
         });
-        taken(&self.hold, code, &loan, start, bytes)
+        taken(&self.hold, code, &lent, bytes)
     }
 }
 
@@ -115,17 +115,17 @@ impl<P: Payload + ?Sized, M: MayWait> Publisher<P, M> {
         bytes: usize,
         until: Option<Instant>,
     ) -> Result<LoanUninit<P, M>, LoanError> {
-        let (mut loan, mut start) = (MaybeUninit::uninit(), null_mut());
+        let mut lent = MaybeUninit::uninit();
         // The update may bring a history.
         let wait = self.wait_for_loan(until, Brings::MESSAGE);
         let code = self.hold.wait(wait, |shared| {
-            let code = lend(shared, &self.port, bytes, &mut loan, &mut start);
+            let code = lend(shared, &self.port, bytes, &mut lent);
             if !update_for_slots(shared, &self.port, code) {
                 return code;
             }
-            lend(shared, &self.port, bytes, &mut loan, &mut start)
+            lend(shared, &self.port, bytes, &mut lent)
         });
-        taken(&self.hold, code, &loan, start, bytes)
+        taken(&self.hold, code, &lent, bytes)
     }
 
     fn wait_for_loan(&self, until: Option<Instant>, brings: Brings) -> Wait {
@@ -138,17 +138,25 @@ impl<P: Payload + ?Sized, M: MayWait> Publisher<P, M> {
     }
 }
 
-// Places for what a call lends. They are given one by one, since a struct of them would be written before.
-#[inline]
+// What a call writes that lends.
+struct Lent {
+    loan: sys::Loan,
+    start: *mut u8,
+}
+
+#[inline(always)]
 fn lend(
     shared: &mut Shared,
     port: &sys::Publisher,
     bytes: usize,
-    loan: &mut MaybeUninit<sys::Loan>,
-    start: &mut *mut u8,
+    lent: &mut MaybeUninit<Lent>,
 ) -> u32 {
-    // SAFETY: see `Shared::at`.
-    unsafe { sys::iox2ps_publisher_loan_uninit(shared.at(), port, bytes, loan.as_mut_ptr(), start) }
+    let lent = lent.as_mut_ptr();
+    // SAFETY: see `Shared::at`. The places are fields of what lives through the call.
+    unsafe {
+        let (loan, start) = (addr_of_mut!((*lent).loan), addr_of_mut!((*lent).start));
+        sys::iox2ps_publisher_loan_uninit(shared.at(), port, bytes, loan, start)
+    }
 }
 
 // A closed subscriber's slots come back by an update of the connections alone, which a loan doesn't make.
@@ -158,20 +166,19 @@ fn update_for_slots(shared: &mut Shared, port: &sys::Publisher, code: u32) -> bo
         && unsafe { sys::iox2ps_publisher_update_connections(shared.at(), port) } == sys::OK
 }
 
-#[inline]
+#[inline(always)]
 fn taken<P: Payload + ?Sized, M: Threads>(
     hold: &M::Hold,
     code: u32,
-    loan: &MaybeUninit<sys::Loan>,
-    start: *mut u8,
+    lent: &MaybeUninit<Lent>,
     bytes: usize,
 ) -> Result<LoanUninit<P, M>, LoanError> {
     if code != sys::OK {
         return Err(LoanError::of(code));
     }
     // SAFETY: with this code it is written.
-    let loan = unsafe { &*loan.as_ptr() };
-    Ok(LoanUninit::new(hold.clone(), loan, start, bytes))
+    let lent = unsafe { &*lent.as_ptr() };
+    Ok(LoanUninit::new(hold.clone(), &lent.loan, lent.start, bytes))
 }
 
 impl<T: Copy + 'static, M: Threads> Publisher<T, M> {
@@ -180,7 +187,7 @@ impl<T: Copy + 'static, M: Threads> Publisher<T, M> {
     /// # Errors
     ///
     /// See [`LoanError`].
-    #[inline]
+    #[inline(always)]
     pub fn loan_uninit(&self) -> Result<LoanUninit<T, M>, LoanError> {
         self.lend(size_of::<T>())
     }
@@ -221,16 +228,18 @@ fn send_copy<T: Copy + 'static>(
     receivers: &mut usize,
     blocked: &mut MaybeUninit<sys::Blocked>,
 ) -> u32 {
-    let (mut loan, mut start) = (MaybeUninit::uninit(), null_mut());
-    let code = lend(shared, port, size_of::<T>(), &mut loan, &mut start);
+    let mut lent = MaybeUninit::uninit();
+    let code = lend(shared, port, size_of::<T>(), &mut lent);
     if code != sys::OK {
         return code;
     }
-    let payload = T::at(start, size_of::<T>()).expect("a loan has room for its type");
+    // SAFETY: with this code it is written.
+    let lent = unsafe { &*lent.as_ptr() };
+    let payload = T::at(lent.start, size_of::<T>()).expect("a loan has room for its type");
     // SAFETY: the bytes are this loan's alone, which is written; and see `Shared::at`.
     unsafe {
         payload.write(value);
-        sys::iox2ps_loan_send(shared.at(), loan.as_ptr(), receivers, blocked.as_mut_ptr())
+        sys::iox2ps_loan_send(shared.at(), &lent.loan, receivers, blocked.as_mut_ptr())
     }
 }
 

@@ -5,6 +5,7 @@ use crate::header::Header;
 use crate::numbers::number;
 use crate::payload::Payload;
 use crate::shared::Shared;
+use crate::subscriber::Got;
 use crate::sys;
 use crate::threads::{Brings, MayWait, OneThread, Place, Threads};
 use std::fmt;
@@ -29,13 +30,13 @@ unsafe impl<P: Payload + ?Sized + Send + Sync, M: MayWait> Send for Sample<P, M>
 unsafe impl<P: Payload + ?Sized + Send + Sync, M: MayWait> Sync for Sample<P, M> {}
 
 impl<P: Payload + ?Sized, M: Threads> Sample<P, M> {
-    #[inline]
-    pub(crate) fn new(hold: M::Hold, sample: &sys::Sample, start: *const u8, len: usize) -> Self {
+    #[inline(always)]
+    pub(crate) fn new(hold: M::Hold, got: &Got) -> Self {
         let payload =
-            P::at(start as *mut u8, len).expect("each message of a domain is of its type");
+            P::at(got.start as *mut u8, got.len).expect("each message of a domain is of its type");
         Sample {
             hold,
-            sample: *sample,
+            sample: got.sample,
             payload,
         }
     }
@@ -96,14 +97,14 @@ impl<P: Payload + ?Sized, M: Threads> Deref for Sample<P, M> {
 }
 
 impl<P: Payload + ?Sized, M: Threads> Drop for Sample<P, M> {
-    #[inline]
+    #[inline(always)]
     fn drop(&mut self) {
         let release = |shared: &mut Shared| release(shared, &self.sample);
         expect(self.hold.call(Brings::LOAN, release));
     }
 }
 
-#[inline]
+#[inline(always)]
 pub(crate) fn release(shared: &mut Shared, sample: &sys::Sample) -> u32 {
     // SAFETY: see `Shared::at`.
     unsafe { sys::iox2ps_sample_release(shared.at(), sample) }

@@ -9,7 +9,7 @@ use crate::threads::{Brings, MayWait, OneThread, Place, Threads, Wait, Waits};
 use crate::timeout::after;
 use std::fmt;
 use std::marker::PhantomData;
-use std::mem::{ManuallyDrop, MaybeUninit};
+use std::mem::{forget, ManuallyDrop, MaybeUninit};
 use std::ptr;
 use std::time::{Duration, Instant};
 
@@ -25,10 +25,14 @@ pub enum SendOutcome<P: Payload + ?Sized, M: Threads = OneThread> {
 impl<P: Payload + ?Sized, M: Threads> SendOutcome<P, M> {
     /// How many subscribers took the message. `None` where it was blocked, and is given up by this call at
     /// every subscriber whose buffer is full.
-    #[inline]
+    #[inline(always)]
     pub fn delivered(self) -> Option<usize> {
         match self {
-            SendOutcome::Delivered(count) => Some(count),
+            SendOutcome::Delivered(count) => {
+                // It has nothing to drop, which isn't seen where this is part of a loop.
+                forget(self);
+                Some(count)
+            }
             SendOutcome::Blocked(_) => None,
         }
     }
@@ -199,7 +203,7 @@ impl<P: Payload + ?Sized, M: Threads> Drop for BlockedSend<P, M> {
 }
 
 // Of a send that returned this code.
-#[inline]
+#[inline(always)]
 pub(crate) fn outcome<P: Payload + ?Sized, M: Threads>(
     hold: &M::Hold,
     code: u32,

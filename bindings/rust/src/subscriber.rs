@@ -14,7 +14,7 @@ use std::iter::FusedIterator;
 use std::marker::PhantomData;
 use std::mem::{size_of, MaybeUninit};
 use std::ops::ControlFlow;
-use std::ptr::null;
+use std::ptr::addr_of_mut;
 use std::time::{Duration, Instant};
 
 /// Receives the messages of every publisher of its domain, until it is dropped.
@@ -51,29 +51,27 @@ impl<P: Payload + ?Sized, M: Threads> Subscriber<P, M> {
     /// # Errors
     ///
     /// See [`ReceiveError`].
-    #[inline]
+    #[inline(always)]
     pub fn receive(&self) -> Result<Option<Sample<P, M>>, ReceiveError> {
-        let (mut sample, mut start, mut len) = (MaybeUninit::uninit(), null(), 0);
+        let mut got = MaybeUninit::uninit();
         let code = self.hold.call(Brings::ROOM, |shared| {
-            receive_next(shared, &self.port, &mut sample, &mut start, &mut len)
+            receive_next(shared, &self.port, &mut got)
         });
-        self.sample(code, &sample, start, len)
+        self.sample(code, &got)
     }
 
     // What a receive has written that returned this code.
-    #[inline]
+    #[inline(always)]
     pub(crate) fn sample(
         &self,
         code: u32,
-        sample: &MaybeUninit<sys::Sample>,
-        start: *const u8,
-        len: usize,
+        got: &MaybeUninit<Got>,
     ) -> Result<Option<Sample<P, M>>, ReceiveError> {
         match code {
             sys::OK => {
                 // SAFETY: with this code it is written.
-                let sample = unsafe { &*sample.as_ptr() };
-                Ok(Some(Sample::new(self.hold.clone(), sample, start, len)))
+                let got = unsafe { &*got.as_ptr() };
+                Ok(Some(Sample::new(self.hold.clone(), got)))
             }
             sys::NO_SAMPLE => Ok(None),
             _ => Err(ReceiveError::of(code)),
@@ -193,17 +191,29 @@ impl<T: Copy + 'static, M: MayWait> Subscriber<T, M> {
     }
 }
 
-// The places are given one by one, since a struct of them would be written before.
-#[inline]
+/// What a receive writes.
+pub(crate) struct Got {
+    pub(crate) sample: sys::Sample,
+    pub(crate) start: *const u8,
+    pub(crate) len: usize,
+}
+
+#[inline(always)]
 pub(crate) fn receive_next(
     shared: &mut Shared,
     port: &sys::Subscriber,
-    sample: &mut MaybeUninit<sys::Sample>,
-    start: &mut *const u8,
-    len: &mut usize,
+    got: &mut MaybeUninit<Got>,
 ) -> u32 {
-    // SAFETY: see `Shared::at`.
-    unsafe { sys::iox2ps_subscriber_receive(shared.at(), port, sample.as_mut_ptr(), start, len) }
+    let got = got.as_mut_ptr();
+    // SAFETY: see `Shared::at`. The places are fields of what lives through the call.
+    unsafe {
+        let (sample, start, len) = (
+            addr_of_mut!((*got).sample),
+            addr_of_mut!((*got).start),
+            addr_of_mut!((*got).len),
+        );
+        sys::iox2ps_subscriber_receive(shared.at(), port, sample, start, len)
+    }
 }
 
 impl<P: Payload + ?Sized, M: MayWait> Subscriber<P, M> {
@@ -226,12 +236,12 @@ impl<P: Payload + ?Sized, M: MayWait> Subscriber<P, M> {
     }
 
     fn receive_until(&self, until: Option<Instant>) -> Result<Option<Sample<P, M>>, ReceiveError> {
-        let (mut sample, mut start, mut len) = (MaybeUninit::uninit(), null(), 0);
+        let mut got = MaybeUninit::uninit();
         let wait = self.wait_for_message(until, Brings::ROOM);
-        let code = self.hold.wait(wait, |shared| {
-            receive_next(shared, &self.port, &mut sample, &mut start, &mut len)
-        });
-        self.sample(code, &sample, start, len)
+        let code = self
+            .hold
+            .wait(wait, |shared| receive_next(shared, &self.port, &mut got));
+        self.sample(code, &got)
     }
 
     fn wait_for_message(&self, until: Option<Instant>, brings: Brings) -> Wait {
@@ -256,15 +266,20 @@ impl<P: Payload + ?Sized, M: MayWait> Subscriber<P, M> {
     ) -> Result<(), ReceiveError> {
         let mut last = None;
         loop {
-            let (mut sample, mut start, mut len) = (MaybeUninit::uninit(), null(), 0);
+            let mut got = MaybeUninit::uninit();
             let wait = self.wait_for_message(None, Brings::COPY);
             let code = self.hold.wait(wait, |shared| {
-                if let Some(sample) = last.take().map(Sample::into_number) {
-                    release(shared, &sample);
+                let ended = last.take().map(Sample::into_number);
+                if let Some(sample) = &ended {
+                    release(shared, sample);
                 }
-                receive_next(shared, &self.port, &mut sample, &mut start, &mut len)
+                let code = receive_next(shared, &self.port, &mut got);
+                if ended.is_some() && code == sys::NO_SAMPLE {
+                    shared.brings_too = Brings::LOAN;
+                }
+                code
             });
-            match self.sample(code, &sample, start, len)? {
+            match self.sample(code, &got)? {
                 Some(sample) if read(&sample).is_continue() => last = Some(sample),
                 _ => return Ok(()),
             }
@@ -338,7 +353,7 @@ pub struct Received<'s, P: Payload + ?Sized, M: Threads = OneThread> {
 impl<P: Payload + ?Sized, M: Threads> Iterator for Received<'_, P, M> {
     type Item = Result<Sample<P, M>, ReceiveError>;
 
-    #[inline]
+    #[inline(always)]
     fn next(&mut self) -> Option<Self::Item> {
         let received = self.subscriber?.receive().transpose();
         if !matches!(received, Some(Ok(_))) {

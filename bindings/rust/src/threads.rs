@@ -25,7 +25,7 @@ pub trait Threads: sealed::Sealed {
     #[doc(hidden)]
     type Place: Place;
     #[doc(hidden)]
-    type Hold: Clone + Deref<Target = Self::Place>;
+    type Hold: Hold<Target = Self::Place>;
 }
 
 /// Of [`Threads`] those whose calls may wait: [`ManyThreads`], also [`Borrowed`].
@@ -64,7 +64,7 @@ impl Threads for OneThread {
 
 impl<L: DomainLock> Threads for ManyThreads<L> {
     type Place = Guarded<L>;
-    type Hold = Arc<Guarded<L>>;
+    type Hold = Part<L>;
 }
 
 impl<'d, M: Threads> Threads for Borrowed<'d, M>
@@ -80,7 +80,7 @@ impl<'d, M: MayWait> MayWait for Borrowed<'d, M> where M::Place: 'd {}
 
 /// What a call may have brought to those who wait: a sum of these.
 #[doc(hidden)]
-#[derive(Clone, Copy, Debug, PartialEq, Eq)]
+#[derive(Clone, Copy, Debug, Default, PartialEq, Eq)]
 pub struct Brings(pub(crate) u8);
 
 impl Brings {
@@ -164,6 +164,63 @@ pub struct Wait {
     pub(crate) brings: Brings,
 }
 
+/// A part in a domain.
+#[doc(hidden)]
+pub trait Hold: Clone + Deref {
+    /// Such a part for a new port, of which its loans and samples have theirs.
+    fn of_port(&self) -> Self;
+}
+
+impl Hold for Rc<Single> {
+    fn of_port(&self) -> Self {
+        self.clone()
+    }
+}
+
+impl<P> Hold for &P {
+    fn of_port(&self) -> Self {
+        self
+    }
+}
+
+/// A counted part in a domain that threads share. Each port has a count of its own, so that threads which use different
+/// ports don't write to the same one with each message.
+#[doc(hidden)]
+#[allow(missing_debug_implementations)]
+pub struct Part<L>(Arc<Counted<L>>);
+
+// As long as what processors take from each other, and so alone in it.
+#[repr(align(128))]
+struct Counted<L>(Arc<Guarded<L>>);
+
+impl<L> Part<L> {
+    pub(crate) fn new(domain: Arc<Guarded<L>>) -> Self {
+        Part(Arc::new(Counted(domain)))
+    }
+}
+
+impl<L> Clone for Part<L> {
+    #[inline]
+    fn clone(&self) -> Self {
+        Part(self.0.clone())
+    }
+}
+
+impl<L> Deref for Part<L> {
+    type Target = Guarded<L>;
+
+    #[inline]
+    fn deref(&self) -> &Guarded<L> {
+        &self.0 .0
+    }
+}
+
+impl<L> Hold for Part<L> {
+    fn of_port(&self) -> Self {
+        Part::new(self.0 .0.clone())
+    }
+}
+
 /// Where a domain lies.
 #[doc(hidden)]
 pub trait Place {
@@ -190,7 +247,7 @@ impl Single {
 }
 
 impl Place for Single {
-    #[inline]
+    #[inline(always)]
     fn call(&self, _: Brings, calls: impl FnOnce(&mut Shared) -> u32) -> u32 {
         // SAFETY: this is the only reference: `calls` don't come back here, and no other thread has
         // a part, since this isn't `Sync`.

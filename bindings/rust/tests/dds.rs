@@ -86,7 +86,7 @@ fn polled(topic: &str) {
     let started = Instant::now();
     while gateway.peers().readers == 0 || gateway.peers().writers == 0 {
         assert!(
-            started.elapsed() < Duration::from_secs(20),
+            started.elapsed() < Duration::from_secs(60),
             "nobody is there"
         );
         gateway.wait(Duration::from_millis(20));
@@ -94,7 +94,7 @@ fn polled(topic: &str) {
     let (mut sent, mut got) = (0, 0);
     while sent < COUNT || got < COUNT {
         assert!(
-            started.elapsed() < Duration::from_secs(40),
+            started.elapsed() < Duration::from_secs(120),
             "{sent} sent, {got} came"
         );
         if sent < COUNT && gateway.forward().held == 0 {
@@ -112,7 +112,7 @@ fn polled(topic: &str) {
             assert_eq!(sample.origin(), gateway.publisher());
         }
     }
-    assert!(gateway.flush(Duration::from_secs(5)));
+    assert!(gateway.flush(Duration::from_secs(30)));
     assert_eq!(gateway.counts().sent, COUNT);
     assert_eq!(gateway.counts().received, COUNT);
 }
@@ -126,7 +126,7 @@ fn with_threads(topic: &str) {
     let started = Instant::now();
     while gateway.peers().readers == 0 || gateway.peers().writers == 0 {
         assert!(
-            started.elapsed() < Duration::from_secs(20),
+            started.elapsed() < Duration::from_secs(60),
             "nobody is there"
         );
         gateway.wait(Duration::from_millis(20));
@@ -146,9 +146,9 @@ fn with_threads(topic: &str) {
     let mut got = 0;
     while got < COUNT {
         let sample = subscriber
-            .timed_receive(Duration::from_secs(20))
+            .timed_receive(Duration::from_secs(60))
             .unwrap()
-            .expect("a message within 20 seconds");
+            .expect("a message within a minute");
         if gateway.origin(&sample).is_some() {
             got += 1;
             assert_eq!(*sample, reading(got));
@@ -156,7 +156,7 @@ fn with_threads(topic: &str) {
     }
     drop(subscriber); // its own messages still came
     drop(sender.join().unwrap());
-    assert!(gateway.flush(Duration::from_secs(5)));
+    assert!(gateway.flush(Duration::from_secs(30)));
     gateway.stop();
     assert_eq!(gateway.counts().sent, COUNT);
 }
@@ -222,7 +222,7 @@ fn a_wait_is_ended_by_another_thread() {
         thread::sleep(Duration::from_millis(100));
         waker.wake();
     });
-    gateway.wait(Duration::from_secs(20));
+    gateway.wait(Duration::from_secs(60));
     assert!(started.elapsed() < Duration::from_secs(10));
     other.join().unwrap();
 }
@@ -248,7 +248,7 @@ fn a_struct_of_cpp_comes_and_another_does_not() {
             .unwrap();
         let (mut got, started) = (0, Instant::now());
         while gateway.counts().received + gateway.counts().other_type < 50 {
-            assert!(started.elapsed() < Duration::from_secs(30));
+            assert!(started.elapsed() < Duration::from_secs(60));
             gateway.wait(Duration::from_millis(10));
             while let Some(sample) = subscriber.receive().unwrap() {
                 got += 1;

@@ -3,6 +3,7 @@
 use iox2_pubsub::{
     BackpressureStrategy, Domain, LoanError, ManyThreads, Publisher, SendError, SharedDomain,
 };
+use std::ops::ControlFlow;
 use std::sync::atomic::{AtomicUsize, Ordering};
 use std::sync::mpsc;
 use std::thread;
@@ -75,6 +76,37 @@ fn a_loan_waits_for_a_slot_that_is_released() {
     });
     publisher.send_copy(4).unwrap().delivered();
     lends_after(&publisher, || drop(subscriber));
+}
+
+// What is read where it lies is given back in the call that waits for the next: so a loan that waits for its slot goes on.
+#[test]
+fn a_loan_waits_for_a_slot_that_comes_back_while_the_next_message_is_waited_for() {
+    let domain = keeping(1);
+    let publisher = domain
+        .publisher_builder()
+        .override_sample_preallocation(|_| 1)
+        .create()
+        .unwrap();
+    let subscriber = domain.subscriber().unwrap();
+    let reads = thread::spawn(move || {
+        let mut next = 0;
+        let read = |number: &u64| {
+            assert_eq!(*number, next);
+            thread::sleep(MOMENT); // the publisher waits for the one slot
+            next += 1;
+            match next {
+                3 => ControlFlow::Break(()),
+                _ => ControlFlow::Continue(()),
+            }
+        };
+        subscriber.blocking_for_each(read).unwrap();
+        next
+    });
+    for number in 0..3 {
+        let sent = publisher.timed_send_copy(number, Duration::from_secs(10));
+        assert_eq!(sent.unwrap().delivered(), Some(1));
+    }
+    assert_eq!(reads.join().unwrap(), 3);
 }
 
 #[test]

@@ -51,13 +51,13 @@ pub fn echo_once(
         .publisher_builder()
         .backpressure_strategy(BackpressureStrategy::DiscardData)
         .create(domain)?;
-    let outcome = if refused < u64::MAX && domain.refused_connections() == refused {
-        echo_if_drained(domain, &publisher, subscriber, celsius)
-    } else {
-        Ok(None)
-    };
+    if refused < u64::MAX && domain.refused_connections() == refused {
+        let outcome = echo_if_drained(domain, &publisher, subscriber, celsius);
+        publisher.close(domain);
+        return outcome;
+    }
     publisher.close(domain);
-    outcome
+    Ok(None)
 }
 
 // Passes a reading, where nothing waits.

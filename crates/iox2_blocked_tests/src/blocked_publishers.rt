@@ -3,9 +3,9 @@ ghost use Rattle.std.specs.Prelude.{◌≡◌};
 ghost use Rattle.iox2_pubsub.specs.Live.{IsSingleValued, IsUnwritten, IsWritten, StaysBut, unwritten_loan, written_loan};
 
 use crate::waiting_publishers::{
-    assert_blocked, assert_ready, assert_single_valued, block, blocked, blocked_again,
-    close_publisher, deliver, delivered, delivered_at_last, given_up, has_blocked_send,
-    next_reading, next_readings, subscriber_of, waiting_domain, waiting_publisher,
+    assert_blocked, assert_ready, assert_single_valued, block, blocked, close_publisher, deliver,
+    delivered, delivered_at_last, has_blocked_send, next_reading, next_readings, subscriber_of,
+    waiting_domain, waiting_publisher,
 };
 use iox2_fixtures::{Reading, Station, factory_for};
 use iox2_pubsub::{BlockedSend, Domain, Publisher, SampleMut, SampleMutUninit};
@@ -150,58 +150,4 @@ fn a_loan_of_a_blocked_publisher_is_written(rt: HostRuntime) {
     assert!(rt; station == 5);
     assert!(rt; [before, after] == [true, false]);
     assert!(rt; [read, then, last] == [Some(20), Some(21), Some(23)]);
-}
-
-#[test]
-fn a_loan_of_a_blocked_publisher_is_given_back(rt: HostRuntime) {
-    let mut domain = waiting_domain(&rt, rt.alloc());
-    let subscriber = subscriber_of(&rt, &mut domain, 1);
-    subscriber.disown();
-    let publisher = waiting_publisher(&rt, &mut domain);
-    let first = deliver(&rt, &mut domain, &publisher, 20);
-    let (waiting, spare) = block_beside_a_loan(&rt, &mut domain, &publisher, 21);
-    publisher.disown();
-    let key = spare.key();
-    spare.discard(&mut domain);
-    let is_loan = domain.holds_loan(key);
-    let second = given_up(&rt, &mut domain, waiting);
-    drop(domain);
-    assert!(rt; [first, second] == [1, 0]);
-    assert!(rt; !is_loan);
-}
-
-// Two publishers wait for the same subscriber, and are tried again in the other order. Either has its
-// own room there: that there is some for the one doesn't help the other.
-#[test]
-fn two_publishers_wait_for_one_subscriber(rt: HostRuntime) {
-    let mut domain = waiting_domain(&rt, rt.alloc());
-    let subscriber = subscriber_of(&rt, &mut domain, 1);
-    let first = waiting_publisher(&rt, &mut domain);
-    let factory = domain.publisher_builder();
-    let second = factory.create(&mut domain).expect(&rt, "a publisher");
-    let first_takers = deliver(&rt, &mut domain, &first, 1);
-    let first_waits = block(&rt, &mut domain, &first, 2);
-    let both_read = next_reading(&rt, &mut domain, &subscriber);
-    let second_takers = deliver(&rt, &mut domain, &second, 4);
-    let second_waits = block(&rt, &mut domain, &second, 8);
-    let names_differ = first_waits.key() != second_waits.key();
-    let second_waits = blocked_again(&rt, &mut domain, second_waits);
-    let read = next_reading(&rt, &mut domain, &subscriber);
-    let second_retried = delivered_at_last(&rt, &mut domain, second_waits);
-    let is_blocked = [
-        has_blocked_send(&rt, &domain, &first),
-        has_blocked_send(&rt, &domain, &second),
-    ];
-    let first_retried = delivered_at_last(&rt, &mut domain, first_waits);
-    first.disown();
-    second.disown();
-    let last = sum_of(next_readings(&rt, &mut domain, &subscriber));
-    subscriber.disown();
-    drop(domain);
-    assert!(rt; [first_takers, second_takers] == [1, 1]);
-    assert!(rt; names_differ);
-    assert!(rt; [both_read, read] == [Some(1), Some(4)]);
-    assert!(rt; is_blocked == [true, false]);
-    assert!(rt; [first_retried, second_retried] == [1, 1]);
-    assert!(rt; last == 2 + 8);
 }

@@ -4,9 +4,9 @@ use crate::waiting_publishers::{
     close_subscriber, deliver, delivered, delivered_at_last, give_up, given_up, has_blocked_send,
     next_reading, subscriber_of, waiting_domain, waiting_publisher,
 };
-use iox2_fixtures::{Reading, Station, settings};
+use iox2_fixtures::{Reading, Station};
 use iox2_pubsub::{BlockedSend, Domain, LoanParts, Publisher};
-use iox2_store::{BackpressureStrategy, Key, ServiceConfig};
+use iox2_store::{BackpressureStrategy, Key};
 use std::process::Abort;
 use std::time::Duration;
 
@@ -169,45 +169,6 @@ fn a_retry_without_room_stays_blocked(rt: HostRuntime) {
     assert!(rt; [read, last, nothing] == [Some(20), Some(21), None]);
 }
 
-// Three subscribers, the second and the third of which are full. Those that took the message before
-// aren't served again.
-#[test]
-fn a_retry_goes_on_where_the_send_waits(rt: HostRuntime) {
-    let mut domain = waiting_domain(&rt, rt.alloc());
-    let wide = subscriber_of(&rt, &mut domain, 2);
-    let second = subscriber_of(&rt, &mut domain, 1);
-    let third = subscriber_of(&rt, &mut domain, 1);
-    let publisher = waiting_publisher(&rt, &mut domain);
-    let to_all = deliver(&rt, &mut domain, &publisher, 20);
-    let waiting = block(&rt, &mut domain, &publisher, 21);
-    publisher.disown();
-    let before = [
-        next_reading(&rt, &mut domain, &wide),
-        next_reading(&rt, &mut domain, &wide),
-        next_reading(&rt, &mut domain, &second),
-    ];
-    let waiting = blocked_again(&rt, &mut domain, waiting);
-    let between = [
-        next_reading(&rt, &mut domain, &wide),
-        next_reading(&rt, &mut domain, &second),
-        next_reading(&rt, &mut domain, &third),
-    ];
-    let takers = delivered_at_last(&rt, &mut domain, waiting);
-    let after = [
-        next_reading(&rt, &mut domain, &wide),
-        next_reading(&rt, &mut domain, &second),
-        next_reading(&rt, &mut domain, &third),
-    ];
-    wide.disown();
-    second.disown();
-    third.disown();
-    drop(domain);
-    assert!(rt; [to_all, takers] == [3, 3]);
-    assert!(rt; before == [Some(20), Some(21), Some(20)]);
-    assert!(rt; between == [None, Some(21), Some(20)]);
-    assert!(rt; after == [None, None, Some(21)]);
-}
-
 #[test]
 fn giving_up_passes_a_full_subscriber_over(rt: HostRuntime) {
     let mut domain = waiting_domain(&rt, rt.alloc());
@@ -238,58 +199,6 @@ fn giving_up_passes_a_full_subscriber_over(rt: HostRuntime) {
     assert!(rt; [to_all, takers] == [3, 1]);
     assert!(rt; names_the_same && !is_blocked);
     assert!(rt; read == [Some(20), None, Some(20), None, Some(20), Some(21)]);
-}
-
-#[test]
-fn a_closed_subscriber_blocks_no_more(rt: HostRuntime) {
-    let mut domain = waiting_domain(&rt, rt.alloc());
-    let wide = subscriber_of(&rt, &mut domain, 2);
-    let narrow = subscriber_of(&rt, &mut domain, 1);
-    let publisher = waiting_publisher(&rt, &mut domain);
-    let to_both = deliver(&rt, &mut domain, &publisher, 20);
-    let waiting = block(&rt, &mut domain, &publisher, 21);
-    close_subscriber(&rt, &mut domain, narrow);
-    let is_blocked = has_blocked_send(&rt, &domain, &publisher);
-    let takers = delivered_at_last(&rt, &mut domain, waiting);
-    let waiting = block(&rt, &mut domain, &publisher, 22);
-    publisher.disown();
-    let read = [
-        next_reading(&rt, &mut domain, &wide),
-        next_reading(&rt, &mut domain, &wide),
-    ];
-    let later = delivered_at_last(&rt, &mut domain, waiting);
-    let last = next_reading(&rt, &mut domain, &wide);
-    wide.disown();
-    drop(domain);
-    assert!(rt; is_blocked);
-    assert!(rt; [to_both, takers, later] == [2, 1, 1]);
-    assert!(rt; read == [Some(20), Some(21)]);
-    assert!(rt; last == Some(22));
-}
-
-// With overflow a full subscriber loses its oldest message, whatever the publisher's strategy.
-#[test]
-fn nothing_blocks_where_buffers_overflow(rt: HostRuntime) {
-    let config = ServiceConfig {
-        enable_safe_overflow: true,
-        ..settings()
-    };
-    let mut domain: Domain<Reading, Station> = Domain::new(rt.alloc(), config).expect(
-        &rt, "a domain",
-    );
-    let subscriber = subscriber_of(&rt, &mut domain, 1);
-    let publisher = waiting_publisher(&rt, &mut domain);
-    let first = deliver(&rt, &mut domain, &publisher, 20);
-    let second = deliver(&rt, &mut domain, &publisher, 21);
-    let is_blocked = has_blocked_send(&rt, &domain, &publisher);
-    publisher.disown();
-    let read = next_reading(&rt, &mut domain, &subscriber);
-    let nothing = next_reading(&rt, &mut domain, &subscriber);
-    subscriber.disown();
-    drop(domain);
-    assert!(rt; [first, second] == [1, 1]);
-    assert!(rt; !is_blocked);
-    assert!(rt; [read, nothing] == [Some(21), None]);
 }
 
 // The domain keeps a send whose handle is gone, and nothing ends it.

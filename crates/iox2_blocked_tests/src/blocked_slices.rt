@@ -32,6 +32,7 @@ fn assert_sliced(rt: &impl Abort, domain: &Domain<u64, u64>)
     let config = domain.config();
     assert!(rt; matches!(config.variant, TypeVariant::Dynamic));
     assert!(rt; config.units_per_element == 1);
+    assert!(rt; config.lists_cells);
 }
 
 // Asserts that the publisher is one of the domain's that has no blocked send.

@@ -9,8 +9,6 @@ mod blocked_sends;
 #[cfg(test)]
 mod blocked_slices;
 #[cfg(test)]
-mod blocked_slots;
-#[cfg(test)]
 mod boxes;
 #[cfg(test)]
 mod fickle;

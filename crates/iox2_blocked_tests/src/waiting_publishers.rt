@@ -7,9 +7,7 @@ ghost use Rattle.std.specs.declared.result.Result.TheVariants.{Ok};
 ghost use Rattle.iox2_pubsub.specs.Live.{IsBlockedSend, IsLiveSubscriber, IsReadyPublisher, IsSingleValued, Stays};
 
 use iox2_fixtures::{Reading, Station, settings};
-use iox2_pubsub::{
-    BlockedSend, Domain, LoanError, Publisher, Sample, SendError, SendOutcome, Subscriber,
-};
+use iox2_pubsub::{BlockedSend, Domain, Publisher, Sample, SendError, SendOutcome, Subscriber};
 use iox2_store::{ServiceConfig, TypeVariant};
 use std::alloc::Global;
 use std::process::Abort;
@@ -212,17 +210,6 @@ pub(crate) fn given_up(
     delivered(rt, give_up(rt, domain, waiting))
 }
 
-/// Sends a message that one subscriber isn't given, since it is full. Returns how many took it.
-pub(crate) fn send_past(
-    rt: &impl Abort,
-    domain: &mut Domain<Reading, Station>,
-    publisher: &Publisher,
-    celsius: u64,
-) -> usize {
-    let waiting = block(rt, domain, publisher, celsius);
-    given_up(rt, domain, waiting)
-}
-
 /// Receives a message, which waits.
 pub(crate) fn take(
     rt: &impl Abort,
@@ -264,19 +251,6 @@ pub(crate) fn next_readings(
     let third = next_reading(rt, domain, subscriber);
     let fourth = next_reading(rt, domain, subscriber);
     [first, second, third, fourth]
-}
-
-/// Asks for a loan, which isn't used.
-pub(crate) fn lend_one(
-    rt: &impl Abort,
-    domain: &mut Domain<Reading, Station>,
-    publisher: &Publisher,
-) -> Result<(), LoanError> {
-    assert_single_valued(rt, domain);
-    assert_ready(rt, domain, publisher);
-    let loan = publisher.loan_uninit(domain)?;
-    loan.disown();
-    Ok(())
 }
 
 /// Closes a publisher that has no blocked send.

@@ -1,9 +1,9 @@
 -- A domain of bytes.
-use Rattle.std.specs.Prelude.{ℕ, ◌≡◌}
+use Rattle.std.specs.Prelude.{ℕ, false, ◌≡◌}
 use Rattle.iox2_store.specs.declared.service_config.TypeVariant.TheVariants.{Dynamic}
 use Rattle.iox2_domain.specs.Kept.{Kept}
 use Rattle.iox2_pubsub.specs.Live.{Item, StaysBut}
-use Rattle.iox2_pubsub.specs.Slices.{IsSliced}
+use Rattle.iox2_pubsub.specs.Slices.{HoldsSlices}
 use Rattle.iox2_c.specs.declared.handlers.NoHandler.{NoHandler}
 
 -- What a domain of bytes keeps: no user headers, and no boxes of handlers.
@@ -16,11 +16,12 @@ pub record Serving : Type 0 where
   pub payload_size : ℕ
   pub payload_alignment : ℕ
 
--- Each message is a slice of bytes.
+-- Each message is a slice of bytes, whose cells aren't handed out.
 pub record IsOfBytes (domain : KeptBytes) : Type 0 where
   pub dynamic : (domain.config).variant ≡ Dynamic
   pub one_unit : (domain.config).units_per_element ≡ 1
-  pub sliced : IsSliced domain
+  pub lists_no_cells : (domain.config).lists_cells ≡ false
+  pub sliced : HoldsSlices domain
 
 -- All that was live stays but for the item, and the lengths and alignments stay.
 pub record ServesBut (spent : Item) (old new : Serving) : Type 0 where

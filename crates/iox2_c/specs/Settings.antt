@@ -1,5 +1,5 @@
 -- The settings that C may choose.
-use Rattle.std.specs.Prelude.{ℕ, ◌≡◌, ◌<◌, ◌%◌, ◌⊎◌, not, nat_eq}
+use Rattle.std.specs.Prelude.{ℕ, false, ◌≡◌, ◌<◌, ◌%◌, ◌⊎◌, not, nat_eq}
 use Rattle.iox2_store.specs.declared.service_config.ServiceConfig.{ServiceConfig}
 use Rattle.iox2_store.specs.declared.service_config.TypeVariant.TheVariants.{Dynamic}
 use Rattle.iox2_store.specs.declared.allocation.AllocationStrategy.TheVariants.{Static}
@@ -23,13 +23,14 @@ pub record AreValid (config : Config) : Type 0 where
   pub whole : config.payload_size % config.payload_alignment ≡ 0
   pub strategy : config.backpressure_strategy < 2
 
--- The settings of the domain: of slices of bytes.
+-- The settings of the domain: of slices of bytes, whose cells aren't handed out.
 abbrev pub settings_of : Config → ServiceConfig
 settings_of it = record {
   service_id = wide it.service_id;
   node_id = wide it.node_id;
   variant = Dynamic;
   units_per_element = 1;
+  lists_cells = false;
   max_publishers = it.max_publishers;
   max_subscribers = it.max_subscribers;
   subscriber_max_buffer_size = it.subscriber_max_buffer_size;

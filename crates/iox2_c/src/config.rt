@@ -1,5 +1,5 @@
 //! The settings of a domain.
-ghost use Rattle.std.specs.Prelude.{◌≡◌, ◌<◌, ◌↔◌, IsTrue};
+ghost use Rattle.std.specs.Prelude.{◌≡◌, ◌<◌, ◌↔◌, false, IsTrue};
 ghost use Rattle.iox2_store.specs.Defaults.{default_config};
 ghost use Rattle.iox2_store.specs.declared.allocation.AllocationStrategy.TheVariants.{Static};
 ghost use Rattle.iox2_store.specs.declared.service_config.TypeVariant.TheVariants.{Dynamic};
@@ -44,7 +44,7 @@ pub struct Config {
 impl Config {
     /// The defaults of a domain with this id, for messages of so many bytes.
     pub fn defaults(service_id: u128, payload_size: usize, payload_alignment: usize) -> Config
-        ensures settings { settings_of result ≡ record (default_config service_id) { variant = Dynamic } }
+        ensures settings { settings_of result ≡ record (default_config service_id) { variant = Dynamic; lists_cells = false } }
         ensures size { result.payload_size ≡ payload_size }
         ensures alignment { result.payload_alignment ≡ payload_alignment }
     {
@@ -57,7 +57,7 @@ impl Config {
 
     /// The settings of a domain for messages of so many bytes.
     pub fn of(config: &ServiceConfig, payload_size: usize, payload_alignment: usize) -> Config
-        ensures settings { settings_of result ≡ record (config.now) { variant = Dynamic; units_per_element = 1; publisher_allocation_strategy = Static } }
+        ensures settings { settings_of result ≡ record (config.now) { variant = Dynamic; units_per_element = 1; lists_cells = false; publisher_allocation_strategy = Static } }
         ensures size { result.payload_size ≡ payload_size }
         ensures alignment { result.payload_alignment ≡ payload_alignment }
     {
@@ -87,6 +87,7 @@ impl Config {
             node_id: self.node_id.get(),
             variant: TypeVariant::Dynamic,
             units_per_element: 1,
+            lists_cells: false,
             max_publishers: self.max_publishers,
             max_subscribers: self.max_subscribers,
             subscriber_max_buffer_size: self.subscriber_max_buffer_size,

@@ -14,6 +14,7 @@ mod handlers;
 mod loose;
 mod numbers;
 mod options;
+mod recording;
 mod service;
 mod starts;
 mod status;

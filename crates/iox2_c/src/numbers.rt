@@ -7,7 +7,7 @@ ghost use Rattle.iox2_pubsub.specs.Live.{lender_key};
 ghost use Rattle.iox2_pubsub.specs.Parts.{loan_named, publisher_named, sample_named, subscriber_named};
 
 use crate::config::{strategy_number, strategy_of};
-use iox2_pubsub::{Header, LoanParts, PublisherParts, SampleParts, SubscriberParts};
+use iox2_pubsub::{Header, Key, LoanParts, PublisherParts, SampleParts, SubscriberParts};
 
 const HALF: u128 = 0x1_0000_0000_0000_0000;
 
@@ -242,6 +242,25 @@ impl SampleNumbers {
         }
     }
 
+    /// The numbers of a sample that the subscriber with these numbers received. The service's and the
+    /// subscriber's are taken from there.
+    pub fn received_by(receiver: &SubscriberNumbers, parts: &SampleParts) -> SampleNumbers
+        requires service { parts.now.service_id ≡ wide (receiver.now).service_id }
+        requires subscriber { parts.now.subscriber ≡ wide (receiver.now).id }
+        ensures named { named_sample result ≡ sample_named parts.now }
+        ensures origin { wide result.origin ≡ parts.now.origin }
+    {
+        SampleNumbers {
+            service_id: receiver.service_id.copied(),
+            origin: Wide::of(parts.origin),
+            subscriber: receiver.id.copied(),
+            number: Wide::of(parts.number),
+            connection: parts.connection,
+            book: parts.book,
+            slot: parts.slot,
+        }
+    }
+
     /// The same for a domain.
     pub fn parts(&self) -> SampleParts
         ensures { sample_named result ≡ named_sample self.now }
@@ -254,6 +273,17 @@ impl SampleNumbers {
             connection: self.connection,
             book: self.book,
             slot: self.slot,
+        }
+    }
+
+    /// The key that they name.
+    pub fn key(&self) -> Key
+        ensures { result ≡ named_sample self.now }
+    {
+        Key {
+            service_id: self.service_id.get(),
+            port: self.subscriber.get(),
+            message: self.number.get(),
         }
     }
 }

@@ -2,6 +2,7 @@
 
 use crate::config::Config;
 use crate::handlers::NoHandler;
+use crate::recording::{Recording, Room};
 use iox2_pubsub::Domain;
 use std::alloc::Global;
 use std::marker::Model;
@@ -18,6 +19,8 @@ pub struct Service {
     pub payload_size: usize,
     /// To what each payload is aligned: 1, 2, 4, 8 or 16.
     pub payload_alignment: usize,
+    /// What is recorded of it.
+    pub recording: Recording,
 }
 
 impl Model for Service {
@@ -36,8 +39,9 @@ impl Service {
     ghost use Rattle.iox2_domain.specs.Shows.{Shows};
     ghost use Rattle.iox2_c.specs.Settings.{settings_of};
 
-    /// A domain with these settings. `None` where memory is refused.
-    pub fn new(alloc: Global, config: &Config) -> Option<Service>
+    /// A domain with these settings, which is recorded where there is room for that. `None` where
+    /// memory is refused.
+    pub fn new(alloc: Global, config: &Config, room: Option<Room>) -> Option<Service>
         ensures fresh { IfSome result (λ it. Shows it.domain no_messages (fresh (settings_of config.now))) }
         ensures size { IfSome result (λ it. it.payload_size ≡ config.now.payload_size) }
         ensures alignment { IfSome result (λ it. it.payload_alignment ≡ config.now.payload_alignment) }
@@ -47,6 +51,7 @@ impl Service {
             domain,
             payload_size: config.payload_size,
             payload_alignment: config.payload_alignment,
+            recording: Recording::new(alloc, room)?,
         })
     }
 }

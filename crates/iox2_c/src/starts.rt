@@ -11,14 +11,28 @@ const NOTHING: &u8 = &0;
 pub fn start_of(bytes: &[u8]) -> *const u8 {
     match bytes.first() {
         Some(first) => ptr::from_ref(first),
-        None => ptr::from_ref(NOTHING),
+        None => nowhere(),
     }
+}
+
+// Where no bytes lie. Few messages have none, so it is out of the way of those that have.
+#[cold]
+#[inline(never)]
+fn nowhere() -> *const u8 {
+    ptr::from_ref(NOTHING)
 }
 
 /// The same of bytes that may be written.
 pub fn start_to_write(bytes: &[u8]) -> *mut u8 {
     match bytes.first() {
         Some(first) => NonNull::from_ref(first).as_ptr(),
-        None => NonNull::from_ref(NOTHING).as_ptr(),
+        None => nowhere_to_write(),
     }
+}
+
+// The same.
+#[cold]
+#[inline(never)]
+fn nowhere_to_write() -> *mut u8 {
+    NonNull::from_ref(NOTHING).as_ptr()
 }

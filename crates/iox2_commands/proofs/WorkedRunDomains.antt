@@ -1,5 +1,5 @@
 -- The services of the worked runs, and a run as a list of its steps.
-use Rattle.std.proofs.Common.{◌≡◌, ℕ, Bool, refl}
+use Rattle.std.proofs.Common.{◌≡◌, ℕ, Bool, true, refl}
 use Rattle.iox2_store.specs.declared.service_config.ServiceConfig.{ServiceConfig}
 use Rattle.iox2_store.specs.declared.service_config.TypeVariant.TheVariants.{FixedSize, Dynamic}
 use Rattle.iox2_store.specs.declared.allocation.AllocationStrategy.TheVariants.{Static}
@@ -12,6 +12,7 @@ domain publishers subscribers buffer borrows history expired overflow = record {
   node_id = 1;
   variant = FixedSize;
   units_per_element = 1;
+  lists_cells = true;
   max_publishers = publishers;
   max_subscribers = subscribers;
   subscriber_max_buffer_size = buffer;

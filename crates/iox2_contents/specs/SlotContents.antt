@@ -7,13 +7,15 @@ use Rattle.std.specs.declared.option.Option.TheVariants.{None, Some}
 use Rattle.std.specs.Option.{option_map, option_map_or, option_and_then}
 
 -- What lies in a slot: a user header, the cells of an unwritten loan, the values of a written loan or a sent message, for
--- how many elements there is room, and whether a single element lies in the slot itself, so that it is no list.
+-- how many elements there is room, whether a single element lies in the slot itself, so that it is no list, and whether
+-- cells can be handed out as a list.
 pub record ContentState (T U : Type 0) : Type 0 where
   pub user_header : U
   pub cells : List (Option T)
   pub values : List T
   pub room : ℕ
   pub is_in_place : Bool
+  pub lists_cells : Bool
 
 -- The list with f of the element at index i in its place.
 abbrev pub with_changed : {A : Type 0} → List A → (i : ℕ) → (A → A) → List A
@@ -76,20 +78,24 @@ module _ {T U : Type 0} where
   abbrev pub first_value_at : List (ContentState T U) → (slot : ℕ) → Option T
   first_value_at contents slot = option_and_then (λ content. slice_get content.values 0) (slice_get contents slot)
 
-  -- So many slots more stand behind the old ones, each with room for so many elements, which lie in lists where they are to.
-  pub record AddsSlots (old new : List (ContentState T U)) (more room : ℕ) (in_lists : Bool) : Type 0 where
+  -- So many slots more stand behind the old ones, each with room for so many elements, which lie in lists where they are to,
+  -- and whose cells can be handed out where they are to be.
+  pub record AddsSlots (old new : List (ContentState T U)) (more room : ℕ) (in_lists lists_cells : Bool) : Type 0 where
     pub added : List (ContentState T U)
     pub count : length added ≡ more
     pub rooms : All (λ content. content.room ≡ room) added
     pub forms : in_lists ≡ true → All (λ content. content.is_in_place ≡ false) added
+    pub cells : in_lists ≡ true → lists_cells ≡ true → All (λ content. content.lists_cells ≡ true) added
     pub grown : new ≡ old ++ added
 
-  -- The content of a slot became another one, which lies in place or in lists as it did. Nothing else changes.
+  -- The content of a slot became another one, which lies in place or in lists as it did, and lists its cells where it did.
+  -- Nothing else changes.
   pub record ClearsSlot (old new : List (ContentState T U)) (slot : ℕ) : Type 0 where
     pub content : ContentState T U
     pub had : ContentState T U
     pub there : slice_get old slot ≡ Some had
     pub form : content.is_in_place ≡ had.is_in_place
+    pub cells : had.lists_cells ≡ true → content.lists_cells ≡ true
     pub cleared : new ≡ slice_set old slot content
 
   -- In the slot starts a loan of that length, with a default user header. Nothing else changes.

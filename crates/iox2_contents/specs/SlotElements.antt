@@ -1,15 +1,16 @@
 -- The elements of a payload that isn't a single value, which no public contract shows.
-use Rattle.std.specs.Prelude.{ℕ, List, [], length, replicate, slice_set}
+use Rattle.std.specs.Prelude.{ℕ, Bool, List, [], length, replicate, slice_set}
 use Rattle.std.specs.List.{refill}
 use Rattle.std.specs.declared.option.Option.{Option}
 use Rattle.std.specs.declared.option.Option.TheVariants.{None}
 
--- The cells of an unwritten loan, the values of a written loan or a sent message, and for how many elements there is
--- room.
+-- The cells of an unwritten loan, the values of a written loan or a sent message, for how many elements there is room,
+-- and whether there is room to list the cells of them all.
 pub record ElementLists (T : Type 0) : Type 0 where
   pub cells : List (Option T)
   pub values : List T
   pub room : ℕ
+  pub lists_cells : Bool
 
 module _ {T : Type 0} where
   -- So many unwritten cells, and no values.

@@ -34,6 +34,13 @@ module _ {T : Type 0} where
   is_in_place (Written value) = true
   is_in_place (Elements elements) = false
 
+  -- The cells of a payload can be listed, however many it has.
+  abbrev pub lists_cells : Payload T → Bool
+  lists_cells Empty = false
+  lists_cells (Unwritten cell) = false
+  lists_cells (Written value) = false
+  lists_cells (Elements elements) = elements.value.lists_cells
+
   -- The payload with its first cell changed.
   abbrev pub with_first_cell : (cell : Option T) → Payload T → Payload T
   with_first_cell cell Empty = Empty

@@ -1,7 +1,7 @@
--- For how many elements the slots have room, which no public contract shows.
-use Rattle.std.specs.Prelude.{◌≡◌, ◌≤◌, ℕ, false}
+-- Which unwritten cells a slot may have to show, which no public contract shows.
+use Rattle.std.specs.Prelude.{◌≡◌, ◌≤◌, ℕ, true}
 use Rattle.iox2_contents.specs.SlotContents.{ContentState}
 
--- A slot whose elements lie in lists has room for at most so many.
+-- So many cells are enough to be shown as those of a slot whose cells can be handed out.
 abbrev pub RoomIsAtMost : {T U : Type 0} → (most : ℕ) → ContentState T U → Type 0
-RoomIsAtMost most content = content.is_in_place ≡ false → content.room ≤ most
+RoomIsAtMost most content = content.lists_cells ≡ true → content.room ≤ most

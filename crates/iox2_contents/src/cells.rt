@@ -10,7 +10,8 @@ use std::marker::Model;
 /// The cells of an unwritten loan, and none where there is no such loan.
 ///
 /// They are listed once a reference is handed out by which they may be written. Until then a loan is
-/// but their number, and shows cells that all loans of its publisher share.
+/// but their number, and shows cells that all loans of its publisher share. Where there is room for one
+/// cell alone, that one is listed from the start, and the others never are.
 #[derive(Drop)]
 pub(crate) struct Cells<T> {
     listed: Vec<Option<T>>,
@@ -19,7 +20,7 @@ pub(crate) struct Cells<T> {
 }
 
 impl<T> Model for Cells<T> {
-    ghost use Rattle.std.specs.Prelude.{◌≡◌, ◌<◌, ◌≤◌, ◌+◌, [], ◌++◌, Option, None, length, replicate, vec_capacity};
+    ghost use Rattle.std.specs.Prelude.{◌≡◌, ◌<◌, ◌≤◌, ◌+◌, ◌^◌, [], ◌++◌, Option, None, length, replicate, vec_capacity};
     ghost use Rattle.iox2_contents.specs.RoomLists.{RoomList};
 
     ghost Value = { RoomList (Option T) };
@@ -29,9 +30,11 @@ impl<T> Model for Cells<T> {
       room = vec_capacity cells.listed;
     } };
 
-    // There is room to list the cells. All of them are listed or none is.
-    ghost invariant = { λ cells. (length cells.listed.items + cells.unlisted ≤ vec_capacity cells.listed)
-        × (0 < cells.unlisted → cells.listed.items ≡ []) };
+    // Where there is room to list the cells, all of them are listed or none is. None is only where there
+    // is room for more than one.
+    ghost invariant = { λ cells. (length cells.listed.items + cells.unlisted < 2 ^ 64)
+        × (length cells.listed.items + cells.unlisted ≤ vec_capacity cells.listed → 0 < cells.unlisted → cells.listed.items ≡ [])
+        × (0 < cells.unlisted → cells.listed.items ≡ [] → 1 < vec_capacity cells.listed) };
 }
 
 impl<T: Drop> Cells<T> {
@@ -48,11 +51,15 @@ impl<T: Drop> Cells<T> {
 
     /// So many unwritten cells, in place of those that were there.
     pub(crate) fn start(&mut self, len: usize)
-        requires { len ≤ self.old.room }
+        requires { 0 < len → 0 < self.old.room }
         ensures { self.new ≡ with_items (replicate len None) self.old }
     {
-        self.clear();
         self.unlisted = len;
+        self.listed.clear();
+        if len > 0 && self.listed.capacity() == 1 {
+            self.listed.push_reserved(None);
+            self.unlisted = len - 1;
+        }
     }
 
     /// Drops the cells. Returns how many there were.
@@ -100,8 +107,23 @@ impl<T> Cells<T> {
         self.unlisted == 0 && self.listed.iter().all(|cell| cell.is_some())
     }
 
-    /// The cells. Where they aren't listed they are as many of the unwritten ones.
+    /// The first cell. Where it isn't listed it is one of the unwritten ones.
+    pub(crate) fn cell<'a>(&'a self, unwritten: &'a [Option<T>]) -> &'a Option<T>
+        requires first { 0 < length self.now.items }
+        requires unwritten { unwritten.now ≡ replicate (length unwritten.now) None }
+        requires enough { 1 < self.now.room → 0 < length unwritten.now }
+        ensures { slice_get self.now.items 0 ≡ Some result.now }
+    {
+        if self.listed.is_empty() {
+            return &unwritten[0];
+        }
+        &self.listed[0]
+    }
+
+    /// The cells, which there is room to list. Where they aren't listed they are as many of the
+    /// unwritten ones.
     pub(crate) fn cells<'a>(&'a self, unwritten: &'a [Option<T>]) -> &'a [Option<T>]
+        requires fit { length self.now.items ≤ self.now.room }
         requires unwritten { unwritten.now ≡ replicate (length unwritten.now) None }
         requires enough { length self.now.items ≤ length unwritten.now }
         ensures { result.now ≡ self.now.items }
@@ -112,19 +134,23 @@ impl<T> Cells<T> {
         &unwritten[..self.unlisted]
     }
 
-    /// The first cell, to be changed.
+    /// The first cell, to be changed. As many are listed as there is room for.
     pub(crate) fn cell_mut(&mut self) -> &mut Option<T>
-        requires { 0 < length self.old.items }
+        requires first { 0 < length self.old.items }
+        requires room { 0 < self.old.room }
         ensures* writes_back { sem 𝓛 (LendsCell T.row self.entry result) }
         ensures value { slice_get self.old.items 0 ≡ Some result.now }
     {
-        push_unwritten(&mut self.listed, self.unlisted);
-        self.unlisted = 0;
+        let free = self.listed.capacity() - self.listed.len();
+        let count = self.unlisted.min(free);
+        push_unwritten(&mut self.listed, count);
+        self.unlisted -= count;
         &mut self.listed[0]
     }
 
-    /// The cells, to be changed.
+    /// The cells, to be changed, which there is room to list.
     pub(crate) fn cells_mut(&mut self) -> &mut [Option<T>]
+        requires { length self.old.items ≤ self.old.room }
         ensures* writes_back { sem 𝓛 (LendsCells T.row self.entry result) }
         ensures value { result.now ≡ self.old.items }
     {

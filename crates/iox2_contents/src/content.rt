@@ -22,7 +22,7 @@ pub(crate) struct Content<T, U> {
 
 impl<T, U> Model for Content<T, U> {
     ghost use Rattle.iox2_contents.specs.SlotContents.{ContentState};
-    ghost use Rattle.iox2_contents.specs.SlotPayload.{cells_of, values_of, room_of, is_in_place};
+    ghost use Rattle.iox2_contents.specs.SlotPayload.{cells_of, values_of, room_of, is_in_place, lists_cells};
 
     ghost Value = { ContentState T U };
 
@@ -32,21 +32,31 @@ impl<T, U> Model for Content<T, U> {
       values = values_of content.payload;
       room = room_of content.payload;
       is_in_place = is_in_place content.payload;
+      lists_cells = lists_cells content.payload;
     } };
 }
 
 impl<T: Drop, U: Default + Drop> Content<T, U> {
-    /// The content of a slot that has no message yet, with room for so many elements. A single one
-    /// lies in place, but where it is to be in a list.
-    pub(crate) fn new(alloc: Global, room: usize, in_lists: bool) -> Result<Self, AllocError>
+    /// The content of a slot that has no message yet, with room for so many elements, and for so many
+    /// listed cells. A single one lies in place, but where it is to be in a list.
+    pub(crate) fn new(
+        alloc: Global,
+        room: usize,
+        in_lists: bool,
+        cell_room: usize,
+    ) -> Result<Self, AllocError>
+        requires first { 0 < room → 0 < cell_room }
+        requires all { 1 < cell_room → room ≤ cell_room }
         ensures default { IfOk result (λ content. U.is_default content.user_header) }
         ensures cells { IfOk result (λ content. content.cells ≡ []) }
         ensures values { IfOk result (λ content. content.values ≡ []) }
         ensures room { IfOk result (λ content. content.room ≡ room) }
         ensures in_lists { IfOk result (λ content. in_lists ≡ true → content.is_in_place ≡ false) }
         ensures in_place { IfOk result (λ content. content.is_in_place ≡ false → room ≡ 1 → in_lists ≡ true) }
+        ensures lists_cells { IfOk result (λ content. content.lists_cells ≡ true → (content.is_in_place ≡ false) × (room ≤ cell_room)) }
+        ensures all_cells { IfOk result (λ content. content.is_in_place ≡ false → room ≤ cell_room → content.lists_cells ≡ true) }
     {
-        let payload = Payload::new(alloc, room, in_lists)?;
+        let payload = Payload::new(alloc, room, in_lists, cell_room)?;
         Ok(Content {
             user_header: U::default(),
             payload,
@@ -67,6 +77,8 @@ impl<T: Drop, U: Default + Drop> Content<T, U> {
     /// Drops what the slot had, and gives up its room.
     pub(crate) fn clear(&mut self, alloc: Global)
         ensures in_place { self.new.is_in_place ≡ self.old.is_in_place }
+        ensures lists_cells { self.old.lists_cells ≡ true → self.new.lists_cells ≡ true }
+        ensures empty { self.new.lists_cells ≡ true → self.new.room ≡ 0 }
         ensures room { self.new.room ≤ self.old.room }
     {
         self.user_header = U::default();
@@ -137,19 +149,20 @@ impl<T, U> Content<T, U> {
     }
 
     /// The first cell of a loan that isn't written, given as many unwritten ones as there is room for
-    /// in lists.
+    /// where the cells can be listed.
     pub(crate) fn cell<'a>(&'a self, unwritten: &'a [Option<T>]) -> &'a Option<T>
         requires first { 0 < length self.now.cells }
         requires unwritten { unwritten.now ≡ replicate (length unwritten.now) None }
-        requires enough { self.now.is_in_place ≡ false → self.now.room ≤ length unwritten.now }
+        requires enough { self.now.lists_cells ≡ true → self.now.room ≤ length unwritten.now }
         ensures { slice_get self.now.cells 0 ≡ Some result.now }
     {
         self.payload.cell(unwritten)
     }
 
-    /// The cells, and none once they are written, given as many unwritten ones as there is room for.
+    /// The cells, which can be listed, and none once they are written, given as many unwritten ones as
+    /// there is room for.
     pub(crate) fn cells<'a>(&'a self, unwritten: &'a [Option<T>]) -> &'a [Option<T>]
-        requires in_lists { self.now.is_in_place ≡ false }
+        requires listed { self.now.lists_cells ≡ true }
         requires unwritten { unwritten.now ≡ replicate (length unwritten.now) None }
         requires enough { self.now.room ≤ length unwritten.now }
         ensures { result.now ≡ self.now.cells }
@@ -190,9 +203,9 @@ impl<T, U> Content<T, U> {
         self.payload.cell_mut()
     }
 
-    /// The cells, to be changed.
+    /// The cells, which can be listed, to be changed.
     pub(crate) fn cells_mut(&mut self) -> &mut [Option<T>]
-        requires { self.old.is_in_place ≡ false }
+        requires { self.old.lists_cells ≡ true }
         ensures* writes_back { sem 𝓛 (LendsCells T.row U.row self.entry result) }
         ensures value { result.now ≡ self.old.cells }
     {

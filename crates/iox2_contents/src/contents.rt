@@ -33,7 +33,7 @@ impl<T, U> Model for Contents<T, U> {
 
     ghost view = { λ contents. contents.slots.items };
 
-    // The longest loan may show unwritten cells.
+    // The longest loan whose cells can be handed out may show unwritten cells.
     ghost invariant = { λ contents. (contents.unwritten.items ≡ replicate (length contents.unwritten.items) None)
         × All (RoomIsAtMost (length contents.unwritten.items)) contents.slots.items };
 }
@@ -41,19 +41,32 @@ impl<T, U> Model for Contents<T, U> {
 impl<T: Drop, U: Default + Drop> Contents<T, U> {
     /// The contents of so many slots, each with room for so many elements. Each has a default user
     /// header, no cells and no values. With room for one element a slot has it in place, and else in
-    /// lists of its own. Fails where memory runs out; but for `grow` no other call on contents takes
-    /// memory.
-    pub fn new(alloc: Global, slots: usize, room: usize, in_lists: bool) -> Result<Self, AllocError>
+    /// lists of its own.
+    ///
+    /// Where lists of cells are to be handed out (`lists_cells`) there is room to list them too, of an
+    /// `Option` for each element and slot, and as many for all loans of a slot that haven't listed
+    /// theirs. Else there is room for one cell in each slot.
+    ///
+    /// Fails where memory runs out; but for `grow` no other call on contents takes memory.
+    pub fn new(
+        alloc: Global,
+        slots: usize,
+        room: usize,
+        in_lists: bool,
+        lists_cells: bool,
+    ) -> Result<Self, AllocError>
         ensures len { IfOk result (λ contents. length contents ≡ slots) }
         ensures default { IfOk result (All (λ content. U.is_default content.user_header)) }
         ensures empty { IfOk result (All (λ content. (content.cells ≡ []) × (content.values ≡ []))) }
         ensures room { IfOk result (All (λ content. content.room ≡ room)) }
         ensures in_lists { IfOk result (All (λ content. in_lists ≡ true → content.is_in_place ≡ false)) }
+        ensures lists_cells { IfOk result (All (λ content. in_lists ≡ true → lists_cells ≡ true → content.lists_cells ≡ true)) }
     {
-        let unwritten = unwritten_cells(alloc, room, in_lists)?;
+        let cell_room = room_for_cells(room, lists_cells);
+        let unwritten = unwritten_cells(alloc, room, in_lists, cell_room)?;
         let mut contents = Vec::with_capacity(alloc, slots)?;
         for _ in 0..slots {
-            contents.push_reserved(Content::new(alloc, room, in_lists)?);
+            contents.push_reserved(Content::new(alloc, room, in_lists, cell_room)?);
         }
         Ok(Contents {
             slots: contents,
@@ -61,19 +74,20 @@ impl<T: Drop, U: Default + Drop> Contents<T, U> {
         })
     }
 
-    /// So many slots more, each with room for so many elements, behind those that are there. Fails
-    /// where memory is refused; the contents then stay as they are.
+    /// So many slots more, each with room for so many elements, behind those that are there, as `new`
+    /// makes them. Fails where memory is refused; the contents then stay as they are.
     pub fn grow(
         &mut self,
         alloc: Global,
         more: usize,
         room: usize,
         in_lists: bool,
+        lists_cells: bool,
     ) -> Result<(), AllocError>
-        ensures grown { OnOk result (AddsSlots self.old self.new more room in_lists) }
+        ensures grown { OnOk result (AddsSlots self.old self.new more room in_lists lists_cells) }
         ensures refused { OnErr result (self.new ≡ self.old) }
     {
-        let mut added = Contents::new(alloc, more, room, in_lists)?;
+        let mut added = Contents::new(alloc, more, room, in_lists, lists_cells)?;
         self.slots.append(&mut added.slots)?;
         if self.unwritten.len() < added.unwritten.len() {
             mem::swap(&mut self.unwritten, &mut added.unwritten);
@@ -149,16 +163,27 @@ impl<T: Copy + Default + Drop, U: Default + Drop> Contents<T, U> {
     }
 }
 
-// As many unwritten cells as a loan may have, and none where it has one in its slot.
+// For how many cells a slot has room in a list.
+fn room_for_cells(room: usize, lists_cells: bool) -> usize
+    ensures all { lists_cells ≡ true → room ≤ result }
+    ensures first { 0 < room → 0 < result }
+    ensures whole { 1 < result → room ≤ result }
+{
+    if lists_cells { room } else { 1 }
+}
+
+// As many unwritten cells as a loan may have to show: none where it can't hand them out, or has one in
+// its slot.
 fn unwritten_cells<T: Drop>(
     alloc: Global,
     room: usize,
     in_lists: bool,
+    cell_room: usize,
 ) -> Result<Vec<Option<T>>, AllocError>
     ensures unwritten { IfOk result (λ cells. cells.items ≡ replicate (length cells.items) None) }
-    ensures enough { IfOk result (λ cells. (room ≡ 1 → in_lists ≡ true) → length cells.items ≡ room) }
+    ensures enough { IfOk result (λ cells. room ≤ cell_room → (room ≡ 1 → in_lists ≡ true) → length cells.items ≡ room) }
 {
-    if room == 1 && !in_lists {
+    if cell_room < room || room == 1 && !in_lists {
         return Ok(Vec::new(alloc));
     }
     let mut cells = Vec::with_capacity(alloc, room)?;
@@ -185,10 +210,10 @@ impl<T, U> Contents<T, U> {
         self.slots[slot].cell(self.unwritten.as_slice())
     }
 
-    /// The cells of the slot's loan, and none once it is written. A cell that lies in place is
-    /// read by `cell`.
+    /// The cells of the slot's loan, and none once it is written, in contents that list cells. The
+    /// first cell is read by `cell` in any.
     pub fn cells(&self, slot: usize) -> &[Option<T>]
-        requires { SomeAt self.now slot (λ content. content.is_in_place ≡ false) }
+        requires { SomeAt self.now slot (λ content. content.lists_cells ≡ true) }
         ensures { cells_at self.now slot ≡ Some result.now }
     {
         self.slots[slot].cells(self.unwritten.as_slice())
@@ -229,9 +254,10 @@ impl<T, U> Contents<T, U> {
         self.slots[slot].cell_mut()
     }
 
-    /// The cells of the slot's loan, to be changed, and none once it is written.
+    /// The cells of the slot's loan, to be changed, and none once it is written, in contents that list
+    /// cells.
     pub fn cells_mut(&mut self, slot: usize) -> &mut [Option<T>]
-        requires { SomeAt self.old slot (λ content. content.is_in_place ≡ false) }
+        requires { SomeAt self.old slot (λ content. content.lists_cells ≡ true) }
         ensures* writes_back { sem 𝓛 (LendsCells T.row U.row self.entry slot result) }
         ensures value { cells_at self.old slot ≡ Some result.now }
     {

@@ -1,5 +1,5 @@
 //! The elements of a payload that isn't a single value.
-ghost use Rattle.std.specs.Prelude.{◌≡◌, ◌<◌, ◌≤◌, [], ◌∷◌, length, map, replicate, slice_get, true, false, None, Some, IfOk, is_some};
+ghost use Rattle.std.specs.Prelude.{◌≡◌, ◌<◌, ◌≤◌, [], ◌∷◌, length, map, replicate, slice_get, true, false, None, Some, IfOk, is_some, nat_le};
 ghost use Rattle.std.specs.Borrow.{sem};
 ghost use Rattle.std.specs.List.{list_all};
 ghost use Rattle.iox2_contents.specs.SlotCalls.{AnswersInOrder};
@@ -19,7 +19,7 @@ pub(crate) struct Elements<T> {
 }
 
 impl<T> Model for Elements<T> {
-    ghost use Rattle.std.specs.Prelude.{◌≤◌, length, min};
+    ghost use Rattle.std.specs.Prelude.{◌≤◌, ◌<◌, length, nat_le};
     ghost use Rattle.iox2_contents.specs.SlotElements.{ElementLists};
 
     ghost Value = { ElementLists T };
@@ -27,21 +27,28 @@ impl<T> Model for Elements<T> {
     ghost view = { λ elements. record {
       cells = elements.cells.items;
       values = elements.values.items;
-      room = min elements.cells.room elements.values.room;
+      room = elements.values.room;
+      lists_cells = nat_le elements.values.room elements.cells.room;
     } };
 
-    // The cells of a loan fit, and so do its values once it is written.
-    ghost invariant = { λ elements. (length elements.cells.items ≤ elements.cells.room) × (length elements.cells.items ≤ elements.values.room) };
+    // There is room for the values of a loan once it is written, for its first cell, and for all its
+    // cells where there is for more than one.
+    ghost invariant = { λ elements. (length elements.cells.items ≤ elements.values.room)
+        × (0 < elements.values.room → 0 < elements.cells.room)
+        × (1 < elements.cells.room → elements.values.room ≤ elements.cells.room) };
 }
 
 impl<T: Drop> Elements<T> {
-    /// No elements, with room for so many.
-    pub(crate) fn new(alloc: Global, room: usize) -> Result<Self, AllocError>
+    /// No elements, with room for so many, and for so many listed cells.
+    pub(crate) fn new(alloc: Global, room: usize, cell_room: usize) -> Result<Self, AllocError>
+        requires first { 0 < room → 0 < cell_room }
+        requires all { 1 < cell_room → room ≤ cell_room }
         ensures cells { IfOk result (λ elements. elements.cells ≡ []) }
         ensures values { IfOk result (λ elements. elements.values ≡ []) }
         ensures room { IfOk result (λ elements. elements.room ≡ room) }
+        ensures lists_cells { IfOk result (λ elements. elements.lists_cells ≡ nat_le room cell_room) }
     {
-        let cells = Cells::new(alloc, room)?;
+        let cells = Cells::new(alloc, cell_room)?;
         let values = Values::new(alloc, room)?;
         Ok(Elements { cells, values })
     }
@@ -58,7 +65,8 @@ impl<T: Drop> Elements<T> {
 
     /// Drops what was there, with its memory.
     pub(crate) fn give_up(&mut self, alloc: Global)
-        ensures { self.new.room ≡ 0 }
+        ensures room { self.new.room ≡ 0 }
+        ensures lists_cells { self.new.lists_cells ≡ true }
     {
         self.cells.give_up(alloc);
         self.values.give_up(alloc);
@@ -126,8 +134,19 @@ impl<T: Copy + Default + Drop> Elements<T> {
 impl<T> Elements<T> {
     ghost use Rattle.iox2_contents.specs.ElementLends.{LendsCell, LendsCells, LendsValue, LendsValues};
 
-    /// The cells, given as many unwritten ones as there is room for.
+    /// The first cell, given as many unwritten ones as there is room for where the cells can be listed.
+    pub(crate) fn cell<'a>(&'a self, unwritten: &'a [Option<T>]) -> &'a Option<T>
+        requires first { 0 < length self.now.cells }
+        requires unwritten { unwritten.now ≡ replicate (length unwritten.now) None }
+        requires enough { self.now.lists_cells ≡ true → self.now.room ≤ length unwritten.now }
+        ensures { slice_get self.now.cells 0 ≡ Some result.now }
+    {
+        self.cells.cell(unwritten)
+    }
+
+    /// The cells, which can be listed, given as many unwritten ones as there is room for.
     pub(crate) fn cells<'a>(&'a self, unwritten: &'a [Option<T>]) -> &'a [Option<T>]
+        requires listed { self.now.lists_cells ≡ true }
         requires unwritten { unwritten.now ≡ replicate (length unwritten.now) None }
         requires enough { self.now.room ≤ length unwritten.now }
         ensures { result.now ≡ self.now.cells }
@@ -151,8 +170,9 @@ impl<T> Elements<T> {
         self.cells.cell_mut()
     }
 
-    /// The cells, to be changed.
+    /// The cells, which can be listed, to be changed.
     pub(crate) fn cells_mut(&mut self) -> &mut [Option<T>]
+        requires { self.old.lists_cells ≡ true }
         ensures* writes_back { sem 𝓛 (LendsCells T.row self.entry result) }
         ensures value { result.now ≡ self.old.cells }
     {

@@ -1,9 +1,9 @@
 //! The payload of one slot.
-ghost use Rattle.std.specs.Prelude.{◌≡◌, ◌<◌, ◌≤◌, [], ◌∷◌, length, map, replicate, slice_get, true, false, Some, None, IfOk, is_some};
+ghost use Rattle.std.specs.Prelude.{◌≡◌, ◌<◌, ◌≤◌, [], ◌∷◌, length, map, replicate, slice_get, true, false, Some, None, IfOk, is_some, nat_le};
 ghost use Rattle.std.specs.Borrow.{sem};
 ghost use Rattle.std.specs.List.{list_all};
 ghost use Rattle.iox2_contents.specs.SlotCalls.{AnswersInOrder};
-ghost use Rattle.iox2_contents.specs.SlotPayload.{cells_of, values_of, room_of, is_in_place};
+ghost use Rattle.iox2_contents.specs.SlotPayload.{cells_of, values_of, room_of, is_in_place, lists_cells};
 
 use crate::elements::Elements;
 use std::alloc::{AllocError, Global};
@@ -22,19 +22,28 @@ pub(crate) enum Payload<T> {
 }
 
 impl<T: Drop> Payload<T> {
-    /// No elements, with room for so many. A single one lies in place, for which no memory is
-    /// taken, but where it is to be in a list.
-    pub(crate) fn new(alloc: Global, room: usize, in_lists: bool) -> Result<Self, AllocError>
+    /// No elements, with room for so many, and for so many listed cells. A single one lies in place,
+    /// for which no memory is taken, but where it is to be in a list.
+    pub(crate) fn new(
+        alloc: Global,
+        room: usize,
+        in_lists: bool,
+        cell_room: usize,
+    ) -> Result<Self, AllocError>
+        requires first { 0 < room → 0 < cell_room }
+        requires all { 1 < cell_room → room ≤ cell_room }
         ensures cells { IfOk result (λ payload. cells_of payload ≡ []) }
         ensures values { IfOk result (λ payload. values_of payload ≡ []) }
         ensures room { IfOk result (λ payload. room_of payload ≡ room) }
         ensures in_lists { IfOk result (λ payload. in_lists ≡ true → is_in_place payload ≡ false) }
         ensures in_place { IfOk result (λ payload. is_in_place payload ≡ false → room ≡ 1 → in_lists ≡ true) }
+        ensures lists_cells { IfOk result (λ payload. lists_cells payload ≡ true → (is_in_place payload ≡ false) × (room ≤ cell_room)) }
+        ensures all_cells { IfOk result (λ payload. is_in_place payload ≡ false → room ≤ cell_room → lists_cells payload ≡ true) }
     {
         if room == 1 && !in_lists {
             return Ok(Payload::Empty);
         }
-        let elements = Elements::new(alloc, room)?;
+        let elements = Elements::new(alloc, room, cell_room)?;
         Ok(Payload::Elements(Box::new(alloc, elements)?))
     }
 
@@ -46,6 +55,7 @@ impl<T: Drop> Payload<T> {
         ensures values { values_of self.new ≡ [] }
         ensures room { room_of self.new ≡ room_of self.old }
         ensures in_place { is_in_place self.new ≡ is_in_place self.old }
+        ensures lists_cells { lists_cells self.new ≡ lists_cells self.old }
     {
         match self {
             Payload::Elements(elements) => elements.start(len),
@@ -57,6 +67,8 @@ impl<T: Drop> Payload<T> {
     /// Drops what was there, and gives up the room of lists.
     pub(crate) fn clear(&mut self, alloc: Global)
         ensures in_place { is_in_place self.new ≡ is_in_place self.old }
+        ensures lists_cells { lists_cells self.old ≡ true → lists_cells self.new ≡ true }
+        ensures empty { lists_cells self.new ≡ true → room_of self.new ≡ 0 }
         ensures room { room_of self.new ≤ room_of self.old }
     {
         match self {
@@ -72,6 +84,7 @@ impl<T: Drop> Payload<T> {
         ensures values { values_of self.new ≡ value ∷ [] }
         ensures room { room_of self.new ≡ room_of self.old }
         ensures in_place { is_in_place self.new ≡ is_in_place self.old }
+        ensures lists_cells { lists_cells self.new ≡ lists_cells self.old }
     {
         match self {
             Payload::Elements(elements) => elements.write(value),
@@ -89,6 +102,7 @@ impl<T: Drop> Payload<T> {
         ensures cells { cells_of self.new ≡ [] }
         ensures room { room_of self.new ≡ room_of self.old }
         ensures in_place { is_in_place self.new ≡ is_in_place self.old }
+        ensures lists_cells { lists_cells self.new ≡ lists_cells self.old }
     {
         match self {
             Payload::Elements(elements) => elements.write_from_fn(f),
@@ -105,6 +119,7 @@ impl<T: Drop> Payload<T> {
         ensures cells { result ≡ true → cells_of self.new ≡ [] }
         ensures room { room_of self.new ≡ room_of self.old }
         ensures in_place { is_in_place self.new ≡ is_in_place self.old }
+        ensures lists_cells { lists_cells self.new ≡ lists_cells self.old }
     {
         match self {
             Payload::Elements(elements) => elements.assume_init(),
@@ -129,6 +144,7 @@ impl<T: Copy + Drop> Payload<T> {
         ensures values { values_of self.new ≡ values.now }
         ensures room { room_of self.new ≡ room_of self.old }
         ensures in_place { is_in_place self.new ≡ is_in_place self.old }
+        ensures lists_cells { lists_cells self.new ≡ lists_cells self.old }
     {
         match self {
             Payload::Elements(elements) => elements.write_from_slice(values),
@@ -145,6 +161,7 @@ impl<T: Copy + Default + Drop> Payload<T> {
         ensures cells { cells_of self.new ≡ [] }
         ensures room { room_of self.new ≡ room_of self.old }
         ensures in_place { is_in_place self.new ≡ is_in_place self.old }
+        ensures lists_cells { lists_cells self.new ≡ lists_cells self.old }
     {
         match self {
             Payload::Elements(elements) => elements.write_unspecified(),
@@ -163,23 +180,24 @@ impl<T> Payload<T> {
         !matches!(self, Payload::Elements(_))
     }
 
-    /// The first cell, given as many unwritten ones as there is room for in lists.
+    /// The first cell, given as many unwritten ones as there is room for where the cells can be listed.
     pub(crate) fn cell<'a>(&'a self, unwritten: &'a [Option<T>]) -> &'a Option<T>
         requires first { 0 < length (cells_of self.now) }
         requires unwritten { unwritten.now ≡ replicate (length unwritten.now) None }
-        requires enough { is_in_place self.now ≡ false → room_of self.now ≤ length unwritten.now }
+        requires enough { lists_cells self.now ≡ true → room_of self.now ≤ length unwritten.now }
         ensures { slice_get (cells_of self.now) 0 ≡ Some result.now }
     {
         match self {
             Payload::Unwritten(cell) => cell,
-            Payload::Elements(elements) => &elements.cells(unwritten)[0],
+            Payload::Elements(elements) => elements.cell(unwritten),
             Payload::Empty | Payload::Written(_) => unreachable!(),
         }
     }
 
-    /// The cells, and none once they are written, given as many unwritten ones as there is room for.
+    /// The cells, which can be listed, and none once they are written, given as many unwritten ones as
+    /// there is room for.
     pub(crate) fn cells<'a>(&'a self, unwritten: &'a [Option<T>]) -> &'a [Option<T>]
-        requires in_lists { is_in_place self.now ≡ false }
+        requires listed { lists_cells self.now ≡ true }
         requires unwritten { unwritten.now ≡ replicate (length unwritten.now) None }
         requires enough { room_of self.now ≤ length unwritten.now }
         ensures { result.now ≡ cells_of self.now }
@@ -197,8 +215,22 @@ impl<T> Payload<T> {
     {
         match self {
             Payload::Written(value) => value,
+            _ => self.listed_value(),
+        }
+    }
+
+    // The first value of a list. It stands apart, so that a read of a value in place has no join with it
+    // (docs/decisions/cost.md, "A call goes on where its look-up ended").
+    #[cold]
+    #[inline(never)]
+    fn listed_value(&self) -> &T
+        requires first { 0 < length (values_of self.now) }
+        requires in_lists { is_in_place self.now ≡ false }
+        ensures { slice_get (values_of self.now) 0 ≡ Some result.now }
+    {
+        match self {
             Payload::Elements(elements) => &elements.values()[0],
-            Payload::Empty | Payload::Unwritten(_) => unreachable!(),
+            _ => unreachable!(),
         }
     }
 
@@ -251,9 +283,9 @@ impl<T> Payload<T> {
         }
     }
 
-    /// The cells, to be changed.
+    /// The cells, which can be listed, to be changed.
     pub(crate) fn cells_mut(&mut self) -> &mut [Option<T>]
-        requires { is_in_place self.old ≡ false }
+        requires { lists_cells self.old ≡ true }
         ensures* writes_back { sem 𝓛 (LendsCells T.row self.entry result) }
         ensures value { result.now ≡ cells_of self.old }
     {

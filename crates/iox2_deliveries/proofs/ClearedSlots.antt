@@ -1,5 +1,5 @@
 -- The slots of a book that nobody holds are cleared, and more slots stand behind them.
-use Rattle.std.proofs.Common.{◌≡◌, ℕ, ◌+◌, ◌-◌, ◌<◌, List, length, Bool, false, get_or, refl, ap, sym, subst, ◌∙◌, inl, inr, arith}
+use Rattle.std.proofs.Common.{◌≡◌, ℕ, ◌+◌, ◌-◌, ◌<◌, List, length, Bool, true, false, get_or, refl, ap, sym, subst, ◌∙◌, inl, inr, arith}
 use Rattle.std.proofs.lemmas.Bool.{cases_eq}
 use Rattle.std.proofs.lemmas.List.{length-append, length-set}
 use Rattle.std.proofs.lemmas.List.Elements.{All-append, All-set}
@@ -16,7 +16,7 @@ use Rattle.iox2_domain.proofs.lemmas.slots.Messages.{in_use_within}
 module _ {T U : Type 0} (b : Book) (end : ℕ) where
   -- nothing is cleared yet
   pub clears-none : (contents : List (ContentState T U)) → ClearsUnused b end contents contents
-  clears-none contents = record { count = refl; kept = λ slot either. refl; forms = λ all. all }
+  clears-none contents = record { count = refl; kept = λ slot either. refl; forms = λ all. all; cells = λ all. all }
 
   -- one slot more is cleared
   pub clears-next : (old mid new : List (ContentState T U)) (slot : ℕ) → ClearsUnused b end old mid → holders_at b slot ≡ 0 → slot < end → ClearsSlot mid new slot → ClearsUnused b end old new
@@ -36,15 +36,22 @@ module _ {T U : Type 0} (b : Book) (end : ℕ) where
         let had : (clears.had).is_in_place ≡ false = ap (λ (c : ContentState T U). c.is_in_place) (sym (get_or_from_slice_get mid slot clears.had clears.had clears.there)) ∙ was in
         subst (All (λ content. content.is_in_place ≡ false)) (sym clears.cleared)
         (All-set (λ (content : ContentState T U). content.is_in_place ≡ false) mid slot clears.content (clears.form ∙ had) mids);
+    cells = λ all.
+        let mids : All (λ content. content.lists_cells ≡ true) mid = before.cells all in
+        let within : slot < length mid = slice_get_within mid slot clears.had clears.there in
+        let was : (get_or mid slot clears.had).lists_cells ≡ true = mids slot clears.had within in
+        let had : (clears.had).lists_cells ≡ true = ap (λ (c : ContentState T U). c.lists_cells) (sym (get_or_from_slice_get mid slot clears.had clears.had clears.there)) ∙ was in
+        subst (All (λ content. content.lists_cells ≡ true)) (sym clears.cleared)
+        (All-set (λ (content : ContentState T U). content.lists_cells ≡ true) mid slot clears.content (clears.cells had) mids);
   }
 
-module _ {T U : Type 0} (b : Book) (old mid new : List (ContentState T U)) (more units : ℕ) (in_lists : Bool) (shaped : length old ≡ length b.holders)
-    (adds : AddsSlots old mid more units in_lists) (clears : ClearsUnused b (length b.holders) mid new) where
+module _ {T U : Type 0} (b : Book) (old mid new : List (ContentState T U)) (more units : ℕ) (in_lists lists_cells : Bool) (shaped : length old ≡ length b.holders)
+    (adds : AddsSlots old mid more units in_lists lists_cells) (clears : ClearsUnused b (length b.holders) mid new) where
   long : length mid ≡ length old + more
   long = ap length adds.grown ∙ length-append old adds.added ∙ ap (λ n. length old + n) adds.count
 
   -- the contents have more slots
-  pub grows-contents : GrowsContents b more units in_lists old new
+  pub grows-contents : GrowsContents b more units in_lists lists_cells old new
   grows-contents = record {
     count = clears.count ∙ long;
     kept = λ slot held.
@@ -64,4 +71,7 @@ module _ {T U : Type 0} (b : Book) (old mid new : List (ContentState T U)) (more
     forms = λ lists all. clears.forms
         (subst (All (λ content. content.is_in_place ≡ false)) (sym adds.grown)
         (All-append (λ (content : ContentState T U). content.is_in_place ≡ false) old adds.added all (adds.forms lists)));
+    cells = λ lists listed all. clears.cells
+        (subst (All (λ content. content.lists_cells ≡ true)) (sym adds.grown)
+        (All-append (λ (content : ContentState T U). content.lists_cells ≡ true) old adds.added all (adds.cells lists listed)));
   }

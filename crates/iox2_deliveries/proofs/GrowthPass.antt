@@ -79,12 +79,12 @@ module _ {T U : Type 0} (before f : Fields T U) (same : f ≡ before) (agrees : 
 
   -- ---- the publisher has a further segment
 
-  pub grew : (x0 : PublisherFields) → get_or before.publishers i None ≡ Some x0 → (start longest : ℕ) (book book' : Book) (cs cs' : List (ContentState T U)) (units : ℕ) (in_lists : Bool)
+  pub grew : (x0 : PublisherFields) → get_or before.publishers i None ≡ Some x0 → (start longest : ℕ) (book book' : Book) (cs cs' : List (ContentState T U)) (units : ℕ) (in_lists lists_cells : Bool)
       → get f.books x.book ≡ Some book → book' ≡ with_more_slots x.slots book → (o : Option (List (ContentState T U))) → o ≡ get_or f.contents x.book o → o ≡ Some cs
-      → GrowsContents book x.slots units in_lists cs cs' → units ≡ max 1 longest * (f.config).units_per_element → in_lists ≡ not (is_single_valued f.config)
+      → GrowsContents book x.slots units in_lists lists_cells cs cs' → units ≡ max 1 longest * (f.config).units_per_element → in_lists ≡ not (is_single_valued f.config) → lists_cells ≡ (f.config).lists_cells
       → start ≡ length book.holders → segment_fits f.config z.slots longest ≡ true → z.segment_length ≤ longest
       → Grows before i x0 longest (record f { books = with_value f.books x.book book'; contents = slice_set f.contents x.book (Some cs'); publishers = slice_set f.publishers i (Some (with_segment start longest x)) })
-  grew x0 at0 start longest book book' cs cs' units in_lists its is o read there grows units-are lists first fits longer =
+  grew x0 at0 start longest book book' cs cs' units in_lists lists_cells its is o read there grows units-are lists listed first fits longer =
       subst (λ (y : PublisherFields). Grows before i y longest new) (is-given x0 at0) (subst (λ (h : Fields T U). Grows h i x longest new) same here)
     where
       new : Fields T U
@@ -102,8 +102,9 @@ module _ {T U : Type 0} (before f : Fields T U) (same : f ≡ before) (agrees : 
         contents = cs;
         had = stood;
         grown = cs';
-        grows = subst (λ (b : Bool). GrowsContents book x.slots (slot_length longest * (f.config).units_per_element) b cs cs') lists
-            (subst (λ (n : ℕ). GrowsContents book x.slots n in_lists cs cs') units-are grows);
+        grows = subst (λ (b : Bool). GrowsContents book x.slots (slot_length longest * (f.config).units_per_element) b (f.config).lists_cells cs cs') lists
+            (subst (λ (b : Bool). GrowsContents book x.slots (slot_length longest * (f.config).units_per_element) in_lists b cs cs') listed
+            (subst (λ (n : ℕ). GrowsContents book x.slots n in_lists lists_cells cs cs') units-are grows));
         fits = subst (λ (y : PublisherFields). segment_fits f.config y.slots longest ≡ true) (sym view) fits;
         longer = subst (λ (y : PublisherFields). y.segment_length ≤ longest) (sym view) longer;
         is = λ t. record f {

@@ -1,5 +1,5 @@
 //! What lies in slots, to be changed.
-ghost use Rattle.std.specs.Prelude.{◌≡◌, ◌<◌, None, Some, length, false, slice_index_or, IsSome};
+ghost use Rattle.std.specs.Prelude.{◌≡◌, ◌<◌, None, Some, length, false, slice_index_or, true, IsSome};
 ghost use Rattle.std.specs.Borrow.{sem};
 ghost use Rattle.slab.specs.Slab.{get};
 ghost use Rattle.iox2_slots.specs.SlotBook.{Book};
@@ -74,12 +74,12 @@ pub fn value_at_mut<T: Drop, U: Default + Drop>(
     contents_mut(state, at.book).value_mut(at.slot)
 }
 
-/// The cells in a slot, to be changed.
+/// The cells in a slot, to be changed, where they are handed out.
 pub fn cells_at_mut<T: Drop, U: Default + Drop>(
     state: &mut DomainState<T, U>,
     at: MessageSlot,
 ) -> &mut [Option<T>]
-    requires { HasContentIn state.old at.book at.slot (λ content. content.is_in_place ≡ false) }
+    requires { HasContentIn state.old at.book at.slot (λ content. content.lists_cells ≡ true) }
     ensures* writes_back { sem 𝓛 (LendsCells T.row U.row state.entry at.book at.slot result) }
     ensures value { cells_at (contents_at state.old.contents at.book) at.slot ≡ Some result.now }
 {

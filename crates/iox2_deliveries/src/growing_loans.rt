@@ -18,6 +18,7 @@ use iox2_store::LoanError;
 
 /// What `loan` does for a publisher whose memory grows: the loan lies in the current segment, or in
 /// a new one where that is too short or has no free slot.
+#[cold]
 #[inline(never)]
 pub(crate) fn loan_growing<T: Drop, U: Default + Drop>(
     state: &mut DomainState<T, U>,

@@ -47,8 +47,17 @@ pub(crate) fn grow<T: Drop, U: Default + Drop>(
     };
     let room = units_of(longest.max(1), state.config.units_per_element);
     let in_lists = !state.config.is_single_valued();
+    let lists_cells = state.config.lists_cells;
     let book = &mut state.books[key];
-    let Ok(start) = add_slots(state.alloc, book, contents, slots, room, in_lists) else {
+    let Ok(start) = add_slots(
+        state.alloc,
+        book,
+        contents,
+        slots,
+        room,
+        in_lists,
+        lists_cells,
+    ) else {
         return Err(LoanError::InternalFailure);
     };
     publisher.segment_start = start;
@@ -81,16 +90,17 @@ fn add_slots<T: Drop, U: Default + Drop>(
     more: usize,
     room: usize,
     in_lists: bool,
+    lists_cells: bool,
 ) -> Result<usize, AllocError>
     requires { length contents.old ≡ length book.old.holders }
     ensures start { IfOk result (λ start. start ≡ length book.old.holders) }
     ensures book { OnOk result (book.new ≡ with_more_slots more book.old) }
-    ensures contents { OnOk result (GrowsContents book.old more room in_lists contents.old contents.new) }
+    ensures contents { OnOk result (GrowsContents book.old more room in_lists lists_cells contents.old contents.new) }
     ensures same_book { OnErr result (book.new ≡ book.old) }
     ensures same_contents { OnErr result (contents.new ≡ contents.old) }
 {
     let grown = book.grown(alloc, more)?;
-    contents.grow(alloc, more, room, in_lists)?;
+    contents.grow(alloc, more, room, in_lists, lists_cells)?;
     let start = book.len();
     clear_unused(alloc, book, contents);
     *book = grown;

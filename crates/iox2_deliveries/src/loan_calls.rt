@@ -1,5 +1,5 @@
 //! Calls on a loan that is out.
-ghost use Rattle.std.specs.Prelude.{◌≡◌, false, List, ◌∷◌, [], Some, length, map};
+ghost use Rattle.std.specs.Prelude.{◌≡◌, true, false, List, ◌∷◌, [], Some, length, map};
 ghost use Rattle.iox2_store.specs.SingleValues.{is_single_valued};
 ghost use Rattle.iox2_contents.specs.SlotCalls.{AnswersInOrder};
 ghost use Rattle.iox2_store.specs.machine.Records.{Loan};
@@ -85,8 +85,7 @@ fn write_slot<T: Drop, U: Default + Drop>(
 }
 
 /// Writes into each cell of a publisher's unwritten loan what the function returns for its index. It
-/// is called for 0, 1 and so on, in this order. The loan counts as written from then on. Returns it
-/// with its book and the slot in which it lies.
+/// is called for 0, 1 and so on, in this order. The loan counts as written from then on. Returns it.
 pub fn write_loan_from_fn<T: Drop, U: Default + Drop, F: FnMut(usize) -> T + Drop>(
     state: &mut DomainState<T, U>,
     loan: LoanAt,
@@ -99,10 +98,52 @@ pub fn write_loan_from_fn<T: Drop, U: Default + Drop, F: FnMut(usize) -> T + Dro
     ensures writes { (answers : List T) × AnswersInOrder F.step f answers × WritesLoan state.old state.new loan.number answers }
     ensures same { result ≡ record loan { book = result.book; slot = result.slot } }
 {
-    let at = state.find_live_loan(&loan);
-    mark_written(state, at);
-    contents_mut(state, at.book).write_from_fn(at.slot, f);
-    found(loan, at)
+    if state.is_loan_at_hint(&loan) {
+        write_slot_from_fn(state, loan.publisher, loan.number, loan.book, loan.slot, f);
+    } else {
+        search_and_write_from_fn(state, loan.publisher, loan.number, f);
+    }
+    loan
+}
+
+// The same, wherever the loan lies.
+#[cold]
+#[inline(never)]
+fn search_and_write_from_fn<T: Drop, U: Default + Drop, F: FnMut(usize) -> T + Drop>(
+    state: &mut DomainState<T, U>,
+    publisher: UniquePublisherId,
+    number: u128,
+    f: F,
+)
+    requires agrees { IsDomain state.old }
+    requires several { is_single_valued state.old.config ≡ false }
+    requires live { HoldsUnwritten (state_of (kept_of state.old)) publisher number }
+    requires callable { F.IsAlwaysCallable f }
+    ensures { (answers : List T) × AnswersInOrder F.step f answers × WritesLoan state.old state.new number answers }
+{
+    let at = state.search_loan(publisher, number);
+    write_slot_from_fn(state, publisher, number, at.book, at.slot, f);
+}
+
+// The same of a loan that lies in this slot of this book.
+#[inline(always)]
+fn write_slot_from_fn<T: Drop, U: Default + Drop, F: FnMut(usize) -> T + Drop>(
+    state: &mut DomainState<T, U>,
+    publisher: UniquePublisherId,
+    number: u128,
+    book: usize,
+    slot: usize,
+    f: F,
+)
+    requires agrees { IsDomain state.old }
+    requires several { is_single_valued state.old.config ≡ false }
+    requires live { HoldsUnwritten (state_of (kept_of state.old)) publisher number }
+    requires lies { LiesInSlot state.old publisher number book slot }
+    requires callable { F.IsAlwaysCallable f }
+    ensures { (answers : List T) × AnswersInOrder F.step f answers × WritesLoan state.old state.new number answers }
+{
+    mark_written(state, MessageSlot { book, slot });
+    contents_mut(state, book).write_from_fn(slot, f);
 }
 
 /// Writes copies of the values, one into each cell of a publisher's unwritten loan, which has as
@@ -206,13 +247,15 @@ pub fn loan_value<'a, T: Drop, U: Default + Drop>(
     contents.value(at.slot)
 }
 
-/// The cells of a publisher's unwritten loan, where messages aren't single values.
+/// The cells of a publisher's unwritten loan, where messages aren't single values and cells are handed
+/// out.
 pub fn loan_cells<'a, T: Drop, U: Default + Drop>(
     state: &'a DomainState<T, U>,
     loan: &LoanAt,
 ) -> &'a [Option<T>]
     requires agrees { IsDomain state.now }
     requires several { is_single_valued state.now.config ≡ false }
+    requires lists_cells { (state.now.config).lists_cells ≡ true }
     requires live { HoldsUnwritten (state_of (kept_of state.now)) loan.now.publisher loan.now.number }
     ensures { HasCells (state_of (kept_of state.now)) loan.now.number result.now }
 {

@@ -23,14 +23,16 @@ module _ {T U : Type 0} where
     pub count : length new ≡ length old
     pub kept : (slot : ℕ) → (0 < holders_at book slot) ⊎ (end ≤ slot) → slice_get new slot ≡ slice_get old slot
     pub forms : All (λ content. content.is_in_place ≡ false) old → All (λ content. content.is_in_place ≡ false) new
+    pub cells : All (λ content. content.lists_cells ≡ true) old → All (λ content. content.lists_cells ≡ true) new
 
-  -- Behind the slots of this book are so many more, each with room for so many units, which lie in lists where they are to.
-  -- What lies in slots in use stays.
-  pub record GrowsContents (book : Book) (more units : ℕ) (in_lists : Bool) (old new : List (ContentState T U)) : Type 0 where
+  -- Behind the slots of this book are so many more, each with room for so many units, which lie in lists where they are to,
+  -- and whose cells can be handed out where they are to be. What lies in slots in use stays.
+  pub record GrowsContents (book : Book) (more units : ℕ) (in_lists lists_cells : Bool) (old new : List (ContentState T U)) : Type 0 where
     pub count : length new ≡ length old + more
     pub kept : (slot : ℕ) → 0 < holders_at book slot → slice_get new slot ≡ slice_get old slot
     pub room : HasRoomFrom (length old) units new
     pub forms : in_lists ≡ true → All (λ content. content.is_in_place ≡ false) old → All (λ content. content.is_in_place ≡ false) new
+    pub cells : in_lists ≡ true → lists_cells ≡ true → All (λ content. content.lists_cells ≡ true) old → All (λ content. content.lists_cells ≡ true) new
 
   -- The publisher at the place has a current segment of that length, which lies behind the slots that it had. Nothing else
   -- changes.
@@ -40,7 +42,7 @@ module _ {T U : Type 0} where
     pub contents : List (ContentState T U)
     pub had : slice_index_or f.contents x.book None ≡ Some contents
     pub grown : List (ContentState T U)
-    pub grows : GrowsContents book x.slots (slot_length len * (f.config).units_per_element) (not (is_single_valued f.config)) contents grown
+    pub grows : GrowsContents book x.slots (slot_length len * (f.config).units_per_element) (not (is_single_valued f.config)) (f.config).lists_cells contents grown
     pub fits : segment_fits f.config x.slots len ≡ true
     pub longer : x.segment_length ≤ len
     pub is : f' ≡ record f {

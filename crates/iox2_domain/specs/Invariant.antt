@@ -245,9 +245,11 @@ pub record HasShapes {T U : Type 0} (f : Fields T U) : Type 0 where
   pub at : (key slot : ℕ) (b : Book) (m : KeptMessage T U) → get f.books key ≡ Some b
       → message_in b (contents_at f.contents key) slot ≡ Some m → HasShape f.config m
 
--- What lies in slots lies in lists, so that it can be handed out as a slice, but in a domain of single values.
+-- What lies in slots lies in lists, so that it can be handed out as a slice, but in a domain of single values. There is room
+-- to list the cells too where the settings ask for it.
 pub record HasForms {T U : Type 0} (c : ServiceConfig) (contents : List (Option (List (ContentState T U)))) : Type 0 where
   pub at : is_single_valued c ≡ false → (key : ℕ) (cs : List (ContentState T U)) → slice_index_or contents key None ≡ Some cs → All (λ content. content.is_in_place ≡ false) cs
+  pub cells : is_single_valued c ≡ false → c.lists_cells ≡ true → (key : ℕ) (cs : List (ContentState T U)) → slice_index_or contents key None ≡ Some cs → All (λ content. content.lists_cells ≡ true) cs
 
 -- ---- a publisher's segments, and its blocked delivery
 

@@ -84,8 +84,9 @@ abbrev pub subscriber_due : SubscriberFields → SubscriberFields
 subscriber_due y = record y { is_due = true }
 
 -- A book of so many slots of the publisher, which names its node. None of the slots is in use, and their contents,
--- each with room for so many elements, lie in lists where they are to.
-pub record IsNewSegment {T U : Type 0} (book : Book) (contents : List (ContentState T U)) (node publisher slots room : ℕ) (in_lists : Bool) : Type 0 where
+-- each with room for so many elements, lie in lists where they are to, and their cells can be handed out where they are
+-- to be.
+pub record IsNewSegment {T U : Type 0} (book : Book) (contents : List (ContentState T U)) (node publisher slots room : ℕ) (in_lists lists_cells : Bool) : Type 0 where
   pub is_its : book.publisher ≡ publisher
   pub names_node : book.node ≡ node
   pub unused : book.holders ≡ replicate slots 0
@@ -93,6 +94,7 @@ pub record IsNewSegment {T U : Type 0} (book : Book) (contents : List (ContentSt
   pub contents_length : length contents ≡ slots
   pub contents_room : All (λ content. content.room ≡ room) contents
   pub contents_form : in_lists ≡ true → All (λ content. content.is_in_place ≡ false) contents
+  pub contents_cells : in_lists ≡ true → lists_cells ≡ true → All (λ content. content.lists_cells ≡ true) contents
 
 -- A book of the publisher, none of whose slots is in use, is among the books now, at a key that had none. At that key are
 -- contents for its slots, each with room for so many elements. Nothing else changes.

@@ -34,7 +34,7 @@ reclaimed-in_use hs slot c d held r =
     omega (arith, held.at slot)
 
 -- one slot was reclaimed
-reclaims-one : (hs : List ℕ) (slot : ℕ) (c d : Link) → IsHeld hs c → IsReclaimed c (Some slot) d → ReclaimsFrom hs c (one_holder_less slot hs) d
+pub reclaims-one : (hs : List ℕ) (slot : ℕ) (c d : Link) → IsHeld hs c → IsReclaimed c (Some slot) d → ReclaimsFrom hs c (one_holder_less slot hs) d
 reclaims-one hs slot c d held r = record {
   kept = rw r.2 refl;
   fewer = rw (r.2, r.1) (omega arith);
@@ -46,15 +46,19 @@ reclaims-one hs slot c d held r = record {
     in_use : 0 < get_or hs slot 0
     in_use = reclaimed-in_use hs slot c d held r
 
--- one slot more was reclaimed
-pub reclaims-more : (hs hs' : List ℕ) (slot : ℕ) (a c d : Link) → IsHeld hs' c → ReclaimsFrom hs a hs' c → IsReclaimed c (Some slot) d → ReclaimsFrom hs a (one_holder_less slot hs') d
-reclaims-more hs hs' slot a c d held x r = let y = reclaims-one hs' slot c d held r in record {
-  kept = y.kept ∙ ap (λ (l : Link). let k : Link = record l { returned = d.returned } in k) x.kept;
+-- some slots were reclaimed, and then others
+pub ReclaimsFrom-trans : (hs hs' hs'' : List ℕ) (a b c : Link) → ReclaimsFrom hs a hs' b → ReclaimsFrom hs' b hs'' c → ReclaimsFrom hs a hs'' c
+ReclaimsFrom-trans hs hs' hs'' a b c x y = record {
+  kept = y.kept ∙ ap (λ (l : Link). let k : Link = record l { returned = c.returned } in k) x.kept;
   fewer = omega (arith, x.fewer, y.fewer);
   counters = λ n. omega (arith, x.counters n, y.counters n);
   shrinks = λ n. omega (arith, x.shrinks n, y.shrinks n);
   slots = y.slots ∙ x.slots;
 }
+
+-- one slot more was reclaimed
+pub reclaims-more : (hs hs' : List ℕ) (slot : ℕ) (a c d : Link) → IsHeld hs' c → ReclaimsFrom hs a hs' c → IsReclaimed c (Some slot) d → ReclaimsFrom hs a (one_holder_less slot hs') d
+reclaims-more hs hs' slot a c d held x r = ReclaimsFrom-trans hs hs' (one_holder_less slot hs') a c d x (reclaims-one hs' slot c d held r)
 
 -- counters that follow still hold what stands in the connection
 pub held-more : (hs : List ℕ) (slot : ℕ) (c d : Link) → IsHeld hs c → IsReclaimed c (Some slot) d → IsHeld (one_holder_less slot hs) d

@@ -414,8 +414,27 @@ pub fn deliver<R: Receiver, F: BackpressureFn>(
     }
 }
 
-// Reclaims all slots that were given back in a connection.
+// Reclaims all slots that were given back in a connection. Mostly that is one, and then nothing is
+// looked at again (docs/decisions/cost.md, "A delivery mostly reclaims one slot").
 pub(crate) fn reclaim_from(connection: &mut Connection, book: &mut SlotBook)
+    requires { IsHeld book.old.holders connection.old }
+    ensures book { book.new ≡ with_counters book.old book.new.holders }
+    ensures reclaims { ReclaimsFrom book.old.holders connection.old book.new.holders connection.new }
+    ensures all { connection.new.returned ≡ [] }
+{
+    let Some(slot) = connection.reclaim() else {
+        return;
+    };
+    book.release(slot);
+    if connection.has_returned() {
+        reclaim_rest(connection, book);
+    }
+}
+
+// The same, however many they are.
+#[cold]
+#[inline(never)]
+fn reclaim_rest(connection: &mut Connection, book: &mut SlotBook)
     requires { IsHeld book.old.holders connection.old }
     ensures book { book.new ≡ with_counters book.old book.new.holders }
     ensures reclaims { ReclaimsFrom book.old.holders connection.old book.new.holders connection.new }

@@ -9,6 +9,8 @@ ghost use Rattle.iox2_pubsub.specs.Live.{IsLivePublisher, IsLiveSubscriber, IsSi
 
 use iox2_pubsub::{Domain, PortFactoryPublisher, Publisher, SendOutcome, Subscriber};
 use iox2_store::{BackpressureStrategy, ReceiveError, ServiceConfig};
+use std::io;
+use std::time::{CpuClock, Duration};
 
 /// A payload that is neither `Copy` nor `Clone`.
 #[derive(Drop)]
@@ -24,22 +26,40 @@ pub struct Station {
     pub number: u32,
 }
 
-/// A payload whose default value takes for ever to make, for calls that are to make none.
+/// A payload whose default value takes a while to make, for calls that are to make none: a value
+/// that is made and thrown away shows in the processor's time alone.
 #[derive(Drop)]
-pub struct Endless {
+pub struct Costly {
     /// What comes out in the end.
     pub number: u64,
 }
 
-impl Default for Endless {
+impl Default for Costly {
     #[inline(never)]
     fn default() -> Self {
         let mut number = 1u64;
-        for step in 0..u64::MAX {
+        for step in 0..200_000_000u64 {
             number = number.wrapping_mul(6364136223846793005).wrapping_add(step);
         }
-        Endless { number }
+        Costly { number }
     }
+}
+
+/// The value that one `Costly` ends with, and the processor's time in microseconds that it took to
+/// make.
+///
+/// Fails where the clock can't be read.
+pub fn costly_time(clock: &impl CpuClock) -> io::Result<(u64, u128)> {
+    let begun = clock.thread_cpu_time()?;
+    let made = Costly::default();
+    Ok((made.number, micros_since(clock, begun)?))
+}
+
+/// The processor's time in microseconds since `thread_cpu_time` gave `begun`.
+///
+/// Fails where the clock can't be read.
+pub fn micros_since(clock: &impl CpuClock, begun: Duration) -> io::Result<u128> {
+    Ok(clock.thread_cpu_time()?.saturating_sub(begun).as_micros())
 }
 
 /// One publisher and one subscriber, without overflow.

@@ -76,6 +76,7 @@ fn update_and_find<T: Drop, U: Default + Drop, F: BackpressureFn, G: Degradation
 
 // Updates the publisher of a loan, where it is due, and sends the loan, wherever both are. Where the
 // update fails, the loan is given back. Of a publisher that is gone the loan is lost.
+#[cold]
 #[inline(never)]
 fn update_and_send<T: Drop, U: Default + Drop, F: BackpressureFn, G: DegradationFn>(
     state: &mut DomainState<T, U>,

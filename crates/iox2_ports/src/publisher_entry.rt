@@ -101,8 +101,9 @@ fn admit_publisher<T: Drop, U: Default + Drop>(
     let key = state.books.vacant_key();
     let room = room_for(&state.config, slots, given.initial_max_slice_len);
     let in_lists = !state.config.is_single_valued();
+    let lists_cells = state.config.lists_cells;
     let node = UniqueNodeId::new(state.config.node_id);
-    let Ok(segment) = Segment::new(state.alloc, node, id, slots, room, in_lists) else {
+    let Ok(segment) = Segment::new(state.alloc, node, id, slots, room, in_lists, lists_cells) else {
         return Err(PublisherCreateError::UnableToCreateDataSegment);
     };
     let entering = PublisherState::new(

@@ -98,7 +98,7 @@ module _ {T U : Type 0} (config : ServiceConfig) (v c v' c' : ℕ) where
       publisher_room = λ i x at. absurd (nothing_at i x at);
       warning_room = refl;
       shapes = record { at = λ key slot b m at _. absurd (nothing_at key b at) };
-      forms = record { at = λ several key cs at. absurd cc };
+      forms = record { at = λ several key cs at. absurd cc; cells = λ several lists key cs at. absurd cc };
       plain = λ i x at. absurd (nothing_at i x at);
     };
     kept_books = record { at = λ key b at. absurd (nothing_at key b at) };

@@ -19,7 +19,7 @@ use Rattle.iox2_domain.specs.LoanCalls.{HoldsUnwritten, HoldsWritten, HasCells, 
 use Rattle.iox2_domain.specs.LoanSlots.{LiesInSlot}
 use Rattle.iox2_domain.specs.Shows.{Shows}
 use Rattle.iox2_domain.proofs.lemmas.loans.LentLoans.{IsLent, header-lent, cell-lent, cells-lent, value-lent, values-lent}
-use Rattle.iox2_domain.proofs.lemmas.loans.LoanCalls.{contents-there, some-at, is-unwritten, is-written, user_header-read, in-lists, cell-some, cell-read, cells-read, value-some, value-read, values-read}
+use Rattle.iox2_domain.proofs.lemmas.loans.LoanCalls.{contents-there, some-at, is-unwritten, is-written, user_header-read, in-lists, cells-listed, cell-some, cell-read, cells-read, value-some, value-read, values-read}
 use Rattle.iox2_pubsub.specs.ChangedLoans.{with_cell, with_cells, with_payload, with_payloads, with_user_header}
 use Rattle.iox2_pubsub.specs.Live.{IsUnwritten, IsWritten, LoanHasHeader, LoanHasUserHeader, A_loan, StaysBut, UpToDateStay, WaitingStays}
 use Rattle.iox2_pubsub.specs.Slices.{HasUnwrittenCells, HasValues}
@@ -238,8 +238,9 @@ module _ {T U : Type 0} (f : Fields T U) (sound : IsDomain f) (p n key slot : �
     pub cells-lends : (cells : List (Option T)) → IsLent f (with_content f key slot (with_cells_in cells)) n at.loan (cells_changed cells)
     cells-lends cells = cells-lent f sound p n key slot at has.0 has.1 (is-unwritten f sound p n key slot at out) cells
 
-    pub cells-there : is_single_valued f.config ≡ false → HasContentIn f key slot (λ content. content.is_in_place ≡ false)
-    cells-there several = (has.0, has.1, some-at f sound p n key slot at has.0 has.1 (λ content. content.is_in_place ≡ false) (in-lists f sound p n key slot at has.0 has.1 several))
+    pub cells-there : is_single_valued f.config ≡ false → (f.config).lists_cells ≡ true → HasContentIn f key slot (λ content. content.lists_cells ≡ true)
+    cells-there several lists =
+        (has.0, has.1, some-at f sound p n key slot at has.0 has.1 (λ content. content.lists_cells ≡ true) (cells-listed f sound p n key slot at has.0 has.1 several lists))
 
     pub cells-known : (cells : List (Option T)) → cells_at (contents_at f.contents key) slot ≡ Some cells → HasCells (state_of (kept_of f)) n cells
     cells-known cells known =

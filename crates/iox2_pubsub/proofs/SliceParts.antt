@@ -1,5 +1,5 @@
 -- What the words of slices say, part by part.
-use Rattle.std.proofs.Common.{◌≡◌, ℕ, List, [], ◌∷◌, map, false, refl, ap, sym, ◌∙◌, Option, Some}
+use Rattle.std.proofs.Common.{◌≡◌, ℕ, List, [], ◌∷◌, map, true, false, refl, ap, sym, ◌∙◌, Option, Some}
 use Rattle.iox2_store.specs.SingleValues.{is_single_valued}
 use Rattle.iox2_store.specs.declared.service_config.TypeVariant.TheVariants.{Dynamic}
 use Rattle.iox2_store.specs.machine.Records.{Entry, Loan}
@@ -7,7 +7,7 @@ use Rattle.iox2_store.specs.declared.key.Key.{Key}
 use Rattle.iox2_domain.specs.Kept.{Kept, state_of, entries_of}
 use Rattle.iox2_domain.specs.LoanCalls.{HasCells}
 use Rattle.iox2_domain.proofs.lemmas.fields.SingleSettings.{dynamic-several}
-use Rattle.iox2_pubsub.specs.Slices.{IsSliced, HasUnwrittenCells, HasValues, SampleHasValues}
+use Rattle.iox2_pubsub.specs.Slices.{HoldsSlices, IsSliced, HasUnwrittenCells, HasValues, SampleHasValues}
 
 -- values whose cells are the same are the same
 same-values : {T : Type 0} (xs ys : List T) → map Some xs ≡ map Some ys → xs ≡ ys
@@ -22,14 +22,18 @@ same-values {T} (x ∷ xs) (y ∷ ys) same =
     cc
 
 module _ {T U F G : Type 0} (kept : Kept T U F G) where
-  pub sliced-parts : IsSliced kept → is_single_valued kept.config ≡ false
-  unfolding IsSliced
-  sliced-parts sliced = sliced
+  pub holds-parts : HoldsSlices kept → is_single_valued kept.config ≡ false
+  unfolding HoldsSlices
+  holds-parts holds = holds
 
   -- messages of a service for slices are slices
-  pub dynamic-sliced : (kept.config).variant ≡ Dynamic → IsSliced kept
-  unfolding IsSliced
-  dynamic-sliced dynamic = dynamic-several kept.config dynamic
+  pub dynamic-holds : (kept.config).variant ≡ Dynamic → HoldsSlices kept
+  unfolding HoldsSlices
+  dynamic-holds dynamic = dynamic-several kept.config dynamic
+
+  -- and their cells are handed out where the settings say so
+  pub dynamic-sliced : (kept.config).variant ≡ Dynamic → (kept.config).lists_cells ≡ true → IsSliced kept
+  dynamic-sliced dynamic lists = record { holds = dynamic-holds dynamic; lists_cells = lists }
 
   pub cells-parts : (n : ℕ) (cells : List (Option T)) → HasUnwrittenCells kept n cells → HasCells (state_of kept) n cells
   unfolding HasUnwrittenCells

@@ -24,7 +24,7 @@ use Rattle.iox2_domain.specs.Shows.{Shows}
 use Rattle.iox2_pubsub.proofs.UnfailedSends.{IsMild, HasNotFailed}
 use Rattle.iox2_pubsub.specs.Handlers.{may_wait}
 use Rattle.iox2_pubsub.specs.Live.{degradation_box, handler_box, subscriber_box, IsSingleValued, IsPlacedPublisher, IsPlacedSubscriber, HasItsBuffer, IsPublisherKey, IsSubscriberKey, IsLoanKey, IsSampleKey, IsBlockedKey, HasMark, IsFromOrigin, LoanHasHeader, LoanHasUserHeader, SampleHasHeader, SampleHasUserHeader, Item, No_item, A_publisher, A_subscriber, A_loan, A_sample, A_blocked_send, A_sent_loan, A_sent_copy, Both, IsOtherPublisher, IsOtherSubscriber, IsOtherLoan, IsOtherSample, IsUnblocked, IsUnwritten, IsWritten, PassesFull, NeverFails, NeverWaits, IsOtherBlocked, StaysBut, Stays, IsNewIn, unwritten_key, written_key}
-use Rattle.iox2_pubsub.specs.Slices.{IsSliced, HasUnwrittenCells, HasValues, SampleHasValues}
+use Rattle.iox2_pubsub.specs.Slices.{HoldsSlices, IsSliced, HasUnwrittenCells, HasValues, SampleHasValues}
 use Rattle.iox2_pubsub.specs.declared.publisher.Publisher.{Publisher as PublisherHandle}
 use Rattle.iox2_pubsub.specs.declared.sample.Sample.{Sample}
 use Rattle.iox2_pubsub.specs.declared.sample_mut.SampleMut.{SampleMut}
@@ -181,9 +181,12 @@ module _ {T U F G : Type 0} (spent : Item) (old new : Kept T U F G) (remain : Po
   unfolding IsSingleValued
   single was = (ap (λ (c : ServiceConfig). c.variant) remain.config ∙ was.0, ap (λ (c : ServiceConfig). c.units_per_element) remain.config ∙ was.1)
 
+  holds : HoldsSlices old → HoldsSlices new
+  unfolding HoldsSlices
+  holds was = ap is_single_valued remain.config ∙ was
+
   slices : IsSliced old → IsSliced new
-  unfolding IsSliced
-  slices was = ap is_single_valued remain.config ∙ was
+  slices was = record { holds = holds was.holds; lists_cells = ap (λ (c : ServiceConfig). c.lists_cells) remain.config ∙ was.lists_cells }
 
   publisher : (key : Key) → IsPublisherKey old key → IsOtherPublisher spent key.port → IsPublisherKey new key
   unfolding IsPublisherKey
@@ -336,6 +339,7 @@ module _ {T U F G : Type 0} (spent : Item) (old new : Kept T U F G) (remain : Po
   stays-but = record {
     settings = remain.config;
     single_valued = single;
+    holds_slices = holds;
     sliced = slices;
     publishers = publisher;
     boxes = handlers-stay spent old new boxes;
@@ -408,6 +412,7 @@ pub unchanged-stays : {T U F G : Type 0} (spent : Item) (kept : Kept T U F G) �
 unchanged-stays spent kept = record {
   settings = refl;
   single_valued = λ was. was;
+  holds_slices = λ was. was;
   sliced = λ was. was;
   publishers = λ key live other. live;
   boxes = λ key live other. refl;
@@ -551,6 +556,7 @@ pub stays-but-whole : {T U F G : Type 0} (part whole : Item) → IsPartOf part w
 stays-but-whole part whole is old new stays = record {
   settings = stays.settings;
   single_valued = stays.single_valued;
+  holds_slices = stays.holds_slices;
   sliced = stays.sliced;
   publishers = λ key live other. stays.publishers key live (is.publishers key.port other);
   boxes = λ key live other. stays.boxes key live (is.publishers key.port other);
@@ -605,6 +611,7 @@ stays-through : {T U F G : Type 0} (start old new : Kept T U F G) (first second 
 stays-through start old new first second spent spares before next unblocked = record {
   settings = next.settings ∙ before.settings;
   single_valued = λ was. next.single_valued (before.single_valued was);
+  holds_slices = λ was. next.holds_slices (before.holds_slices was);
   sliced = λ was. next.sliced (before.sliced was);
   publishers = λ key live other. let apart = spares.publishers key live other in next.publishers key (before.publishers key live apart.0) apart.1;
   boxes = λ key live other. let apart = spares.publishers key live other in next.boxes key (before.publishers key live apart.0) apart.1 ∙ before.boxes key live apart.0;

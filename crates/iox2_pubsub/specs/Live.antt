@@ -20,7 +20,7 @@ use Rattle.iox2_pubsub.specs.ConnectedPorts.{Awaits, Connects}
 use Rattle.iox2_pubsub.specs.DepartedPorts.{HasRoom, departed_at}
 use Rattle.iox2_pubsub.specs.Handlers.{may_wait}
 use Rattle.iox2_pubsub.specs.Payloads.{payload_of, payloads_for}
-use Rattle.iox2_pubsub.specs.Slices.{IsSliced, HasUnwrittenCells, HasValues, SampleHasValues}
+use Rattle.iox2_pubsub.specs.Slices.{HoldsSlices, IsSliced, HasUnwrittenCells, HasValues, SampleHasValues}
 use Rattle.iox2_pubsub.specs.declared.blocked_send.BlockedSend.{BlockedSend}
 use Rattle.iox2_pubsub.specs.declared.publisher.Publisher.{Publisher}
 use Rattle.iox2_pubsub.specs.declared.subscriber.Subscriber.{Subscriber}
@@ -457,6 +457,7 @@ module _ {T U F G : Type 0} where
   pub record StaysBut (spent : Item) (old new : Kept T U F G) : Type 0 where
     pub settings : new.config ≡ old.config
     pub single_valued : IsSingleValued old → IsSingleValued new
+    pub holds_slices : HoldsSlices old → HoldsSlices new
     pub sliced : IsSliced old → IsSliced new
     pub publishers : (key : Key) → IsPublisherKey old key → IsOtherPublisher spent key.port → IsPublisherKey new key
     pub boxes : (key : Key) → IsPublisherKey old key → IsOtherPublisher spent key.port → handler_box new key.port ≡ handler_box old key.port

@@ -1,5 +1,5 @@
 -- Messages that are slices.
-use Rattle.std.specs.Prelude.{ℕ, List, map, false, ◌≡◌}
+use Rattle.std.specs.Prelude.{ℕ, List, map, true, false, ◌≡◌}
 use Rattle.std.specs.declared.option.Option.{Option}
 use Rattle.std.specs.declared.option.Option.TheVariants.{Some}
 use Rattle.iox2_store.specs.SingleValues.{is_single_valued}
@@ -10,8 +10,13 @@ use Rattle.iox2_domain.specs.LoanCalls.{HasCells}
 
 module _ {T U F G : Type 0} (domain : Kept T U F G) where
   -- In the domain a message isn't a single value of one unit, so that its payload is handed out as a slice.
-  unfoldable pub IsSliced : Type 0
-  IsSliced = is_single_valued domain.config ≡ false
+  unfoldable pub HoldsSlices : Type 0
+  HoldsSlices = is_single_valued domain.config ≡ false
+
+  -- So it is, and the cells of a loan that isn't written are handed out too.
+  pub record IsSliced : Type 0 where
+    pub holds : HoldsSlices
+    pub lists_cells : (domain.config).lists_cells ≡ true
 
   -- The unwritten loan with this number has these cells.
   unfoldable pub HasUnwrittenCells : (number : ℕ) → List (Option T) → Type 0

@@ -1,5 +1,5 @@
 //! A domain: all ports of a service, and what lies between them.
-ghost use Rattle.std.specs.Prelude.{◌≡◌, ◌<◌, ℕ, IfOk};
+ghost use Rattle.std.specs.Prelude.{◌≡◌, ◌<◌, ℕ, IfOk, true};
 ghost use Rattle.std.specs.List.{count_by};
 ghost use Rattle.std.specs.Option.{is_some};
 ghost use Rattle.circular_buffer.specs.Buffer.{buffer};
@@ -10,7 +10,7 @@ ghost use Rattle.iox2_store.specs.declared.service_config.TypeVariant.TheVariant
 ghost use Rattle.iox2_domain.specs.Shows.{Shows};
 ghost use Rattle.iox2_pubsub.specs.Live.{IsSingleValued};
 ghost use Rattle.iox2_pubsub.specs.LoansLeft.{HasNumbersLeft};
-ghost use Rattle.iox2_pubsub.specs.Slices.{IsSliced};
+ghost use Rattle.iox2_pubsub.specs.Slices.{HoldsSlices, IsSliced};
 
 use circular_buffer::HeapCircularBuffer;
 use iox2_domain::{Boxes, DomainState};
@@ -67,7 +67,8 @@ impl<T: Drop, U: Default + Drop> Domain<T, U> {
         ensures settings { IfOk result (λ d. d.config ≡ config) }
         ensures numbers_left { IfOk result (λ d. (n : ℕ) → n < last_number → HasNumbersLeft d n) }
         ensures single_valued { IfOk result (λ d. config.variant ≡ FixedSize → config.units_per_element ≡ 1 → IsSingleValued d) }
-        ensures sliced { IfOk result (λ d. config.variant ≡ Dynamic → IsSliced d) }
+        ensures holds_slices { IfOk result (λ d. config.variant ≡ Dynamic → HoldsSlices d) }
+        ensures sliced { IfOk result (λ d. config.variant ≡ Dynamic → config.lists_cells ≡ true → IsSliced d) }
     {
         Self::with_handlers(alloc, config)
     }
@@ -82,7 +83,8 @@ impl<T: Drop, U: Default + Drop, F: BackpressureFn, G: DegradationFn> Domain<T, 
         ensures settings { IfOk result (λ d. d.config ≡ config) }
         ensures numbers_left { IfOk result (λ d. (n : ℕ) → n < last_number → HasNumbersLeft d n) }
         ensures single_valued { IfOk result (λ d. config.variant ≡ FixedSize → config.units_per_element ≡ 1 → IsSingleValued d) }
-        ensures sliced { IfOk result (λ d. config.variant ≡ Dynamic → IsSliced d) }
+        ensures holds_slices { IfOk result (λ d. config.variant ≡ Dynamic → HoldsSlices d) }
+        ensures sliced { IfOk result (λ d. config.variant ≡ Dynamic → config.lists_cells ≡ true → IsSliced d) }
     {
         let Ok(state) = DomainState::new(alloc, config) else {
             return Err(DomainCreateError::OutOfMemory);
@@ -98,7 +100,8 @@ impl<T: Drop, U: Default + Drop, F: BackpressureFn, G: DegradationFn> Domain<T, 
     pub fn config(&self) -> &ServiceConfig
         ensures value { result.now ≡ self.now.config }
         ensures single_valued { (result.now).variant ≡ FixedSize → (result.now).units_per_element ≡ 1 → IsSingleValued self.now }
-        ensures sliced { (result.now).variant ≡ Dynamic → IsSliced self.now }
+        ensures holds_slices { (result.now).variant ≡ Dynamic → HoldsSlices self.now }
+        ensures sliced { (result.now).variant ≡ Dynamic → (result.now).lists_cells ≡ true → IsSliced self.now }
         ensures shown { (messages : Messages T U) × Shows self.now messages (state_of self.now) }
     {
         self.state.config()

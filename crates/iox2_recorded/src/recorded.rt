@@ -37,11 +37,15 @@ impl<
 > Recorded<T, U, F, G> {
     /// A new domain with these settings, which keeps its first calls, up to so many.
     ///
-    /// `AllocError` where there is no room for the domain or for the calls.
+    /// `AllocError` where there is no room for the domain or for the calls, or, by the settings
+    /// (`lists_cells`), none for cells, as commands read and write them.
     pub fn new(alloc: Global, config: ServiceConfig, room: usize) -> Result<Self, AllocError>
         ensures recorded { IfOk result (λ r. IsRecorded (defaults_of T.is_default U.is_default) r) }
         ensures empty { IfOk result (λ r. (r.config ≡ config) × (vec_len r.commands ≡ 0) × (r.missed ≡ 0)) }
     {
+        if !config.lists_cells {
+            return Err(AllocError);
+        }
         let commands = Vec::with_capacity(alloc, room)?;
         let replies = Vec::with_capacity(alloc, room)?;
         let Ok(domain) = Domain::with_handlers(alloc, config) else {

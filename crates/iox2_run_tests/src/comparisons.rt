@@ -23,8 +23,8 @@ const SUBSCRIBER: Command<u64, u8> = Command::CreateSubscriber {
     degradation: DegradationAction::Warn,
 };
 
-/// The command that makes a publisher with one loan.
-pub(crate) const PUBLISHER: Command<u64, u8> = Command::CreatePublisher {
+// The command that makes a publisher with one loan.
+const PUBLISHER: Command<u64, u8> = Command::CreatePublisher {
     loans: 1,
     strategy: BackpressureStrategy::DiscardData,
     allocation: AllocationStrategy::Static,

@@ -15,19 +15,11 @@ mod degradations;
 #[cfg(test)]
 mod departures;
 #[cfg(test)]
-mod growing_publishers;
-#[cfg(test)]
-mod handlers;
-#[cfg(test)]
 mod laws;
 #[cfg(test)]
-mod loan_commands;
-#[cfg(test)]
-mod overrides;
+mod many_units;
 #[cfg(test)]
 mod runs;
-#[cfg(test)]
-mod slice_commands;
 #[cfg(test)]
 mod steps;
 #[cfg(test)]

@@ -4,7 +4,6 @@ ghost use Rattle.iox2_domain.specs.Shows.{Shows};
 ghost use Rattle.iox2_runs.specs.DomainRuns.{RunsOnDomain};
 ghost use Rattle.iox2_store.specs.machine.State.{State, Messages};
 
-use crate::steps::{check, publisher_made, sample_of, subscriber_made};
 use iox2_fixtures::settings;
 use iox2_pubsub::Domain;
 use iox2_runs::{Command, Reply, run};
@@ -57,22 +56,6 @@ fn replies_without_headers(
 }
 
 #[test]
-fn a_message_goes_from_its_loan_to_its_release(rt: HostRuntime) {
-    let steps = [
-        (CREATE_SUBSCRIBER, subscriber_made(1)),
-        (create_publisher(1), publisher_made(2)),
-        (Command::LoanUninit { of: 1 }, Reply::Loaned),
-        (Command::WriteAll { of: 2, value: 5 }, Reply::Done),
-        (Command::Send { of: 2 }, Reply::Delivered(1)),
-        (Command::Send { of: 2 }, Reply::Skipped),
-        (Command::Receive { of: 0 }, sample_of(2)),
-        (Command::Read { of: 6, at: 0 }, Reply::Cell(Some(5))),
-        (Command::Release { of: 6 }, Reply::Done),
-    ];
-    check(&rt, rt.alloc(), settings(), &steps);
-}
-
-#[test]
 fn a_command_that_names_nothing_is_skipped(rt: HostRuntime) {
     let mut domain: Domain<u64, ()> = Domain::new(rt.alloc(), settings()).expect(&rt, "a domain");
     let commands = [Command::Nothing, Command::Send { of: 0 }];
@@ -82,25 +65,6 @@ fn a_command_that_names_nothing_is_skipped(rt: HostRuntime) {
     let replies = outcome.ok().expect(&rt, "replies");
     let expected: [Reply<u64, ()>; 2] = [Reply::Done, Reply::Skipped];
     assert!(rt; replies.as_slice() == expected.as_slice());
-}
-
-#[test]
-fn calls_beside_the_path_of_a_message_are_carried_out(rt: HostRuntime) {
-    let steps = [
-        (CREATE_SUBSCRIBER, subscriber_made(1)),
-        (create_publisher(1), publisher_made(2)),
-        (Command::Update { of: 0 }, Reply::Done),
-        (Command::Update { of: 1 }, Reply::Done),
-        (Command::LoanUninit { of: 1 }, Reply::Loaned),
-        (Command::Discard { of: 4 }, Reply::Done),
-        (Command::Discard { of: 4 }, Reply::Skipped),
-        (Command::LoanUninit { of: 1 }, Reply::Loaned),
-        (Command::WriteAll { of: 7, value: 5 }, Reply::Done),
-        (Command::Update { of: 7 }, Reply::Skipped),
-        (Command::Discard { of: 7 }, Reply::Done),
-        (Command::HasSamples { of: 0 }, Reply::Has(false)),
-    ];
-    check(&rt, rt.alloc(), settings(), &steps);
 }
 
 // What the first run made still counts.
@@ -120,25 +84,4 @@ fn a_second_run_names_nothing_that_the_first_made(rt: HostRuntime) {
     let refusal = PublisherCreateError::ExceedsMaxSupportedPublishers;
     let expected: [Reply<u64, u8>; 2] = [Reply::PublisherRefused(refusal), Reply::Skipped];
     assert!(rt; replies.as_slice() == expected.as_slice());
-}
-
-// The number of publishers counts before their size, and a refused one uses up no id.
-#[test]
-fn too_large_a_publisher_is_refused(rt: HostRuntime) {
-    let too_many = PublisherCreateError::ExceedsMaxSupportedPublishers;
-    let too_large = PublisherCreateError::UnableToCreateDataSegment;
-    let steps = [
-        (create_publisher(1), publisher_made(1)),
-        (
-            create_publisher(usize::MAX),
-            Reply::PublisherRefused(too_many),
-        ),
-        (Command::Close { of: 0 }, Reply::Done),
-        (
-            create_publisher(usize::MAX),
-            Reply::PublisherRefused(too_large),
-        ),
-        (create_publisher(2), publisher_made(2)),
-    ];
-    check(&rt, rt.alloc(), settings(), &steps);
 }

@@ -5,7 +5,6 @@ use iox2_runs::{Command, Reply};
 use iox2_store::{ServiceConfig, UniquePublisherId, UniqueSubscriberId};
 use std::alloc::{AllocError, Global};
 use std::process::Abort;
-use std::time::Duration;
 
 /// A command, and the reply that it has to get.
 pub(crate) type Step = (Command<u64, u8>, Reply<u64, u8>);
@@ -43,24 +42,6 @@ fn commands_of(alloc: Global, steps: &[Step]) -> Result<Vec<Command<u64, u8>>, A
         commands.push(step.0)?;
     }
     Ok(commands)
-}
-
-/// The command that tries a blocked send again, so many milliseconds after it was blocked.
-pub(crate) fn retry(of: usize, millis: u64) -> Command<u64, u8> {
-    Command::Retry {
-        of,
-        elapsed: Duration::from_millis(millis),
-    }
-}
-
-/// The command that writes a cell of an unwritten loan.
-pub(crate) fn write_cell(of: usize, at: usize, value: u64) -> Command<u64, u8> {
-    Command::WriteCell { of, at, value }
-}
-
-/// The command that changes a value of a written loan.
-pub(crate) fn set_payload(of: usize, at: usize, value: u64) -> Command<u64, u8> {
-    Command::SetPayload { of, at, value }
 }
 
 /// The reply that a subscriber was made.

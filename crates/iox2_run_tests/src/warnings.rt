@@ -5,8 +5,8 @@ use iox2_pubsub::{Domain, Warning};
 use iox2_runs::{Command, Reply};
 use iox2_store::{ServiceConfig, UniqueSubscriberId};
 
-/// That more departed publishers are kept for this subscriber than the settings say.
-pub(crate) fn raised(subscriber: u128) -> Warning {
+// That more departed publishers are kept for this subscriber than the settings say.
+fn raised(subscriber: u128) -> Warning {
     Warning::ExpiredBufferRaised {
         subscriber: UniqueSubscriberId::new(subscriber),
     }

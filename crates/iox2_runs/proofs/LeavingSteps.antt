@@ -1,9 +1,10 @@
 -- What one command of a run leaves of what was live before the run.
-use Rattle.std.proofs.Common.{◌≡◌, ℕ, zero, suc, List, [], ◌∷◌, ◌++◌, ap, sym, subst, ◌∙◌}
+use Rattle.std.proofs.Common.{◌≡◌, ℕ, zero, suc, true, List, [], ◌∷◌, ◌++◌, ap, sym, subst, ◌∙◌}
 use Rattle.std.specs.Prelude.{IfOk, slice_set, slice_index_or}
 use Rattle.std.specs.declared.result.Result.{Result}
 use Rattle.std.specs.declared.result.Result.TheVariants.{Ok, Err}
 use Rattle.iox2_store.specs.declared.errors.SendError.{SendError}
+use Rattle.iox2_store.specs.declared.service_config.ServiceConfig.{ServiceConfig}
 use Rattle.iox2_domain.specs.Kept.{Kept as Domain}
 use Rattle.iox2_pubsub.specs.Live.{Item, No_item, A_loan, A_blocked_send, Both, Stays, StaysBut, IsNewIn, blocked_send}
 use Rattle.iox2_pubsub.specs.SendCalls.{IfBlocked, is_blocked_send, spent_by_send, spent_by_copy}
@@ -53,11 +54,11 @@ module _ {T U F G : Type 0} (start : Domain T U F G) where
   push-new table made = push-each (λ h. IsNewIn start (item_of h)) (nothing-is-new start) table made
 
   -- and so with where ports stand
-  pub none-placed : ArePlaced start []
-  none-placed = λ of. tt
+  pub none-placed : (start.config).lists_cells ≡ true → ArePlaced start []
+  none-placed lists = record { ports = λ of. tt; lists_cells = lists }
 
   pub push-placed : (table : List Made) (made : Made) → ArePlaced start table → IsPlacedMade start made → ArePlaced start (table ++ made ∷ [])
-  push-placed table made = push-each (IsPlacedMade start) tt table made
+  push-placed table made are placed = record { ports = push-each (IsPlacedMade start) tt table made are.ports placed; lists_cells = are.lists_cells }
 
   -- a send makes no port
   sent-placed : (outcome : Result SendOutcome SendError) → IsPlacedMade start (made_by_send outcome)
@@ -78,7 +79,10 @@ module _ {T U F G : Type 0} (old new : Domain T U F G) (table : List Made) where
 
   -- and so each of the table's
   all-placed : (spent : Item) → StaysBut spent old new → ArePlaced old table → ArePlaced new table
-  all-placed spent stays are = λ of. still-placed spent stays (slice_index_or table of Nothing) (are of)
+  all-placed spent stays are = record {
+    ports = λ of. still-placed spent stays (slice_index_or table of Nothing) (are.ports of);
+    lists_cells = ap (λ (c : ServiceConfig). c.lists_cells) stays.settings ∙ are.lists_cells;
+  }
 
   -- a command that changes nothing
   pub leaves-all : (table' : List Made) → old ≡ new → table' ≡ table → Leaves old new table table' Nothing
@@ -114,7 +118,10 @@ module _ {T U F G : Type 0} (old new : Domain T U F G) (table : List Made) where
         );
     placed = λ are.
         let still : ArePlaced new table = all-placed spent stays are in (
-          subst (ArePlaced new) (sym is) (set-each (IsPlacedMade new) tt table of put still (placed (subst (IsPlacedMade new) at (still of)))),
+          subst (ArePlaced new) (sym is) (record {
+            ports = set-each (IsPlacedMade new) tt table of put still.ports (placed (subst (IsPlacedMade new) at (still.ports of)));
+            lists_cells = still.lists_cells;
+          }),
           placed',
         );
   }

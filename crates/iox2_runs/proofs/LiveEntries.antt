@@ -43,6 +43,10 @@ module _ {T U F G : Type 0} (domain : Domain T U F G) (table : List Made) (keeps
       let v = handle_of keeps.1 keeps.2 keeps.3 (map entry_for table) keeps.5 of (entry_for made) (entry-stands table of made at some) in
       (v.0, subst (λ (s : State T U). IsEntryOf s v.0 (entry_for made)) (keeps.4).state v.2)
 
+  -- the domain hands out cells
+  pub listed : (domain.config).lists_cells ≡ true
+  listed = (keeps.6).lists_cells
+
   pub live_publisher : (h : PublisherHandle) → slice_index_or table of Nothing ≡ MadePublisher h → IsPublisherKey domain (publisher_key h)
   live_publisher h at =
       let v = (has_entry (MadePublisher h) at (λ e. let clash : MadePublisher h ≡ Nothing = e in cc)).1 in
@@ -60,12 +64,12 @@ module _ {T U F G : Type 0} (domain : Domain T U F G) (table : List Made) (keeps
 
   -- where no send of it is blocked it is ready
   pub ready_publisher : (h : PublisherHandle) → slice_index_or table of Nothing ≡ MadePublisher h → IsUnblocked domain (publisher_key h) → IsReadyPublisher domain h
-  ready_publisher h at free = record { there = live_publisher h at; placed = subst (IsPlacedMade domain) at (keeps.6 of); unblocked = free }
+  ready_publisher h at free = record { there = live_publisher h at; placed = subst (IsPlacedMade domain) at ((keeps.6).ports of); unblocked = free }
 
   pub live_subscriber : (h : SubscriberHandle) → slice_index_or table of Nothing ≡ MadeSubscriber h → IsLiveSubscriber domain h
   live_subscriber h at =
       let v = (has_entry (MadeSubscriber h) at (λ e. let clash : MadeSubscriber h ≡ Nothing = e in cc)).1 in
-      record { there = subscriber-live domain _ (refl, v.0, (v.2, v.3, v.4)); placed = subst (IsPlacedMade domain) at (keeps.6 of) }
+      record { there = subscriber-live domain _ (refl, v.0, (v.2, v.3, v.4)); placed = subst (IsPlacedMade domain) at ((keeps.6).ports of) }
 
   -- nor does one for it
   pub unboxed_subscriber : (h : SubscriberHandle) → slice_index_or table of Nothing ≡ MadeSubscriber h → HasNoReceiverBox (state_of domain) h.id

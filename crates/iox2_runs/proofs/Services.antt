@@ -9,7 +9,7 @@ use Rattle.iox2_store.specs.declared.service_config.TypeVariant.TheVariants.{Fix
 use Rattle.iox2_domain.specs.Kept.{Kept as Domain}
 use Rattle.iox2_domain.proofs.lemmas.fields.SingleSettings.{single-settings}
 use Rattle.iox2_pubsub.specs.Live.{IsSingleValued}
-use Rattle.iox2_pubsub.specs.Slices.{IsSliced}
+use Rattle.iox2_pubsub.specs.Slices.{HoldsSlices, IsSliced}
 use Rattle.iox2_pubsub.proofs.LiveParts.{single-valued}
 use Rattle.iox2_commands.specs.Step.{if_single_units, if_fixed_size, if_dynamic}
 use Rattle.iox2_runs.specs.Services.{has_slices}
@@ -85,6 +85,10 @@ module _ {T U F G : Type 0} (domain : Domain T U F G) where
   pub single-here : is_single_valued domain.config ≡ true → IsSingleValued domain
   single-here single = let parts = single-settings domain.config single in single-valued domain parts.0 parts.1
 
-  pub sliced-here : is_single_valued domain.config ≡ false → IsSliced domain
-  unfolding IsSliced
-  sliced-here several = several
+  pub holds-here : is_single_valued domain.config ≡ false → HoldsSlices domain
+  unfolding HoldsSlices
+  holds-here several = several
+
+  -- and their cells are handed out where the settings say so
+  pub sliced-here : is_single_valued domain.config ≡ false → (domain.config).lists_cells ≡ true → IsSliced domain
+  sliced-here several lists = record { holds = holds-here several; lists_cells = lists }

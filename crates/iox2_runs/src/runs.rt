@@ -154,7 +154,8 @@ pub fn carry_out<
 ///
 /// What the commands made is spent at the end: ports stay in the domain, loans stay out, blocked
 /// sends stay so and messages stay borrowed. The memory for the replies and for what the commands make
-/// is taken first. Where it is refused the commands are handed back, and none was carried out.
+/// is taken first. Where it is refused the commands are handed back, and none was carried out; and so
+/// where the domain hands out no cells (`ServiceConfig::lists_cells`), as commands read and write them.
 ///
 /// A publisher follows its strategy at a full buffer, or the backpressure handler that its command
 /// names. It has as many slots in a segment as it needs, or as its command asks for. The domain may have messages of either variant: those of `FixedSize` are single values, those
@@ -176,6 +177,9 @@ pub fn run<T: Copy + Default + Drop, U: Copy + Default + Drop, F: BackpressureFn
     ensures stays { Stays domain.old domain.new }
     ensures refused { IfErr result (λ given. (given.items ≡ commands.items) × (domain.new ≡ domain.old)) }
 {
+    if !domain.config().lists_cells {
+        return Err(commands);
+    }
     let Ok(mut replies) = Vec::with_capacity(alloc, commands.len()) else {
         return Err(commands);
     };

@@ -1,5 +1,5 @@
 //! Messages of a caller's own bytes.
-ghost use Rattle.std.specs.Prelude.{◌≡◌};
+ghost use Rattle.std.specs.Prelude.{◌≡◌, true};
 ghost use Rattle.iox2_store.specs.declared.service_config.TypeVariant.TheVariants.{Dynamic};
 ghost use Rattle.iox2_pubsub.specs.Slices.{IsSliced};
 
@@ -11,7 +11,8 @@ use std::process::Abort;
 
 // The settings of a domain of elements of 40 bytes each.
 fn bytes() -> ServiceConfig
-    ensures { result.variant ≡ Dynamic }
+    ensures variant { result.variant ≡ Dynamic }
+    ensures lists_cells { result.lists_cells ≡ true }
 {
     ServiceConfig {
         variant: TypeVariant::Dynamic,
@@ -64,6 +65,7 @@ fn assert_dynamic(rt: &impl Abort, domain: &Domain<CustomPayloadMarker, CustomHe
 {
     let config = domain.config();
     assert!(rt; matches!(config.variant, TypeVariant::Dynamic));
+    assert!(rt; config.lists_cells);
 }
 
 // The lowest byte of the number.

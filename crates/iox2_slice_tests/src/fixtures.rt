@@ -61,6 +61,7 @@ pub(crate) fn assert_sliced<T: Drop, U: Default + Drop>(rt: &impl Abort, domain:
     let config = domain.config();
     assert!(rt; matches!(config.variant, TypeVariant::Dynamic));
     assert!(rt; config.units_per_element == 1);
+    assert!(rt; config.lists_cells);
 }
 
 /// Asserts that the publisher is one of the domain's that has no blocked send.

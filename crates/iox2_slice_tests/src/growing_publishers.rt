@@ -9,7 +9,7 @@ use crate::fixtures::{
     send_slice, slice_factory, slice_subscriber,
 };
 use iox2_fixtures::settings;
-use iox2_pubsub::slice::{Publisher, Sample, SampleMutUninit, Subscriber};
+use iox2_pubsub::slice::{Publisher, Sample, SampleMutUninit};
 use iox2_pubsub::{CustomHeaderMarker, CustomPayloadMarker, Domain};
 use iox2_store::{AllocationStrategy, LoanError, ServiceConfig, TypeVariant};
 use std::alloc::Global;
@@ -94,43 +94,6 @@ fn reads(
     assert!(rt; domain.holds_sample(sample.key()));
     let payload = sample.payload(domain);
     payload.len() == len && payload.iter().all(|read| *read == value)
-}
-
-#[test]
-fn a_sample_reads_on_while_its_publisher_grows(rt: HostRuntime) {
-    let mut domain: Domain<u64, u64> = Domain::new(rt.alloc(), slices()).expect(&rt, "a domain");
-    let subscriber = slice_subscriber(&rt, &mut domain);
-    let publisher = growing(&rt, &mut domain, 1, AllocationStrategy::BestFit);
-    send(&rt, &mut domain, &publisher, 1, 5);
-    let sample = receive_slice(&rt, &mut domain, &subscriber);
-    send(&rt, &mut domain, &publisher, 4, 6);
-    let reads_on = reads(&rt, &domain, &sample, 1, 5);
-    let unfit = lends(&rt, &mut domain, &publisher, usize::MAX);
-    let reads_after = reads(&rt, &domain, &sample, 1, 5);
-    let fit = lends(&rt, &mut domain, &publisher, 4);
-    sample.disown();
-    subscriber.disown();
-    publisher.disown();
-    assert!(rt; reads_on && reads_after);
-    assert!(rt; unfit == Err(LoanError::InternalFailure));
-    assert!(rt; fit == Ok(()));
-}
-
-#[test]
-fn loans_past_the_slots_make_more_up_to_the_limit_of_loans(rt: HostRuntime) {
-    let mut domain: Domain<u64, u64> = Domain::new(rt.alloc(), slices()).expect(&rt, "a domain");
-    let factory = slice_factory(&domain)
-        .max_loaned_samples(2)
-        .allocation_strategy(AllocationStrategy::BestFit)
-        .override_sample_preallocation(|_| 1);
-    let publisher = factory.create(&mut domain).expect(&rt, "a publisher");
-    let first = lend(&rt, &mut domain, &publisher, 1).map(|loan| loan.disown());
-    let second = lend(&rt, &mut domain, &publisher, 1).map(|loan| loan.disown());
-    let third = lends(&rt, &mut domain, &publisher, 1);
-    publisher.disown();
-    assert!(rt; first == Ok(()));
-    assert!(rt; second == Ok(()));
-    assert!(rt; third == Err(LoanError::ExceedsMaxLoans));
 }
 
 // How many loans of rising length are granted, from 2 on, each of which is given back.
@@ -222,6 +185,7 @@ fn assert_dynamic(rt: &impl Abort, domain: &Domain<CustomPayloadMarker, CustomHe
 {
     let config = domain.config();
     assert!(rt; matches!(config.variant, TypeVariant::Dynamic));
+    assert!(rt; config.lists_cells);
 }
 
 #[test]

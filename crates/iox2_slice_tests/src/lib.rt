@@ -18,3 +18,5 @@ mod overrides;
 mod slices;
 #[cfg(test)]
 mod unspecified;
+#[cfg(test)]
+mod without_cells;

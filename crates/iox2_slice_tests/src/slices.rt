@@ -9,12 +9,13 @@ use crate::fixtures::{
     assert_live, assert_ready, assert_sliced, close_publisher, close_subscriber, lend_defaults,
     lend_slice, receive_slice, send_slice, slice_factory, slice_publisher, slice_subscriber,
 };
-use iox2_fixtures::{Endless, settings};
+use iox2_fixtures::{Costly, costly_time, micros_since, settings};
 use iox2_pubsub::slice::{Publisher, SampleMut, SampleMutUninit, Subscriber};
 use iox2_pubsub::{DegradationHandler, Domain, UpdateConnections};
 use iox2_store::{DegradationAction, LoanError, PublisherCreateError, ServiceConfig, TypeVariant};
 use std::cell::Cell;
 use std::process::Abort;
+use std::time::CpuClock;
 
 /// A payload that is neither `Copy` nor `Clone`.
 #[derive(Default, Drop)]
@@ -86,11 +87,16 @@ fn a_slice_is_copied_into_its_loan(rt: HostRuntime) {
     let sample = receive_slice(&rt, &mut domain, &subscriber);
     subscriber.disown();
     let is_read = sample.payload(&domain) == [1, 2, 3, 4].as_slice();
+    let lies_there = match sample.payload_at_hint(&domain) {
+        Some(values) => values == [1, 2, 3, 4].as_slice(),
+        None => false,
+    };
     let elements = sample.header(&domain).number_of_elements();
     sample.disown();
     drop(domain);
     assert!(rt; takers == 1);
     assert!(rt; is_read);
+    assert!(rt; lies_there);
     assert!(rt; elements == 4);
 }
 
@@ -109,17 +115,21 @@ fn a_slice_has_default_values(rt: HostRuntime) {
 
 #[test]
 fn no_default_values_are_made_for_a_refused_loan(rt: HostRuntime) {
-    let mut domain: Domain<Endless, ()> = Domain::new(rt.alloc(), slices()).expect(&rt, "a domain");
+    let mut domain: Domain<Costly, ()> = Domain::new(rt.alloc(), slices()).expect(&rt, "a domain");
     let factory = slice_factory(&domain).max_loaned_samples(0);
     let publisher = factory.create(&mut domain).expect(&rt, "a publisher");
+    let begun = rt.thread_cpu_time().expect(&rt, "a time");
     let longer = publisher.loan_slice(&mut domain, 2);
     let longer = longer.map(|loan| loan.disown());
     let second = publisher.loan_slice(&mut domain, 1);
     let second = second.map(|loan| loan.disown());
+    let spent = micros_since(&rt, begun).expect(&rt, "a time");
     publisher.disown();
     drop(domain);
+    let (number, once) = costly_time(&rt).expect(&rt, "a time");
     assert!(rt; longer == Err(LoanError::ExceedsMaxLoanSize));
     assert!(rt; second == Err(LoanError::ExceedsMaxLoans));
+    assert!(rt; number != 0 && spent < once / 2);
 }
 
 #[test]

@@ -37,6 +37,10 @@ has_slots c = not (is_nil c.waiting)
 abbrev pub has_borrowed_slots : Link → Bool
 has_borrowed_slots c = not (is_nil c.borrowed)
 
+-- Some slot was given back and isn't reclaimed yet.
+abbrev pub has_returned_slots : Link → Bool
+has_returned_slots c = not (is_nil c.returned)
+
 -- Some slot waits, and fewer than the limit are borrowed.
 abbrev pub can_borrow : Link → Bool
 can_borrow c = has_slots c && nat_lt (length c.borrowed) c.limit

@@ -6,13 +6,15 @@ use Rattle.iox2_store.specs.declared.allocation.AllocationStrategy.TheVariants.{
 use Rattle.iox2_store.specs.declared.backpressure.BackpressureStrategy.TheVariants.{RetryUntilDelivered}
 
 -- Single values, of node 0, in memory that doesn't grow, for 2 publishers with 2 loans each and 8 subscribers, with buffers
--- of 2, 2 borrowed samples, room for 128 departed publishers, no history and overflow. A publisher retries.
+-- of 2, 2 borrowed samples, room for 128 departed publishers, no history and overflow. A publisher retries, and cells are
+-- handed out.
 abbrev pub default_config : (service_id : ℕ) → ServiceConfig
 default_config service_id = record {
   service_id = service_id;
   node_id = 0;
   variant = FixedSize;
   units_per_element = 1;
+  lists_cells = true;
   max_publishers = 2;
   max_subscribers = 8;
   subscriber_max_buffer_size = 2;

@@ -35,6 +35,11 @@ pub struct ServiceConfig {
     /// How many cells one element takes: 1 for values and slices, and for custom payloads the
     /// size of an element in bytes.
     pub units_per_element: usize,
+    /// Whether the cells of an unwritten slice are handed out, by `payload` and `payload_mut` of
+    /// `slice::SampleMutUninit`. They take room for an `Option` of each element in each slot, beside
+    /// the room for the values, and once more in each segment: for bytes two thirds of the memory. A
+    /// domain whose loans are written by other calls can do without.
+    pub lists_cells: bool,
     /// How many publishers may be open at a time.
     pub max_publishers: usize,
     /// How many subscribers there may be at a time. A closed one counts until its last sample is
@@ -65,7 +70,7 @@ impl ServiceConfig {
     /// The defaults of a service with this id: single values, of node 0; up to 2 publishers with 2
     /// loans each, and up to 8 subscribers with a buffer of 2, 2 borrowed samples and room for 128
     /// departed publishers; no history; overflow. Where there is none a publisher retries until its
-    /// message is delivered. Its memory is static.
+    /// message is delivered. Its memory is static, and cells are handed out.
     ///
     /// They follow iceoryx2's configuration where nothing else is set; `docs/DECISIONS.md` says which
     /// of them were read there.
@@ -77,6 +82,7 @@ impl ServiceConfig {
             node_id: 0,
             variant: TypeVariant::FixedSize,
             units_per_element: 1,
+            lists_cells: true,
             max_publishers: 2,
             max_subscribers: 8,
             subscriber_max_buffer_size: 2,

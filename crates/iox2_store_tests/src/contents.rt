@@ -1,4 +1,4 @@
-ghost use Rattle.std.specs.Prelude.{◌≡◌, ◌<◌, length, false};
+ghost use Rattle.std.specs.Prelude.{◌≡◌, ◌<◌, length, true, false};
 ghost use Rattle.iox2_contents.specs.SlotContents.{SomeAt};
 
 use iox2_contents::Contents;
@@ -20,9 +20,13 @@ struct Station {
 
 #[test]
 fn a_loan_starts_with_empty_cells(rt: HostRuntime) {
-    let mut contents: Contents<Reading, Station> = Contents::new(rt.alloc(), 2, 3, true).expect(
-        &rt, "room",
-    );
+    let mut contents: Contents<Reading, Station> = Contents::new(
+        rt.alloc(),
+        2,
+        3,
+        true,
+        true,
+    ).expect(&rt, "room");
     contents.start(0, 3);
     contents.start(1, 1);
     let station = contents.user_header(1).number;
@@ -36,10 +40,10 @@ fn a_loan_starts_with_empty_cells(rt: HostRuntime) {
 // The contents of two slots with room for three elements. A loan of three starts in the first, and one
 // of one in the second, which is written.
 fn written_beside_a_loan(rt: &impl Abort, alloc: Global, celsius: u64) -> Contents<Reading, Station>
-    ensures beside { SomeAt result 0 (λ content. content.is_in_place ≡ false) }
-    ensures written { SomeAt result 1 (λ content. (0 < length content.values) × (content.is_in_place ≡ false) × (content.room ≡ 3)) }
+    ensures beside { SomeAt result 0 (λ content. content.lists_cells ≡ true) }
+    ensures written { SomeAt result 1 (λ content. (0 < length content.values) × (content.is_in_place ≡ false) × (content.lists_cells ≡ true) × (content.room ≡ 3)) }
 {
-    let mut contents: Contents<Reading, Station> = Contents::new(alloc, 2, 3, true).expect(
+    let mut contents: Contents<Reading, Station> = Contents::new(alloc, 2, 3, true, true).expect(
         rt, "room",
     );
     contents.start(0, 3);
@@ -50,8 +54,8 @@ fn written_beside_a_loan(rt: &impl Abort, alloc: Global, celsius: u64) -> Conten
 
 // How many values the second slot has, and how many cells the first and the second.
 fn lengths(contents: &Contents<Reading, Station>) -> [usize; 3]
-    requires first { SomeAt contents.now 0 (λ content. content.is_in_place ≡ false) }
-    requires second { SomeAt contents.now 1 (λ content. content.is_in_place ≡ false) }
+    requires first { SomeAt contents.now 0 (λ content. content.lists_cells ≡ true) }
+    requires second { SomeAt contents.now 1 (λ content. (content.is_in_place ≡ false) × (content.lists_cells ≡ true)) }
 {
     [
         contents.values(1).len(),
@@ -76,7 +80,7 @@ fn two_loans(rt: &impl Abort, alloc: Global) -> Contents<Reading, Station>
     ensures first { SomeAt result 0 (λ content. length content.cells ≡ 1) }
     ensures second { SomeAt result 1 (λ content. (length content.cells ≡ 1) × (content.room ≡ 1)) }
 {
-    let mut contents: Contents<Reading, Station> = Contents::new(alloc, 2, 1, false).expect(
+    let mut contents: Contents<Reading, Station> = Contents::new(alloc, 2, 1, false, true).expect(
         rt, "room",
     );
     contents.start(0, 1);
@@ -110,9 +114,9 @@ fn a_single_value_is_written_and_read(rt: HostRuntime) {
 
 // The contents of one slot, in which a loan of so many elements lies in a list.
 fn listed(rt: &impl Abort, alloc: Global, len: usize) -> Contents<Reading, Station>
-    ensures { SomeAt result 0 (λ content. content.is_in_place ≡ false) }
+    ensures { SomeAt result 0 (λ content. (content.is_in_place ≡ false) × (content.lists_cells ≡ true)) }
 {
-    let mut contents: Contents<Reading, Station> = Contents::new(alloc, 1, len, true).expect(
+    let mut contents: Contents<Reading, Station> = Contents::new(alloc, 1, len, true, true).expect(
         rt, "room",
     );
     contents.start(0, len);
@@ -121,8 +125,8 @@ fn listed(rt: &impl Abort, alloc: Global, len: usize) -> Contents<Reading, Stati
 
 // Writes one cell of the loan, if it has one there.
 fn write_cell(contents: &mut Contents<Reading, Station>, at: usize, celsius: u64)
-    requires { SomeAt contents.old 0 (λ content. content.is_in_place ≡ false) }
-    ensures { SomeAt contents.new 0 (λ content. content.is_in_place ≡ false) }
+    requires { SomeAt contents.old 0 (λ content. (content.is_in_place ≡ false) × (content.lists_cells ≡ true)) }
+    ensures { SomeAt contents.new 0 (λ content. (content.is_in_place ≡ false) × (content.lists_cells ≡ true)) }
 {
     if let Some(cell) = contents.cells_mut(0).get_mut(at) {
         *cell = Some(Reading { celsius });
@@ -131,15 +135,15 @@ fn write_cell(contents: &mut Contents<Reading, Station>, at: usize, celsius: u64
 
 // Takes the cells of the loan as its values, where each is written.
 fn assume_init(contents: &mut Contents<Reading, Station>) -> bool
-    requires { SomeAt contents.old 0 (λ content. content.is_in_place ≡ false) }
-    ensures { SomeAt contents.new 0 (λ content. content.is_in_place ≡ false) }
+    requires { SomeAt contents.old 0 (λ content. (content.is_in_place ≡ false) × (content.lists_cells ≡ true)) }
+    ensures { SomeAt contents.new 0 (λ content. (content.is_in_place ≡ false) × (content.lists_cells ≡ true)) }
 {
     contents.assume_init(0)
 }
 
 // The value there, if the slot has one.
 fn celsius_at(contents: &Contents<Reading, Station>, at: usize) -> Option<u64>
-    requires { SomeAt contents.now 0 (λ content. content.is_in_place ≡ false) }
+    requires { SomeAt contents.now 0 (λ content. (content.is_in_place ≡ false) × (content.lists_cells ≡ true)) }
 {
     match contents.values(0).get(at) {
         Some(reading) => Some(reading.celsius),
@@ -149,7 +153,7 @@ fn celsius_at(contents: &Contents<Reading, Station>, at: usize) -> Option<u64>
 
 // Whether the cell there is written, if the slot has one.
 fn is_written_at(contents: &Contents<Reading, Station>, at: usize) -> Option<bool>
-    requires { SomeAt contents.now 0 (λ content. content.is_in_place ≡ false) }
+    requires { SomeAt contents.now 0 (λ content. (content.is_in_place ≡ false) × (content.lists_cells ≡ true)) }
 {
     match contents.cells(0).get(at) {
         Some(cell) => Some(cell.is_some()),
@@ -193,9 +197,13 @@ fn cells_are_taken_only_once_each_is_written(rt: HostRuntime) {
 #[test]
 fn what_lay_in_a_cleared_slot_is_dropped(rt: HostRuntime) {
     let shared = Rc::new(rt.alloc(), 21_u8).expect(&rt, "a value");
-    let mut contents: Contents<Rc<u8>, Station> = Contents::new(rt.alloc(), 1, 1, false).expect(
-        &rt, "room",
-    );
+    let mut contents: Contents<Rc<u8>, Station> = Contents::new(
+        rt.alloc(),
+        1,
+        1,
+        false,
+        true,
+    ).expect(&rt, "room");
     contents.start(0, 1);
     contents.write_payload(0, shared.clone().expect(&rt, "a share"));
     let held = Rc::strong_count(&shared);

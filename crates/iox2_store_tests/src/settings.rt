@@ -7,6 +7,7 @@ fn settings_start_with_the_defaults(rt: HostRuntime) {
         node_id: 0,
         variant: TypeVariant::FixedSize,
         units_per_element: 1,
+        lists_cells: true,
         max_publishers: 2,
         max_subscribers: 8,
         subscriber_max_buffer_size: 2,
@@ -23,7 +24,7 @@ fn settings_start_with_the_defaults(rt: HostRuntime) {
 }
 
 // The defaults with one field changed, of which there are so many.
-const FIELDS: usize = 14;
+const FIELDS: usize = 15;
 
 fn changed_at(field: usize) -> ServiceConfig {
     let mut settings = ServiceConfig::new(7);
@@ -42,6 +43,7 @@ fn changed_at(field: usize) -> ServiceConfig {
         11 => settings.publisher_max_loaned_samples = 3,
         12 => settings.backpressure_strategy = BackpressureStrategy::DiscardData,
         13 => settings.publisher_allocation_strategy = AllocationStrategy::BestFit,
+        14 => settings.lists_cells = false,
         _ => {}
     }
     settings

@@ -1,5 +1,5 @@
 //! Loans whose cells nobody writes, and cells that loans share until they are written.
-ghost use Rattle.std.specs.Prelude.{◌≡◌, ◌≤◌, false};
+ghost use Rattle.std.specs.Prelude.{◌≡◌, ◌≤◌, true, false};
 ghost use Rattle.iox2_contents.specs.SlotContents.{SomeAt};
 
 use iox2_contents::Contents;
@@ -8,17 +8,17 @@ use std::process::Abort;
 
 // The contents of two slots with room for five numbers each.
 fn five(rt: &impl Abort, alloc: Global) -> Contents<u64, u64>
-    ensures first { SomeAt result 0 (λ content. (content.is_in_place ≡ false) × (content.room ≡ 5)) }
-    ensures second { SomeAt result 1 (λ content. (content.is_in_place ≡ false) × (content.room ≡ 5)) }
+    ensures first { SomeAt result 0 (λ content. (content.is_in_place ≡ false) × (content.lists_cells ≡ true) × (content.room ≡ 5)) }
+    ensures second { SomeAt result 1 (λ content. (content.is_in_place ≡ false) × (content.lists_cells ≡ true) × (content.room ≡ 5)) }
 {
-    Contents::new(alloc, 2, 5, true).expect(rt, "room")
+    Contents::new(alloc, 2, 5, true, true).expect(rt, "room")
 }
 
 // Whether a loan of so many elements in the first slot, whose cells nobody writes, has these values.
 fn has(contents: &mut Contents<u64, u64>, len: usize, values: &[u64]) -> bool
-    requires room { SomeAt contents.old 0 (λ content. (content.is_in_place ≡ false) × (content.room ≡ 5)) }
+    requires room { SomeAt contents.old 0 (λ content. (content.is_in_place ≡ false) × (content.lists_cells ≡ true) × (content.room ≡ 5)) }
     requires length { len ≤ 5 }
-    ensures { SomeAt contents.new 0 (λ content. (content.is_in_place ≡ false) × (content.room ≡ 5)) }
+    ensures { SomeAt contents.new 0 (λ content. (content.is_in_place ≡ false) × (content.lists_cells ≡ true) × (content.room ≡ 5)) }
 {
     contents.start(0, len);
     contents.write_unspecified(0);
@@ -56,10 +56,14 @@ fn cells_of_one_loan_are_no_other_s(rt: HostRuntime) {
 
 // The contents of a slot with room for two numbers, and of one more with room for five.
 fn grown(rt: &impl Abort, alloc: Global) -> Contents<u64, u64>
-    ensures { SomeAt result 1 (λ content. (content.is_in_place ≡ false) × (content.room ≡ 5)) }
+    ensures { SomeAt result 1 (λ content. (content.is_in_place ≡ false) × (content.lists_cells ≡ true) × (content.room ≡ 5)) }
 {
-    let mut contents: Contents<u64, u64> = Contents::new(alloc, 1, 2, true).expect(rt, "room");
-    contents.grow(alloc, 1, 5, true).expect(rt, "more room");
+    let mut contents: Contents<u64, u64> = Contents::new(alloc, 1, 2, true, true).expect(
+        rt, "room",
+    );
+    contents
+        .grow(alloc, 1, 5, true, true)
+        .expect(rt, "more room");
     contents
 }
 
@@ -70,4 +74,27 @@ fn longer_slots_show_as_many_cells(rt: HostRuntime) {
     let shown = contents.cells(1) == [None, None, None, None, None].as_slice();
     drop(contents);
     assert!(rt; shown);
+}
+
+// The contents of a slot with room for five numbers, which hands out no list of cells.
+fn without_cells(rt: &impl Abort, alloc: Global) -> Contents<u64, u64>
+    ensures { SomeAt result 0 (λ content. (content.is_in_place ≡ false) × (content.room ≡ 5)) }
+{
+    Contents::new(alloc, 1, 5, true, false).expect(rt, "room")
+}
+
+#[test]
+fn a_loan_without_cells_is_written(rt: HostRuntime) {
+    let mut contents = without_cells(&rt, rt.alloc());
+    contents.start(0, 3);
+    let is_empty = contents.cell(0).is_none();
+    *contents.cell_mut(0) = Some(4);
+    let first = *contents.cell(0);
+    let is_whole = contents.assume_init(0);
+    contents.write_from_fn(0, |index| (index as u64).wrapping_add(7));
+    let is_written = contents.values(0) == [7, 8, 9].as_slice();
+    contents.start(0, 1);
+    let is_empty_again = contents.cell(0).is_none();
+    drop(contents);
+    assert!(rt; is_empty && first == Some(4) && !is_whole && is_written && is_empty_again);
 }

@@ -1,8 +1,11 @@
 //! Values that are lent or sent at once.
 use crate::fixtures::{assert_single_valued, publisher_of, receive, send, subscriber_of};
-use iox2_fixtures::{Endless, Reading, Station, factory_for, receiver_count, settings};
+use iox2_fixtures::{
+    Costly, Reading, Station, costly_time, factory_for, micros_since, receiver_count, settings,
+};
 use iox2_pubsub::{Domain, LoanError, SendError};
 use iox2_store::ServiceConfig;
+use std::time::CpuClock;
 
 #[test]
 fn a_value_is_sent_and_received(rt: HostRuntime) {
@@ -36,16 +39,20 @@ fn a_value_is_sent_and_received(rt: HostRuntime) {
 
 #[test]
 fn no_default_value_is_made_for_a_refused_loan(rt: HostRuntime) {
-    let mut domain: Domain<Endless, ()> = Domain::new(rt.alloc(), settings()).expect(
+    let mut domain: Domain<Costly, ()> = Domain::new(rt.alloc(), settings()).expect(
         &rt, "a domain",
     );
     let factory = factory_for(&domain).max_loaned_samples(0);
     let publisher = factory.create(&mut domain).expect(&rt, "a publisher");
     assert_single_valued(&rt, &domain);
+    let begun = rt.thread_cpu_time().expect(&rt, "a time");
     let lent = publisher.loan(&mut domain).map(|loan| loan.disown());
+    let spent = micros_since(&rt, begun).expect(&rt, "a time");
     publisher.disown();
     drop(domain);
+    let (number, once) = costly_time(&rt).expect(&rt, "a time");
     assert!(rt; lent == Err(LoanError::ExceedsMaxLoans));
+    assert!(rt; number != 0 && spent < once / 2);
 }
 
 #[test]

@@ -1,4 +1,6 @@
 //! Handles that are made of their numbers again.
+ghost use Rattle.std.specs.Prelude.{◌≡◌};
+
 use crate::fixtures::{
     assert_single_valued, celsius_of, domain, publisher_of, received, release, sent, subscriber_of,
 };
@@ -176,6 +178,19 @@ fn has_sample(domain: &Domain<Reading, Station>, parts: &SampleParts) -> bool {
     }
 }
 
+// Whether the sample with the numbers lies there, and was borrowed last.
+fn has_sample_at_hint(domain: &mut Domain<Reading, Station>, parts: &SampleParts) -> bool
+    ensures { domain.new ≡ domain.old }
+{
+    match domain.sample_at_hint(parts) {
+        Some(sample) => {
+            sample.disown();
+            true
+        }
+        None => false,
+    }
+}
+
 #[test]
 fn a_sample_is_had_again_until_it_is_released(rt: HostRuntime) {
     let mut domain = domain(&rt, rt.alloc());
@@ -205,6 +220,11 @@ fn a_sample_is_had_again_until_it_is_released(rt: HostRuntime) {
         domain.is_sample_at_hint(&later),
         domain.is_sample_at_hint(&astray),
     ];
+    let had = [
+        has_sample_at_hint(&mut domain, &earlier),
+        has_sample_at_hint(&mut domain, &later),
+        has_sample_at_hint(&mut domain, &astray),
+    ];
     let sample = domain.sample_of(&astray).expect(&rt, "a sample");
     let celsius = celsius_of(&rt, &domain, &sample);
     release(&rt, &mut domain, sample);
@@ -212,6 +232,7 @@ fn a_sample_is_had_again_until_it_is_released(rt: HostRuntime) {
     drop(domain);
     assert!(rt; before == [true, true, true, false]);
     assert!(rt; last == [false, true, false]);
+    assert!(rt; had == [false, true, false]);
     assert!(rt; celsius == 21);
     assert!(rt; after == [true, false]);
 }
@@ -243,4 +264,65 @@ fn numbers_are_tested_without_a_search(rt: HostRuntime) {
     drop(domain);
     assert!(rt; subscribers == [true, false, false]);
     assert!(rt; loans == [true, false, false, false]);
+}
+
+#[test]
+fn numbers_say_whether_a_publisher_lends_at_once(rt: HostRuntime) {
+    let mut domain = domain(&rt, rt.alloc());
+    let publisher = publisher_of(&rt, &mut domain).into_parts();
+    let elsewhere = PublisherParts {
+        place: 1,
+        ..publisher
+    };
+    let unknown = PublisherParts { id: 9, ..publisher };
+    let lends = [
+        domain.lends_at_once(&publisher, 1),
+        domain.lends_at_once(&publisher, 2),
+        domain.lends_at_once(&elsewhere, 1),
+        domain.lends_at_once(&unknown, 1),
+    ];
+    drop(domain);
+    assert!(rt; lends == [true, false, false, false]);
+}
+
+#[test]
+fn numbers_say_whether_a_loan_is_sent_at_once(rt: HostRuntime) {
+    let mut domain = domain(&rt, rt.alloc());
+    let unwritten = lent(&rt, &mut domain);
+    let is_unwritten = !domain.sends_at_once(&unwritten);
+    let loan = write(&rt, &mut domain, &unwritten);
+    let sends = [
+        domain.sends_at_once(&loan),
+        domain.sends_at_once(&LoanParts { place: 1, ..loan }),
+        domain.sends_at_once(&LoanParts { slot: 1, ..loan }),
+        domain.sends_at_once(&LoanParts { number: 9, ..loan }),
+    ];
+    subscriber_of(&rt, &mut domain).disown();
+    let is_due = !domain.sends_at_once(&loan);
+    drop(domain);
+    assert!(rt; is_unwritten);
+    assert!(rt; sends == [true, false, false, false]);
+    assert!(rt; is_due);
+}
+
+#[test]
+fn numbers_say_whether_a_subscriber_receives_at_once(rt: HostRuntime) {
+    let mut domain = domain(&rt, rt.alloc());
+    let parts = subscriber_of(&rt, &mut domain).into_parts();
+    let publisher = publisher_of(&rt, &mut domain);
+    sent(&rt, &mut domain, &publisher, 20);
+    publisher.disown();
+    let is_due = !domain.receives_at_once(&parts);
+    let subscriber = domain.subscriber_of(&parts).expect(&rt, "a subscriber");
+    let sample = received(&rt, &mut domain, &subscriber).expect(&rt, "a sample");
+    sample.disown();
+    subscriber.disown();
+    let receives = [
+        domain.receives_at_once(&parts),
+        domain.receives_at_once(&SubscriberParts { place: 1, ..parts }),
+        domain.receives_at_once(&SubscriberParts { id: 9, ..parts }),
+    ];
+    drop(domain);
+    assert!(rt; is_due);
+    assert!(rt; receives == [true, false, false]);
 }

@@ -5,11 +5,17 @@ mod buffers;
 mod calls;
 mod changing_ports;
 mod closes;
+mod growing;
+mod handlers;
 mod histories;
+mod loans;
 mod neighbours;
+mod overrides;
 mod plan;
 mod ports;
+mod slices;
 mod streams;
+mod waiting_sends;
 mod warnings;
 mod words;
 

@@ -9,17 +9,21 @@ use std::alloc::Global;
 const COUNTS: [usize; 8] = [128, 64, 32, 16, 8, 4, 2, 1];
 
 /// The recording up to the command at the position, with as many commands before it left out as can be:
-/// so that all others reply as they did, but for the ids of ports, and the last doesn't.
+/// so that all others reply as they did, but for the ids of ports, and the last as the whole replay does.
 pub(crate) fn shortest(
     alloc: Global,
     recording: &Recording,
     position: usize,
 ) -> Result<Recording, Failure> {
     let mut found = first_commands(alloc, recording, position.saturating_add(1))?;
+    let again = recorded(alloc, found.config, found.commands.as_slice())?;
+    let Some(after) = again.replies.last() else {
+        return Ok(found);
+    };
     for _ in 0..8 {
         let before = found.commands.len();
         for count in COUNTS {
-            found = without_so_many(alloc, found, count)?;
+            found = without_so_many(alloc, found, after.as_str(), count)?;
         }
         if found.commands.len() == before {
             break;
@@ -56,6 +60,7 @@ fn copy(alloc: Global, text: &str) -> Result<String, Failure> {
 fn without_so_many(
     alloc: Global,
     recording: Recording,
+    after: &str,
     count: usize,
 ) -> Result<Recording, Failure> {
     let mut found = recording;
@@ -68,7 +73,7 @@ fn without_so_many(
         let last = found.commands.len().saturating_sub(1);
         if from.saturating_add(count) <= last {
             let fewer = without_some(alloc, &found, from, count)?;
-            if shows(alloc, &fewer)? {
+            if shows(alloc, &fewer, after)? {
                 found = fewer;
             }
         }
@@ -94,17 +99,19 @@ fn without_some(
     Ok(fewer)
 }
 
-// Whether all commands but the last reply as they did, and the last doesn't.
-fn shows(alloc: Global, recording: &Recording) -> Result<bool, Failure> {
+// Whether all commands but the last reply as they did, and the last doesn't, but as is said.
+fn shows(alloc: Global, recording: &Recording, after: &str) -> Result<bool, Failure> {
     let again = recorded(alloc, recording.config, recording.commands.as_slice())?;
     let first = recording
         .replies
         .iter()
         .zip(again.replies.iter())
         .position(|(old, new)| !is_alike(old.as_str(), new.as_str()));
-    Ok(match first {
-        Some(position) => position.saturating_add(1) == recording.commands.len(),
-        None => false,
+    Ok(match (first, again.replies.last()) {
+        (Some(position), Some(last)) => {
+            position.saturating_add(1) == recording.commands.len() && is_alike(last.as_str(), after)
+        }
+        _ => false,
     })
 }
 

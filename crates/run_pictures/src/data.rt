@@ -1,6 +1,6 @@
 //! The facts of a run for the script of a page, as JSON.
 use crate::failure::Failure;
-use crate::story::Story;
+use crate::story::{Loan, Port, Story, Visit};
 use std::fmt::Write;
 
 /// Adds the facts as one object.
@@ -11,39 +11,27 @@ pub(crate) fn push_data(page: &mut String, story: &Story) -> Result<(), Failure>
     push_texts(page, story.replies.as_slice())?;
     page.push_str("],\n\"ports\":[")?;
     for (index, port) in story.ports.iter().enumerate() {
-        push_comma(page, index)?;
-        write!(
-            page,
-            "[{},{},{},",
-            port.id,
-            u8::from(port.is_publisher),
-            port.from
-        )?;
-        push_time(page, port.to)?;
-        page.push(']')?;
+        push_port(page, index, *port)?;
     }
+    push_messages(page, story)?;
+    page.push_str("]}")?;
+    Ok(())
+}
+
+// What became of messages: as loans and in mailboxes, their values, and how many there were at a time.
+fn push_messages(page: &mut String, story: &Story) -> Result<(), Failure> {
     page.push_str("],\n\"loans\":[")?;
     for (index, loan) in story.loans.iter().enumerate() {
-        push_comma(page, index)?;
-        write!(page, "[{},{},{},", loan.message, loan.publisher, loan.from)?;
-        push_time(page, loan.blocked)?;
-        page.push(',')?;
-        push_time(page, loan.to)?;
-        page.push(']')?;
+        push_loan(page, index, *loan)?;
     }
     page.push_str("],\n\"visits\":[")?;
     for (index, visit) in story.visits.iter().enumerate() {
-        push_comma(page, index)?;
-        write!(
-            page,
-            "[{},{},{},{},",
-            visit.message, visit.publisher, visit.subscriber, visit.from
-        )?;
-        push_time(page, visit.received)?;
-        page.push(',')?;
-        push_time(page, visit.to)?;
-        page.push(']')?;
+        push_visit(page, index, *visit)?;
     }
+    push_numbers(page, story)
+}
+
+fn push_numbers(page: &mut String, story: &Story) -> Result<(), Failure> {
     page.push_str("],\n\"values\":[")?;
     for (index, value) in story.values.iter().enumerate() {
         push_comma(page, index)?;
@@ -55,7 +43,45 @@ pub(crate) fn push_data(page: &mut String, story: &Story) -> Result<(), Failure>
         push_comma(page, index)?;
         write!(page, "[{},{}]", point.slots, point.waiting)?;
     }
-    page.push_str("]}")?;
+    Ok(())
+}
+
+fn push_port(page: &mut String, index: usize, port: Port) -> Result<(), Failure> {
+    push_comma(page, index)?;
+    write!(
+        page,
+        "[{},{},{},",
+        port.id,
+        u8::from(port.is_publisher),
+        port.from
+    )?;
+    push_time(page, port.to)?;
+    page.push(']')?;
+    Ok(())
+}
+
+fn push_loan(page: &mut String, index: usize, loan: Loan) -> Result<(), Failure> {
+    push_comma(page, index)?;
+    write!(page, "[{},{},{},", loan.message, loan.publisher, loan.from)?;
+    push_times(page, loan.blocked, loan.to)
+}
+
+fn push_visit(page: &mut String, index: usize, visit: Visit) -> Result<(), Failure> {
+    push_comma(page, index)?;
+    write!(
+        page,
+        "[{},{},{},{},",
+        visit.message, visit.publisher, visit.subscriber, visit.from
+    )?;
+    push_times(page, visit.received, visit.to)
+}
+
+// The last two times of a list.
+fn push_times(page: &mut String, first: Option<usize>, last: Option<usize>) -> Result<(), Failure> {
+    push_time(page, first)?;
+    page.push(',')?;
+    push_time(page, last)?;
+    page.push(']')?;
     Ok(())
 }
 

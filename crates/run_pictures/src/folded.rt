@@ -3,7 +3,7 @@ use crate::axis::Scale;
 use crate::canvas::{Place, label, line, push_head, rect};
 use crate::curves;
 use crate::failure::Failure;
-use crate::story::{MarkKind, Port, Story, VisitEnd};
+use crate::story::{MarkKind, Port, Story, Visit, VisitEnd};
 use std::alloc::Global;
 use std::fmt::Write;
 
@@ -12,9 +12,12 @@ const MOST_COLUMNS: usize = 300;
 
 const COLUMN: usize = 4;
 
-const LANE: usize = 18;
+const LANE: usize = 22;
 
-const BAR: usize = 15;
+const BAR: usize = 11;
+
+// A lane has two strips above its bars and one below: refused calls, blocked sends, and lost messages.
+const STRIP: usize = 3;
 
 // Where lanes begin.
 const TOP: usize = 64;
@@ -157,20 +160,42 @@ impl Folded {
         }
     }
 
+    // A send is blocked in each column from one time to another.
+    fn add_blocked(&mut self, port: usize, from: usize, to: usize) {
+        let first = self.column(from);
+        let last = self.column(to);
+        for column in first..last.saturating_add(1) {
+            if let Some(cell) = self.cell_mut(port, column) {
+                cell.blocked = cell.blocked.saturating_add(1);
+            }
+        }
+    }
+
     fn add_messages(&mut self, story: &Story) {
         let end = story.commands.len();
         for loan in story.loans.iter() {
-            self.add_message(loan.publisher, loan.from, loan.to.unwrap_or(end));
+            let to = loan.to.unwrap_or(end);
+            self.add_message(loan.publisher, loan.from, to);
+            if let Some(at) = loan.blocked {
+                self.add_blocked(loan.publisher, at, to);
+            }
         }
         for visit in story.visits.iter() {
-            let to = visit.to.unwrap_or(end);
-            self.add_message(visit.subscriber, visit.from, to);
-            if visit.end == VisitEnd::Overwritten || visit.end == VisitEnd::Lost {
-                let column = self.column(to);
-                if let Some(cell) = self.cell_mut(visit.subscriber, column) {
-                    cell.lost = cell.lost.saturating_add(1);
-                }
-            }
+            self.add_visit(*visit, visit.to.unwrap_or(end));
+        }
+    }
+
+    fn add_visit(&mut self, visit: Visit, to: usize) {
+        self.add_message(visit.subscriber, visit.from, to);
+        if visit.end == VisitEnd::Overwritten || visit.end == VisitEnd::Lost {
+            self.add_lost(visit.subscriber, to);
+        }
+    }
+
+    fn add_lost(&mut self, port: usize, at: usize) {
+        let column = self.column(at);
+        if let Some(cell) = self.cell_mut(port, column) {
+            cell.lost = cell.lost.saturating_add(1);
         }
     }
 
@@ -181,19 +206,20 @@ impl Folded {
                 match mark.kind {
                     MarkKind::Refused => cell.refused = cell.refused.saturating_add(1),
                     MarkKind::Discarded => cell.lost = cell.lost.saturating_add(1),
-                    MarkKind::Blocked => cell.blocked = cell.blocked.saturating_add(1),
                     _ => {}
                 }
             }
         }
     }
 
-    // The most that there is in a cell.
-    fn most(&self) -> usize {
+    // The most that there is in a cell of a publisher, or of a subscriber.
+    fn most(&self, is_publisher: bool) -> usize {
         let mut most = 1usize;
         for lane in self.lanes.iter() {
-            for cell in lane.cells.iter() {
-                most = most.max(cell.messages);
+            if lane.is_publisher == is_publisher {
+                for cell in lane.cells.iter() {
+                    most = most.max(cell.messages);
+                }
             }
         }
         most
@@ -218,10 +244,10 @@ fn draw(alloc: Global, story: &Story, folded: &Folded) -> Result<String, Failure
     let mut svg = String::new(alloc);
     push_head(&mut svg, width, height)?;
     push_title(&mut svg, story, folded)?;
-    let most = folded.most();
+    push_keys(&mut svg, alloc, folded)?;
     for (position, lane) in folded.lanes.iter().enumerate() {
         let y = TOP.saturating_add(position.saturating_mul(LANE));
-        push_lane(&mut svg, alloc, folded, lane, scale, y, most)?;
+        push_lane(&mut svg, alloc, folded, lane, scale, y)?;
     }
     push_times(&mut svg, story, scale, folded.group, bottom)?;
     curves::push_curves(&mut svg, story, scale, curves_top)?;
@@ -237,24 +263,28 @@ fn push_title(svg: &mut String, story: &Story, folded: &Folded) -> Result<(), Fa
         svg,
         "<text class=\"title\" x=\"6\" y=\"16\">{commands} commands, {group} in each column; {ports} ports, one after another in a lane</text>\n"
     )?;
-    let y = 32;
-    label(
-        svg,
-        26,
-        y,
-        "note",
-        "height of a bar: messages that are lent by a publisher, or that wait for a subscriber or are received",
+    Ok(())
+}
+
+// What bars and strips mean. The bars of either side are as high as the most on that side.
+fn push_keys(svg: &mut String, alloc: Global, folded: &Folded) -> Result<(), Failure> {
+    let mut bars = String::new(alloc);
+    let (lent, there) = (folded.most(true), folded.most(false));
+    write!(
+        bars,
+        "height of a bar: messages that are lent by a publisher, at most {lent}, or that wait for a subscriber or are received, at most {there}"
     )?;
     push_key(svg, 10, 24, "#0072B2")?;
+    label(svg, 26, 32, "note", bars.as_str())?;
     let y = 50;
     push_key(svg, 10, 42, "#D55E00")?;
     label(svg, 26, y, "note", "calls refused")?;
     push_key(svg, 126, 42, "#CC79A7")?;
-    label(svg, 142, y, "note", "sends blocked")?;
-    push_key(svg, 246, 42, "#000000")?;
+    label(svg, 142, y, "note", "a send is blocked")?;
+    push_key(svg, 266, 42, "#000000")?;
     label(
         svg,
-        262,
+        282,
         y,
         "note",
         "messages lost, overwritten or not delivered",
@@ -278,23 +308,19 @@ fn push_lane(
     lane: &FoldedLane,
     scale: Scale,
     y: usize,
-    most: usize,
 ) -> Result<(), Failure> {
-    let kind = if lane.is_publisher {
-        "publisher"
-    } else {
-        "subscriber"
-    };
+    let kind = kind_of(lane.is_publisher);
     if let Some(port) = lane.ports.first() {
         let more = if lane.ports.len() > 1 { " .." } else { "" };
-        let base = y.saturating_add(12);
+        let base = y.saturating_add(14);
         write!(
             svg,
             "<text class=\"port\" x=\"6\" y=\"{base}\">{kind} {}{more}</text>\n",
             port.id
         )?;
     }
-    push_lives(svg, folded, lane, scale, y)?;
+    push_lives(svg, alloc, folded, lane, scale, y)?;
+    let most = folded.most(lane.is_publisher);
     for (column, cell) in lane.cells.iter().enumerate() {
         if cell.messages > 0 || cell.refused > 0 || cell.lost > 0 || cell.blocked > 0 {
             let said = cell_text(alloc, *cell, column, folded.group)?;
@@ -304,29 +330,55 @@ fn push_lane(
     Ok(())
 }
 
+fn kind_of(is_publisher: bool) -> &'static str {
+    if is_publisher {
+        "publisher"
+    } else {
+        "subscriber"
+    }
+}
+
+// Where a column begins.
+fn column_x(scale: Scale, column: usize) -> usize {
+    scale.left.saturating_add(column.saturating_mul(COLUMN))
+}
+
 // When the lane's ports were open.
 fn push_lives(
     svg: &mut String,
+    alloc: Global,
     folded: &Folded,
     lane: &FoldedLane,
     scale: Scale,
     y: usize,
 ) -> Result<(), Failure> {
     for port in lane.ports.iter() {
-        let x = scale.x(folded.column(port.from));
+        let x = column_x(scale, folded.column(port.from));
         let end = match port.to {
-            Some(at) => scale.x(folded.column(at)),
+            Some(at) => column_x(scale, folded.column(at)),
             None => scale.right(),
         };
         let place = Place {
             x,
             y,
             width: end.saturating_sub(x).max(2),
-            height: BAR,
+            height: LANE.saturating_sub(2),
         };
-        rect(svg, place, "life", "#e6e6e6", "")?;
+        let said = life_text(alloc, *port)?;
+        rect(svg, place, "life", "#e6e6e6", said.as_str())?;
     }
     Ok(())
+}
+
+fn life_text(alloc: Global, port: Port) -> Result<String, Failure> {
+    let mut text = String::new(alloc);
+    let kind = kind_of(port.is_publisher);
+    let first = port.from.saturating_add(1);
+    write!(text, "{kind} {}: made by command {first}", port.id)?;
+    if let Some(at) = port.to {
+        write!(text, ", closed by {}", at.saturating_add(1))?;
+    }
+    Ok(text)
 }
 
 fn cell_text(alloc: Global, cell: Cell, column: usize, group: usize) -> Result<String, Failure> {
@@ -367,25 +419,29 @@ fn push_cell(
 ) -> Result<(), Failure> {
     let up = cell.messages.saturating_mul(BAR) / most.max(1);
     let up = if cell.messages > 0 { up.max(2) } else { 0 };
-    let x = scale.left.saturating_add(column.saturating_mul(COLUMN));
+    let x = column_x(scale, column);
+    let second = y.saturating_add(STRIP);
+    let bars = second.saturating_add(STRIP);
     let place = Place {
         x,
-        y: y.saturating_add(BAR.saturating_sub(up)),
+        y: bars.saturating_add(BAR.saturating_sub(up)),
         width: COLUMN,
         height: up,
     };
     rect(svg, place, "held", "#0072B2", said)?;
-    push_tick(svg, x, y, cell.refused, "#D55E00")?;
-    push_tick(svg, x, y.saturating_add(4), cell.blocked, "#CC79A7")?;
-    push_tick(svg, x, y.saturating_add(11), cell.lost, "#000000")
+    push_strip(svg, x, y, cell.refused, "#D55E00", said)?;
+    push_strip(svg, x, second, cell.blocked, "#CC79A7", said)?;
+    let below = bars.saturating_add(BAR);
+    push_strip(svg, x, below, cell.lost, "#000000", said)
 }
 
-fn push_tick(
+fn push_strip(
     svg: &mut String,
     x: usize,
     y: usize,
     count: usize,
     color: &str,
+    said: &str,
 ) -> Result<(), Failure> {
     if count == 0 {
         return Ok(());
@@ -394,12 +450,12 @@ fn push_tick(
         x,
         y,
         width: COLUMN,
-        height: 4,
+        height: STRIP,
     };
-    rect(svg, place, "tick", color, "")
+    rect(svg, place, "tick", color, said)
 }
 
-// The numbers of some commands below the lanes.
+// The numbers of some commands below the lanes: the first one, and round ones.
 fn push_times(
     svg: &mut String,
     story: &Story,
@@ -407,18 +463,52 @@ fn push_times(
     group: usize,
     y: usize,
 ) -> Result<(), Failure> {
-    let columns = story.commands.len().div_ceil(group.max(1));
-    for tenth in 0..11usize {
-        let column = columns.saturating_mul(tenth) / 10;
-        let x = scale.left.saturating_add(column.saturating_mul(COLUMN));
-        let below = y.saturating_add(5);
-        line(svg, (x, y), (x, below), "grid", "#000")?;
-        let number = column.saturating_mul(group).saturating_add(1);
-        let base = y.saturating_add(16);
-        write!(
-            svg,
-            "<text class=\"number\" x=\"{x}\" y=\"{base}\">{number}</text>\n"
-        )?;
+    let count = story.commands.len();
+    let step = tick_step(count);
+    for tick in 0..11usize {
+        let number = tick.saturating_mul(step).max(1);
+        if number <= count {
+            push_time(
+                svg,
+                scale,
+                number.saturating_sub(1) / group.max(1),
+                number,
+                y,
+            )?;
+        }
     }
     Ok(())
+}
+
+fn push_time(
+    svg: &mut String,
+    scale: Scale,
+    column: usize,
+    number: usize,
+    y: usize,
+) -> Result<(), Failure> {
+    let x = column_x(scale, column).saturating_add(COLUMN / 2);
+    let below = y.saturating_add(5);
+    line(svg, (x, y), (x, below), "grid", "#000")?;
+    let base = y.saturating_add(16);
+    write!(
+        svg,
+        "<text class=\"number\" x=\"{x}\" y=\"{base}\">{number}</text>\n"
+    )?;
+    Ok(())
+}
+
+// 1, 2 or 5 with zeros behind, so that ten steps reach the number.
+fn tick_step(count: usize) -> usize {
+    let mut ten = 1usize;
+    for _ in 0..20usize {
+        for factor in [1usize, 2, 5] {
+            let step = ten.saturating_mul(factor).max(1);
+            if count / step <= 10 {
+                return step;
+            }
+        }
+        ten = ten.saturating_mul(10);
+    }
+    ten
 }

@@ -15,15 +15,8 @@ pub(crate) fn story_of(alloc: Global, recording: &Recording) -> Result<Story, Fa
     for (command, reply) in recording.commands.iter().zip(recording.replies.iter()) {
         follower.step(alloc, *command, reply.as_str())?;
     }
-    let Follower {
-        model,
-        mut story,
-        ..
-    } = follower;
-    for message in 0..model.message_count() {
-        let value = model.first_value(message).unwrap_or(0);
-        story.values.push((value, model.value_count(message)))?;
-    }
+    follower.note_values()?;
+    let Follower { story, .. } = follower;
     Ok(story)
 }
 
@@ -92,6 +85,16 @@ impl Follower {
             slots: self.holders.used(),
             waiting: self.mailboxes.waiting(),
         })?;
+        Ok(())
+    }
+
+    // What each message has at the end.
+    fn note_values(&mut self) -> Result<(), Failure> {
+        for message in 0..self.model.message_count() {
+            let value = self.model.first_value(message).unwrap_or(0);
+            let count = self.model.value_count(message);
+            self.story.values.push((value, count))?;
+        }
         Ok(())
     }
 
@@ -191,34 +194,36 @@ impl Follower {
         messages: usize,
     ) -> Result<(), Failure> {
         if self.model.message_count() > messages {
-            self.holders.hold(messages)?;
-            self.story.loans.push(Loan {
-                message: messages,
-                publisher: object.publisher,
-                from: at,
-                blocked: None,
-                to: None,
-                end: LoanEnd::Out,
-            })?;
+            self.take_loan(at, object.publisher, messages)?;
         }
         let message = match command {
             Command::SendCopy { .. } => messages,
             _ => object.message,
         };
-        match (command, reply) {
-            (_, Reply::Blocked) => self.block_loan(at, message),
-            (_, Reply::Delivered(_)) => self.end_loan(at, message, LoanEnd::Sent),
-            (Command::Send { .. }, Reply::SendRefused(_))
-            | (Command::SendCopy { .. }, Reply::SendRefused(_))
-            | (Command::Retry { .. }, Reply::SendRefused(_))
-            | (Command::GiveUp { .. }, Reply::SendRefused(_)) => {
-                self.end_loan(at, message, LoanEnd::Refused)
-            }
-            (Command::Discard { .. }, Reply::Done) => {
-                self.end_loan(at, message, LoanEnd::Discarded)
+        match reply {
+            Reply::Blocked => self.block_loan(at, message),
+            Reply::Delivered(_) => self.end_loan(at, message, LoanEnd::Sent),
+            Reply::SendRefused(_) => self.end_loan(at, message, LoanEnd::Refused),
+            Reply::Done => {
+                if is_discard(command) {
+                    self.end_loan(at, message, LoanEnd::Discarded);
+                }
             }
             _ => {}
         }
+        Ok(())
+    }
+
+    fn take_loan(&mut self, at: usize, publisher: usize, message: usize) -> Result<(), Failure> {
+        self.holders.hold(message)?;
+        self.story.loans.push(Loan {
+            message,
+            publisher,
+            from: at,
+            blocked: None,
+            to: None,
+            end: LoanEnd::Out,
+        })?;
         Ok(())
     }
 
@@ -272,13 +277,7 @@ impl Follower {
     // The port is closed. A subscriber keeps the connection of a publisher of which it has messages.
     fn close_port(&mut self, at: usize, object: Object) -> Result<(), Failure> {
         let id = object.port();
-        for index in 0..self.story.ports.len() {
-            if let Some(port) = self.story.ports.get_mut(index) {
-                if port.id == id {
-                    port.to = Some(at);
-                }
-            }
-        }
+        self.end_port(at, id);
         self.mark(at, id, MarkKind::Closed)?;
         for subscriber in 0..self.model.port_count() {
             if self.mailboxes.is_used(object.publisher, subscriber) {
@@ -286,6 +285,16 @@ impl Follower {
             }
         }
         Ok(())
+    }
+
+    fn end_port(&mut self, at: usize, id: usize) {
+        for index in 0..self.story.ports.len() {
+            if let Some(port) = self.story.ports.get_mut(index) {
+                if port.id == id {
+                    port.to = Some(at);
+                }
+            }
+        }
     }
 
     // The mailboxes of the ports that the command is on.
@@ -340,29 +349,28 @@ impl Follower {
         object: Object,
         messages: usize,
     ) -> Result<(), Failure> {
-        let has_ended = match reply {
-            Reply::Delivered(_) | Reply::SendRefused(_) => true,
-            _ => false,
-        };
         let message = if object.message == 0 {
             messages
         } else {
             object.message
         };
-        if !has_ended || self.model.value_count(message) == 0 {
+        if !ends_send(reply) || self.model.value_count(message) == 0 {
             return Ok(());
         }
-        let publisher = object.publisher;
         let since = self.first_sent(at, message);
         for subscriber in 1..self.model.port_count() {
-            if self.model.delivers_to(publisher, subscriber)
-                && self.model.is_open_subscriber(subscriber)
-                && !self.has_visited(subscriber, message, since)
-            {
+            if self.misses(object.publisher, subscriber, message, since) {
                 self.mark(at, subscriber, MarkKind::Discarded)?;
             }
         }
         Ok(())
+    }
+
+    // Whether a connected subscriber hasn't got the message since then.
+    fn misses(&self, publisher: usize, subscriber: usize, message: usize, since: usize) -> bool {
+        self.model.delivers_to(publisher, subscriber)
+            && self.model.is_open_subscriber(subscriber)
+            && !self.has_visited(subscriber, message, since)
     }
 
     // When the message was sent that has ended now: it may have been blocked before.
@@ -418,6 +426,20 @@ fn given(recorded: &str) -> Option<Reply<u64, u64>> {
     match origin.parse::<u128>() {
         Ok(origin) => Some(Reply::Sample(UniquePublisherId::new(origin))),
         Err(_) => None,
+    }
+}
+
+fn is_discard(command: Command<u64, u64>) -> bool {
+    match command {
+        Command::Discard { .. } => true,
+        _ => false,
+    }
+}
+
+fn ends_send(reply: &Reply<u64, u64>) -> bool {
+    match reply {
+        Reply::Delivered(_) | Reply::SendRefused(_) => true,
+        _ => false,
     }
 }
 

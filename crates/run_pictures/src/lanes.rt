@@ -103,19 +103,11 @@ impl Lanes {
             self.loan_rows.push(row)?;
         }
         for visit in story.visits.iter() {
-            let row = self.take(
-                &mut rows,
-                visit.subscriber,
-                visit.from,
-                visit.to.unwrap_or(end),
-            )?;
+            let to = visit.to.unwrap_or(end);
+            let row = self.take(&mut rows, visit.subscriber, visit.from, to)?;
             self.visit_rows.push(row)?;
         }
-        let mut counts = Vec::new(alloc);
-        for lane in rows.iter() {
-            counts.push(lane.count())?;
-        }
-        Ok(counts)
+        counts_of(alloc, rows.as_slice())
     }
 
     fn take(
@@ -148,4 +140,13 @@ impl Lanes {
         }
         self.bottom = next;
     }
+}
+
+// How many rows each lane has.
+fn counts_of(alloc: Global, lanes: &[Rows]) -> Result<Vec<usize>, Failure> {
+    let mut counts = Vec::new(alloc);
+    for lane in lanes {
+        counts.push(lane.count())?;
+    }
+    Ok(counts)
 }

@@ -112,15 +112,18 @@ fn push_ways(svg: &mut String, story: &Story, lanes: &Lanes, scale: Scale) -> Re
 // The row of the visit's loan, where the message was sent by the command that brought it there.
 fn loan_row(story: &Story, lanes: &Lanes, visit: &Visit) -> Option<usize> {
     for (loan, row) in story.loans.iter().zip(lanes.loan_rows.iter()) {
-        if loan.message == visit.message {
-            let first = loan.blocked.or(loan.to).unwrap_or(visit.from);
-            let last = loan.to.unwrap_or(visit.from);
-            if first <= visit.from && visit.from <= last {
-                return Some(*row);
-            }
+        if loan.message == visit.message && is_sent_at(loan, visit.from) {
+            return Some(*row);
         }
     }
     None
+}
+
+// Whether the loan's message was sent, or waited to be, at a time.
+fn is_sent_at(loan: &Loan, at: usize) -> bool {
+    let last = loan.to.unwrap_or(at);
+    let first = loan.blocked.unwrap_or(last);
+    first <= at && at <= last
 }
 
 fn push_loans(
@@ -134,21 +137,31 @@ fn push_loans(
         if let Some(lane) = lanes.of(loan.publisher) {
             let said = loan_text(alloc, story, loan)?;
             let y = lane.row(*row);
-            let color = color_of(loan.publisher);
-            let x = scale.x(loan.from);
-            let end = scale.end(loan.to);
-            let middle = match loan.blocked {
-                Some(at) => scale.x(at),
-                None => end,
-            };
-            rect(svg, bar(x, middle, y), "lent", color, said.as_str())?;
-            if loan.blocked.is_some() {
-                rect(svg, bar(middle, end, y), "blocked", color, said.as_str())?;
-            }
+            push_loan(svg, loan, scale, y, said.as_str())?;
+            let (x, end) = (scale.x(loan.from), scale.end(loan.to));
             push_bar_label(svg, alloc, story, loan.message, x, end, y)?;
         }
     }
     Ok(())
+}
+
+fn push_loan(
+    svg: &mut String,
+    loan: &Loan,
+    scale: Scale,
+    y: usize,
+    said: &str,
+) -> Result<(), Failure> {
+    let color = color_of(loan.publisher);
+    let (x, end) = (scale.x(loan.from), scale.end(loan.to));
+    match loan.blocked {
+        None => rect(svg, bar(x, end, y), "lent", color, said),
+        Some(at) => {
+            let middle = scale.x(at);
+            rect(svg, bar(x, middle, y), "lent", color, said)?;
+            rect(svg, bar(middle, end, y), "blocked", color, said)
+        }
+    }
 }
 
 // The bar between two times. It is never too narrow to be seen.
@@ -199,29 +212,40 @@ fn push_visits(
         if let Some(lane) = lanes.of(visit.subscriber) {
             let said = visit_text(alloc, story, visit)?;
             let y = lane.row(*row);
-            let color = color_of(visit.publisher);
-            let x = scale.x(visit.from);
-            let end = scale.end(visit.to);
-            let middle = match visit.received {
-                Some(at) => scale.x(at),
-                None => end,
-            };
-            push_waiting(svg, bar(x, middle, y), color, said.as_str())?;
-            if visit.received.is_some() {
-                rect(svg, bar(middle, end, y), "held", color, said.as_str())?;
-            }
-            if visit.end == VisitEnd::Overwritten || visit.end == VisitEnd::Lost {
-                push_lost(
-                    svg,
-                    end,
-                    y.saturating_add(6),
-                    visit.end == VisitEnd::Overwritten,
-                )?;
-            }
+            push_visit(svg, visit, scale, y, said.as_str())?;
+            let (x, end) = (scale.x(visit.from), scale.end(visit.to));
+            push_end(svg, visit.end, end, y.saturating_add(6))?;
             push_bar_label(svg, alloc, story, visit.message, x, end, y)?;
         }
     }
     Ok(())
+}
+
+fn push_visit(
+    svg: &mut String,
+    visit: &Visit,
+    scale: Scale,
+    y: usize,
+    said: &str,
+) -> Result<(), Failure> {
+    let color = color_of(visit.publisher);
+    let (x, end) = (scale.x(visit.from), scale.end(visit.to));
+    match visit.received {
+        None => push_waiting(svg, bar(x, end, y), color, said),
+        Some(at) => {
+            let middle = scale.x(at);
+            push_waiting(svg, bar(x, middle, y), color, said)?;
+            rect(svg, bar(middle, end, y), "held", color, said)
+        }
+    }
+}
+
+fn push_end(svg: &mut String, end: VisitEnd, x: usize, y: usize) -> Result<(), Failure> {
+    match end {
+        VisitEnd::Overwritten => push_lost(svg, x, y, true),
+        VisitEnd::Lost => push_lost(svg, x, y, false),
+        _ => Ok(()),
+    }
 }
 
 fn visit_text(alloc: Global, story: &Story, visit: &Visit) -> Result<String, Failure> {

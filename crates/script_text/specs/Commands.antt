@@ -27,6 +27,7 @@ script_config variant publishers subscribers buffer borrowed history expired ove
   node_id = 1;
   variant = variant;
   units_per_element = 1;
+  lists_cells = true;
   max_publishers = publishers;
   max_subscribers = subscribers;
   subscriber_max_buffer_size = buffer;

@@ -36,9 +36,11 @@ pub fn discard(service: &mut Service, numbers: &LoanNumbers) -> u32
     ensures stays { ServesBut (A_loan (wide (numbers.now).number)) service.old service.new }
 {
     let Some(loan) = written_loan(&service.domain, numbers) else {
+        service.recording.discarded(numbers, NOT_LIVE);
         return NOT_LIVE;
     };
     loan.discard(&mut service.domain);
+    service.recording.discarded(numbers, OK);
     OK
 }
 

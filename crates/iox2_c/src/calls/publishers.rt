@@ -13,7 +13,7 @@ ghost use Rattle.iox2_c.specs.Serving.{IsOfBytes, ServesBut};
 ghost use Rattle.iox2_c.specs.Settings.{AreOptions, ReadsSettings, plain_publisher_settings, publisher_settings, unasked_settings};
 ghost use Rattle.iox2_c.specs.Steps.{ClosesPublisher, CreatesPublisher, Lends};
 
-use crate::config::strategy_of;
+use crate::config::{Config, strategy_of};
 use crate::handlers::NoHandler;
 use crate::numbers::{LoanNumbers, PublisherNumbers};
 use crate::options::{PublisherOptions, allocation_of, degradation_of};
@@ -40,7 +40,11 @@ pub fn create(service: &mut Service, out: &mut PublisherNumbers) -> u32
 {
     let factory = plain_factory(service);
     let made = factory.create(&mut service.domain);
-    tell(made, out)
+    let code = tell(made, out);
+    let plain = Config::of(service.domain.config(), service.payload_size, 1);
+    let options = PublisherOptions::of(&plain);
+    service.recording.publisher(&options, out, code);
+    code
 }
 
 // A factory of publishers without options.
@@ -148,7 +152,9 @@ pub fn create_with(
     }
     let factory = factory_with(service, options);
     let made = create_by(&mut service.domain, factory, options.preallocated_samples);
-    tell(made, out)
+    let code = tell(made, out);
+    service.recording.publisher(options, out, code);
+    code
 }
 
 /// A handle of a publisher that may be called, or the code that says why there is none.
@@ -182,9 +188,13 @@ pub fn close(service: &mut Service, numbers: &PublisherNumbers) -> u32
     match ready_publisher(&service.domain, numbers) {
         Ok(publisher) => {
             publisher.close(&mut service.domain);
+            service.recording.close(numbers.name(), OK);
             OK
         }
-        Err(code) => code,
+        Err(code) => {
+            service.recording.close(numbers.name(), code);
+            code
+        }
     }
 }
 
@@ -198,7 +208,10 @@ pub fn loan(
 ) -> u32
     ensures { LoanReturns Lends numbers.now len service.old service.new out.old out.new result }
 {
-    if service.domain.is_publisher_at_hint(&numbers.parts()) {
+    if service.recording.is_on() {
+        return loan_recorded(service, numbers, len, out, payload);
+    }
+    if service.domain.lends_at_once(&numbers.parts(), len) {
         loan_named(service, numbers, len, out, payload)
     } else {
         loan_elsewhere(service, numbers, len, out, payload)
@@ -244,6 +257,23 @@ fn loan_elsewhere(
     let lent = lend_zeros(&mut service.domain, &publisher, len);
     publisher.disown();
     tell_lent(service, numbers, lent, out, payload)
+}
+
+// The same, and it is recorded.
+#[cold]
+#[inline(never)]
+fn loan_recorded(
+    service: &mut Service,
+    numbers: &PublisherNumbers,
+    len: usize,
+    out: &mut LoanNumbers,
+    payload: &mut *mut u8,
+) -> u32
+    ensures { LoanReturns Lends numbers.now len service.old service.new out.old out.new result }
+{
+    let code = loan_elsewhere(service, numbers, len, out, payload);
+    service.recording.loan(numbers, len, out, code);
+    code
 }
 
 // Lends as `loan_slice` does, with a closure of its own: the compiler inlines what fills a loan where

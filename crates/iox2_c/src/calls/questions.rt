@@ -1,5 +1,5 @@
 //! What a domain is asked that changes nothing but connections.
-ghost use Rattle.std.specs.Prelude.{Bool, cond, length, slice_get, ◌≡◌, ◌<◌, ◌≤◌, ◌⊎◌, ◌↔◌, IfOk, IfSome, None};
+ghost use Rattle.std.specs.Prelude.{Bool, cond, drop, length, slice_get, ◌≡◌, ◌<◌, ◌≤◌, ◌⊎◌, ◌↔◌, IfErr, IfOk, IfSome, None};
 ghost use Rattle.std.specs.declared.result.Result.{Result};
 ghost use Rattle.std.specs.List.{count_by};
 ghost use Rattle.std.specs.Option.{is_some};
@@ -16,13 +16,15 @@ ghost use Rattle.iox2_c.specs.Warnings.{TellsOf};
 ghost use Rattle.iox2_c.specs.Steps.{Asks, UpdatesPublisher, UpdatesSubscriber};
 
 use crate::calls::publishers::ready_publisher;
+use crate::calls::samples::copy_bytes;
 use crate::calls::subscribers::live_subscriber;
 use crate::config::Config;
 use crate::numbers::{PublisherNumbers, SubscriberNumbers};
 use crate::service::Service;
-use crate::status::{NOT_LIVE, OK, failure_status};
+use crate::status::{NOT_LIVE, OK, OUT_OF_MEMORY, failure_status};
 use crate::warning::{WarningNumbers, numbers_of};
-use iox2_pubsub::UpdateConnections;
+use iox2_pubsub::{ConnectionFailure, UpdateConnections};
+use std::alloc::Global;
 
 /// Makes and removes a publisher's connections.
 pub fn update_publisher(service: &mut Service, numbers: &PublisherNumbers) -> u32
@@ -33,14 +35,16 @@ pub fn update_publisher(service: &mut Service, numbers: &PublisherNumbers) -> u3
 {
     let publisher = match ready_publisher(&service.domain, numbers) {
         Ok(publisher) => publisher,
-        Err(code) => return code,
+        Err(code) => {
+            service.recording.update(numbers.name(), code);
+            return code;
+        }
     };
     let updated = publisher.update_connections(&mut service.domain);
     publisher.disown();
-    match updated {
-        Ok(()) => OK,
-        Err(failure) => failure_status(failure),
-    }
+    let code = update_code(updated);
+    service.recording.update(numbers.name(), code);
+    code
 }
 
 /// Makes and removes a subscriber's connections.
@@ -51,14 +55,14 @@ pub fn update_subscriber(service: &mut Service, numbers: &SubscriberNumbers) -> 
     ensures stays { ServesBut No_item service.old service.new }
 {
     let Some(subscriber) = live_subscriber(&service.domain, numbers) else {
+        service.recording.update(numbers.name(), NOT_LIVE);
         return NOT_LIVE;
     };
     let updated = subscriber.update_connections(&mut service.domain);
     subscriber.disown();
-    match updated {
-        Ok(()) => OK,
-        Err(failure) => failure_status(failure),
-    }
+    let code = update_code(updated);
+    service.recording.update(numbers.name(), code);
+    code
 }
 
 /// Whether a message waits for a subscriber, after an update.
@@ -70,10 +74,32 @@ pub fn has_samples(service: &mut Service, numbers: &SubscriberNumbers, waits: &m
     ensures stays { ServesBut No_item service.old service.new }
 {
     let Some(subscriber) = live_subscriber(&service.domain, numbers) else {
+        service.recording.question(numbers, NOT_LIVE, 0);
         return NOT_LIVE;
     };
     let answer = subscriber.has_samples(&mut service.domain);
     subscriber.disown();
+    let code = tell_answer(answer, waits);
+    service.recording.question(numbers, code, *waits);
+    code
+}
+
+// What came of an update: its code.
+fn update_code(updated: Result<(), ConnectionFailure>) -> u32
+    ensures { result ≡ code_of failure_code updated }
+{
+    match updated {
+        Ok(()) => OK,
+        Err(failure) => failure_status(failure),
+    }
+}
+
+// What came of the question: its code, and the answer.
+fn tell_answer(answer: Result<bool, ConnectionFailure>, waits: &mut u32) -> u32
+    ensures code { result ≡ code_of failure_code answer }
+    ensures tells { IfOk answer (λ some_wait. waits.new ≡ cond some_wait 1 0) }
+    ensures same { IfErr answer (λ _. waits.new ≡ waits.old) }
+{
     match answer {
         Ok(some_wait) => {
             *waits = number_of(some_wait);
@@ -170,4 +196,27 @@ pub fn config(service: &Service, out: &mut Config) -> u32
         service.payload_alignment,
     );
     OK
+}
+
+/// Writes the text of what was recorded of the domain, if there is room for it, and says how long it is
+/// and how many commands were missed.
+pub fn recording(
+    alloc: Global,
+    service: &Service,
+    bytes: &mut [u8],
+    len: &mut usize,
+    missed: &mut u64,
+) -> u32
+    ensures code { (result ≡ 0) ⊎ (result ≡ 4) ⊎ (result ≡ 9) }
+    ensures fits { result ≡ 0 → len.new ≤ length bytes.old }
+    ensures small { result ≡ 9 → length bytes.old < len.new }
+    ensures rest { result ≡ 0 → drop len.new bytes.new ≡ drop len.new bytes.old }
+    ensures same { 0 < result → bytes.new ≡ bytes.old }
+{
+    let Ok(text) = service.recording.text(alloc, service.domain.config()) else {
+        return OUT_OF_MEMORY;
+    };
+    *len = text.len();
+    *missed = service.recording.missed();
+    copy_bytes(text.as_bytes(), bytes)
 }

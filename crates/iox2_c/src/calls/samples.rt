@@ -15,9 +15,9 @@ use crate::starts::start_of;
 use crate::status::{NOT_LIVE, OK, TOO_SMALL};
 use iox2_pubsub::slice::Sample;
 
-// A handle of a sample that wasn't released.
+/// A handle of a sample that wasn't released.
 #[inline(always)]
-fn live_sample(domain: &BytesDomain, numbers: &SampleNumbers) -> Option<Sample>
+pub fn live_sample(domain: &BytesDomain, numbers: &SampleNumbers) -> Option<Sample>
     ensures live { IfSome result (λ it. IsLiveSample domain.now (as_sample it)) }
     ensures named { IfSome result (λ it. sample_key (as_sample it) ≡ named_sample numbers.now) }
     ensures number { IfSome result (λ it. sample_number (as_sample it) ≡ wide (numbers.now).number) }
@@ -71,8 +71,8 @@ pub fn copy(service: &Service, numbers: &SampleNumbers, bytes: &mut [u8], len: &
     copy_bytes(from, bytes)
 }
 
-// Copies the bytes where there is room for them.
-fn copy_bytes(from: &[u8], bytes: &mut [u8]) -> u32
+/// Copies the bytes where there is room for them.
+pub fn copy_bytes(from: &[u8], bytes: &mut [u8]) -> u32
     ensures copied { result ≡ 0 → take (length from.now) bytes.new ≡ from.now }
     ensures fits { result ≡ 0 → length from.now ≤ length bytes.old }
     ensures rest { result ≡ 0 → drop (length from.now) bytes.new ≡ drop (length from.now) bytes.old }
@@ -113,7 +113,9 @@ pub fn copy_out(
     let from = sample.payload(&service.domain);
     *len = from.len();
     let code = copy_bytes(from, bytes);
+    service.recording.received(&sample, from);
     if code == OK {
+        service.recording.released(sample.key(), OK);
         sample.release(&mut service.domain);
     } else {
         *out = SampleNumbers::of(sample.into_inner().into_parts());
@@ -136,24 +138,28 @@ pub fn header(service: &Service, numbers: &SampleNumbers, out: &mut HeaderNumber
     OK
 }
 
+// A handle of a sample that lies where its numbers say, and was borrowed last there.
+#[inline(always)]
+fn sample_at_hint(domain: &mut BytesDomain, numbers: &SampleNumbers) -> Option<Sample>
+    ensures live { IfSome result (λ it. IsLiveSample domain.new (as_sample it)) }
+    ensures named { IfSome result (λ it. sample_key (as_sample it) ≡ named_sample numbers.now) }
+    ensures number { IfSome result (λ it. sample_number (as_sample it) ≡ wide (numbers.now).number) }
+    ensures receiver { IfSome result (λ it. receiver_of (as_sample it) ≡ wide (numbers.now).subscriber) }
+    ensures same { domain.new ≡ domain.old }
+{
+    let handle = domain.sample_at_hint(&numbers.parts())?;
+    Some(Sample::new(handle))
+}
+
 /// Gives a message back.
 pub fn release(service: &mut Service, numbers: &SampleNumbers) -> u32
     ensures { ReleaseReturns numbers.now service.old service.new result }
 {
-    if service.domain.is_sample_at_hint(&numbers.parts()) {
-        release_named(service, numbers)
-    } else {
-        release_elsewhere(service, numbers)
+    if service.recording.is_on() {
+        return release_recorded(service, numbers);
     }
-}
-
-// The same. What was found before of the sample isn't tested again here.
-#[inline(always)]
-fn release_named(service: &mut Service, numbers: &SampleNumbers) -> u32
-    ensures { ReleaseReturns numbers.now service.old service.new result }
-{
-    let Some(sample) = live_sample(&service.domain, numbers) else {
-        return NOT_LIVE;
+    let Some(sample) = sample_at_hint(&mut service.domain, numbers) else {
+        return release_elsewhere(service, numbers);
     };
     sample.release(&mut service.domain);
     OK
@@ -165,5 +171,20 @@ fn release_named(service: &mut Service, numbers: &SampleNumbers) -> u32
 fn release_elsewhere(service: &mut Service, numbers: &SampleNumbers) -> u32
     ensures { ReleaseReturns numbers.now service.old service.new result }
 {
-    release_named(service, numbers)
+    let Some(sample) = live_sample(&service.domain, numbers) else {
+        return NOT_LIVE;
+    };
+    sample.release(&mut service.domain);
+    OK
+}
+
+// The same, and it is recorded.
+#[cold]
+#[inline(never)]
+fn release_recorded(service: &mut Service, numbers: &SampleNumbers) -> u32
+    ensures { ReleaseReturns numbers.now service.old service.new result }
+{
+    let code = release_elsewhere(service, numbers);
+    service.recording.released(numbers.key(), code);
+    code
 }

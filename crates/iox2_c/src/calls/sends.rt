@@ -78,7 +78,10 @@ pub fn send(
 ) -> u32
     ensures { SendReturns numbers.now service.old service.new receivers.old receivers.new blocked.old blocked.new result }
 {
-    if service.domain.is_loan_at_hint(&numbers.parts()) {
+    if service.recording.is_on() {
+        return send_recorded(service, numbers, receivers, blocked);
+    }
+    if service.domain.sends_at_once(&numbers.parts()) {
         send_named(service, numbers, receivers, blocked)
     } else {
         send_elsewhere(service, numbers, receivers, blocked)
@@ -120,6 +123,35 @@ fn send_elsewhere(
     send_named(service, numbers, receivers, blocked)
 }
 
+// The same, and it is recorded with its bytes, which C wrote before.
+#[cold]
+#[inline(never)]
+fn send_recorded(
+    service: &mut Service,
+    numbers: &LoanNumbers,
+    receivers: &mut usize,
+    blocked: &mut LoanNumbers,
+) -> u32
+    ensures { SendReturns numbers.now service.old service.new receivers.old receivers.new blocked.old blocked.new result }
+{
+    record_bytes(service, numbers);
+    let code = send_elsewhere(service, numbers, receivers, blocked);
+    service.recording.sent(numbers, code, *receivers);
+    code
+}
+
+// Records the bytes of a loan that is out.
+fn record_bytes(service: &mut Service, numbers: &LoanNumbers)
+    ensures { service.new ≡ service.old }
+{
+    if let Some(loan) = written_loan(&service.domain, numbers) {
+        service
+            .recording
+            .written(numbers, loan.payload(&service.domain));
+        loan.disown();
+    }
+}
+
 /// Sends a copy of the bytes, and says how many subscribers took it.
 pub fn send_copy(
     service: &mut Service,
@@ -138,11 +170,20 @@ pub fn send_copy(
 {
     let publisher = match ready_publisher(&service.domain, numbers) {
         Ok(publisher) => publisher,
-        Err(code) => return code,
+        Err(code) => {
+            service
+                .recording
+                .sent_copy(numbers, bytes, blocked, code, 0);
+            return code;
+        }
     };
     let sent = send_bytes(&mut service.domain, &publisher, bytes);
     publisher.disown();
-    tell(sent, receivers, blocked)
+    let code = tell(sent, receivers, blocked);
+    service
+        .recording
+        .sent_copy(numbers, bytes, blocked, code, *receivers);
+    code
 }
 
 // Lends a loan, writes the bytes there and sends it.
@@ -178,11 +219,16 @@ pub fn retry(
     ensures stays { ServesBut (A_blocked_send (wide (numbers.now).publisher)) service.old service.new }
 {
     let Some(waiting) = service.domain.blocked_of(&numbers.parts()) else {
+        service.recording.retried(numbers, elapsed, NOT_LIVE, 0);
         return NOT_LIVE;
     };
     let mut still = *numbers;
     let end = waiting.retry(&mut service.domain, Duration::from_nanos(elapsed));
-    tell(end, receivers, &mut still)
+    let code = tell(end, receivers, &mut still);
+    service
+        .recording
+        .retried(numbers, elapsed, code, *receivers);
+    code
 }
 
 /// Gives up the subscriber for which a send waits.
@@ -195,9 +241,12 @@ pub fn give_up(service: &mut Service, numbers: &LoanNumbers, receivers: &mut usi
     ensures stays { ServesBut (A_blocked_send (wide (numbers.now).publisher)) service.old service.new }
 {
     let Some(waiting) = service.domain.blocked_of(&numbers.parts()) else {
+        service.recording.given_up(numbers, NOT_LIVE, 0);
         return NOT_LIVE;
     };
     let mut still = *numbers;
     let end = waiting.give_up(&mut service.domain);
-    tell(end, receivers, &mut still)
+    let code = tell(end, receivers, &mut still);
+    service.recording.given_up(numbers, code, *receivers);
+    code
 }

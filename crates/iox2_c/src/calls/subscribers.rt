@@ -4,9 +4,9 @@ ghost use Rattle.iox2_store.specs.declared.errors.ReceiveError.{ReceiveError};
 ghost use Rattle.iox2_store.specs.declared.errors.SubscriberCreateError.{SubscriberCreateError};
 ghost use Rattle.iox2_store.specs.declared.key.Key.{Key};
 ghost use Rattle.iox2_store.specs.machine.Receives.{Got_sample, No_sample, Receive_error};
-ghost use Rattle.iox2_pubsub.specs.Handles.{as_subscriber, buffer_size_of, subscriber_id};
+ghost use Rattle.iox2_pubsub.specs.Handles.{as_sample, as_subscriber, buffer_size_of, origin_of, receiver_of, subscriber_id};
 ghost use Rattle.iox2_pubsub.specs.Slices.{SampleHasValues};
-ghost use Rattle.iox2_pubsub.specs.Live.{A_sample, A_subscriber, IsLiveSubscriber, IsNewIn, IsSampleKey, IsSubscriberKey, No_item, subscriber_key};
+ghost use Rattle.iox2_pubsub.specs.Live.{A_sample, A_subscriber, IsLiveSample, IsLiveSubscriber, IsNewIn, IsSampleKey, IsSubscriberKey, No_item, sample_key, subscriber_key};
 ghost use Rattle.iox2_c.specs.Codes.{code_of, receive_code, subscriber_code};
 ghost use Rattle.iox2_c.specs.Numbers.{named_sample, named_subscriber, wide};
 ghost use Rattle.iox2_c.specs.Returns.{ReceiveReturns};
@@ -14,7 +14,8 @@ ghost use Rattle.iox2_c.specs.Serving.{ServesBut};
 ghost use Rattle.iox2_c.specs.Settings.{plain_subscriber_settings, subscriber_settings};
 ghost use Rattle.iox2_c.specs.Steps.{ClosesSubscriber, CreatesSubscriber, Receives, ReceivesCopy};
 
-use crate::calls::samples::copy_out;
+use crate::calls::samples;
+use crate::config::Config;
 use crate::handlers::NoHandler;
 use crate::numbers::{SampleNumbers, SubscriberNumbers};
 use crate::options::{SubscriberOptions, degradation_of};
@@ -22,7 +23,7 @@ use crate::service::{BytesDomain, Service};
 use crate::starts::start_of;
 use crate::status::{INVALID_SETTINGS, NO_SAMPLE, NOT_LIVE, OK, receive_status, subscriber_status};
 use iox2_pubsub::SubscriberCreateError;
-use iox2_pubsub::slice::{PortFactorySubscriber, Subscriber};
+use iox2_pubsub::slice::{PortFactorySubscriber, Sample, Subscriber};
 
 /// Makes a subscriber, as the settings say.
 pub fn create(service: &mut Service, out: &mut SubscriberNumbers) -> u32
@@ -35,7 +36,11 @@ pub fn create(service: &mut Service, out: &mut SubscriberNumbers) -> u32
 {
     let factory = plain_factory(service);
     let made = factory.create(&mut service.domain);
-    tell(made, out)
+    let code = tell(made, out);
+    let plain = Config::of(service.domain.config(), 1, 1);
+    let options = SubscriberOptions::of(&plain);
+    service.recording.subscriber(&options, out, code);
+    code
 }
 
 // A factory of subscribers without options.
@@ -91,7 +96,9 @@ pub fn create_with(
     }
     let factory = factory_with(service, options);
     let made = factory.create(&mut service.domain);
-    tell(made, out)
+    let code = tell(made, out);
+    service.recording.subscriber(options, out, code);
+    code
 }
 
 /// A handle of a subscriber that wasn't closed.
@@ -116,9 +123,11 @@ pub fn close(service: &mut Service, numbers: &SubscriberNumbers) -> u32
     ensures stays { ServesBut (A_subscriber (wide (numbers.now).id)) service.old service.new }
 {
     let Some(subscriber) = live_subscriber(&service.domain, numbers) else {
+        service.recording.close(numbers.name(), NOT_LIVE);
         return NOT_LIVE;
     };
     subscriber.close(&mut service.domain);
+    service.recording.close(numbers.name(), OK);
     OK
 }
 
@@ -132,7 +141,10 @@ pub fn receive(
 ) -> u32
     ensures { ReceiveReturns numbers.now service.old service.new out.old out.new len.old len.new result }
 {
-    if service.domain.is_subscriber_at_hint(&numbers.parts()) {
+    if service.recording.is_on() {
+        return receive_recorded(service, numbers, out, payload, len);
+    }
+    if service.domain.receives_at_once(&numbers.parts()) {
         receive_named(service, numbers, out, payload, len)
     } else {
         receive_elsewhere(service, numbers, out, payload, len)
@@ -156,16 +168,59 @@ fn receive_named(
     let received = subscriber.receive(&mut service.domain);
     subscriber.disown();
     match received {
-        Ok(Some(sample)) => {
-            let bytes = sample.payload(&service.domain);
-            *payload = start_of(bytes);
-            *len = bytes.len();
-            *out = SampleNumbers::of(sample.into_inner().into_parts());
-            OK
-        }
+        Ok(Some(sample)) => tell_received(service, numbers, sample, out, payload, len),
         Ok(None) => NO_SAMPLE,
         Err(error) => receive_status(error),
     }
+}
+
+// What came of a receive: the sample's numbers, and where its bytes lie. The ids that it shares with
+// its subscriber stand in that one's numbers. It lies where its numbers say.
+#[inline(always)]
+fn tell_received(
+    service: &Service,
+    numbers: &SubscriberNumbers,
+    sample: Sample,
+    out: &mut SampleNumbers,
+    payload: &mut *const u8,
+    len: &mut usize,
+) -> u32
+    requires live { IsLiveSample service.now.domain (as_sample sample) }
+    requires service { (sample_key (as_sample sample)).service_id ≡ wide (numbers.now).service_id }
+    requires receiver { receiver_of (as_sample sample) ≡ wide (numbers.now).id }
+    ensures code { result ≡ 0 }
+    ensures named { named_sample out.new ≡ sample_key (as_sample sample) }
+    ensures origin { wide (out.new).origin ≡ origin_of (as_sample sample) }
+    ensures length { (values : List ℕ) → SampleHasValues service.now.domain (sample_key (as_sample sample)) values → len.new ≡ length values }
+{
+    match sample.payload_at_hint(&service.domain) {
+        Some(bytes) => {
+            *payload = start_of(bytes);
+            *len = bytes.len();
+            *out = SampleNumbers::received_by(numbers, &sample.into_inner().into_parts());
+            OK
+        }
+        None => {
+            *out = SampleNumbers::received_by(numbers, &sample.into_inner().into_parts());
+            payload_elsewhere(service, out, payload, len)
+        }
+    }
+}
+
+// Where the bytes of a live sample lie, which is sought.
+#[cold]
+#[inline(never)]
+fn payload_elsewhere(
+    service: &Service,
+    numbers: &SampleNumbers,
+    out: &mut *const u8,
+    len: &mut usize,
+) -> u32
+    requires { IsSampleKey service.now.domain (named_sample numbers.now) }
+    ensures code { result ≡ 0 }
+    ensures length { (values : List ℕ) → SampleHasValues service.now.domain (named_sample numbers.now) values → len.new ≡ length values }
+{
+    samples::payload(service, numbers, out, len)
 }
 
 // The same, where the subscriber is sought.
@@ -181,6 +236,38 @@ fn receive_elsewhere(
     ensures { ReceiveReturns numbers.now service.old service.new out.old out.new len.old len.new result }
 {
     receive_named(service, numbers, out, payload, len)
+}
+
+// The same, and it is recorded.
+#[cold]
+#[inline(never)]
+fn receive_recorded(
+    service: &mut Service,
+    numbers: &SubscriberNumbers,
+    out: &mut SampleNumbers,
+    payload: &mut *const u8,
+    len: &mut usize,
+) -> u32
+    ensures { ReceiveReturns numbers.now service.old service.new out.old out.new len.old len.new result }
+{
+    let code = receive_elsewhere(service, numbers, out, payload, len);
+    if code == OK {
+        record_sample(service, out);
+    } else {
+        service.recording.received_nothing(numbers, code);
+    }
+    code
+}
+
+// Records that the message with these numbers was received, and its bytes.
+fn record_sample(service: &mut Service, numbers: &SampleNumbers)
+    ensures { service.new ≡ service.old }
+{
+    if let Some(sample) = samples::live_sample(&service.domain, numbers) {
+        let bytes = sample.payload(&service.domain);
+        service.recording.received(&sample, bytes);
+        sample.disown();
+    }
 }
 
 /// Receives a message, copies its bytes and releases it. Where there are more bytes than there is room
@@ -209,13 +296,21 @@ pub fn receive_copy(
     ensures stays { ServesBut No_item service.old service.new }
 {
     let Some(subscriber) = live_subscriber(&service.domain, numbers) else {
+        service.recording.received_nothing(numbers, NOT_LIVE);
         return NOT_LIVE;
     };
     let received = subscriber.receive(&mut service.domain);
     subscriber.disown();
     match received {
-        Ok(Some(sample)) => copy_out(service, sample, bytes, len, out),
-        Ok(None) => NO_SAMPLE,
-        Err(error) => receive_status(error),
+        Ok(Some(sample)) => samples::copy_out(service, sample, bytes, len, out),
+        Ok(None) => {
+            service.recording.received_nothing(numbers, NO_SAMPLE);
+            NO_SAMPLE
+        }
+        Err(error) => {
+            let code = receive_status(error);
+            service.recording.received_nothing(numbers, code);
+            code
+        }
     }
 }

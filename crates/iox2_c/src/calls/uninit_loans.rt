@@ -9,12 +9,45 @@ ghost use Rattle.iox2_c.specs.Steps.{LendsUninit};
 
 use crate::calls::publishers::{ready_publisher, tell_lent};
 use crate::numbers::{LoanNumbers, PublisherNumbers};
+use crate::recording::Recording;
 use crate::service::{BytesDomain, Service};
 use iox2_pubsub::LoanError;
 use iox2_pubsub::slice::{Publisher, SampleMut};
 
 /// Lends a message of so many bytes, whatever they are, and says where they lie.
 pub fn loan_uninit(
+    service: &mut Service,
+    numbers: &PublisherNumbers,
+    len: usize,
+    out: &mut LoanNumbers,
+    payload: &mut *mut u8,
+) -> u32
+    ensures { LoanReturns LendsUninit numbers.now len service.old service.new out.old out.new result }
+{
+    let code = loan_named(service, numbers, len, out, payload);
+    // Asked behind the loan: a second way to `loan_named` would keep it from being inlined.
+    if service.recording.is_on() {
+        record_loan(&mut service.recording, numbers, len, out, code);
+    }
+    code
+}
+
+// Records what came of a loan.
+#[cold]
+#[inline(never)]
+fn record_loan(
+    recording: &mut Recording,
+    numbers: &PublisherNumbers,
+    len: usize,
+    out: &LoanNumbers,
+    code: u32,
+) {
+    recording.loan(numbers, len, out, code);
+}
+
+// The loan, which is not recorded.
+#[inline(always)]
+fn loan_named(
     service: &mut Service,
     numbers: &PublisherNumbers,
     len: usize,

@@ -1,5 +1,5 @@
 //! The exports of domains.
-ghost use Rattle.std.specs.Prelude.{◌≡◌, ◌≢◌, ◌<◌, ◌⊎◌, ◌↔◌, IfSome, IsTrue, None, Some};
+ghost use Rattle.std.specs.Prelude.{◌≡◌, ◌≢◌, ◌<◌, ◌≤◌, ◌⊎◌, ◌↔◌, false, IfSome, IsTrue, None, Some, drop, length};
 ghost use Rattle.iox2_store.specs.machine.Limits.{fits, worst_case};
 ghost use Rattle.iox2_store.specs.Defaults.{default_config};
 ghost use Rattle.iox2_store.specs.declared.service_config.TypeVariant.TheVariants.{Dynamic};
@@ -9,9 +9,11 @@ ghost use Rattle.iox2_domain.specs.Shows.{Shows};
 ghost use Rattle.iox2_c.specs.Boxed.{Knows};
 ghost use Rattle.iox2_c.specs.Settings.{AreValid, publisher_settings, settings_of, subscriber_settings};
 
+use crate::calls::questions;
 use crate::config::Config;
 use crate::domain_box::DomainBox;
 use crate::options::{PublisherOptions, SubscriberOptions};
+use crate::recording::Room;
 use crate::service::Service;
 use crate::status::{HAS_DOMAIN, INVALID_SETTINGS, NO_DOMAIN, OK, OUT_OF_MEMORY};
 use iox2_pubsub::worst_case_slots;
@@ -25,7 +27,7 @@ pub extern "C" fn iox2ps_config_defaults(
     payload_size: usize,
     payload_alignment: usize,
 )
-    ensures settings { settings_of config.new ≡ record (default_config service_id) { variant = Dynamic } }
+    ensures settings { settings_of config.new ≡ record (default_config service_id) { variant = Dynamic; lists_cells = false } }
     ensures size { (config.new).payload_size ≡ payload_size }
     ensures alignment { (config.new).payload_alignment ≡ payload_alignment }
 {
@@ -80,6 +82,40 @@ pub extern "C" fn iox2ps_domain_create(
     ensures invalid { result ≡ 8 → AreValid config.now → ⊥ }
     ensures refused { 0 < result → domain.new.service ≡ domain.old.service }
 {
+    create(alloc, domain, config, None)
+}
+
+/// Makes a domain where there is none, whose first calls are recorded: so many commands, with so many
+/// bytes of each message.
+#[unsafe(no_mangle)]
+pub extern "C" fn iox2ps_domain_create_recorded(
+    alloc: Global,
+    domain: &mut DomainBox,
+    config: &Config,
+    commands: usize,
+    bytes: usize,
+) -> u32
+    ensures fresh { result ≡ 0 → Knows (λ kept. Shows kept no_messages (fresh (settings_of config.now))) domain.new.service }
+    ensures code { (result ≡ 0) ⊎ (result ≡ 4) ⊎ (result ≡ 5) ⊎ (result ≡ 8) }
+    ensures sizes { result ≡ 0 → IfSome domain.new.service (λ it. (it.payload_size ≡ config.now.payload_size) × (it.payload_alignment ≡ config.now.payload_alignment)) }
+    ensures valid { (result ≡ 0) ⊎ (result ≡ 4) → AreValid config.now }
+    ensures there { (result ≡ 5) ↔ (domain.old.service ≢ None) }
+    ensures invalid { result ≡ 8 → AreValid config.now → ⊥ }
+    ensures refused { 0 < result → domain.new.service ≡ domain.old.service }
+{
+    create(alloc, domain, config, Some(Room { commands, bytes }))
+}
+
+// Makes a domain where there is none, which is recorded where there is room for that.
+fn create(alloc: Global, domain: &mut DomainBox, config: &Config, room: Option<Room>) -> u32
+    ensures fresh { result ≡ 0 → Knows (λ kept. Shows kept no_messages (fresh (settings_of config.now))) domain.new.service }
+    ensures code { (result ≡ 0) ⊎ (result ≡ 4) ⊎ (result ≡ 5) ⊎ (result ≡ 8) }
+    ensures sizes { result ≡ 0 → IfSome domain.new.service (λ it. (it.payload_size ≡ config.now.payload_size) × (it.payload_alignment ≡ config.now.payload_alignment)) }
+    ensures valid { (result ≡ 0) ⊎ (result ≡ 4) → AreValid config.now }
+    ensures there { (result ≡ 5) ↔ (domain.old.service ≢ None) }
+    ensures invalid { result ≡ 8 → AreValid config.now → ⊥ }
+    ensures refused { 0 < result → domain.new.service ≡ domain.old.service }
+{
     if let Some(boxed) = domain.take(alloc) {
         domain.put(boxed);
         return HAS_DOMAIN;
@@ -87,7 +123,7 @@ pub extern "C" fn iox2ps_domain_create(
     if !config.are_valid() {
         return INVALID_SETTINGS;
     }
-    let Some(service) = Service::new(alloc, config) else {
+    let Some(service) = Service::new(alloc, config, room) else {
         return OUT_OF_MEMORY;
     };
     let Ok(boxed) = Box::new(alloc, service) else {
@@ -95,6 +131,31 @@ pub extern "C" fn iox2ps_domain_create(
     };
     domain.put(boxed);
     OK
+}
+
+/// Writes what was recorded as text, and says how long it is and how many commands were missed.
+#[unsafe(no_mangle)]
+pub extern "C" fn iox2ps_domain_recording(
+    alloc: Global,
+    domain: &mut DomainBox,
+    bytes: &mut [u8],
+    len: &mut usize,
+    missed: &mut u64,
+) -> u32
+    ensures no_domain { (result ≡ 1) ↔ (domain.old.service ≡ None) }
+    ensures code { (result ≡ 0) ⊎ (result ≡ 1) ⊎ (result ≡ 4) ⊎ (result ≡ 9) }
+    ensures fits { result ≡ 0 → len.new ≤ length bytes.old }
+    ensures small { result ≡ 9 → length bytes.old < len.new }
+    ensures rest { result ≡ 0 → drop len.new bytes.new ≡ drop len.new bytes.old }
+    ensures same { 0 < result → bytes.new ≡ bytes.old }
+    ensures unchanged { domain.new.service ≡ domain.old.service }
+{
+    let Some(boxed) = domain.take(alloc) else {
+        return NO_DOMAIN;
+    };
+    let code = questions::recording(alloc, &boxed, bytes, len, missed);
+    domain.put(boxed);
+    code
 }
 
 /// Frees the domain, with all that is in it.

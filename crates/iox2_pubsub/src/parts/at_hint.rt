@@ -1,15 +1,19 @@
 //! Whether what numbers name is where they say that it is looked for first. Nothing is searched, so
 //! that a caller can go one way where it is, which is mostly so, and another where it isn't.
-ghost use Rattle.std.specs.Prelude.{◌≡◌, ◌↔◌, IsTrue};
+ghost use Rattle.std.specs.Prelude.{◌≡◌, ◌↔◌, IfSome, IsTrue};
 
 use crate::domain::Domain;
-use crate::parts::hints::{has_publisher_at_hint, has_subscriber_at_hint, is_lent_at_hint};
+use crate::parts::hints::{
+    has_publisher_at_hint, has_subscriber_at_hint, is_lent_at_hint, is_written_at_hint,
+    lends_at_once, receives_at_once, sends_at_once,
+};
 use crate::parts::{LoanParts, PublisherParts, SampleParts, SubscriberParts};
+use crate::sample::Sample;
 use iox2_store::{BackpressureFn, DegradationFn, UniquePublisherId, UniqueSubscriberId};
 
 impl<T: Drop, U: Default + Drop, F: BackpressureFn, G: DegradationFn> Domain<T, U, F, G> {
-    ghost use Rattle.iox2_pubsub.specs.Live.{IsLiveSubscriber, IsLoanKey, IsPlacedPublisher, IsPublisherKey, IsSampleKey};
-    ghost use Rattle.iox2_pubsub.specs.Parts.{LenderIsPlaced, loan_named, publisher_named, publisher_with, sample_named, subscriber_with};
+    ghost use Rattle.iox2_pubsub.specs.Live.{IsLiveSubscriber, IsLoanKey, IsPlacedPublisher, IsPublisherKey, IsSampleKey, IsLiveSample};
+    ghost use Rattle.iox2_pubsub.specs.Parts.{LenderIsPlaced, loan_named, publisher_named, publisher_with, sample_named, sample_parts, subscriber_with};
 
     /// Whether the publisher with these numbers wasn't closed, and stands at the place that they name.
     /// This library's own.
@@ -55,5 +59,53 @@ impl<T: Drop, U: Default + Drop, F: BackpressureFn, G: DegradationFn> Domain<T, 
             return false;
         }
         self.state.is_last_at_hint(&parts.sample())
+    }
+    /// Whether the publisher with these numbers stands at the place that they name, and lends so many
+    /// elements at once if it has a free slot: its memory doesn't grow, and nothing refuses the loan. This
+    /// library's own.
+    pub fn lends_at_once(&self, parts: &PublisherParts, len: usize) -> bool
+        ensures { IsTrue result → IsPublisherKey self.now (publisher_named parts.now) }
+    {
+        self.is_publisher_at_hint(parts) && lends_at_once(&self.state, parts.place, len)
+    }
+
+    /// Whether the written loan with these numbers is out, lies in the slot that they name, and is sent
+    /// at once: its publisher stands at the place that they name, is due for no update, has no handler
+    /// for full buffers, and no send of it waits. This library's own.
+    pub fn sends_at_once(&self, parts: &LoanParts) -> bool
+        ensures { IsTrue result → IsLoanKey self.now (loan_named parts.now) }
+    {
+        if !sends_at_once(&self.state, parts.place) {
+            return false;
+        }
+        if parts.service_id != self.state.config().service_id {
+            return false;
+        }
+        is_written_at_hint(&self.state, &parts.loan())
+    }
+
+    /// Whether the subscriber with these numbers wasn't closed, stands at the place that they name, and
+    /// receives without an update, and from no publisher that is gone. This library's own.
+    pub fn receives_at_once(&self, parts: &SubscriberParts) -> bool
+        ensures { IsTrue result → IsLiveSubscriber self.now (subscriber_with parts.now) }
+    {
+        self.is_subscriber_at_hint(parts) && receives_at_once(&self.state, parts.place)
+    }
+
+    /// A handle of the sample with these numbers, where `is_sample_at_hint`. So one look tells that it
+    /// is live and where it lies. This library's own.
+    pub fn sample_at_hint(&mut self, parts: &SampleParts) -> Option<Sample>
+        ensures live { IfSome result (λ sample. IsLiveSample self.new sample) }
+        ensures named { IfSome result (λ sample. sample_parts sample ≡ parts.now) }
+        ensures same { self.new ≡ self.old }
+    {
+        if !self.is_sample_at_hint(parts) {
+            return None;
+        }
+        Some(Sample {
+            service_id: parts.service_id,
+            origin: UniquePublisherId::new(parts.origin),
+            sample: parts.sample(),
+        })
     }
 }

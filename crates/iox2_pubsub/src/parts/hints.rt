@@ -1,17 +1,19 @@
 //! What a handle made of numbers names is looked for first where the numbers say.
-ghost use Rattle.std.specs.Prelude.{◌≡◌, ◌↔◌, true, slice_index_or, IsTrue, MatchOption, None, Some};
+ghost use Rattle.std.specs.Prelude.{◌≡◌, ◌↔◌, true, false, slice_index_or, IfSome, IsTrue, MatchOption, None, Some};
+ghost use Rattle.iox2_store.specs.SingleValues.{is_single_valued};
+ghost use Rattle.iox2_store.specs.machine.Records.{Entry};
 ghost use Rattle.iox2_store.specs.machine.SingleCalls.{HoldsLoan, HoldsPublisher, HoldsSample, HoldsSubscriber};
-ghost use Rattle.iox2_domain.specs.Kept.{state_of};
+ghost use Rattle.iox2_domain.specs.Kept.{state_of, entries_of};
 ghost use Rattle.iox2_domain.specs.Fields.{kept_of};
 ghost use Rattle.iox2_domain.specs.Invariant.{IsDomain};
 ghost use Rattle.iox2_domain.specs.LoanCalls.{HoldsUnwritten, HoldsWritten};
 ghost use Rattle.iox2_domain.specs.Ports.{PublisherFields, SubscriberFields};
-ghost use Rattle.iox2_domain.specs.LoanSlots.{LiesInSlot};
+ghost use Rattle.iox2_domain.specs.LoanSlots.{IsLoanSlot, LiesInSlot};
 ghost use Rattle.iox2_pubsub.specs.Parts.{IsMarkOf, written_mark};
 
 use iox2_domain::{DomainState, LoanAt, SampleAt, is_loan_slot};
-use iox2_slots::SlotMark;
-use iox2_store::{UniquePublisherId, UniqueSubscriberId};
+use iox2_slots::{SlotBook, SlotMark};
+use iox2_store::{AllocationStrategy, UniquePublisherId, UniqueSubscriberId};
 
 /// The place of the publisher with this id, where it wasn't closed. It is looked for at the place
 /// first.
@@ -101,6 +103,88 @@ pub(crate) fn is_lent_at_hint<T: Drop, U: Default + Drop>(
     }
 }
 
+/// Whether the publisher at the place may send at once: it is due for no update, has no handler for
+/// full buffers, and no send of it waits. It returns at each test that fails, as `is_ready` does.
+pub(crate) fn sends_at_once<T, U>(state: &DomainState<T, U>, place: usize) -> bool {
+    let Some(Some(publisher)) = state.publishers.get(place) else {
+        return false;
+    };
+    if publisher.blocked.is_some() {
+        return false;
+    }
+    if publisher.is_due {
+        return false;
+    }
+    if publisher.has_handler() {
+        return false;
+    }
+    true
+}
+
+/// Whether the publisher at the place may lend so many elements at once, if it has a free slot: its memory
+/// doesn't grow, no send of it waits, and neither its loans nor the domain's numbers are used up.
+pub(crate) fn lends_at_once<T, U>(state: &DomainState<T, U>, place: usize, len: usize) -> bool {
+    let Some(Some(publisher)) = state.publishers.get(place) else {
+        return false;
+    };
+    if publisher.blocked.is_some() {
+        return false;
+    }
+    if publisher.allocation != AllocationStrategy::Static {
+        return false;
+    }
+    if publisher.initial_max_slice_len < len {
+        return false;
+    }
+    if publisher.loans.len() >= publisher.max_loaned_samples {
+        return false;
+    }
+    state.next_message != u128::MAX
+}
+
+/// Whether the subscriber at the place receives without an update, and from no publisher that is gone.
+pub(crate) fn receives_at_once<T, U>(state: &DomainState<T, U>, place: usize) -> bool {
+    let Some(Some(subscriber)) = state.subscribers.get(place) else {
+        return false;
+    };
+    if subscriber.is_due {
+        return false;
+    }
+    subscriber.expired.is_empty()
+}
+
+// Whether a written loan with this number lies in the slot.
+fn is_written_slot(book: &SlotBook, slot: usize, number: u128) -> bool
+    ensures { IsTrue result → IsLoanSlot book.now slot number }
+{
+    if slot >= book.len() {
+        return false;
+    }
+    if !is_written(book.mark(slot)) {
+        return false;
+    }
+    is_loan_slot(book, slot, number)
+}
+
+/// Whether the publisher's loan is out and written, and lies in the slot that is named, in the book of
+/// the publisher that stands at its place.
+pub(crate) fn is_written_at_hint<T: Drop, U: Default + Drop>(
+    state: &DomainState<T, U>,
+    loan: &LoanAt,
+) -> bool
+    requires { IsDomain state.now }
+    ensures { IsTrue result → HoldsLoan (state_of (kept_of state.now)) loan.now.publisher loan.now.number }
+{
+    if has_book(state, loan.place, loan.publisher, loan.book) {
+        match state.books.get(loan.book) {
+            Some(book) => is_written_slot(book, loan.slot, loan.number),
+            None => false,
+        }
+    } else {
+        false
+    }
+}
+
 fn is_written(mark: SlotMark) -> bool
     ensures { result ≡ written_mark mark }
 {
@@ -175,6 +259,27 @@ pub(crate) fn has_sample<T: Drop, U: Default + Drop>(
         Some(_) => true,
         None => state.has_sample(sample.subscriber, sample.number),
     }
+}
+
+/// The values of a borrowed message, where messages aren't single values and this one lies in the slot
+/// that is named.
+#[inline(always)]
+pub(crate) fn sample_values_at_hint<'a, T: Drop, U: Default + Drop>(
+    state: &'a DomainState<T, U>,
+    sample: &SampleAt,
+) -> Option<&'a [T]>
+    requires agrees { IsDomain state.now }
+    requires several { is_single_valued state.now.config ≡ false }
+    requires live { HoldsSample (state_of (kept_of state.now)) sample.now.subscriber sample.now.number }
+    ensures { IfSome result (λ values. (entry : Entry T U) × (entries_of (kept_of state.now) sample.now.number ≡ Some entry) × (entry.values ≡ values.now)) }
+{
+    if !state.is_at_slot(sample) {
+        return None;
+    }
+    let Some(contents) = &state.contents[sample.book] else {
+        unreachable!()
+    };
+    Some(contents.values(sample.slot))
 }
 
 /// Whether a subscriber has this id, wasn't closed and stands at the place.

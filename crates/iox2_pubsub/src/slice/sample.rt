@@ -2,6 +2,7 @@
 ghost use Rattle.std.specs.Prelude.{◌≡◌};
 
 use crate::domain::Domain;
+use crate::parts::hints::sample_values_at_hint;
 use iox2_deliveries::sample_payloads;
 use iox2_store::{BackpressureFn, DegradationFn, Header, Key, UniquePublisherId};
 
@@ -22,14 +23,14 @@ pub struct Sample {
 }
 
 impl Sample {
-    ghost use Rattle.std.specs.Prelude.{ℕ, IsTrue, List};
+    ghost use Rattle.std.specs.Prelude.{ℕ, IfSome, IsTrue, List};
     ghost use Rattle.iox2_store.specs.machine.Mailbox.{is_borrowed};
     ghost use Rattle.iox2_store.specs.machine.Releases.{released};
     ghost use Rattle.iox2_store.specs.machine.State.{State, Messages};
     ghost use Rattle.iox2_domain.specs.Shows.{Shows};
     ghost use Rattle.iox2_pubsub.specs.Live.{IsFromOrigin, IsLiveSample, SampleHasHeader, SampleHasUserHeader, StaysBut, UpToDateStay, received_sample, sample_key, WaitingStays};
     ghost use Rattle.iox2_pubsub.specs.LoansLeft.{LoansLeftStay};
-    ghost use Rattle.iox2_pubsub.specs.Slices.{IsSliced, SampleHasValues};
+    ghost use Rattle.iox2_pubsub.specs.Slices.{HoldsSlices, SampleHasValues};
     ghost use Rattle.iox2_pubsub.specs.Handles.{as_sample, origin_of, receiver_of, sample_number};
 
     /// The message's values as they lie in their slot.
@@ -40,11 +41,28 @@ impl Sample {
         domain: &'a Domain<T, U, F, G>,
     ) -> &'a [T]
         requires live { IsLiveSample domain.now (as_sample self.now) }
-        requires sliced { IsSliced domain.now }
+        requires sliced { HoldsSlices domain.now }
         ensures reads { SampleHasValues domain.now (sample_key (as_sample self.now)) result.now }
         ensures same { (values : List T) → SampleHasValues domain.now (sample_key (as_sample self.now)) values → result.now ≡ values }
     {
         sample_payloads(&domain.state, &self.sample.sample)
+    }
+
+    /// The same, where the message lies in the slot that its handle names. This library's own.
+    #[inline(always)]
+    pub fn payload_at_hint<'a, T: Drop, U: Default + Drop, F: BackpressureFn, G: DegradationFn>(
+        &self,
+        domain: &'a Domain<T, U, F, G>,
+    ) -> Option<&'a [T]>
+        requires live { IsLiveSample domain.now (as_sample self.now) }
+        requires sliced { HoldsSlices domain.now }
+        ensures reads { IfSome result (λ values. SampleHasValues domain.now (sample_key (as_sample self.now)) values.now) }
+        ensures same { IfSome result (λ found. (values : List T) → SampleHasValues domain.now (sample_key (as_sample self.now)) values → found.now ≡ values) }
+    {
+        match sample_values_at_hint(&domain.state, &self.sample.sample) {
+            Some(values) => Some(values),
+            None => None,
+        }
     }
 
     /// Gives the message back.

@@ -37,7 +37,7 @@ impl SampleMut {
     ghost use Rattle.iox2_pubsub.specs.declared.subscriber.Subscriber.{Subscriber};
     ghost use Rattle.iox2_pubsub.specs.LoansLeft.{HasOneMoreLeft, LoansLeftStay};
     ghost use Rattle.iox2_pubsub.specs.SendCalls.{FailsSend, IfBlocked, IsDelivered, Sends, messages_after, spent_by_send};
-    ghost use Rattle.iox2_pubsub.specs.Slices.{HasValues, IsSliced};
+    ghost use Rattle.iox2_pubsub.specs.Slices.{HasValues, HoldsSlices};
     ghost use Rattle.iox2_pubsub.specs.Handles.{as_written, buffer_size_of, written_lender, written_number};
 
     /// The payload as it lies in its slot.
@@ -48,7 +48,7 @@ impl SampleMut {
         domain: &'a Domain<T, U, F, G>,
     ) -> &'a [T]
         requires live { IsWritten domain.now (as_written self.now) }
-        requires sliced { IsSliced domain.now }
+        requires sliced { HoldsSlices domain.now }
         ensures reads { HasValues domain.now (written_number (as_written self.now)) result.now }
         ensures same { (values : List T) → HasValues domain.now (written_number (as_written self.now)) values → result.now ≡ values }
     {

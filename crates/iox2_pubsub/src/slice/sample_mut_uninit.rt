@@ -37,10 +37,11 @@ impl SampleMutUninit {
     ghost use Rattle.iox2_domain.specs.Shows.{Shows};
     ghost use Rattle.iox2_pubsub.specs.Live.{HasLender, IsLoanKey, IsUnblocked, IsUnwritten, IsWritten, IsWrittenLoan, LoanHasHeader, LoanHasUserHeader, NeverWaits, StaysBut, UpToDateStay, unwritten_key, unwritten_loan, written_key, WaitingStays};
     ghost use Rattle.iox2_pubsub.specs.LoansLeft.{HasOneMoreLeft, LoansLeftStay};
-    ghost use Rattle.iox2_pubsub.specs.Slices.{HasUnwrittenCells, HasValues, IsSliced};
+    ghost use Rattle.iox2_pubsub.specs.Slices.{HasUnwrittenCells, HasValues, HoldsSlices, IsSliced};
     ghost use Rattle.iox2_pubsub.specs.Handles.{as_unwritten, as_written, unwritten_lender, unwritten_number, written_number};
 
-    /// The cells as they lie in their slot: `None` where one isn't written.
+    /// The cells as they lie in their slot: `None` where one isn't written. They are handed out where the
+    /// settings say so (`ServiceConfig::lists_cells`), as they do by default.
     ///
     /// iceoryx2's `SampleMutUninit::payload` (`src/sample_mut_uninit.rs`).
     pub fn payload<'a, T: Drop, U: Default + Drop, F: BackpressureFn, G: DegradationFn>(
@@ -68,7 +69,7 @@ impl SampleMutUninit {
         W: FnMut(usize) -> T + Drop,
     >(self, domain: &mut Domain<T, U, F, G>, initializer: W) -> SampleMut
         requires live { IsUnwritten domain.old (as_unwritten self) }
-        requires sliced { IsSliced domain.old }
+        requires sliced { HoldsSlices domain.old }
         requires callable { W.IsAlwaysCallable initializer }
         ensures written { (answers : List T) × AnswersInOrder W.step initializer answers × HasValues domain.new (written_number (as_written result)) answers
             × ((m : Messages T U) (s : State T U) → Shows domain.old m s → (l : Loan T U) × (s.loans (unwritten_number (as_unwritten self)) ≡ Some l)
@@ -105,7 +106,7 @@ impl SampleMutUninit {
         values: &[T],
     ) -> SampleMut
         requires live { IsUnwritten domain.old (as_unwritten self) }
-        requires sliced { IsSliced domain.old }
+        requires sliced { HoldsSlices domain.old }
         requires lengths { (cells : List (Option T)) → HasUnwrittenCells domain.old (unwritten_number (as_unwritten self)) cells → length values.now ≡ length cells }
         ensures step { (m : Messages T U) (s : State T U) → Shows domain.old m s → (l : Loan T U) × (s.loans (unwritten_number (as_unwritten self)) ≡ Some l)
             × (s' : State T U) × WriteAllFrom s (unwritten_number (as_unwritten self)) l values.now s' × Shows domain.new m s' }

@@ -2,7 +2,7 @@
 //!
 //! A run's table has the handles of single values alone. Where messages are slices, a handle is made
 //! one of a slice for the call, and then taken back.
-ghost use Rattle.std.specs.Prelude.{◌≡◌, ◌∷◌, [], slice_get, Some};
+ghost use Rattle.std.specs.Prelude.{◌≡◌, ◌∷◌, [], slice_get, true, Some};
 ghost use Rattle.std.specs.Option.{option_map};
 ghost use Rattle.iox2_store.specs.machine.Loans.{written};
 ghost use Rattle.iox2_store.specs.machine.Records.{Loan};
@@ -26,7 +26,8 @@ pub(crate) fn unwritten_cell<
     loan: SampleMutUninit,
     at: usize,
 ) -> (Option<Option<T>>, SampleMutUninit)
-    requires { IsUnwritten domain.now loan }
+    requires live { IsUnwritten domain.now loan }
+    requires lists_cells { (domain.now.config).lists_cells ≡ true }
     ensures reads { LoanHasAt domain.now loan.loan.number at result.0 }
     ensures same { result.1 ≡ loan }
 {
@@ -89,7 +90,8 @@ pub(crate) fn write_cell_at<T: Drop, U: Default + Drop, F: BackpressureFn, G: De
     at: usize,
     value: T,
 ) -> (bool, SampleMutUninit)
-    requires { IsUnwritten domain.old loan }
+    requires live { IsUnwritten domain.old loan }
+    requires lists_cells { (domain.old.config).lists_cells ≡ true }
     ensures writes { WritesAt domain.old domain.new loan.loan.number at value result.0 }
     ensures same { result.1 ≡ loan }
     ensures stays { StaysBut (unwritten_loan loan) domain.old domain.new }

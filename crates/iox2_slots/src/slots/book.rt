@@ -1,7 +1,7 @@
 //! The book of a publisher's slots.
-ghost use Rattle.std.specs.Prelude.{◌≡◌, ◌+◌, ◌-◌, ◌<◌, ◌≤◌, ◌^◌, ◌↔◌, ◌++◌, length, map, drop, slice_get, slice_index, slice_set, replicate, vec_capacity, Some, IsTrue, IsNone, IfSome, IfNone, IfOk};
+ghost use Rattle.std.specs.Prelude.{ℕ, [], ◌∷◌, ◌≡◌, ◌+◌, ◌-◌, ◌<◌, ◌≤◌, ◌^◌, ◌↔◌, ◌++◌, length, map, drop, slice_get, slice_index, slice_set, replicate, vec_capacity, Some, IsTrue, IsNone, IfSome, IfNone, IfOk};
 ghost use Rattle.std.specs.List.{All};
-ghost use Rattle.iox2_slots.specs.SlotFree.{HasFree};
+ghost use Rattle.iox2_slots.specs.SlotFree.{HasFree, IsTakenOut};
 
 use crate::slots::mark::SlotMark;
 use crate::slots::slot::Slot;
@@ -117,8 +117,7 @@ impl SlotBook {
         ensures from { IfSome result (λ slot. start ≤ slot) }
         ensures aligned { IsAligned self.new }
     {
-        let place = last_from(&self.free, start)?;
-        let slot = self.free.remove(place);
+        let slot = pop_from(&mut self.free, start)?;
         let taken = &mut self.slots[slot];
         taken.number = number;
         taken.header.number_of_elements = len;
@@ -284,6 +283,39 @@ fn add_unused(slots: &mut Vec<Slot>, free: &mut Vec<usize>, unused: &Slot, more:
         slots.push_reserved(*unused);
         free.push_reserved(slot);
     }
+}
+
+// Takes the newest of the free slots from this one on out of their list. The newest of all is looked at
+// first, where no slot is older than that one.
+#[inline(always)]
+fn pop_from(free: &mut Vec<usize>, start: usize) -> Option<usize>
+    ensures none { IfNone result (All (λ slot. slot < start) free.old.items) }
+    ensures refused { IfNone result (free.new.items ≡ free.old.items) }
+    ensures taken { IfSome result (λ slot. (place : ℕ) × IsTakenOut free.old.items free.new.items place slot) }
+    ensures from { IfSome result (λ slot. start ≤ slot) }
+    ensures capacity { vec_capacity free.new ≡ vec_capacity free.old }
+{
+    let newest = free.pop()?;
+    if newest < start {
+        return another_from(free, newest, start);
+    }
+    Some(newest)
+}
+
+// The same where the newest of all, which was taken out, is older.
+#[cold]
+#[inline(never)]
+fn another_from(free: &mut Vec<usize>, newest: usize, start: usize) -> Option<usize>
+    requires room { length free.old.items + 1 ≤ vec_capacity free.old }
+    ensures none { IfNone result (All (λ slot. slot < start) (free.old.items ++ newest ∷ [])) }
+    ensures refused { IfNone result (free.new.items ≡ free.old.items ++ newest ∷ []) }
+    ensures taken { IfSome result (λ slot. (place : ℕ) × IsTakenOut (free.old.items ++ newest ∷ []) free.new.items place slot) }
+    ensures from { IfSome result (λ slot. start ≤ slot) }
+    ensures capacity { vec_capacity free.new ≡ vec_capacity free.old }
+{
+    free.push_reserved(newest);
+    let place = last_from(free, start)?;
+    Some(free.remove(place))
 }
 
 // The last place at which a slot from this one on stands in a list. The newest are looked at first.

@@ -128,6 +128,7 @@ module _ {T U : Type 0} (f : Fields T U) where
     pub contents_length : length slot_contents ≡ slots
     pub contents_room : All (λ content. slot_length given.initial_max_slice_len * (before.config).units_per_element ≤ content.room) slot_contents
     pub contents_form : is_single_valued before.config ≡ false → All (λ content. content.is_in_place ≡ false) slot_contents
+    pub contents_cells : is_single_valued before.config ≡ false → (before.config).lists_cells ≡ true → All (λ content. content.lists_cells ≡ true) slot_contents
     pub vacant : get before.books (before.books).vacant_key ≡ None
     pub updates : Updates before.books books (before.books).vacant_key (Some book)
     pub changed : new ≡ record before {
@@ -170,6 +171,13 @@ module _ {T U : Type 0} (f : Fields T U) where
               let is : slot_contents ≡ zs = cc in
               subst (All (λ content. content.is_in_place ≡ false)) is (e.contents_form several)
           | inr away ↦ sound.parts.forms.at several k zs (sym (placed-others slot_contents f.contents key k away) ∙ there)
+        ];
+        cells = λ several lists k zs there. elim (cases_eq k key) [
+          | inl here ↦
+              let found : Some slot_contents ≡ Some zs = sym (placed-here slot_contents f.contents key) ∙ sym (ap (λ (j : ℕ). get_or contents j None) here) ∙ there in
+              let is : slot_contents ≡ zs = cc in
+              subst (All (λ content. content.lists_cells ≡ true)) is (e.contents_cells several lists)
+          | inr away ↦ sound.parts.forms.cells several lists k zs (sym (placed-others slot_contents f.contents key k away) ∙ there)
         ];
       } in
       let after : Fields T U = with_admitted f sound place given x.loan_room x.key_room key books contents free enters forms in

@@ -262,7 +262,7 @@ module _ {T U : Type 0} (f : Fields T U) (sound : IsDomain f) (i : ℕ) (x : Pub
         publisher_room = changed-room mid i x new_lender at refl sound.parts.publisher_room keeps;
         warning_room = sound.parts.warning_room;
         shapes = granted-shapes;
-        forms = forms-changed f.config f.contents x.book slot can.contents can.has (unwritten_content user_header (len * (f.config).units_per_element)) (λ c. refl) sound.parts.forms;
+        forms = forms-changed f.config f.contents x.book slot can.contents can.has (unwritten_content user_header (len * (f.config).units_per_element)) (λ c. refl) (λ c. refl) sound.parts.forms;
         plain = changed-plain mid i x new_lender at refl sound.parts.plain keeps (λ has b e. omega (arith, has b e, times_push b.slot x.loans slot));
       };
       kept_books = changed-kept_books mid i x new_lender at refl (taken_books f sound x slot can user_header len) refl

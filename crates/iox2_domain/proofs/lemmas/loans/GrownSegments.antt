@@ -207,6 +207,13 @@ module _ {T U : Type 0} (f : Fields T U) (sound : IsDomain f) (i : ℕ) (x : Pub
           subst (All (λ content. content.is_in_place ≡ false)) is ((g.grows).forms (ap not several) (sound.parts.forms.at several x.book g.contents g.had))
       | inr away ↦ sound.parts.forms.at several k zs (sym (others-have k away) ∙ there)
     ];
+    cells = λ several lists k zs there. elim (cases_eq k x.book) [
+      | inl same ↦
+          let found : Some g.grown ≡ Some zs = sym has-here ∙ sym (ap (λ (j : ℕ). get_or mid.contents j None) same) ∙ there in
+          let is : g.grown ≡ zs = cc in
+          subst (All (λ content. content.lists_cells ≡ true)) is ((g.grows).cells (ap not several) lists (sound.parts.forms.cells several lists x.book g.contents g.had))
+      | inr away ↦ sound.parts.forms.cells several lists k zs (sym (others-have k away) ∙ there)
+    ];
   }
 
   -- ---- the whole

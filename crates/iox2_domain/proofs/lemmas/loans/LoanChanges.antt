@@ -33,6 +33,7 @@ module _ {T U : Type 0} (b : Book) (cs : List (ContentState T U)) (slot n : ℕ)
   values-written unwritten values long = record {
     room = λ c. refl;
     form = λ c. refl;
+    listed = λ c. refl;
     loan = record { publisher = refl; header = refl; cells = length-map values Some ∙ long; complete = λ _. all-written values };
     is = ap (λ (k : Loan T U). Lent_message n (record k { cells = map Some values; is_written = true })) (sym (unwritten-parts b cs slot n l lies unwritten));
   }
@@ -43,6 +44,7 @@ module _ {T U : Type 0} (b : Book) (cs : List (ContentState T U)) (slot n : ℕ)
   cells-changed unwritten change as_many = record {
     room = λ c. refl;
     form = λ c. refl;
+    listed = λ c. refl;
     loan = record { publisher = refl; header = refl; cells = as_many l.cells; complete = λ written. absurd (true≢false (sym written ∙ unwritten)) };
     is = ap (λ (k : Loan T U). Lent_message n (record k { cells = change k.cells })) (sym (unwritten-parts b cs slot n l lies unwritten));
   }
@@ -54,6 +56,7 @@ module _ {T U : Type 0} (b : Book) (cs : List (ContentState T U)) (slot n : ℕ)
   values-changed written change cells as_many alike = record {
     room = λ c. refl;
     form = λ c. refl;
+    listed = λ c. refl;
     loan = record {
       publisher = refl;
       header = refl;
@@ -79,6 +82,7 @@ module _ {T U : Type 0} (b : Book) (cs : List (ContentState T U)) (slot n : ℕ)
   header-changed complete user_header = record {
     room = λ c. refl;
     form = λ c. refl;
+    listed = λ c. refl;
     loan = record { publisher = refl; header = refl; cells = refl; complete = complete };
     is = by lies.mark lies.is;
   } where

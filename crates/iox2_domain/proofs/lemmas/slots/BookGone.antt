@@ -225,6 +225,10 @@ module _ {T U : Type 0} (f : Fields T U) (parts : HasParts f) (key : ℕ) (b : B
       | inl same ↦ absurd (let no : None ≡ Some cs = sym contents-here ∙ ap (λ (j : ℕ). get_or after.contents j None) (sym same) ∙ there in cc)
       | inr away ↦ parts.forms.at several k cs (sym (contents-others k away) ∙ there)
     ];
+    cells = λ several lists k cs there. elim (cases_eq k key) [
+      | inl same ↦ absurd (let no : None ≡ Some cs = sym contents-here ∙ ap (λ (j : ℕ). get_or after.contents j None) (sym same) ∙ there in cc)
+      | inr away ↦ parts.forms.cells several lists k cs (sym (contents-others k away) ∙ there)
+    ];
   }
 
   -- the fields agree with one another

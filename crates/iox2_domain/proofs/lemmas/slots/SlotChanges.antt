@@ -44,9 +44,10 @@ all-changed {A} P g keeps xs slot all = by (slice_get xs slot) refl where
 
 -- what lies in lists does so where the slot keeps its form
 pub forms-changed : {T U : Type 0} (c : ServiceConfig) (contents : List (Option (List (ContentState T U)))) (key slot : ℕ) (cs : List (ContentState T U)) → get_or contents key None ≡ Some cs
-    → (g : ContentState T U → ContentState T U) → ((content : ContentState T U) → (g content).is_in_place ≡ content.is_in_place) → HasForms c contents
+    → (g : ContentState T U → ContentState T U) → ((content : ContentState T U) → (g content).is_in_place ≡ content.is_in_place)
+    → ((content : ContentState T U) → (g content).lists_cells ≡ content.lists_cells) → HasForms c contents
     → HasForms c (slice_set contents key (Some (with_changed cs slot g)))
-forms-changed {T} {U} c contents key slot cs at_c g placed forms = record {
+forms-changed {T} {U} c contents key slot cs at_c g placed listed forms = record {
   at = λ several k zs there. elim (cases_eq k key) [
     | inl here ↦
         let found : Some (with_changed cs slot g) ≡ Some zs =
@@ -55,6 +56,15 @@ forms-changed {T} {U} c contents key slot cs at_c g placed forms = record {
         subst (All (λ (content : ContentState T U). content.is_in_place ≡ false)) is
         (all-changed (λ (content : ContentState T U). content.is_in_place ≡ false) g (λ content away. placed content ∙ away) cs slot (forms.at several key cs at_c))
     | inr away ↦ forms.at several k zs (sym (set-others contents key cs (with_changed cs slot g) at_c k away) ∙ there)
+  ];
+  cells = λ several lists k zs there. elim (cases_eq k key) [
+    | inl here ↦
+        let found : Some (with_changed cs slot g) ≡ Some zs =
+        sym (set-here contents key cs (with_changed cs slot g) at_c) ∙ sym (ap (λ (j : ℕ). get_or (slice_set contents key (Some (with_changed cs slot g))) j None) here) ∙ there in
+        let is : with_changed cs slot g ≡ zs = cc in
+        subst (All (λ (content : ContentState T U). content.lists_cells ≡ true)) is
+        (all-changed (λ (content : ContentState T U). content.lists_cells ≡ true) g (λ content had. listed content ∙ had) cs slot (forms.cells several lists key cs at_c))
+    | inr away ↦ forms.cells several lists k zs (sym (set-others contents key cs (with_changed cs slot g) at_c k away) ∙ there)
   ];
 }
 
@@ -126,8 +136,9 @@ module _ {T U : Type 0} (f : Fields T U) (sound : IsDomain f) (key slot : ℕ) (
     })
 
   -- what lies in lists does so still
-  pub slot-forms : ((c : ContentState T U) → (g c).is_in_place ≡ c.is_in_place) → HasForms f.config f.contents → HasForms f.config with_slot.contents
-  slot-forms placed forms = forms-changed f.config f.contents key slot cs at_c g placed forms
+  pub slot-forms : ((c : ContentState T U) → (g c).is_in_place ≡ c.is_in_place) → ((c : ContentState T U) → (g c).lists_cells ≡ c.lists_cells) → HasForms f.config f.contents
+      → HasForms f.config with_slot.contents
+  slot-forms placed listed forms = forms-changed f.config f.contents key slot cs at_c g placed listed forms
 
   -- ---- numbers and counters
 

@@ -1,19 +1,15 @@
-use Rattle.std.proofs.Common.{ap}
-use Rattle.iox2_slots.specs.SlotBook.{Book}
-use Rattle.iox2_ends.specs.Counters.{one_holder_less, with_counters}
+use Rattle.iox2_ends.specs.Counters.{one_holder_less}
 use Rattle.iox2_ends.proofs.Counts.{in_range}
-use Rattle.iox2_ends.proofs.ReclaimSteps.{reclaimed-in_use, reclaims-more, held-more}
+use Rattle.iox2_ends.proofs.ReclaimSteps.{ReclaimsFrom-trans, reclaimed-in_use, reclaims-one}
 use Rattle.iox2_ends.proofs.sender.reclaim_from.Goals as goal
 
 pub release-requires : goal.release-requires
 release-requires c =
-    let in_use = reclaimed-in_use c.loop-slot.book.holders c.in-Some.slot c.loop-slot.connection c.reclaim.new.self c.loop-slot.invariant.held c.in-Some.ensures.reclaims in
+    let in_use = reclaimed-in_use c.args.book.now.holders c.in-Some.slot c.args.connection.now c.reclaim.new.self c.requires c.in-Some.ensures.reclaims in
     record { in_bounds = in_range _ _ in_use; in_use = in_use }
 
-pub loop-slot-preserved : goal.loop-slot-preserved
-loop-slot-preserved c = rw c.release.ensures.released (record {
-  held = held-more c.loop-slot.book.holders c.in-Some.slot c.loop-slot.connection c.reclaim.new.self c.loop-slot.invariant.held c.in-Some.ensures.reclaims;
-  book = ap (λ (b : Book). with_counters b (one_holder_less c.in-Some.slot c.loop-slot.book.holders)) c.loop-slot.invariant.book;
-  reclaims = reclaims-more c.args.book.now.holders c.loop-slot.book.holders c.in-Some.slot c.args.connection.now c.loop-slot.connection c.reclaim.new.self
-      c.loop-slot.invariant.held c.loop-slot.invariant.reclaims c.in-Some.ensures.reclaims;
-})
+pub returns-then-has_returned-clause-reclaims : goal.returns-then-has_returned-clause-reclaims
+returns-then-has_returned-clause-reclaims c =
+    ReclaimsFrom-trans c.args.book.now.holders (one_holder_less c.in-Some.slot c.args.book.now.holders) c.reclaim_rest.new.book.holders c.args.connection.now c.reclaim.new.self c.reclaim_rest.new.connection
+    (reclaims-one c.args.book.now.holders c.in-Some.slot c.args.connection.now c.reclaim.new.self c.requires c.in-Some.ensures.reclaims)
+    (rw c.release.ensures.released at c.reclaim_rest.ensures.reclaims)

@@ -18,7 +18,7 @@ impl SampleMut {
     ghost use Rattle.iox2_pubsub.specs.Live.{IsWritten, IsWrittenLoan, LoanHasHeader, LoanHasUserHeader, NeverWaits, StaysBut, UpToDateStay, written_key, written_loan, WaitingStays};
     ghost use Rattle.iox2_pubsub.specs.LoanLends.{LendsPayloads};
     ghost use Rattle.iox2_pubsub.specs.LoansLeft.{LoansLeftStay};
-    ghost use Rattle.iox2_pubsub.specs.Slices.{HasValues, IsSliced};
+    ghost use Rattle.iox2_pubsub.specs.Slices.{HasValues, HoldsSlices};
     ghost use Rattle.iox2_pubsub.specs.Handles.{as_written, written_number};
 
     /// The payload, to be changed where it lies. What is left behind the reference is the loan's
@@ -30,7 +30,7 @@ impl SampleMut {
         sample: &mut SampleMut,
     ) -> &'a mut [T]
         requires live { IsWritten domain.old (as_written sample.old) }
-        requires sliced { IsSliced domain.old }
+        requires sliced { HoldsSlices domain.old }
         ensures* writes_back { sem 𝓛 (LendsPayloads T.row U.row F.row G.row domain.entry (written_number (as_written sample.old)) result) }
         ensures same { sample.new ≡ sample.old }
         ensures payload { HasValues domain.old (written_number (as_written sample.old)) result.now }

@@ -22,7 +22,8 @@ impl SampleMutUninit {
     ghost use Rattle.iox2_pubsub.specs.Handles.{as_unwritten, unwritten_number};
 
     /// The cells, to be written, changed or emptied where they lie. What is left behind the reference
-    /// is in the loan's cells from then on, and nothing else of the domain changes.
+    /// is in the loan's cells from then on, and nothing else of the domain changes. Cells are handed out
+    /// where the settings say so (`ServiceConfig::lists_cells`), as they do by default.
     ///
     /// iceoryx2's `SampleMutUninit::payload_mut` (`src/sample_mut_uninit.rs`).
     pub fn payload_mut<'a, T: Drop, U: Default + Drop, F: BackpressureFn, G: DegradationFn>(

@@ -15,7 +15,7 @@ impl SampleMutUninit {
     ghost use Rattle.iox2_domain.specs.Shows.{Shows};
     ghost use Rattle.iox2_pubsub.specs.Live.{HasLender, IsUnblocked, IsUnwritten, IsWritten, IsWrittenLoan, LoanHasHeader, LoanHasUserHeader, NeverWaits, StaysBut, UpToDateStay, unwritten_key, unwritten_loan, written_key, WaitingStays};
     ghost use Rattle.iox2_pubsub.specs.LoansLeft.{LoansLeftStay};
-    ghost use Rattle.iox2_pubsub.specs.Slices.{HasUnwrittenCells, HasValues, IsSliced};
+    ghost use Rattle.iox2_pubsub.specs.Slices.{HasUnwrittenCells, HasValues, HoldsSlices};
     ghost use Rattle.iox2_pubsub.specs.Handles.{as_unwritten, as_written, unwritten_number, written_number};
 
     /// Makes the loan one that may be sent, with unspecified values: what lay in its slot before, and
@@ -31,7 +31,7 @@ impl SampleMutUninit {
         G: DegradationFn,
     >(self, domain: &mut Domain<T, U, F, G>) -> SampleMut
         requires live { IsUnwritten domain.old (as_unwritten self) }
-        requires sliced { IsSliced domain.old }
+        requires sliced { HoldsSlices domain.old }
         ensures written { (values : List T) × HasValues domain.new (written_number (as_written result)) values
             × ((m : Messages T U) (s : State T U) → Shows domain.old m s → (l : Loan T U) × (s.loans (unwritten_number (as_unwritten self)) ≡ Some l)
             × (s' : State T U) × WriteAllFrom s (unwritten_number (as_unwritten self)) l values s' × Shows domain.new m s') }

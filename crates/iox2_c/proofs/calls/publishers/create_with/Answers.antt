@@ -9,7 +9,7 @@ use Rattle.iox2_c.specs.Steps.{CreatesPublisher}
 use Rattle.iox2_c.proofs.CreationSteps.{moved, publisher-creates, publisher-refused}
 use Rattle.iox2_c.proofs.calls.publishers.create_with.Goals as goal
 
-step : (c : goal.After-tell)
+step : (c : goal.After-publisher)
     → CreatesPublisher c.args.service.now.domain c.create_by-made.new.domain (publisher_settings (c.args.service.now.domain).config c.args.options.now) (publisher_made c.create_by-made.result)
 step c =
     moved c.service.inside.domain c.args.service.now.domain c.create_by-made.new.domain (with_slots c.factory_with-factory.result.settings (slots_numbered c.args.options.now.preallocated_samples))
@@ -18,10 +18,10 @@ step c =
 
 pub returns-clause-creates : goal.returns-clause-creates
 returns-clause-creates c = λ ok.
-    publisher-creates c.args.service.now.domain c.create_by-made.new.domain (publisher_settings (c.args.service.now.domain).config c.args.options.now) c.create_by-made.result c.tell.result c.tell.new.out
-    (step c) c.tell.ensures.code c.tell.ensures.named ok
+    publisher-creates c.args.service.now.domain c.create_by-made.new.domain (publisher_settings (c.args.service.now.domain).config c.args.options.now) c.create_by-made.result c.tell-code.result c.tell-code.new.out
+    (step c) c.tell-code.ensures.code c.tell-code.ensures.named ok
 
 pub returns-clause-errors : goal.returns-clause-errors
 returns-clause-errors c = λ some valid.
-    publisher-refused c.args.service.now.domain c.create_by-made.new.domain (publisher_settings (c.args.service.now.domain).config c.args.options.now) c.create_by-made.result c.tell.result (step c)
-    c.tell.ensures.code some
+    publisher-refused c.args.service.now.domain c.create_by-made.new.domain (publisher_settings (c.args.service.now.domain).config c.args.options.now) c.create_by-made.result c.tell-code.result (step c)
+    c.tell-code.ensures.code some

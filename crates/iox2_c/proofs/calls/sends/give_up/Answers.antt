@@ -16,8 +16,8 @@ returns-clause-ends c = λ live.
     let id : blocked_sender c.in-Some.waiting ≡ wide c.args.numbers.now.publisher = ap (λ (p : LoanParts). p.publisher) c.in-Some.ensures.named ∙ ap (λ (k : Key). k.port) c.parts.ensures in
     let step : GivesUp c.service.inside.domain c.give_up-end.new.domain (blocked_sender c.in-Some.waiting) sent = c.give_up-end.ensures.gives_up in (
       sent,
-      c.tell.ensures.code_is,
-      c.tell.ensures.receivers,
+      c.tell-code.ensures.code_is,
+      c.tell-code.ensures.receivers,
       subst (λ (old : KeptBytes). GivesUp old c.give_up-end.new.domain (wide c.args.numbers.now.publisher) sent) (ap (λ (s : Serving). s.domain) c.service.view_is)
           (subst (λ (p : ℕ). GivesUp c.service.inside.domain c.give_up-end.new.domain p sent) id step),
     )

@@ -11,8 +11,8 @@ pub returns-clause-sent : goal.returns-clause-sent
 returns-clause-sent c = λ two seven.
     let sent : Result SendOutcome SendError = c.send_bytes-sent.result in (
       sent,
-      c.tell.ensures.code_is,
-      c.tell.ensures.receivers,
+      c.tell-code.ensures.code_is,
+      c.tell-code.ensures.receivers,
       subst (λ (old : KeptBytes). SendsCopy old c.send_bytes-sent.new.domain (wide c.args.numbers.now.id) c.args.bytes.now sent) (ap (λ (s : Serving). s.domain) c.service.view_is)
           (subst (λ (p : ℕ). SendsCopy c.service.inside.domain c.send_bytes-sent.new.domain p c.args.bytes.now sent) c.in-Ok.ensures.id c.send_bytes-sent.ensures.sends),
     )

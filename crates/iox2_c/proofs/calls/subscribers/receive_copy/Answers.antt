@@ -52,7 +52,7 @@ returns-in-Ok-None-clause-nothing c = λ none.
 pub returns-in-Err-clause-errors : goal.returns-in-Err-clause-errors
 returns-in-Err-clause-errors c = λ high other. (
   c.in-Err.error,
-  c.receive_status.ensures,
+  c.receive_status-code.ensures,
   receives-moved c.service.inside.domain c.args.service.now.domain c.receive-received.new.domain _ (wide c.args.numbers.now.id) _ (Receive_error c.in-Err.error)
       (ap (λ (s : Serving). s.domain) c.service.view_is) c.in-Some.ensures.id refl c.in-Err.ensures.receives,
 )

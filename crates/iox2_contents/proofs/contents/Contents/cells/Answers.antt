@@ -13,13 +13,15 @@ index-requires g c =
     let long : vec_len c.self.inside.slots ≡ length c.self.inside.slots.items = search rules in
     rw long (some_within c.self.inside.slots.items c.args.slot _ (rw (← c.self.view_is) at c.requires))
 
-pub cells-requires-clause-in_lists : goal.cells-requires-clause-in_lists
-cells-requires-clause-in_lists g c = (some_read c.self.inside.slots.items c.args.slot _ _ (rw (← c.self.view_is) at c.requires) c.index.ensures).1
+pub cells-requires-clause-listed : goal.cells-requires-clause-listed
+cells-requires-clause-listed g c = (some_read c.self.inside.slots.items c.args.slot _ _ (rw (← c.self.view_is) at c.requires) c.index.ensures).1
 
 pub cells-requires-clause-unwritten : goal.cells-requires-clause-unwritten
 cells-requires-clause-unwritten g c = rw c.as_slice.ensures.value c.self.invariant.0
 
 pub cells-requires-clause-enough : goal.cells-requires-clause-enough
 cells-requires-clause-enough g c =
-    rw c.as_slice.ensures.value (all_read c.self.inside.slots.items c.args.slot (RoomIsAtMost (length c.self.inside.unwritten.items)) c.index.result.now c.self.invariant.1 (some_within c.self.inside.slots.items c.args.slot _ (rw (← c.self.view_is) at c.requires)) c.index.ensures
-    (some_read c.self.inside.slots.items c.args.slot _ _ (rw (← c.self.view_is) at c.requires) c.index.ensures).1)
+    let within = some_within c.self.inside.slots.items c.args.slot _ (rw (← c.self.view_is) at c.requires) in
+    let enough = all_read c.self.inside.slots.items c.args.slot (RoomIsAtMost (length c.self.inside.unwritten.items)) c.index.result.now c.self.invariant.1 within c.index.ensures in
+    let listed = (some_read c.self.inside.slots.items c.args.slot _ _ (rw (← c.self.view_is) at c.requires) c.index.ensures).1 in
+    rw c.as_slice.ensures.value (enough listed)

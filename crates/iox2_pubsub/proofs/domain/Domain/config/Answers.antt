@@ -1,7 +1,7 @@
 use Rattle.std.proofs.Common.{ap, sym, ◌∙◌}
 use Rattle.iox2_store.specs.declared.service_config.ServiceConfig.{ServiceConfig}
 use Rattle.iox2_pubsub.proofs.LiveParts.{single-valued}
-use Rattle.iox2_pubsub.proofs.SliceParts.{dynamic-sliced}
+use Rattle.iox2_pubsub.proofs.SliceParts.{dynamic-holds, dynamic-sliced}
 use Rattle.iox2_domain.specs.Fields.{kept_of}
 use Rattle.iox2_domain.specs.Kept.{Kept, entries_of}
 use Rattle.iox2_pubsub.proofs.AlwaysShows.{shows_itself}
@@ -20,5 +20,10 @@ returns-clause-single_valued g c = λ variant units.
     single-valued c.args.self.now (ap (λ (config : ServiceConfig). config.variant) (sym value) ∙ variant) (ap (λ (config : ServiceConfig). config.units_per_element) (sym value) ∙ units)
 
 pub returns-clause-sliced : goal.returns-clause-sliced
-returns-clause-sliced g c = λ dynamic.
-    dynamic-sliced c.args.self.now (ap (λ (config : ServiceConfig). config.variant) (sym (returns-clause-value g c)) ∙ dynamic)
+returns-clause-sliced g c = λ dynamic lists.
+    let value = sym (returns-clause-value g c) in
+    dynamic-sliced c.args.self.now (ap (λ (config : ServiceConfig). config.variant) value ∙ dynamic) (ap (λ (config : ServiceConfig). config.lists_cells) value ∙ lists)
+
+pub returns-clause-holds_slices : goal.returns-clause-holds_slices
+returns-clause-holds_slices g c = λ dynamic.
+    dynamic-holds c.args.self.now (ap (λ (config : ServiceConfig). config.variant) (sym (returns-clause-value g c)) ∙ dynamic)

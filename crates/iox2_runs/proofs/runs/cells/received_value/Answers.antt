@@ -4,7 +4,7 @@ use Rattle.iox2_pubsub.specs.Slices.{SampleHasValues}
 use Rattle.iox2_pubsub.specs.declared.sample.Sample.{Sample}
 use Rattle.iox2_runs.proofs.CellLists.{item-read}
 use Rattle.iox2_runs.proofs.CellViews.{message-of, message-read, messages-read}
-use Rattle.iox2_runs.proofs.Services.{single-here, sliced-here}
+use Rattle.iox2_runs.proofs.Services.{single-here, holds-here}
 use Rattle.iox2_runs.proofs.runs.cells.received_value.Goals as goal
 
 pub payload-requires-clause-single_valued : goal.payload-requires-clause-single_valued
@@ -15,7 +15,7 @@ returns-then-is_single_valued-clause-reads g c =
     message-read {T = g.row.T.Denot} {U = g.row.U.Denot} c.args.domain.now c.args.sample.sample.number c.args.at c.payload.result.now c.only_at.result c.payload.ensures.entry c.only_at.ensures
 
 pub payload-requires-2-clause-sliced : goal.payload-requires-2-clause-sliced
-payload-requires-2-clause-sliced g c = sliced-here {T = g.row.T.Denot} {U = g.row.U.Denot} c.args.domain.now (sym c.is_single_valued.ensures ∙ c.if-is_single_valued.false)
+payload-requires-2-clause-sliced g c = holds-here {T = g.row.T.Denot} {U = g.row.U.Denot} c.args.domain.now (sym c.is_single_valued.ensures ∙ c.if-is_single_valued.false)
 
 pub returns-clause-reads : goal.returns-clause-reads
 returns-clause-reads g c =

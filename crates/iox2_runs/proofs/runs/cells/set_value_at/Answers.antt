@@ -4,7 +4,7 @@ use Rattle.iox2_pubsub.specs.ChangedLoans.{with_payload, with_payloads}
 use Rattle.iox2_pubsub.specs.declared.sample_mut.SampleMut.{SampleMut}
 use Rattle.iox2_runs.specs.Cells.{WritesAt}
 use Rattle.iox2_runs.proofs.CellViews.{values-alike, cell-written, cell-past, values-past, values-written}
-use Rattle.iox2_runs.proofs.Services.{single-here, sliced-here}
+use Rattle.iox2_runs.proofs.Services.{single-here, holds-here}
 use Rattle.iox2_runs.proofs.runs.cells.set_value_at.Goals as goal
 
 pub payload-requires-clause-single_valued : goal.payload-requires-clause-single_valued
@@ -23,7 +23,7 @@ returns-then-is_single_valued-clause-writes g c =
     (Some c.payload.result.now) c.if-at-ne0.false c.payload.ensures.cell (λ m s shown. c.payload_mut.ensures.changes m s c.args.value shown)
 
 pub payload-requires-2-clause-sliced : goal.payload-requires-2-clause-sliced
-payload-requires-2-clause-sliced g c = sliced-here {T = g.row.T.Denot} {U = g.row.U.Denot} c.args.domain.now (sym c.is_single_valued.ensures ∙ c.if-is_single_valued.false)
+payload-requires-2-clause-sliced g c = holds-here {T = g.row.T.Denot} {U = g.row.U.Denot} c.args.domain.now (sym c.is_single_valued.ensures ∙ c.if-is_single_valued.false)
 
 pub returns-then-at-payload-clause-writes : goal.returns-then-at-payload-clause-writes
 returns-then-at-payload-clause-writes g c =
@@ -31,7 +31,7 @@ returns-then-at-payload-clause-writes g c =
     (values-past {T = g.row.T.Denot} {U = g.row.U.Denot} c.args.domain.now c.new-loan.result.sample.loan.number c.args.at c.payload-2.result.now c.args.value c.if-at-payload.true c.payload-2.ensures.reads)
 
 pub payload_mut-values-requires-clause-sliced : goal.payload_mut-values-requires-clause-sliced
-payload_mut-values-requires-clause-sliced g c = sliced-here {T = g.row.T.Denot} {U = g.row.U.Denot} c.args.domain.now (sym c.is_single_valued.ensures ∙ c.if-is_single_valued.false)
+payload_mut-values-requires-clause-sliced g c = holds-here {T = g.row.T.Denot} {U = g.row.U.Denot} c.args.domain.now (sym c.is_single_valued.ensures ∙ c.if-is_single_valued.false)
 
 pub bounds-values-at : goal.bounds-values-at
 bounds-values-at g c =

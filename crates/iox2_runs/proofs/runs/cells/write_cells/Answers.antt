@@ -5,14 +5,14 @@ use Rattle.iox2_store.specs.machine.State.{State, Messages, with_loan}
 use Rattle.iox2_domain.specs.Shows.{Shows}
 use Rattle.iox2_pubsub.specs.declared.sample_mut_uninit.SampleMutUninit.{SampleMutUninit}
 use Rattle.iox2_runs.proofs.CellViews.{answers-alike, all-written}
-use Rattle.iox2_runs.proofs.Services.{single-here, sliced-here}
+use Rattle.iox2_runs.proofs.Services.{single-here, holds-here}
 use Rattle.iox2_runs.proofs.runs.cells.write_cells.Goals as goal
 
 pub write_payload-requires-clause-single_valued : goal.write_payload-requires-clause-single_valued
 write_payload-requires-clause-single_valued g c = single-here {T = g.row.T.Denot} {U = g.row.U.Denot} c.args.domain.now (sym c.is_single_valued.ensures ∙ c.if-is_single_valued.true)
 
 pub write_from_fn-requires-clause-sliced : goal.write_from_fn-requires-clause-sliced
-write_from_fn-requires-clause-sliced g c = sliced-here {T = g.row.T.Denot} {U = g.row.U.Denot} c.args.domain.now (sym c.is_single_valued.ensures ∙ c.if-is_single_valued.false)
+write_from_fn-requires-clause-sliced g c = holds-here {T = g.row.T.Denot} {U = g.row.U.Denot} c.args.domain.now (sym c.is_single_valued.ensures ∙ c.if-is_single_valued.false)
 
 pub returns-clause-written : goal.returns-clause-written
 returns-clause-written g c =

@@ -3,7 +3,7 @@ use Rattle.iox2_pubsub.specs.Slices.{HasValues}
 use Rattle.iox2_pubsub.specs.declared.sample_mut.SampleMut.{SampleMut}
 use Rattle.iox2_runs.proofs.CellLists.{item-read}
 use Rattle.iox2_runs.proofs.CellViews.{value-read, values-read}
-use Rattle.iox2_runs.proofs.Services.{single-here, sliced-here}
+use Rattle.iox2_runs.proofs.Services.{single-here, holds-here}
 use Rattle.iox2_runs.proofs.runs.cells.written_value.Goals as goal
 
 pub payload-requires-clause-single_valued : goal.payload-requires-clause-single_valued
@@ -14,7 +14,7 @@ returns-then-is_single_valued-clause-reads g c =
     value-read {T = g.row.T.Denot} {U = g.row.U.Denot} c.args.domain.now c.args.loan.loan.number c.args.at c.payload.result.now c.only_at.result c.payload.ensures.cell c.only_at.ensures
 
 pub payload-requires-2-clause-sliced : goal.payload-requires-2-clause-sliced
-payload-requires-2-clause-sliced g c = sliced-here {T = g.row.T.Denot} {U = g.row.U.Denot} c.args.domain.now (sym c.is_single_valued.ensures ∙ c.if-is_single_valued.false)
+payload-requires-2-clause-sliced g c = holds-here {T = g.row.T.Denot} {U = g.row.U.Denot} c.args.domain.now (sym c.is_single_valued.ensures ∙ c.if-is_single_valued.false)
 
 pub returns-clause-reads : goal.returns-clause-reads
 returns-clause-reads g c =

@@ -5,14 +5,17 @@ use Rattle.iox2_runs.specs.declared.runs.made.Made.{Made}
 use Rattle.iox2_runs.specs.declared.runs.made.Made.TheVariants.{Nothing, Unwritten}
 use Rattle.iox2_runs.proofs.TableLooks.{is_unwritten_entry}
 use Rattle.iox2_runs.proofs.TableEntries.{back, set_again, not_unwritten}
-use Rattle.iox2_runs.proofs.LiveEntries.{live_unwritten}
+use Rattle.iox2_runs.proofs.LiveEntries.{live_unwritten, listed}
 use Rattle.iox2_runs.proofs.CarriedChanges.{cell_carried, cell_passed}
 use Rattle.iox2_pubsub.proofs.StaysBut.{stays-but-more}
 use Rattle.iox2_runs.proofs.LeavingSteps.{leaves-all, leaves-spending}
 use Rattle.iox2_runs.proofs.runs.changes.write_cell.Goals as goal
 
-pub write_cell_at-is_there-requires : goal.write_cell_at-is_there-requires
-write_cell_at-is_there-requires g c = live_unwritten {T = g.row.T.Denot} {U = g.row.U.Denot} c.args.domain.now c.args.table.now.items c.requires c.args.of c.in-Unwritten.loan (sym c.take.ensures.made ∙ c.in-Unwritten.is)
+pub write_cell_at-is_there-requires-clause-live : goal.write_cell_at-is_there-requires-clause-live
+write_cell_at-is_there-requires-clause-live g c = live_unwritten {T = g.row.T.Denot} {U = g.row.U.Denot} c.args.domain.now c.args.table.now.items c.requires c.args.of c.in-Unwritten.loan (sym c.take.ensures.made ∙ c.in-Unwritten.is)
+
+pub write_cell_at-is_there-requires-clause-lists_cells : goal.write_cell_at-is_there-requires-clause-lists_cells
+write_cell_at-is_there-requires-clause-lists_cells g c = listed {T = g.row.T.Denot} {U = g.row.U.Denot} c.args.domain.now c.args.table.now.items c.requires c.args.of
 
 pub returns-in-Unwritten-clause-carries : goal.returns-in-Unwritten-clause-carries
 returns-in-Unwritten-clause-carries g c =

@@ -8,13 +8,16 @@ use Rattle.iox2_runs.specs.declared.runs.made.Made.{Made}
 use Rattle.iox2_runs.specs.declared.runs.made.Made.TheVariants.{Unwritten, Written, Sample as MadeSample}
 use Rattle.iox2_runs.proofs.TableLooks.{is_sample_entry, is_loan_entry}
 use Rattle.iox2_runs.proofs.TableEntries.{back, not_sample, not_loan}
-use Rattle.iox2_runs.proofs.LiveEntries.{live_unwritten, live_written, live_sample}
+use Rattle.iox2_runs.proofs.LiveEntries.{live_unwritten, listed, live_written, live_sample}
 use Rattle.iox2_runs.proofs.LeavingSteps.{leaves-all}
 use Rattle.iox2_runs.proofs.CarriedSamples.{read_unwritten, read_written, read_sampled, read_passed}
 use Rattle.iox2_runs.proofs.runs.samples.read.Goals as goal
 
-pub unwritten_cell-cell-requires : goal.unwritten_cell-cell-requires
-unwritten_cell-cell-requires g c = live_unwritten {T = g.row.T.Denot} {U = g.row.U.Denot} c.args.domain.now c.args.table.now.items c.requires c.args.of c.in-Unwritten.loan (sym c.take.ensures.made ∙ c.in-Unwritten.is)
+pub unwritten_cell-cell-requires-clause-live : goal.unwritten_cell-cell-requires-clause-live
+unwritten_cell-cell-requires-clause-live g c = live_unwritten {T = g.row.T.Denot} {U = g.row.U.Denot} c.args.domain.now c.args.table.now.items c.requires c.args.of c.in-Unwritten.loan (sym c.take.ensures.made ∙ c.in-Unwritten.is)
+
+pub unwritten_cell-cell-requires-clause-lists_cells : goal.unwritten_cell-cell-requires-clause-lists_cells
+unwritten_cell-cell-requires-clause-lists_cells g c = listed {T = g.row.T.Denot} {U = g.row.U.Denot} c.args.domain.now c.args.table.now.items c.requires c.args.of
 
 pub returns-in-Unwritten-clause-carries : goal.returns-in-Unwritten-clause-carries
 returns-in-Unwritten-clause-carries g c =

@@ -3,13 +3,13 @@ use Rattle.std.proofs.lemmas.List.{length-replicate}
 use Rattle.iox2_store.specs.machine.State.{State}
 use Rattle.iox2_store.specs.declared.service_config.ServiceConfig.{ServiceConfig}
 use Rattle.iox2_pubsub.proofs.DefaultSlices.{all-answers}
-use Rattle.iox2_pubsub.proofs.SliceParts.{dynamic-sliced}
+use Rattle.iox2_pubsub.proofs.SliceParts.{dynamic-holds}
 use Rattle.iox2_pubsub.proofs.WrittenLoanCalls.{default-grants, default-refused}
 use Rattle.iox2_pubsub.proofs.slice.publisher.Publisher.loan_slice.Goals as goal
 
 pub write_from_fn-requires-clause-sliced : goal.write_from_fn-requires-clause-sliced
 write_from_fn-requires-clause-sliced g c =
-    dynamic-sliced {T = g.row.T.Denot} {U = g.row.U.Denot} c.loan_slice_uninit.new.domain (ap (λ (config : ServiceConfig). config.variant) c.loan_slice_uninit.ensures.stays.settings ∙ c.requires.dynamic)
+    dynamic-holds {T = g.row.T.Denot} {U = g.row.U.Denot} c.loan_slice_uninit.new.domain (ap (λ (config : ServiceConfig). config.variant) c.loan_slice_uninit.ensures.stays.settings ∙ c.requires.dynamic)
 
 pub returns-in-Ok-clause-lends : goal.returns-in-Ok-clause-lends
 returns-in-Ok-clause-lends g c = λ m s shown.

@@ -4,7 +4,7 @@ use Rattle.iox2_store.specs.machine.SingleCalls.{HoldsSample}
 use Rattle.iox2_domain.specs.Kept.{Kept, entries_of, state_of}
 use Rattle.iox2_pubsub.specs.Live.{sample_key}
 use Rattle.iox2_pubsub.proofs.LiveParts.{sample-parts}
-use Rattle.iox2_pubsub.proofs.SliceParts.{sliced-parts, sample-values, sample-values-one}
+use Rattle.iox2_pubsub.proofs.SliceParts.{holds-parts, sample-values, sample-values-one}
 use Rattle.iox2_pubsub.proofs.slice.sample.Sample.payload.Goals as goal
 
 pub sample_payloads-requires-clause-live : goal.sample_payloads-requires-clause-live
@@ -13,7 +13,7 @@ sample_payloads-requires-clause-live g c =
 
 pub sample_payloads-requires-clause-several : goal.sample_payloads-requires-clause-several
 sample_payloads-requires-clause-several g c =
-    subst (λ (k : Kept g.row.T.Denot g.row.U.Denot g.row.F.Denot g.row.G.Denot). is_single_valued k.config ≡ false) (sym c.domain.view_is) (sliced-parts c.args.domain.now c.requires.sliced)
+    subst (λ (k : Kept g.row.T.Denot g.row.U.Denot g.row.F.Denot g.row.G.Denot). is_single_valued k.config ≡ false) (sym c.domain.view_is) (holds-parts c.args.domain.now c.requires.sliced)
 
 pub returns-clause-reads : goal.returns-clause-reads
 returns-clause-reads g c =

@@ -5,7 +5,7 @@ use Rattle.iox2_domain.specs.Kept.{Kept, state_of}
 use Rattle.iox2_domain.specs.LoanCalls.{HasCells, cells_changed}
 use Rattle.iox2_pubsub.specs.Live.{written_key}
 use Rattle.iox2_pubsub.proofs.LoanHandles.{written-out, loan-out}
-use Rattle.iox2_pubsub.proofs.SliceParts.{sliced-parts, has-values}
+use Rattle.iox2_pubsub.proofs.SliceParts.{holds-parts, has-values}
 use Rattle.iox2_pubsub.specs.ChangedLoans.{with_payloads}
 use Rattle.iox2_pubsub.proofs.LentHandles.{payloads-word, values-there, values-known, values-lends, values-left, was-lent}
 use Rattle.iox2_pubsub.proofs.slice.sample_mut.SampleMut.payload_mut.Goals as goal
@@ -14,7 +14,7 @@ pub find_live_loan-at-requires-clause-live : goal.find_live_loan-at-requires-cla
 find_live_loan-at-requires-clause-live g c = loan-out {T = g.row.T.Denot} {U = g.row.U.Denot} _ c.args.domain.now c.domain.view_is _ c.requires.live.live
 
 pub values_at_mut-requires : goal.values_at_mut-requires
-values_at_mut-requires g c = values-there {T = g.row.T.Denot} {U = g.row.U.Denot} c.domain.inside.state c.domain.invariant c.args.sample.now.sample.loan.publisher c.args.sample.now.sample.loan.number c.find_live_loan-at.result.book c.find_live_loan-at.result.slot c.find_live_loan-at.ensures (written-out {T = g.row.T.Denot} {U = g.row.U.Denot} _ c.args.domain.now c.domain.view_is c.args.sample.now.sample c.requires.live) (subst (λ (k : Kept g.row.T.Denot g.row.U.Denot g.row.F.Denot g.row.G.Denot). is_single_valued k.config ≡ false) (sym c.domain.view_is) (sliced-parts c.args.domain.now c.requires.sliced))
+values_at_mut-requires g c = values-there {T = g.row.T.Denot} {U = g.row.U.Denot} c.domain.inside.state c.domain.invariant c.args.sample.now.sample.loan.publisher c.args.sample.now.sample.loan.number c.find_live_loan-at.result.book c.find_live_loan-at.result.slot c.find_live_loan-at.ensures (written-out {T = g.row.T.Denot} {U = g.row.U.Denot} _ c.args.domain.now c.domain.view_is c.args.sample.now.sample c.requires.live) (subst (λ (k : Kept g.row.T.Denot g.row.U.Denot g.row.F.Denot g.row.G.Denot). is_single_valued k.config ≡ false) (sym c.domain.view_is) (holds-parts c.args.domain.now c.requires.sliced))
 
 pub invariant_of-domain-lent : goal.invariant_of-domain-lent
 invariant_of-domain-lent g c = λ w. (values-lends {T = g.row.T.Denot} {U = g.row.U.Denot} c.domain.inside.state c.domain.invariant c.args.sample.now.sample.loan.publisher c.args.sample.now.sample.loan.number c.find_live_loan-at.result.book c.find_live_loan-at.result.slot c.find_live_loan-at.ensures (written-out {T = g.row.T.Denot} {U = g.row.U.Denot} _ c.args.domain.now c.domain.view_is c.args.sample.now.sample c.requires.live) w).agrees

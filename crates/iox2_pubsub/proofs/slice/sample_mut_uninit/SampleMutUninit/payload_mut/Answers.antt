@@ -1,11 +1,11 @@
-use Rattle.std.proofs.Common.{List, Option, ◌≡◌, false, refl, subst, sym}
+use Rattle.std.proofs.Common.{List, Option, ◌≡◌, true, false, refl, subst, sym}
 use Rattle.iox2_store.specs.SingleValues.{is_single_valued}
 use Rattle.iox2_domain.specs.Fields.{kept_of}
 use Rattle.iox2_domain.specs.Kept.{Kept, state_of}
 use Rattle.iox2_domain.specs.LoanCalls.{HasCells, cells_changed}
 use Rattle.iox2_pubsub.specs.Live.{unwritten_key}
 use Rattle.iox2_pubsub.proofs.LoanHandles.{unwritten-out, loan-out}
-use Rattle.iox2_pubsub.proofs.SliceParts.{sliced-parts, has-cells}
+use Rattle.iox2_pubsub.proofs.SliceParts.{holds-parts, has-cells}
 use Rattle.iox2_pubsub.specs.ChangedLoans.{with_cells}
 use Rattle.iox2_pubsub.proofs.LentHandles.{cells-word, cells-there, cells-known, cells-lends, cells-left, was-lent}
 use Rattle.iox2_pubsub.proofs.slice.sample_mut_uninit.SampleMutUninit.payload_mut.Goals as goal
@@ -14,7 +14,8 @@ pub find_live_loan-at-requires-clause-live : goal.find_live_loan-at-requires-cla
 find_live_loan-at-requires-clause-live g c = loan-out {T = g.row.T.Denot} {U = g.row.U.Denot} _ c.args.domain.now c.domain.view_is _ c.requires.live.live
 
 pub cells_at_mut-requires : goal.cells_at_mut-requires
-cells_at_mut-requires g c = cells-there {T = g.row.T.Denot} {U = g.row.U.Denot} c.domain.inside.state c.domain.invariant c.args.sample.now.sample.loan.publisher c.args.sample.now.sample.loan.number c.find_live_loan-at.result.book c.find_live_loan-at.result.slot c.find_live_loan-at.ensures (unwritten-out {T = g.row.T.Denot} {U = g.row.U.Denot} _ c.args.domain.now c.domain.view_is c.args.sample.now.sample c.requires.live) (subst (λ (k : Kept g.row.T.Denot g.row.U.Denot g.row.F.Denot g.row.G.Denot). is_single_valued k.config ≡ false) (sym c.domain.view_is) (sliced-parts c.args.domain.now c.requires.sliced))
+cells_at_mut-requires g c = cells-there {T = g.row.T.Denot} {U = g.row.U.Denot} c.domain.inside.state c.domain.invariant c.args.sample.now.sample.loan.publisher c.args.sample.now.sample.loan.number c.find_live_loan-at.result.book c.find_live_loan-at.result.slot c.find_live_loan-at.ensures (unwritten-out {T = g.row.T.Denot} {U = g.row.U.Denot} _ c.args.domain.now c.domain.view_is c.args.sample.now.sample c.requires.live) (subst (λ (k : Kept g.row.T.Denot g.row.U.Denot g.row.F.Denot g.row.G.Denot). is_single_valued k.config ≡ false) (sym c.domain.view_is) (holds-parts c.args.domain.now c.requires.sliced.holds))
+    (subst (λ (k : Kept g.row.T.Denot g.row.U.Denot g.row.F.Denot g.row.G.Denot). (k.config).lists_cells ≡ true) (sym c.domain.view_is) c.requires.sliced.lists_cells)
 
 pub invariant_of-domain-lent : goal.invariant_of-domain-lent
 invariant_of-domain-lent g c = λ w. (cells-lends {T = g.row.T.Denot} {U = g.row.U.Denot} c.domain.inside.state c.domain.invariant c.args.sample.now.sample.loan.publisher c.args.sample.now.sample.loan.number c.find_live_loan-at.result.book c.find_live_loan-at.result.slot c.find_live_loan-at.ensures (unwritten-out {T = g.row.T.Denot} {U = g.row.U.Denot} _ c.args.domain.now c.domain.view_is c.args.sample.now.sample c.requires.live) w).agrees

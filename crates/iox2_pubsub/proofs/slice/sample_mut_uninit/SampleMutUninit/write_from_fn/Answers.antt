@@ -8,14 +8,14 @@ use Rattle.iox2_pubsub.proofs.LoanHandles.{unwritten-out}
 use Rattle.iox2_pubsub.proofs.FilledLoans.{filled-header, filled-user-header, filled-waits, filled-leaves, filled-shown, filled-values, filled-live, filled-stays, filled-left}
 use Rattle.iox2_pubsub.proofs.FilledLengths.{filled-lengths}
 use Rattle.iox2_pubsub.proofs.LiveParts.{never-waits-alike, unblocked-alike}
-use Rattle.iox2_pubsub.proofs.SliceParts.{sliced-parts}
+use Rattle.iox2_pubsub.proofs.SliceParts.{holds-parts}
 use Rattle.iox2_pubsub.proofs.slice.sample_mut_uninit.SampleMutUninit.write_from_fn.Goals as goal
 
 pub write_loan_from_fn-loan-requires-clause-live : goal.write_loan_from_fn-loan-requires-clause-live
 write_loan_from_fn-loan-requires-clause-live g c = unwritten-out {T = g.row.T.Denot} {U = g.row.U.Denot} _ c.args.domain.now c.domain.view_is c.args.self.sample c.requires.live
 
 pub write_loan_from_fn-loan-requires-clause-several : goal.write_loan_from_fn-loan-requires-clause-several
-write_loan_from_fn-loan-requires-clause-several g c = (subst (λ (k : Kept g.row.T.Denot g.row.U.Denot g.row.F.Denot g.row.G.Denot). is_single_valued k.config ≡ false) (sym c.domain.view_is) (sliced-parts c.args.domain.now c.requires.sliced))
+write_loan_from_fn-loan-requires-clause-several g c = (subst (λ (k : Kept g.row.T.Denot g.row.U.Denot g.row.F.Denot g.row.G.Denot). is_single_valued k.config ≡ false) (sym c.domain.view_is) (holds-parts c.args.domain.now c.requires.sliced))
 
 pub returns-clause-written : goal.returns-clause-written
 returns-clause-written g c = (c.write_loan_from_fn-loan.ensures.writes.0, c.write_loan_from_fn-loan.ensures.writes.1, filled-values {T = g.row.T.Denot} {U = g.row.U.Denot} c.domain.inside.state c.write_loan_from_fn-loan.new.state c.domain.invariant c.args.domain.now c.domain.view_is c.args.self.sample.loan.number c.write_loan_from_fn-loan.ensures.writes.0 c.write_loan_from_fn-loan.ensures.writes.2 _ (ap (λ (at : LoanAt). at.number) c.write_loan_from_fn-loan.ensures.same), filled-shown {T = g.row.T.Denot} {U = g.row.U.Denot} c.domain.inside.state c.write_loan_from_fn-loan.new.state c.domain.invariant c.args.domain.now c.domain.view_is c.args.self.sample.loan.number c.write_loan_from_fn-loan.ensures.writes.0 c.write_loan_from_fn-loan.ensures.writes.2)

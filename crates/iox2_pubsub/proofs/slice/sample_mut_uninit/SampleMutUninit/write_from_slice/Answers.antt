@@ -8,14 +8,14 @@ use Rattle.iox2_pubsub.specs.Live.{IsPublisherKey, lender_key, unwritten_key, wr
 use Rattle.iox2_pubsub.proofs.LoanHandles.{unwritten-out}
 use Rattle.iox2_pubsub.proofs.FilledLoans.{filled-header, filled-user-header, filled-waits, filled-leaves, filled-shown, filled-values, filled-live, filled-stays, filled-left}
 use Rattle.iox2_pubsub.proofs.LiveParts.{never-waits-alike, unblocked-alike}
-use Rattle.iox2_pubsub.proofs.SliceParts.{sliced-parts, has-cells}
+use Rattle.iox2_pubsub.proofs.SliceParts.{holds-parts, has-cells}
 use Rattle.iox2_pubsub.proofs.slice.sample_mut_uninit.SampleMutUninit.write_from_slice.Goals as goal
 
 pub write_loan_from_slice-loan-requires-clause-live : goal.write_loan_from_slice-loan-requires-clause-live
 write_loan_from_slice-loan-requires-clause-live g c = unwritten-out {T = g.row.T.Denot} {U = g.row.U.Denot} _ c.args.domain.now c.domain.view_is c.args.self.sample c.requires.live
 
 pub write_loan_from_slice-loan-requires-clause-several : goal.write_loan_from_slice-loan-requires-clause-several
-write_loan_from_slice-loan-requires-clause-several g c = (subst (λ (k : Kept g.row.T.Denot g.row.U.Denot g.row.F.Denot g.row.G.Denot). is_single_valued k.config ≡ false) (sym c.domain.view_is) (sliced-parts c.args.domain.now c.requires.sliced))
+write_loan_from_slice-loan-requires-clause-several g c = (subst (λ (k : Kept g.row.T.Denot g.row.U.Denot g.row.F.Denot g.row.G.Denot). is_single_valued k.config ≡ false) (sym c.domain.view_is) (holds-parts c.args.domain.now c.requires.sliced))
 
 pub write_loan_from_slice-loan-requires-clause-lengths : goal.write_loan_from_slice-loan-requires-clause-lengths
 write_loan_from_slice-loan-requires-clause-lengths g c = λ l found. c.requires.lengths l.cells (has-cells c.args.domain.now c.args.self.sample.loan.number l.cells (subst (λ (k : Kept g.row.T.Denot g.row.U.Denot g.row.F.Denot g.row.G.Denot). HasCells (state_of k) c.args.self.sample.loan.number l.cells) c.domain.view_is (l, found, refl)))

@@ -1,0 +1,38 @@
+// Records what it calls, and prints the recording, which tools/replay runs again.
+#include "iox2_pubsub.hpp"
+#include <cstdint>
+#include <cstdio>
+
+struct Reading {
+  std::uint32_t number;
+  std::uint32_t millidegrees;
+};
+
+using Domain = iox2ps::Domain<Reading>;
+
+// Sends two readings, of which the second waits for a subscriber that is full.
+static void send(iox2ps::Publisher<Reading> &publisher, iox2ps::Subscriber<Reading> &subscriber) {
+  auto loan = publisher.loan().expect("a loan");
+  loan->number = 1;
+  loan->millidegrees = 20500;
+  std::fprintf(stderr, "sent to %zu\n", loan.send().expect("a send").delivered().value_or(0));
+  auto sent = publisher.send_copy({2, 21000}).expect("a send");
+  while (auto sample = subscriber.receive().expect("a receive")) std::fprintf(stderr, "read %u\n", (*sample)->number);
+  if (sent.blocked()) sent.blocked()->retry().expect("a retry");
+}
+
+int main() {
+  auto config = iox2ps::Config<Reading>(7).subscriber_max_buffer_size(1).enable_safe_overflow(false).record(200, 8);
+  auto domain = Domain::create(config).expect("a domain");
+  {
+    auto publisher = domain.publisher().expect("a publisher");
+    auto subscriber = domain.subscriber().expect("a subscriber");
+    send(publisher, subscriber);
+    if (!subscriber.has_samples().expect("an answer")) return 1;
+    auto late = domain.subscriber().expect("a subscriber");
+    publisher.update_connections().expect("an update");
+  }
+  auto recording = domain.recording().expect("a recording");
+  std::fwrite(recording.text.data(), 1, recording.text.size(), stdout);
+  return recording.missed != 0;
+}

@@ -1,0 +1,19 @@
+//! What calls by handles cost: a static library that passes messages of bytes through a domain, so
+//! that a tool can count the instructions of each call, and compare them with those of the calls for C.
+#![tactic(auto)]
+
+ghost use Rattle.std.specs.Prelude.{◌≤◌};
+
+mod passing;
+
+use passing::pass_bytes;
+use std::alloc::Global;
+
+/// Makes a domain of bytes, and passes so many messages, each of so many bytes. Returns how many
+/// arrived with their length: fewer than all where a call is refused.
+#[unsafe(no_mangle)]
+pub extern "C" fn pass_by_handles(alloc: Global, bytes: usize, messages: u64) -> u64
+    ensures { result ≤ messages }
+{
+    pass_bytes(alloc, bytes, messages).unwrap_or(0)
+}

@@ -1,0 +1,68 @@
+//! What is recorded of a domain, if anything is. No clause of a call speaks of it.
+
+mod answers;
+mod messages;
+mod ports;
+
+use crate::status::NOT_LIVE;
+use call_recorder::{NOWHERE, Name, Recorder};
+use iox2_pubsub::ServiceConfig;
+use std::alloc::{AllocError, Global};
+
+/// What a recording has room for.
+#[derive(Clone, Copy)]
+pub struct Room {
+    /// How many commands.
+    pub commands: usize,
+    /// How many bytes of each message.
+    pub bytes: usize,
+}
+
+/// The recorder of a domain, if it has one.
+#[derive(Drop)]
+pub struct Recording {
+    recorder: Option<Recorder>,
+}
+
+impl Recording {
+    /// A recording with this room, or one of nothing. `None` where memory is refused.
+    pub fn new(alloc: Global, room: Option<Room>) -> Option<Recording> {
+        let recorder = match room {
+            Some(room) => Some(Recorder::new(alloc, room.commands, room.bytes).ok()?),
+            None => None,
+        };
+        Some(Recording { recorder })
+    }
+
+    /// Whether anything is recorded.
+    #[inline(always)]
+    pub fn is_on(&self) -> bool {
+        self.recorder.is_some()
+    }
+
+    /// How many commands weren't kept.
+    pub fn missed(&self) -> u64 {
+        match &self.recorder {
+            Some(recorder) => recorder.missed(),
+            None => 0,
+        }
+    }
+
+    /// The text of the recording, of a domain with these settings: nothing where nothing is recorded.
+    ///
+    /// `AllocError` where there is no memory for it.
+    pub fn text(&self, alloc: Global, config: &ServiceConfig) -> Result<String, AllocError> {
+        match &self.recorder {
+            Some(recorder) => recorder.text(alloc, *config),
+            None => Ok(String::new(alloc)),
+        }
+    }
+}
+
+// What a command names that came to this code: numbers that name nothing live may be another domain's.
+fn target(recorder: &Recorder, name: Name, code: u32) -> usize {
+    match code {
+        NOT_LIVE => NOWHERE,
+        _ => recorder.position_of(name),
+    }
+}

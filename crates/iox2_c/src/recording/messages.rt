@@ -1,0 +1,178 @@
+//! Calls of messages are recorded.
+
+use super::answers::{is_loan_code, loan_reply, plain_reply, receive_reply, send_reply};
+use super::{Recording, target};
+use crate::numbers::{LoanNumbers, PublisherNumbers, SubscriberNumbers};
+use crate::status::{BLOCKED, NOT_LIVE, OK, PUBLISHER_IS_BLOCKED};
+use call_recorder::{Name, Recorder};
+use iox2_commands::{Command, Reply};
+use iox2_pubsub::Key;
+use iox2_pubsub::slice::Sample;
+use std::time::Duration;
+
+impl Recording {
+    /// A loan of so many bytes was asked for.
+    pub fn loan(
+        &mut self,
+        publisher: &PublisherNumbers,
+        len: usize,
+        loan: &LoanNumbers,
+        code: u32,
+    ) {
+        let Some(recorder) = &mut self.recorder else {
+            return;
+        };
+        let of = target(recorder, publisher.name(), code);
+        let command = Command::LoanSlice { of, len };
+        match code {
+            OK => recorder.keep_maker(loan_name(loan), command, loan_reply(code)),
+            _ => recorder.keep(command, loan_reply(code)),
+        }
+    }
+
+    /// A loan with these bytes is sent next.
+    pub fn written(&mut self, loan: &LoanNumbers, bytes: &[u8]) {
+        if let Some(recorder) = &mut self.recorder {
+            recorder.keep_bytes(loan_name(loan), bytes);
+        }
+    }
+
+    /// A loan was sent, and so many subscribers took it, or it wasn't, as the code says.
+    pub fn sent(&mut self, loan: &LoanNumbers, code: u32, receivers: usize) {
+        let Some(recorder) = &mut self.recorder else {
+            return;
+        };
+        let of = target(recorder, loan_name(loan), code);
+        if code != NOT_LIVE && code != PUBLISHER_IS_BLOCKED {
+            recorder.forget(loan_name(loan));
+        }
+        keep_send(recorder, of, loan, code, receivers);
+    }
+
+    /// A copy of these bytes was sent, by a send with these numbers where it waits.
+    pub fn sent_copy(
+        &mut self,
+        publisher: &PublisherNumbers,
+        bytes: &[u8],
+        blocked: &LoanNumbers,
+        code: u32,
+        receivers: usize,
+    ) {
+        let Some(recorder) = &mut self.recorder else {
+            return;
+        };
+        let of = target(recorder, publisher.name(), code);
+        if code == NOT_LIVE || code == PUBLISHER_IS_BLOCKED || is_loan_code(code) {
+            let len = bytes.len();
+            recorder.keep(Command::LoanSlice { of, len }, loan_reply(code));
+            return;
+        }
+        let position = recorder.keep_loan(of, bytes);
+        keep_send(recorder, position, blocked, code, receivers);
+    }
+
+    /// A loan was given back unsent.
+    pub fn discarded(&mut self, loan: &LoanNumbers, code: u32) {
+        let Some(recorder) = &mut self.recorder else {
+            return;
+        };
+        let of = target(recorder, loan_name(loan), code);
+        recorder.keep(Command::Discard { of }, plain_reply(code));
+        if code == OK {
+            recorder.forget(loan_name(loan));
+        }
+    }
+
+    /// A send that waits was tried again, so many nanoseconds after it was blocked.
+    pub fn retried(&mut self, blocked: &LoanNumbers, elapsed: u64, code: u32, receivers: usize) {
+        let Some(recorder) = &mut self.recorder else {
+            return;
+        };
+        let of = target(recorder, blocked_name(blocked), code);
+        let elapsed = Duration::from_nanos(elapsed);
+        recorder.keep(Command::Retry { of, elapsed }, send_reply(code, receivers));
+        forget_ended(recorder, blocked, code);
+    }
+
+    /// The subscriber for which a send waits was given up.
+    pub fn given_up(&mut self, blocked: &LoanNumbers, code: u32, receivers: usize) {
+        let Some(recorder) = &mut self.recorder else {
+            return;
+        };
+        let of = target(recorder, blocked_name(blocked), code);
+        recorder.keep(Command::GiveUp { of }, send_reply(code, receivers));
+        forget_ended(recorder, blocked, code);
+    }
+
+    /// A message with these bytes was received.
+    pub fn received(&mut self, sample: &Sample, bytes: &[u8]) {
+        let Some(recorder) = &mut self.recorder else {
+            return;
+        };
+        let name = key_name(sample.key());
+        let of = recorder.position_of(Name::Subscriber(sample.key().port));
+        let reply = Reply::Sample(sample.origin());
+        recorder.keep_maker(name, Command::Receive { of }, reply);
+        let position = recorder.position_of(name);
+        recorder.keep_reads(position, bytes);
+    }
+
+    /// A subscriber received nothing, for the reason that the code says.
+    pub fn received_nothing(&mut self, subscriber: &SubscriberNumbers, code: u32) {
+        let Some(recorder) = &mut self.recorder else {
+            return;
+        };
+        let of = target(recorder, subscriber.name(), code);
+        recorder.keep(Command::Receive { of }, receive_reply(code));
+    }
+
+    /// The message with this key was given back, or not, as the code says.
+    pub fn released(&mut self, key: Key, code: u32) {
+        let Some(recorder) = &mut self.recorder else {
+            return;
+        };
+        let name = key_name(key);
+        let of = target(recorder, name, code);
+        recorder.keep(Command::Release { of }, plain_reply(code));
+        if code == OK {
+            recorder.forget(name);
+        }
+    }
+}
+
+// Keeps the send of the loan at the position, which is named by these numbers where it waits.
+fn keep_send(
+    recorder: &mut Recorder,
+    of: usize,
+    blocked: &LoanNumbers,
+    code: u32,
+    receivers: usize,
+) {
+    let (command, reply) = (Command::Send { of }, send_reply(code, receivers));
+    match code {
+        BLOCKED => recorder.keep_maker(blocked_name(blocked), command, reply),
+        _ => recorder.keep(command, reply),
+    }
+}
+
+// A send that has ended has no name any more.
+fn forget_ended(recorder: &mut Recorder, blocked: &LoanNumbers, code: u32) {
+    if code != NOT_LIVE && code != BLOCKED {
+        recorder.forget(blocked_name(blocked));
+    }
+}
+
+fn loan_name(loan: &LoanNumbers) -> Name {
+    Name::Loan(loan.number.get())
+}
+
+fn blocked_name(blocked: &LoanNumbers) -> Name {
+    Name::Blocked(blocked.number.get())
+}
+
+fn key_name(key: Key) -> Name {
+    Name::Sample {
+        subscriber: key.port,
+        number: key.message,
+    }
+}

@@ -1,0 +1,23 @@
+use crate::failure::Failure;
+use iox2_commands::{Command, Reply};
+use iox2_pubsub::Domain;
+use iox2_runs::run;
+use iox2_store::ServiceConfig;
+use std::alloc::Global;
+
+/// How many replies of a run on a new domain are those that are given.
+pub(crate) fn count_alike(
+    alloc: Global,
+    config: ServiceConfig,
+    commands: Vec<Command<u64, u64>>,
+    replies: &[Reply<u64, u64>],
+) -> Result<usize, Failure> {
+    let Ok(mut domain) = Domain::<u64, u64>::new(alloc, config) else {
+        return Err(Failure::OutOfMemory);
+    };
+    let Ok(again) = run(alloc, &mut domain, commands) else {
+        return Err(Failure::OutOfMemory);
+    };
+    let pairs = replies.iter().zip(again.iter());
+    Ok(pairs.filter(|(before, after)| *before == *after).count())
+}

@@ -1,0 +1,123 @@
+"""Compares what a message takes by its length: this library, a copy, a queue of Rust and iceoryx, one after the other."""
+import os
+import platform
+import re
+import statistics
+import time
+from pathlib import Path
+
+from .headers import ICEORYX
+from .places import BINDINGS, OUT, is_here, version
+from .programs import ARCHIVE, WARNINGS
+from .steps import said
+
+BESIDE = BINDINGS / "beside"
+LENGTHS = ((8, "8 B"), (4096, "4 KB"), (65536, "64 KB"), (1 << 20, "1 MB"), (8 << 20, "8 MB"))
+ROUNDS = 5
+# How many messages the function `counted` of the programs passes.
+COUNTED = 20
+# valgrind counts each byte of a string instruction as one, so that the C library is to copy by vector stores, as it does else.
+VECTORS = {"GLIBC_TUNABLES": "glibc.cpu.x86_rep_stosb_threshold=1000000000:glibc.cpu.x86_rep_movsb_threshold=1000000000"}
+ROUDI = ("-liceoryx_binding_c", "-liceoryx_posh_roudi", "-liceoryx_posh", "-liceoryx_hoofs", "-liceoryx_platform")
+# What iceoryx's headers of C++ include.
+ACCESS_LISTS = Path("/usr/include/sys/acl.h")
+
+
+def main_program(work):
+    """The part that all programs share."""
+    said("gcc", "-std=c11", *WARNINGS, "-O2", "-c", BESIDE / "lengths.c", "-o", work / "lengths.o")
+    return work / "lengths.o"
+
+
+def of_c(work, name, *more):
+    """A program whose library is called from C."""
+    source = BESIDE / f"lengths_{name}.c"
+    said("gcc", "-std=c11", *WARNINGS, "-O2", "-I", OUT / "include", source, main_program(work), *more, "-pthread", "-o", work / name)
+    return work / name
+
+
+def of_rust(work):
+    """The program of a queue in Rust."""
+    library = work / "liblengths_queue.a"
+    words = ("rustc", "-O", "--edition", "2021", "-C", "panic=abort", "--crate-type", "staticlib")
+    said(*words, BESIDE / "lengths_queue.rs", "-o", library)
+    said("gcc", main_program(work), library, "-pthread", "-ldl", "-lm", "-o", work / "queue")
+    return work / "queue"
+
+
+def of_iceoryx(work):
+    """The program of iceoryx, with its broker."""
+    compiled = work / "lengths_iceoryx.o"
+    said("g++", "-std=c++17", *WARNINGS, "-O2", "-isystem", ICEORYX, "-c", BESIDE / "lengths_iceoryx.cpp", "-o", compiled)
+    said("g++", main_program(work), compiled, *ROUDI, "-pthread", "-o", work / "iceoryx")
+    return work / "iceoryx"
+
+
+def programs(work):
+    """The columns: what each is called, and its program."""
+    columns = [("this library, from C", of_c(work, "iox2_pubsub", ARCHIVE)), ("`memcpy` alone", of_c(work, "memcpy"))]
+    if is_here("rustc"):
+        columns.append(("`VecDeque` of `Rc<[u8]>`", of_rust(work)))
+    else:
+        print("skipped the queue: rustc isn't here")
+    if (ICEORYX / "iceoryx_posh/roudi").is_dir() and ACCESS_LISTS.exists():
+        columns.append(("iceoryx 2.0.3", of_iceoryx(work)))
+    else:
+        print("skipped iceoryx: libiceoryx-binding-c-dev, libiceoryx-posh-dev and libacl1-dev aren't here")
+    return columns
+
+
+def instructions(program, length):
+    """For one message, of the thread that passes it."""
+    words = ("valgrind", "--tool=callgrind", "--toggle-collect=counted", "--callgrind-out-file=/dev/null", program, length, "count")
+    return int(re.search(r"Collected : (\d+)", said(*words, env={**os.environ, **VECTORS}))[1]) // COUNTED
+
+
+def nanoseconds(program, length):
+    """For one message, of one run."""
+    return float(said(program, length, "time").split()[-1])
+
+
+def figure(number):
+    """A number as it stands in the table."""
+    return f"{number:,.0f}"
+
+
+def times(columns):
+    """By length and program, the times of all rounds, in each of which one program comes after the other."""
+    found = {(length, program): [] for length, _ in LENGTHS for _, program in columns}
+    for _ in range(ROUNDS):
+        for length, program in found:
+            found[length, program].append(nanoseconds(program, length))
+    return found
+
+
+def machine():
+    """The processor, as Linux calls it."""
+    with open("/proc/cpuinfo") as lines:
+        return next((line.split(":", 1)[1].strip() for line in lines if line.startswith("model name")), platform.machine())
+
+
+def compilers():
+    """Which ones built the programs."""
+    rust = said("rustc", "--version").split()[1] if is_here("rustc") else "none"
+    return f"gcc {said('gcc', '-dumpfullversion').strip()}, rustc {rust}, glibc {platform.libc_ver()[1]}"
+
+
+def run_lengths(work):
+    """Prints the table."""
+    columns, loads = programs(work), [os.getloadavg()[0]]
+    measured = times(columns)
+    loads.append(os.getloadavg()[0])
+    print("\n| A message of | " + " | ".join(name for name, _ in columns) + " |\n|---|" + "---|" * len(columns))
+    for length, title in LENGTHS:
+        cells = (f"{figure(instructions(program, length))}, {figure(statistics.median(measured[length, program]))} ns" for _, program in columns)
+        print(f"| {title} | {' | '.join(cells)} |", flush=True)
+    print(f"\nInstructions and nanoseconds of one message, which is lent, one word of it written, sent, received, read and released by one"
+          f" thread. Instructions by callgrind, of {COUNTED} messages; nanoseconds on a processor, the median of {ROUNDS} runs of which each"
+          f" library's comes after the other's. {time.strftime('%-d %B %Y')}, {machine()}, load of the machine {min(loads):.1f} to"
+          f" {max(loads):.1f} on {os.cpu_count()} processors; iox2_pubsub {version()}, {compilers()}.")
+    for length, title in LENGTHS:
+        for name, program in columns:
+            every = ", ".join(figure(one) for one in sorted(measured[length, program]))
+            print(f"  {title}, {name}: {every} ns", flush=True)

@@ -1,0 +1,155 @@
+"""Faults that are planted in the crate of Rust and in the headers of C++, and that tests have to see."""
+import shutil
+import subprocess
+import time
+
+from .base import ARCHIVE, BINDINGS, WORK, env, sh, step, there
+
+# What each does, in which file, what is replaced by what there, and the tests that see it.
+IN_RUST = [
+    ("nobody is woken for what comes", "guarded.rs", "        state.waiting.bring(brings);", "", "threads"),
+    ("what comes isn't counted", "guarded.rs", "        if brings.meets(Brings::MESSAGE) {\n            count(&self.changes.messages);",
+     "        if brings.meets(Brings::MESSAGE) {", "threads"),
+    ("a thread that is back still counts as awake", "waiting.rs",
+     "            self.awake -= usize::from(self.threads.remove(at).is_awake);", "            self.threads.remove(at);", "threads"),
+    ("a thread isn't woken after the call", "guarded.rs", "            wake.wake();\n        }\n        code\n",
+     "            drop(wake);\n        }\n        code\n", "locks"),
+    ("who is woken doesn't wake the next", "guarded.rs", "let wake = self.brought(state, wait.brings, code);",
+     "let wake: Option<Wake> = None;", "waits"),
+    ("a stop wakes nobody", "guarded.rs", "            state.waiting.bring(Brings::ALL);", "", "threads"),
+    ("a stop isn't looked at", "guarded.rs", "|| state.is_stopped || is_past", "|| is_past", "threads"),
+    ("time isn't looked at", "guarded.rs", " || is_past(wait.until)", "", "waits"),
+    ("the end of a send frees nobody", "threads.rs", "Brings::SEND.and(Brings::FREE)", "Brings::SEND", "locks"),
+    ("a release frees no slot", "sample.rs", "self.hold.call(Brings::LOAN, release)", "self.hold.call(Brings::NOTHING, release)",
+     "waits"),
+    ("a discard frees no loan", "loan.rs", "self.hold.call(Brings::LOAN,", "self.hold.call(Brings::NOTHING,", "waits"),
+    ("a send frees no loan", "threads.rs", "Brings::MESSAGE.and(Brings::LOAN)", "Brings::MESSAGE", "waits"),
+    ("a receive makes no room", "subscriber.rs", "self.hold.call(Brings::ROOM,", "self.hold.call(Brings::NOTHING,", "threads"),
+    ("a subscriber that goes makes no room", "subscriber.rs", "self.hold.call(Brings::COPY, |shared| unsafe {",
+     "self.hold.call(Brings::NOTHING, |shared| unsafe {", "threads"),
+    ("a dropped publisher stays", "send_outcome.rs", "shared.close_orphan(blocked.publisher);", "let _ = &shared;", "threads"),
+    ("nothing for one subscriber is nothing for all", "waiting.rs", " || one.port != port;", ";", "locks"),
+    ("a message isn't given back when the next is asked for", "subscriber.rs", "release(shared, sample);", "let _ = &sample;", "threads"),
+    ("what is given back then frees no loan", "subscriber.rs", "shared.brings_too = Brings::LOAN;", "", "waits"),
+    ("a task isn't remembered", "guarded.rs", "state.waiting.add_task(port, waker)", "Some(waker)", "events"),
+    ("a task isn't woken", "waiting.rs", "            waker.wake();", "            drop(waker);", "events"),
+    ("a call waits in a listener", "guarded.rs", "if is_over || is_listening()", "if is_over", "events"),
+    ("a listener is called inside of itself", "listeners.rs", "if put_off(&self)", "if put_off(&self) && false", "events"),
+    ("a listener stays when its subscriber goes", "subscriber.rs", "        self.hold.forget(self.port.id);", "", "events"),
+    ("a descriptor is raised once", "message_fd.rs", "self.0.is_raised.swap(false, Ordering::AcqRel);", "", "events"),
+]
+
+# The same of the headers, which cpp/threads.cpp has to see.
+IN_CPP = [
+    ("nobody is woken for what comes", "shared", "if (!list_.is_empty()) wake.sleeper = next(brings);", ""),
+    ("who is woken doesn't wake the next", "shared", "        wake = brought(brings, code);\n        is_over", "        brought(brings, code);\n        is_over"),
+    ("what is given back for the next message frees no loan", "shared", "brings |= std::exchange(too_, 0u);", ""),
+    ("a listener is called under the lock", "shared", "      wake = brought(brings, code);\n    }\n    wake.wake();",
+     "      wake = brought(brings, code);\n      wake.wake();\n    }"),
+    ("no listener is called", "shared", "      wake.listeners = listeners_;\n    }\n    if ((brings & ~", "    }\n    if ((brings & ~"),
+    ("a stop calls no listener", "shared", "      wake.listeners = listeners_;\n    }\n    wake.wake();", "    }\n    wake.wake();"),
+    ("a call waits in a listener", "shared", "is_over || detail::calling().is_on", "is_over"),
+    ("a listener is called inside of itself", "events", "if (mine.is_on) return put_off(mine, std::move(due));", ""),
+    ("what is put off isn't called", "events", "due = take(mine);", "due = nullptr;"),
+    ("what is put off once isn't put off again", "events", "it->is_put_off_.exchange(false, std::memory_order_acq_rel);", ""),
+    ("a listener stays when its subscriber goes", "", "    hold_->threads.forget(id());\n    hold_ =", "    hold_ ="),
+    ("a descriptor is raised once", "events", "raised_->is_raised.exchange(false, std::memory_order_acq_rel);", ""),
+    ("a descriptor isn't reset", "events", "static_cast<void>(!::read(raised_->fd, &count, sizeof count));", "static_cast<void>(count);"),
+]
+
+
+def replace(path, old, new):
+    """Replaces what stands once in a file."""
+    text = path.read_text()
+    if text.count(old) != 1:
+        raise RuntimeError(f"{path.name} has `{old.strip()}` {text.count(old)} times")
+    path.write_text(text.replace(old, new))
+
+
+def copied(*folders):
+    """These folders of bindings, in a place of their own."""
+    to = WORK / "faulty"
+    shutil.rmtree(to, ignore_errors=True)
+    for folder in folders:
+        shutil.copytree(BINDINGS / folder, to / folder, ignore=shutil.ignore_patterns("target"))
+    return to
+
+
+def plant(fault):
+    """The crate with a fault, or without any."""
+    crates = copied("rust", "rust-sys")
+    if fault:
+        _, name, old, new, _ = fault
+        replace(crates / "rust/src" / name, old, new)
+    return crates / "rust"
+
+
+# How long the tests of a file take without a fault.
+seconds_of = {}
+
+
+def ends(crate, tests, seconds):
+    """The status with which these tests end, after this time at the latest: most faults let a thread wait for good."""
+    target = env(CARGO_TARGET_DIR=str(WORK / "target_faults"), RUSTFLAGS="-Awarnings")
+    sh("cargo", "test", "--offline", "--quiet", "--no-run", "--test", tests, cwd=crate, env=target)
+    command = ["timeout", "-k", "1", str(seconds), "cargo", "test", "--offline", "--quiet", "--test", tests]
+    started = time.monotonic()
+    status = subprocess.run(command, cwd=crate, env=target, capture_output=True).returncode
+    return status, time.monotonic() - started
+
+
+def see_fault(fault):
+    """The tests of its file fail, or wait for good."""
+    status, _ = ends(plant(fault), fault[4], 10 + 5 * seconds_of.get(fault[4], 2))
+    if status == 0:
+        raise RuntimeError(f"tests/{fault[4]}.rs pass")
+    return f"tests/{fault[4]}.rs " + ("waits for good" if status in (124, 137) else "fails")
+
+
+def pass_without(files):
+    """The tests pass where nothing is planted."""
+    for tests in files:
+        status, seconds_of[tests] = ends(plant(None), tests, 300)
+        if status != 0:
+            raise RuntimeError(f"tests/{tests}.rs fail")
+    return "all tests pass"
+
+
+def ends_cpp(include, seconds):
+    """The status with which cpp/threads.cpp ends over these headers, after this time at the latest, and how long it took."""
+    program = WORK / "faulty_threads"
+    sh("g++", "-std=c++17", "-O1", "-w", "-I", include, BINDINGS / "cpp/threads.cpp", ARCHIVE / "libiox2_pubsub.a", "-pthread", "-o", program)
+    started = time.monotonic()
+    status = subprocess.run(["timeout", "-k", "1", str(seconds), program], capture_output=True).returncode
+    return status, time.monotonic() - started
+
+
+def see_fault_cpp(fault):
+    """cpp/threads.cpp fails, or waits for good."""
+    _, header, old, new = fault
+    include = copied("include") / "include"
+    replace(include / f"iox2_pubsub{'_' if header else ''}{header}.hpp", old, new)
+    status, _ = ends_cpp(include, 10 + 5 * seconds_of.get("cpp", 2))
+    if status == 0:
+        raise RuntimeError("cpp/threads.cpp passes")
+    return "cpp/threads.cpp " + ("waits for good" if status in (124, 137) else "fails")
+
+
+def pass_without_cpp():
+    """It passes where nothing is planted."""
+    status, seconds_of["cpp"] = ends_cpp(BINDINGS / "include", 300)
+    if status != 0:
+        raise RuntimeError("cpp/threads.cpp fails")
+    return "cpp/threads.cpp passes"
+
+
+def part_faults(in_rust=IN_RUST, in_cpp=IN_CPP):
+    """Each in turn."""
+    if there("cargo"):
+        step("the crate without a fault", lambda: pass_without(sorted({fault[4] for fault in in_rust})))
+        for fault in in_rust:
+            step(f"fault of the crate: {fault[0]}", lambda: see_fault(fault))
+    if there("g++"):
+        step("the headers without a fault", pass_without_cpp)
+        for fault in in_cpp:
+            step(f"fault of the headers: {fault[0]}", lambda: see_fault_cpp(fault))
