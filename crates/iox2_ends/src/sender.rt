@@ -345,10 +345,9 @@ fn deliver_at<R: Receiver, F: BackpressureFn>(
 }
 
 /// Delivers a message to the receivers at the places that remain, one after the other, until one
-/// blocks it. What each gave back is reclaimed first. A receiver that is closed is skipped, and one
-/// whose channel is. One with
-/// room takes the message, and with safe overflow each does; at any other the handler decides, or
-/// the strategy where there is no handler.
+/// blocks it. What each gave back is reclaimed first. A receiver that is closed or whose channel is
+/// closed is skipped. One with room takes the message, and with safe overflow each does; at any other
+/// the handler decides, or the strategy where there is no handler.
 ///
 /// A send starts at the first place. A send that was blocked is taken up where it blocked, or behind
 /// that receiver, with what it came to so far.
