@@ -17,6 +17,7 @@ link_of a = record {
   buffer = a.waiting.capacity;
   limit = a.limit;
   is_open = a.is_open;
+  channel = record { state = a.state; has_hint = a.has_hint };
   waiting = a.waiting.items;
   borrowed = a.borrowed.items;
   returned = a.returned.items;

@@ -10,6 +10,7 @@ use Rattle.iox2_pubsub.proofs.CallsStay.{always-shown, subscriber-apart-from-nex
 use Rattle.iox2_pubsub.proofs.WaitingShown.{created-none, creation-waits}
 use Rattle.iox2_pubsub.proofs.UpToDateShown.{creation-leaves}
 use Rattle.iox2_pubsub.proofs.AwaitedShown.{made-awaits}
+use Rattle.iox2_pubsub.proofs.NextPorts.{next-receiver-takes}
 use Rattle.iox2_pubsub.proofs.LoansLeftShown.{subscriber-creation-left}
 use Rattle.iox2_pubsub.proofs.StaysBut.{live-subscriber-boxes, subscriber-box-is}
 use Rattle.iox2_pubsub.specs.Factories.{SubscriberFactory}
@@ -121,7 +122,8 @@ returns-clause-awaits g c = λ none publisher there.
     let it = always-shown {T = g.row.T.Denot} {U = g.row.U.Denot} c.domain.inside.state c.args.domain.now c.domain.invariant c.domain.view_is in
     let step = returns-clause-creates g c it.0 it.1 it.2 in
     made-awaits {T = g.row.T.Denot} {U = g.row.U.Denot} c.args.domain.now _ it.0 it.0 it.1 step.0 it.2 step.1 (answers_of g.F.BackpressureFn.allows g.G.DegradationFn.allows (c.create_subscriber.new.boxes).boxes) c.args.self.settings (step.2).0
-    (record { service_id = c.config.result.now.service_id; id = c.in_ok-port.port.id; place = c.in_ok-port.port.place; buffer_size = c.max.result }) (step.2).1 none publisher there
+    (record { service_id = c.config.result.now.service_id; id = c.in_ok-port.port.id; place = c.in_ok-port.port.place; buffer_size = c.max.result }) (step.2).1
+    (next-receiver-takes {T = g.row.T.Denot} {U = g.row.U.Denot} c.domain.inside.state c.args.domain.now c.domain.invariant c.domain.view_is) none publisher there
 
 pub returns-clause-room : goal.returns-clause-room
 returns-clause-room g c =
