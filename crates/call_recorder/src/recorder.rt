@@ -1,4 +1,4 @@
-ghost use Rattle.std.specs.Prelude.{◌≡◌, ◌≢◌};
+ghost use Rattle.std.specs.Prelude.{IsTrue, ◌≡◌, ◌≢◌, ◌↔◌};
 ghost use Rattle.call_recorder.specs.Recorder.{Keeps, Same, has_room};
 
 use crate::names::{Entry, NOWHERE, Name, place_of};
@@ -42,7 +42,8 @@ impl Recorder {
     /// Keeps a command with its reply behind the others, if there is room and none was missed before.
     /// Else it is missed, which `missed` counts.
     pub fn keep(&mut self, command: Command<u64, u64>, reply: Reply<u64, u64>)
-        ensures { Keeps self.old self.new command reply }
+        ensures keeps { Keeps self.old self.new command reply }
+        ensures kept { (self.new.missed ≡ 0) ↔ IsTrue (has_room self.old) }
     {
         if self.has_room() {
             self.commands.push_reserved(command);
