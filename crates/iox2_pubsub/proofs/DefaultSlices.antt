@@ -12,3 +12,8 @@ module _ {F T : Type 0} (step : F → ℕ → T → F → Type 0) (IsValue : T �
   -- each of its answers is such a value
   pub all-answers : (f : F) (answers : List T) → AnswersInOrder step f answers → All IsValue answers
   all-answers f answers in_order = answered-from 0 answers f in_order.0 in_order.1
+
+-- values of which nothing is asked
+pub any-values : {T : Type 0} (values : List T) → All (λ (value : T). Unit {0}) values
+any-values {T} [] = All-nil (λ (value : T). Unit {0})
+any-values {T} (value ∷ values) = All-cons (λ (value : T). Unit {0}) value values tt (any-values values)

@@ -1,5 +1,6 @@
 //! Messages that are slices: the same ports, loans and samples, with other calls to lend, and another
 //! view of their payload.
+mod fills;
 mod port_factory;
 mod publisher;
 mod sample;
@@ -9,7 +10,7 @@ mod subscriber;
 
 pub use port_factory::publisher::PortFactoryPublisher;
 pub use port_factory::subscriber::PortFactorySubscriber;
-pub use publisher::Publisher;
+pub use publisher::{LocatedLoan, Publisher};
 pub use sample::Sample;
 pub use sample_mut::SampleMut;
 pub use sample_mut_uninit::SampleMutUninit;

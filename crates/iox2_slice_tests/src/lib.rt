@@ -13,6 +13,8 @@ mod fixtures;
 #[cfg(test)]
 mod growing_publishers;
 #[cfg(test)]
+mod located;
+#[cfg(test)]
 mod overrides;
 #[cfg(test)]
 mod slices;

@@ -54,16 +54,17 @@ pub enum PutOutcome {
 #[derive(Drop)]
 pub struct Connection {
     waiting: HeapCircularBuffer<usize>,
+    // Its capacity is how many may be borrowed (docs/decisions/cost.md, "A connection takes 160 bytes").
     borrowed: Vec<usize>,
     returned: HeapCircularBuffer<usize>,
-    limit: usize,
+    // Of the channel.
+    state: u64,
     // The fields of its `Home`, one by one: the mark behind them then needs no room of its own.
     publisher: u128,
     subscriber: u128,
     publisher_place: usize,
     subscriber_place: usize,
     book: usize,
-    state: u64,
     has_hint: bool,
     is_open: bool,
 }
@@ -107,13 +108,12 @@ impl Connection {
             waiting,
             borrowed,
             returned,
-            limit,
+            state: CHANNEL_STATE_OPEN,
             publisher: home.publisher,
             subscriber: home.subscriber,
             publisher_place: home.publisher_place,
             subscriber_place: home.subscriber_place,
             book: home.book,
-            state: CHANNEL_STATE_OPEN,
             has_hint: false,
             is_open: false,
         })
@@ -301,7 +301,7 @@ impl Connection {
     pub fn can_receive(&self) -> bool
         ensures { result ≡ can_borrow self.now }
     {
-        self.has_data() && self.borrowed.len() < self.limit
+        self.has_data() && self.borrowed.len() < self.borrowed.capacity()
     }
 
     /// The slots that are borrowed, in the order of receipt.

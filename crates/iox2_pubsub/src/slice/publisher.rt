@@ -4,12 +4,14 @@ ghost use Rattle.std.specs.Prelude.{◌≡◌};
 mod channels;
 mod close;
 mod loan_custom_payload;
+mod loan_located;
 mod loan_slice;
 mod loan_slice_uninit;
 mod update_connections;
 
 use crate::domain::Domain;
 use iox2_store::{BackpressureFn, BackpressureStrategy, DegradationFn, Key, UniquePublisherId};
+pub use loan_located::LocatedLoan;
 
 /// Sends slices to every subscriber of its domain. It is a value to be spent, as the publisher of
 /// single values is, and is that publisher with other calls to lend.

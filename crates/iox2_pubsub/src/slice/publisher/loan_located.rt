@@ -1,0 +1,116 @@
+//! A publisher lends a slice that is written, and says where its values begin.
+ghost use Rattle.std.specs.Prelude.{◌≡◌, IfOk};
+
+use crate::domain::Domain;
+use crate::slice::fills::{fill_from_fn, fill_unspecified};
+use crate::slice::{Publisher, SampleMut};
+use iox2_deliveries::loan;
+use iox2_domain::LoanAt;
+use iox2_store::{BackpressureFn, DegradationFn, LoanError};
+use std::ptr::NonNull;
+
+/// A written loan of a slice, and where its values begin. This library's own.
+///
+/// Example (`crates/iox2_slice_tests/src/located.rt`):
+///
+/// ```rust
+/// let lent = publisher.loan_slice_located(&mut domain, 3);
+/// let LocatedLoan { loan, start } = lent.expect(&rt, "a loan");
+/// let is_read = loan.payload(&domain) == [0, 0, 0].as_slice();
+/// loan.discard(&mut domain);
+/// ```
+pub struct LocatedLoan<T> {
+    /// The loan.
+    pub loan: SampleMut,
+    /// Where its first value lies, until the loan is sent or given back. `None` where it has no
+    /// values. No clause says what lies there, since none speaks of memory that the domain owns.
+    pub start: Option<NonNull<T>>,
+}
+
+impl Publisher {
+    ghost use Rattle.iox2_store.specs.machine.State.{State, Messages};
+    ghost use Rattle.iox2_store.specs.declared.service_config.TypeVariant.TheVariants.{Dynamic};
+    ghost use Rattle.iox2_domain.specs.Shows.{Shows};
+    ghost use Rattle.iox2_pubsub.specs.Live.{IsNewIn, IsReadyPublisher, IsWritten, Stays, lender_key, publisher_key, written_key, written_loan};
+    ghost use Rattle.iox2_pubsub.specs.WrittenLoans.{DefaultSliceCall};
+    ghost use Rattle.iox2_pubsub.specs.Handles.{as_publisher, as_written, publisher_id};
+
+    // The handle of a loan of this publisher, which was just written.
+    fn located<T>(&self, loan: LoanAt, start: Option<NonNull<T>>) -> LocatedLoan<T>
+        ensures { as_written result.loan ≡ record { service_id = (as_publisher self.now).service_id; loan = loan } }
+    {
+        let sample = crate::SampleMut {
+            service_id: self.publisher.service_id,
+            loan,
+        };
+        LocatedLoan {
+            loan: SampleMut { sample },
+            start,
+        }
+    }
+
+    /// Lends as `loan_slice` does, and says where the default values begin. The loan is written where
+    /// it was lent, and isn't looked for. This library's own.
+    ///
+    /// # Errors
+    ///
+    /// Those of `loan_slice`.
+    #[inline(always)]
+    pub fn loan_slice_located<
+        T: Default + Drop,
+        U: Default + Drop,
+        F: BackpressureFn,
+        G: DegradationFn,
+    >(&self, domain: &mut Domain<T, U, F, G>, slice_len: usize) -> Result<LocatedLoan<T>, LoanError>
+        requires ready { IsReadyPublisher domain.old (as_publisher self.now) }
+        requires dynamic { (domain.old.config).variant ≡ Dynamic }
+        requires one_unit { (domain.old.config).units_per_element ≡ 1 }
+        ensures lends { (m : Messages T U) (s : State T U) → Shows domain.old m s
+            → (s' : State T U) × Shows domain.new m s' × DefaultSliceCall T.is_default U.is_default slice_len s (publisher_id (as_publisher self.now)) result s' }
+        ensures out { IfOk result (λ it. IsWritten domain.new (as_written it.loan)) }
+        ensures new { IfOk result (λ it. IsNewIn domain.old (written_loan (as_written it.loan))) }
+        ensures lender { IfOk result (λ it. lender_key (written_key (as_written it.loan)) ≡ publisher_key (as_publisher self.now)) }
+        ensures stays { Stays domain.old domain.new }
+    {
+        match loan(&mut domain.state, self.publisher.place, true, slice_len) {
+            Ok(loan) => {
+                let start = fill_from_fn(&mut domain.state, &loan, |_| T::default());
+                Ok(self.located(loan, start))
+            }
+            Err(error) => Err(error),
+        }
+    }
+
+    /// Lends as `loan_slice_uninit` does, makes the loan one that may be sent, as
+    /// `SampleMutUninit::write_unspecified` does, and says where its values begin. It is written where
+    /// it was lent, and isn't looked for. This library's own.
+    ///
+    /// # Errors
+    ///
+    /// Those of `loan_slice_uninit`.
+    #[inline(always)]
+    pub fn loan_unspecified_located<
+        T: Copy + Default + Drop,
+        U: Default + Drop,
+        F: BackpressureFn,
+        G: DegradationFn,
+    >(&self, domain: &mut Domain<T, U, F, G>, slice_len: usize) -> Result<LocatedLoan<T>, LoanError>
+        requires ready { IsReadyPublisher domain.old (as_publisher self.now) }
+        requires dynamic { (domain.old.config).variant ≡ Dynamic }
+        requires one_unit { (domain.old.config).units_per_element ≡ 1 }
+        ensures lends { (m : Messages T U) (s : State T U) → Shows domain.old m s
+            → (s' : State T U) × Shows domain.new m s' × DefaultSliceCall (λ value. Unit {0}) U.is_default slice_len s (publisher_id (as_publisher self.now)) result s' }
+        ensures out { IfOk result (λ it. IsWritten domain.new (as_written it.loan)) }
+        ensures new { IfOk result (λ it. IsNewIn domain.old (written_loan (as_written it.loan))) }
+        ensures lender { IfOk result (λ it. lender_key (written_key (as_written it.loan)) ≡ publisher_key (as_publisher self.now)) }
+        ensures stays { Stays domain.old domain.new }
+    {
+        match loan(&mut domain.state, self.publisher.place, true, slice_len) {
+            Ok(loan) => {
+                let start = fill_unspecified(&mut domain.state, &loan);
+                Ok(self.located(loan, start))
+            }
+            Err(error) => Err(error),
+        }
+    }
+}
