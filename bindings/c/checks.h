@@ -33,7 +33,7 @@ static int has_text(uint32_t code) { return strcmp(iox2ps_error_text(code), iox2
     }                                                                                           \
   } while (0)
 
-static int checked(void) {
+static inline int checked(void) {
   printf("%d passed, %d failed\n", passed, failed);
   return failed != 0;
 }

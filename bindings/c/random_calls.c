@@ -68,7 +68,7 @@ typedef struct thing_t {
 static thing_t live[KINDS][ROOM], spent[KINDS][ROOM], foreign[KINDS];
 static size_t live_count[KINDS], spent_count[KINDS];
 
-static void fail(const char *words_) {
+static _Noreturn void fail(const char *words_) {
   fprintf(stderr, "%s\n", words_);
   exit(1);
 }

@@ -1,5 +1,6 @@
 //! Two samples are held at a time.
-ghost use Rattle.iox2_pubsub.specs.Live.{AreApart, Both, IsLiveSample, IsLiveSubscriber, IsSingleValued, Stays, StaysBut, received_sample};
+ghost use Rattle.iox2_pubsub.specs.Live.{AreApart, Both, IsLiveSample, IsLiveSubscriber, IsSingleValued, Stays, received_sample};
+ghost use Rattle.iox2_pubsub.specs.Leaves.{LeavesBut};
 
 use crate::failure::Failure;
 use iox2_pubsub::{Domain, Sample, Subscriber};
@@ -36,7 +37,7 @@ pub fn change(domain: &mut Domain<u32, ()>, first: Sample, second: Sample) -> u3
     requires first { IsLiveSample domain.old first }
     requires second { IsLiveSample domain.old second }
     requires apart { AreApart (received_sample second) (received_sample first) }
-    ensures stays { StaysBut (Both (received_sample first) (received_sample second)) domain.old domain.new }
+    ensures leaves { LeavesBut (Both (received_sample first) (received_sample second)) domain.old domain.new }
 {
     let change = first.payload(domain).abs_diff(*second.payload(domain));
     second.release(domain);

@@ -3,70 +3,13 @@ ghost use Rattle.std.specs.Prelude.{◌≡◌};
 ghost use Rattle.iox2_pubsub.specs.Live.{IsSingleValued, IsUnwritten, IsWritten, StaysBut, unwritten_loan, written_loan};
 
 use crate::waiting_publishers::{
-    assert_blocked, assert_ready, assert_single_valued, block, blocked, close_publisher, deliver,
-    delivered, delivered_at_last, has_blocked_send, next_reading, next_readings, subscriber_of,
-    waiting_domain, waiting_publisher,
+    assert_blocked, assert_ready, assert_single_valued, blocked, deliver, delivered, next_reading,
+    subscriber_of, waiting_domain, waiting_publisher,
 };
-use iox2_fixtures::{Reading, Station, factory_for};
+use iox2_fixtures::{Reading, Station};
 use iox2_pubsub::{BlockedSend, Domain, Publisher, SampleMut, SampleMutUninit};
-use iox2_store::BackpressureStrategy;
 use std::process::Abort;
 use std::time::Duration;
-
-// The sum of readings, of which each is a power of two: it says which of them there are.
-fn sum_of(readings: [Option<u64>; 4]) -> u64 {
-    readings.into_iter().fold(
-        0,
-        |sum: u64, reading| sum.wrapping_add(reading.unwrap_or(0)),
-    )
-}
-
-// Another publisher, which discards what a full subscriber doesn't take, and a subscriber come while
-// one publisher waits; the subscriber that it waits for receives from the other publisher.
-#[test]
-fn other_ports_go_on(rt: HostRuntime) {
-    let mut domain = waiting_domain(&rt, rt.alloc());
-    let full = subscriber_of(&rt, &mut domain, 1);
-    let wide = subscriber_of(&rt, &mut domain, 2);
-    let publisher = waiting_publisher(&rt, &mut domain);
-    let to_both = deliver(&rt, &mut domain, &publisher, 1);
-    let waiting = block(&rt, &mut domain, &publisher, 2);
-    let factory = factory_for(&domain);
-    let other = factory.create(&mut domain).expect(&rt, "a publisher");
-    let strategy = other.backpressure_strategy();
-    let first = deliver(&rt, &mut domain, &other, 4);
-    let second = deliver(&rt, &mut domain, &other, 8);
-    let late = subscriber_of(&rt, &mut domain, 1);
-    let third = deliver(&rt, &mut domain, &other, 16);
-    let read = [
-        sum_of(next_readings(&rt, &mut domain, &full)),
-        sum_of(next_readings(&rt, &mut domain, &wide)),
-        sum_of(next_readings(&rt, &mut domain, &late)),
-    ];
-    let is_blocked = [
-        has_blocked_send(&rt, &domain, &publisher),
-        has_blocked_send(&rt, &domain, &other),
-    ];
-    publisher.disown();
-    close_publisher(&rt, &mut domain, other);
-    let takers = delivered_at_last(&rt, &mut domain, waiting);
-    let after = [
-        sum_of(next_readings(&rt, &mut domain, &full)),
-        sum_of(next_readings(&rt, &mut domain, &wide)),
-        sum_of(next_readings(&rt, &mut domain, &late)),
-    ];
-    full.disown();
-    wide.disown();
-    late.disown();
-    drop(domain);
-    assert!(rt; strategy == BackpressureStrategy::DiscardData);
-    assert!(rt; to_both == 2);
-    assert!(rt; [first, second, third] == [2, 1, 1]);
-    assert!(rt; read == [1 + 4, 1 + 4 + 8, 16]);
-    assert!(rt; is_blocked == [true, false]);
-    assert!(rt; takers == 2);
-    assert!(rt; after == [2, 2, 0]);
-}
 
 // Sets the reading of a written loan, and the number of its station.
 fn change(domain: &mut Domain<Reading, Station>, message: &mut SampleMut, celsius: u64, number: u32)

@@ -1,7 +1,7 @@
 //! Sends that wait for a full subscriber are tried again and given up.
 use crate::waiting_publishers::{
     assert_ready, assert_single_valued, block, blocked, blocked_again, close_publisher,
-    close_subscriber, deliver, delivered, delivered_at_last, give_up, given_up, has_blocked_send,
+    close_subscriber, deliver, delivered, delivered_at_last, given_up, has_blocked_send,
     next_reading, subscriber_of, waiting_domain, waiting_publisher,
 };
 use iox2_fixtures::{Reading, Station};
@@ -167,56 +167,4 @@ fn a_retry_without_room_stays_blocked(rt: HostRuntime) {
     assert!(rt; again == key);
     assert!(rt; is_blocked);
     assert!(rt; [read, last, nothing] == [Some(20), Some(21), None]);
-}
-
-#[test]
-fn giving_up_passes_a_full_subscriber_over(rt: HostRuntime) {
-    let mut domain = waiting_domain(&rt, rt.alloc());
-    let first = subscriber_of(&rt, &mut domain, 1);
-    let second = subscriber_of(&rt, &mut domain, 1);
-    let wide = subscriber_of(&rt, &mut domain, 2);
-    let publisher = waiting_publisher(&rt, &mut domain);
-    let to_all = deliver(&rt, &mut domain, &publisher, 20);
-    let waiting = block(&rt, &mut domain, &publisher, 21);
-    let key = waiting.key();
-    let waiting = blocked(&rt, give_up(&rt, &mut domain, waiting));
-    let names_the_same = waiting.key() == key;
-    let takers = given_up(&rt, &mut domain, waiting);
-    let is_blocked = has_blocked_send(&rt, &domain, &publisher);
-    publisher.disown();
-    let read = [
-        next_reading(&rt, &mut domain, &first),
-        next_reading(&rt, &mut domain, &first),
-        next_reading(&rt, &mut domain, &second),
-        next_reading(&rt, &mut domain, &second),
-        next_reading(&rt, &mut domain, &wide),
-        next_reading(&rt, &mut domain, &wide),
-    ];
-    first.disown();
-    second.disown();
-    wide.disown();
-    drop(domain);
-    assert!(rt; [to_all, takers] == [3, 1]);
-    assert!(rt; names_the_same && !is_blocked);
-    assert!(rt; read == [Some(20), None, Some(20), None, Some(20), Some(21)]);
-}
-
-// The domain keeps a send whose handle is gone, and nothing ends it.
-#[test]
-fn a_disowned_send_blocks_its_publisher(rt: HostRuntime) {
-    let mut domain = waiting_domain(&rt, rt.alloc());
-    let subscriber = subscriber_of(&rt, &mut domain, 1);
-    let publisher = waiting_publisher(&rt, &mut domain);
-    let first = deliver(&rt, &mut domain, &publisher, 20);
-    block(&rt, &mut domain, &publisher, 21).disown();
-    let read = next_reading(&rt, &mut domain, &subscriber);
-    let nothing = next_reading(&rt, &mut domain, &subscriber);
-    let is_blocked = has_blocked_send(&rt, &domain, &publisher);
-    let is_live = domain.holds_publisher(publisher.key());
-    subscriber.disown();
-    publisher.disown();
-    drop(domain);
-    assert!(rt; first == 1);
-    assert!(rt; [read, nothing] == [Some(20), None]);
-    assert!(rt; is_blocked && is_live);
 }

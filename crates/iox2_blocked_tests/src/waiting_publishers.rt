@@ -240,19 +240,6 @@ pub(crate) fn next_reading(
     iox2_fixtures::next_reading(domain, subscriber).expect(rt, "an answer")
 }
 
-/// What the subscriber receives next, up to four messages.
-pub(crate) fn next_readings(
-    rt: &impl Abort,
-    domain: &mut Domain<Reading, Station>,
-    subscriber: &Subscriber,
-) -> [Option<u64>; 4] {
-    let first = next_reading(rt, domain, subscriber);
-    let second = next_reading(rt, domain, subscriber);
-    let third = next_reading(rt, domain, subscriber);
-    let fourth = next_reading(rt, domain, subscriber);
-    [first, second, third, fourth]
-}
-
 /// Closes a publisher that has no blocked send.
 pub(crate) fn close_publisher(
     rt: &impl Abort,

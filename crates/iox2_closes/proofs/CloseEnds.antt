@@ -1,5 +1,5 @@
 -- A subscriber that went over its connections is closed.
-use Rattle.std.proofs.Common.{◌≡◌, ℕ, ◌<◌, Bool, true, false, not, List, [], map, eqb, get_or, refl, ap, sym, subst, ◌∙◌, inl, inr, ◌⊎◌, arith}
+use Rattle.std.proofs.Common.{◌≡◌, ◌≢◌, ℕ, ◌<◌, Bool, true, false, not, List, [], map, eqb, get_or, refl, ap, sym, subst, ◌∙◌, inl, inr, ◌⊎◌, arith}
 use Rattle.std.proofs.lemmas.Bool.{cases_eq, eqb-true}
 use Rattle.std.proofs.lemmas.Option.{same_Some}
 use Rattle.std.specs.declared.option.Option.{Option}
@@ -14,7 +14,7 @@ use Rattle.iox2_store.specs.machine.Places.{occupants}
 use Rattle.iox2_store.specs.machine.Ports.{subscriber_shut, subscriber_closed}
 use Rattle.iox2_store.specs.machine.Records.{Publisher, Subscriber}
 use Rattle.iox2_store.specs.machine.Releases.{freed_if_unused, subscriber_pruned}
-use Rattle.iox2_store.specs.machine.State.{State, publishers_due}
+use Rattle.iox2_store.specs.machine.State.{State, is_linked, publishers_due}
 use Rattle.iox2_store.specs.machine.WellFormed.{LeadsTo, IsWellFormed, MailboxIsWellFormed}
 use Rattle.iox2_store.specs.Stored.{IsHeldMessage, In_history, In_mailbox, In_blocked_send}
 use Rattle.iox2_laws.proofs.CloseLaws.{closed_nearly, subscriber_closed_keeps}
@@ -36,7 +36,8 @@ use Rattle.iox2_steps.proofs.creations.PublishersDue.{with_publishers_due, publi
 use Rattle.iox2_domain.proofs.lemmas.fields.OwnKeys.{receiver-leads}
 use Rattle.iox2_domain.proofs.lemmas.fields.Standing.{some_is}
 use Rattle.iox2_domain.proofs.lemmas.fields.Views.{mailboxes-are}
-use Rattle.iox2_domain.specs.Midway.{IsMidway}
+use Rattle.iox2_domain.specs.Midway.{IsMidway, with_channels_of}
+use Rattle.iox2_steps.proofs.releases.SettledChannels.{box-still, freed-channels, freed-linked, pruned-linked, settles-channels, shut-linked}
 use Rattle.iox2_domain.specs.Reaches.{Reaches}
 use Rattle.iox2_domain.proofs.lemmas.fields.KeptBooks.{kept-but}
 use Rattle.iox2_domain.proofs.lemmas.fields.Parts.{whole_of}
@@ -146,7 +147,7 @@ module _ {T U : Type 0} (f : Fields T U) (sound : IsDomain f) (place : ℕ) (y :
         through to.0 own.0 own.1 (let one : Some own.0 ≡ Some to.1 = sym own.1 ∙ to.3 in let is : own.0 ≡ to.1 = cc in ap (λ (d : Link). d.home.publisher) is ∙ to.4) own.2.subscriber
 
   -- so it is closed, but for its place
-  closed-but : publishers_due t ≡ subscriber_pruned (subscriber_shut s y.id port) y.id
+  closed-but : publishers_due t ≡ record (subscriber_pruned (subscriber_shut s y.id port) y.id) { channels = t.channels }
   closed-but = sheds-closed s y.id port t closing.sheds dropped known
 
   -- ---- the publishers are due, and it may go
@@ -154,7 +155,7 @@ module _ {T U : Type 0} (f : Fields T U) (sound : IsDomain f) (place : ℕ) (y :
   abbrev g : Fields T U
   g = with_publishers_due f'
 
-  g-is : state_of (kept_of g) ≡ subscriber_pruned (subscriber_shut s y.id port) y.id
+  g-is : state_of (kept_of g) ≡ with_channels_of g (subscriber_pruned (subscriber_shut s y.id port) y.id)
   g-is = publishers_due-are f' ∙ closed-but
 
   g-parts : HasOwnedParts g
@@ -188,6 +189,7 @@ module _ {T U : Type 0} (f : Fields T U) (sound : IsDomain f) (place : ℕ) (y :
     lone = g-parts.lone;
     kept_books = kept-but g.next_port g.publishers g.books book kept;
     state = g-is;
+    channels = closing.channels;
     entries = keeps-entries f g sound.parts.numbered g-parts keeps;
     complete = keeps-complete f g sound.parts.numbered g-parts keeps sound.entries (λ p n held.
         held-less s t p n same-publishers (λ q. fewer p q n) (subst (λ (v : State T U). IsHeldMessage v p n) (publishers_due-are f') held));
@@ -203,7 +205,8 @@ module _ {T U : Type 0} (f : Fields T U) (sound : IsDomain f) (place : ℕ) (y :
     at_z,
     λ p.
         subst (λ (v : State T U). MailboxIsWellFormed v p z.id) (sym g-is)
-        (subst (MailboxIsWellFormed (subscriber_pruned (subscriber_shut s y.id port) y.id) p) (sym closing.subscriber.2) ((closed_nearly s sound.well_formed y.id port here).rest.mailboxes p y.id)),
+        (box-still (subscriber_pruned (subscriber_shut s y.id port) y.id) (state_of (kept_of g)).channels p z.id
+        (subst (MailboxIsWellFormed (subscriber_pruned (subscriber_shut s y.id port) y.id) p) (sym closing.subscriber.2) ((closed_nearly s sound.well_formed y.id port here).rest.mailboxes p y.id))),
   )
 
   -- when it is gone, if it has borrowed nothing, it is closed
@@ -218,8 +221,22 @@ module _ {T U : Type 0} (f : Fields T U) (sound : IsDomain f) (place : ℕ) (y :
     one : IsMidway f new (freed_if_unused (subscriber_pruned (subscriber_shut s y.id port) y.id) z.id) 0
     one = frees f (subscriber_pruned (subscriber_shut s y.id port) y.id) 0 (midway 0)
 
+    -- the state, before the machine resets the subscriber's channels
+    unsettled : State T U
+    unsettled = freed_if_unused (subscriber_pruned (subscriber_shut s y.id port) y.id) y.id
+
+    shown : state_of (kept_of new) ≡ with_channels_of new unsettled
+    shown = one.state ∙ ap (λ (q : ℕ). with_channels_of new (freed_if_unused (subscriber_pruned (subscriber_shut s y.id port) y.id) q)) closing.subscriber.2
+
+    linked : (p q : ℕ) → q ≢ y.id → is_linked (state_of (kept_of new)) p q ≡ is_linked s p q
+    linked p q away =
+        ap (λ (v : State T U). is_linked v p q) shown
+        ∙ freed-linked (subscriber_pruned (subscriber_shut s y.id port) y.id) y.id p q away
+        ∙ pruned-linked (subscriber_shut s y.id port) y.id p q away
+        ∙ shut-linked s y.id p q away port
+
     other : IsMidway f new (freed_if_unused (subscriber_pruned (subscriber_shut s y.id port) y.id) z.id) 1
     other = frees f (subscriber_pruned (subscriber_shut s y.id port) y.id) 1 (midway 1)
 
     state-is : state_of (kept_of new) ≡ subscriber_closed s y.id port
-    state-is = one.state ∙ ap (freed_if_unused (subscriber_pruned (subscriber_shut s y.id port) y.id)) closing.subscriber.2
+    state-is = settles-channels f new sound.parts one.consistent y.id one.channels linked unsettled shown (freed-channels (subscriber_pruned (subscriber_shut s y.id port) y.id) y.id)

@@ -37,6 +37,9 @@ use Rattle.iox2_domain.proofs.lemmas.fields.ConnectionEnds.{subscriber-stands}
 use Rattle.iox2_steps.proofs.releases.Departed.{gone-in}
 use Rattle.iox2_domain.proofs.lemmas.slots.PublisherBooks.{its-book, link-held}
 use Rattle.iox2_steps.proofs.receivers.DepartedEnds.{nothing-returned}
+use Rattle.iox2_steps.proofs.updates.FollowedChannels.{has-link, links-same}
+use Rattle.iox2_domain.proofs.lemmas.fields.KeptChannels.{but-channels}
+use Rattle.iox2_domain.specs.Midway.{with_channels_of}
 use Rattle.iox2_closes.specs.Agreement.{IsOrphan, HasOwnedParts}
 use Rattle.iox2_closes.specs.Closes.{HasNoPublisher, IsBusy, LosesWaiting, FreesBook, ForgetsIfEmpty, is_empty_link, lost_from, forgotten_if_empty, without_publisher}
 use Rattle.iox2_closes.proofs.ClosedSubscribers.{forgetful-parts, forgetful-is}
@@ -141,8 +144,9 @@ module _ {T U : Type 0} (f : Fields T U) (parts : HasOwnedParts f) where
         loses-waiting = record {
           passes = record {
             parts = fewer-parts f parts c.home.book book.book book.stands nowhere holders new recounts drops.drops.shrinks;
-            state = fewer-is f parts c.home.book book.book book.stands nowhere holders new recounts drops.drops.shrinks
-                ∙ (λ i. record (state_of (kept_of f)) { mailboxes = boxes i });
+            state = but-channels lossy (lost_from (state_of (kept_of f)) p q) (fewer-is f parts c.home.book book.book book.stands nowhere holders new recounts drops.drops.shrinks
+                ∙ (λ i. record (state_of (kept_of f)) { mailboxes = boxes i }));
+            channels = links-same f.connections new recounts.homes;
             messages = fewer-keeps f parts c.home.book book.book book.stands nowhere holders new recounts drops.drops.shrinks;
           };
           publishers = refl;
@@ -174,7 +178,9 @@ module _ {T U : Type 0} (f : Fields T U) (parts : HasOwnedParts f) where
         stays-busy some = record {
           passes = record {
             parts = parts;
-            state = sym (ap (λ (b : Bool). cond b (state_of (kept_of f)) (subscriber_changed (state_of (kept_of f)) q (without_publisher p))) (box-numbers ∙ ap not some));
+            state = but-channels f (forgotten_if_empty (state_of (kept_of f)) p q)
+                (sym (ap (λ (b : Bool). cond b (state_of (kept_of f)) (subscriber_changed (state_of (kept_of f)) q (without_publisher p))) (box-numbers ∙ ap not some)));
+            channels = has-link f.connections;
             messages = keeps-same f;
           };
           publishers = refl;
@@ -207,13 +213,13 @@ module _ {T U : Type 0} (f : Fields T U) (parts : HasOwnedParts f) where
           pub forgot-parts : HasOwnedParts forgot
           forgot-parts = subst HasOwnedParts forgot-is (forgetful-parts f parts place y at_y key c at its empty unsent connections removed)
 
-          forgot-state : state_of (kept_of forgot) ≡ forgotten_if_empty (state_of (kept_of f)) p q
+          forgot-state : state_of (kept_of forgot) ≡ with_channels_of forgot (forgotten_if_empty (state_of (kept_of f)) p q)
           forgot-state =
               ap (λ (g : Fields T U). state_of (kept_of g)) (sym forgot-is)
               ∙ forgetful-is f parts place y at_y key c at its empty unsent connections removed
-              ∙ (λ i. record (state_of (kept_of f)) { subscribers = put_at (state_of (kept_of f)).subscribers y.id (option_map (without_publisher p) (sym (subscriber-stands f parts.parts place y at_y) i)) })
-              ∙ ap (λ (r : ℕ). subscriber_changed (state_of (kept_of f)) r (without_publisher p)) (sym its)
-              ∙ sym (ap (λ (b : Bool). cond b (state_of (kept_of f)) (subscriber_changed (state_of (kept_of f)) q (without_publisher p))) (box-numbers ∙ ap not none))
+              ∙ (λ i. with_channels_of forgot (record (state_of (kept_of f)) { subscribers = put_at (state_of (kept_of f)).subscribers y.id (option_map (without_publisher p) (sym (subscriber-stands f parts.parts place y at_y) i)) }))
+              ∙ ap (λ (r : ℕ). with_channels_of forgot (subscriber_changed (state_of (kept_of f)) r (without_publisher p))) (sym its)
+              ∙ sym (ap (λ (b : Bool). with_channels_of forgot (cond b (state_of (kept_of f)) (subscriber_changed (state_of (kept_of f)) q (without_publisher p)))) (box-numbers ∙ ap not none))
 
           -- its publisher's book may go then
           pub book-left : (b : Book) → get forgot.books c.home.book ≡ Some b → IsOrphan forgot b
@@ -242,7 +248,10 @@ module _ {T U : Type 0} (f : Fields T U) (parts : HasOwnedParts f) where
           forgets-empty f' frees = record {
             passes = record {
               parts = frees.passes.parts;
-              state = frees.passes.state ∙ forgot-state;
+              state = frees.passes.state ∙ ap (with_channels_of f') forgot-state;
+              channels = λ k d at_d.
+                  let was = frees.passes.channels k d at_d in
+                  record { key = was.key; link = was.link; stands = (left-before was.key was.link was.stands).1; home = was.home; channel = was.channel };
               messages = keeps-trans f forgot f' (record { back = λ k slot m e. e; forth = λ k slot n m has e. e; number = λ k slot n has. has }) frees.passes.messages;
             };
             publishers = frees.publishers;

@@ -24,12 +24,15 @@ use Rattle.iox2_domain.specs.Invariant.{IsDomain, IsUsed, ReceiverHas}
 use Rattle.iox2_domain.proofs.lemmas.containers.ChangedRecords.{changed-here}
 use Rattle.iox2_domain.proofs.lemmas.fields.OwnKeys.{known, listed-at}
 use Rattle.iox2_domain.proofs.lemmas.fields.Standing.{occupant-receiver_ends}
+use Rattle.iox2_domain.specs.KeptLinks.{HasLink}
+use Rattle.iox2_domain.specs.Midway.{with_channels_of}
+use Rattle.iox2_steps.proofs.updates.FollowedChannels.{has-link, link-through}
 use Rattle.iox2_closes.specs.Agreement.{IsOrphan, HasOwnedParts, KeepsMessages}
 use Rattle.iox2_closes.specs.Closes.{HasNoPublisher, IsBusy, LosesWaiting, ForgetsIfEmpty, LosesLeft, LosesIfLeft, is_empty_link, lost_from, forgotten_if_empty, without_publisher}
 use Rattle.iox2_closes.proofs.OwnedParts.{owned_parts_of, left-held}
 use Rattle.iox2_closes.proofs.ClosedSubscribers.{shut, with_shut, shut-parts, shut-is}
 use Rattle.iox2_closes.proofs.KeptMessages.{keeps-trans}
-use Rattle.iox2_closes.proofs.Sheds.{Sheds, with_publishers, sheds-none, sheds-there, sheds-dropped, sheds-forgotten}
+use Rattle.iox2_closes.proofs.Sheds.{Sheds, sheds-channels, with_publishers, sheds-none, sheds-there, sheds-dropped, sheds-forgotten}
 use Rattle.iox2_closes.proofs.CloseSteps.{link-busy, departed-absent, box-numbers}
 use Rattle.iox2_domain.specs.OpenMarks.{IsUnmarkedReceiver}
 use Rattle.iox2_domain.proofs.lemmas.fields.ConnectionEnds.{subscriber-stands}
@@ -91,6 +94,7 @@ module _ {T U : Type 0} (f : Fields T U) (sound : IsDomain f) (place : ℕ) (y :
   pub record IsClosing (rest : SubscriberFields → ℕ → Type 0) (f' : Fields T U) : Type 0 where
     pub parts : HasOwnedParts f'
     pub messages : KeepsMessages f f'
+    pub channels : (k : ℕ) (d : Link) → get f'.connections k ≡ Some d → HasLink f.connections d
     pub publishers : f'.publishers ≡ f.publishers
     pub next_port : f'.next_port ≡ f.next_port
     pub subscriber : (z : SubscriberFields) × (get_or f'.subscribers place None ≡ Some z) × (z.id ≡ y.id)
@@ -117,6 +121,7 @@ module _ {T U : Type 0} (f : Fields T U) (sound : IsDomain f) (place : ℕ) (y :
   closing-begins unmarked rest all = record {
     parts = shut-parts f (owned_parts_of f sound) place y at_y unmarked;
     messages = record { back = λ k slot m e. e; forth = λ k slot n m has e. e; number = λ k slot n has. has };
+    channels = has-link f.connections;
     publishers = refl;
     next_port = refl;
     subscriber = (shut f (owned_parts_of f sound) place y at_y, shut-here, refl);
@@ -139,6 +144,7 @@ module _ {T U : Type 0} (f : Fields T U) (sound : IsDomain f) (place : ℕ) (y :
     closing-passes fewer still = record {
       parts = so_far.parts;
       messages = so_far.messages;
+      channels = so_far.channels;
       publishers = so_far.publishers;
       next_port = so_far.next_port;
       subscriber = so_far.subscriber;
@@ -188,9 +194,10 @@ module _ {T U : Type 0} (f : Fields T U) (sound : IsDomain f) (place : ℕ) (y :
 
       lost : Sheds shut_state y.id (record port { is_open = false }) (state_of (kept_of between))
       lost = subst (Sheds shut_state y.id (record port { is_open = false }))
-          (sym (loses.passes.state ∙ ap (lost_from (state_of (kept_of f')) c.home.publisher) its))
+          (sym (loses.passes.state ∙ ap (λ (r : ℕ). with_channels_of between (lost_from (state_of (kept_of f')) c.home.publisher r)) its))
+          (sheds-channels shut_state y.id (record port { is_open = false }) (lost_from (state_of (kept_of f')) c.home.publisher y.id)
           (sheds-dropped shut_state y.id (record port { is_open = false }) (put_at-same (state_of (kept_of f)).subscribers y.id (Some (record port { is_open = false })))
-          (state_of (kept_of f')) so_far.sheds c.home.publisher gone)
+          (state_of (kept_of f')) so_far.sheds c.home.publisher gone) (state_of (kept_of between)).channels)
 
       forgot : Sheds shut_state y.id (record port { is_open = false }) (forgotten_if_empty (state_of (kept_of between)) c.home.publisher y.id)
       forgot = by (has_numbers ((state_of (kept_of between)).mailboxes c.home.publisher y.id)) refl where
@@ -217,6 +224,10 @@ module _ {T U : Type 0} (f : Fields T U) (sound : IsDomain f) (place : ℕ) (y :
       closing-lost fewer still = record {
         parts = forgets.passes.parts;
         messages = keeps-trans f f' next so_far.messages (keeps-trans f' between next loses.passes.messages forgets.passes.messages);
+        channels = λ k d at_d.
+            let mid = forgets.passes.channels k d at_d in
+            let early = loses.passes.channels mid.key mid.link mid.stands in
+            link-through f.connections early.link d (early.home ∙ mid.home) (early.channel ∙ mid.channel) (so_far.channels early.key early.link early.stands);
         publishers = forgets.publishers ∙ loses.publishers ∙ so_far.publishers;
         next_port = forgets.next_port ∙ loses.next_port ∙ so_far.next_port;
         subscriber = (
@@ -237,7 +248,8 @@ module _ {T U : Type 0} (f : Fields T U) (sound : IsDomain f) (place : ℕ) (y :
           | inr away ↦ so_far.held k b (sym (loses.books k away) ∙ sym (forgets.books k away) ∙ at_b) orphan
         ];
         sheds = subst (Sheds shut_state y.id (record port { is_open = false }))
-            (sym (forgets.passes.state ∙ ap (forgotten_if_empty (state_of (kept_of between)) c.home.publisher) its)) forgot;
+            (sym (forgets.passes.state ∙ ap (λ (r : ℕ). with_channels_of next (forgotten_if_empty (state_of (kept_of between)) c.home.publisher r)) its))
+            (sheds-channels shut_state y.id (record port { is_open = false }) (forgotten_if_empty (state_of (kept_of between)) c.home.publisher y.id) forgot (state_of (kept_of next)).channels);
       }
 
     -- it is done with whether its publisher was gone or not, and where there was no key there was nothing to do

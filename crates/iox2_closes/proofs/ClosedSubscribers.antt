@@ -26,6 +26,7 @@ use Rattle.iox2_domain.proofs.lemmas.fields.Standing.{some_is}
 use Rattle.iox2_steps.proofs.receivers.DepartedEnds.{among}
 use Rattle.iox2_steps.proofs.receivers.LeftStates.{occupants-without, same-lead}
 use Rattle.iox2_steps.proofs.releases.Forgotten.{forgetting, forgetting-is, forgetting-it}
+use Rattle.iox2_domain.specs.Midway.{with_channels_of}
 use Rattle.iox2_closes.specs.Agreement.{HasOwnedParts}
 use Rattle.iox2_closes.proofs.OwnedParts.{forgotten-owned}
 
@@ -109,14 +110,14 @@ module _ {T U : Type 0} (f : Fields T U) (parts : HasOwnedParts f) (j : ℕ) (y 
         (to.0.home.publisher, to.1, sym to.2))
 
     -- the machine's subscriber forgets the publisher
-    pub forgetful-is : state_of (kept_of (forgetting f parts.parts j y at key c at_c its empty unsent connections removed)) ≡ record (state_of (kept_of f)) {
+    pub forgetful-is : state_of (kept_of (forgetting f parts.parts j y at key c at_c its empty unsent connections removed)) ≡ with_channels_of (forgetting f parts.parts j y at key c at_c its empty unsent connections removed) (record (state_of (kept_of f)) {
       subscribers = put_at (state_of (kept_of f)).subscribers y.id (Some (record ((seen y).port) {
         ends = vacated c.home.publisher ((seen y).port).ends;
         expired = without c.home.publisher ((seen y).port).expired;
       }));
-    }
+    })
     forgetful-is =
         forgetting-is f parts.parts j y at key c at_c its empty unsent connections removed
-        ∙ (λ k. record (state_of (kept_of f)) {
+        ∙ (λ k. with_channels_of (forgetting f parts.parts j y at key c at_c its empty unsent connections removed) (record (state_of (kept_of f)) {
           subscribers = put_at (state_of (kept_of f)).subscribers y.id (Some (record ((seen y).port) { ends = ends-are k; expired = expired-are k }));
-        })
+        }))

@@ -7,8 +7,8 @@ use Rattle.slab.specs.Slab.{Updates, get}
 use Rattle.iox2_slots.specs.Link.{Link}
 use Rattle.iox2_slots.specs.SlotBook.{Book, holders_at}
 use Rattle.iox2_ends.proofs.MailboxChanges.{within_if_some}
-use Rattle.iox2_domain.specs.Kept.{KeptMessage}
-use Rattle.iox2_domain.specs.Fields.{Fields, contents_at, message_in}
+use Rattle.iox2_domain.specs.Kept.{KeptMessage, state_of}
+use Rattle.iox2_domain.specs.Fields.{Fields, kept_of, contents_at, message_in}
 use Rattle.iox2_domain.specs.Invariant.{IsUsed}
 use Rattle.iox2_domain.specs.LeftBooks.{IsUnused, CanGo, SettlesBook, with_book_gone, without_book}
 use Rattle.iox2_domain.proofs.lemmas.fields.Standing.{some_is}
@@ -16,6 +16,8 @@ use Rattle.iox2_steps.proofs.releases.BookFreed.{contents-within, unused-book, u
 use Rattle.iox2_domain.proofs.lemmas.slots.BookGone.{gone-parts, gone-state}
 use Rattle.iox2_domain.proofs.lemmas.slots.Messages.{lies_at, message_at-book, message_in-parts}
 use Rattle.iox2_domain.proofs.lemmas.slots.PublisherBooks.{link-held}
+use Rattle.iox2_steps.proofs.updates.FollowedChannels.{has-link}
+use Rattle.iox2_domain.proofs.lemmas.fields.KeptChannels.{but-channels}
 use Rattle.iox2_closes.specs.Agreement.{IsOrphan, HasOwnedParts, KeepsMessages}
 use Rattle.iox2_closes.specs.Closes.{IsBusy, FreesBook}
 use Rattle.iox2_closes.proofs.KeptMessages.{keeps-same}
@@ -25,7 +27,7 @@ module _ {T U : Type 0} (f : Fields T U) (parts : HasOwnedParts f) (key : ℕ) (
   -- a book that some slot holds stays
   held-stays : (IsUnused b → ⊥) → FreesBook f key f
   held-stays some = record {
-    passes = record { parts = parts; state = refl; messages = keeps-same f };
+    passes = record { parts = parts; state = refl; channels = has-link f.connections; messages = keeps-same f };
     publishers = refl;
     subscribers = refl;
     connections = refl;
@@ -98,7 +100,8 @@ module _ {T U : Type 0} (f : Fields T U) (parts : HasOwnedParts f) (key : ℕ) (
           lone = record { at = λ k slot d at_d loan. parts.lone.at k slot d (was k d at_d).1 loan };
           owners = record { at = λ k d at_d. elim (parts.owners.at k d (was k d at_d).1) [ inl has ↦ inl has | inr gone ↦ inr gone ] };
         };
-        state = gone-state f parts.parts key b at unused orphan.absent unconnected;
+        state = but-channels freed (state_of (kept_of f)) (gone-state f parts.parts key b at unused orphan.absent unconnected);
+        channels = has-link f.connections;
         messages = freed-keeps;
       };
       publishers = refl;

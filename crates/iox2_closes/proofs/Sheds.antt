@@ -6,6 +6,7 @@ use Rattle.std.specs.List.{filter}
 use Rattle.std.specs.Option.{option_map}
 use Rattle.std.proofs.lemmas.Bool.{true≢false, eqb-true, eq-eqb, and_cases, or_left, or_right, not-false}
 use Rattle.std.proofs.lemmas.Option.{none-some, same_Some}
+use Rattle.iox2_store.specs.machine.Channel.{Channel}
 use Rattle.iox2_store.specs.machine.Numbers.{contains, put_at, without, is_nil}
 use Rattle.iox2_store.specs.machine.Places.{occupant, is_port, vacated, places_kept}
 use Rattle.iox2_store.specs.machine.Mailbox.{Mailbox, has_numbers, has_data, waiting_dropped}
@@ -95,9 +96,18 @@ module _ {T U : Type 0} where
   -- which it has nothing any more.
   pub record Sheds (s : State T U) (q : ℕ) (y : Subscriber) (t : State T U) : Type 0 where
     pub test : ℕ → Bool
-    pub state : t ≡ record s { subscribers = put_at s.subscribers q (Some (with_publishers test y)); mailboxes = t.mailboxes }
+    pub state : t ≡ record s { subscribers = put_at s.subscribers q (Some (with_publishers test y)); mailboxes = t.mailboxes; channels = t.channels }
     pub boxes : (p r : ℕ) → (t.mailboxes p r ≡ s.mailboxes p r) ⊎ ((r ≡ q) × (s.publishers p ≡ None) × (t.mailboxes p r ≡ waiting_dropped (s.mailboxes p r)))
     pub left : (p : ℕ) → test p ≡ false → (s.publishers p ≡ None) × (has_numbers (t.mailboxes p q) ≡ false)
+
+  -- channels tell nothing of it
+  pub sheds-channels : (s : State T U) (q : ℕ) (y : Subscriber) (t : State T U) → Sheds s q y t → (channels : ℕ → ℕ → ℕ → Channel) → Sheds s q y (record t { channels = channels })
+  sheds-channels s q y t x channels = record {
+    test = x.test;
+    state = λ i. record (x.state i) { channels = channels };
+    boxes = x.boxes;
+    left = x.left;
+  }
 
   module _ (s : State T U) (q : ℕ) (y : Subscriber) (here : s.subscribers q ≡ Some y) where
     -- nothing happened yet
@@ -192,8 +202,8 @@ module _ {T U : Type 0} where
               let old = x.left p fails in
               fails ∙ sym (λ i. is_some (old.0 i) || old.1 i)
 
-        sheds-pruned : t ≡ subscriber_pruned lost q
-        sheds-pruned = x.state ∙ (λ i. record s { subscribers = all i; mailboxes = lost-boxes i }) where
+        sheds-pruned : t ≡ record (subscriber_pruned lost q) { channels = t.channels }
+        sheds-pruned = x.state ∙ (λ i. record s { subscribers = all i; mailboxes = lost-boxes i; channels = t.channels }) where
           own : with_publishers x.test y ≡ pruned lost q y
           own = λ i. record y {
             ends = kept-agree x.test (is_connected lost q) y.ends (λ k p at. agrees p (inr (k, at))) i;
@@ -204,8 +214,8 @@ module _ {T U : Type 0} where
           all = ap (λ (o : Option Subscriber). put_at s.subscribers q o) (ap Some own ∙ sym (ap (option_map (pruned lost q)) here))
 
         -- and so has the machine, with every publisher due
-        pub sheds-due : publishers_due t ≡ subscriber_pruned (publishers_due lost) q
-        sheds-due = ap publishers_due sheds-pruned ∙ (λ i. record (publishers_due lost) { subscribers = put_at s.subscribers q (option_map (same i) (s.subscribers q)) }) where
+        pub sheds-due : publishers_due t ≡ record (subscriber_pruned (publishers_due lost) q) { channels = t.channels }
+        sheds-due = ap publishers_due sheds-pruned ∙ (λ i. record (publishers_due lost) { subscribers = put_at s.subscribers q (option_map (same i) (s.subscribers q)); channels = t.channels }) where
           some : (o : Option Publisher) → is_some o ≡ is_some (option_map {T = Publisher} (λ v. record v { is_due = true }) o)
           some None = refl
           some (Some v) = refl
@@ -221,7 +231,7 @@ module _ {T U : Type 0} where
       → Sheds (record s { subscribers = put_at s.subscribers q (Some (record y { is_open = false })) }) q (record y { is_open = false }) t
       → ((p : ℕ) → s.publishers p ≡ None → has_data (t.mailboxes p q) ≡ false)
       → ((p : ℕ) (z : Subscriber) → t.subscribers q ≡ Some z → (contains z.expired p ≡ true) ⊎ LeadsTo z.ends p → s.publishers p ≡ None → has_numbers (t.mailboxes p q) ≡ true)
-      → publishers_due t ≡ subscriber_pruned (subscriber_shut s q y) q
+      → publishers_due t ≡ record (subscriber_pruned (subscriber_shut s q y) q) { channels = t.channels }
   sheds-closed s q y t x dropped known =
       sheds-due (record s { subscribers = put_at s.subscribers q (Some (record y { is_open = false })) }) q (record y { is_open = false })
       (put_at-same s.subscribers q (Some (record y { is_open = false }))) t x dropped known

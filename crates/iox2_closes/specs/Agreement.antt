@@ -4,9 +4,12 @@ use Rattle.std.specs.declared.option.Option.{Option}
 use Rattle.std.specs.declared.option.Option.TheVariants.{Some}
 use Rattle.std.specs.Option.{option_and_then}
 use Rattle.slab.specs.Slab.{get}
+use Rattle.iox2_slots.specs.Link.{Link}
 use Rattle.iox2_slots.specs.SlotBook.{Book}
 use Rattle.iox2_store.specs.machine.State.{State}
 use Rattle.iox2_domain.specs.Kept.{KeptMessage, state_of}
+use Rattle.iox2_domain.specs.KeptLinks.{HasLink}
+use Rattle.iox2_domain.specs.Midway.{with_channels_of}
 use Rattle.iox2_domain.specs.Fields.{Fields, kept_of, message_in, contents_at}
 use Rattle.iox2_domain.specs.Invariant.{HasLoneLoans, HasNumber, HasParts, IsOwned, IsGone}
 
@@ -36,8 +39,10 @@ module _ {T U : Type 0} where
     pub forth : (key slot n : ℕ) (m : KeptMessage T U) → HasNumber new.books key slot n → message_lying old key slot ≡ Some m → message_lying new key slot ≡ Some m
     pub number : (key slot n : ℕ) → HasNumber new.books key slot n → HasNumber old.books key slot n
 
-  -- The fields agree and keep this state afterwards, and of messages what somebody still holds.
+  -- The fields agree and keep this state afterwards, but for channels, and of messages what somebody still holds. Each
+  -- connection was there before, with the same channel.
   pub record Passes (old new : Fields T U) (s : State T U) : Type 0 where
     pub parts : HasOwnedParts new
-    pub state : state_of (kept_of new) ≡ s
+    pub state : state_of (kept_of new) ≡ with_channels_of new s
+    pub channels : (key : ℕ) (d : Link) → get new.connections key ≡ Some d → HasLink old.connections d
     pub messages : KeepsMessages old new

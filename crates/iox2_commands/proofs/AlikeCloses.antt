@@ -1,5 +1,5 @@
 -- A subscriber that has borrowed nothing is gone at once where it closes; and so it is in two states that look alike.
-use Rattle.std.proofs.Common.{◌≡◌, ℕ, Bool, true, false, cond, not, ◌&&◌, List, [], ◌∷◌, refl, sym, ap, ◌∙◌, Option, None, Some, is_some, eqb}
+use Rattle.std.proofs.Common.{◌≡◌, ℕ, Bool, true, false, cond, not, ◌&&◌, refl, sym, ap, ◌∙◌, Option, None, Some, is_some, eqb}
 use Rattle.std.specs.Option.{option_map, option_map_or}
 use Rattle.std.specs.List.{list_all}
 use Rattle.std.proofs.lemmas.Bool.{eqb-true, cond_both}
@@ -7,13 +7,13 @@ use Rattle.iox2_store.specs.machine.Numbers.{put_at}
 use Rattle.iox2_store.specs.machine.Places.{vacated}
 use Rattle.iox2_store.specs.machine.Mailbox.{Mailbox, has_borrows, waiting_dropped}
 use Rattle.iox2_store.specs.machine.Records.{Publisher, Subscriber}
-use Rattle.iox2_store.specs.machine.State.{State, is_present, connected_publishers}
+use Rattle.iox2_store.specs.machine.State.{State, is_present, connected_publishers, receiver_channels_reset}
 use Rattle.iox2_store.specs.machine.Releases.{is_unused, place_freed, pruned, subscriber_pruned}
 use Rattle.iox2_store.specs.machine.Ports.{mailbox_after_subscriber, subscriber_shut, subscriber_closed}
 use Rattle.iox2_laws.proofs.Puts.{put_at-same}
 use Rattle.iox2_commands.specs.Isolation.{HasBorrowedNothing}
 use Rattle.iox2_commands.specs.Views.{public_part}
-use Rattle.iox2_commands.proofs.AlikeViews.{View, view_of}
+use Rattle.iox2_commands.proofs.AlikeViews.{View, view_of, receiver_reset_view, receiver_reset_seen}
 use Rattle.iox2_laws.proofs.NumberLemmas.{all_pass}
 
 -- a publisher that is due
@@ -41,8 +41,8 @@ module _ {T U : Type 0} where
       ∙ cond_both (is_present s p) (s.mailboxes p r) (waiting_dropped (s.mailboxes p r)) (λ (box : Mailbox). has_borrows box ≡ false) (λ _. nothing p) (λ _. nothing p)
 
   -- It is gone at once.
-  pub closed_at_once : (s : State T U) (r : ℕ) (y : Subscriber) → HasBorrowedNothing s r → subscriber_closed s r y ≡ place_freed (before_going s r y) r
-  closed_at_once s r y nothing = ap (λ (b : Bool). cond b (place_freed (before_going s r y) r) (before_going s r y)) unused
+  pub closed_at_once : (s : State T U) (r : ℕ) (y : Subscriber) → HasBorrowedNothing s r → subscriber_closed s r y ≡ receiver_channels_reset (place_freed (before_going s r y) r) r
+  closed_at_once s r y nothing = ap (λ (b : Bool). receiver_channels_reset (cond b (place_freed (before_going s r y) r) (before_going s r y)) r) unused
     where
       there : (before_going s r y).subscribers r ≡ Some (pruned (subscriber_shut s r y) r (record y { is_open = false }))
       there =
@@ -77,10 +77,11 @@ module _ {T U : Type 0} where
           | false ↦ λ _. refl
         ] refl
 
-    closed_seen : (s : State T U) (r : ℕ) (y : Subscriber) → HasBorrowedNothing s r → view_of q (subscriber_closed s r y) ≡ closed_view r (view_of q s)
+    closed_seen : (s : State T U) (r : ℕ) (y : Subscriber) → HasBorrowedNothing s r → view_of q (subscriber_closed s r y) ≡ receiver_reset_view q (eqb q r) (closed_view r (view_of q s))
     closed_seen s r y nothing =
         ap (view_of q) (closed_at_once s r y nothing)
-        ∙ (λ i. record (closed_view r (view_of q s)) {
+        ∙ receiver_reset_seen q (place_freed (before_going s r y) r) r
+        ∙ ap (receiver_reset_view q (eqb q r)) (λ i. record (closed_view r (view_of q s)) {
           others = λ k. taken_away s.subscribers r (Some (record y { is_open = false })) (option_map (pruned (subscriber_shut s r y) r) ((subscriber_shut s r y).subscribers r)) k i;
           own = own_taken q s.subscribers r (Some (record y { is_open = false })) (option_map (pruned (subscriber_shut s r y) r) ((subscriber_shut s r y).subscribers r)) i;
           mailboxes = λ p. box_left s r p i;
@@ -89,4 +90,4 @@ module _ {T U : Type 0} where
     -- a subscriber that has borrowed nothing is closed in both
     pub subscriber_closed_alike : (a b : State T U) (r : ℕ) (y y' : Subscriber) → HasBorrowedNothing a r → HasBorrowedNothing b r → view_of q a ≡ view_of q b
         → view_of q (subscriber_closed a r y) ≡ view_of q (subscriber_closed b r y')
-    subscriber_closed_alike a b r y y' nothing nothing' e = closed_seen a r y nothing ∙ ap (closed_view r) e ∙ sym (closed_seen b r y' nothing')
+    subscriber_closed_alike a b r y y' nothing nothing' e = closed_seen a r y nothing ∙ ap (λ v. receiver_reset_view q (eqb q r) (closed_view r v)) e ∙ sym (closed_seen b r y' nothing')

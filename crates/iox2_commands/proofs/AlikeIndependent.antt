@@ -6,7 +6,7 @@ use Rattle.std.proofs.lemmas.Bool.{cases_eq}
 use Rattle.iox2_store.specs.machine.Limits.{worst_case}
 use Rattle.iox2_store.specs.machine.Numbers.{put_at, without, last_n}
 use Rattle.iox2_store.specs.machine.Records.{Loan, Publisher, Subscriber, Environment, PublisherSettings, SubscriberSettings}
-use Rattle.iox2_store.specs.machine.State.{State, with_loan}
+use Rattle.iox2_store.specs.machine.State.{State, with_loan, receiver_channels_reset}
 use Rattle.iox2_store.specs.machine.PublisherUpdate.{UpdatePublisher}
 use Rattle.iox2_store.specs.machine.SubscriberUpdate.{UpdateSubscriber}
 use Rattle.iox2_store.specs.machine.Loans.{GrantLoan, is_static, loan_discarded}
@@ -126,14 +126,14 @@ module _ {T U : Type 0} (q : ℕ) where
       (λ f _ j. subst StaysOpen (sym j.0) mid)
 
   -- what is left where a closed subscriber goes, if it has to
-  freed_open : (s : State T U) (r : ℕ) → StaysOpen s → StaysOpen (freed_if_unused s r)
+  freed_open : (s : State T U) (r : ℕ) → StaysOpen s → StaysOpen (receiver_channels_reset (freed_if_unused s r) r)
   freed_open s r k =
-      elim (is_unused s r) as (λ b. StaysOpen (cond b (place_freed s r) s)) [
+      elim (is_unused s r) as (λ b. StaysOpen (receiver_channels_reset (cond b (place_freed s r) s) r)) [
         | true ↦ record {
           publishers = each_independent s.config s.publishers (λ x. record x { is_due = true }) k.publishers (λ x. independent_changed s.config x _ refl refl refl refl refl refl);
           all_open = λ i z apart e. found_removed s.subscribers r i z (z.is_open ≡ true) e (λ _ f. k.all_open i z apart f);
         }
-        | false ↦ k
+        | false ↦ record { publishers = k.publishers; all_open = k.all_open }
       ]
 
   pruned_open : (s : State T U) (r : ℕ) → StaysOpen s → StaysOpen (subscriber_pruned s r)

@@ -24,7 +24,7 @@ use Rattle.iox2_store.specs.declared.errors.SubscriberCreateError.TheVariants.{U
 use Rattle.iox2_laws.proofs.Cases.{by_options, by_bools}
 use Rattle.iox2_store.specs.machine.Environments.{ample_memory}
 use Rattle.iox2_commands.specs.Views.{public_part}
-use Rattle.iox2_commands.proofs.AlikeViews.{View, view_of, others_put, others_same, row_put, cell_put}
+use Rattle.iox2_commands.proofs.AlikeViews.{View, view_of, others_put, others_same, row_put, cell_put, sender_reset_view, sender_reset_seen, receiver_reset_view, receiver_reset_seen}
 use Rattle.iox2_commands.proofs.AlikeUpdates.{update_publisher_alike}
 use Rattle.iox2_commands.proofs.AlikeReceives.{update_subscriber_alike}
 use Rattle.iox2_laws.proofs.Puts.{put_at-same}
@@ -217,16 +217,18 @@ module _ {T U : Type 0} (q : ℕ) where
   pruned_seen : (s : State T U) → view_of q (subscribers_pruned s) ≡ pruned_view (view_of q s)
   pruned_seen s = mapped_seen s (pruned s) (λ r y. refl)
 
-  closed_seen : (s : State T U) (p : ℕ) (x : Publisher) → view_of q (publisher_closed s p x) ≡ due_view (pruned_view (gone_view p x (view_of q s)))
+  closed_seen : (s : State T U) (p : ℕ) (x : Publisher)
+      → view_of q (publisher_closed s p x) ≡ sender_reset_view q p (due_view (pruned_view (gone_view p x (view_of q s))))
   closed_seen s p x =
-      subscribers_due_seen (subscribers_pruned (publisher_gone s p x))
+      sender_reset_seen q (subscribers_due (subscribers_pruned (publisher_gone s p x))) p
+      ∙ ap (sender_reset_view q p) (subscribers_due_seen (subscribers_pruned (publisher_gone s p x))
       ∙ ap due_view (pruned_seen (publisher_gone s p x))
-      ∙ ap (λ v. due_view (pruned_view v)) (gone_seen s p x)
+      ∙ ap (λ v. due_view (pruned_view v)) (gone_seen s p x))
 
   -- a publisher is closed in both
   pub publisher_closed_alike : (a b : State T U) (p : ℕ) (x : Publisher) → view_of q a ≡ view_of q b
       → view_of q (publisher_closed a p x) ≡ view_of q (publisher_closed b p x)
-  publisher_closed_alike a b p x e = closed_seen a p x ∙ ap (λ v. due_view (pruned_view (gone_view p x v))) e ∙ sym (closed_seen b p x)
+  publisher_closed_alike a b p x e = closed_seen a p x ∙ ap (λ v. sender_reset_view q p (due_view (pruned_view (gone_view p x v)))) e ∙ sym (closed_seen b p x)
 
   -- ---- the subscriber itself releases a sample, and closes
 
@@ -259,21 +261,26 @@ module _ {T U : Type 0} (q : ℕ) where
         | false ↦ refl
       ]
 
+  -- its own channels are reset
+  abbrev own_reset : View T U → View T U
+  own_reset = receiver_reset_view q (eqb q q)
+
   abbrev unborrowed_view : (p n : ℕ) → View T U → View T U
   unborrowed_view p n v = record v { mailboxes = put_at v.mailboxes p (with_released n (v.mailboxes p)) }
 
   unborrowed_seen : (s : State T U) (p n : ℕ) → view_of q (unborrowed s p q n) ≡ unborrowed_view p n (view_of q s)
   unborrowed_seen s p n = λ i. record (view_of q s) { mailboxes = λ k. cell_put s.mailboxes q p (with_released n (s.mailboxes p q)) k i }
 
-  released_seen : (s : State T U) (p n : ℕ) → view_of q (released s p q n) ≡ freed_view (pruned_view (unborrowed_view p n (view_of q s)))
+  released_seen : (s : State T U) (p n : ℕ) → view_of q (released s p q n) ≡ own_reset (freed_view (pruned_view (unborrowed_view p n (view_of q s))))
   released_seen s p n =
-      freed_seen (subscriber_pruned (unborrowed s p q n) q)
+      receiver_reset_seen q (freed_if_unused (subscriber_pruned (unborrowed s p q n) q) q) q
+      ∙ ap own_reset (freed_seen (subscriber_pruned (unborrowed s p q n) q)
       ∙ ap freed_view (own_pruned_seen (unborrowed s p q n))
-      ∙ ap (λ v. freed_view (pruned_view v)) (unborrowed_seen s p n)
+      ∙ ap (λ v. freed_view (pruned_view v)) (unborrowed_seen s p n))
 
   -- a sample of q is released in both
   pub released_alike : (a b : State T U) (p n : ℕ) → view_of q a ≡ view_of q b → view_of q (released a p q n) ≡ view_of q (released b p q n)
-  released_alike a b p n e = released_seen a p n ∙ ap (λ v. freed_view (pruned_view (unborrowed_view p n v))) e ∙ sym (released_seen b p n)
+  released_alike a b p n e = released_seen a p n ∙ ap (λ v. own_reset (freed_view (pruned_view (unborrowed_view p n v)))) e ∙ sym (released_seen b p n)
 
   abbrev shut_view : Subscriber → View T U → View T U
   shut_view y v = record v {
@@ -290,12 +297,13 @@ module _ {T U : Type 0} (q : ℕ) where
     mailboxes = λ p. put_at-same (s.mailboxes p) q (mailbox_after_subscriber s q p) i;
   }
 
-  own_closed_seen : (s : State T U) (y : Subscriber) → view_of q (subscriber_closed s q y) ≡ freed_view (pruned_view (shut_view y (view_of q s)))
+  own_closed_seen : (s : State T U) (y : Subscriber) → view_of q (subscriber_closed s q y) ≡ own_reset (freed_view (pruned_view (shut_view y (view_of q s))))
   own_closed_seen s y =
-      freed_seen (subscriber_pruned (subscriber_shut s q y) q)
+      receiver_reset_seen q (freed_if_unused (subscriber_pruned (subscriber_shut s q y) q) q) q
+      ∙ ap own_reset (freed_seen (subscriber_pruned (subscriber_shut s q y) q)
       ∙ ap freed_view (own_pruned_seen (subscriber_shut s q y))
-      ∙ ap (λ v. freed_view (pruned_view v)) (shut_seen s y)
+      ∙ ap (λ v. freed_view (pruned_view v)) (shut_seen s y))
 
   -- q is closed in both, whatever it has borrowed
   pub own_closed_alike : (a b : State T U) (y : Subscriber) → view_of q a ≡ view_of q b → view_of q (subscriber_closed a q y) ≡ view_of q (subscriber_closed b q y)
-  own_closed_alike a b y e = own_closed_seen a y ∙ ap (λ v. freed_view (pruned_view (shut_view y v))) e ∙ sym (own_closed_seen b y)
+  own_closed_alike a b y e = own_closed_seen a y ∙ ap (λ v. own_reset (freed_view (pruned_view (shut_view y v)))) e ∙ sym (own_closed_seen b y)

@@ -1,10 +1,10 @@
 -- A subscriber's own update and receive from two states that look alike to it.
-use Rattle.std.proofs.Common.{◌≡◌, ℕ, Bool, false, List, [], ◌∷◌, ◌++◌, refl, sym, ap, subst, ◌∙◌, Option, None, Some}
+use Rattle.std.proofs.Common.{◌≡◌, ℕ, Bool, false, List, [], ◌∷◌, ◌++◌, refl, sym, ap, subst, ◌∙◌, Option, None, Some, eqb}
 use Rattle.iox2_store.specs.machine.Limits.{expired_limit}
 use Rattle.iox2_store.specs.machine.Numbers.{put_at}
 use Rattle.iox2_store.specs.machine.Mailbox.{Mailbox, BorrowsFirst}
 use Rattle.iox2_store.specs.machine.Records.{Subscriber}
-use Rattle.iox2_store.specs.machine.State.{State, has_sender_end, with_mailbox, no_warnings}
+use Rattle.iox2_store.specs.machine.State.{State, has_sender_end, with_mailbox, no_warnings, receiver_channels_reset}
 use Rattle.iox2_store.specs.machine.SubscriberUpdate.{ReceiverSide, UpdateReceiverSide, UpdateSubscriber, receiver_side, with_receiver_side}
 use Rattle.iox2_store.specs.machine.Receives.{Receive, TakeSample, ReceiveResult, Got_sample, No_sample, Receive_error}
 use Rattle.iox2_store.specs.declared.errors.ConnectionFailure.{ConnectionFailure}
@@ -15,7 +15,7 @@ use Rattle.iox2_store.specs.machine.Environments.{ample_memory}
 use Rattle.iox2_commands.specs.Views.{public_part, seen_handle}
 use Rattle.iox2_commands.specs.Outcomes.{Event, No_event, Message_sent, Message_received, Outcome, Sample_handle}
 use Rattle.iox2_commands.specs.Step.{after_receive, after_update, after_question}
-use Rattle.iox2_commands.proofs.AlikeViews.{View, view_of, others_put, cell_put}
+use Rattle.iox2_commands.proofs.AlikeViews.{View, view_of, others_put, cell_put, receiver_reset_view, receiver_reset_seen}
 use Rattle.iox2_commands.proofs.AlikeUpdates.{bare, sides_alike}
 
 -- ---- outcomes that look alike
@@ -73,6 +73,10 @@ module _ {T U : Type 0} (q : ℕ) where
     mailboxes = λ p. put_at-same (s.mailboxes p) q (side.mailboxes p) i;
   }
 
+  reset_seen : (s : State T U) (y : Subscriber) (side : ReceiverSide)
+      → view_of q (receiver_channels_reset (with_receiver_side s q y side) q) ≡ receiver_reset_view q (eqb q q) (receiver_changed y (view_of q s) side)
+  reset_seen s y side = receiver_reset_seen q (with_receiver_side s q y side) q ∙ ap (receiver_reset_view q (eqb q q)) (receiver_seen s y side)
+
   -- Two updates of the subscriber itself end alike, and with the same answer.
   pub update_subscriber_alike : (a b a' b' : State T U) (f g : Option ConnectionFailure) → view_of q a ≡ view_of q b
       → UpdateSubscriber ample_memory a q a' f → UpdateSubscriber ample_memory b q b' g → (view_of q a' ≡ view_of q b') × (f ≡ g)
@@ -87,9 +91,9 @@ module _ {T U : Type 0} (q : ℕ) where
       sides_alike (a.config).service_id (b.config).service_id q y.degradation_handler y.degradation_handler (expired_limit a.config) (λ p. has_sender_end a p q) (λ p. has_sender_end b p q)
       a.publisher_places (receiver_side a q y) h.0 (receiver_side b q y) k.0 f g
       (ap (λ (v : View T U). record { ends = y.ends; expired = y.expired; is_due = false; mailboxes = v.mailboxes; warnings = no_warnings }) e) h.1 k1 in (
-        ap (view_of q) h.2 ∙ receiver_seen a y h.0
-            ∙ (λ i. receiver_changed y (e i) (sides.0 i))
-            ∙ sym (receiver_seen b y k.0) ∙ sym (ap (view_of q) k.2),
+        ap (view_of q) h.2 ∙ reset_seen a y h.0
+            ∙ (λ i. receiver_reset_view q (eqb q q) (receiver_changed y (e i) (sides.0 i)))
+            ∙ sym (reset_seen b y k.0) ∙ sym (ap (view_of q) k.2),
         sides.1,
       ))
       (λ _ h k. (ap (view_of q) h.0 ∙ e ∙ sym (ap (view_of q) k.0), h.1 ∙ sym k.1)))

@@ -1,6 +1,5 @@
 -- Deliveries that never wait, and sends from two states that look alike to a subscriber.
 use Rattle.std.proofs.Common.{◌≡◌, ℕ, ◌+◌, Bool, true, false, cond, ◌||◌, List, [], ◌∷◌, ◌++◌, refl, sym, ap, subst, ◌∙◌, Option, None, Some, eqb}
-use Rattle.std.proofs.Math.Path.{fun_ext}
 use Rattle.std.specs.Option.{option_map}
 use Rattle.std.specs.declared.time.Duration.{Duration}
 use Rattle.std.proofs.lemmas.Bool.{eqb-true, true≢false}
@@ -8,7 +7,7 @@ use Rattle.std.proofs.lemmas.Option.{same_Some}
 use Rattle.iox2_store.specs.machine.Numbers.{put_at, without, last_n}
 use Rattle.iox2_store.specs.machine.Mailbox.{Mailbox, has_room, with_appended}
 use Rattle.iox2_store.specs.machine.Records.{Loan, Publisher, Handler, Fixed, Custom, Environment}
-use Rattle.iox2_store.specs.machine.State.{State, receiving_buffer, with_loan}
+use Rattle.iox2_store.specs.machine.State.{State, channel_buffer, with_loan}
 use Rattle.iox2_store.specs.machine.Delivery.{PutResult, Accepted, Skipped, Failed, Would_block, by_action, by_strategy, accepted_count, is_failed, is_blocking, DeliveryEnd, Complete, Decides, Put, Deliver, no_time}
 use Rattle.iox2_store.specs.machine.Loans.{loan_discarded, entry_of}
 use Rattle.iox2_store.specs.machine.Sends.{SendResult, Delivered_to, Send_error, published, send_ended, ConcludeSend, with_mailboxes, DeliverAndConclude, Publish, Send}
@@ -24,9 +23,8 @@ use Rattle.iox2_laws.proofs.PublisherUpdates.{update_publisher_changes, update_p
 use Rattle.iox2_store.specs.machine.Environments.{ample_memory}
 use Rattle.iox2_commands.specs.Isolation.{is_skipped, is_discarding, never_waits, IsIndependentPublisher}
 use Rattle.iox2_commands.specs.Step.{after_send}
-use Rattle.iox2_commands.proofs.AlikeViews.{View, view_of, row_put, buffer_seen, receiving_buffer_seen}
+use Rattle.iox2_commands.proofs.AlikeViews.{View, view_of, row_put, own_buffer, own_buffer_seen}
 use Rattle.iox2_commands.proofs.AlikeUpdates.{update_publisher_alike}
-use Rattle.iox2_commands.specs.Views.{public_part}
 use Rattle.iox2_commands.proofs.AlikeReceives.{IsAlike, alike_equal}
 
 -- ---- one receiver
@@ -57,10 +55,10 @@ decided environment p (Some (Fixed action)) strategy info result d h = h ∙ ski
 decided environment p (Some Custom) strategy info result d h = absurd (true≢false (sym d))
 
 -- The mailbox of q after a delivery at these ends: it depends on that mailbox, its buffer and the message alone.
-abbrev pub deliver_box : ServiceConfig → (n : ℕ) → (buffers : ℕ → Option ℕ) → (q : ℕ) → List (Option ℕ) → Mailbox → Mailbox
-deliver_box c n buffers q [] box = box
-deliver_box c n buffers q (None ∷ rest) box = deliver_box c n buffers q rest box
-deliver_box c n buffers q (Some r ∷ rest) box = deliver_box c n buffers q rest (cond (eqb q r) (put_box c n (buffers q) box) box)
+abbrev pub deliver_box : ServiceConfig → (n : ℕ) → (buffer : Option ℕ) → (q : ℕ) → List (Option ℕ) → Mailbox → Mailbox
+deliver_box c n buffer q [] box = box
+deliver_box c n buffer q (None ∷ rest) box = deliver_box c n buffer q rest box
+deliver_box c n buffer q (Some r ∷ rest) box = deliver_box c n buffer q rest (cond (eqb q r) (put_box c n buffer box) box)
 
 -- the mailbox of q where the message is put into that of r
 put_seen : (c : ServiceConfig) (n : ℕ) (buffers : ℕ → Option ℕ) (q r : ℕ) (boxes : ℕ → Mailbox)
@@ -91,27 +89,27 @@ module _ (environment : Environment) (c : ServiceConfig) (p : ℕ) (strategy : B
   -- A delivery that never waits reaches all receivers.
   pub deliver_is : (q retries : ℕ) (elapsed : Duration) (place : ℕ) (ends : List (Option ℕ)) (count : ℕ) (failed : Bool) (boxes : ℕ → Mailbox) (how : DeliveryEnd) (boxes' : ℕ → Mailbox) → failed ≡ false
       → Deliver environment c p strategy handler buffers n retries elapsed place ends count failed boxes how boxes'
-      → (total : ℕ) × (how ≡ Complete total false) × (boxes' q ≡ deliver_box c n buffers q ends (boxes q))
+      → (total : ℕ) × (how ≡ Complete total false) × (boxes' q ≡ deliver_box c n (buffers q) q ends (boxes q))
   deliver_is q retries elapsed place [] count failed boxes how boxes' f h = (count, h.0 ∙ ap (λ (b : Bool). Complete count b) f, ap (λ (g : ℕ → Mailbox). g q) h.1)
   deliver_is q retries elapsed place (None ∷ rest) count failed boxes how boxes' f h =
-      by_bool ((total : ℕ) × (how ≡ Complete total false) × (boxes' q ≡ deliver_box c n buffers q rest (boxes q))) (is_blocking h.0) _ _ h.3
+      by_bool ((total : ℕ) × (how ≡ Complete total false) × (boxes' q ≡ deliver_box c n (buffers q) q rest (boxes q))) (is_blocking h.0) _ _ h.3
       (λ t _. absurd (true≢false (sym t ∙ ap is_blocking (h.2).0)))
       (λ _ k.
       let failed' : (failed || is_failed h.0) ≡ false = (λ i. f i || is_failed ((h.2).0 i)) in
-      let there : (total : ℕ) × (how ≡ Complete total false) × (boxes' q ≡ deliver_box c n buffers q rest (h.1 q)) =
+      let there : (total : ℕ) × (how ≡ Complete total false) × (boxes' q ≡ deliver_box c n (buffers q) q rest (h.1 q)) =
       deliver_is q 0 no_time (place + 1) rest (count + accepted_count h.0) (failed || is_failed h.0) h.1 how boxes' failed' k in
-      (there.0, there.1, there.2 ∙ ap (λ (g : ℕ → Mailbox). deliver_box c n buffers q rest (g q)) (h.2).1))
+      (there.0, there.1, there.2 ∙ ap (λ (g : ℕ → Mailbox). deliver_box c n (buffers q) q rest (g q)) (h.2).1))
   deliver_is q retries elapsed place (Some r ∷ rest) count failed boxes how boxes' f h =
       let put : Went h.0 (put_box c n (buffers r) (boxes r)) (h.2).0 = put_is r retries elapsed (buffers r) (boxes r) h.0 (h.2).0 (h.2).1 in
-      by_bool ((total : ℕ) × (how ≡ Complete total false) × (boxes' q ≡ deliver_box c n buffers q (Some r ∷ rest) (boxes q))) (is_blocking h.0) _ _ h.3
+      by_bool ((total : ℕ) × (how ≡ Complete total false) × (boxes' q ≡ deliver_box c n (buffers q) q (Some r ∷ rest) (boxes q))) (is_blocking h.0) _ _ h.3
       (λ t _. absurd (true≢false (sym t ∙ put.0)))
       (λ _ k.
       let failed' : (failed || is_failed h.0) ≡ false = (λ i. f i || put.1 i) in
-      let there : (total : ℕ) × (how ≡ Complete total false) × (boxes' q ≡ deliver_box c n buffers q rest (h.1 q)) =
+      let there : (total : ℕ) × (how ≡ Complete total false) × (boxes' q ≡ deliver_box c n (buffers q) q rest (h.1 q)) =
       deliver_is q 0 no_time (place + 1) rest (count + accepted_count h.0) (failed || is_failed h.0) h.1 how boxes' failed' k in
       let mid : h.1 q ≡ cond (eqb q r) (put_box c n (buffers q) (boxes q)) (boxes q) =
       ap (λ (g : ℕ → Mailbox). g q) (h.2).2 ∙ ap (λ (box : Mailbox). put_at boxes r box q) put.2 ∙ put_seen c n buffers q r boxes in
-      (there.0, there.1, there.2 ∙ ap (deliver_box c n buffers q rest) mid))
+      (there.0, there.1, there.2 ∙ ap (deliver_box c n (buffers q) q rest) mid))
 
 module _ {T U : Type 0} (q : ℕ) where
   -- ---- whole sends
@@ -120,7 +118,7 @@ module _ {T U : Type 0} (q : ℕ) where
   abbrev pub delivered_view : (p n : ℕ) → List (Option ℕ) → View T U → View T U
   delivered_view p n ends v = record v {
     publishers = put_at v.publishers p (option_map (λ (x : Publisher). record x { loans = without n x.loans; blocked = None }) (v.publishers p));
-    mailboxes = put_at v.mailboxes p (deliver_box v.config n (λ r. buffer_seen (v.others r)) q ends (v.mailboxes p));
+    mailboxes = put_at v.mailboxes p (deliver_box v.config n (own_buffer q p v) q ends (v.mailboxes p));
   }
 
   -- The view after a message was published.
@@ -153,17 +151,17 @@ module _ {T U : Type 0} (q : ℕ) where
   delivered s s' p n retries elapsed place ends count x result e independent h =
       by_option ((total : ℕ) × (result ≡ Delivered_to total) × (view_of q s' ≡ delivered_view p n ends (view_of q s))) (s.publishers p) _ _ h (λ _ v. absurd v) (λ z f h.
       let same : z ≡ x = same_Some z x (sym f ∙ e) in
-      let end : (total : ℕ) × (h.0 ≡ Complete total false) × (h.1 q ≡ deliver_box s.config n (receiving_buffer s) q ends (s.mailboxes p q)) =
-      deliver_is ample_memory s.config p z.backpressure_strategy z.backpressure_handler (receiving_buffer s) n
+      let end : (total : ℕ) × (h.0 ≡ Complete total false) × (h.1 q ≡ deliver_box s.config n (channel_buffer s p 0 q) q ends (s.mailboxes p q)) =
+      deliver_is ample_memory s.config p z.backpressure_strategy z.backpressure_handler (channel_buffer s p 0) n
       (subst (λ (y : Publisher). never_waits s.config y.backpressure_strategy y.backpressure_handler ≡ true) (sym same) independent)
       q retries elapsed place ends count false (s.mailboxes p) h.0 h.1 refl h.2 in
       let concluded : (s' ≡ send_ended (with_mailboxes s p h.1) p n) × (result ≡ Delivered_to end.0) =
       subst (λ (how : DeliveryEnd). ConcludeSend (with_mailboxes s p h.1) p n how s' result) end.1 h.3 in
-      let buffers : receiving_buffer s ≡ (λ r. buffer_seen (public_part (s.subscribers r))) = fun_ext (receiving_buffer_seen s) in (
+      let buffer : channel_buffer s p 0 q ≡ own_buffer q p (view_of q s) = own_buffer_seen s p q in (
         end.0,
         concluded.1,
         ap (view_of q) concluded.0
-            ∙ mailboxes_seen s p n h.1 _ (end.2 ∙ ap (λ (g : ℕ → Option ℕ). deliver_box s.config n g q ends (s.mailboxes p q)) buffers),
+            ∙ mailboxes_seen s p n h.1 _ (end.2 ∙ ap (λ (b : Option ℕ). deliver_box s.config n b q ends (s.mailboxes p q)) buffer),
       ))
 
   -- what a publication comes to

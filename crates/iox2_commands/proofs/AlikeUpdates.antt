@@ -3,17 +3,18 @@ use Rattle.std.proofs.Common.{◌≡◌, ℕ, ◌+◌, Bool, true, false, cond, 
 use Rattle.std.proofs.lemmas.Bool.{eqb-true}
 use Rattle.iox2_store.specs.machine.Numbers.{put_at, last_n}
 use Rattle.iox2_store.specs.machine.Places.{occupant, set_place}
+use Rattle.iox2_store.specs.machine.Channel.{is_closed}
 use Rattle.iox2_store.specs.machine.Mailbox.{Mailbox, waiting_dropped, with_waiting}
 use Rattle.iox2_store.specs.machine.Records.{Publisher, Handler}
-use Rattle.iox2_store.specs.machine.State.{State, receiving_buffer, has_receiver_end, no_warnings}
+use Rattle.iox2_store.specs.machine.State.{State, receiving_buffer, has_receiver_end, no_warnings, sender_channels_reset}
 use Rattle.iox2_store.specs.machine.Connections.{ForEachPlace, first_failure, expired_buffer_full}
-use Rattle.iox2_store.specs.machine.PublisherUpdate.{SenderSide, SenderAction, Keep_end, Drop_waiting, Disconnect, Connect, sender_action, dropped, disconnected, connected, Performs, UpdateSenderPlace, UpdatePublisher, sender_side, with_sender_side}
+use Rattle.iox2_store.specs.machine.PublisherUpdate.{SenderSide, SenderAction, Keep_end, Drop_waiting, Disconnect, Connect, sender_action, dropped, disconnected, connected, Performs, UpdateSenderPlace, UpdatePublisher, sender_side, with_sender_side, history_for}
 use Rattle.iox2_store.specs.machine.SubscriberUpdate.{ReceiverSide, Retirement, Keep_expired, Evict, Discard_data, Refuse, retirement_of, after_retirement, is_refused, with_end, ConnectReceiver, Retire, ConnectAtPlace, DisconnectAtPlace, UpdateReceiverSide}
 use Rattle.iox2_store.specs.declared.degradation.DegradationAction.{DegradationAction}
 use Rattle.iox2_store.specs.declared.errors.ConnectionFailure.{ConnectionFailure}
 use Rattle.iox2_laws.proofs.Cases.{by_options, by_bools}
 use Rattle.iox2_store.specs.machine.Environments.{ample_memory}
-use Rattle.iox2_commands.proofs.AlikeViews.{View, view_of, row_put, same_buffers}
+use Rattle.iox2_commands.proofs.AlikeViews.{View, view_of, row_put, same_buffers, sender_reset_view, sender_reset_seen}
 
 -- two walks over the same places, each step of which keeps what is alike, keep it
 each_alike : {Side : Type 0} (At At' : ℕ → Option ℕ → Side → Side → Option ConnectionFailure → Type 0) (Alike : Side → Side → Type 0)
@@ -50,25 +51,36 @@ disconnected_at q a b place None same = same
 disconnected_at q a b place (Some r) same = let d : SameSenders q (dropped a r) (dropped b r) = dropped_alike q a b r same in
     record { ends = ap (λ v. set_place v place None) same.ends; mailbox = d.mailbox }
 
+-- a mailbox that is changed in both, and the same way if it is that of q
+put_alike_if : (q : ℕ) (f g : ℕ → Mailbox) (r : ℕ) (change change' : Mailbox → Mailbox) → (r ≡ q → change ≡ change') → f q ≡ g q
+    → put_at f r (change (f r)) q ≡ put_at g r (change' (g r)) q
+put_alike_if q f g r change change' same e =
+    elim (eqb q r) as (λ b. eqb q r ≡ b → cond b (change (f r)) (f q) ≡ cond b (change' (g r)) (g q)) [
+      | true ↦ λ t. ap change (ap f (sym (eqb-true q r t)) ∙ e ∙ ap g (eqb-true q r t)) ∙ ap (λ (c : Mailbox → Mailbox). c (g r)) (same (sym (eqb-true q r t)))
+      | false ↦ λ _. e
+    ] refl
+
 disconnected_alike : (q : ℕ) (a b : SenderSide) (place : ℕ) → SameSenders q a b
     → SameSenders q (disconnected a place (occupant a.ends place)) (disconnected b place (occupant b.ends place))
 disconnected_alike q a b place same =
     subst (λ v. SameSenders q (disconnected a place (occupant a.ends place)) (disconnected b place (occupant v place))) same.ends
     (disconnected_at q a b place (occupant a.ends place) same)
 
-connected_alike : (q : ℕ) (history : List ℕ) (a b : SenderSide) (place r buffer : ℕ) → SameSenders q a b
-    → SameSenders q (connected history a place r buffer) (connected history b place r buffer)
-connected_alike q history a b place r buffer same = record {
+connected_alike : (q : ℕ) (histories histories' : ℕ → List ℕ) (a b : SenderSide) (place r buffer : ℕ) → histories q ≡ histories' q → SameSenders q a b
+    → SameSenders q (connected (histories r) a place r buffer) (connected (histories' r) b place r buffer)
+connected_alike q histories histories' a b place r buffer own same = record {
   ends = ap (λ v. set_place v place (Some r)) same.ends;
-  mailbox = put_alike q a.mailboxes b.mailboxes r (with_waiting (last_n buffer history)) same.mailbox;
+  mailbox = put_alike_if q a.mailboxes b.mailboxes r (with_waiting (last_n buffer (histories r))) (with_waiting (last_n buffer (histories' r)))
+      (λ is. ap (λ ns. with_waiting (last_n buffer ns)) (subst (λ k. histories k ≡ histories' k) (sym is) own)) same.mailbox;
 }
 
-module _ (q : ℕ) (service_id service_id' p : ℕ) (handler handler' : Handler DegradationAction) (history : List ℕ) (buffers : ℕ → Option ℕ) (has has' : ℕ → Bool) where
+module _ (q : ℕ) (service_id service_id' p : ℕ) (handler handler' : Handler DegradationAction) (histories histories' : ℕ → List ℕ) (own : histories q ≡ histories' q)
+    (buffers : ℕ → Option ℕ) (has has' : ℕ → Bool) where
   abbrev DoesA : SenderAction → (place : ℕ) → SenderSide → SenderSide → Option ConnectionFailure → Type 0
-  DoesA = Performs ample_memory service_id p handler history buffers has
+  DoesA = Performs ample_memory service_id p handler histories buffers has
 
   abbrev DoesB : SenderAction → (place : ℕ) → SenderSide → SenderSide → Option ConnectionFailure → Type 0
-  DoesB = Performs ample_memory service_id' p handler' history buffers has'
+  DoesB = Performs ample_memory service_id' p handler' histories' buffers has'
 
   ended : (x y a' b' : SenderSide) (f g : Option ConnectionFailure) → SameSenders q x y → (a' ≡ x) × (f ≡ None) → (b' ≡ y) × (g ≡ None) → SameSenders q a' b' × (f ≡ g)
   ended x y a' b' f g same h k = (subst (λ v. SameSenders q v b') (sym h.0) (subst (SameSenders q x) (sym k.0) same), h.1 ∙ sym k.1)
@@ -81,13 +93,13 @@ module _ (q : ℕ) (service_id service_id' p : ℕ) (handler handler' : Handler 
   performed_alike (Connect r buffer) place a a' b b' f g same h k =
       ⊎_elim
       (λ made. ⊎_elim
-      (λ made'. ended _ _ a' b' f g (connected_alike q history _ _ place r buffer (disconnected_alike q a b place same)) made made')
+      (λ made'. ended _ _ a' b' f g (connected_alike q histories histories' _ _ place r buffer own (disconnected_alike q a b place same)) made made')
       (λ refused. absurd (refused.2).1) k)
       (λ refused. absurd (refused.2).1) h
 
   place_alike : (place : ℕ) (at : Option ℕ) (a a' b b' : SenderSide) (f g : Option ConnectionFailure) → SameSenders q a b
-      → UpdateSenderPlace ample_memory service_id p handler history buffers has place at a a' f
-      → UpdateSenderPlace ample_memory service_id' p handler' history buffers has' place at b b' g → SameSenders q a' b' × (f ≡ g)
+      → UpdateSenderPlace ample_memory service_id p handler histories buffers has place at a a' f
+      → UpdateSenderPlace ample_memory service_id' p handler' histories' buffers has' place at b b' g → SameSenders q a' b' × (f ≡ g)
   place_alike place at a a' b b' f g same h k =
       performed_alike (sender_action buffers at (occupant a.ends place)) place a a' b b' f g same h
       (subst (λ v. DoesB (sender_action buffers at (occupant v place)) place b b' g) (sym same.ends) k)
@@ -104,6 +116,10 @@ module _ {T U : Type 0} (q : ℕ) where
     mailboxes = λ k. row_put q s.mailboxes p side.mailboxes k i;
   }
 
+  reset_seen : (s : State T U) (p : ℕ) (x : Publisher) (side : SenderSide)
+      → view_of q (sender_channels_reset (with_sender_side s p x side) p) ≡ sender_reset_view q p (sender_changed p x (view_of q s) side.ends (side.mailboxes q))
+  reset_seen s p x side = sender_reset_seen q (with_sender_side s p x side) p ∙ ap (sender_reset_view q p) (sender_seen s p x side)
+
   -- Two updates of a publisher end alike, and with the same answer.
   pub update_publisher_alike : (a b a' b' : State T U) (p : ℕ) (f g : Option ConnectionFailure) → view_of q a ≡ view_of q b
       → UpdatePublisher ample_memory a p a' f → UpdatePublisher ample_memory b p b' g → (view_of q a' ≡ view_of q b') × (f ≡ g)
@@ -111,19 +127,20 @@ module _ {T U : Type 0} (q : ℕ) where
       by_options ((view_of q a' ≡ view_of q b') × (f ≡ g)) (a.publishers p) (b.publishers p) _ _ _ _ (ap (λ (v : View T U). v.publishers p) e) h k (λ _ v _. absurd v) (λ x _ h k.
       by_bools ((view_of q a' ≡ view_of q b') × (f ≡ g)) x.is_due x.is_due _ _ _ _ refl h k
       (λ _ h k.
-      let k1 : ForEachPlace (UpdateSenderPlace ample_memory (b.config).service_id p x.degradation_handler x.history (receiving_buffer a) (has_receiver_end b p)) 0 a.subscriber_places (sender_side b p x) k.0 g =
-      subst (λ v. ForEachPlace (UpdateSenderPlace ample_memory (b.config).service_id p x.degradation_handler x.history (receiving_buffer a) (has_receiver_end b p)) 0 v (sender_side b p x) k.0 g)
+      let k1 : ForEachPlace (UpdateSenderPlace ample_memory (b.config).service_id p x.degradation_handler (history_for b p x) (receiving_buffer a) (has_receiver_end b p)) 0 a.subscriber_places (sender_side b p x) k.0 g =
+      subst (λ v. ForEachPlace (UpdateSenderPlace ample_memory (b.config).service_id p x.degradation_handler (history_for b p x) (receiving_buffer a) (has_receiver_end b p)) 0 v (sender_side b p x) k.0 g)
       (sym (ap (λ (v : View T U). v.subscriber_places) e))
-      (subst (λ v. ForEachPlace (UpdateSenderPlace ample_memory (b.config).service_id p x.degradation_handler x.history v (has_receiver_end b p)) 0 b.subscriber_places (sender_side b p x) k.0 g)
+      (subst (λ v. ForEachPlace (UpdateSenderPlace ample_memory (b.config).service_id p x.degradation_handler (history_for b p x) v (has_receiver_end b p)) 0 b.subscriber_places (sender_side b p x) k.0 g)
       (sym (same_buffers q a b e)) k.1) in
       let sides : SameSenders q h.0 k.0 × (f ≡ g) =
       each_alike _ _ (SameSenders q)
-      (place_alike q (a.config).service_id (b.config).service_id p x.degradation_handler x.degradation_handler x.history (receiving_buffer a) (has_receiver_end a p) (has_receiver_end b p))
+      (place_alike q (a.config).service_id (b.config).service_id p x.degradation_handler x.degradation_handler (history_for a p x) (history_for b p x)
+      (ap (λ (v : View T U). cond (is_closed (v.channels p 0)) [] x.history) e) (receiving_buffer a) (has_receiver_end a p) (has_receiver_end b p))
       0 a.subscriber_places (sender_side a p x) h.0 (sender_side b p x) k.0 f g
       (record { ends = refl; mailbox = ap (λ (v : View T U). v.mailboxes p) e }) h.1 k1 in (
-        ap (view_of q) h.2 ∙ sender_seen a p x h.0
-            ∙ (λ i. sender_changed p x (e i) ((sides.0).ends i) ((sides.0).mailbox i))
-            ∙ sym (sender_seen b p x k.0) ∙ sym (ap (view_of q) k.2),
+        ap (view_of q) h.2 ∙ reset_seen a p x h.0
+            ∙ (λ i. sender_reset_view q p (sender_changed p x (e i) ((sides.0).ends i) ((sides.0).mailbox i)))
+            ∙ sym (reset_seen b p x k.0) ∙ sym (ap (view_of q) k.2),
         sides.1,
       ))
       (λ _ h k. (ap (view_of q) h.0 ∙ e ∙ sym (ap (view_of q) k.0), h.1 ∙ sym k.1)))

@@ -1,12 +1,15 @@
 -- What a subscriber sees of a state as one value, and what changes of the state do to it.
-use Rattle.std.proofs.Common.{◌≡◌, ℕ, true, false, cond, List, refl, sym, ap, ◌∙◌, Option, None, Some, eqb}
+use Rattle.std.proofs.Common.{◌≡◌, ℕ, Bool, true, false, cond, ◌||◌, List, refl, sym, ap, ◌∙◌, Option, None, Some, eqb}
 use Rattle.std.proofs.Math.Path.{fun_ext}
-use Rattle.std.specs.Option.{option_and_then}
-use Rattle.iox2_store.specs.machine.Numbers.{put_at}
+use Rattle.std.specs.Option.{option_and_then, option_map_or}
+use Rattle.iox2_store.specs.machine.Numbers.{put_at, contains}
+use Rattle.iox2_store.specs.machine.Places.{occupants}
+use Rattle.iox2_store.specs.machine.Channel.{Channel, new_channels, is_closed}
 use Rattle.iox2_store.specs.machine.Mailbox.{Mailbox}
 use Rattle.iox2_store.specs.machine.Records.{Loan, Publisher, Subscriber}
-use Rattle.iox2_store.specs.machine.State.{State, receiving_buffer}
+use Rattle.iox2_store.specs.machine.State.{State, receiving_buffer, channel_buffer, connected_publishers, channels_if_linked, sender_channels_reset, receiver_channels_reset}
 use Rattle.iox2_store.specs.declared.service_config.ServiceConfig.{ServiceConfig}
+use Rattle.std.proofs.lemmas.Bool.{eqb-true}
 use Rattle.iox2_laws.proofs.Puts.{put_at-same, put_at-other, at_each}
 use Rattle.iox2_commands.specs.Views.{PublicPart, public_part}
 
@@ -22,9 +25,10 @@ pub record View (T U : Type 0) : Type 0 where
   pub others : ℕ → Option PublicPart
   pub own : Option Subscriber
   pub mailboxes : ℕ → Mailbox
+  pub channels : ℕ → ℕ → Channel
 
 -- one row is changed
-pub row_put : (q : ℕ) (boxes : ℕ → ℕ → Mailbox) (p : ℕ) (row : ℕ → Mailbox) (i : ℕ) → put_at boxes p row i q ≡ put_at (λ k. boxes k q) p (row q) i
+pub row_put : {X : Type 0} (q : ℕ) (boxes : ℕ → ℕ → X) (p : ℕ) (row : ℕ → X) (i : ℕ) → put_at boxes p row i q ≡ put_at (λ k. boxes k q) p (row q) i
 row_put q boxes p row i = elim (eqb i p) as (λ b. (cond b row (boxes i)) q ≡ cond b (row q) (boxes i q)) [ true ↦ refl | false ↦ refl ]
 
 -- one mailbox of a row is changed
@@ -54,6 +58,7 @@ module _ {T U : Type 0} where
     others = λ r. public_part (s.subscribers r);
     own = s.subscribers q;
     mailboxes = λ p. s.mailboxes p q;
+    channels = λ p. s.channels p q;
   }
 
   -- a view with the same parts is the same
@@ -76,6 +81,45 @@ module _ {T U : Type 0} where
   pub receiving_buffer_seen : (s : State T U) (r : ℕ) → receiving_buffer s r ≡ buffer_seen (public_part (s.subscribers r))
   receiving_buffer_seen s r =
       elim (s.subscribers r) as (λ (o : Option Subscriber). option_and_then (λ (y : Subscriber). cond y.is_open (Some y.buffer) None) o ≡ buffer_seen (public_part o)) [ None ↦ refl | Some y ↦ refl ]
+
+  -- The buffer into which messages of p are put, in channel 0.
+  abbrev pub own_buffer : (q p : ℕ) → View T U → Option ℕ
+  own_buffer q p v = cond (is_closed (v.channels p 0)) None (buffer_seen (v.others q))
+
+  pub own_buffer_seen : (s : State T U) (p q : ℕ) → channel_buffer s p 0 q ≡ own_buffer q p (view_of q s)
+  own_buffer_seen s p q = ap (λ (o : Option ℕ). cond (is_closed (s.channels p q 0)) None o) (receiving_buffer_seen s q)
+
+  -- ---- channels of ports that aren't connected any more
+
+  -- p and the subscriber q are connected, told from the view of q.
+  abbrev pub linked_seen : (q : ℕ) → View T U → (p : ℕ) → Bool
+  linked_seen q v p =
+      option_map_or (λ (x : Publisher). contains (occupants x.ends) q) (v.publishers p) false
+      || option_map_or (λ (y : Subscriber). contains (connected_publishers y) p) v.own false
+
+  -- The view after the publisher p's channels were reset.
+  abbrev pub sender_reset_view : (q p : ℕ) → View T U → View T U
+  sender_reset_view q p v = record v { channels = put_at v.channels p (cond (linked_seen q v p) (v.channels p) new_channels) }
+
+  pub sender_reset_seen : (q : ℕ) (s : State T U) (p : ℕ) → view_of q (sender_channels_reset s p) ≡ sender_reset_view q p (view_of q s)
+  sender_reset_seen q s p = λ i. record (view_of q s) { channels = λ k. row_put q s.channels p (channels_if_linked s p) k i }
+
+  -- The view after q's own channels were reset, or another subscriber's, which change nothing of it.
+  abbrev pub receiver_reset_view : (q : ℕ) → (is_own : Bool) → View T U → View T U
+  receiver_reset_view q is_own v = record v { channels = λ p. cond is_own (cond (linked_seen q v p) (v.channels p) new_channels) (v.channels p) }
+
+  pub receiver_reset_seen : (q : ℕ) (s : State T U) (r : ℕ) → view_of q (receiver_channels_reset s r) ≡ receiver_reset_view q (eqb q r) (view_of q s)
+  receiver_reset_seen q s r = λ i. record (view_of q s) { channels = λ p. at p i }
+    where
+      at : (p : ℕ) → put_at (s.channels p) r (channels_if_linked s p r) q ≡ cond (eqb q r) (channels_if_linked s p q) (s.channels p q)
+      at p = elim (eqb q r) as (λ b. eqb q r ≡ b → cond b (channels_if_linked s p r) (s.channels p q) ≡ cond b (channels_if_linked s p q) (s.channels p q)) [
+        | true ↦ λ same. ap (channels_if_linked s p) (sym (eqb-true q r same))
+        | false ↦ λ _. refl
+      ] refl
+
+  -- so it isn't seen by others
+  pub receiver_reset_apart : (q r : ℕ) → eqb q r ≡ false → (s : State T U) → view_of q (receiver_channels_reset s r) ≡ view_of q s
+  receiver_reset_apart q r apart s = receiver_reset_seen q s r ∙ ap (λ b. receiver_reset_view q b (view_of q s)) apart
 
   -- so those are the same in states with the same view
   pub same_buffers : (q : ℕ) (a b : State T U) → view_of q a ≡ view_of q b → receiving_buffer a ≡ receiving_buffer b

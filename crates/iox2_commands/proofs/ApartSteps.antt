@@ -6,7 +6,7 @@ use Rattle.std.proofs.lemmas.Bool.{eq-eqb, true≢false}
 use Rattle.std.specs.Option.{option_map, option_map_or}
 use Rattle.iox2_store.specs.machine.Mailbox.{Mailbox, has_borrows}
 use Rattle.iox2_store.specs.machine.Records.{Subscriber, Environment}
-use Rattle.iox2_store.specs.machine.State.{State, with_mailbox, connected_publishers, subscriber_changed}
+use Rattle.iox2_store.specs.machine.State.{State, with_mailbox, connected_publishers, subscriber_changed, receiver_channels_reset}
 use Rattle.iox2_store.specs.machine.SubscriberUpdate.{ReceiverSide, UpdateSubscriber, with_receiver_side}
 use Rattle.iox2_store.specs.machine.Receives.{Receive, TakeSample, ReceiveResult, Got_sample, No_sample, Receive_error}
 use Rattle.iox2_store.specs.machine.Releases.{released, is_unused, pruned, unborrowed, subscriber_pruned, place_freed}
@@ -14,7 +14,7 @@ use Rattle.iox2_store.specs.declared.errors.ConnectionFailure.{ConnectionFailure
 use Rattle.iox2_laws.proofs.Cases.{by_option, by_bool}
 use Rattle.iox2_laws.proofs.Puts.{put_at-other, at_each, found_mapped}
 use Rattle.iox2_commands.specs.Views.{public_part}
-use Rattle.iox2_commands.proofs.AlikeViews.{view_of, same_parts, others_same, cell_other}
+use Rattle.iox2_commands.proofs.AlikeViews.{view_of, same_parts, others_same, cell_other, receiver_reset_apart}
 
 -- a change that leaves the public part
 pub public_map : (g : Subscriber → Subscriber) → ((y : Subscriber) → public_part (Some (g y)) ≡ public_part (Some y)) → (o : Option Subscriber)
@@ -44,11 +44,11 @@ module _ {T U : Type 0} where
       (λ _ apart e. all i z apart e) apart e
 
   -- a release of an open subscriber frees no place
-  released_is : (q : ℕ) (s : State T U) (p r n : ℕ) → r ≢ q → AllOpen q s → released s p r n ≡ subscriber_pruned (unborrowed s p r n) r
+  released_is : (q : ℕ) (s : State T U) (p r n : ℕ) → r ≢ q → AllOpen q s → released s p r n ≡ receiver_channels_reset (subscriber_pruned (unborrowed s p r n) r) r
   released_is q s p r n apart all =
       let used : is_unused (subscriber_pruned (unborrowed s p r n) r) r ≡ false =
       open_is_used q (subscriber_pruned (unborrowed s p r n) r) r apart (changed_open q (unborrowed s p r n) r (pruned (unborrowed s p r n) r) (λ y. refl) all) in
-      ap (λ (b : Bool). cond b (place_freed (subscriber_pruned (unborrowed s p r n) r) r) (subscriber_pruned (unborrowed s p r n) r)) used
+      ap (λ (b : Bool). receiver_channels_reset (cond b (place_freed (subscriber_pruned (unborrowed s p r n) r) r) (subscriber_pruned (unborrowed s p r n) r)) r) used
 
   module _ (q r : ℕ) (apart : eqb q r ≡ false) where
     side_apart : (s : State T U) (y : Subscriber) (side : ReceiverSide) → s.subscribers r ≡ Some y → view_of q (with_receiver_side s r y side) ≡ view_of q s
@@ -64,7 +64,7 @@ module _ {T U : Type 0} where
     update_apart environment s s' failure h =
         by_option (view_of q s' ≡ view_of q s) (s.subscribers r) _ _ h (λ _ v. absurd v) (λ y e h.
         by_bool (view_of q s' ≡ view_of q s) y.is_due _ _ h
-        (λ _ h. ap (view_of q) h.2 ∙ side_apart s y h.0 e)
+        (λ _ h. ap (view_of q) h.2 ∙ receiver_reset_apart q r apart (with_receiver_side s r y h.0) ∙ side_apart s y h.0 e)
         (λ _ h. ap (view_of q) h.0))
 
     -- a change of another subscriber's mailbox
@@ -94,5 +94,6 @@ module _ {T U : Type 0} where
     pub released_apart : (s : State T U) (p n : ℕ) → AllOpen q s → view_of q (released s p r n) ≡ view_of q s
     released_apart s p n all =
         ap (view_of q) (released_is q s p r n (λ same. true≢false (sym (eq-eqb q r (sym same)) ∙ apart)) all)
+        ∙ receiver_reset_apart q r apart (subscriber_pruned (unborrowed s p r n) r)
         ∙ pruned_apart (unborrowed s p r n) (pruned (unborrowed s p r n) r) (λ y. refl)
         ∙ mailbox_apart s p _

@@ -6,7 +6,7 @@ use Rattle.std.proofs.lemmas.Bool.{true≢false, cases_eq}
 use Rattle.std.proofs.lemmas.Option.{none-some, same_Some}
 use Rattle.iox2_store.specs.machine.Mailbox.{is_borrowed}
 use Rattle.iox2_store.specs.machine.Records.{Loan, Environment}
-use Rattle.iox2_store.specs.machine.State.{State, Messages, receiving_buffer}
+use Rattle.iox2_store.specs.machine.State.{State, Messages, channel_buffer}
 use Rattle.iox2_store.specs.machine.Delivery.{DeliveryEnd, Complete, Suspended}
 use Rattle.iox2_store.specs.machine.Loans.{is_initialized, initialized}
 use Rattle.iox2_store.specs.machine.Sends.{Send, Publish, DeliverAndConclude, ConcludeSend, SendResult, with_mailboxes, published}
@@ -50,7 +50,7 @@ module _ {T U : Type 0} where
   delivered_borrows environment s p n retries elapsed place ends count has_failed s' result h =
       by_option (SameBorrows s s') (s.publishers p) _ _ h (λ _ v. absurd v) (λ x present h.
       let are : (q : ℕ) → (h.1 q).borrowed ≡ (s.mailboxes p q).borrowed =
-      (deliver_keeps (λ i box. box.borrowed ≡ (s.mailboxes p i).borrowed) (λ i box same. same) environment s.config p x.backpressure_strategy x.backpressure_handler (receiving_buffer s) n
+      (deliver_keeps (λ i box. box.borrowed ≡ (s.mailboxes p i).borrowed) (λ i box same. same) environment s.config p x.backpressure_strategy x.backpressure_handler (channel_buffer s p 0) n
       (λ i buffer box same. same) retries elapsed place ends count has_failed (s.mailboxes p) h.0 h.1 (λ q. refl) h.2).0 in
       concluded (with_mailboxes s p h.1) h.0 (λ i q. at_each s.mailboxes p h.1 (λ i row. (row q).borrowed ≡ (s.mailboxes i q).borrowed) i (λ _. are q) (λ _. refl)) h.3)
     where

@@ -1,11 +1,10 @@
 -- Each call on a store comes to something, where memory is ample and handlers are fixed.
 use Rattle.std.proofs.Common.{◌≡◌, ◌⊎◌, inl, inr, ℕ, ◌+◌, ◌*◌, ◌^◌, ◌≤◌, ◌<◌, Bool, true, false, cond, List, [], ◌∷◌, ◌++◌, arith, refl, sym, ap, subst, ◌∙◌, Option, None, Some, eqb, ltb}
-use Rattle.std.specs.Prelude.{MatchOption, ◌||◌, max, nat_lt}
+use Rattle.std.specs.Prelude.{MatchOption, max, nat_lt}
 use Rattle.std.specs.Bool.{MatchBool}
-use Rattle.std.specs.List.{list_any}
 use Rattle.std.specs.Option.{option_map}
 use Rattle.std.specs.declared.time.Duration.{Duration}
-use Rattle.std.proofs.lemmas.Bool.{true≢false, eq-eqb, eqb-false, eqb-true, or_left, or_right, or_from, and_parts, ltb-true, ltb-false, le-ltb, lt-ltb}
+use Rattle.std.proofs.lemmas.Bool.{true≢false, eqb-false, eqb-true, or_from, and_parts, ltb-true, ltb-false, le-ltb, lt-ltb}
 use Rattle.std.proofs.lemmas.Nat.{mul-le}
 use Rattle.std.proofs.lemmas.Option.{none-some}
 use Rattle.std.proofs.lemmas.List.Folds.{list_any-append}
@@ -14,7 +13,7 @@ use Rattle.iox2_store.specs.machine.Numbers.{put_at, contains, size, without, la
 use Rattle.iox2_store.specs.machine.Places.{occupants, free_place}
 use Rattle.iox2_store.specs.machine.Mailbox.{Mailbox, can_receive, has_data, BorrowsFirst}
 use Rattle.iox2_store.specs.machine.Records.{Loan, Publisher, Subscriber, PublisherSettings, SubscriberSettings}
-use Rattle.iox2_store.specs.machine.State.{State, held, receiving_buffer, connected_publishers, with_mailbox, with_loan, publisher_changed}
+use Rattle.iox2_store.specs.machine.State.{State, held, channel_buffer, connected_publishers, with_mailbox, with_loan, publisher_changed, receiver_channels_reset}
 use Rattle.iox2_store.specs.machine.Delivery.{Deliver, DeliveryEnd, Complete, Suspended, no_time}
 use Rattle.iox2_store.specs.machine.PublisherUpdate.{UpdatePublisher}
 use Rattle.iox2_store.specs.machine.SubscriberUpdate.{UpdateSubscriber}
@@ -258,8 +257,8 @@ module _ {T U : Type 0} where
   pub delivers : (s : State T U) (p : ℕ) (x : Publisher) → s.publishers p ≡ Some x → IsFixed s → (n retries : ℕ) (elapsed : Duration) (place : ℕ) (ends : List (Option ℕ)) (count : ℕ) (has_failed : Bool)
       → ComesTo SendResult (DeliverAndConclude ample_memory s p n retries elapsed place ends count has_failed)
   delivers s p x present k n retries elapsed place ends count has_failed =
-      let d : ComesWith DeliveryEnd (ℕ → Mailbox) (Deliver ample_memory s.config p x.backpressure_strategy x.backpressure_handler (receiving_buffer s) n retries elapsed place ends count has_failed (s.mailboxes p)) (anything DeliveryEnd (ℕ → Mailbox)) =
-      deliver_comes s.config p x.backpressure_strategy x.backpressure_handler (k.handlers p x present) (receiving_buffer s) n retries elapsed place ends count has_failed (s.mailboxes p) in
+      let d : ComesWith DeliveryEnd (ℕ → Mailbox) (Deliver ample_memory s.config p x.backpressure_strategy x.backpressure_handler (channel_buffer s p 0) n retries elapsed place ends count has_failed (s.mailboxes p)) (anything DeliveryEnd (ℕ → Mailbox)) =
+      deliver_comes s.config p x.backpressure_strategy x.backpressure_handler (k.handlers p x present) (channel_buffer s p 0) n retries elapsed place ends count has_failed (s.mailboxes p) in
       let e : ComesTo SendResult (ConcludeSend (with_mailboxes s p d.1) p n d.0) = conclude_comes (with_mailboxes s p d.1) p n d.0 (record { message = k.message; handlers = k.handlers }) in
       (e.0, e.1, match_some (s.publishers p) x _ _ present (d.0, d.1, d.2, e.2), e.3)
 
@@ -346,10 +345,10 @@ module _ {T U : Type 0} where
 
   -- ---- releases and ports
 
-  freed_fixed : (s : State T U) (q : ℕ) → IsFixed s → IsFixed (freed_if_unused s q)
-  freed_fixed s q k = elim (is_unused s q) as (λ b. IsFixed (cond b (place_freed s q) s)) [
+  freed_fixed : (s : State T U) (q : ℕ) → IsFixed s → IsFixed (receiver_channels_reset (freed_if_unused s q) q)
+  freed_fixed s q k = elim (is_unused s q) as (λ b. IsFixed (receiver_channels_reset (cond b (place_freed s q) s) q)) [
     | true ↦ record { message = k.message; handlers = each_fixed s.publishers (λ x. record x { is_due = true }) k.handlers (λ x. refl) }
-    | false ↦ k
+    | false ↦ record { message = k.message; handlers = k.handlers }
   ]
 
   pub released_fixed : (s : State T U) (p q n : ℕ) → IsFixed s → IsFixed (released s p q n)

@@ -1,5 +1,5 @@
 -- Updates, deliveries and takes always come to something, where memory is ample and handlers are fixed.
-use Rattle.std.proofs.Common.{◌≡◌, inl, ℕ, ◌+◌, Bool, true, false, List, [], ◌∷◌, refl, sym, subst, Option, None, Some, eqb}
+use Rattle.std.proofs.Common.{◌≡◌, inl, ℕ, ◌+◌, Bool, true, false, List, [], ◌∷◌, refl, sym, Option, None, Some, eqb}
 use Rattle.std.specs.Prelude.{MatchOption, ◌||◌}
 use Rattle.std.specs.Bool.{MatchBool}
 use Rattle.std.specs.declared.time.Duration.{Duration}
@@ -9,10 +9,10 @@ use Rattle.iox2_store.specs.machine.Numbers.{put_at}
 use Rattle.iox2_store.specs.machine.Places.{occupant}
 use Rattle.iox2_store.specs.machine.Mailbox.{Mailbox, has_room, with_appended}
 use Rattle.iox2_store.specs.machine.Records.{Publisher, Subscriber, Handler, Fixed, Custom}
-use Rattle.iox2_store.specs.machine.State.{State, receiving_buffer, has_receiver_end, has_sender_end}
+use Rattle.iox2_store.specs.machine.State.{State, receiving_buffer, has_receiver_end, has_sender_end, sender_channels_reset, receiver_channels_reset}
 use Rattle.iox2_store.specs.machine.Connections.{ForEachPlace, first_failure, expired_buffer_full}
 use Rattle.iox2_store.specs.machine.Delivery.{PutResult, Accepted, Skipped, Failed, Would_block, DeliveryEnd, Complete, by_strategy, by_action, Decides, no_time, info_of, Put, PutAtEnd, Deliver}
-use Rattle.iox2_store.specs.machine.PublisherUpdate.{SenderSide, SenderAction, Keep_end, Drop_waiting, Disconnect, Connect, sender_action, dropped, disconnected, connected, Performs, UpdateSenderPlace, sender_side, with_sender_side, UpdatePublisher}
+use Rattle.iox2_store.specs.machine.PublisherUpdate.{SenderSide, SenderAction, Keep_end, Drop_waiting, Disconnect, Connect, sender_action, dropped, disconnected, connected, Performs, UpdateSenderPlace, sender_side, with_sender_side, history_for, UpdatePublisher}
 use Rattle.iox2_store.specs.machine.SubscriberUpdate.{ReceiverSide, retirement_of, is_refused, after_retirement, with_end, ConnectReceiver, Retire, ConnectAtPlace, DisconnectAtPlace, UpdateReceiverSide, receiver_side, with_receiver_side, UpdateSubscriber}
 use Rattle.iox2_store.specs.declared.service_config.ServiceConfig.{ServiceConfig}
 use Rattle.iox2_store.specs.declared.backpressure.BackpressureStrategy.{BackpressureStrategy}
@@ -125,28 +125,28 @@ module _ {T U : Type 0} where
   update_publisher_comes s p x present =
       let v : ComesWith (State T U) (Option ConnectionFailure) Updates (anything (State T U) (Option ConnectionFailure)) =
       comes_bool (State T U) (Option ConnectionFailure) (anything (State T U) (Option ConnectionFailure)) x.is_due
-      (λ s' failure. (side : SenderSide) × Walks side failure × (s' ≡ with_sender_side s p x side)) (λ s' failure. (s' ≡ s) × (failure ≡ None))
+      (λ s' failure. (side : SenderSide) × Walks side failure × (s' ≡ sender_channels_reset (with_sender_side s p x side) p)) (λ s' failure. (s' ≡ s) × (failure ≡ None))
       (λ _.
       let each : ComesWith SenderSide (Option ConnectionFailure) Walks (anything SenderSide (Option ConnectionFailure)) = for_each_comes AtPlace at_place 0 s.subscriber_places (sender_side s p x) in
-      (with_sender_side s p x each.0, each.1, (each.0, each.2, refl), tt))
+      (sender_channels_reset (with_sender_side s p x each.0) p, each.1, (each.0, each.2, refl), tt))
       (λ _. (s, None, (refl, refl), tt)) in
       (v.0, v.1, match_some (s.publishers p) x ⊥ _ present v.2)
     where
       AtPlace : (place : ℕ) → (at : Option ℕ) → SenderSide → SenderSide → Option ConnectionFailure → Type 0
-      AtPlace = UpdateSenderPlace ample_memory (s.config).service_id p x.degradation_handler x.history (receiving_buffer s) (has_receiver_end s p)
+      AtPlace = UpdateSenderPlace ample_memory (s.config).service_id p x.degradation_handler (history_for s p x) (receiving_buffer s) (has_receiver_end s p)
 
       Walks : SenderSide → Option ConnectionFailure → Type 0
       Walks = ForEachPlace AtPlace 0 s.subscriber_places (sender_side s p x)
 
       Updates : State T U → Option ConnectionFailure → Type 0
-      Updates s' failure = MatchBool x.is_due ((side : SenderSide) × Walks side failure × (s' ≡ with_sender_side s p x side)) ((s' ≡ s) × (failure ≡ None))
+      Updates s' failure = MatchBool x.is_due ((side : SenderSide) × Walks side failure × (s' ≡ sender_channels_reset (with_sender_side s p x side) p)) ((s' ≡ s) × (failure ≡ None))
 
       performs : (action : SenderAction) (place : ℕ) (side : SenderSide)
-          → ComesWith SenderSide (Option ConnectionFailure) (Performs ample_memory (s.config).service_id p x.degradation_handler x.history (receiving_buffer s) (has_receiver_end s p) action place side) (anything SenderSide (Option ConnectionFailure))
+          → ComesWith SenderSide (Option ConnectionFailure) (Performs ample_memory (s.config).service_id p x.degradation_handler (history_for s p x) (receiving_buffer s) (has_receiver_end s p) action place side) (anything SenderSide (Option ConnectionFailure))
       performs Keep_end place side = (side, None, (refl, refl), tt)
       performs (Drop_waiting q) place side = (dropped side q, None, (refl, refl), tt)
       performs Disconnect place side = (disconnected side place (occupant side.ends place), None, (refl, refl), tt)
-      performs (Connect q buffer) place side = (connected x.history (disconnected side place (occupant side.ends place)) place q buffer, None, inl (refl, refl), tt)
+      performs (Connect q buffer) place side = (connected (history_for s p x q) (disconnected side place (occupant side.ends place)) place q buffer, None, inl (refl, refl), tt)
 
       at_place : (place : ℕ) (at : Option ℕ) (side : SenderSide) → ComesWith SenderSide (Option ConnectionFailure) (AtPlace place at side) (anything SenderSide (Option ConnectionFailure))
       at_place place at side = performs (sender_action (receiving_buffer s) at (occupant side.ends place)) place side
@@ -162,7 +162,7 @@ module _ {T U : Type 0} where
       for_each_comes Connects connects 0 s.publisher_places (receiver_side s q y) in
       let later : ComesWith ReceiverSide (Option ConnectionFailure) (ForEachPlace Disconnects 0 s.publisher_places first.0) (anything ReceiverSide (Option ConnectionFailure)) =
       for_each_comes Disconnects disconnects 0 s.publisher_places first.0 in
-      (with_receiver_side s q y later.0, first_failure first.1 later.1, (later.0, (first.0, first.1, later.1, first.2, later.2, refl), refl), tt))
+      (receiver_channels_reset (with_receiver_side s q y later.0) q, first_failure first.1 later.1, (later.0, (first.0, first.1, later.1, first.2, later.2, refl), refl), tt))
       (λ _. (s, None, (refl, refl), tt)) in
       (v.0, v.1, match_some (s.subscribers q) y _ _ present v.2)
     where
@@ -176,7 +176,7 @@ module _ {T U : Type 0} where
       Updates s' failure = MatchBool y.is_due
           ((side : ReceiverSide)
           × UpdateReceiverSide ample_memory (s.config).service_id q y.degradation_handler (expired_limit s.config) (λ p. has_sender_end s p q) s.publisher_places (receiver_side s q y) side failure
-          × (s' ≡ with_receiver_side s q y side))
+          × (s' ≡ receiver_channels_reset (with_receiver_side s q y side) q))
           ((s' ≡ s) × (failure ≡ None))
 
       Any : ReceiverSide → Option ConnectionFailure → Type 0

@@ -9,9 +9,9 @@ use Rattle.iox2_store.specs.machine.Numbers.{put_at, contains, without, last_n}
 use Rattle.iox2_store.specs.machine.Places.{occupant, is_port}
 use Rattle.iox2_store.specs.machine.Mailbox.{Mailbox, numbers_in, is_borrowed, waiting_dropped, with_released}
 use Rattle.iox2_store.specs.machine.Records.{Loan, Publisher, Subscriber, Environment, BlockedSend, PublisherSettings, SubscriberSettings}
-use Rattle.iox2_store.specs.machine.State.{State, receiving_buffer, has_receiver_end, has_sender_end, is_present, with_mailbox, with_loan, publishers_due}
+use Rattle.iox2_store.specs.machine.State.{State, receiving_buffer, channel_buffer, has_receiver_end, has_sender_end, is_present, with_mailbox, with_loan, publishers_due}
 use Rattle.iox2_store.specs.machine.Delivery.{DeliveryEnd, Complete, Suspended, no_time}
-use Rattle.iox2_store.specs.machine.PublisherUpdate.{sender_side, UpdatePublisher}
+use Rattle.iox2_store.specs.machine.PublisherUpdate.{sender_side, UpdatePublisher, history_for}
 use Rattle.iox2_store.specs.machine.SubscriberUpdate.{receiver_side, UpdateSubscriber}
 use Rattle.iox2_store.specs.machine.Loans.{GrantLoan, loan_granted, loan_discarded, written}
 use Rattle.iox2_store.specs.machine.Sends.{Retry, GiveUp, Publish, DeliverAndConclude, ConcludeSend, SendResult, with_mailboxes, published, more_retries}
@@ -31,6 +31,7 @@ use Rattle.iox2_laws.proofs.Puts.{at_each, found_put, found_removed, found_mappe
 use Rattle.iox2_laws.proofs.NumberLemmas.{contains_in_append, contains_left, contains_right, contains_first, contains_one, contains_in_last_n, contains-without_other}
 use Rattle.iox2_laws.proofs.MailboxLemmas.{contains_in_released}
 use Rattle.iox2_commands.proofs.Traces.{IsGood, AreGood, good_dropped, good_borrowed, sender_side_good, receiver_side_good, deliver_good}
+use Rattle.iox2_laws.proofs.SenderSides.{in_history_for}
 
 -- What the commands of a run so far made: ports and loans from these numbers on are its own; it sent these messages of
 -- these publishers, and those numbers were never sent in it.
@@ -149,9 +150,9 @@ module _ {T U : Type 0} where
         by_bool (Follows scope s s') x.is_due _ _ h
         (λ _ h.
         let are : (q : ℕ) → IsGood (MayHold scope p q) (s.mailboxes p q) ((h.0).mailboxes q) =
-        sender_side_good (MayHold scope p) (s.mailboxes p) environment (s.config).service_id p x.degradation_handler x.history (receiving_buffer s)
+        sender_side_good (MayHold scope p) (s.mailboxes p) environment (s.config).service_id p x.degradation_handler (history_for s p x) (receiving_buffer s)
         (has_receiver_end s p)
-        (λ q k found _. (t.1 p x present own).0 k found) s.subscriber_places (sender_side s p x) h.0 failure (same_good s t.0 p) h.1 in
+        (λ q k found _. (t.1 p x present own).0 k (in_history_for s p x q k found)) s.subscriber_places (sender_side s p x) h.0 failure (same_good s t.0 p) h.1 in
         subst (Follows scope s) (sym h.2) (
           λ i q. at_each s.mailboxes p (h.0).mailboxes (λ i m. IsGood (MayHold scope i q) (s.mailboxes i q) (m q)) i (λ _. are q) (λ _. same_good s t.0 i q),
           put_publisher scope s.publishers p (record x { ends = (h.0).ends; is_due = false }) t.1 (λ low. t.1 p x present low),
@@ -317,7 +318,7 @@ module _ {T U : Type 0} where
     deliver_follows environment s p n retries elapsed place ends count has_failed s' result sent t h =
         by_option (Follows scope s s') (s.publishers p) _ _ h (λ _ v. absurd v) (λ x present k.
         let d : AreGood (MayHold scope p) (s.mailboxes p) k.1 × ((b : BlockedSend) → k.0 ≡ Suspended b → b.message ≡ n) =
-        deliver_good (MayHold scope p) (s.mailboxes p) environment s.config p x.backpressure_strategy x.backpressure_handler (receiving_buffer s) n (λ _ _. sent)
+        deliver_good (MayHold scope p) (s.mailboxes p) environment s.config p x.backpressure_strategy x.backpressure_handler (channel_buffer s p 0) n (λ _ _. sent)
         retries elapsed place ends count has_failed (s.mailboxes p) k.0 k.1 (same_good s t.0 p) k.2 in
         let f : Follows scope s (with_mailboxes s p k.1) =
         (λ i q. at_each s.mailboxes p k.1 (λ i m. IsGood (MayHold scope i q) (s.mailboxes i q) (m q)) i (λ _. d.0 q) (λ _. same_good s t.0 i q), t.1, t.2) in

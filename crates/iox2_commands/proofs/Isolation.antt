@@ -57,6 +57,7 @@ module _ {T U : Type 0} (q : ℕ) where
     others = λ r. ap (λ (v : View T U). v.others r) e;
     own = ap (λ (v : View T U). v.own) e;
     mailboxes = λ p. ap (λ (v : View T U). v.mailboxes p) e;
+    channels = λ p. ap (λ (v : View T U). v.channels p) e;
     messages = λ n. ap (λ (h : Messages T U). h n) f;
     handles = g;
   }
@@ -73,6 +74,7 @@ module _ {T U : Type 0} (q : ℕ) where
     others = λ r. v.others r i;
     own = v.own i;
     mailboxes = λ p. v.mailboxes p i;
+    channels = λ p. v.channels p i;
   }
 
   -- only what is sent changes the messages

@@ -7,7 +7,7 @@ use Rattle.std.proofs.lemmas.Option.{none-some, same_Some}
 use Rattle.iox2_store.specs.machine.Numbers.{put_at, contains, last_n, without, IsOnce}
 use Rattle.iox2_store.specs.machine.Mailbox.{Mailbox}
 use Rattle.iox2_store.specs.machine.Records.{Loan, Publisher, Subscriber, Environment, BlockedSend}
-use Rattle.iox2_store.specs.machine.State.{State, is_open, receiving_buffer, with_loan}
+use Rattle.iox2_store.specs.machine.State.{State, is_open, channel_buffer, with_loan}
 use Rattle.iox2_store.specs.machine.Delivery.{DeliveryEnd, Complete, Suspended, no_time}
 use Rattle.iox2_store.specs.machine.Sends.{SendResult, published, send_ended, send_blocked, with_mailboxes, ConcludeSend, DeliverAndConclude, Publish, Retry, GiveUp, more_retries}
 use Rattle.iox2_store.specs.machine.WellFormed.{LeadsTo, IsInjective, IsWellFormed, BlockedIsWellFormed}
@@ -154,7 +154,7 @@ module _ {T U : Type 0} where
           } in
           by_option (Ordered p0 n0 out got s') (t.publishers p) _ _ h (λ _ j. absurd j) (λ y _ j.
           conclude_ordered v.before v.last j.0 j.1 s' result
-          (deliver_in_order p0 (got p) v.before b.message environment t.config p y.backpressure_strategy y.backpressure_handler (receiving_buffer t)
+          (deliver_in_order p0 (got p) v.before b.message environment t.config p y.backpressure_strategy y.backpressure_handler (channel_buffer t p 0)
           retries elapsed place ends count has_failed (t.mailboxes p) j.0 j.1 apart start j.2)
           j.3)
 

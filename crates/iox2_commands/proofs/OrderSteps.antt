@@ -5,7 +5,7 @@ use Rattle.std.proofs.lemmas.Bool.{cond_both, true≢false}
 use Rattle.iox2_store.specs.machine.Numbers.{put_at, without}
 use Rattle.iox2_store.specs.machine.Mailbox.{Mailbox, waiting_dropped, with_released}
 use Rattle.iox2_store.specs.machine.Records.{Loan, Publisher, Subscriber, Environment}
-use Rattle.iox2_store.specs.machine.State.{State, with_loan, with_mailbox, subscriber_changed}
+use Rattle.iox2_store.specs.machine.State.{State, with_loan, with_mailbox, subscriber_changed, receiver_channels_reset, subscribers_due, sender_channels_reset}
 use Rattle.iox2_store.specs.machine.Loans.{GrantLoan, loan_granted, loan_discarded, written}
 use Rattle.iox2_store.specs.machine.SingleCalls.{GrantWrittenLoan}
 use Rattle.iox2_store.specs.machine.Releases.{released, unborrowed, subscriber_pruned, pruned, freed_if_unused, place_freed, is_unused}
@@ -17,6 +17,7 @@ use Rattle.iox2_laws.proofs.Puts.{at_each, found_put, found_removed, found_mappe
 use Rattle.iox2_commands.specs.Runs.{IsSubsequence}
 use Rattle.iox2_commands.proofs.Subsequences.{IsSubsequence-nil, IsSubsequence-refl}
 use Rattle.iox2_commands.proofs.Ordered.{Ordered, quiet_keeps, Quiet, WasPublisher, WasLoan, WasOpen, Waited, same_publisher, alike_publisher, same_loan, same_waiting}
+use Rattle.iox2_store.specs.machine.Channel.{Channel}
 
 -- ---- records that are found
 
@@ -171,6 +172,17 @@ module _ {T U : Type 0} (p0 : ℕ) where
     mailboxes = λ i j _. same_waiting p0 s i j (s.mailboxes i j) refl;
   }
 
+  -- channels don't matter
+  channels_quiet : (s : State T U) (channels : ℕ → ℕ → ℕ → Channel) → Quiet p0 s (record s { channels = channels })
+  channels_quiet s channels = record {
+    next_port = omega arith;
+    next_message = omega arith;
+    loans = same_loan p0 s;
+    publishers = same_publisher s (record s { channels = channels });
+    subscribers = λ q e. inl e;
+    mailboxes = λ p q _. same_waiting p0 s p q (s.mailboxes p q) refl;
+  }
+
   freed_quiet : (s : State T U) (q : ℕ) → Quiet p0 s (freed_if_unused s q)
   freed_quiet s q = cond_both (is_unused s q) (place_freed s q) s (Quiet p0 s) (λ _. place_freed_quiet s q) (λ _. quiet_refl s)
 
@@ -212,10 +224,13 @@ module _ {T U : Type 0} (p0 n0 : ℕ) (out : ℕ → List ℕ) (got : ℕ → �
       (λ l found e. subst (Ordered p0 n0 out got) (sym e) (quiet_keeps p0 n0 out got mid _ w' (loan_changed_quiet p0 mid s.next_message l (written l default_value) found refl))))
       (λ _ _ e. subst (Ordered p0 n0 out got) (sym e) w')
 
-  pruned_ordered : (s : State T U) (q : ℕ) → Ordered p0 n0 out got s → Ordered p0 n0 out got (freed_if_unused (subscriber_pruned s q) q)
+  pruned_ordered : (s : State T U) (q : ℕ) → Ordered p0 n0 out got s
+      → Ordered p0 n0 out got (receiver_channels_reset (freed_if_unused (subscriber_pruned s q) q) q)
   pruned_ordered s q w =
       let w' : Ordered p0 n0 out got (subscriber_pruned s q) = quiet_keeps p0 n0 out got s _ w (subscriber_changed_quiet p0 s q (pruned s q) (λ y. refl)) in
-      quiet_keeps p0 n0 out got (subscriber_pruned s q) _ w' (freed_quiet p0 (subscriber_pruned s q) q)
+      let t : State T U = freed_if_unused (subscriber_pruned s q) q in
+      let w'' : Ordered p0 n0 out got t = quiet_keeps p0 n0 out got (subscriber_pruned s q) t w' (freed_quiet p0 (subscriber_pruned s q) q) in
+      quiet_keeps p0 n0 out got t _ w'' (channels_quiet p0 t (receiver_channels_reset t q).channels)
 
   -- A sample is released.
   pub released_ordered : (s : State T U) (p q n : ℕ) → Ordered p0 n0 out got s → Ordered p0 n0 out got (released s p q n)
@@ -232,5 +247,7 @@ module _ {T U : Type 0} (p0 n0 : ℕ) (out : ℕ → List ℕ) (got : ℕ → �
       let gone : State T U = publisher_gone s p x in
       let w1 : Ordered p0 n0 out got gone = quiet_keeps p0 n0 out got s gone w (publisher_gone_quiet p0 s p x) in
       let w2 : Ordered p0 n0 out got (subscribers_pruned gone) = quiet_keeps p0 n0 out got gone _ w1 (subscribers_changed_quiet p0 gone (pruned gone) (λ q y. refl)) in
-      quiet_keeps p0 n0 out got (subscribers_pruned gone) _ w2
-      (subscribers_changed_quiet p0 (subscribers_pruned gone) (λ q y. record y { is_due = true }) (λ q y. refl))
+      let t : State T U = subscribers_due (subscribers_pruned gone) in
+      let w3 : Ordered p0 n0 out got t = quiet_keeps p0 n0 out got (subscribers_pruned gone) t w2
+      (subscribers_changed_quiet p0 (subscribers_pruned gone) (λ q y. record y { is_due = true }) (λ q y. refl)) in
+      quiet_keeps p0 n0 out got t _ w3 (channels_quiet p0 t (sender_channels_reset t p).channels)

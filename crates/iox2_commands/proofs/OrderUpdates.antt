@@ -1,16 +1,16 @@
 -- Steps in which nothing is sent or received: updates, and ports that are made.
-use Rattle.std.proofs.Common.{◌≡◌, ℕ, ◌≤◌, Bool, true, false, cond, List, refl, sym, ap, subst, ◌∙◌, arith, eqb, ◌⊎◌, inl, inr, ⊎_elim, Option, None, Some, is_some}
+use Rattle.std.proofs.Common.{◌≡◌, ℕ, ◌≤◌, Bool, true, false, cond, List, refl, sym, ap, subst, ◌∙◌, arith, eqb, ◌⊎◌, inl, inr, ⊎_elim, Option, None, Some, is_some, []}
 use Rattle.std.specs.Option.{option_and_then}
-use Rattle.std.proofs.lemmas.Bool.{true≢false, ne_eqb, eq-eqb}
+use Rattle.std.proofs.lemmas.Bool.{true≢false, cond_both}
 use Rattle.std.proofs.lemmas.Option.{none-some, same_Some, option_and_then_some}
 use Rattle.iox2_store.specs.machine.Limits.{expired_limit}
 use Rattle.iox2_store.specs.machine.Numbers.{last_n}
-use Rattle.iox2_store.specs.machine.Places.{occupant, set_place, is_port}
+use Rattle.iox2_store.specs.machine.Places.{occupant, is_port}
 use Rattle.iox2_store.specs.machine.Mailbox.{Mailbox, waiting_dropped, with_waiting}
 use Rattle.iox2_store.specs.machine.Records.{Publisher, Subscriber, Handler, Environment, PublisherSettings, SubscriberSettings}
-use Rattle.iox2_store.specs.machine.State.{State, receiving_buffer, has_receiver_end, has_sender_end, with_warning}
+use Rattle.iox2_store.specs.machine.State.{State, receiving_buffer, has_receiver_end, has_sender_end, with_warning, sender_channels_reset, receiver_channels_reset}
 use Rattle.iox2_store.specs.machine.Connections.{ForEachPlace}
-use Rattle.iox2_store.specs.machine.PublisherUpdate.{SenderSide, SenderAction, Keep_end, Drop_waiting, Disconnect, Connect, sender_action, dropped, disconnected, connected, Performs, UpdateSenderPlace, sender_side, with_sender_side, UpdatePublisher}
+use Rattle.iox2_store.specs.machine.PublisherUpdate.{SenderSide, SenderAction, Keep_end, Drop_waiting, Disconnect, Connect, sender_action, dropped, disconnected, connected, Performs, UpdateSenderPlace, sender_side, with_sender_side, history_for, UpdatePublisher}
 use Rattle.iox2_store.specs.machine.SubscriberUpdate.{ReceiverSide, Retirement, Keep_expired, Evict, Discard_data, Refuse, data_discarded, after_retirement, is_refused, retirement_of, with_end, ConnectReceiver, Retire, ConnectAtPlace, DisconnectAtPlace, UpdateReceiverSide, receiver_side, with_receiver_side, UpdateSubscriber}
 use Rattle.iox2_store.specs.machine.Ports.{FirstPublisherUpdate, FirstSubscriberUpdate, with_new_publisher, new_publisher, with_new_subscriber, new_subscriber, with_failure_warning, CreatePublisher, CreateSubscriber}
 use Rattle.iox2_store.specs.machine.WellFormed.{LeadsTo, IsInjective, IsWellFormed}
@@ -22,13 +22,14 @@ use Rattle.iox2_store.specs.declared.warning.Warning.{Warning}
 use Rattle.iox2_laws.proofs.Cases.{by_option, by_bool}
 use Rattle.iox2_laws.proofs.CallCases.{publisher_cases, subscriber_cases}
 use Rattle.iox2_laws.proofs.Puts.{at_each, found_put, put_at-same}
-use Rattle.iox2_laws.proofs.PlaceLemmas.{occupant-set_place, is_port-false, found_set}
+use Rattle.iox2_laws.proofs.PlaceLemmas.{is_port-false, found_set}
 use Rattle.iox2_laws.proofs.Walks.{for_each_place_keeps}
 use Rattle.iox2_commands.specs.Runs.{IsSubsequence}
-use Rattle.iox2_commands.proofs.Subsequences.{IsSubsequence-nil, IsSubsequence-refl, IsSubsequence-last_n}
+use Rattle.iox2_commands.proofs.Subsequences.{IsSubsequence-nil, IsSubsequence-refl, IsSubsequence-last_n, IsSubsequence-trans}
 use Rattle.iox2_commands.proofs.Ordered.{Ordered, quiet_keeps, Quiet, WasPublisher, WasOpen, Waited, same_publisher, same_loan, same_waiting}
 use Rattle.iox2_commands.proofs.OrderSteps.{quiet_refl, due_publisher, opened_mapped}
 use Rattle.iox2_laws.proofs.SenderSides.{end_stays, nothing_after}
+use Rattle.iox2_store.specs.machine.Channel.{is_closed}
 
 -- something is there
 there : {A : Type 0} (o : Option A) → is_some o ≡ true → (a : A) × (o ≡ Some a)
@@ -66,10 +67,10 @@ module _ (places : List (Option ℕ)) (buffers : ℕ → Option ℕ) (boxes : �
     waits = (dropped_in_order side q k).waits;
   }
 
-  connected_in_order : (side : SenderSide) (place q buffer : ℕ) → IsInjective places → occupant places place ≡ Some q → buffers q ≡ Some buffer
-      → occupant side.ends place ≡ None
-      → SideInOrder side → SideInOrder (connected history side place q buffer)
-  connected_in_order side place q buffer apart at opened free k =
+  connected_in_order : (ns : List ℕ) → IsSubsequence ns history → (side : SenderSide) (place q buffer : ℕ) → IsInjective places → occupant places place ≡ Some q
+      → buffers q ≡ Some buffer → occupant side.ends place ≡ None
+      → SideInOrder side → SideInOrder (connected ns side place q buffer)
+  connected_in_order ns part side place q buffer apart at opened free k =
       let nowhere : LeadsTo side.ends q → ⊥ = λ l.
       let same : l.0 ≡ place = apart l.0 place q (k.stands l.0 q buffer l.1 opened) at in
       none-some q (sym free ∙ ap (occupant side.ends) (sym same) ∙ l.1) in
@@ -77,13 +78,14 @@ module _ (places : List (Option ℕ)) (buffers : ℕ → Option ℕ) (boxes : �
         stands = λ i r b h o. ⊎_elim (λ new. ap (occupant places) new.0 ∙ at ∙ new.1) (λ old. k.stands i r b old.1 o) (found_set side.ends place (Some q) i r h);
         kept = λ r b o l. let l' : LeadsTo side.ends r = k.kept r b o l in
             (l'.0, end_stays side.ends place l'.0 r (Some q) (λ same. none-some r (sym free ∙ ap (occupant side.ends) (sym same) ∙ l'.1)) l'.1);
-        waits = λ r. at_each side.mailboxes q (with_waiting (last_n buffer history) (side.mailboxes q)) Comes r
-            (λ _. inr (ap is_some opened, (λ l. nowhere (k.kept q buffer opened l)), IsSubsequence-last_n buffer history)) (λ _. k.waits r);
+        waits = λ r. at_each side.mailboxes q (with_waiting (last_n buffer ns) (side.mailboxes q)) Comes r
+            (λ _. inr (ap is_some opened, (λ l. nowhere (k.kept q buffer opened l)), IsSubsequence-trans (IsSubsequence-last_n buffer ns) part)) (λ _. k.waits r);
       }
 
-  module _ (environment : Environment) (service_id p : ℕ) (handler : Handler DegradationAction) (has_end : ℕ → Bool) (apart : IsInjective places) where
+  module _ (environment : Environment) (service_id p : ℕ) (handler : Handler DegradationAction) (histories : ℕ → List ℕ) (part : (q : ℕ) → IsSubsequence (histories q) history)
+      (has_end : ℕ → Bool) (apart : IsInjective places) where
     abbrev Does : SenderAction → (place : ℕ) → SenderSide → SenderSide → Option ConnectionFailure → Type 0
-    Does = Performs environment service_id p handler history buffers has_end
+    Does = Performs environment service_id p handler histories buffers has_end
 
     performed_in_order : (place : ℕ) (at end : Option ℕ) (side side' : SenderSide) (failure : Option ConnectionFailure)
         → occupant places place ≡ at → occupant side.ends place ≡ end → SideInOrder side → Does (sender_action buffers at end) place side side' failure
@@ -109,15 +111,15 @@ module _ (places : List (Option ℕ)) (buffers : ℕ → Option ℕ) (boxes : �
                 let mid : SenderSide = disconnected side place (occupant side.ends place) in
                 let k' : SideInOrder mid = disconnected_in_order side place (occupant side.ends place) refl (gone other) k in
                 ⊎_elim
-                (λ made. subst SideInOrder (sym made.0) (connected_in_order mid place q buffer apart a opened (nothing_after side place (occupant side.ends place) refl) k'))
+                (λ made. subst SideInOrder (sym made.0) (connected_in_order (histories q) (part q) mid place q buffer apart a opened (nothing_after side place (occupant side.ends place) refl) k'))
                 (λ refused. subst SideInOrder (sym refused.3) (record { stands = k'.stands; kept = k'.kept; waits = k'.waits })) h
           ] refl
         ] refl h
 
     side_in_order : (side side' : SenderSide) (failure : Option ConnectionFailure) → SideInOrder side
-        → ForEachPlace (UpdateSenderPlace environment service_id p handler history buffers has_end) 0 places side side' failure → SideInOrder side'
+        → ForEachPlace (UpdateSenderPlace environment service_id p handler histories buffers has_end) 0 places side side' failure → SideInOrder side'
     side_in_order side side' failure k h =
-        for_each_place_keeps (UpdateSenderPlace environment service_id p handler history buffers has_end) SideInOrder places
+        for_each_place_keeps (UpdateSenderPlace environment service_id p handler histories buffers has_end) SideInOrder places
         (λ i side side' failure _ k h. performed_in_order i (occupant places i) (occupant side.ends i) side side' failure refl refl k h)
         side side' failure k h
 
@@ -194,6 +196,11 @@ module _ {T U : Type 0} (p0 : ℕ) where
       option_and_then_some (λ (y : Subscriber). cond y.is_open (Some y.buffer) None) (s.subscribers q) buffer opened
       (λ y e _. (w.subscriber_places).stands q i (rw e (ap Some ((w.publishers p x present).ends_stand i q y h e))))
 
+  -- what is handed out to a new receiver is the history, or nothing
+  part_of_history : (s : State T U) (p : ℕ) (x : Publisher) (q : ℕ) → IsSubsequence (history_for s p x q) x.history
+  part_of_history s p x q =
+      cond_both (is_closed (s.channels p q 0)) [] x.history (λ ns. IsSubsequence ns x.history) (λ _. IsSubsequence-nil x.history) (λ _. IsSubsequence-refl x.history)
+
   -- A publisher's update, where its ends to open subscribers stand at their places.
   update_quiet_from : (environment : Environment) (s : State T U) (p : ℕ) (x : Publisher) (s' : State T U) (failure : Option ConnectionFailure) → p0 ≤ p
       → s.publishers p ≡ Some x → x.blocked ≡ None → IsInjective s.subscriber_places
@@ -210,13 +217,13 @@ module _ {T U : Type 0} (p0 : ℕ) where
         waits = λ q. inl (IsSubsequence-refl (s.mailboxes p q).waiting);
       } in
       subst (Quiet p0 s) (sym h.2) (changed z found (ap (λ (v : Publisher). v.blocked) same ∙ unblocked) h.0
-      (side_in_order s.subscriber_places (receiving_buffer s) (s.mailboxes p) z.ends z.history environment (s.config).service_id p z.degradation_handler (has_receiver_end s p) apart
+      (side_in_order s.subscriber_places (receiving_buffer s) (s.mailboxes p) z.ends z.history environment (s.config).service_id p z.degradation_handler (history_for s p z) (part_of_history s p z) (has_receiver_end s p) apart
       (sender_side s p z) h.0 failure start h.1)))
       (λ _ h. subst (Quiet p0 s) (sym h.0) (quiet_refl p0 s)))
     where
       changed : (z : Publisher) → s.publishers p ≡ Some z → z.blocked ≡ None → (side : SenderSide)
-          → SideInOrder s.subscriber_places (receiving_buffer s) (s.mailboxes p) z.ends z.history side → Quiet p0 s (with_sender_side s p z side)
-      changed z found unblocked side k = let s' : State T U = with_sender_side s p z side in record {
+          → SideInOrder s.subscriber_places (receiving_buffer s) (s.mailboxes p) z.ends z.history side → Quiet p0 s (sender_channels_reset (with_sender_side s p z side) p)
+      changed z found unblocked side k = let s' : State T U = sender_channels_reset (with_sender_side s p z side) p in record {
         next_port = omega arith;
         next_message = omega arith;
         loans = same_loan p0 s;
@@ -253,12 +260,12 @@ module _ {T U : Type 0} (p0 : ℕ) where
       update_quiet_from environment s p x s' failure new present unblocked (places_apart s w) (ends_stand s w p x present) h
 
   with_receiver_side_quiet : (s : State T U) (q : ℕ) (y : Subscriber) (side : ReceiverSide) → s.subscribers q ≡ Some y → FewerWait (λ p. s.mailboxes p q) side
-      → Quiet p0 s (with_receiver_side s q y side)
+      → Quiet p0 s (receiver_channels_reset (with_receiver_side s q y side) q)
   with_receiver_side_quiet s q y side found k = record {
     next_port = omega arith;
     next_message = omega arith;
     loans = same_loan p0 s;
-    publishers = same_publisher s (with_receiver_side s q y side);
+    publishers = same_publisher s (receiver_channels_reset (with_receiver_side s q y side) q);
     subscribers = λ r. at_each s.subscribers q (Some (record y { ends = side.ends; expired = side.expired; is_due = side.is_due }))
         (λ j o. is_some (option_and_then (λ (v : Subscriber). cond v.is_open (Some v.buffer) None) o) ≡ true → WasOpen s j) r
         (λ _ e. inl (ap (λ o. is_some (option_and_then (λ (v : Subscriber). cond v.is_open (Some v.buffer) None) o)) found ∙ e)) (λ _ e. inl e);

@@ -5,7 +5,7 @@ use Rattle.std.specs.declared.time.Duration.{Duration}
 use Rattle.iox2_store.specs.machine.Numbers.{put_at, without, last_n}
 use Rattle.iox2_store.specs.machine.SingleCalls.{GrantWrittenLoan}
 use Rattle.iox2_store.specs.machine.Records.{Loan, Publisher, Subscriber, Environment, PublisherSettings, SubscriberSettings, BlockedSend}
-use Rattle.iox2_store.specs.machine.State.{State, with_loan, publisher_changed}
+use Rattle.iox2_store.specs.machine.State.{State, with_loan, publisher_changed, receiver_channels_reset}
 use Rattle.iox2_store.specs.machine.Delivery.{DeliveryEnd, Complete, Suspended, no_time}
 use Rattle.iox2_store.specs.machine.PublisherUpdate.{UpdatePublisher}
 use Rattle.iox2_store.specs.machine.SubscriberUpdate.{UpdateSubscriber}
@@ -93,21 +93,16 @@ module _ {T U : Type 0} where
       (λ f _ j. subst AllStatic (sym j.0) mid)
 
   -- a subscriber forgets departed publishers, and goes where it is unused
-  pruned_static : (s : State T U) (q : ℕ) → AllStatic s → AllStatic (freed_if_unused (subscriber_pruned s q) q)
+  pruned_static : (s : State T U) (q : ℕ) → AllStatic s → AllStatic (receiver_channels_reset (freed_if_unused (subscriber_pruned s q) q) q)
   pruned_static s q k = at (is_unused after q) where
     after : State T U
     after = subscriber_pruned s q
 
-    after_static : AllStatic after
-    after_static = record {
-      publishers = k.publishers;
-    }
-
-    at : (b : Bool) → AllStatic (cond b (place_freed after q) after)
+    at : (b : Bool) → AllStatic (receiver_channels_reset (cond b (place_freed after q) after) q)
     at true = record {
       publishers = map_each StaticPublisher s.publishers (λ x. record x { is_due = true }) k.publishers (λ x h. h);
     }
-    at false = after_static
+    at false = record { publishers = k.publishers }
 
   pub released_static : (s : State T U) (p q n : ℕ) → AllStatic s → AllStatic (released s p q n)
   released_static s p q n k = pruned_static (unborrowed s p q n) q (record { publishers = k.publishers })

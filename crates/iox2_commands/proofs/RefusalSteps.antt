@@ -8,7 +8,7 @@ use Rattle.iox2_store.specs.machine.Mailbox.{Mailbox, has_room}
 use Rattle.iox2_store.specs.machine.Places.{free_place}
 use Rattle.iox2_store.specs.machine.SingleCalls.{GrantWrittenLoan}
 use Rattle.iox2_store.specs.machine.Records.{Loan, Publisher, Subscriber, BlockedSend, Handler, Fixed, Custom, PublisherSettings, SubscriberSettings}
-use Rattle.iox2_store.specs.machine.State.{State, warned, receiving_buffer}
+use Rattle.iox2_store.specs.machine.State.{State, warned, channel_buffer}
 use Rattle.iox2_store.specs.machine.Delivery.{PutResult, DeliveryEnd, Complete, Suspended, Decides, Put, PutAtEnd, Deliver, is_blocking, is_failed, accepted_count, no_time}
 use Rattle.iox2_store.specs.machine.Loans.{GrantLoan, is_static, limit_error, loan_discarded}
 use Rattle.iox2_store.specs.machine.Sends.{Send, SendResult, Send_error, Publish, DeliverAndConclude, ConcludeSend, Retry, GiveUp, more_retries, published, with_mailboxes}
@@ -127,7 +127,7 @@ module _ {T U : Type 0} where
       option_maps (s.publishers p) _ _ _ _ h (λ v. v) (λ z _ h. (
         h.0,
         h.1,
-        deliver_ample s.config p z.backpressure_strategy z.backpressure_handler (receiving_buffer s) n retries elapsed place ends count has_failed (s.mailboxes p) h.0 h.1 h.2,
+        deliver_ample s.config p z.backpressure_strategy z.backpressure_handler (channel_buffer s p 0) n retries elapsed place ends count has_failed (s.mailboxes p) h.0 h.1 h.2,
         h.3,
       ))
 

@@ -5,9 +5,9 @@ use Rattle.std.specs.Bool.{MatchBool}
 use Rattle.iox2_store.specs.machine.Limits.{refusal_limit, expired_limit}
 use Rattle.iox2_store.specs.machine.Places.{occupant}
 use Rattle.iox2_store.specs.machine.Records.{Publisher, Subscriber, Handler, Environment}
-use Rattle.iox2_store.specs.machine.State.{State, Warnings, receiving_buffer, has_receiver_end, has_sender_end}
+use Rattle.iox2_store.specs.machine.State.{State, Warnings, receiving_buffer, has_receiver_end, has_sender_end, sender_channels_reset, receiver_channels_reset}
 use Rattle.iox2_store.specs.machine.Connections.{ForEachPlace, warnings_after}
-use Rattle.iox2_store.specs.machine.PublisherUpdate.{SenderSide, SenderAction, Keep_end, Drop_waiting, Disconnect, Connect, sender_action, disconnected, ConnectSender, Performs, UpdateSenderPlace, UpdatePublisher, sender_side, with_sender_side}
+use Rattle.iox2_store.specs.machine.PublisherUpdate.{SenderSide, SenderAction, Keep_end, Drop_waiting, Disconnect, Connect, sender_action, disconnected, ConnectSender, Performs, UpdateSenderPlace, UpdatePublisher, sender_side, with_sender_side, history_for}
 use Rattle.iox2_store.specs.machine.SubscriberUpdate.{ReceiverSide, Retirement, Keep_expired, Evict, Discard_data, Refuse, retirement_of, after_retirement, is_refused, with_end, ConnectReceiver, Retire, ConnectAtPlace, DisconnectAtPlace, UpdateReceiverSide, UpdateSubscriber, receiver_side, with_receiver_side}
 use Rattle.iox2_store.specs.machine.Environments.{fixed_handlers, ample_memory}
 use Rattle.iox2_store.specs.declared.degradation.DegradationAction.{DegradationAction}
@@ -55,14 +55,14 @@ module _ {Side : Type 0} (At At' : (place : ℕ) → (at : Option ℕ) → Side 
 
 -- ---- a publisher's update
 
-module _ (service_id p : ℕ) (handler : Handler DegradationAction) (history : List ℕ) (buffers : ℕ → Option ℕ) (has_end : ℕ → Bool) where
+module _ (service_id p : ℕ) (handler : Handler DegradationAction) (histories : ℕ → List ℕ) (buffers : ℕ → Option ℕ) (has_end : ℕ → Bool) where
   disconnected_warnings : (side : SenderSide) (place : ℕ) (end : Option ℕ) → (disconnected side place end).warnings ≡ side.warnings
   disconnected_warnings side place None = refl
   disconnected_warnings side place (Some q) = refl
 
   connect_sender_back : (side : SenderSide) (place q buffer : ℕ) (side' : SenderSide) (failure : Option ConnectionFailure)
-      → ConnectSender fixed_handlers service_id p handler history buffers has_end side place q buffer side' failure → TellNoRefusal side'.warnings
-      → ConnectSender ample_memory service_id p handler history buffers has_end side place q buffer side' failure × TellNoRefusal side.warnings
+      → ConnectSender fixed_handlers service_id p handler histories buffers has_end side place q buffer side' failure → TellNoRefusal side'.warnings
+      → ConnectSender ample_memory service_id p handler histories buffers has_end side place q buffer side' failure × TellNoRefusal side.warnings
   connect_sender_back side place q buffer side' failure h told =
       ⊎_elim
       (λ made. (inl made, subst (λ (z : SenderSide). TellNoRefusal z.warnings) made.0 told))
@@ -70,8 +70,8 @@ module _ (service_id p : ℕ) (handler : Handler DegradationAction) (history : L
       h
 
   performs_back : (action : SenderAction) (place : ℕ) (side side' : SenderSide) (failure : Option ConnectionFailure)
-      → Performs fixed_handlers service_id p handler history buffers has_end action place side side' failure → TellNoRefusal side'.warnings
-      → Performs ample_memory service_id p handler history buffers has_end action place side side' failure × TellNoRefusal side.warnings
+      → Performs fixed_handlers service_id p handler histories buffers has_end action place side side' failure → TellNoRefusal side'.warnings
+      → Performs ample_memory service_id p handler histories buffers has_end action place side side' failure × TellNoRefusal side.warnings
   performs_back Keep_end place side side' failure h told = (h, subst (λ (z : SenderSide). TellNoRefusal z.warnings) h.0 told)
   performs_back (Drop_waiting q) place side side' failure h told = (h, subst (λ (z : SenderSide). TellNoRefusal z.warnings) h.0 told)
   performs_back Disconnect place side side' failure h told =
@@ -81,21 +81,21 @@ module _ (service_id p : ℕ) (handler : Handler DegradationAction) (history : L
       (went.0, subst TellNoRefusal (disconnected_warnings side place (occupant side.ends place)) went.1)
 
   sender_place_back : (place : ℕ) (at : Option ℕ) (side side' : SenderSide) (failure : Option ConnectionFailure)
-      → UpdateSenderPlace fixed_handlers service_id p handler history buffers has_end place at side side' failure → TellNoRefusal side'.warnings
-      → UpdateSenderPlace ample_memory service_id p handler history buffers has_end place at side side' failure × TellNoRefusal side.warnings
+      → UpdateSenderPlace fixed_handlers service_id p handler histories buffers has_end place at side side' failure → TellNoRefusal side'.warnings
+      → UpdateSenderPlace ample_memory service_id p handler histories buffers has_end place at side side' failure × TellNoRefusal side.warnings
   sender_place_back place at side side' failure h told = performs_back (sender_action buffers at (occupant side.ends place)) place side side' failure h told
 
 module _ {T U : Type 0} (s s' : State T U) (p : ℕ) (failure : Option ConnectionFailure) (told : TellNoRefusal s'.warnings) where
   -- what the walk of a publisher's update comes to
   abbrev Walked : Environment → Publisher → (side : SenderSide) → Type 0
   Walked environment x side =
-      ForEachPlace (UpdateSenderPlace environment (s.config).service_id p x.degradation_handler x.history (receiving_buffer s) (has_receiver_end s p)) 0 s.subscriber_places (sender_side s p x) side failure
+      ForEachPlace (UpdateSenderPlace environment (s.config).service_id p x.degradation_handler (history_for s p x) (receiving_buffer s) (has_receiver_end s p)) 0 s.subscriber_places (sender_side s p x) side failure
 
-  walked_back : (x : Publisher) (side : SenderSide) → Walked fixed_handlers x side → s' ≡ with_sender_side s p x side → Walked ample_memory x side × TellNoRefusal s.warnings
+  walked_back : (x : Publisher) (side : SenderSide) → Walked fixed_handlers x side → s' ≡ sender_channels_reset (with_sender_side s p x side) p → Walked ample_memory x side × TellNoRefusal s.warnings
   walked_back x side walk is =
-      walk_back (UpdateSenderPlace fixed_handlers (s.config).service_id p x.degradation_handler x.history (receiving_buffer s) (has_receiver_end s p))
-      (UpdateSenderPlace ample_memory (s.config).service_id p x.degradation_handler x.history (receiving_buffer s) (has_receiver_end s p)) (λ (z : SenderSide). z.warnings)
-      (sender_place_back (s.config).service_id p x.degradation_handler x.history (receiving_buffer s) (has_receiver_end s p)) 0 s.subscriber_places (sender_side s p x) side failure
+      walk_back (UpdateSenderPlace fixed_handlers (s.config).service_id p x.degradation_handler (history_for s p x) (receiving_buffer s) (has_receiver_end s p))
+      (UpdateSenderPlace ample_memory (s.config).service_id p x.degradation_handler (history_for s p x) (receiving_buffer s) (has_receiver_end s p)) (λ (z : SenderSide). z.warnings)
+      (sender_place_back (s.config).service_id p x.degradation_handler (history_for s p x) (receiving_buffer s) (has_receiver_end s p)) 0 s.subscriber_places (sender_side s p x) side failure
       walk (subst TellNoRefusal (ap (λ (z : State T U). z.warnings) is) told)
 
   -- A publisher's update, after which the count is 0, was refused no memory.
@@ -199,7 +199,7 @@ module _ {T U : Type 0} (s s' : State T U) (q : ℕ) (failure : Option Connectio
   WalkedReceiver environment y side =
       UpdateReceiverSide environment (s.config).service_id q y.degradation_handler (expired_limit s.config) (λ p. has_sender_end s p q) s.publisher_places (receiver_side s q y) side failure
 
-  walked_receiver_back : (y : Subscriber) (side : ReceiverSide) → WalkedReceiver fixed_handlers y side → s' ≡ with_receiver_side s q y side
+  walked_receiver_back : (y : Subscriber) (side : ReceiverSide) → WalkedReceiver fixed_handlers y side → s' ≡ receiver_channels_reset (with_receiver_side s q y side) q
       → WalkedReceiver ample_memory y side × TellNoRefusal s.warnings
   walked_receiver_back y side walk is =
       receiver_side_back (s.config).service_id q y.degradation_handler (expired_limit s.config) (λ p. has_sender_end s p q) s.publisher_places (receiver_side s q y) side failure

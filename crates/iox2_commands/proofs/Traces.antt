@@ -62,13 +62,13 @@ module _ (Ok : ℕ → ℕ → Type 0) (old : ℕ → Mailbox) where
   good_with_dropped i box good = good_dropped (Ok i) (old i) box good
 
   -- A publisher's update puts numbers of its history alone into its mailboxes, and keeps what is borrowed.
-  pub sender_side_good : (environment : Environment) (service_id p : ℕ) (handler : Handler DegradationAction) (history : List ℕ) (buffers : ℕ → Option ℕ) (has_end : ℕ → Bool)
-      (ok : (i k : ℕ) → contains history k ≡ true → Ok i k)
+  pub sender_side_good : (environment : Environment) (service_id p : ℕ) (handler : Handler DegradationAction) (histories : ℕ → List ℕ) (buffers : ℕ → Option ℕ) (has_end : ℕ → Bool)
+      (ok : (i k : ℕ) → contains (histories i) k ≡ true → Ok i k)
       (places : List (Option ℕ)) (side side' : SenderSide) (failure : Option ConnectionFailure) → AreGood side.mailboxes
-      → ForEachPlace (UpdateSenderPlace environment service_id p handler history buffers has_end) 0 places side side' failure → AreGood side'.mailboxes
-  sender_side_good environment service_id p handler history buffers has_end ok =
-      sender_side_keeps Good good_with_dropped environment service_id p handler history buffers has_end
-      (λ i buffer box good. good_history (Ok i) (old i) box good buffer history (ok i))
+      → ForEachPlace (UpdateSenderPlace environment service_id p handler histories buffers has_end) 0 places side side' failure → AreGood side'.mailboxes
+  sender_side_good environment service_id p handler histories buffers has_end ok =
+      sender_side_keeps Good good_with_dropped environment service_id p handler histories buffers has_end
+      (λ i buffer box good. good_history (Ok i) (old i) box good buffer (histories i) (ok i))
 
   -- A subscriber's update puts nothing into its mailboxes, and keeps what is borrowed.
   pub receiver_side_good : (environment : Environment) (service_id q : ℕ) (handler : Handler DegradationAction) (limit : ℕ) (has_end : ℕ → Bool)

@@ -23,8 +23,8 @@ abbrev pub seen_handle : (q : ℕ) → Handle → Handle
 seen_handle q (Sample_handle p q' n) = cond (q' == q) (Sample_handle p q' n) No_handle
 seen_handle q handle = handle
 
--- Both have the same configuration, counters, places, publishers, loans and messages, the same record and mailboxes of q,
--- and the same handles but for other subscribers' samples. Of another subscriber only whether it is open, its place and
+-- Both have the same configuration, counters, places, publishers, loans and messages, the same record, mailboxes and
+-- channels of q, and the same handles but for other subscribers' samples. Of another subscriber only whether it is open, its place and
 -- its buffer are compared; warnings aren't.
 pub record SameView {T U : Type 0} (q : ℕ) (m : Messages T U) (s : State T U) (named : List Handle) (m' : Messages T U) (s' : State T U) (named' : List Handle) : Type 0 where
   pub config : s.config ≡ s'.config
@@ -37,6 +37,7 @@ pub record SameView {T U : Type 0} (q : ℕ) (m : Messages T U) (s : State T U) 
   pub others : (r : ℕ) → public_part (s.subscribers r) ≡ public_part (s'.subscribers r)
   pub own : s.subscribers q ≡ s'.subscribers q
   pub mailboxes : (p : ℕ) → s.mailboxes p q ≡ s'.mailboxes p q
+  pub channels : (p : ℕ) → s.channels p q ≡ s'.channels p q
   pub messages : (n : ℕ) → m n ≡ m' n
   pub handles : map (seen_handle q) named ≡ map (seen_handle q) named'
 

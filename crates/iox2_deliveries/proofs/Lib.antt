@@ -1,6 +1,8 @@
+mod StaticPass
 mod LoanPass
 mod ClearedSlots
-mod LendPass
+mod CountedPass
+mod ReadyPass
 mod GrowthPass
 mod GrowingPass
 pub mod SentEnds

@@ -1,1 +1,2 @@
 pub mod SendEnds
+pub mod ReadySlots

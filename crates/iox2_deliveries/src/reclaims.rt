@@ -31,6 +31,7 @@ pub(crate) fn reclaim_if_full(
     ensures book { book.new ≡ with_counters book.old book.new.holders }
     ensures reclaims { Reclaims publisher.now.id book.old.holders connections.old book.new.holders connections.new }
     ensures all { All (λ n. 0 < n) book.new.holders → HasReclaimed connections.new publisher.now.keys }
+    ensures kept { (All (λ n. 0 < n) book.old.holders → ⊥) → book.new ≡ book.old }
 {
     if book.is_full() {
         reclaim_into(publisher, connections, book);

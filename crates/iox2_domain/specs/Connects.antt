@@ -6,7 +6,7 @@ use Rattle.std.specs.Option.{option_map}
 use Rattle.slab.specs.Slab.{get}
 use Rattle.iox2_slots.specs.Link.{Link, load}
 use Rattle.iox2_store.specs.machine.Places.{occupant}
-use Rattle.iox2_store.specs.machine.PublisherUpdate.{SenderSide, UpdateSenderPlace, connected, sender_side, with_sender_side, UpdatePublisher}
+use Rattle.iox2_store.specs.machine.PublisherUpdate.{SenderSide, UpdateSenderPlace, connected, history_for, sender_side, with_sender_side, UpdatePublisher}
 use Rattle.iox2_store.specs.machine.Records.{Entry, Environment}
 use Rattle.iox2_store.specs.machine.State.{State, receiving_buffer, has_receiver_end}
 use Rattle.iox2_store.specs.declared.errors.ConnectionFailure.{ConnectionFailure}
@@ -15,6 +15,8 @@ use Rattle.iox2_domain.specs.Kept.{state_of, entries_of}
 use Rattle.iox2_domain.specs.Fields.{Fields, kept_of, publisher_of}
 use Rattle.iox2_domain.specs.Invariant.{IsDomain}
 use Rattle.iox2_domain.specs.Updates.{changed_at, with_sender_room, with_receiver_rooms, sender_room, receiver_room, expired_room_at, subscriber_but_room}
+use Rattle.iox2_domain.specs.KeptLinks.{ChannelsFollow}
+use Rattle.iox2_domain.specs.Midway.{with_channels_of}
 use Rattle.iox2_domain.specs.Reaches.{Reaches}
 
 module _ {T U : Type 0} where
@@ -29,6 +31,15 @@ module _ {T U : Type 0} where
       subscribers = changed_at (with_receiver_rooms (receiver_room f'.subscribers j) (expired_room_at f'.subscribers j)) f.subscribers j;
       connections = f'.connections;
     }
+
+  -- What the publisher x hands out to each new receiver: its history, but for one whose channel is closed.
+  abbrev pub histories_of : Fields T U → PublisherFields → ℕ → List ℕ
+  histories_of f x q = history_for (state_of (kept_of f)) x.id (publisher_of f.books f.connections x).port q
+
+  -- Of the connections of the publisher x some were made, and others lost whose subscribers are gone; all others keep their
+  -- channels.
+  abbrev pub SenderChannelsFollow : Fields T U → PublisherFields → Fields T U → Type 0
+  SenderChannelsFollow f x f' = ChannelsFollow (λ home. home.publisher ≡ x.id) (λ p q. (state_of (kept_of f)).subscribers q ≡ None) f.connections f'.connections
 
 module _ {T U : Type 0} (environment : Environment) where
   -- The publisher x at the place i, which isn't due, has got its end at the subscriber's place j, through the connection at
@@ -45,11 +56,12 @@ module _ {T U : Type 0} (environment : Environment) where
     pub is_its : link.home.publisher ≡ x.id
     pub empty : load link ≡ 0
     pub steps : UpdateSenderPlace environment (f.config).service_id x.id (publisher_of f.books f.connections x).port.degradation_handler
-        (publisher_of f.books f.connections x).port.history (receiving_buffer (state_of (kept_of f))) (has_receiver_end (state_of (kept_of f)) x.id)
+        (histories_of f x) (receiving_buffer (state_of (kept_of f))) (has_receiver_end (state_of (kept_of f)) x.id)
         j (occupant (state_of (kept_of f)).subscriber_places j) (sender_side (state_of (kept_of f)) x.id (publisher_of f.books f.connections x).port)
-        (connected (publisher_of f.books f.connections x).port.history (sender_side (state_of (kept_of f)) x.id (publisher_of f.books f.connections x).port) j link.home.subscriber link.buffer) None
+        (connected (histories_of f x link.home.subscriber) (sender_side (state_of (kept_of f)) x.id (publisher_of f.books f.connections x).port) j link.home.subscriber link.buffer) None
     pub state : state_of (kept_of f') ≡ with_sender_side (state_of (kept_of f)) x.id (publisher_of f.books f.connections x).port
         (connected [] (sender_side (state_of (kept_of f)) x.id (publisher_of f.books f.connections x).port) j link.home.subscriber link.buffer)
+    pub channels : SenderChannelsFollow f x f'
 
   -- The publisher x at the place i, which isn't due, has done the machine's step at the subscriber's place j, with this failure
   -- if any, and nothing changed but its keys, connections, counters of slots, warnings and the room for keys.
@@ -61,9 +73,10 @@ module _ {T U : Type 0} (environment : Environment) where
     pub others : map (option_map subscriber_but_room) f'.subscribers ≡ map (option_map subscriber_but_room) f.subscribers
     pub side : SenderSide
     pub steps : UpdateSenderPlace environment (f.config).service_id x.id (publisher_of f.books f.connections x).port.degradation_handler
-        (publisher_of f.books f.connections x).port.history (receiving_buffer (state_of (kept_of f))) (has_receiver_end (state_of (kept_of f)) x.id)
+        (histories_of f x) (receiving_buffer (state_of (kept_of f))) (has_receiver_end (state_of (kept_of f)) x.id)
         j (occupant (state_of (kept_of f)).subscriber_places j) (sender_side (state_of (kept_of f)) x.id (publisher_of f.books f.connections x).port) side failure
-    pub state : state_of (kept_of f') ≡ with_sender_side (state_of (kept_of f)) x.id (publisher_of f.books f.connections x).port side
+    pub state : state_of (kept_of f') ≡ with_channels_of f' (with_sender_side (state_of (kept_of f)) x.id (publisher_of f.books f.connections x).port side)
+    pub channels : SenderChannelsFollow f x f'
     pub entries : (n : ℕ) (entry : Entry T U) → entries_of (kept_of f') n ≡ Some entry → entries_of (kept_of f) n ≡ Some entry
 
   -- The publisher x at the place i is updated, with this failure if any, and nothing changed but its keys, its mark,

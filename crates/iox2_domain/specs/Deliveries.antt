@@ -20,7 +20,7 @@ use Rattle.iox2_ends.specs.declared.sender.Progress.{Progress}
 use Rattle.iox2_ends.specs.declared.sender.DeliveryOutcome.{DeliveryOutcome}
 use Rattle.iox2_ends.specs.Mailboxes.{mailboxes_of, sender_ends}
 use Rattle.std.specs.declared.time.Duration.{Duration}
-use Rattle.iox2_ends.specs.Receivers.{buffers_of}
+use Rattle.iox2_ends.specs.Receivers.{taking_buffers}
 use Rattle.iox2_ends.specs.Recounts.{Recounts}
 use Rattle.iox2_domain.specs.Ports.{PublisherFields}
 use Rattle.iox2_domain.specs.Kept.{state_of, entries_of}
@@ -38,7 +38,7 @@ pub record DeliversFrom {T U : Type 0} (environment : Environment) (old : Fields
   pub recounts : Recounts x.id book.holders old.connections holders connections
   pub alone : GrowsAlone slot book.holders holders
   pub delivers : (number : ℕ → ℕ → ℕ)
-      → Deliver environment old.config x.id x.strategy x.backpressure_handler (buffers_of (map (option_map details_of) old.subscribers)) (number x.id slot)
+      → Deliver environment old.config x.id x.strategy x.backpressure_handler (taking_buffers old.connections x.id (map (option_map details_of) old.subscribers)) (number x.id slot)
       start.retries elapsed start.place (drop start.place (sender_ends old.connections x.keys)) start.count start.has_failed (mailboxes_of number old.connections x.id)
       (end_of (number x.id slot) (sender_ends old.connections x.keys) outcome) (mailboxes_of number connections x.id)
 

@@ -9,11 +9,14 @@ use Rattle.iox2_store.specs.machine.Places.{occupant, set_place}
 use Rattle.iox2_store.specs.machine.PublisherUpdate.{disconnected, sender_side, with_sender_side}
 use Rattle.iox2_store.specs.machine.Records.{Entry}
 use Rattle.iox2_store.specs.machine.State.{State}
+use Rattle.iox2_ends.specs.Homes.{SameHomes}
 use Rattle.iox2_ends.specs.Mailboxes.{with_box}
 use Rattle.iox2_domain.specs.Ports.{PublisherFields, SubscriberFields}
 use Rattle.iox2_domain.specs.Kept.{state_of, entries_of}
 use Rattle.iox2_domain.specs.Fields.{Fields, kept_of, publisher_of}
 use Rattle.iox2_domain.specs.Invariant.{IsDomain}
+use Rattle.iox2_domain.specs.KeptLinks.{ChannelsFollow}
+use Rattle.iox2_domain.specs.Midway.{with_channels_of}
 
 -- No subscriber stands at the place j with this id.
 abbrev pub StandsElsewhere : List (Option SubscriberFields) → (j q : ℕ) → Type 0
@@ -42,6 +45,7 @@ module _ {T U : Type 0} where
   pub record LosesWaiting (f : Fields T U) (x : PublisherFields) (c : Link) (f' : Fields T U) : Type 0 where
     pub agrees : IsDomain f'
     pub fields : f' ≡ record f { connections = f'.connections; books = f'.books }
+    pub homes : SameHomes f.connections f'.connections
     pub state : state_of (kept_of f') ≡ with_waiting_dropped f x c
     pub entries : (n : ℕ) (entry : Entry T U) → entries_of (kept_of f') n ≡ Some entry → entries_of (kept_of f) n ≡ Some entry
 
@@ -50,6 +54,7 @@ module _ {T U : Type 0} where
   pub record LosesSenderEnd (f : Fields T U) (i j : ℕ) (x : PublisherFields) (f' : Fields T U) : Type 0 where
     pub agrees : IsDomain f'
     pub fields : f' ≡ record f { publishers = slice_set f.publishers i (Some (record x { keys = set_place x.keys j None })); connections = f'.connections; books = f'.books }
-    pub state : state_of (kept_of f') ≡ with_sender_side (state_of (kept_of f)) x.id (publisher_of f.books f.connections x).port
-        (disconnected (sender_side (state_of (kept_of f)) x.id (publisher_of f.books f.connections x).port) j (occupant (publisher_of f.books f.connections x).port.ends j))
+    pub channels : ChannelsFollow (λ home. home.publisher ≡ x.id) (λ p q. (state_of (kept_of f)).subscribers q ≡ None) f.connections f'.connections
+    pub state : state_of (kept_of f') ≡ with_channels_of f' (with_sender_side (state_of (kept_of f)) x.id (publisher_of f.books f.connections x).port
+        (disconnected (sender_side (state_of (kept_of f)) x.id (publisher_of f.books f.connections x).port) j (occupant (publisher_of f.books f.connections x).port.ends j)))
     pub entries : (n : ℕ) (entry : Entry T U) → entries_of (kept_of f') n ≡ Some entry → entries_of (kept_of f) n ≡ Some entry

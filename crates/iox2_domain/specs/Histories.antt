@@ -8,6 +8,7 @@ use Rattle.iox2_store.specs.machine.Numbers.{last_n}
 use Rattle.iox2_store.specs.machine.Records.{Entry}
 use Rattle.iox2_store.specs.machine.State.{State}
 use Rattle.iox2_store.specs.machine.WellFormed.{IsWellFormed}
+use Rattle.iox2_ends.specs.Homes.{SameHomes}
 use Rattle.iox2_ends.specs.Mailboxes.{with_box}
 use Rattle.iox2_domain.specs.Ports.{PublisherFields}
 use Rattle.iox2_domain.specs.Kept.{state_of, entries_of}
@@ -38,5 +39,6 @@ module _ {T U : Type 0} where
   pub record HandsOut (f : Fields T U) (x : PublisherFields) (c : Link) (f' : Fields T U) : Type 0 where
     pub agrees : IsDomain f'
     pub fields : f' ≡ record f { connections = f'.connections; books = f'.books }
+    pub homes : SameHomes f.connections f'.connections
     pub state : state_of (kept_of f') ≡ with_history_waiting f x c
     pub entries : (n : ℕ) (entry : Entry T U) → entries_of (kept_of f') n ≡ Some entry → entries_of (kept_of f) n ≡ Some entry

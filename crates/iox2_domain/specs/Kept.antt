@@ -3,12 +3,14 @@ use Rattle.std.specs.Prelude.{ℕ, Bool, ◌&&◌, ◌==◌, cond, List, [], ◌
 use Rattle.std.specs.declared.option.Option.{Option}
 use Rattle.std.specs.declared.option.Option.TheVariants.{None, Some}
 use Rattle.std.specs.Option.{option_map, option_and_then}
+use Rattle.iox2_store.specs.machine.Channel.{Channel, new_channels}
 use Rattle.iox2_store.specs.machine.Mailbox.{Mailbox, empty_mailbox}
 use Rattle.iox2_store.specs.machine.Records.{Entry, Loan, Publisher, Subscriber}
 use Rattle.iox2_store.specs.machine.State.{State, Warnings, Messages}
 use Rattle.iox2_store.specs.declared.header.Header.{Header}
 use Rattle.iox2_store.specs.declared.service_config.ServiceConfig.{ServiceConfig}
 use Rattle.iox2_ends.specs.LookUp.{look_up}
+use Rattle.iox2_ends.specs.Mailboxes.{channels_of}
 use Rattle.iox2_domain.specs.Boxes.{DomainBoxes}
 
 -- A port and its id.
@@ -21,6 +23,7 @@ pub record Between : Type 0 where
   pub publisher : ℕ
   pub subscriber : ℕ
   pub box : Mailbox
+  pub channel : Channel
 
 -- What lies in a slot, with its number: a loan, or a message that was sent.
 pub data KeptMessage (T U : Type 0) : Type 0 where
@@ -66,6 +69,11 @@ stands_between p q c = (c.publisher == p) && (c.subscriber == q)
 abbrev pub box_if_any : Option Between → Mailbox
 box_if_any None = empty_mailbox
 box_if_any (Some c) = c.box
+
+-- The channels, or new ones.
+abbrev pub channels_if_between : Option Between → ℕ → Channel
+channels_if_between None = new_channels
+channels_if_between (Some c) = channels_of c.channel
 
 -- ---- messages
 
@@ -124,6 +132,7 @@ module _ {T U F G : Type 0} where
     publishers = λ p. port_named p kept.publishers;
     subscribers = λ q. port_named q kept.subscribers;
     mailboxes = λ p q. box_if_any (look_up (stands_between p q) kept.connections);
+    channels = λ p q. channels_if_between (look_up (stands_between p q) kept.connections);
     publisher_places = ids kept.publishers;
     subscriber_places = ids kept.subscribers;
     warnings = kept.warnings;

@@ -1,4 +1,5 @@
 pub mod Boxes
+pub mod ChannelChanges
 pub mod Handlers
 pub mod Ports
 pub mod Kept
@@ -17,6 +18,7 @@ pub mod Lending
 pub mod Growth
 pub mod Updates
 pub mod Departures
+pub mod KeptLinks
 pub mod Midway
 pub mod NewPublisher
 pub mod SubscriberEntry

@@ -5,6 +5,7 @@ use Rattle.slab.specs.Slab.{Slab, get}
 use Rattle.iox2_slots.specs.Link.{Link}
 use Rattle.iox2_domain.specs.Fields.{Fields, kept_of}
 use Rattle.iox2_domain.specs.Invariant.{IsDomain}
+use Rattle.iox2_domain.specs.KeptLinks.{SameChannels}
 
 -- No connection with the publisher's place i is marked as open.
 pub record IsUnmarkedSender (connections : Slab Link) (i : ℕ) : Type 0 where
@@ -19,6 +20,7 @@ pub record ChangesMarks {T U : Type 0} (f f' : Fields T U) : Type 0 where
   pub agrees : IsDomain f'
   pub fields : f' ≡ record f { connections = f'.connections }
   pub kept : kept_of f' ≡ kept_of f
+  pub same : SameChannels f.connections f'.connections
 
 -- The same, and no connection was newly marked as open.
 pub record ClearsMarks {T U : Type 0} (f f' : Fields T U) : Type 0 where

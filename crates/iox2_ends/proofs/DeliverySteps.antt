@@ -1,12 +1,13 @@
 -- One put of a delivery, seen from the machine.
-use Rattle.std.proofs.Common.{◌≡◌, ◌<◌, ◌≤◌, ◌+◌, length, drop, ℕ, List, [], ◌∷◌, Bool, true, false, ◌&&◌, ◌||◌, eqb, nat_lt, Option, None, Some, get_or, refl, ap, sym, ◌∙◌, subst, arith}
+use Rattle.std.proofs.Common.{◌≡◌, ◌<◌, ◌≤◌, ◌+◌, length, drop, ℕ, List, [], ◌∷◌, Bool, true, false, cond, not, ◌&&◌, ◌||◌, eqb, nat_lt, Option, None, Some, get_or, refl, ap, sym, ◌∙◌, subst, inl, inr, ◌⊎◌, arith}
 use Rattle.std.proofs.lemmas.Bool.{eqb-true, ne_eqb}
 use Rattle.std.proofs.lemmas.List.{drop_more, drop_all, map-append, length-map}
 use Rattle.std.proofs.Math.ListN.{get_or-map}
 use Rattle.std.specs.Option.{option_map, option_and_then}
 use Rattle.std.specs.Prelude.{IsSomeAnd}
 use Rattle.slab.specs.Slab.{Slab, get, with_value, ContainsKey}
-use Rattle.iox2_slots.specs.Link.{Link, IsPut}
+use Rattle.iox2_slots.specs.Link.{Link, is_shut, IsPut}
+use Rattle.iox2_store.specs.machine.Channel.{Channel, is_closed}
 use Rattle.iox2_store.specs.machine.Mailbox.{Mailbox}
 use Rattle.iox2_store.specs.machine.Records.{Environment}
 use Rattle.iox2_store.specs.machine.Delivery.{PutResult, Skipped, DeliveryEnd, Put, is_blocking, is_failed, accepted_count}
@@ -20,13 +21,13 @@ use Rattle.iox2_ends.specs.declared.sender.Delivery.{Delivery}
 use Rattle.iox2_ends.specs.declared.sender.Reception.{Reception}
 use Rattle.iox2_ends.specs.declared.sender.DeliveryOutcome.{DeliveryOutcome}
 use Rattle.iox2_ends.specs.LookUp.{look_up, IsOnly}
-use Rattle.iox2_ends.specs.Mailboxes.{mailbox_of, mailboxes_of, subscriber_of_key, sender_ends}
-use Rattle.iox2_ends.specs.Homes.{SameHomes, KeepsOthers, IsSenders, IsSenderLinked, fixed_of}
-use Rattle.iox2_ends.specs.Receivers.{has_id, buffer_if_open, buffers_of, is_open_one, is_open_at, KnowsReceivers, IsReadyToDeliver}
+use Rattle.iox2_ends.specs.Mailboxes.{mailbox_of, mailboxes_of, channels_of, channels_in, subscriber_of_key, sender_ends}
+use Rattle.iox2_ends.specs.Homes.{IsApart, SameHomes, KeepsOthers, IsSenders, IsSenderLinked, fixed_of}
+use Rattle.iox2_ends.specs.Receivers.{has_id, buffer_if_open, buffers_of, taking_buffers, is_open_one, is_open_at, takes_at, KnowsReceivers, IsReadyToDeliver}
 use Rattle.iox2_ends.specs.Handlers.{marks_of}
 use Rattle.iox2_ends.specs.Deliveries.{result_of, end_of, retries_at, elapsed_at, ComesTo, PutsMessage, DeliversMessage}
 use Rattle.iox2_ends.proofs.LookUps.{look_up-found, look_up-there}
-use Rattle.iox2_ends.proofs.MailboxChanges.{Updates-with_value, SameHomes-updated, KeepsOthers-updated, was, IsApart-same, both-true, mailbox-there, row-changed, put_at-own}
+use Rattle.iox2_ends.proofs.MailboxChanges.{Updates-with_value, SameHomes-updated, KeepsOthers-updated, was, IsApart-same, both-true, mailbox-there, channels-there, channels-same, row-changed, put_at-own}
 use mathlib.Core.Path.{fun_ext}
 
 -- ---- the connection at a place
@@ -75,6 +76,31 @@ buffers-closed slab receivers key c knows at not_receiving = by (look_up (has_id
       let shut : (eqb y.port_id c.home.subscriber && y.is_open) ≡ false = rw here at not_receiving in
       rw (rw found.2 at shut) refl
 
+-- what a connection that takes messages says of its receiver and of its channel
+takes-both : (receivers : List (Option ReceiverDetails)) (i : ℕ) (c : Link) → takes_at receivers i c ≡ true → (is_open_at receivers i c.home.subscriber ≡ true) × (not (is_shut c) ≡ true)
+takes-both receivers i c h = both-true (is_open_at receivers i c.home.subscriber) (not (is_shut c)) h
+
+takes-open : (receivers : List (Option ReceiverDetails)) (i : ℕ) (c : Link) → takes_at receivers i c ≡ true → is_open_at receivers i c.home.subscriber ≡ true
+takes-open receivers i c h = (takes-both receivers i c h).0
+
+takes-shut : (receivers : List (Option ReceiverDetails)) (i : ℕ) (c : Link) → takes_at receivers i c ≡ true → is_shut c ≡ false
+takes-shut receivers i c h = by (is_shut c) (takes-both receivers i c h).1 where
+  by : (b : Bool) → not b ≡ true → b ≡ false
+  by true e = absurd cc
+  by false e = refl
+
+-- one that doesn't has a receiver that isn't open, or a closed channel
+takes-not : (receivers : List (Option ReceiverDetails)) (i : ℕ) (c : Link) → takes_at receivers i c ≡ false → (is_open_at receivers i c.home.subscriber ≡ false) ⊎ (is_shut c ≡ true)
+takes-not receivers i c h = by (is_open_at receivers i c.home.subscriber) (is_shut c) h where
+  by : (a b : Bool) → (a && not b) ≡ false → (a ≡ false) ⊎ (b ≡ true)
+  by false b e = inl refl
+  by true true e = inr refl
+  by true false e = absurd cc
+
+cond-same : {A : Type 0} (b : Bool) (x : A) → cond b x x ≡ x
+cond-same true x = refl
+cond-same false x = refl
+
 -- ---- a put
 
 lt-true : (a b : ℕ) → a < b → nat_lt a b ≡ true
@@ -102,7 +128,7 @@ put-fixed c slot overflow Full d h = ap fixed_of h.2
 
 -- a put leaves the connection where it stands
 pub put-home : (c : Link) (slot : ℕ) (overflow : Bool) (o : PutOutcome) (d : Link) → IsPut c slot overflow o d → d.home ≡ c.home
-put-home c slot overflow o d h = ap (λ (t : Home × ℕ × ℕ × Bool). t.0) (put-fixed c slot overflow o d h)
+put-home c slot overflow o d h = ap (λ (t : Home × ℕ × ℕ × Bool × Channel). t.0) (put-fixed c slot overflow o d h)
 
 -- a put leaves what was given back
 pub put-returned : (c : Link) (slot : ℕ) (overflow : Bool) (o : PutOutcome) (d : Link) → IsPut c slot overflow o d → d.returned ≡ c.returned
@@ -114,6 +140,12 @@ module _ {p : ℕ} {slab : Slab Link} {keys : List (Option ℕ)} {receivers : Li
   pub home-of : (c : Link) → get slab key ≡ Some c → IsSenders p i c
   home-of c was_c = senders-at p slab keys i key c ready.linked at was_c
 
+  -- its channel says whether its receiver may take messages
+  taking-there : (c : Link) → get slab key ≡ Some c → taking_buffers slab p receivers c.home.subscriber ≡ cond (is_shut c) None (buffers_of receivers c.home.subscriber)
+  taking-there c was_c =
+      ap (λ (channels : ℕ → Channel). cond (is_closed (channels 0)) None (buffers_of receivers c.home.subscriber))
+      (channels-there slab key p c.home.subscriber c ready.apart was_c (home-of c was_c).publisher refl)
+
   pub put-homes : (slot : ℕ) (overflow : Bool) (o : PutOutcome) (c d : Link) → get slab key ≡ Some c → IsPut c slot overflow o d → SameHomes slab (with_value slab key d)
   put-homes slot overflow o c d was_c put = SameHomes-updated slab (with_value slab key d) key c d was_c (put-fixed c slot overflow o d put) (Updates-with_value slab key c d was_c)
 
@@ -122,26 +154,41 @@ module _ {p : ℕ} {slab : Slab Link} {keys : List (Option ℕ)} {receivers : Li
       KeepsOthers-updated p slab (with_value slab key d) key c (Some d) was_c (home-of c was_c).publisher (Updates-with_value slab key c d was_c)
 
   -- a put is the machine's, at the end to which the place leads
-  pub put-puts : {F : Type 0} (environment : Environment) (config : ServiceConfig) (v : Delivery) (handler : Option (BackpressureHandler F)) (o : PutOutcome) (c d : Link) (result : Reception) → v.publisher ≡ p → get slab key ≡ Some c → is_open_at receivers i c.home.subscriber ≡ true
+  pub put-puts : {F : Type 0} (environment : Environment) (config : ServiceConfig) (v : Delivery) (handler : Option (BackpressureHandler F)) (o : PutOutcome) (c d : Link) (result : Reception) → v.publisher ≡ p → get slab key ≡ Some c → takes_at receivers i c ≡ true
       → IsPut c v.slot config.enable_safe_overflow o d → ComesTo environment config v handler i c.home.subscriber o (result_of result) → (number : ℕ → ℕ → ℕ)
-      → PutsMessage environment config v handler receivers (number p v.slot) i (subscriber_of_key slab (get_or keys i None)) (mailboxes_of number slab p) (result_of result) (mailboxes_of number (with_value slab key d) p)
+      → PutsMessage environment config v handler (taking_buffers slab p receivers) (number p v.slot) i (subscriber_of_key slab (get_or keys i None)) (mailboxes_of number slab p) (result_of result) (mailboxes_of number (with_value slab key d) p)
   put-puts environment config v handler o c d result by_p was_c receiving put comes number =
       rw (at, was_c) (
         mailbox_of (number p) d,
         goes,
         fun_ext (λ q. row-changed number slab (with_value slab key d) key p c d ready.apart (IsApart-same slab (with_value slab key d) ready.apart (put-homes v.slot config.enable_safe_overflow o c d was_c put)) was_c
-            (home-of c was_c).publisher (ap (λ (t : Home × ℕ × ℕ × Bool). t.0) (put-fixed c v.slot config.enable_safe_overflow o d put)) (Updates-with_value slab key c d was_c) q),
+            (home-of c was_c).publisher (ap (λ (t : Home × ℕ × ℕ × Bool × Channel). t.0) (put-fixed c v.slot config.enable_safe_overflow o d put)) (Updates-with_value slab key c d was_c) q),
       )
     where
-      goes : Put environment config v.publisher v.strategy (marks_of handler) (buffers_of receivers) (number p v.slot) c.home.subscriber (retries_at v i) (elapsed_at v i) (buffers_of receivers c.home.subscriber) (mailboxes_of number slab p c.home.subscriber) (result_of result) (mailbox_of (number p) d)
-      goes = rw (mailbox-there number slab key p c.home.subscriber c ready.apart was_c (home-of c was_c).publisher refl, buffers-open slab receivers key i c ready.knows (ready.one_id c.home.subscriber) was_c receiving)
-          (put-mailbox environment (number p) config v handler i c.home.subscriber (buffers_of receivers) c d o (result_of result) put comes)
+      takes : taking_buffers slab p receivers c.home.subscriber ≡ Some c.buffer
+      takes = taking-there c was_c
+          ∙ ap (λ (b : Bool). cond b None (buffers_of receivers c.home.subscriber)) (takes-shut receivers i c receiving)
+          ∙ buffers-open slab receivers key i c ready.knows (ready.one_id c.home.subscriber) was_c (takes-open receivers i c receiving)
 
-  -- a closed receiver is skipped
-  pub put-passes : {F : Type 0} (environment : Environment) (config : ServiceConfig) (v : Delivery) (handler : Option (BackpressureHandler F)) (c : Link) → get slab key ≡ Some c → is_open_at receivers i c.home.subscriber ≡ false → (number : ℕ → ℕ → ℕ)
-      → PutsMessage environment config v handler receivers (number p v.slot) i (subscriber_of_key slab (get_or keys i None)) (mailboxes_of number slab p) Skipped (mailboxes_of number slab p)
+      goes : Put environment config v.publisher v.strategy (marks_of handler) (taking_buffers slab p receivers) (number p v.slot) c.home.subscriber (retries_at v i) (elapsed_at v i) (taking_buffers slab p receivers c.home.subscriber) (mailboxes_of number slab p c.home.subscriber) (result_of result) (mailbox_of (number p) d)
+      goes = rw (mailbox-there number slab key p c.home.subscriber c ready.apart was_c (home-of c was_c).publisher refl, takes)
+          (put-mailbox environment (number p) config v handler i c.home.subscriber (taking_buffers slab p receivers) c d o (result_of result) put comes)
+
+  -- a closed receiver is skipped, and so is a closed channel
+  pub put-passes : {F : Type 0} (environment : Environment) (config : ServiceConfig) (v : Delivery) (handler : Option (BackpressureHandler F)) (c : Link) → get slab key ≡ Some c → takes_at receivers i c ≡ false → (number : ℕ → ℕ → ℕ)
+      → PutsMessage environment config v handler (taking_buffers slab p receivers) (number p v.slot) i (subscriber_of_key slab (get_or keys i None)) (mailboxes_of number slab p) Skipped (mailboxes_of number slab p)
   put-passes environment config v handler c was_c shut number =
-      rw (at, was_c) (mailboxes_of number slab p c.home.subscriber, rw (buffers-closed slab receivers key c ready.knows was_c (rw (home-of c was_c).place shut)) (refl, refl), put_at-own (mailboxes_of number slab p) c.home.subscriber)
+      rw (at, was_c) (mailboxes_of number slab p c.home.subscriber, skipped, put_at-own (mailboxes_of number slab p) c.home.subscriber)
+    where
+      none : taking_buffers slab p receivers c.home.subscriber ≡ None
+      none = taking-there c was_c
+          ∙ elim (takes-not receivers i c shut) [
+            | inl away ↦ ap (cond (is_shut c) None) (buffers-closed slab receivers key c ready.knows was_c (rw (home-of c was_c).place away)) ∙ cond-same (is_shut c) None
+            | inr closed ↦ ap (λ (b : Bool). cond b None (buffers_of receivers c.home.subscriber)) closed
+          ]
+
+      skipped : Put environment config v.publisher v.strategy (marks_of handler) (taking_buffers slab p receivers) (number p v.slot) c.home.subscriber (retries_at v i) (elapsed_at v i) (taking_buffers slab p receivers c.home.subscriber) (mailboxes_of number slab p c.home.subscriber) Skipped (mailboxes_of number slab p c.home.subscriber)
+      skipped = rw none (refl, refl)
 
 -- ---- the loop
 
@@ -153,7 +200,7 @@ IsSenderLinked-same p old new keys linked same = record { at = λ i key e. by i 
   by i key c (Some d) e =
       let c' = was old new key d same e in
       let f : c'.0 ≡ c.0 = same_link old key c'.0 c.0 c'.1 c.1 in
-      let home : c.0.home ≡ d.home = sym (ap (λ (x : Link). x.home) f) ∙ ap (λ (t : Home × ℕ × ℕ × Bool). t.0) c'.2 in
+      let home : c.0.home ≡ d.home = sym (ap (λ (x : Link). x.home) f) ∙ ap (λ (t : Home × ℕ × ℕ × Bool × Channel). t.0) c'.2 in
       record { publisher = sym (ap (λ (h : Home). h.publisher) home) ∙ c.2.publisher; place = sym (ap (λ (h : Home). h.subscriber_place) home) ∙ c.2.place }
 
 -- what a delivery needs is there after each of its puts
@@ -164,15 +211,26 @@ IsReadyToDeliver-same p old new keys receivers ready same = record {
   knows = record {
     at = λ key i c y at_c at_y e.
         let c' = was old new key c same at_c in
-        let know = ready.knows.at key i c'.0 y c'.1 at_y (e ∙ sym (ap (λ (t : Home × ℕ × ℕ × Bool). t.0.subscriber) c'.2)) in
-        (know.0 ∙ ap (λ (t : Home × ℕ × ℕ × Bool). t.0.subscriber_place) c'.2, sym (ap (λ (t : Home × ℕ × ℕ × Bool). t.1) c'.2) ∙ know.1);
+        let know = ready.knows.at key i c'.0 y c'.1 at_y (e ∙ sym (ap (λ (t : Home × ℕ × ℕ × Bool × Channel). t.0.subscriber) c'.2)) in
+        (know.0 ∙ ap (λ (t : Home × ℕ × ℕ × Bool × Channel). t.0.subscriber_place) c'.2, sym (ap (λ (t : Home × ℕ × ℕ × Bool × Channel). t.1) c'.2) ∙ know.1);
   };
   marked = λ key c at_c is_marked.
       let c' = was old new key c same at_c in
-      ap (λ (t : Home × ℕ × ℕ × Bool). is_open_at receivers t.0.subscriber_place t.0.subscriber) (sym c'.2)
-      ∙ ready.marked key c'.0 c'.1 (ap (λ (t : Home × ℕ × ℕ × Bool). t.3) c'.2 ∙ is_marked);
+      ap (λ (t : Home × ℕ × ℕ × Bool × Channel). is_open_at receivers t.0.subscriber_place t.0.subscriber) (sym c'.2)
+      ∙ ready.marked key c'.0 c'.1 (ap (λ (t : Home × ℕ × ℕ × Bool × Channel). t.3) c'.2 ∙ is_marked);
   one_id = ready.one_id;
 }
+
+-- the same receivers take messages after each of its puts
+pub taking-same : (p : ℕ) (old new : Slab Link) (receivers : List (Option ReceiverDetails)) → IsApart old → SameHomes old new → taking_buffers new p receivers ≡ taking_buffers old p receivers
+taking-same p old new receivers apart same =
+    ap {B = ℕ → Option ℕ} (λ (channels : ℕ → ℕ → ℕ → Channel) (q : ℕ). cond {A = Option ℕ} (is_closed (channels p q 0)) None (buffers_of receivers q)) (channels-same old new apart same)
+
+pub puts-same : {F : Type 0} (environment : Environment) (config : ServiceConfig) (v : Delivery) (handler : Option (BackpressureHandler F)) (old now : Slab Link) (receivers : List (Option ReceiverDetails)) (n i : ℕ) (end : Option ℕ) (boxes : ℕ → Mailbox) (result : PutResult) (boxes' : ℕ → Mailbox)
+    → IsApart old → SameHomes old now → PutsMessage environment config v handler (taking_buffers now v.publisher receivers) n i end boxes result boxes'
+    → PutsMessage environment config v handler (taking_buffers old v.publisher receivers) n i end boxes result boxes'
+puts-same environment config v handler old now receivers n i end boxes result boxes' apart same puts =
+    subst (λ (buffers : ℕ → Option ℕ). PutsMessage environment config v handler buffers n i end boxes result boxes') (taking-same v.publisher old now receivers apart same) puts
 
 -- a key leads to the same subscriber
 pub subscriber_of_key-same : (old new : Slab Link) → SameHomes old new → (x : Option ℕ) → subscriber_of_key new x ≡ subscriber_of_key old x
@@ -182,7 +240,7 @@ subscriber_of_key-same old new same (Some key) = by (get old key) (get new key) 
   by None None e f h = rw (e, f) refl
   by None (Some d) e f h = absurd (let h' : option_map fixed_of (Some d) ≡ option_map fixed_of None = rw (e, f) at h in cc)
   by (Some c) None e f h = absurd (let h' : option_map fixed_of None ≡ option_map fixed_of (Some c) = rw (e, f) at h in cc)
-  by (Some c) (Some d) e f h = rw (e, f) (let h' : Some (fixed_of d) ≡ Some (fixed_of c) = rw (e, f) at h in let g : fixed_of d ≡ fixed_of c = cc in ap (λ (t : Home × ℕ × ℕ × Bool). Some t.0.subscriber) g)
+  by (Some c) (Some d) e f h = rw (e, f) (let h' : Some (fixed_of d) ≡ Some (fixed_of c) = rw (e, f) at h in let g : fixed_of d ≡ fixed_of c = cc in ap (λ (t : Home × ℕ × ℕ × Bool × Channel). Some t.0.subscriber) g)
 
 pub ends-at : (old now : Slab Link) (keys : List (Option ℕ)) (i : ℕ) → SameHomes old now → subscriber_of_key now (get_or keys i None) ≡ get_or (sender_ends old keys) i None
 ends-at old now keys i same = subscriber_of_key-same old now same (get_or keys i None) ∙ sym (get_or-map (subscriber_of_key old) keys i None)
@@ -191,23 +249,23 @@ ends-at old now keys i same = subscriber_of_key-same old now same (get_or keys i
 anew : (v : Delivery) (i : ℕ) → (v.start).place ≤ i → eqb (i + 1) (v.start).place ≡ false
 anew v i from = ne_eqb (i + 1) (v.start).place (λ e. absurd (omega arith))
 
-module _ {F : Type 0} (environment : Environment) (config : ServiceConfig) (v : Delivery) (handler : Option (BackpressureHandler F)) (receivers : List (Option ReceiverDetails)) (n : ℕ) (ends : List (Option ℕ)) where
+module _ {F : Type 0} (environment : Environment) (config : ServiceConfig) (v : Delivery) (handler : Option (BackpressureHandler F)) (buffers : ℕ → Option ℕ) (n : ℕ) (ends : List (Option ℕ)) where
   -- a put that doesn't block is one step of the delivery
   pub deliver-more : (i count : ℕ) (has_failed : Bool) (boxes mid boxes' : ℕ → Mailbox) (d : Reception) (how : DeliveryEnd) → i < length ends → (v.start).place ≤ i
-      → PutsMessage environment config v handler receivers n i (get_or ends i None) boxes (result_of d) mid → is_blocking (result_of d) ≡ false
-      → DeliversMessage environment config v handler receivers n (i + 1) (drop (i + 1) ends) (count + accepted_count (result_of d)) (has_failed || is_failed (result_of d)) mid how boxes'
-      → DeliversMessage environment config v handler receivers n i (drop i ends) count has_failed boxes how boxes'
+      → PutsMessage environment config v handler buffers n i (get_or ends i None) boxes (result_of d) mid → is_blocking (result_of d) ≡ false
+      → DeliversMessage environment config v handler buffers n (i + 1) (drop (i + 1) ends) (count + accepted_count (result_of d)) (has_failed || is_failed (result_of d)) mid how boxes'
+      → DeliversMessage environment config v handler buffers n i (drop i ends) count has_failed boxes how boxes'
   deliver-more i count has_failed boxes mid boxes' d how below from at goes rest =
       rw (drop_more ends i None below) (result_of d, mid, at, rw goes (rw (anew v i from) at rest))
 
   -- a put that blocks ends the delivery
   pub deliver-stops : (i count : ℕ) (has_failed : Bool) (boxes mid : ℕ → Mailbox) (d : Reception) → i < length ends
-      → PutsMessage environment config v handler receivers n i (get_or ends i None) boxes (result_of d) mid → is_blocking (result_of d) ≡ true
-      → DeliversMessage environment config v handler receivers n i (drop i ends) count has_failed boxes
+      → PutsMessage environment config v handler buffers n i (get_or ends i None) boxes (result_of d) mid → is_blocking (result_of d) ≡ true
+      → DeliversMessage environment config v handler buffers n i (drop i ends) count has_failed boxes
       (end_of n ends (DeliveryOutcome.Suspended (record { place = i; retries = retries_at v i; count = count; has_failed = has_failed }))) mid
   deliver-stops i count has_failed boxes mid d below at stops = rw (drop_more ends i None below) (result_of d, mid, at, rw stops (refl, refl))
 
   -- where no place remains the delivery is over
   pub deliver-ends : (i count : ℕ) (has_failed : Bool) (boxes : ℕ → Mailbox) → length ends ≤ i
-      → DeliversMessage environment config v handler receivers n i (drop i ends) count has_failed boxes (end_of n ends (DeliveryOutcome.Complete count has_failed)) boxes
+      → DeliversMessage environment config v handler buffers n i (drop i ends) count has_failed boxes (end_of n ends (DeliveryOutcome.Complete count has_failed)) boxes
   deliver-ends i count has_failed boxes over = rw (drop_all i ends over) (refl, refl)

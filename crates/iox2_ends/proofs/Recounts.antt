@@ -3,6 +3,7 @@ use Rattle.std.proofs.Common.{◌≡◌, ℕ, ◌+◌, ◌<◌, ◌≤◌, List,
 use Rattle.std.proofs.lemmas.Bool.{cases_eq}
 use Rattle.slab.specs.Slab.{Slab, get, Updates, with_value}
 use Rattle.iox2_slots.specs.Link.{Link, IsPut}
+use Rattle.iox2_store.specs.machine.Channel.{Channel}
 use Rattle.iox2_slots.specs.declared.connection.Home.{Home}
 use Rattle.iox2_slots.specs.declared.connection.PutOutcome.{PutOutcome}
 use Rattle.iox2_slots.specs.declared.connection.PutOutcome.TheVariants.{Taken, Overwrote, Full}
@@ -30,7 +31,7 @@ pub Recounts-one : (p : ℕ) (hs hs' : List ℕ) (slab : Slab Link) (key : ℕ) 
 Recounts-one p hs hs' slab key c d at mine fixed counters slots in_use fewer = record {
   homes = SameHomes-updated slab (with_value slab key d) key c d at fixed u;
   others = KeepsOthers-updated p slab (with_value slab key d) key c (Some d) at mine u;
-  counters = CountersFollow-changed p hs hs' slab.slots key c d at mine (ap (λ (t : Home × ℕ × ℕ × Bool). t.0.publisher) fixed ∙ mine) counters;
+  counters = CountersFollow-changed p hs hs' slab.slots key c d at mine (ap (λ (t : Home × ℕ × ℕ × Bool × Channel). t.0.publisher) fixed ∙ mine) counters;
   slots = slots;
   in_use = in_use;
   fewer = returned-updated slab (with_value slab key d) key c d at fewer u;

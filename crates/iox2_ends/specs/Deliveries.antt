@@ -12,7 +12,7 @@ use Rattle.iox2_slots.specs.declared.connection.PutOutcome.{PutOutcome}
 use Rattle.iox2_slots.specs.declared.connection.PutOutcome.TheVariants.{Taken, Overwrote, Full}
 use Rattle.iox2_ends.specs.Handlers.{marks_of}
 use Rattle.iox2_ends.specs.Mailboxes.{mailboxes_of, subscriber_of_key, sender_ends}
-use Rattle.iox2_ends.specs.Receivers.{buffers_of}
+use Rattle.iox2_ends.specs.Receivers.{taking_buffers}
 use Rattle.iox2_store.specs.declared.backpressure_handler.BackpressureHandler.{BackpressureHandler}
 use Rattle.iox2_ends.specs.declared.sender.ReceiverDetails.{ReceiverDetails}
 use Rattle.iox2_ends.specs.declared.sender.Progress.{Progress}
@@ -59,26 +59,27 @@ module _ {F : Type 0} (environment : Environment) (config : ServiceConfig) (d : 
   ComesTo place receiver (Overwrote oldest) result = result ≡ Accepted
   ComesTo place receiver Full result = Answers place receiver result
 
-  module _ (receivers : List (Option ReceiverDetails)) where
+  module _ (buffers : ℕ → Option ℕ) where
     -- The machine's put of the message n at the end that stands at the place, in the publisher's mailboxes.
     abbrev pub PutsMessage : (n place : ℕ) → (end : Option ℕ) → (ℕ → Mailbox) → PutResult → (ℕ → Mailbox) → Type 0
     PutsMessage n place end boxes result boxes' =
-        PutAtEnd environment config d.publisher d.strategy (marks_of handler) (buffers_of receivers) n (retries_at d place) (elapsed_at d place) end boxes result boxes'
+        PutAtEnd environment config d.publisher d.strategy (marks_of handler) buffers n (retries_at d place) (elapsed_at d place) end boxes result boxes'
 
     -- The machine's delivery of the message n to these ends, which stand from that place on, in the publisher's mailboxes.
     abbrev pub DeliversMessage : (n place : ℕ) → List (Option ℕ) → (count : ℕ) → (has_failed : Bool) → (ℕ → Mailbox) → DeliveryEnd → (ℕ → Mailbox) → Type 0
     DeliversMessage n place ends count has_failed boxes how boxes' =
-        Deliver environment config d.publisher d.strategy (marks_of handler) (buffers_of receivers) n (retries_at d place) (elapsed_at d place) place ends count has_failed boxes how boxes'
+        Deliver environment config d.publisher d.strategy (marks_of handler) buffers n (retries_at d place) (elapsed_at d place) place ends count has_failed boxes how boxes'
 
+  module _ (receivers : List (Option ReceiverDetails)) where
     -- Whatever numbers the slots have, the slot's message is put at the end to which the key at the place leads.
     abbrev pub PutsSlot : (place : ℕ) → (key : Option ℕ) → Slab Link → Reception → Slab Link → Type 0
     PutsSlot place key old result new = (number : ℕ → ℕ → ℕ)
-        → PutsMessage (number d.publisher d.slot) place (subscriber_of_key old key) (mailboxes_of number old d.publisher) (result_of result) (mailboxes_of number new d.publisher)
+        → PutsMessage (taking_buffers old d.publisher receivers) (number d.publisher d.slot) place (subscriber_of_key old key) (mailboxes_of number old d.publisher) (result_of result) (mailboxes_of number new d.publisher)
 
     -- Whatever numbers the slots have, the slot's message is delivered to the ends at these keys from the place on at which
     -- the delivery is taken up, with what it came to so far.
     abbrev pub DeliversSlot : (keys : List (Option ℕ)) → Slab Link → DeliveryOutcome → Slab Link → Type 0
     DeliversSlot keys old how new = (number : ℕ → ℕ → ℕ)
-        → Deliver environment config d.publisher d.strategy (marks_of handler) (buffers_of receivers) (number d.publisher d.slot) (d.start).retries d.elapsed
+        → Deliver environment config d.publisher d.strategy (marks_of handler) (taking_buffers old d.publisher receivers) (number d.publisher d.slot) (d.start).retries d.elapsed
         (d.start).place (drop (d.start).place (sender_ends old keys)) (d.start).count (d.start).has_failed (mailboxes_of number old d.publisher)
         (end_of (number d.publisher d.slot) (sender_ends old keys) how) (mailboxes_of number new d.publisher)

@@ -5,6 +5,7 @@ use Rattle.std.specs.declared.option.Option.TheVariants.{None, Some}
 use Rattle.std.specs.Option.{option_map}
 use Rattle.slab.specs.Slab.{Slab, get}
 use Rattle.iox2_slots.specs.Link.{Link}
+use Rattle.iox2_store.specs.machine.Channel.{Channel}
 use Rattle.iox2_slots.specs.declared.connection.Home.{Home}
 use Rattle.iox2_ends.specs.LookUp.{IsOnly}
 use Rattle.iox2_ends.specs.Mailboxes.{is_between}
@@ -14,9 +15,9 @@ pub record IsApart (connections : Slab Link) : Type 0 where
   pub one : (p q : ℕ) → IsOnly (is_between p q) connections.slots
 
 -- What no work on messages changes of a connection: where it stands, how many slots may wait, how many may be borrowed,
--- and whether it is marked as open.
-abbrev pub fixed_of : Link → Home × ℕ × ℕ × Bool
-fixed_of c = (c.home, c.buffer, c.limit, c.is_open)
+-- whether it is marked as open, and its channel.
+abbrev pub fixed_of : Link → Home × ℕ × ℕ × Bool × Channel
+fixed_of c = (c.home, c.buffer, c.limit, c.is_open, c.channel)
 
 -- No connection is made, none goes, and none moves.
 pub record SameHomes (old new : Slab Link) : Type 0 where

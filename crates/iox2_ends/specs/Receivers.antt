@@ -1,11 +1,13 @@
 -- The subscribers at their places, as a publisher that delivers sees them.
-use Rattle.std.specs.Prelude.{◌≡◌, ℕ, Bool, true, false, cond, ◌&&◌, ◌==◌, List, [], slice_index_or}
+use Rattle.std.specs.Prelude.{◌≡◌, ℕ, Bool, true, false, cond, not, ◌&&◌, ◌==◌, List, [], slice_index_or}
 use Rattle.std.specs.declared.option.Option.{Option}
 use Rattle.std.specs.declared.option.Option.TheVariants.{None, Some}
 use Rattle.std.specs.Option.{option_and_then}
 use Rattle.slab.specs.Slab.{Slab, get}
-use Rattle.iox2_slots.specs.Link.{Link}
+use Rattle.iox2_slots.specs.Link.{Link, is_shut}
+use Rattle.iox2_store.specs.machine.Channel.{is_closed}
 use Rattle.iox2_ends.specs.LookUp.{look_up, IsOnly}
+use Rattle.iox2_ends.specs.Mailboxes.{channels_in}
 use Rattle.iox2_ends.specs.Homes.{IsApart, IsSenderLinked}
 use Rattle.iox2_ends.specs.declared.sender.ReceiverDetails.{ReceiverDetails}
 
@@ -21,6 +23,10 @@ buffer_if_open y = cond y.is_open (Some y.buffer_size) None
 abbrev pub buffers_of : List (Option ReceiverDetails) → ℕ → Option ℕ
 buffers_of receivers q = option_and_then buffer_if_open (look_up (has_id q) receivers)
 
+-- The buffers of the receivers that take messages of the publisher p, by id: they are open, and so is their channel.
+abbrev pub taking_buffers : Slab Link → (p : ℕ) → List (Option ReceiverDetails) → ℕ → Option ℕ
+taking_buffers connections p receivers q = cond (is_closed (channels_in connections p q 0)) None (buffers_of receivers q)
+
 -- It is the receiver with that id, and open.
 abbrev pub is_open_one : (q : ℕ) → Option ReceiverDetails → Bool
 is_open_one q None = false
@@ -29,6 +35,10 @@ is_open_one q (Some y) = (y.port_id == q) && y.is_open
 -- The receiver with that id stands at the place, and is open.
 abbrev pub is_open_at : List (Option ReceiverDetails) → (place q : ℕ) → Bool
 is_open_at receivers place q = is_open_one q (slice_index_or receivers place None)
+
+-- The connection takes messages: its receiver stands at the place and is open, and its channel isn't closed.
+abbrev pub takes_at : List (Option ReceiverDetails) → (place : ℕ) → Link → Bool
+takes_at receivers place c = is_open_at receivers place c.home.subscriber && not (is_shut c)
 
 -- A subscriber that is there stands at the place that its connections name, and has their buffer.
 pub record KnowsReceivers (connections : Slab Link) (receivers : List (Option ReceiverDetails)) : Type 0 where

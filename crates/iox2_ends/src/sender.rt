@@ -8,7 +8,7 @@ ghost use Rattle.iox2_store.specs.machine.Numbers.{last_n};
 ghost use Rattle.iox2_store.specs.machine.Delivery.{by_action, is_blocking, is_failed, accepted_count};
 ghost use Rattle.slab.specs.Slab.{get};
 ghost use Rattle.iox2_ends.specs.Homes.{IsApart, IsSenderLinked};
-ghost use Rattle.iox2_ends.specs.Receivers.{is_open_at, HasReclaimed, IsReadyToDeliver};
+ghost use Rattle.iox2_ends.specs.Receivers.{is_open_at, takes_at, HasReclaimed, IsReadyToDeliver};
 ghost use Rattle.iox2_ends.specs.Counters.{times, IsCovered, HoldsItself, GrowsAlone, recounted, CanLeave, with_counters, one_holder_more};
 ghost use Rattle.iox2_ends.specs.Recounts.{Recounts, returned_count};
 ghost use Rattle.iox2_ends.specs.Reclaims.{IsHeld, Reclaims, ReclaimsFrom};
@@ -276,14 +276,17 @@ fn stands_open<R: Receiver>(receivers: &Vec<Option<R>>, place: usize, id: u128) 
     }
 }
 
-// Whether the subscriber of a connection, which the publisher knows at the place, is open. The mark of
-// the connection mostly says so.
+// Whether a connection takes messages: the subscriber, which the publisher knows at the place, is
+// open, and so is the channel. The mark of the connection mostly says so.
 fn is_open<R: Receiver>(connection: &Connection, receivers: &Vec<Option<R>>, place: usize) -> bool
     requires { connection.now.is_open ≡ true → is_open_at (map (option_map R.details_of) receivers.now.items) place connection.now.home.subscriber ≡ true }
-    ensures value { result ≡ is_open_at (map (option_map R.details_of) receivers.now.items) place connection.now.home.subscriber }
+    ensures value { result ≡ takes_at (map (option_map R.details_of) receivers.now.items) place connection.now }
     ensures bounded { IsBounded connection.now }
 {
-    connection.is_open() || stands_open(receivers, place, connection.home().subscriber)
+    if connection.is_open() {
+        return true;
+    }
+    stands_open(receivers, place, connection.home().subscriber) && !connection.is_closed()
 }
 
 // Counts the holders after a put.
@@ -304,7 +307,7 @@ fn recount(book: &mut SlotBook, outcome: PutOutcome, slot: usize)
 }
 
 // Reclaims what was given back in the connection at one place, if there is one, and puts the slot
-// into it if its subscriber is open.
+// into it if its subscriber and its channel are open.
 #[inline(always)]
 fn deliver_at<R: Receiver, F: BackpressureFn>(
     config: &ServiceConfig,
@@ -342,9 +345,9 @@ fn deliver_at<R: Receiver, F: BackpressureFn>(
 }
 
 /// Delivers a message to the receivers at the places that remain, one after the other, until one
-/// blocks it. What each gave back is reclaimed first. A receiver that is closed is skipped. One with
-/// room takes the message, and with safe overflow each does; at any other the handler decides, or
-/// the strategy where there is no handler.
+/// blocks it. What each gave back is reclaimed first. A receiver that is closed or whose channel is
+/// closed is skipped. One with room takes the message, and with safe overflow each does; at any other
+/// the handler decides, or the strategy where there is no handler.
 ///
 /// A send starts at the first place. A send that was blocked is taken up where it blocked, or behind
 /// that receiver, with what it came to so far.

@@ -22,9 +22,9 @@ absent_apart f i k a none some = ne_eqb i k (λ same. none-some a (sym none ∙ 
 pub same_state : {T U : Type 0} (a b : State T U)
     → a.config ≡ b.config → a.next_port ≡ b.next_port → a.next_message ≡ b.next_message
     → ((n : ℕ) → a.loans n ≡ b.loans n) → ((p : ℕ) → a.publishers p ≡ b.publishers p) → ((q : ℕ) → a.subscribers q ≡ b.subscribers q)
-    → ((p q : ℕ) → a.mailboxes p q ≡ b.mailboxes p q)
+    → ((p q : ℕ) → a.mailboxes p q ≡ b.mailboxes p q) → ((p q : ℕ) → a.channels p q ≡ b.channels p q)
     → a.publisher_places ≡ b.publisher_places → a.subscriber_places ≡ b.subscriber_places → a.warnings ≡ b.warnings → a ≡ b
-same_state a b e1 e2 e3 e4 e5 e6 e7 e8 e9 e10 = λ i. record {
+same_state a b e1 e2 e3 e4 e5 e6 e7 e8 e9 e10 e11 = λ i. record {
   config = e1 i;
   next_port = e2 i;
   next_message = e3 i;
@@ -32,9 +32,10 @@ same_state a b e1 e2 e3 e4 e5 e6 e7 e8 e9 e10 = λ i. record {
   publishers = λ p. e5 p i;
   subscribers = λ q. e6 q i;
   mailboxes = λ p q. e7 p q i;
-  publisher_places = e8 i;
-  subscriber_places = e9 i;
-  warnings = e10 i;
+  channels = λ p q. e8 p q i;
+  publisher_places = e9 i;
+  subscriber_places = e10 i;
+  warnings = e11 i;
 }
 
 -- a number of three lists stands in one of them
@@ -246,4 +247,4 @@ module _ {T U : Type 0} where
       → ((i : ℕ) → put_at s.publishers p (Some x) i ≡ publishers i) → altered s p x (s.mailboxes p) loans next ≡ rewritten s publishers s.mailboxes loans next
   altered_same_row s p x loans next publishers same =
       same_state (altered s p x (s.mailboxes p) loans next) (rewritten s publishers s.mailboxes loans next) refl refl refl (λ _. refl) same (λ _. refl)
-      (λ i q. at_each s.mailboxes p (s.mailboxes p) (λ j m. m q ≡ s.mailboxes j q) i (λ _. refl) (λ _. refl)) refl refl refl
+      (λ i q. at_each s.mailboxes p (s.mailboxes p) (λ j m. m q ≡ s.mailboxes j q) i (λ _. refl) (λ _. refl)) (λ _ _. refl) refl refl refl

@@ -11,8 +11,8 @@ use Rattle.iox2_store.specs.machine.Numbers.{contains, put_at}
 use Rattle.iox2_store.specs.machine.Places.{occupant, vacated, places_kept, is_port}
 use Rattle.iox2_store.specs.machine.Mailbox.{Mailbox, numbers_in, has_numbers, has_borrows, has_data, waiting_count, waiting_dropped, IsWithin}
 use Rattle.iox2_store.specs.machine.Records.{Publisher, Subscriber}
-use Rattle.iox2_store.specs.machine.State.{State, publishers_due}
-use Rattle.iox2_store.specs.machine.Releases.{is_connected, pruned, subscriber_pruned}
+use Rattle.iox2_store.specs.machine.State.{State, publishers_due, subscribers_due}
+use Rattle.iox2_store.specs.machine.Releases.{is_connected, pruned, subscriber_pruned, freed_if_unused}
 use Rattle.iox2_store.specs.machine.Ports.{mailbox_after_publisher, publisher_gone, subscribers_pruned, publisher_closed, mailbox_after_subscriber, subscriber_shut}
 use Rattle.iox2_store.specs.machine.Ports.{subscriber_closed}
 use Rattle.iox2_store.specs.machine.WellFormed.{LeadsTo, PlacesAgree, subscriber_place, PublisherIsWellFormed, SubscriberIsWellFormed, MailboxIsWellFormed}
@@ -24,7 +24,7 @@ use Rattle.iox2_laws.proofs.PlaceLemmas.{occupant-vacated, vacated_keeps, length
 use Rattle.iox2_laws.proofs.PlaceLemmas.{injective_places_kept, is_port-true}
 use Rattle.iox2_laws.proofs.MailboxLemmas.{has_numbers-borrows, has_numbers-data, has_numbers_dropped, IsWithin-dropped, contains_in_dropped}
 use Rattle.iox2_laws.proofs.Freed.{freed_if_unused_keeps, freed_if_unused_advances}
-use Rattle.iox2_laws.proofs.PortChanges.{changed, places_agree_by, place_of_publisher, place_of_subscriber, publisher_kept, subscriber_kept, loan_kept}
+use Rattle.iox2_laws.proofs.PortChanges.{changed, places_agree_by, place_of_publisher, place_of_subscriber, publisher_kept, subscriber_kept, loan_kept, sender_reset_keeps, receiver_reset_keeps}
 use Rattle.iox2_laws.proofs.PortChanges.{RestIsWellFormed, IsNearlyWellFormed, publishers_due_nearly, subscribers_due_keeps}
 use Rattle.iox2_laws.proofs.PortLaws.{advances_trans}
 
@@ -245,7 +245,9 @@ module _ {T U : Type 0} where
 
   -- A publisher that is closed leaves the state well-formed.
   pub publisher_closed_keeps : (s : State T U) → IsWellFormed s → (p : ℕ) (x : Publisher) → s.publishers p ≡ Some x → IsWellFormed (publisher_closed s p x)
-  publisher_closed_keeps s w p x here = subscribers_due_keeps (subscribers_pruned (publisher_gone s p x)) (publisher_gone_keeps s w p x)
+  publisher_closed_keeps s w p x here =
+      let t : State T U = subscribers_pruned (publisher_gone s p x) in
+      sender_reset_keeps (subscribers_due t) p (subscribers_due_keeps t (publisher_gone_keeps s w p x))
 
   -- A publisher that is closed lets no counter fall.
   pub publisher_closed_advances : (s : State T U) (p : ℕ) (x : Publisher) → Advances s (publisher_closed s p x)
@@ -403,11 +405,15 @@ module _ {T U : Type 0} where
 
   -- A subscriber that is closed leaves the state well-formed.
   pub subscriber_closed_keeps : (s : State T U) → IsWellFormed s → (q : ℕ) (y : Subscriber) → s.subscribers q ≡ Some y → IsWellFormed (subscriber_closed s q y)
-  subscriber_closed_keeps s w q y here = freed_if_unused_keeps (subscriber_pruned (subscriber_shut s q y) q) q (closed_nearly s w q y here)
+  subscriber_closed_keeps s w q y here =
+      let t : State T U = subscriber_pruned (subscriber_shut s q y) q in
+      receiver_reset_keeps (freed_if_unused t q) q (freed_if_unused_keeps t q (closed_nearly s w q y here))
 
   -- A subscriber that is closed lets no counter fall.
   pub subscriber_closed_advances : (s : State T U) (q : ℕ) (y : Subscriber) → Advances s (subscriber_closed s q y)
   subscriber_closed_advances s q y =
-      advances_trans s (subscriber_pruned (subscriber_shut s q y) q) (subscriber_closed s q y)
+      let t : State T U = subscriber_pruned (subscriber_shut s q y) q in
+      let a : Advances s (freed_if_unused t q) = advances_trans s t (freed_if_unused t q)
       (record { config = refl; next_port = omega arith; next_message = omega arith })
-      (freed_if_unused_advances (subscriber_pruned (subscriber_shut s q y) q) q)
+      (freed_if_unused_advances t q) in
+      record { config = a.config; next_port = a.next_port; next_message = a.next_message }

@@ -2,14 +2,15 @@
 use Rattle.std.proofs.Common.{◌≡◌, ℕ, le_refl, suc, zero, ◌+◌, ◌≤◌, ◌<◌, Bool, true, false, cond, ◌||◌, List, [], ◌∷◌, ◌++◌, length, drop, drop-drop, refl, sym, ap, subst, ◌∙◌, arith, eqb, ⊎_elim, ◌⊎◌, inl, inr, Option, None, Some}
 use Rattle.std.specs.List.{flat_map}
 use Rattle.std.specs.declared.time.Duration.{Duration}
-use Rattle.std.proofs.lemmas.Bool.{true≢false, eqb-true, eqb-false, ne_eqb}
+use Rattle.std.proofs.lemmas.Bool.{true≢false, eqb-true, eqb-false, ne_eqb, cond_both}
 use Rattle.std.proofs.lemmas.Option.{none-some, same_Some, cond_some, option_and_then_some}
 use Rattle.iox2_store.specs.machine.Limits.{buffer_limit}
 use Rattle.iox2_store.specs.machine.Numbers.{contains, without, size, IsOnce}
 use Rattle.iox2_store.specs.machine.Places.{occupant, occupants}
+use Rattle.iox2_store.specs.machine.Channel.{is_closed}
 use Rattle.iox2_store.specs.machine.Mailbox.{Mailbox, numbers_in, has_borrows, waiting_count, has_room, with_appended, IsWithin}
 use Rattle.iox2_store.specs.machine.Records.{Loan, Handler, Environment, Publisher, Subscriber, BlockedSend}
-use Rattle.iox2_store.specs.machine.State.{State, held, receiving_buffer}
+use Rattle.iox2_store.specs.machine.State.{State, held, receiving_buffer, channel_buffer}
 use Rattle.iox2_store.specs.machine.Delivery.{PutResult, Accepted, Skipped, Failed, Would_block, accepted_count, is_failed, is_blocking, DeliveryEnd, Complete, Suspended, no_time, Put, PutAtEnd, Deliver}
 use Rattle.iox2_store.specs.machine.WellFormed.{LeadsTo, IsInjective, BlockedIsWellFormed, PublisherIsWellFormed, SubscriberIsWellFormed, MailboxIsWellFormed, LoanIsWellFormed, IsWellFormed}
 use Rattle.iox2_store.specs.declared.service_config.ServiceConfig.{ServiceConfig}
@@ -168,6 +169,12 @@ module _ (environment : Environment) (c : ServiceConfig) (p : ℕ) (strategy : B
 -- ---- the state in which a message is delivered
 
 module _ {T U : Type 0} where
+  -- a subscriber that takes messages in a channel takes messages
+  pub taken_by_open : (s : State T U) (p channel q buffer : ℕ) → channel_buffer s p channel q ≡ Some buffer → receiving_buffer s q ≡ Some buffer
+  taken_by_open s p channel q buffer =
+      cond_both (is_closed (s.channels p q channel)) None (receiving_buffer s q) (λ o. o ≡ Some buffer → receiving_buffer s q ≡ Some buffer)
+      (λ _ h. absurd (none-some buffer h)) (λ _ h. h)
+
   -- The message n of p is out and may be delivered at these ends: no receiver there has it. From then on these loans are in
   -- the users' hands, and n isn't among them; and the history is this one, in which nothing but n may be new.
   pub record IsUnderway (s : State T U) (p : ℕ) (x : Publisher) (n : ℕ) (loans : ℕ → Option (Loan T U)) (history : List ℕ) (ends : List (Option ℕ)) : Type 0 where
@@ -184,7 +191,7 @@ module _ {T U : Type 0} where
 
 module _ {T U : Type 0} (s : State T U) (w : IsWellFormed s) (p : ℕ) (x : Publisher) (here : s.publishers p ≡ Some x) (n : ℕ) (loans : ℕ → Option (Loan T U))
     (history : List ℕ) (ends : List (Option ℕ)) (how : DeliveryEnd) (boxes : ℕ → Mailbox) (u : IsUnderway s p x n loans history ends)
-    (d : Delivered (receiving_buffer s) n x.ends ends (s.mailboxes p) how boxes) where
+    (d : Delivered (channel_buffer s p 0) n x.ends ends (s.mailboxes p) how boxes) where
   publisher : PublisherIsWellFormed s p x
   publisher = w.publishers p x here
 
@@ -225,11 +232,11 @@ module _ {T U : Type 0} (s : State T U) (w : IsWellFormed s) (p : ℕ) (x : Publ
       (in_boxes at.0 m at.2)))
 
   -- a mailbox into which the message was put
-  appended_is_well_formed : (x' : Publisher) → x'.ends ≡ x.ends → (q buffer : ℕ) → LeadsTo ends q → receiving_buffer s q ≡ Some buffer
+  appended_is_well_formed : (x' : Publisher) → x'.ends ≡ x.ends → (q buffer : ℕ) → LeadsTo ends q → channel_buffer s p 0 q ≡ Some buffer
       → boxes q ≡ with_appended buffer n (s.mailboxes p q)
       → MailboxIsWellFormed (uniform s x' boxes loans s.next_message) p q
   appended_is_well_formed x' same_ends q buffer end takes put =
-      option_and_then_some (λ (y : Subscriber). cond y.is_open (Some y.buffer) None) (s.subscribers q) buffer takes (λ y found is_buffer.
+      option_and_then_some (λ (y : Subscriber). cond y.is_open (Some y.buffer) None) (s.subscribers q) buffer (taken_by_open s p 0 q buffer takes) (λ y found is_buffer.
       let m : MailboxIsWellFormed s p q = w.mailboxes p q in
       let v : SubscriberIsWellFormed s q y = w.subscribers q y found in
       let size : y.buffer ≡ buffer = (cond_some y.is_open y.buffer buffer is_buffer).1 in

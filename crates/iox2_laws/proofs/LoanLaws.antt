@@ -190,7 +190,7 @@ module _ {T U : Type 0} where
               (λ i. at_each s.publishers l.publisher (option_map (λ (v : Publisher). record v { loans = without n v.loans }) (s.publishers l.publisher))
               (λ j o. s.publishers j ≡ o) i
               (λ _. gone ∙ sym (ap (option_map (λ (v : Publisher). record v { loans = without n v.loans })) gone)) (λ _. refl))
-              (λ _. refl) (λ _ _. refl) refl refl refl)
+              (λ _. refl) (λ _ _. refl) (λ _ _. refl) refl refl refl)
               (loan_lost_keeps gone)
           | Some x ↦ λ here. subst IsWellFormed (discarded_is x here)
               (altered_keeps s l.publisher x (record x { loans = without n x.loans }) (s.mailboxes l.publisher) (put_at s.loans n None) s.next_message w here

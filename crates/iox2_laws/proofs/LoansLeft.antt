@@ -9,7 +9,7 @@ use Rattle.iox2_store.specs.machine.Limits.{worst_case}
 use Rattle.iox2_store.specs.machine.Numbers.{put_at, contains, without, last_n}
 use Rattle.iox2_store.specs.machine.Mailbox.{Mailbox}
 use Rattle.iox2_store.specs.machine.Records.{Loan, Publisher, Subscriber, Environment, BlockedSend, PublisherSettings, SubscriberSettings}
-use Rattle.iox2_store.specs.machine.State.{State, with_loan, publisher_changed}
+use Rattle.iox2_store.specs.machine.State.{State, with_loan, publisher_changed, receiver_channels_reset}
 use Rattle.iox2_store.specs.machine.Delivery.{DeliveryEnd, Complete, Suspended}
 use Rattle.iox2_store.specs.machine.PublisherUpdate.{UpdatePublisher}
 use Rattle.iox2_store.specs.machine.SubscriberUpdate.{UpdateSubscriber}
@@ -129,15 +129,15 @@ module _ {T U : Type 0} where
       (λ _ k. by_option (LoansKept s s') ((h.0).subscribers q) _ _ k (λ _ v. absurd v) (λ y _ k. kept_trans s h.0 s' first (taken_kept h.0 q y s' result k)))
       (λ e _ k. kept_trans s h.0 s' first (kept_same h.0 s' k.0))
 
-  freed_kept : (s : State T U) (q : ℕ) → LoansKept s (freed_if_unused s q)
+  freed_kept : (s : State T U) (q : ℕ) → LoansKept s (receiver_channels_reset (freed_if_unused s q) q)
   freed_kept s q = at (is_unused s q) where
-    at : (b : Bool) → LoansKept s (cond b (place_freed s q) s)
+    at : (b : Bool) → LoansKept s (receiver_channels_reset (cond b (place_freed s q) s) q)
     at true = record {
       config = refl;
       numbers = refl;
       publishers = λ p x e. (record x { is_due = true }, ap (option_map {T = Publisher} (λ z. record z { is_due = true })) e, record { allocation = refl; most = refl; slots = refl; longest = refl; loans = refl });
     }
-    at false = kept_itself s
+    at false = record { config = refl; numbers = refl; publishers = λ p x e. (x, e, same_terms x) }
 
   pub released_kept : (s : State T U) (p q n : ℕ) → LoansKept s (released s p q n)
   released_kept s p q n =

@@ -39,10 +39,10 @@ module _ (Good : ℕ → Mailbox → Type 0) (dropped : (i : ℕ) (box : Mailbox
   disconnected_good side place None are = are
   disconnected_good side place (Some q) are = drop_good side.mailboxes q are
 
-  module _ (environment : Environment) (service_id p : ℕ) (handler : Handler DegradationAction) (history : List ℕ) (buffers : ℕ → Option ℕ) (has_end : ℕ → Bool)
-      (delivered : (i buffer : ℕ) (box : Mailbox) → Good i box → Good i (with_waiting (last_n buffer history) box)) where
+  module _ (environment : Environment) (service_id p : ℕ) (handler : Handler DegradationAction) (histories : ℕ → List ℕ) (buffers : ℕ → Option ℕ) (has_end : ℕ → Bool)
+      (delivered : (i buffer : ℕ) (box : Mailbox) → Good i box → Good i (with_waiting (last_n buffer (histories i)) box)) where
     performed_good : (action : SenderAction) (place : ℕ) (side side' : SenderSide) (failure : Option ConnectionFailure) → AreGood side.mailboxes
-        → Performs environment service_id p handler history buffers has_end action place side side' failure → AreGood side'.mailboxes
+        → Performs environment service_id p handler histories buffers has_end action place side side' failure → AreGood side'.mailboxes
     performed_good Keep_end place side side' failure are h = subst (λ (sd : SenderSide). AreGood sd.mailboxes) (sym h.0) are
     performed_good (Drop_waiting q) place side side' failure are h = subst (λ (sd : SenderSide). AreGood sd.mailboxes) (sym h.0) (drop_good side.mailboxes q are)
     performed_good Disconnect place side side' failure are h =
@@ -52,14 +52,14 @@ module _ (Good : ℕ → Mailbox → Type 0) (dropped : (i : ℕ) (box : Mailbox
         let mid_good : AreGood mid.mailboxes = disconnected_good side place (occupant side.ends place) are in
         ⊎_elim
         (λ made. subst (λ (sd : SenderSide). AreGood sd.mailboxes) (sym made.0)
-        (put_good mid.mailboxes q (with_waiting (last_n buffer history) (mid.mailboxes q)) mid_good (delivered q buffer (mid.mailboxes q) (mid_good q))))
+        (put_good mid.mailboxes q (with_waiting (last_n buffer (histories q)) (mid.mailboxes q)) mid_good (delivered q buffer (mid.mailboxes q) (mid_good q))))
         (λ refused. subst (λ (sd : SenderSide). AreGood sd.mailboxes) (sym refused.3) mid_good) h
 
     -- A publisher's update keeps good what its history leaves so.
     pub sender_side_keeps : (places : List (Option ℕ)) (side side' : SenderSide) (failure : Option ConnectionFailure) → AreGood side.mailboxes
-        → ForEachPlace (UpdateSenderPlace environment service_id p handler history buffers has_end) 0 places side side' failure → AreGood side'.mailboxes
+        → ForEachPlace (UpdateSenderPlace environment service_id p handler histories buffers has_end) 0 places side side' failure → AreGood side'.mailboxes
     sender_side_keeps places side side' failure are h =
-        for_each_place_keeps (UpdateSenderPlace environment service_id p handler history buffers has_end) (λ (sd : SenderSide). AreGood sd.mailboxes) places
+        for_each_place_keeps (UpdateSenderPlace environment service_id p handler histories buffers has_end) (λ (sd : SenderSide). AreGood sd.mailboxes) places
         (λ i side side' failure _ are h. performed_good (sender_action buffers (occupant places i) (occupant side.ends i)) i side side' failure are h)
         side side' failure are h
 

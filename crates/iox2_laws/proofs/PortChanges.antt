@@ -6,9 +6,10 @@ use Rattle.std.proofs.lemmas.Bool.{true≢false}
 use Rattle.std.proofs.lemmas.Option.{none-some, same_Some}
 use Rattle.iox2_store.specs.machine.Numbers.{contains, size}
 use Rattle.iox2_store.specs.machine.Places.{occupant, occupants}
+use Rattle.iox2_store.specs.machine.Channel.{Channel}
 use Rattle.iox2_store.specs.machine.Mailbox.{Mailbox, numbers_in, has_numbers, has_borrows, waiting_count}
 use Rattle.iox2_store.specs.machine.Records.{Loan, Publisher, Subscriber}
-use Rattle.iox2_store.specs.machine.State.{State, Warnings, publishers_due, subscribers_due}
+use Rattle.iox2_store.specs.machine.State.{State, Warnings, publishers_due, subscribers_due, sender_channels_reset, receiver_channels_reset}
 use Rattle.iox2_store.specs.machine.WellFormed.{LeadsTo, PlacesAgree, publisher_place, subscriber_place, BlockedIsWellFormed, PublisherIsWellFormed}
 use Rattle.iox2_store.specs.machine.WellFormed.{SubscriberIsWellFormed, MailboxIsWellFormed, LoanIsWellFormed, IsWellFormed}
 use Rattle.iox2_laws.proofs.Puts.{found_mapped}
@@ -265,6 +266,35 @@ module _ {T U : Type 0} where
     where
       s' : State T U
       s' = record s { warnings = ws }
+
+  -- Nor do channels.
+  pub with_all_channels_keeps : (s : State T U) → IsWellFormed s → (channels : ℕ → ℕ → ℕ → Channel) → IsWellFormed (record s { channels = channels })
+  with_all_channels_keeps s w channels = record {
+    publisher_places = w.publisher_places;
+    subscriber_places = w.subscriber_places;
+    publishers = λ p x e. publisher_kept s s' p x (w.publishers p x e) (omega arith) (λ q n h. h) (w.publishers p x e).ends_stand;
+    subscribers = λ q y e. subscriber_kept s s' q y (w.subscribers q y e) (omega arith) (λ p. refl) (λ p _. refl);
+    mailboxes = λ p q. let v : MailboxIsWellFormed s p q = w.mailboxes p q in record {
+      within = v.within;
+      room = v.room;
+      below = v.below;
+      known = v.known;
+      sender_end = v.sender_end;
+      receiver_end = v.receiver_end;
+      departed = v.departed;
+    };
+    loans = λ n l e. loan_kept s s' n l (w.loans n l e) (omega arith) (λ q n h. h) (w.loans n l e).is_out;
+  }
+    where
+      s' : State T U
+      s' = record s { channels = channels }
+
+  -- So a state stays well-formed where the channels of ports that aren't connected become new.
+  pub sender_reset_keeps : (s : State T U) (p : ℕ) → IsWellFormed s → IsWellFormed (sender_channels_reset s p)
+  sender_reset_keeps s p w = with_all_channels_keeps s w (sender_channels_reset s p).channels
+
+  pub receiver_reset_keeps : (s : State T U) (q : ℕ) → IsWellFormed s → IsWellFormed (receiver_channels_reset s q)
+  receiver_reset_keeps s q w = with_all_channels_keeps s w (receiver_channels_reset s q).channels
 
   -- A state whose subscribers are due is as well-formed as before.
   pub subscribers_due_keeps : (s : State T U) → IsWellFormed s → IsWellFormed (subscribers_due s)

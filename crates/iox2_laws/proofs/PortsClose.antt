@@ -6,7 +6,7 @@ use Rattle.std.proofs.lemmas.Bool.{ne_eqb, cond_both}
 use Rattle.std.proofs.lemmas.Option.{none-some, same_Some}
 use Rattle.iox2_store.specs.machine.Mailbox.{Mailbox, waiting_dropped}
 use Rattle.iox2_store.specs.machine.Records.{Publisher, Subscriber}
-use Rattle.iox2_store.specs.machine.State.{State}
+use Rattle.iox2_store.specs.machine.State.{State, receiver_channels_reset}
 use Rattle.iox2_store.specs.machine.Ports.{publisher_gone, mailbox_after_publisher, publisher_closed, mailbox_after_subscriber, subscriber_shut, subscriber_closed}
 use Rattle.iox2_store.specs.machine.Releases.{subscriber_pruned, place_freed, is_unused, pruned}
 use Rattle.iox2_laws.proofs.Puts.{put_at-same, put_at-other, at_each}
@@ -45,8 +45,8 @@ module _ {T U : Type 0} (s : State T U) (q : ℕ) (y : Subscriber) where
   mid = subscriber_pruned shut q
 
   -- what holds of both cases holds
-  pub either : (P : State T U → Type 0) → P (place_freed mid q) → P mid → P (subscriber_closed s q y)
-  either P freed kept = cond_both (is_unused mid q) (place_freed mid q) mid P (λ _. freed) (λ _. kept)
+  pub either : (P : State T U → Type 0) → P (receiver_channels_reset (place_freed mid q) q) → P (receiver_channels_reset mid q) → P (subscriber_closed s q y)
+  either P freed kept = cond_both (is_unused mid q) (place_freed mid q) mid (λ t. P (receiver_channels_reset t q)) (λ _. freed) (λ _. kept)
 
   -- the subscriber is gone, or it isn't open
   pub subscriber_closed_shut : (y' : Subscriber) → (subscriber_closed s q y).subscribers q ≡ Some y' → y'.is_open ≡ false

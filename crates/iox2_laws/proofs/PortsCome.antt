@@ -7,7 +7,7 @@ use Rattle.std.proofs.lemmas.Bool.{cond_both}
 use Rattle.std.specs.declared.time.Duration.{Duration}
 use Rattle.iox2_store.specs.machine.Numbers.{put_at, without, last_n}
 use Rattle.iox2_store.specs.machine.Records.{Loan, Publisher, Subscriber, Environment, PublisherSettings, SubscriberSettings}
-use Rattle.iox2_store.specs.machine.State.{State, with_loan, with_mailbox, publisher_changed, subscriber_changed}
+use Rattle.iox2_store.specs.machine.State.{State, with_loan, with_mailbox, publisher_changed, subscriber_changed, receiver_channels_reset}
 use Rattle.iox2_store.specs.machine.Delivery.{DeliveryEnd, Complete, Suspended, no_time}
 use Rattle.iox2_store.specs.machine.PublisherUpdate.{UpdatePublisher}
 use Rattle.iox2_store.specs.machine.SubscriberUpdate.{UpdateSubscriber}
@@ -253,12 +253,12 @@ module _ {T U : Type 0} where
   }
 
   -- a subscriber that is unused is gone
-  freed_comes : (s : State T U) (q : ℕ) → PortsCome s (freed_if_unused s q)
-  freed_comes s q = cond_both (is_unused s q) (place_freed s q) s (PortsCome s) (λ _. record {
+  freed_comes : (s : State T U) (q : ℕ) → PortsCome s (receiver_channels_reset (freed_if_unused s q) q)
+  freed_comes s q = cond_both (is_unused s q) (place_freed s q) s (λ t. PortsCome s (receiver_channels_reset t q)) (λ _. record {
     next_port = le_refl s.next_port;
     publishers = λ p x low e. mapped_publisher s.publishers (λ z. record z { is_due = true }) (λ z free. free) p x e;
     subscribers = λ i y low e o. found_removed s.subscribers q i y (CameSubscriber s.subscribers i y) e (λ _ old. (y, old, o, refl));
-  }) (λ _. ports_come_themselves s)
+  }) (λ _. same_ports s (receiver_channels_reset s q) refl refl refl)
 
   pub released_comes : (s : State T U) (p q n : ℕ) → PortsCome s (released s p q n)
   released_comes s p q n =

@@ -7,9 +7,9 @@ use Rattle.iox2_store.specs.machine.Limits.{expired_limit}
 use Rattle.iox2_store.specs.machine.Numbers.{put_at, without, last_n}
 use Rattle.iox2_store.specs.machine.Mailbox.{Mailbox}
 use Rattle.iox2_store.specs.machine.Records.{Loan, Publisher, Subscriber, Environment, PublisherSettings, SubscriberSettings}
-use Rattle.iox2_store.specs.machine.State.{State, receiving_buffer, has_receiver_end, has_sender_end, with_loan, publisher_changed}
+use Rattle.iox2_store.specs.machine.State.{State, receiving_buffer, channel_buffer, has_receiver_end, has_sender_end, with_loan, publisher_changed}
 use Rattle.iox2_store.specs.machine.Delivery.{DeliveryEnd, Complete, Suspended, no_time}
-use Rattle.iox2_store.specs.machine.PublisherUpdate.{sender_side, UpdatePublisher}
+use Rattle.iox2_store.specs.machine.PublisherUpdate.{sender_side, history_for, UpdatePublisher}
 use Rattle.iox2_store.specs.machine.SubscriberUpdate.{receiver_side, UpdateSubscriber}
 use Rattle.iox2_store.specs.machine.Loans.{GrantLoan, loan_granted, loan_discarded}
 use Rattle.iox2_store.specs.machine.Sends.{Send, Publish, DeliverAndConclude, ConcludeSend, SendResult, Blocked_send, with_mailboxes, published}
@@ -90,7 +90,7 @@ module _ {T U : Type 0} where
       by_bool (PortsStay s s') x.is_due _ _ h
       (λ _ h.
       let are : (q : ℕ) → SameBorrowed (s.mailboxes p) q ((h.0).mailboxes q) =
-      sender_side_keeps (SameBorrowed (s.mailboxes p)) (λ i box same. same) environment (s.config).service_id p x.degradation_handler x.history
+      sender_side_keeps (SameBorrowed (s.mailboxes p)) (λ i box same. same) environment (s.config).service_id p x.degradation_handler (history_for s p x)
       (receiving_buffer s) (has_receiver_end s p) (λ i buffer box same. same) s.subscriber_places (sender_side s p x) h.0 failure (λ i. refl) h.1 in
       subst (PortsStay s) (sym h.2) (record {
         remain = record {
@@ -206,7 +206,7 @@ module _ {T U : Type 0} where
   delivered_stays environment s p n retries elapsed place ends count has_failed s' result h free =
       by_option (PortsStay s s') (s.publishers p) _ _ h (λ _ v. absurd v) (λ x present h.
       let are : (q : ℕ) → SameBorrowed (s.mailboxes p) q (h.1 q) =
-      (deliver_keeps (SameBorrowed (s.mailboxes p)) (λ i box same. same) environment s.config p x.backpressure_strategy x.backpressure_handler (receiving_buffer s) n
+      (deliver_keeps (SameBorrowed (s.mailboxes p)) (λ i box same. same) environment s.config p x.backpressure_strategy x.backpressure_handler (channel_buffer s p 0) n
       (λ i buffer box same. same) retries elapsed place ends count has_failed (s.mailboxes p) h.0 h.1 (λ q. refl) h.2).0 in
       let mid : State T U = with_mailboxes s p h.1 in
       let first : PortsStay s mid = record {

@@ -19,6 +19,7 @@ use Rattle.iox2_laws.proofs.NumberLemmas.{contains_in_append, contains_left, con
 use Rattle.iox2_laws.proofs.PlaceLemmas.{contains-occupants}
 use Rattle.iox2_laws.proofs.MailboxLemmas.{has_numbers-contains}
 use Rattle.iox2_laws.proofs.SenderSides.{KeepsLimits, FitsBuffer, SenderSideIsWellFormed, sender_side_keeps}
+use Rattle.iox2_laws.proofs.PortChanges.{sender_reset_keeps}
 
 module _ {T U : Type 0} where
   -- ---- the state with another side of the publisher p, which isn't blocked
@@ -229,7 +230,8 @@ module _ {T U : Type 0} where
       by_option (IsWellFormed s') (s.publishers p) _ _ h (λ _ v. absurd v) (λ x present h.
       by_bool (IsWellFormed s') x.is_due _ _ h
       (λ _ h. subst IsWellFormed (sym h.2)
-      (with_sender_side_keeps s w p x present (no_blocked_send s p x present free) h.0 (sender_side_keeps s w p x present environment h.0 failure h.1)))
+      (sender_reset_keeps (with_sender_side s p x h.0) p
+      (with_sender_side_keeps s w p x present (no_blocked_send s p x present free) h.0 (sender_side_keeps s w p x present environment h.0 failure h.1))))
       (λ _ h. subst IsWellFormed (sym h.0) w))
 
   -- A publisher's update leaves the configuration and the counters.

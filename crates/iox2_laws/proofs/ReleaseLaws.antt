@@ -5,7 +5,7 @@ use Rattle.std.specs.Option.{option_map}
 use Rattle.std.proofs.lemmas.Bool.{true≢false, or_right, eqb-true, eqb-false}
 use Rattle.iox2_laws.proofs.Puts.{put_at-other, at_each, found_mapped}
 use Rattle.iox2_laws.proofs.NumberLemmas.{contains_in_append, contains_left, contains_right, absent_from, size_le, contains_in_flat_map, contains-flat_map}
-use Rattle.iox2_laws.proofs.PortChanges.{RestIsWellFormed, IsNearlyWellFormed, with_rest}
+use Rattle.iox2_laws.proofs.PortChanges.{RestIsWellFormed, IsNearlyWellFormed, with_rest, receiver_reset_keeps}
 use Rattle.iox2_laws.proofs.Freed.{freed_if_unused_keeps, freed_if_unused_advances}
 use Rattle.iox2_laws.proofs.FilterLemmas.{contains_in_filter, contains-filter, IsOnce-filter, length-filter_le}
 use Rattle.iox2_laws.proofs.PlaceLemmas.{occupant-places_kept, places_kept_keeps, length-places_kept, injective_places_kept}
@@ -17,7 +17,7 @@ use Rattle.iox2_store.specs.machine.Places.{occupant, occupants}
 use Rattle.iox2_store.specs.machine.Mailbox.{Mailbox, numbers_in, has_numbers, has_borrows, has_data, waiting_count, with_released, IsWithin}
 use Rattle.iox2_store.specs.machine.Records.{Publisher, Subscriber}
 use Rattle.iox2_store.specs.machine.State.{State, Warnings, held, is_present}
-use Rattle.iox2_store.specs.machine.Releases.{is_connected, pruned, unborrowed, subscriber_pruned, released}
+use Rattle.iox2_store.specs.machine.Releases.{is_connected, pruned, unborrowed, subscriber_pruned, released, freed_if_unused}
 use Rattle.iox2_store.specs.machine.WellFormed.{LeadsTo, subscriber_place, BlockedIsWellFormed, PublisherIsWellFormed, SubscriberIsWellFormed, MailboxIsWellFormed, LoanIsWellFormed, IsWellFormed}
 
 -- ---- less in the mailboxes
@@ -348,10 +348,12 @@ module _ {T U : Type 0} where
   -- A release keeps a state well-formed.
   pub released_keeps : (s : State T U) → IsWellFormed s → (p q n : ℕ) → IsWellFormed (released s p q n)
   released_keeps s w p q n =
-      freed_if_unused_keeps (subscriber_pruned (unborrowed s p q n) q) q (released_nearly s w p q n)
+      let t : State T U = subscriber_pruned (unborrowed s p q n) q in
+      receiver_reset_keeps (freed_if_unused t q) q (freed_if_unused_keeps t q (released_nearly s w p q n))
 
   -- No counter falls at a release.
   pub released_advances : (s : State T U) (p q n : ℕ) → Advances s (released s p q n)
   released_advances s p q n =
-      let a : Advances (subscriber_pruned (unborrowed s p q n) q) (released s p q n) = freed_if_unused_advances (subscriber_pruned (unborrowed s p q n) q) q in
+      let t : State T U = subscriber_pruned (unborrowed s p q n) q in
+      let a : Advances t (freed_if_unused t q) = freed_if_unused_advances t q in
       record { config = a.config; next_port = a.next_port; next_message = a.next_message }

@@ -7,7 +7,7 @@ use Rattle.std.proofs.lemmas.Bool.{ne_eqb, true≢false, cases_eq, cond_both}
 use Rattle.iox2_store.specs.machine.Numbers.{contains, without, put_at}
 use Rattle.iox2_store.specs.machine.Mailbox.{Mailbox, is_borrowed, has_borrows, BorrowsFirst, with_released}
 use Rattle.iox2_store.specs.machine.Records.{Publisher, Subscriber, Environment}
-use Rattle.iox2_store.specs.machine.State.{State, with_mailbox, connected_publishers}
+use Rattle.iox2_store.specs.machine.State.{State, with_mailbox, connected_publishers, receiver_channels_reset}
 use Rattle.iox2_store.specs.machine.Receives.{Receive, TakeSample, ReceiveResult, Got_sample, No_sample, Receive_error}
 use Rattle.iox2_store.specs.machine.Releases.{released, unborrowed, subscriber_pruned, freed_if_unused, place_freed, is_unused, pruned}
 use Rattle.iox2_laws.proofs.LoanKeeping.{update_subscriber_loans}
@@ -103,7 +103,10 @@ module _ {T U : Type 0} (environment : Environment) (s : State T U) (q : ℕ) wh
 module _ {T U : Type 0} (s : State T U) (p q n : ℕ) where
   -- nothing that is there goes but a closed subscriber
   pub released_remain : Remain s (released s p q n)
-  released_remain = freed (subscriber_pruned (unborrowed s p q n) q) first where
+  released_remain = reset_remain _ (freed (subscriber_pruned (unborrowed s p q n) q) first) where
+    reset_remain : (t : State T U) → Remain s t → Remain s (receiver_channels_reset t q)
+    reset_remain t r = record { config = r.config; publishers = r.publishers; subscribers = r.subscribers }
+
     first : Remain s (subscriber_pruned (unborrowed s p q n) q)
     first = record {
       config = refl;

@@ -8,7 +8,7 @@ use Rattle.iox2_store.specs.machine.Numbers.{put_at, contains, without, last_n}
 use Rattle.iox2_store.specs.machine.Places.{occupant}
 use Rattle.iox2_store.specs.machine.Mailbox.{Mailbox, numbers_in}
 use Rattle.iox2_store.specs.machine.Records.{Loan, Publisher, BlockedSend, Environment}
-use Rattle.iox2_store.specs.machine.State.{State, is_blocked, receiving_buffer, publisher_changed}
+use Rattle.iox2_store.specs.machine.State.{State, is_blocked, channel_buffer, publisher_changed}
 use Rattle.iox2_store.specs.machine.Delivery.{DeliveryEnd, Complete, Suspended, no_time}
 use Rattle.iox2_store.specs.machine.Sends.{SendResult, more_retries, published, send_ended, send_blocked, ConcludeSend, with_mailboxes, DeliverAndConclude, Publish, Send, Retry, GiveUp}
 use Rattle.iox2_store.specs.machine.WellFormed.{LeadsTo, IsInjective, BlockedIsWellFormed, PublisherIsWellFormed, IsWellFormed}
@@ -62,13 +62,13 @@ module _ {T U : Type 0} where
       → DeliverAndConclude environment s p b.message retries elapsed place ends count has_failed s' result → IsWellFormed s'
   delivery_goes_on_keeps environment s p x b retries elapsed place ends count has_failed s' result w here waits tail few inside h =
       by_option (IsWellFormed s') (s.publishers p) _ _ h (λ _ v. absurd v) (λ x2 _ h.
-      let d : Delivered (receiving_buffer s) b.message x.ends ends (s.mailboxes p) h.0 h.1 =
-      deliver_is environment s.config p x2.backpressure_strategy x2.backpressure_handler (receiving_buffer s) b.message retries elapsed place ends count
+      let d : Delivered (channel_buffer s p 0) b.message x.ends ends (s.mailboxes p) h.0 h.1 =
+      deliver_is environment s.config p x2.backpressure_strategy x2.backpressure_handler (channel_buffer s p 0) b.message retries elapsed place ends count
       has_failed x.ends (s.mailboxes p) h.0 h.1
       (subst IsInjective (sym tail) (injective_drop place x.ends ((w.publishers p x here).ends_apart))) tail few h.2 in
       conclude h.0 h.1 d h.3)
     where
-      conclude : (how : DeliveryEnd) (boxes : ℕ → Mailbox) → Delivered (receiving_buffer s) b.message x.ends ends (s.mailboxes p) how boxes
+      conclude : (how : DeliveryEnd) (boxes : ℕ → Mailbox) → Delivered (channel_buffer s p 0) b.message x.ends ends (s.mailboxes p) how boxes
           → ConcludeSend (with_mailboxes s p boxes) p b.message how s' result → IsWellFormed s'
       conclude (Complete count has_failed) boxes d h = subst IsWellFormed
           (ap (λ o. record s {
@@ -154,20 +154,20 @@ module _ {T U : Type 0} where
         (λ apart. sym (put_at-other (published s p n).publishers p (option_map f ((published s p n).publishers p)) i apart
         ∙ put_at-other s.publishers p (option_map g (s.publishers p)) i apart))
 
-    conclude_published : (how : DeliveryEnd) (boxes : ℕ → Mailbox) (s' : State T U) (result : SendResult) → Delivered (receiving_buffer s) n x.ends x.ends
+    conclude_published : (how : DeliveryEnd) (boxes : ℕ → Mailbox) (s' : State T U) (result : SendResult) → Delivered (channel_buffer s p 0) n x.ends x.ends
         (s.mailboxes p) how boxes
         → ConcludeSend (with_mailboxes (published s p n) p boxes) p n how s' result → IsWellFormed s'
     conclude_published (Complete count has_failed) boxes s' result d h = subst IsWellFormed
         (same_state (altered s p (record x { loans = without n x.loans; history = longer; blocked = None }) boxes (put_at s.loans n None) s.next_message)
         (send_ended (with_mailboxes (published s p n) p boxes) p n) refl refl refl (λ _. refl)
         (written_alike (λ v. record v { loans = without n v.loans; blocked = None }) (record x { loans = without n x.loans; history = longer; blocked = None }) refl)
-        (λ _. refl) (λ _ _. refl) refl refl refl ∙ sym h.0)
+        (λ _. refl) (λ _ _. refl) (λ _ _. refl) refl refl refl ∙ sym h.0)
         (ended_keeps s w p x here n (put_at s.loans n None) longer x.ends (Complete count has_failed) boxes underway_of_loan d)
     conclude_published (Suspended b) boxes s' result d h = subst IsWellFormed
         (same_state (altered s p (record x { history = longer; blocked = Some b }) boxes (put_at s.loans n None) s.next_message)
         (send_blocked (with_mailboxes (published s p n) p boxes) p b) refl refl refl (λ _. refl)
         (written_alike (λ v. record v { blocked = Some b }) (record x { history = longer; blocked = Some b }) refl)
-        (λ _. refl) (λ _ _. refl) refl refl refl ∙ sym h.0)
+        (λ _. refl) (λ _ _. refl) (λ _ _. refl) refl refl refl ∙ sym h.0)
         (blocked_keeps s w p x here n (put_at s.loans n None) longer x.ends (Suspended b) boxes underway_of_loan d b refl)
 
     -- a loan of a publisher that isn't blocked is published
@@ -177,10 +177,10 @@ module _ {T U : Type 0} where
         by_option (IsWellFormed s') ((published s p n).publishers p) _ _ h (λ _ v. absurd v) (λ x2 _ h.
         let same : x1 ≡ x = same_Some x1 x (sym here1 ∙ here) in
         let apart : IsInjective x1.ends = (w.publishers p x1 here1).ends_apart in
-        let d : Delivered (receiving_buffer s) n x1.ends x1.ends (s.mailboxes p) h.0 h.1 =
-        deliver_is environment s.config p x2.backpressure_strategy x2.backpressure_handler (receiving_buffer s) n 0 no_time 0 x1.ends 0 false x1.ends
+        let d : Delivered (channel_buffer s p 0) n x1.ends x1.ends (s.mailboxes p) h.0 h.1 =
+        deliver_is environment s.config p x2.backpressure_strategy x2.backpressure_handler (channel_buffer s p 0) n 0 no_time 0 x1.ends 0 false x1.ends
         (s.mailboxes p) h.0 h.1 apart refl (le_refl 0) h.2 in
-        conclude_published h.0 h.1 s' result (subst (λ (v : Publisher). Delivered (receiving_buffer s) n v.ends v.ends (s.mailboxes p) h.0 h.1) same d) h.3))
+        conclude_published h.0 h.1 s' result (subst (λ (v : Publisher). Delivered (channel_buffer s p 0) n v.ends v.ends (s.mailboxes p) h.0 h.1) same d) h.3))
 
   -- ---- a loan is sent
 

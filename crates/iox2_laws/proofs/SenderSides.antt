@@ -1,15 +1,16 @@
 -- What holds of a publisher's ends and mailboxes throughout its update.
-use Rattle.std.proofs.Common.{◌≡◌, ℕ, ◌≤◌, ◌<◌, Bool, true, false, cond, List, length, refl, sym, ap, subst, ◌∙◌, arith, eqb, Option, None, Some, ◌⊎◌, inl, inr, ⊎_elim}
-use Rattle.std.proofs.lemmas.Bool.{eqb-false, eq-eqb, ne_eqb}
+use Rattle.std.proofs.Common.{◌≡◌, ℕ, ◌≤◌, ◌<◌, Bool, true, false, cond, List, [], length, refl, sym, ap, subst, ◌∙◌, arith, eqb, Option, None, Some, ◌⊎◌, inl, inr, ⊎_elim}
+use Rattle.std.proofs.lemmas.Bool.{true≢false, eqb-false, eq-eqb, ne_eqb, cond_both}
 use Rattle.std.proofs.lemmas.Option.{none-some, same_Some, cond_some, option_and_then_some}
 use Rattle.iox2_store.specs.machine.Limits.{buffer_limit}
 use Rattle.iox2_store.specs.machine.Numbers.{put_at, contains, last_n, IsOnce}
 use Rattle.iox2_store.specs.machine.Places.{occupant, set_place, is_port}
+use Rattle.iox2_store.specs.machine.Channel.{is_closed}
 use Rattle.iox2_store.specs.machine.Mailbox.{Mailbox, numbers_in, has_numbers, has_borrows, waiting_count, waiting_dropped, with_waiting, IsWithin}
 use Rattle.iox2_store.specs.machine.Records.{Publisher, Subscriber, Environment}
 use Rattle.iox2_store.specs.machine.State.{State, receiving_buffer, has_receiver_end}
 use Rattle.iox2_store.specs.machine.Connections.{ForEachPlace}
-use Rattle.iox2_store.specs.machine.PublisherUpdate.{SenderSide, SenderAction, Keep_end, Drop_waiting, Disconnect, Connect, sender_action, dropped, disconnected, connected, Performs, UpdateSenderPlace, sender_side}
+use Rattle.iox2_store.specs.machine.PublisherUpdate.{SenderSide, SenderAction, Keep_end, Drop_waiting, Disconnect, Connect, sender_action, dropped, disconnected, connected, Performs, UpdateSenderPlace, sender_side, history_for}
 use Rattle.iox2_store.specs.machine.WellFormed.{LeadsTo, IsInjective, subscriber_place, IsWellFormed, PublisherIsWellFormed, SubscriberIsWellFormed}
 use Rattle.iox2_store.specs.declared.errors.ConnectionFailure.{ConnectionFailure}
 use Rattle.iox2_laws.proofs.Puts.{at_each}
@@ -81,6 +82,16 @@ module _ {T U : Type 0} where
   buffer_of s q buffer h =
       option_and_then_some (λ (y : Subscriber). cond y.is_open (Some y.buffer) None) (s.subscribers q) buffer h
       (λ y e f. (y, e, (cond_some y.is_open y.buffer buffer f).1))
+
+  -- what is handed out to a new receiver stands in the history
+  pub in_history_for : (s : State T U) (p : ℕ) (x : Publisher) (q n : ℕ) → contains (history_for s p x q) n ≡ true → contains x.history n ≡ true
+  in_history_for s p x q n =
+      cond_both (is_closed (s.channels p q 0)) [] x.history (λ ns. contains ns n ≡ true → contains x.history n ≡ true)
+      (λ _ h. absurd (true≢false (sym h))) (λ _ h. h)
+
+  -- it is no longer
+  pub length-history_for_le : (s : State T U) (p : ℕ) (x : Publisher) (q : ℕ) → length (history_for s p x q) ≤ length x.history
+  length-history_for_le s p x q = cond_both (is_closed (s.channels p q 0)) [] x.history (λ ns. length ns ≤ length x.history) (λ _. omega arith) (λ _. omega arith)
 
   module _ (s : State T U) (w : IsWellFormed s) (p : ℕ) (x : Publisher) (present : s.publishers p ≡ Some x) where
     abbrev Keeps : List (Option ℕ) → (ℕ → Mailbox) → Type 0
@@ -214,15 +225,19 @@ module _ {T U : Type 0} where
               (λ _ n h. inr (of_history n (contains_in_history buffer ns (side.mailboxes q) n empty h))) (λ _. k.comes_from r);
         }
 
-    -- those of the whole history
+    -- those that are handed out to a new receiver
     connected_keeps : (side : SenderSide) (place q buffer : ℕ) → place < length s.subscriber_places → occupant s.subscriber_places place ≡ Some q
         → receiving_buffer s q ≡ Some buffer → occupant side.ends place ≡ None
-        → SideKeeps side → SideKeeps (connected x.history side place q buffer)
-    connected_keeps = let u : PublisherIsWellFormed s p x = w.publishers p x present in connected_with_keeps x.history u.history_once (λ n h. h)
+        → SideKeeps side → SideKeeps (connected (history_for s p x q) side place q buffer)
+    connected_keeps side place q buffer =
+        let u : PublisherIsWellFormed s p x = w.publishers p x present in
+        connected_with_keeps (history_for s p x q)
+        (cond_both (is_closed (s.channels p q 0)) [] x.history IsOnce (λ _. tt) (λ _. u.history_once))
+        (λ n h. in_history_for s p x q n h) side place q buffer
 
     module _ (environment : Environment) where
       abbrev Does : SenderAction → (place : ℕ) → SenderSide → SenderSide → Option ConnectionFailure → Type 0
-      Does = Performs environment (s.config).service_id p x.degradation_handler x.history (receiving_buffer s) (has_receiver_end s p)
+      Does = Performs environment (s.config).service_id p x.degradation_handler (history_for s p x) (receiving_buffer s) (has_receiver_end s p)
 
       -- what is done at a place keeps it
       pub performed_keeps : (place : ℕ) (at end : Option ℕ) (side side' : SenderSide) (failure : Option ConnectionFailure) → place < length s.subscriber_places
@@ -259,12 +274,12 @@ module _ {T U : Type 0} where
 
       -- It holds when the update ends.
       pub sender_side_keeps : (side : SenderSide) (failure : Option ConnectionFailure)
-          → ForEachPlace (UpdateSenderPlace environment (s.config).service_id p x.degradation_handler x.history (receiving_buffer s) (has_receiver_end s p))
+          → ForEachPlace (UpdateSenderPlace environment (s.config).service_id p x.degradation_handler (history_for s p x) (receiving_buffer s) (has_receiver_end s p))
           0 s.subscriber_places (sender_side s p x) side failure
           → SenderSideIsWellFormed s p x side.ends side.mailboxes
       sender_side_keeps side failure h =
           for_each_place_keeps
-          (UpdateSenderPlace environment (s.config).service_id p x.degradation_handler x.history (receiving_buffer s) (has_receiver_end s p))
+          (UpdateSenderPlace environment (s.config).service_id p x.degradation_handler (history_for s p x) (receiving_buffer s) (has_receiver_end s p))
           SideKeeps s.subscriber_places
           (λ i side side' failure low k h. performed_keeps i (occupant s.subscriber_places i) (occupant side.ends i) side side' failure low refl refl k h)
           (sender_side s p x) side failure sender_side_begins h

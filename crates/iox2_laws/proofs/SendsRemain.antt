@@ -13,7 +13,7 @@ use Rattle.iox2_store.specs.declared.errors.ConnectionFailure.{ConnectionFailure
 use Rattle.iox2_store.specs.declared.warning.Warning.TheVariants.{PublisherPartlyConnected}
 use Rattle.iox2_laws.proofs.PublisherUpdates.{update_publisher_leaves}
 use Rattle.iox2_laws.proofs.Waits.{update_publisher_waits}
-use Rattle.iox2_store.specs.machine.State.{State, receiving_buffer, with_loan, publisher_changed}
+use Rattle.iox2_store.specs.machine.State.{State, channel_buffer, with_loan, publisher_changed}
 use Rattle.iox2_store.specs.machine.Delivery.{Deliver, DeliveryEnd, Complete, Suspended, accepted_count, is_failed, is_blocking, no_time}
 use Rattle.iox2_store.specs.machine.Sends.{Send, Publish, Retry, GiveUp, DeliverAndConclude, ConcludeSend, SendResult, Blocked_send, Delivered_to, Send_error, with_mailboxes, published, more_retries}
 use Rattle.iox2_store.specs.machine.SingleCalls.{HoldsBlocked}
@@ -75,7 +75,7 @@ module _ {T U : Type 0} where
   delivered_remains environment s p n retries elapsed place ends count has_failed s' result h =
       by_option (PortsRemain s s') (s.publishers p) _ _ h (λ _ v. absurd v) (λ x present h.
       let are : (q : ℕ) → SameBorrowed (s.mailboxes p) q (h.1 q) =
-      (deliver_keeps (SameBorrowed (s.mailboxes p)) (λ i box same. same) environment s.config p x.backpressure_strategy x.backpressure_handler (receiving_buffer s) n
+      (deliver_keeps (SameBorrowed (s.mailboxes p)) (λ i box same. same) environment s.config p x.backpressure_strategy x.backpressure_handler (channel_buffer s p 0) n
       (λ i buffer box same. same) retries elapsed place ends count has_failed (s.mailboxes p) h.0 h.1 (λ q. refl) h.2).0 in
       let mid : State T U = with_mailboxes s p h.1 in
       let first : PortsRemain s mid = record {
@@ -149,8 +149,8 @@ module _ {T U : Type 0} where
   delivered_waits_with environment s p n retries elapsed place ends count has_failed s' result h is =
       by_option (HoldsBlocked s' p n) (s.publishers p) _ _ h (λ _ v. absurd v) (λ x present h.
       concluded_waits_with (with_mailboxes s p h.1) p n x present h.0 s' result
-      (λ b e. suspended_message environment s.config p x.backpressure_strategy x.backpressure_handler (receiving_buffer s) n retries elapsed place ends count has_failed (s.mailboxes p) b h.1
-      (subst (λ (how : DeliveryEnd). Deliver environment s.config p x.backpressure_strategy x.backpressure_handler (receiving_buffer s) n retries elapsed place ends count has_failed (s.mailboxes p) how h.1) e h.2))
+      (λ b e. suspended_message environment s.config p x.backpressure_strategy x.backpressure_handler (channel_buffer s p 0) n retries elapsed place ends count has_failed (s.mailboxes p) b h.1
+      (subst (λ (how : DeliveryEnd). Deliver environment s.config p x.backpressure_strategy x.backpressure_handler (channel_buffer s p 0) n retries elapsed place ends count has_failed (s.mailboxes p) how h.1) e h.2))
       h.3 is)
 
   pub send_waits_with : (environment : Environment) (s : State T U) (n : ℕ) (l : Loan T U) (s' : State T U) (result : SendResult) → Send environment s n l s' result → result ≡ Blocked_send

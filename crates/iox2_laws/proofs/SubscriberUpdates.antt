@@ -19,6 +19,7 @@ use Rattle.iox2_store.specs.machine.SubscriberUpdate.{ReceiverSide, ConnectAtPla
 use Rattle.iox2_store.specs.machine.WellFormed.{LeadsTo, subscriber_place, SubscriberIsWellFormed, IsWellFormed}
 use Rattle.iox2_store.specs.declared.degradation.DegradationAction.{DegradationAction}
 use Rattle.iox2_store.specs.declared.errors.ConnectionFailure.{ConnectionFailure}
+use Rattle.iox2_laws.proofs.PortChanges.{receiver_reset_keeps}
 
 -- A mailbox whose waiting messages are lost has nothing new.
 pub shrinks_dropped : (limit borrow_limit : ℕ) (box : Mailbox) → IsWithin limit borrow_limit box → Shrinks limit borrow_limit box (waiting_dropped box)
@@ -158,7 +159,7 @@ module _ {T U : Type 0} where
       update_receiver_side_keeps environment s w q y.degradation_handler (λ p. has_sender_end s p q) (receiver_side s q y) h.0 failure
       (receiver_side_begins s w q y here) h.1 in
       subst IsWellFormed (sym h.2)
-      (with_receiver_side_keeps s w q y h.0 here b))
+      (receiver_reset_keeps (with_receiver_side s q y h.0) q (with_receiver_side_keeps s w q y h.0 here b)))
       (λ _ h. subst IsWellFormed (sym h.0) w))
 
   -- No counter falls at a subscriber's update.

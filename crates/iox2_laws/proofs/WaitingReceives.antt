@@ -10,9 +10,9 @@ use Rattle.iox2_store.specs.machine.Numbers.{put_at, contains, is_nil}
 use Rattle.iox2_store.specs.machine.Places.{occupant, occupants, places_kept}
 use Rattle.iox2_store.specs.machine.Mailbox.{Mailbox, has_data, has_numbers, has_borrows, waiting_count, with_released}
 use Rattle.iox2_store.specs.machine.Records.{Subscriber, Handler, Environment}
-use Rattle.iox2_store.specs.machine.State.{State, connected_publishers, has_sender_end, with_mailbox}
+use Rattle.iox2_store.specs.machine.State.{State, connected_publishers, has_sender_end, with_mailbox, receiver_channels_reset}
 use Rattle.iox2_store.specs.machine.Connections.{ForEachPlace, first_failure, expired_buffer_full}
-use Rattle.iox2_store.specs.machine.SubscriberUpdate.{ReceiverSide, Retirement, Keep_expired, Evict, Discard_data, Refuse, retirement_of, is_refused, after_retirement, with_end, ConnectReceiver, Retire, ConnectAtPlace, DisconnectAtPlace, UpdateReceiverSide, receiver_side, UpdateSubscriber}
+use Rattle.iox2_store.specs.machine.SubscriberUpdate.{ReceiverSide, Retirement, Keep_expired, Evict, Discard_data, Refuse, retirement_of, is_refused, after_retirement, with_end, ConnectReceiver, Retire, ConnectAtPlace, DisconnectAtPlace, UpdateReceiverSide, receiver_side, UpdateSubscriber, with_receiver_side}
 use Rattle.iox2_store.specs.machine.Receives.{ReceiveResult, Got_sample, No_sample, Receive_error, has_any_data, can_receive_of, MayReceiveFrom, TakeSample, Receive, HasSamples}
 use Rattle.iox2_store.specs.machine.Releases.{is_connected, pruned, is_unused, place_freed, freed_if_unused, unborrowed, subscriber_pruned, released}
 use Rattle.iox2_store.specs.machine.Waiting.{sum_below, receives_from, waiting_from, waiting_for}
@@ -133,17 +133,13 @@ module _ {T U : Type 0} (environment : Environment) (s : State T U) (q : ℕ) wh
     where
       updated : (y : Subscriber) → s.subscribers q ≡ Some y → y.is_due ≡ true → (side : ReceiverSide) → ((p : ℕ) → waiting_count (side.mailboxes p) ≤ waiting_count (s.mailboxes p q))
           → ((p k : ℕ) → contains (side.mailboxes p).waiting k ≡ true → contains (s.mailboxes p q).waiting k ≡ true)
-          → UpdateWaits (record s {
-            subscribers = put_at s.subscribers q (Some (record y { ends = side.ends; expired = side.expired; is_due = side.is_due }));
-            mailboxes = λ p. put_at (s.mailboxes p) q (side.mailboxes p);
-            warnings = side.warnings;
-          })
+          → UpdateWaits (receiver_channels_reset (with_receiver_side s q y side) q)
       updated y present due side less old = record { ports = refl; fewer = fewer; among = among; others = others } where
         after : Subscriber
         after = record y { ends = side.ends; expired = side.expired; is_due = side.is_due }
 
         s'' : State T U
-        s'' = record s { subscribers = put_at s.subscribers q (Some after); mailboxes = λ p. put_at (s.mailboxes p) q (side.mailboxes p); warnings = side.warnings }
+        s'' = receiver_channels_reset (with_receiver_side s q y side) q
 
         now : (p : ℕ) → waiting_from s'' p q ≡ cond (receives_from after p) (side.mailboxes p).waiting []
         now p =
@@ -456,7 +452,7 @@ module _ {T U : Type 0} (s : State T U) (q : ℕ) where
 pub released_waits : {T U : Type 0} (s : State T U) (p q n : ℕ) → SameWaits s (released s p q n)
 released_waits {T} {U} s p q n = record {
   ports = ports (is_unused t q);
-  from = λ j i. freed_waits t q j i ∙ pruned_waits u q j i ∙ unborrowed_first j i;
+  from = λ j i. reset_waits j i ∙ freed_waits t q j i ∙ pruned_waits u q j i ∙ unborrowed_first j i;
 }
   where
     u : State T U
@@ -464,6 +460,9 @@ released_waits {T} {U} s p q n = record {
 
     t : State T U
     t = subscriber_pruned u q
+
+    reset_waits : (j i : ℕ) → waiting_from (released s p q n) j i ≡ waiting_from (freed_if_unused t q) j i
+    reset_waits j i = refl
 
     ports : (b : Bool) → (cond b (place_freed t q) t).next_port ≡ s.next_port
     ports true = refl

@@ -8,10 +8,10 @@ use Rattle.iox2_store.specs.machine.Numbers.{put_at, contains, without, last_n, 
 use Rattle.iox2_store.specs.machine.Places.{occupants}
 use Rattle.iox2_store.specs.machine.Mailbox.{Mailbox, has_room, waiting_count, with_appended}
 use Rattle.iox2_store.specs.machine.Records.{Loan, Publisher, Subscriber, BlockedSend, Handler, Environment}
-use Rattle.iox2_store.specs.machine.State.{State, receiving_buffer, has_receiver_end}
+use Rattle.iox2_store.specs.machine.State.{State, receiving_buffer, channel_buffer, has_receiver_end}
 use Rattle.iox2_store.specs.machine.Delivery.{PutResult, DeliveryEnd, Complete, Suspended, Put, Deliver, no_time, is_blocking, accepted_count, is_failed}
 use Rattle.iox2_store.specs.machine.Connections.{ForEachPlace}
-use Rattle.iox2_store.specs.machine.PublisherUpdate.{SenderSide, sender_side, UpdateSenderPlace, UpdatePublisher}
+use Rattle.iox2_store.specs.machine.PublisherUpdate.{SenderSide, sender_side, history_for, UpdateSenderPlace, UpdatePublisher}
 use Rattle.iox2_store.specs.machine.Sends.{Send, Retry, GiveUp, Publish, DeliverAndConclude, ConcludeSend, SendResult, more_retries, with_mailboxes, published}
 use Rattle.iox2_store.specs.machine.Waiting.{receives_from, waiting_from, waiting_for}
 use Rattle.iox2_store.specs.machine.WellFormed.{IsWellFormed}
@@ -20,6 +20,7 @@ use Rattle.iox2_store.specs.declared.backpressure.BackpressureStrategy.{Backpres
 use Rattle.iox2_store.specs.declared.backpressure.BackpressureAction.{BackpressureAction}
 use Rattle.iox2_store.specs.declared.errors.ConnectionFailure.{ConnectionFailure}
 use Rattle.iox2_laws.proofs.Cases.{by_option, by_bool}
+use Rattle.iox2_laws.proofs.SenderSides.{in_history_for, length-history_for_le}
 use Rattle.iox2_laws.proofs.Puts.{put_at-same, put_at-other, at_each}
 use Rattle.iox2_laws.proofs.MailboxWalks.{sender_side_keeps, deliver_keeps}
 use Rattle.iox2_laws.proofs.NumberLemmas.{length-last_n_le, contains_in_append, contains_one, contains_in_drop, contains_in_last_n}
@@ -60,12 +61,15 @@ module _ {T U : Type 0} where
       (λ _ h. subst (λ (t : State T U). waiting_for t q ≤ waiting_for s q + (s.config).history_size) (sym h.0) (omega arith)))
     where
       boxes : (x : Publisher) → s.publishers p ≡ Some x → (side : SenderSide) (failure : Option ConnectionFailure)
-          → ForEachPlace (UpdateSenderPlace environment (s.config).service_id p x.degradation_handler x.history (receiving_buffer s) (has_receiver_end s p)) 0 s.subscriber_places (sender_side s p x) side failure
+          → ForEachPlace (UpdateSenderPlace environment (s.config).service_id p x.degradation_handler (history_for s p x) (receiving_buffer s) (has_receiver_end s p)) 0 s.subscriber_places (sender_side s p x) side failure
           → waiting_count (side.mailboxes q) ≤ waiting_count (s.mailboxes p q) + (s.config).history_size
       boxes x present side failure walk =
           let most : length x.history ≤ (s.config).history_size = (w.publishers p x present).history_bound in
-          sender_side_keeps (λ i box. waiting_count box ≤ waiting_count (s.mailboxes p i) + (s.config).history_size) (λ i box less. omega arith) environment (s.config).service_id p x.degradation_handler x.history
-          (receiving_buffer s) (has_receiver_end s p) (λ i buffer box less. let few : length (last_n buffer x.history) ≤ length x.history = length-last_n_le buffer x.history in omega arith)
+          sender_side_keeps (λ i box. waiting_count box ≤ waiting_count (s.mailboxes p i) + (s.config).history_size) (λ i box less. omega arith) environment (s.config).service_id p x.degradation_handler (history_for s p x)
+          (receiving_buffer s) (has_receiver_end s p) (λ i buffer box less.
+          let few : length (last_n buffer (history_for s p x i)) ≤ length (history_for s p x i) = length-last_n_le buffer (history_for s p x i) in
+          let all : length (history_for s p x i) ≤ length x.history = length-history_for_le s p x i in
+          omega arith)
           s.subscriber_places (sender_side s p x) side failure (λ i. omega arith) walk q
 
 -- ---- a delivery
@@ -166,7 +170,7 @@ module _ {T U : Type 0} where
       let mid : State T U = published s p n in
       let after = concluded_ends s p n h.1 h.0 s' result x present h.3 in
       let few : waiting_count (h.1 q) ≤ waiting_count (s.mailboxes p q) + cond (contains (occupants x.ends) q) 1 0 =
-      deliver_more environment s.config p z.backpressure_strategy z.backpressure_handler (receiving_buffer mid) n 0 no_time 0 x.ends 0 false (s.mailboxes p) h.0 h.1
+      deliver_more environment s.config p z.backpressure_strategy z.backpressure_handler (channel_buffer mid p 0) n 0 no_time 0 x.ends 0 false (s.mailboxes p) h.0 h.1
       (subst (λ ends. IsOnce (occupants ends)) after.2 (IsOnce-occupants (after.0).ends (w.publishers p after.0 after.1).ends_apart)) h.2 q in
       let one : cond (contains (occupants x.ends) q) 1 0 ≤ 1 = at_most_one (contains (occupants x.ends) q) in
       let rows : waiting_for (with_mailboxes mid p h.1) q ≤ waiting_for mid q + 1 = row_more mid p h.1 q 1 (omega arith) in
@@ -194,7 +198,7 @@ module _ {T U : Type 0} where
   goes_on_waits environment s p n retries elapsed place ends count has_failed s' result once h q =
       by_option (waiting_for s' q ≤ waiting_for s q + 1) (s.publishers p) _ _ h (λ _ v. absurd v) (λ x _ k.
       let few : waiting_count (k.1 q) ≤ waiting_count (s.mailboxes p q) + cond (contains (occupants ends) q) 1 0 =
-      deliver_more environment s.config p x.backpressure_strategy x.backpressure_handler (receiving_buffer s) n retries elapsed place ends count has_failed (s.mailboxes p) k.0 k.1 once k.2 q in
+      deliver_more environment s.config p x.backpressure_strategy x.backpressure_handler (channel_buffer s p 0) n retries elapsed place ends count has_failed (s.mailboxes p) k.0 k.1 once k.2 q in
       let one : cond (contains (occupants ends) q) 1 0 ≤ 1 = at_most_one (contains (occupants ends) q) in
       let rows : waiting_for (with_mailboxes s p k.1) q ≤ waiting_for s q + 1 = row_more s p k.1 q 1 (omega arith) in
       let same : waiting_for s' q ≡ waiting_for (with_mailboxes s p k.1) q = concluded_waits (with_mailboxes s p k.1) p n k.0 s' result k.3 q in
@@ -253,13 +257,13 @@ module _ {T U : Type 0} where
       Before = contains (waiting_from s i q) k ≡ true
 
       boxes : (x : Publisher) → s.publishers p ≡ Some x → (side : SenderSide) (failure : Option ConnectionFailure)
-          → ForEachPlace (UpdateSenderPlace environment (s.config).service_id p x.degradation_handler x.history (receiving_buffer s) (has_receiver_end s p)) 0 s.subscriber_places (sender_side s p x) side failure
+          → ForEachPlace (UpdateSenderPlace environment (s.config).service_id p x.degradation_handler (history_for s p x) (receiving_buffer s) (has_receiver_end s p)) 0 s.subscriber_places (sender_side s p x) side failure
           → contains (side.mailboxes q).waiting k ≡ true → contains (s.mailboxes p q).waiting k ≡ true
       boxes x present side failure walk =
           let most : length x.history ≤ (s.config).history_size = (w.publishers p x present).history_bound in
           let none : length x.history ≤ 0 = omega arith in
-          sender_side_keeps (λ j box. contains box.waiting k ≡ true → contains (s.mailboxes p j).waiting k ≡ true) (λ j box old at. absurd (true≢false (sym at))) environment (s.config).service_id p x.degradation_handler x.history
-          (receiving_buffer s) (has_receiver_end s p) (λ j buffer box old at. absurd (none_in x.history k none (contains_in_last_n buffer x.history k at)))
+          sender_side_keeps (λ j box. contains box.waiting k ≡ true → contains (s.mailboxes p j).waiting k ≡ true) (λ j box old at. absurd (true≢false (sym at))) environment (s.config).service_id p x.degradation_handler (history_for s p x)
+          (receiving_buffer s) (has_receiver_end s p) (λ j buffer box old at. absurd (none_in x.history k none (in_history_for s p x j k (contains_in_last_n buffer (history_for s p x j) k at))))
           s.subscriber_places (sender_side s p x) side failure (λ j at. at) walk q
 
   publish_among : (environment : Environment) (s : State T U) (p n : ℕ) (s' : State T U) (result : SendResult) → Publish environment s p n s' result
@@ -270,7 +274,7 @@ module _ {T U : Type 0} where
       let mid : State T U = published s p n in
       let rows : (j : ℕ) → contains (h.1 j).waiting k ≡ true → (k ≡ n) ⊎ (contains (s.mailboxes p j).waiting k ≡ true) =
       (deliver_keeps (λ j box. contains box.waiting k ≡ true → (k ≡ n) ⊎ (contains (s.mailboxes p j).waiting k ≡ true)) (λ j box old at. absurd (true≢false (sym at)))
-      environment s.config p z.backpressure_strategy z.backpressure_handler (receiving_buffer mid) n
+      environment s.config p z.backpressure_strategy z.backpressure_handler (channel_buffer mid p 0) n
       (λ j buffer box old at. ⊎_elim (λ new. inl new) old (appended_among buffer n box.waiting k at)) 0 no_time 0 x.ends 0 false (s.mailboxes p) h.0 h.1 (λ j at. inr at) h.2).0 in
       row_among mid p h.1 (λ m. m ≡ n) i q k (rows q)
       (sym (concluded_from (with_mailboxes mid p h.1) p n h.0 s' result h.3 i q k) ∙ at)))

@@ -11,7 +11,7 @@ use Rattle.iox2_store.specs.machine.Numbers.{without, size, last_n}
 use Rattle.iox2_store.specs.machine.Numbers.{put_at}
 use Rattle.iox2_store.specs.machine.Places.{free_place}
 use Rattle.iox2_store.specs.machine.Records.{Loan, Publisher, Subscriber, Environment, BlockedSend, PublisherSettings, SubscriberSettings}
-use Rattle.iox2_store.specs.machine.State.{State, held, with_loan, with_mailbox, publisher_changed}
+use Rattle.iox2_store.specs.machine.State.{State, held, with_loan, with_mailbox, publisher_changed, receiver_channels_reset}
 use Rattle.iox2_store.specs.machine.Delivery.{DeliveryEnd, Complete, Suspended, no_time}
 use Rattle.iox2_store.specs.machine.PublisherUpdate.{UpdatePublisher}
 use Rattle.iox2_store.specs.machine.SubscriberUpdate.{UpdateSubscriber}
@@ -336,10 +336,10 @@ module _ (Spared : ℕ → Type 0) where
         (λ _ e. mapped_subscriber s.subscribers (pruned s q) q (λ z. record { place = refl; buffer = refl }) y e) (λ _ e. (y, e, stands_still y)) e)
 
     -- a subscriber that is unused is gone
-    freed_waits : (s : State T U) (q : ℕ) → Waits Spared s (freed_if_unused s q)
-    freed_waits s q = cond_both (is_unused s q) (place_freed s q) s (Waits Spared s)
-        (λ _. all_due s (place_freed s q) (le_refl s.next_port) refl (λ i y low e. found_removed s.subscribers q i y (WasSubscriber s.subscribers i y) e (λ _ old. (y, old, stands_still y))))
-        (λ _. waits_itself s)
+    freed_waits : (s : State T U) (q : ℕ) → Waits Spared s (receiver_channels_reset (freed_if_unused s q) q)
+    freed_waits s q = cond_both (is_unused s q) (place_freed s q) s (λ t. Waits Spared s (receiver_channels_reset t q))
+        (λ _. all_due s (receiver_channels_reset (place_freed s q) q) (le_refl s.next_port) refl (λ i y low e. found_removed s.subscribers q i y (WasSubscriber s.subscribers i y) e (λ _ old. (y, old, stands_still y))))
+        (λ _. same_ports s (receiver_channels_reset s q) refl refl refl)
 
     pub released_waits : (s : State T U) (p q n : ℕ) → Waits Spared s (released s p q n)
     released_waits s p q n =

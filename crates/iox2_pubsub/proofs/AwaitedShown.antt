@@ -1,12 +1,13 @@
 -- Who awaits whose update, in the words of `Live`.
-use Rattle.std.proofs.Common.{◌≡◌, ℕ, ◌<◌, sym, ap, subst, ◌∙◌, Option, None}
+use Rattle.std.proofs.Common.{◌≡◌, ℕ, ◌<◌, false, sym, ap, subst, ◌∙◌, Option, None}
+use Rattle.iox2_store.specs.machine.Channel.{is_closed}
 use Rattle.iox2_store.specs.machine.Limits.{refusal_limit}
 use Rattle.iox2_store.specs.machine.Ports.{CreateSubscriber}
 use Rattle.iox2_store.specs.machine.PublisherUpdate.{UpdatePublisher}
 use Rattle.iox2_store.specs.machine.Records.{Environment, SubscriberSettings}
 use Rattle.iox2_store.specs.machine.State.{State, Messages}
 use Rattle.iox2_store.specs.declared.errors.ConnectionFailure.{ConnectionFailure}
-use Rattle.iox2_domain.specs.Kept.{Kept}
+use Rattle.iox2_domain.specs.Kept.{Kept, state_of}
 use Rattle.iox2_domain.specs.Shows.{Shows}
 use Rattle.iox2_pubsub.specs.ConnectedPorts.{Awaits}
 use Rattle.iox2_pubsub.specs.Live.{Connected, IsAwaited, IsPublisherKey, NoneRefused, publisher_key}
@@ -34,13 +35,15 @@ module _ {T U F G : Type 0} (old new : Kept T U F G) (m m' : Messages T U) (s s'
   same-refusals none = ap (λ (t : State T U). (t.warnings).refused_connections) shown'.state ∙ none.0 ∙ sym (ap (λ (t : State T U). (t.warnings).refused_connections) shown.state)
 
   -- a subscriber that was made awaits each publisher that was there
-  pub made-awaits : (given : SubscriberSettings) → CreateSubscriber environment s given s' None → (subscriber : Subscriber) → subscriber.id ≡ s.next_port → NoneRefused old new
+  pub made-awaits : (given : SubscriberSettings) → CreateSubscriber environment s given s' None → (subscriber : Subscriber) → subscriber.id ≡ s.next_port
+      → ((p : ℕ) → is_closed ((state_of old).channels p (state_of old).next_port 0) ≡ false) → NoneRefused old new
       → (publisher : Publisher) → IsPublisherKey old (publisher_key publisher) → IsAwaited new publisher.id subscriber
-  made-awaits given h subscriber its none publisher there =
+  made-awaits given h subscriber its takes none publisher there =
       let has = (publisher-parts old (publisher_key publisher) there).2 in
       awaited new m' s' shown' publisher.id subscriber
       (subst (Awaits s' publisher.id) (sym its)
-      (create-subscriber-awaits environment s shown.well_formed given s' h (low none) (same-refusals none) publisher.id has.0 (ap (λ (t : State T U). t.publishers publisher.id) shown.state ∙ has.1)))
+      (create-subscriber-awaits environment s shown.well_formed given s' h (low none) (same-refusals none) publisher.id has.0 (ap (λ (t : State T U). t.publishers publisher.id) shown.state ∙ has.1)
+      (subst (λ (t : State T U). is_closed (t.channels publisher.id t.next_port 0) ≡ false) (sym shown.state) (takes publisher.id))))
 
   -- a publisher's update connects it with whom awaits it
   pub update-connected : (p : ℕ) (failure : Option ConnectionFailure) → UpdatePublisher environment s p s' failure → Connected p old new

@@ -12,7 +12,7 @@ use Rattle.iox2_store.specs.machine.Records.{Publisher, Subscriber, Handler, Env
 use Rattle.iox2_store.specs.machine.State.{State, receiving_buffer, has_receiver_end}
 use Rattle.iox2_store.specs.machine.Connections.{ForEachPlace}
 use Rattle.iox2_store.specs.machine.Delivery.{PutResult, DeliveryEnd, Complete, Suspended, Put, Deliver, is_blocking, is_failed, accepted_count, no_time}
-use Rattle.iox2_store.specs.machine.PublisherUpdate.{SenderSide, SenderAction, Keep_end, Drop_waiting, Disconnect, Connect, sender_action, dropped, disconnected, connected, Performs, UpdateSenderPlace, sender_side, with_sender_side, UpdatePublisher}
+use Rattle.iox2_store.specs.machine.PublisherUpdate.{SenderSide, SenderAction, Keep_end, Drop_waiting, Disconnect, Connect, sender_action, dropped, disconnected, connected, Performs, UpdateSenderPlace, history_for, sender_side, with_sender_side, UpdatePublisher}
 use Rattle.iox2_store.specs.machine.WellFormed.{IsWellFormed, subscriber_place}
 use Rattle.iox2_store.specs.declared.backpressure.BackpressureStrategy.{BackpressureStrategy}
 use Rattle.iox2_store.specs.declared.backpressure.BackpressureAction.{BackpressureAction}
@@ -25,6 +25,7 @@ use Rattle.iox2_laws.proofs.PlaceLemmas.{occupant-set_place, found_set}
 use Rattle.iox2_laws.proofs.Puts.{put_at-same, put_at-other}
 use Rattle.iox2_laws.proofs.Walks.{for_each_place_keeps}
 use Rattle.iox2_pubsub.specs.ConnectedPorts.{Connects}
+use Rattle.iox2_pubsub.proofs.OpenChannels.{sender-reset-connects}
 
 -- ---- a publisher's update
 
@@ -85,9 +86,9 @@ module _ (q place : ℕ) (box : Mailbox) where
     alone = λ j e. ⊎_elim (λ new. absurd (other (same_Some k q new.1))) (λ old. there.alone j old.1) (found_set side.ends i (Some k) j q e);
   }
 
-  module _ (environment : Environment) (service_id p : ℕ) (handler : Handler DegradationAction) (history : List ℕ) (buffers : ℕ → Option ℕ) (has_end : ℕ → Bool) where
+  module _ (environment : Environment) (service_id p : ℕ) (handler : Handler DegradationAction) (histories : ℕ → List ℕ) (buffers : ℕ → Option ℕ) (has_end : ℕ → Bool) where
     performed : (action : SenderAction) → Spares q action → (i : ℕ) (side side' : SenderSide) (failure : Option ConnectionFailure) → i ≢ place → LeadsThere side
-        → Performs environment service_id p handler history buffers has_end action i side side' failure → LeadsThere side'
+        → Performs environment service_id p handler histories buffers has_end action i side side' failure → LeadsThere side'
     performed Keep_end spares i side side' failure away there h = subst LeadsThere (sym h.0) there
     performed (Drop_waiting k) spares i side side' failure away there h = subst LeadsThere (sym h.0) (there-dropped k side spares there)
     performed Disconnect spares i side side' failure away there h =
@@ -95,24 +96,24 @@ module _ (q place : ℕ) (box : Mailbox) where
     performed (Connect k buffer) spares i side side' failure away there h =
         let free : LeadsThere (disconnected side i (occupant side.ends i)) = there-disconnected i (occupant side.ends i) side away (λ e. away (there.alone i e)) there in
         ⊎_elim
-        (λ made. subst LeadsThere (sym made.0) (there-connected history i k buffer (disconnected side i (occupant side.ends i)) away spares free))
+        (λ made. subst LeadsThere (sym made.0) (there-connected (histories k) i k buffer (disconnected side i (occupant side.ends i)) away spares free))
         (λ refused. subst LeadsThere (sym refused.3) (record { at = free.at; same = free.same; alone = free.alone }))
         h
 
     walked : (places : List (Option ℕ)) (buffer : ℕ) → buffers q ≡ Some buffer → occupant places place ≡ Some q → ((i : ℕ) → occupant places i ≡ Some q → i ≡ place)
         → (side side' : SenderSide) (failure : Option ConnectionFailure) → LeadsThere side
-        → ForEachPlace (UpdateSenderPlace environment service_id p handler history buffers has_end) 0 places side side' failure → LeadsThere side'
+        → ForEachPlace (UpdateSenderPlace environment service_id p handler histories buffers has_end) 0 places side side' failure → LeadsThere side'
     walked places buffer opened stands alone side side' failure =
-        for_each_place_keeps (UpdateSenderPlace environment service_id p handler history buffers has_end) LeadsThere places step side side' failure
+        for_each_place_keeps (UpdateSenderPlace environment service_id p handler histories buffers has_end) LeadsThere places step side side' failure
       where
         step : (i : ℕ) (a b : SenderSide) (failure : Option ConnectionFailure) → i < length places → LeadsThere a
-            → UpdateSenderPlace environment service_id p handler history buffers has_end i (occupant places i) a b failure → LeadsThere b
+            → UpdateSenderPlace environment service_id p handler histories buffers has_end i (occupant places i) a b failure → LeadsThere b
         step i a b failure low there h = elim (cases_eq i place) [
           | inl here ↦
               let action : sender_action buffers (occupant places i) (occupant a.ends i) ≡ Keep_end =
               ap (λ j. sender_action buffers (occupant places j) (occupant a.ends j)) here ∙ ap (λ o. sender_action buffers o (occupant a.ends place)) stands
               ∙ ap (sender_action buffers (Some q)) there.at ∙ keeps-end buffers q buffer opened in
-              let kept : (b ≡ a) × (failure ≡ None) = subst (λ (act : SenderAction). Performs environment service_id p handler history buffers has_end act i a b failure) action h in
+              let kept : (b ≡ a) × (failure ≡ None) = subst (λ (act : SenderAction). Performs environment service_id p handler histories buffers has_end act i a b failure) action h in
               subst LeadsThere (sym kept.0) there
           | inr away ↦ performed (sender_action buffers (occupant places i) (occupant a.ends i)) (action-spares q buffers (occupant places i) (occupant a.ends i) (λ e. away (alone i e))) i a b failure away there h
         ]
@@ -132,7 +133,7 @@ module _ {T U : Type 0} where
 
     -- a publisher updates its own
     own-updated : (x : Publisher) → s.publishers p ≡ Some x → (side : SenderSide) (failure : Option ConnectionFailure)
-        → ForEachPlace (UpdateSenderPlace environment (s.config).service_id p x.degradation_handler x.history (receiving_buffer s) (has_receiver_end s p)) 0 s.subscriber_places (sender_side s p x) side failure
+        → ForEachPlace (UpdateSenderPlace environment (s.config).service_id p x.degradation_handler (history_for s p x) (receiving_buffer s) (has_receiver_end s p)) 0 s.subscriber_places (sender_side s p x) side failure
         → KeepsBox s (with_sender_side s p x side) p q
     own-updated x present side failure walk = (
       record {
@@ -142,6 +143,7 @@ module _ {T U : Type 0} where
         subscriber = c.subscriber;
         there = c.there;
         receives = c.receives;
+        takes = c.takes;
       },
       ap (λ (row : ℕ → Mailbox). row q) (put_at-same s.mailboxes p side.mailboxes) ∙ there.same,
     )
@@ -166,7 +168,7 @@ module _ {T U : Type 0} where
         placed = ap (option_map {T = Subscriber} {U = ℕ} (λ y. y.place)) c.there
 
         there : LeadsThere q place (s.mailboxes p q) side
-        there = walked q place (s.mailboxes p q) environment (s.config).service_id p x.degradation_handler x.history (receiving_buffer s) (has_receiver_end s p) s.subscriber_places (c.subscriber).buffer
+        there = walked q place (s.mailboxes p q) environment (s.config).service_id p x.degradation_handler (history_for s p x) (receiving_buffer s) (has_receiver_end s p) s.subscriber_places (c.subscriber).buffer
             (opened-buffer s q c.subscriber c.there is-open) ((w.subscriber_places).stands q place placed)
             (λ i e. same_Some i place (sym ((w.subscriber_places).known q i e) ∙ placed)) (sender_side s p x) side failure before walk
 
@@ -180,6 +182,7 @@ module _ {T U : Type 0} where
         subscriber = c.subscriber;
         there = c.there;
         receives = c.receives;
+        takes = c.takes;
       },
       ap (λ (row : ℕ → Mailbox). row q) (put_at-other s.mailboxes i side.mailboxes p apart),
     )
@@ -188,16 +191,18 @@ module _ {T U : Type 0} where
     update-publisher-connected i s' failure h =
         by_option (KeepsBox s s' p q) (s.publishers i) _ _ h (λ _ v. absurd v) (λ x present h.
         by_bool (KeepsBox s s' p q) x.is_due _ _ h
-        (λ _ h. subst (λ (t : State T U). KeepsBox s t p q) (sym h.2) (at x present h.0 h.1))
+        (λ _ h.
+        let kept = at x present h.0 h.1 in
+        subst (λ (t : State T U). KeepsBox s t p q) (sym h.2) (sender-reset-connects (with_sender_side s i x h.0) i p q kept.0, kept.1))
         (λ _ h. subst (λ (t : State T U). KeepsBox s t p q) (sym h.0) (c, refl)))
       where
         at : (x : Publisher) → s.publishers i ≡ Some x → (side : SenderSide)
-            → ForEachPlace (UpdateSenderPlace environment (s.config).service_id i x.degradation_handler x.history (receiving_buffer s) (has_receiver_end s i)) 0 s.subscriber_places (sender_side s i x) side failure
+            → ForEachPlace (UpdateSenderPlace environment (s.config).service_id i x.degradation_handler (history_for s i x) (receiving_buffer s) (has_receiver_end s i)) 0 s.subscriber_places (sender_side s i x) side failure
             → KeepsBox s (with_sender_side s i x side) p q
         at x present side walk = elim (cases_eq p i) [
           | inl here ↦
               subst (λ k. (x : Publisher) → s.publishers k ≡ Some x → (side : SenderSide)
-              → ForEachPlace (UpdateSenderPlace environment (s.config).service_id k x.degradation_handler x.history (receiving_buffer s) (has_receiver_end s k)) 0 s.subscriber_places (sender_side s k x) side failure
+              → ForEachPlace (UpdateSenderPlace environment (s.config).service_id k x.degradation_handler (history_for s k x) (receiving_buffer s) (has_receiver_end s k)) 0 s.subscriber_places (sender_side s k x) side failure
               → KeepsBox s (with_sender_side s k x side) p q) here (λ x present side walk. own-updated x present side failure walk) x present side walk
           | inr away ↦ other-updated i x side (ne_eqb p i away)
         ]

@@ -7,6 +7,7 @@ use Rattle.std.proofs.lemmas.Bool.{ne_eqb}
 use Rattle.std.proofs.lemmas.List.{length-map, map-append, drop-map}
 use Rattle.std.proofs.lemmas.Option.{none-some, same_Some}
 use Rattle.iox2_store.specs.machine.Loans.{entry_of}
+use Rattle.iox2_store.specs.machine.Channel.{is_closed}
 use Rattle.iox2_store.specs.machine.Limits.{refusal_limit}
 use Rattle.iox2_store.specs.machine.Numbers.{contains, put_at}
 use Rattle.iox2_store.specs.machine.Ports.{CreatePublisher, publisher_closed, subscriber_closed}
@@ -147,13 +148,14 @@ module _ {T U F G : Type 0} (old new : Kept T U F G) (m m' : Messages T U) (s s'
 
   -- and it is connected with each subscriber that is live, where no connection was refused memory
   pub made-connects : (environment : Environment) (given : PublisherSettings) (p : ℕ) → p ≡ s.next_port → CreatePublisher environment s given s' None
-      → NoneRefused old new → (subscriber : Subscriber) → IsSubscriberKey old (subscriber_key subscriber) → IsConnected new p subscriber
-  made-connects environment given p here h none subscriber live =
+      → ((q : ℕ) → is_closed ((state_of old).channels (state_of old).next_port q 0) ≡ false) → NoneRefused old new → (subscriber : Subscriber) → IsSubscriberKey old (subscriber_key subscriber) → IsConnected new p subscriber
+  made-connects environment given p here h takes none subscriber live =
       let has = live-open old new m m' s s' shown shown' subscriber live in
       let low : (s.warnings).refused_connections < refusal_limit = subst (λ (t : State T U). (t.warnings).refused_connections < refusal_limit) (sym shown.state) none.1 in
       connected new m' s' shown' p subscriber
       (subst (λ i. Connects s' i subscriber.id) (sym here)
-      (create-publisher-connects environment s shown.well_formed given s' h subscriber.id has.0 has.1 has.2 low
+      (create-publisher-connects environment s shown.well_formed given s' h subscriber.id has.0 has.1 has.2
+      (subst (λ (t : State T U). is_closed (t.channels t.next_port subscriber.id 0) ≡ false) (sym shown.state) (takes subscriber.id)) low
       (ap (λ (t : State T U). (t.warnings).refused_connections) shown'.state ∙ none.0 ∙ sym (ap (λ (t : State T U). (t.warnings).refused_connections) shown.state))))
 
 module _ {T U F G : Type 0} (old new : Kept T U F G) (m : Messages T U) (s : State T U) (environment : Environment) (shown : Shows old m s) where

@@ -6,17 +6,18 @@ use Rattle.std.specs.Option.{is_some, option_map, option_map_or}
 use Rattle.std.specs.declared.time.Duration.{Duration}
 use Rattle.std.proofs.lemmas.Bool.{true≢false, ne_eqb, eqb-true, eq-eqb, ltb-false, cases_eq}
 use Rattle.std.proofs.lemmas.Option.{none-some, same_Some}
+use Rattle.iox2_store.specs.machine.Channel.{Channel, is_closed}
 use Rattle.iox2_store.specs.machine.Limits.{expired_limit}
 use Rattle.iox2_store.specs.machine.Numbers.{put_at, contains, without}
 use Rattle.iox2_store.specs.machine.Places.{occupant, occupants, is_port, places_kept}
 use Rattle.iox2_store.specs.machine.Mailbox.{has_borrows, has_numbers}
 use Rattle.iox2_store.specs.machine.Records.{Publisher, Subscriber, Loan, Handler, Environment, BlockedSend, SubscriberSettings}
-use Rattle.iox2_store.specs.machine.State.{State, has_sender_end, connected_publishers, with_loan}
+use Rattle.iox2_store.specs.machine.State.{State, has_sender_end, connected_publishers, subscribers_due, with_loan}
 use Rattle.iox2_store.specs.machine.Connections.{ForEachPlace}
 use Rattle.iox2_store.specs.machine.Loans.{GrantLoan, loan_granted, loan_discarded}
-use Rattle.iox2_store.specs.machine.Ports.{FirstSubscriberUpdate, CreateSubscriber, with_new_subscriber, new_subscriber, with_failure_warning, publisher_closed, publisher_gone, subscriber_shut, subscriber_closed}
+use Rattle.iox2_store.specs.machine.Ports.{FirstSubscriberUpdate, CreateSubscriber, with_new_subscriber, new_subscriber, with_failure_warning, publisher_closed, publisher_gone, subscribers_pruned, subscriber_shut, subscriber_closed}
 use Rattle.iox2_store.specs.machine.Receives.{ReceiveResult, Got_sample, No_sample, Receive_error, TakeSample, Receive}
-use Rattle.iox2_store.specs.machine.Releases.{is_connected, pruned, is_unused, place_freed, unborrowed, subscriber_pruned, released}
+use Rattle.iox2_store.specs.machine.Releases.{is_connected, pruned, is_unused, place_freed, freed_if_unused, unborrowed, subscriber_pruned, released}
 use Rattle.iox2_store.specs.machine.Sends.{SendResult, Retry, GiveUp, DeliverAndConclude, more_retries}
 use Rattle.iox2_store.specs.machine.Delivery.{no_time}
 use Rattle.iox2_store.specs.machine.SubscriberUpdate.{ReceiverSide, Retirement, Keep_expired, Evict, Discard_data, Refuse, retirement_of, is_refused, after_retirement, with_end, ConnectReceiver, Retire, ConnectAtPlace, DisconnectAtPlace, UpdateReceiverSide, receiver_side, with_receiver_side, UpdateSubscriber}
@@ -37,7 +38,8 @@ use Rattle.iox2_laws.proofs.PortsClose.{publisher_closed_others}
 use Rattle.iox2_laws.proofs.Puts.{put_at-same, put_at-other, at_each}
 use Rattle.iox2_laws.proofs.UpToDate.{grant_loan_subscribers, retry_subscribers, give_up_subscribers}
 use Rattle.iox2_pubsub.specs.ConnectedPorts.{Connects}
-use Rattle.iox2_pubsub.proofs.SendsServe.{EndsStay, ends-themselves, changed-ends, same-connections, concluded-ends}
+use Rattle.iox2_pubsub.proofs.OpenChannels.{receiver-reset-connects, sender-reset-takes}
+use Rattle.iox2_pubsub.proofs.SendsServe.{EndsStay, ends-themselves, changed-ends, same-connections, concluded-channels, concluded-ends}
 
 -- ---- a walk over places, of which one place is looked at
 
@@ -177,17 +179,17 @@ module _ {T U : Type 0} where
   ConnectsStay s s' = (p q : ℕ) → Connects s p q → Connects s' p q
 
   -- the same ports
-  pub ports-same : (s s' : State T U) → s'.publishers ≡ s.publishers → s'.subscribers ≡ s.subscribers → ConnectsStay s s'
-  ports-same s s' publishers subscribers = same-connections s s' (ends-themselves s s' publishers) subscribers
+  pub ports-same : (s s' : State T U) → s'.publishers ≡ s.publishers → s'.subscribers ≡ s.subscribers → s'.channels ≡ s.channels → ConnectsStay s s'
+  ports-same s s' publishers subscribers channels = same-connections s s' (ends-themselves s s' publishers) subscribers channels
 
   pub stays-itself : (s s' : State T U) → s' ≡ s → ConnectsStay s s'
   stays-itself s s' same p q c = subst (λ (t : State T U). Connects t p q) (sym same) c
 
   -- another record of the subscriber, which receives as well
-  pub with-record : (s s' : State T U) (p q : ℕ) (c : Connects s p q) (y : Subscriber) → EndsStay s s' → s'.subscribers q ≡ Some y → receives_from y p ≡ true → Connects s' p q
-  with-record s s' p q c y ends there receives =
+  pub with-record : (s s' : State T U) (p q : ℕ) (c : Connects s p q) (y : Subscriber) → EndsStay s s' → s'.subscribers q ≡ Some y → receives_from y p ≡ true → s'.channels ≡ s.channels → Connects s' p q
+  with-record s s' p q c y ends there receives channels =
       let at = ends p c.publisher c.stands in
-      record { publisher = at.0; stands = at.1; sends = subst (λ es. LeadsTo es q) (sym at.2) c.sends; subscriber = y; there = there; receives = receives }
+      record { publisher = at.0; stands = at.1; sends = subst (λ es. LeadsTo es q) (sym at.2) c.sends; subscriber = y; there = there; receives = receives; takes = ap (λ (f : ℕ → ℕ → ℕ → Channel). is_closed (f p q 0)) channels ∙ c.takes }
 
   -- ---- loans
 
@@ -209,13 +211,14 @@ module _ {T U : Type 0} where
       → GrantLoan environment default_header checks_length len s p s' refusal → ConnectsStay s s'
   grant-connections environment default_header checks_length len s p s' refusal h =
       same-connections s s' (grant-ends environment default_header checks_length len s p s' refusal h) (grant_loan_subscribers environment default_header checks_length len s p s' refusal h)
+      (grant_cases environment default_header checks_length len s p s' (s'.channels ≡ s.channels) refusal h (λ e same _. ap (λ (t : State T U). t.channels) same) (λ x present grants. ap (λ (t : State T U). t.channels) grants.4))
 
   pub set-connections : (s : State T U) (n : ℕ) (l : Option (Loan T U)) → ConnectsStay s (with_loan s n l)
-  set-connections s n l = ports-same s (with_loan s n l) refl refl
+  set-connections s n l = ports-same s (with_loan s n l) refl refl refl
 
   pub discard-connections : (s : State T U) (n : ℕ) (l : Loan T U) → ConnectsStay s (loan_discarded s n l)
   discard-connections s n l =
-      same-connections s (loan_discarded s n l) (changed-ends (with_loan s n None) l.publisher (λ x. record x { loans = without n x.loans }) (λ x. refl)) refl
+      same-connections s (loan_discarded s n l) (changed-ends (with_loan s n None) l.publisher (λ x. record x { loans = without n x.loans }) (λ x. refl)) refl refl
 
   -- ---- blocked sends
 
@@ -224,15 +227,22 @@ module _ {T U : Type 0} where
   goes-on-ends environment s p n retries elapsed place ends count has_failed s' result h =
       by_option (EndsStay s s') (s.publishers p) _ _ h (λ _ v. absurd v) (λ x _ k. concluded-ends s p n k.1 k.0 s' result k.3)
 
+  goes-on-channels : (environment : Environment) (s : State T U) (p n retries : ℕ) (elapsed : Duration) (place : ℕ) (ends : List (Option ℕ)) (count : ℕ) (has_failed : Bool) (s' : State T U)
+      (result : SendResult) → DeliverAndConclude environment s p n retries elapsed place ends count has_failed s' result → s'.channels ≡ s.channels
+  goes-on-channels environment s p n retries elapsed place ends count has_failed s' result h =
+      by_option (s'.channels ≡ s.channels) (s.publishers p) _ _ h (λ _ v. absurd v) (λ x _ k. concluded-channels s p n k.1 k.0 s' result k.3)
+
   pub retry-connections : (environment : Environment) (s : State T U) (p : ℕ) (b : BlockedSend) (elapsed : Duration) (s' : State T U) (result : SendResult)
       → Retry environment s p b elapsed s' result → ConnectsStay s s'
   retry-connections environment s p b elapsed s' result h =
       same-connections s s' (goes-on-ends environment s p b.message (more_retries b.retries) elapsed b.place b.ends b.count b.has_failed s' result h) (retry_subscribers environment s p b elapsed s' result h)
+      (goes-on-channels environment s p b.message (more_retries b.retries) elapsed b.place b.ends b.count b.has_failed s' result h)
 
   pub give-up-connections : (environment : Environment) (s : State T U) (p : ℕ) (b : BlockedSend) (s' : State T U) (result : SendResult)
       → GiveUp environment s p b s' result → ConnectsStay s s'
   give-up-connections environment s p b s' result h =
       same-connections s s' (goes-on-ends environment s p b.message 0 no_time (b.place + 1) (drop 1 b.ends) b.count b.has_failed s' result h) (give_up_subscribers environment s p b s' result h)
+      (goes-on-channels environment s p b.message 0 no_time (b.place + 1) (drop 1 b.ends) b.count b.has_failed s' result h)
 
   -- ---- a subscriber's update, and a receive
 
@@ -241,7 +251,7 @@ module _ {T U : Type 0} where
   update-subscriber-connections environment s i s' failure w h p q c =
       by_option (Connects s' p q) (s.subscribers i) _ _ h (λ _ v. absurd v) (λ y present h.
       by_bool (Connects s' p q) y.is_due _ _ h
-      (λ _ h. subst (λ (t : State T U). Connects t p q) (sym h.2) (updated y present h.0 h.1))
+      (λ _ h. subst (λ (t : State T U). Connects t p q) (sym h.2) (receiver-reset-connects (with_receiver_side s i y h.0) i p q (updated y present h.0 h.1)))
       (λ _ h. stays-itself s s' h.0 p q c))
     where
       sends-end : has_sender_end s p q ≡ true
@@ -270,14 +280,14 @@ module _ {T U : Type 0} where
             with-record s (with_receiver_side s i y side) p q c (record y { ends = side.ends; expired = side.expired; is_due = side.is_due }) (ends-themselves s (with_receiver_side s i y side) refl)
             (ap (put_at s.subscribers i _) here ∙ put_at-same s.subscribers i _)
             (receives-by y.is_open side.is_due (contains (side.expired ++ occupants side.ends) p) opened
-            (⊎_elim (λ due. inl due) (λ end. inr (contains_right side.expired (occupants side.ends) p (contains-occupants side.ends p ((c.publisher).place, end)))) knows))
+            (⊎_elim (λ due. inl due) (λ end. inr (contains_right side.expired (occupants side.ends) p (contains-occupants side.ends p ((c.publisher).place, end)))) knows)) refl
         | inr away ↦
             with-record s (with_receiver_side s i y side) p q c c.subscriber (ends-themselves s (with_receiver_side s i y side) refl)
-            (put_at-other s.subscribers i _ q (ne_eqb q i away) ∙ c.there) c.receives
+            (put_at-other s.subscribers i _ q (ne_eqb q i away) ∙ c.there) c.receives refl
       ]
 
   taken-connections : (s : State T U) (q : ℕ) (y : Subscriber) (s' : State T U) (result : ReceiveResult) → TakeSample s q y s' result → ConnectsStay s s'
-  taken-connections s q y s' (Got_sample p n) h = ports-same s s' (ap (λ (t : State T U). t.publishers) h.3) (ap (λ (t : State T U). t.subscribers) h.3)
+  taken-connections s q y s' (Got_sample p n) h = ports-same s s' (ap (λ (t : State T U). t.publishers) h.3) (ap (λ (t : State T U). t.subscribers) h.3) (ap (λ (t : State T U). t.channels) h.3)
   taken-connections s q y s' No_sample h = stays-itself s s' h.1
   taken-connections s q y s' (Receive_error e) h = stays-itself s s' h.3
 
@@ -308,9 +318,9 @@ module _ {T U : Type 0} where
     | inl here ↦
         with-record t (subscriber_pruned t i) p q c (pruned t i c.subscriber) (ends-themselves t (subscriber_pruned t i) refl)
         (ap (put_at t.subscribers i _) here ∙ put_at-same t.subscribers i _ ∙ ap (option_map {T = Subscriber} (pruned t i)) (ap t.subscribers (sym here) ∙ c.there))
-        (pruned-receives t i p c.subscriber c.publisher c.stands c.receives)
+        (pruned-receives t i p c.subscriber c.publisher c.stands c.receives) refl
     | inr away ↦
-        with-record t (subscriber_pruned t i) p q c c.subscriber (ends-themselves t (subscriber_pruned t i) refl) (put_at-other t.subscribers i _ q (ne_eqb q i away) ∙ c.there) c.receives
+        with-record t (subscriber_pruned t i) p q c c.subscriber (ends-themselves t (subscriber_pruned t i) refl) (put_at-other t.subscribers i _ q (ne_eqb q i away) ∙ c.there) c.receives refl
   ]
 
   pub due-ends : (s s' : State T U) → ((p : ℕ) → s'.publishers p ≡ option_map {T = Publisher} {U = Publisher} (λ x. record x { is_due = true }) (s.publishers p)) → EndsStay s s'
@@ -325,7 +335,7 @@ module _ {T U : Type 0} where
         let opened : (c.subscriber).is_open ≡ true = opened-of c.subscriber p c.receives in
         absurd (true≢false (sym unused ∙ un ∙ ap (λ (b : Bool). not b && list_all (λ j. not (has_borrows (t.mailboxes j i))) (connected_publishers c.subscriber)) opened))
     | inr away ↦
-        with-record t (place_freed t i) p q c c.subscriber (due-ends t (place_freed t i) (λ j. refl)) (put_at-other t.subscribers i None q (ne_eqb q i away) ∙ c.there) c.receives
+        with-record t (place_freed t i) p q c c.subscriber (due-ends t (place_freed t i) (λ j. refl)) (put_at-other t.subscribers i None q (ne_eqb q i away) ∙ c.there) c.receives refl
   ]
 
   maybe-freed : (t : State T U) (i : ℕ) → ConnectsStay t (cond (is_unused t i) (place_freed t i) t)
@@ -336,7 +346,8 @@ module _ {T U : Type 0} where
 
   pub released-connections : (s : State T U) (p q n : ℕ) → ConnectsStay s (released s p q n)
   released-connections s p q n i j c =
-      maybe-freed (subscriber_pruned (unborrowed s p q n) q) q i j (pruned-connections (unborrowed s p q n) q i j (ports-same s (unborrowed s p q n) refl refl i j c))
+      receiver-reset-connects (freed_if_unused (subscriber_pruned (unborrowed s p q n) q) q) q i j
+      (maybe-freed (subscriber_pruned (unborrowed s p q n) q) q i j (pruned-connections (unborrowed s p q n) q i j (ports-same s (unborrowed s p q n) refl refl refl i j c)))
 
   -- ---- a subscriber is made
 
@@ -349,14 +360,14 @@ module _ {T U : Type 0} where
     where
       warned : (t : State T U) (failure : Option ConnectionFailure) → ConnectsStay t (with_failure_warning t (SubscriberPartlyConnected s.next_port) failure)
       warned t None = λ p q c. c
-      warned t (Some failure) = ports-same t (with_failure_warning t (SubscriberPartlyConnected s.next_port) (Some failure)) refl refl
+      warned t (Some failure) = ports-same t (with_failure_warning t (SubscriberPartlyConnected s.next_port) (Some failure)) refl refl refl
 
       made : (place : ℕ) → IsWellFormed (with_new_subscriber s given place) → FirstSubscriberUpdate environment (with_new_subscriber s given place) s.next_port s' → ConnectsStay s s'
       made place new-well h = λ p q c.
           let new : State T U = with_new_subscriber s given place in
           let low : q < s.next_port = (w.subscribers q c.subscriber c.there).is_known in
           let first : Connects new p q =
-          with-record s new p q c c.subscriber (due-ends s new (λ j. refl)) (put_at-other s.subscribers s.next_port (Some (new_subscriber given place)) q (ne_eqb q s.next_port (λ here. omega arith)) ∙ c.there) c.receives in
+          with-record s new p q c c.subscriber (due-ends s new (λ j. refl)) (put_at-other s.subscribers s.next_port (Some (new_subscriber given place)) q (ne_eqb q s.next_port (λ here. omega arith)) ∙ c.there) c.receives refl in
           subst (λ (t : State T U). Connects t p q) (sym h.3) (warned h.0 h.1 p q (update-subscriber-connections environment new s.next_port h.0 h.1 new-well h.2 p q first))
 
   -- ---- closes
@@ -373,9 +384,11 @@ module _ {T U : Type 0} where
         subscriber = record (pruned gone q c.subscriber) { is_due = true };
         there = ap (λ (o : Option Subscriber). option_map {T = Subscriber} {U = Subscriber} (λ z. record z { is_due = true }) (option_map {T = Subscriber} (pruned gone q) o)) c.there;
         receives = receives-by (c.subscriber).is_open true (contains (connected_publishers (record (pruned gone q c.subscriber) { is_due = true })) p) opened (inl refl);
+        takes = sender-reset-takes (subscribers_due (subscribers_pruned gone)) i p q c.takes;
       }
 
   pub subscriber-closed-connections : (s : State T U) (i : ℕ) (y : Subscriber) (p q : ℕ) → q ≢ i → Connects s p q → Connects (subscriber_closed s i y) p q
   subscriber-closed-connections s i y p q away c =
-      maybe-freed (subscriber_pruned (subscriber_shut s i y) i) i p q (pruned-connections (subscriber_shut s i y) i p q
-      (with-record s (subscriber_shut s i y) p q c c.subscriber (due-ends s (subscriber_shut s i y) (λ j. refl)) (put_at-other s.subscribers i _ q (ne_eqb q i away) ∙ c.there) c.receives))
+      receiver-reset-connects (freed_if_unused (subscriber_pruned (subscriber_shut s i y) i) i) i p q
+      (maybe-freed (subscriber_pruned (subscriber_shut s i y) i) i p q (pruned-connections (subscriber_shut s i y) i p q
+      (with-record s (subscriber_shut s i y) p q c c.subscriber (due-ends s (subscriber_shut s i y) (λ j. refl)) (put_at-other s.subscribers i _ q (ne_eqb q i away) ∙ c.there) c.receives refl)))

@@ -35,6 +35,8 @@ pub mod UpdateShown
 pub mod ClosesShown
 pub mod PayloadLists
 pub mod OldestFirst
+pub mod OpenChannels
+pub mod NextPorts
 pub mod ConnectedSends
 pub mod SendsServe
 pub mod ConnectionsStay

@@ -3,7 +3,7 @@ use Rattle.std.proofs.Common.{◌≡◌, ℕ, ◌+◌, ◌||◌, Bool, true, fal
 use Rattle.std.specs.declared.time.Duration.{Duration}
 use Rattle.iox2_store.specs.machine.Mailbox.{Mailbox, has_room}
 use Rattle.iox2_store.specs.machine.Records.{Environment, Handler, Loan}
-use Rattle.iox2_store.specs.machine.State.{State, receiving_buffer}
+use Rattle.iox2_store.specs.machine.State.{State, channel_buffer}
 use Rattle.iox2_store.specs.machine.Delivery.{Deliver, DeliveryEnd, Complete, PutResult, Put, PutAtEnd, accepted_count, is_blocking, is_failed, no_time}
 use Rattle.iox2_store.specs.machine.Sends.{Send, SendResult, Delivered_to, Blocked_send, Send_error, ConcludeSend, with_mailboxes, published}
 use Rattle.iox2_store.specs.declared.backpressure.BackpressureAction.{BackpressureAction}
@@ -75,7 +75,7 @@ module _ {T U : Type 0} (environment : Environment) where
       (λ _ j. by_option (IsUnhindered result) ((k.0).publishers l.publisher) _ _ j (λ _ v. absurd v) (λ x1 _ i.
       by_option (IsUnhindered result) ((published k.0 l.publisher n).publishers l.publisher) _ _ i (λ _ v. absurd v) (λ x2 _ d.
       let mid : State T U = published k.0 l.publisher n in
-      let ended = delivery-ends environment mid.config l.publisher x2.backpressure_strategy x2.backpressure_handler (receiving_buffer mid) n still 0 no_time 0 x1.ends 0 false (mid.mailboxes l.publisher) d.0 d.1 refl d.2 in
+      let ended = delivery-ends environment mid.config l.publisher x2.backpressure_strategy x2.backpressure_handler (channel_buffer mid l.publisher 0) n still 0 no_time 0 x1.ends 0 false (mid.mailboxes l.publisher) d.0 d.1 refl d.2 in
       concludes-unhindered (with_mailboxes mid l.publisher d.1) l.publisher n d.0 s' result ended.0 ended.1 d.3)))
       (λ e _ j. (
         λ no. absurd (let clash : Send_error (ConnectionError e) ≡ Blocked_send = sym j.1 ∙ no in cc),

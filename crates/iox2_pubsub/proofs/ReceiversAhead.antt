@@ -7,7 +7,7 @@ use Rattle.std.specs.declared.result.Result.TheVariants.{Ok, Err}
 use Rattle.std.specs.declared.time.Duration.{Duration}
 use Rattle.iox2_store.specs.machine.Mailbox.{Mailbox}
 use Rattle.iox2_store.specs.machine.Records.{Environment, Handler, Publisher, BlockedSend}
-use Rattle.iox2_store.specs.machine.State.{State, receiving_buffer}
+use Rattle.iox2_store.specs.machine.State.{State, channel_buffer}
 use Rattle.iox2_store.specs.machine.Delivery.{Deliver, DeliveryEnd, Complete, Suspended, accepted_count, is_blocking, is_failed, no_time}
 use Rattle.iox2_store.specs.machine.Sends.{Retry, GiveUp, SendResult, Delivered_to, Blocked_send, Send_error, DeliverAndConclude, ConcludeSend, with_mailboxes, more_retries}
 use Rattle.iox2_store.specs.machine.SingleCalls.{HoldsBlocked}
@@ -75,8 +75,8 @@ module _ {T U : Type 0} where
   delivered-ahead environment s p n retries elapsed place ends count has_failed s' result h is =
       by_option (IsAhead s' p (length ends)) (s.publishers p) _ _ h (λ _ v. absurd v) (λ x present h.
       concluded-ahead (with_mailboxes s p h.1) p n x present (length ends) h.0 s' result
-      (λ b e. suspended-at environment s.config p x.backpressure_strategy x.backpressure_handler (receiving_buffer s) n retries elapsed place ends count has_failed (s.mailboxes p) b h.1
-      (subst (λ (how : DeliveryEnd). Deliver environment s.config p x.backpressure_strategy x.backpressure_handler (receiving_buffer s) n retries elapsed place ends count has_failed (s.mailboxes p) how h.1) e h.2))
+      (λ b e. suspended-at environment s.config p x.backpressure_strategy x.backpressure_handler (channel_buffer s p 0) n retries elapsed place ends count has_failed (s.mailboxes p) b h.1
+      (subst (λ (how : DeliveryEnd). Deliver environment s.config p x.backpressure_strategy x.backpressure_handler (channel_buffer s p 0) n retries elapsed place ends count has_failed (s.mailboxes p) how h.1) e h.2))
       h.3 is)
 
   -- ---- seen from outside

@@ -28,7 +28,7 @@ use Rattle.iox2_pubsub.proofs.SentMessages.{after-error}
 use Rattle.iox2_pubsub.specs.declared.blocked_send.BlockedSend.{BlockedSend}
 use Rattle.iox2_pubsub.specs.declared.publisher.Publisher.{Publisher as Handle}
 use Rattle.iox2_pubsub.specs.declared.send_outcome.SendOutcome.TheVariants.{Delivered, Blocked}
-use Rattle.iox2_store.specs.machine.State.{State, Messages, receiving_buffer}
+use Rattle.iox2_store.specs.machine.State.{State, Messages, channel_buffer}
 use Rattle.iox2_laws.proofs.Puts.{put_at-same, put_at-other}
 use Rattle.iox2_laws.proofs.SendLaws.{send_advances}
 use Rattle.iox2_domain.specs.Boxes.{DomainBoxes}
@@ -208,11 +208,11 @@ never-blocked {T} {U} environment s n l s' low past h =
   where
     ends : (mid : State T U) (x : Publisher) → may_wait x.backpressure_strategy x.backpressure_handler ≡ false → (whole : List (Option ℕ)) (how : DeliveryEnd) (boxes : ℕ → Mailbox)
         → ConcludeSend (with_mailboxes mid l.publisher boxes) l.publisher n how s' Blocked_send
-        → Deliver environment mid.config l.publisher x.backpressure_strategy x.backpressure_handler (receiving_buffer mid) n 0 no_time 0 whole 0 false (mid.mailboxes l.publisher) how boxes → ⊥
+        → Deliver environment mid.config l.publisher x.backpressure_strategy x.backpressure_handler (channel_buffer mid l.publisher 0) n 0 no_time 0 whole 0 false (mid.mailboxes l.publisher) how boxes → ⊥
     ends mid x past whole (Complete count true) boxes concludes delivers = absurd (let no : Blocked_send ≡ Send_error UnableToDeliver = concludes.1 in cc)
     ends mid x past whole (Complete count false) boxes concludes delivers = absurd (let no : Blocked_send ≡ Delivered_to count = concludes.1 in cc)
     ends mid x past whole (Suspended b) boxes concludes delivers =
-        never-suspended environment mid.config l.publisher x.backpressure_strategy x.backpressure_handler (receiving_buffer mid) n past 0 no_time 0 whole 0 false (mid.mailboxes l.publisher)
+        never-suspended environment mid.config l.publisher x.backpressure_strategy x.backpressure_handler (channel_buffer mid l.publisher 0) n past 0 no_time 0 whole 0 false (mid.mailboxes l.publisher)
         (Suspended b) boxes delivers b refl
 
 -- so its message reaches all receivers

@@ -2,10 +2,11 @@
 use Rattle.std.proofs.Common.{◌≡◌, ℕ, Bool, false, cond, ◌||◌, [], ◌∷◌, ◌++◌, refl, sym, ap, subst, ◌∙◌, Option, None, Some}
 use Rattle.std.specs.Option.{option_map}
 use Rattle.std.proofs.lemmas.Option.{same_Some}
+use Rattle.iox2_store.specs.machine.Channel.{Channel, is_closed}
 use Rattle.iox2_store.specs.machine.Numbers.{last_n, without}
 use Rattle.iox2_store.specs.machine.Mailbox.{Mailbox, has_room, with_appended}
 use Rattle.iox2_store.specs.machine.Records.{Publisher, Subscriber, Loan, Environment}
-use Rattle.iox2_store.specs.machine.State.{State, receiving_buffer, is_blocked, publisher_changed, with_loan}
+use Rattle.iox2_store.specs.machine.State.{State, channel_buffer, receiving_buffer, is_blocked, publisher_changed, with_loan}
 use Rattle.iox2_store.specs.machine.Delivery.{DeliveryEnd, Complete, Suspended, Deliver, no_time}
 use Rattle.iox2_store.specs.machine.PublisherUpdate.{UpdatePublisher}
 use Rattle.iox2_store.specs.machine.Sends.{SendResult, Delivered_to, Blocked_send, Send_error, Send, Publish, ConcludeSend, published, with_mailboxes}
@@ -39,9 +40,9 @@ module _ {T U : Type 0} where
       at_each s.publishers i (option_map change (s.publishers i)) (λ k v. s.publishers k ≡ Some x → (x' : Publisher) × (v ≡ Some x') × (x'.ends ≡ x.ends)) p
       (λ here old. (change x, ap (option_map change) old, keeps x)) (λ apart old. (x, old, refl)) at
 
-  -- connections stay where publishers keep their ends and subscribers are the same
-  pub same-connections : (s s' : State T U) → EndsStay s s' → s'.subscribers ≡ s.subscribers → (p q : ℕ) → Connects s p q → Connects s' p q
-  same-connections s s' ends same p q c =
+  -- connections stay where publishers keep their ends, and subscribers and channels are the same
+  pub same-connections : (s s' : State T U) → EndsStay s s' → s'.subscribers ≡ s.subscribers → s'.channels ≡ s.channels → (p q : ℕ) → Connects s p q → Connects s' p q
+  same-connections s s' ends same channels p q c =
       let there = ends p c.publisher c.stands in
       record {
         publisher = there.0;
@@ -50,6 +51,7 @@ module _ {T U : Type 0} where
         subscriber = c.subscriber;
         there = ap (λ (f : ℕ → Option Subscriber). f q) same ∙ c.there;
         receives = c.receives;
+        takes = ap (λ (f : ℕ → ℕ → ℕ → Channel). is_closed (f p q 0)) channels ∙ c.takes;
       }
 
   pub concluded-ends : (s : State T U) (p n : ℕ) (boxes : ℕ → Mailbox) (how : DeliveryEnd) (s' : State T U) (result : SendResult)
@@ -58,6 +60,12 @@ module _ {T U : Type 0} where
       subst (EndsStay s) (sym h.0) (changed-ends s p (λ x. record x { loans = without n x.loans; blocked = None }) (λ x. refl))
   concluded-ends s p n boxes (Suspended b) s' result h =
       subst (EndsStay s) (sym h.0) (changed-ends s p (λ x. record x { blocked = Some b }) (λ x. refl))
+
+  -- no message changes a channel
+  pub concluded-channels : (s : State T U) (p n : ℕ) (boxes : ℕ → Mailbox) (how : DeliveryEnd) (s' : State T U) (result : SendResult)
+      → ConcludeSend (with_mailboxes s p boxes) p n how s' result → s'.channels ≡ s.channels
+  concluded-channels s p n boxes (Complete count has_failed) s' result h = ap (λ (t : State T U). t.channels) h.0
+  concluded-channels s p n boxes (Suspended b) s' result h = ap (λ (t : State T U). t.channels) h.0
 
   pub published-ends : (s : State T U) (p n : ℕ) → EndsStay s (published s p n)
   published-ends s p n = changed-ends (with_loan s n None) p (λ x. record x { history = last_n (s.config).history_size (x.history ++ n ∷ []) }) (λ x. refl)
@@ -79,13 +87,13 @@ module _ {T U : Type 0} where
         by_option (s'.mailboxes p q ≡ after n) ((published s p n).publishers p) _ _ h (λ _ v. absurd v) (λ z _ h. concluded x present z h.0 h.1 h.2 h.3))
       where
         concluded : (x : Publisher) → s.publishers p ≡ Some x → (z : Publisher) (how : DeliveryEnd) (boxes : ℕ → Mailbox)
-            → Deliver environment s.config p z.backpressure_strategy z.backpressure_handler (receiving_buffer s) n 0 no_time 0 x.ends 0 false (s.mailboxes p) how boxes
+            → Deliver environment s.config p z.backpressure_strategy z.backpressure_handler (channel_buffer s p 0) n 0 no_time 0 x.ends 0 false (s.mailboxes p) how boxes
             → ConcludeSend (with_mailboxes (published s p n) p boxes) p n how s' (Delivered_to count) → s'.mailboxes p q ≡ after n
         concluded x present z (Complete all some_failed) boxes delivers h =
             let same : c.publisher ≡ x = same_Some c.publisher x (sym c.stands ∙ present) in
             ap (λ (t : State T U). t.mailboxes p q) h.0 ∙ ap (λ (row : ℕ → Mailbox). row q) (put_at-same s.mailboxes p boxes)
-            ∙ deliver-serves environment s.config p z.backpressure_strategy z.backpressure_handler (receiving_buffer s) n q 0 no_time 0 x.ends 0 false (s.mailboxes p) all some_failed boxes (c.subscriber).buffer
-            (opened-buffer s q c.subscriber c.there (is-open environment s w p q c))
+            ∙ deliver-serves environment s.config p z.backpressure_strategy z.backpressure_handler (channel_buffer s p 0) n q 0 no_time 0 x.ends 0 false (s.mailboxes p) all some_failed boxes (c.subscriber).buffer
+            (ap (λ (b : Bool). cond b None (receiving_buffer s q)) c.takes ∙ opened-buffer s q c.subscriber c.there (is-open environment s w p q c))
             (contains-occupants x.ends q (subst (λ (z : Publisher). LeadsTo z.ends q) same c.sends)) (IsOnce-occupants x.ends ((w.publishers p x present).ends_apart)) delivers
         concluded x present z (Suspended b) boxes delivers h = let clash : Delivered_to count ≡ Blocked_send = h.1 in absurd cc
 
@@ -122,7 +130,7 @@ module _ {T U : Type 0} where
       → Send environment s n l s' result → (p q : ℕ) → Connects s p q → Connects s' p q
   send-connections environment s n l s' result w h p q c =
       by_option (Connects s' p q) (s.publishers l.publisher) _ _ h
-      (λ _ k. subst (λ (t : State T U). Connects t p q) (sym k.0) (same-connections s (with_loan s n None) (ends-themselves s (with_loan s n None) refl) refl p q c))
+      (λ _ k. subst (λ (t : State T U). Connects t p q) (sym k.0) (same-connections s (with_loan s n None) (ends-themselves s (with_loan s n None) refl) refl refl p q c))
       (λ x _ k.
       let mid : Connects k.0 p q = (update-publisher-connected environment s w p q c l.publisher k.0 k.1 k.2).0 in
       by_option (Connects s' p q) k.1 _ _ k.3
@@ -130,9 +138,9 @@ module _ {T U : Type 0} where
       by_option (Connects s' p q) ((published k.0 l.publisher n).publishers l.publisher) _ _ j (λ _ v. absurd v) (λ z _ j.
       same-connections k.0 s'
       (ends-trans k.0 (published k.0 l.publisher n) s' (published-ends k.0 l.publisher n) (concluded-ends (published k.0 l.publisher n) l.publisher n j.1 j.0 s' result j.3))
-      (concluded-subscribers k.0 j.1 j.0 j.3) p q mid)))
+      (concluded-subscribers k.0 j.1 j.0 j.3) (concluded-channels (published k.0 l.publisher n) l.publisher n j.1 j.0 s' result j.3) p q mid)))
       (λ e _ j. subst (λ (t : State T U). Connects t p q) (sym j.0)
-      (same-connections k.0 _ (changed-ends (with_loan k.0 n None) l.publisher (λ x. record x { loans = without n x.loans }) (λ x. refl)) refl p q mid)))
+      (same-connections k.0 _ (changed-ends (with_loan k.0 n None) l.publisher (λ x. record x { loans = without n x.loans }) (λ x. refl)) refl refl p q mid)))
     where
       concluded-subscribers : (t : State T U) (boxes : ℕ → Mailbox) (how : DeliveryEnd) → ConcludeSend (with_mailboxes (published t l.publisher n) l.publisher boxes) l.publisher n how s' result → s'.subscribers ≡ t.subscribers
       concluded-subscribers t boxes (Complete count has_failed) k = ap (λ (u : State T U). u.subscribers) k.0

@@ -6,11 +6,11 @@ use Rattle.std.specs.declared.option.Option.{Option}
 use Rattle.std.specs.declared.option.Option.TheVariants.{None, Some}
 use Rattle.iox2_store.specs.machine.Connections.{ForEachPlace, DegradationAnswers, failure_of, first_failure}
 use Rattle.iox2_store.specs.machine.Places.{occupant}
-use Rattle.iox2_store.specs.machine.PublisherUpdate.{SenderAction, Keep_end, Drop_waiting, Disconnect, Connect, SenderSide, Performs, UpdatePublisher, UpdateSenderPlace, sender_action, sender_side, with_sender_side}
+use Rattle.iox2_store.specs.machine.PublisherUpdate.{SenderAction, Keep_end, Drop_waiting, Disconnect, Connect, SenderSide, Performs, UpdatePublisher, UpdateSenderPlace, history_for, sender_action, sender_side, with_sender_side}
 use Rattle.iox2_store.specs.machine.Records.{Environment, Fixed, Custom, Handler, Loan, Publisher}
 use Rattle.iox2_store.specs.machine.Delivery.{DeliveryEnd, Complete, Suspended}
 use Rattle.iox2_store.specs.machine.Sends.{ConcludeSend, Send, SendResult, Blocked_send, Delivered_to, Send_error, published, with_mailboxes}
-use Rattle.iox2_store.specs.machine.State.{State, receiving_buffer, has_receiver_end}
+use Rattle.iox2_store.specs.machine.State.{State, receiving_buffer, has_receiver_end, sender_channels_reset}
 use Rattle.iox2_store.specs.declared.degradation.DegradationAction.{DegradationAction}
 use Rattle.iox2_store.specs.declared.degradation.DegradationAction.TheVariants.{Ignore, Warn, DegradeAndFail}
 use Rattle.iox2_store.specs.declared.degradation.DegradationInfo.{DegradationInfo}
@@ -40,11 +40,11 @@ no-failure environment p (Fixed answer) calm info action answers failure is = by
   by DegradeAndFail none made = let no : true ≡ false = none in cc
 no-failure environment p Custom calm info action answers failure is = let no : true ≡ false = calm in cc
 
-module _ (environment : Environment) (service_id p : ℕ) (handler : Handler DegradationAction) (calm : may_fail_update handler ≡ false) (history : List ℕ) (buffers : ℕ → Option ℕ) (has_end : ℕ → Bool) where
+module _ (environment : Environment) (service_id p : ℕ) (handler : Handler DegradationAction) (calm : may_fail_update handler ≡ false) (histories : ℕ → List ℕ) (buffers : ℕ → Option ℕ) (has_end : ℕ → Bool) where
   place-never : (place : ℕ) (at : Option ℕ) (side side' : SenderSide) (failure : ConnectionFailure)
-      → UpdateSenderPlace environment service_id p handler history buffers has_end place at side side' (Some failure) → ⊥
+      → UpdateSenderPlace environment service_id p handler histories buffers has_end place at side side' (Some failure) → ⊥
   place-never place at side side' failure = by (sender_action buffers at (occupant side.ends place)) where
-    by : (a : SenderAction) → Performs environment service_id p handler history buffers has_end a place side side' (Some failure) → ⊥
+    by : (a : SenderAction) → Performs environment service_id p handler histories buffers has_end a place side side' (Some failure) → ⊥
     by Keep_end h = let no : Some failure ≡ None = h.1 in cc
     by (Drop_waiting q) h = let no : Some failure ≡ None = h.1 in cc
     by Disconnect h = let no : Some failure ≡ None = h.1 in cc
@@ -57,14 +57,14 @@ steady-update {T} {U} environment s s' p failure steady = by (s.publishers p) re
   Updates : Publisher → Bool → Type 0
   Updates x b = MatchBool b
       ((side : SenderSide)
-      × ForEachPlace (UpdateSenderPlace environment (s.config).service_id p x.degradation_handler x.history (receiving_buffer s) (has_receiver_end s p))
+      × ForEachPlace (UpdateSenderPlace environment (s.config).service_id p x.degradation_handler (history_for s p x) (receiving_buffer s) (has_receiver_end s p))
       0 s.subscriber_places (sender_side s p x) side (Some failure)
-      × (s' ≡ with_sender_side s p x side))
+      × (s' ≡ sender_channels_reset (with_sender_side s p x side) p))
       ((s' ≡ s) × (Some failure ≡ None))
 
   due : (x : Publisher) → s.publishers p ≡ Some x → (b : Bool) → Updates x b → ⊥
-  due x is true h = walk-never (UpdateSenderPlace environment (s.config).service_id p x.degradation_handler x.history (receiving_buffer s) (has_receiver_end s p))
-      (place-never environment (s.config).service_id p x.degradation_handler (steady x is) x.history (receiving_buffer s) (has_receiver_end s p))
+  due x is true h = walk-never (UpdateSenderPlace environment (s.config).service_id p x.degradation_handler (history_for s p x) (receiving_buffer s) (has_receiver_end s p))
+      (place-never environment (s.config).service_id p x.degradation_handler (steady x is) (history_for s p x) (receiving_buffer s) (has_receiver_end s p))
       0 s.subscriber_places (sender_side s p x) h.0 failure h.1
   due x is false h = let no : Some failure ≡ None = h.1 in cc
 

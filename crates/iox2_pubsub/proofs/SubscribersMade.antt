@@ -5,13 +5,14 @@ use Rattle.std.specs.Prelude.{◌≢◌, nat_lt}
 use Rattle.std.specs.Option.{option_map}
 use Rattle.std.proofs.lemmas.Bool.{true≢false, ne_eqb, eqb-true, eq-eqb}
 use Rattle.std.proofs.lemmas.Option.{none-some, same_Some}
+use Rattle.iox2_store.specs.machine.Channel.{Channel, is_closed}
 use Rattle.iox2_store.specs.machine.Limits.{refusal_limit, expired_limit}
 use Rattle.iox2_store.specs.machine.Numbers.{contains, put_at}
 use Rattle.iox2_store.specs.machine.Places.{occupant, occupants}
 use Rattle.iox2_store.specs.machine.Records.{Publisher, Subscriber, Handler, Environment, SubscriberSettings}
-use Rattle.iox2_store.specs.machine.State.{State, Warnings, has_sender_end, with_warning}
+use Rattle.iox2_store.specs.machine.State.{State, Warnings, has_sender_end, with_warning, receiver_channels_reset}
 use Rattle.iox2_store.specs.machine.Ports.{FirstSubscriberUpdate, CreateSubscriber, with_new_subscriber, with_buffer_warning, new_subscriber, with_failure_warning}
-use Rattle.iox2_store.specs.machine.PublisherUpdate.{UpdatePublisher}
+use Rattle.iox2_store.specs.machine.PublisherUpdate.{UpdatePublisher, with_sender_side}
 use Rattle.iox2_store.specs.machine.SubscriberUpdate.{ReceiverSide, Retirement, Keep_expired, Evict, Discard_data, Refuse, retirement_of, is_refused, after_retirement, with_end, ConnectReceiver, Retire, ConnectAtPlace, DisconnectAtPlace, UpdateReceiverSide, receiver_side, with_receiver_side}
 use Rattle.iox2_store.specs.machine.WellFormed.{IsWellFormed}
 use Rattle.iox2_store.specs.declared.degradation.DegradationAction.{DegradationAction}
@@ -24,6 +25,7 @@ use Rattle.iox2_laws.proofs.PlaceLemmas.{occupant-set_place, occupied_within, co
 use Rattle.iox2_laws.proofs.Puts.{put_at-same, put_at-other}
 use Rattle.iox2_laws.proofs.UpToDate.{update_publisher_subscribers}
 use Rattle.iox2_pubsub.specs.ConnectedPorts.{Awaits, Connects}
+use Rattle.iox2_pubsub.proofs.OpenChannels.{receiver-reset-takes, sender-reset-takes}
 use Rattle.iox2_pubsub.proofs.ConnectionsMade.{refusal-counts, refusal-grows, refusal-is-new, update-publisher-connects}
 use Rattle.iox2_pubsub.proofs.ConnectionsStay.{Knows, connect-keeps, disconnect-keeps, refused-due, receives-by, walk-reaches, walk-stays}
 
@@ -179,6 +181,10 @@ module _ {T U : Type 0} where
   warned-subscribers t q None = refl
   warned-subscribers t q (Some failure) = refl
 
+  warned-channels : (t : State T U) (q : ℕ) (failure : Option ConnectionFailure) → (with_failure_warning t (SubscriberPartlyConnected q) failure).channels ≡ t.channels
+  warned-channels t q None = refl
+  warned-channels t q (Some failure) = refl
+
   raised-refusals : (s : State T U) (q : ℕ) → ((with_buffer_warning s q).warnings).refused_connections ≡ (s.warnings).refused_connections
   raised-refusals s q = by (nat_lt (s.config).subscriber_expired_connection_buffer (s.config).subscriber_max_borrowed_samples) where
     by : (b : Bool) → (cond b ((with_warning s (ExpiredBufferRaised q)).warnings) s.warnings).refused_connections ≡ (s.warnings).refused_connections
@@ -187,8 +193,8 @@ module _ {T U : Type 0} where
 
   module _ (environment : Environment) (s : State T U) (w : IsWellFormed s) (given : SubscriberSettings) where
     pub create-subscriber-awaits : (s' : State T U) → CreateSubscriber environment s given s' None → (s.warnings).refused_connections < refusal_limit
-        → (s'.warnings).refused_connections ≡ (s.warnings).refused_connections → (p : ℕ) (x : Publisher) → s.publishers p ≡ Some x → Awaits s' p s.next_port
-    create-subscriber-awaits s' h low none p x present =
+        → (s'.warnings).refused_connections ≡ (s.warnings).refused_connections → (p : ℕ) (x : Publisher) → s.publishers p ≡ Some x → is_closed (s.channels p s.next_port 0) ≡ false → Awaits s' p s.next_port
+    create-subscriber-awaits s' h low none p x present takes =
         subscriber_cases environment s given s' R None h (λ e _ some. absurd (none-some e some)) (λ place makes. made place makes.3)
       where
         q : ℕ
@@ -206,7 +212,7 @@ module _ {T U : Type 0} where
         updated : (place : ℕ) (mid : State T U) (side : ReceiverSide) (failure : Option ConnectionFailure)
             → UpdateReceiverSide environment ((new place).config).service_id q (new_subscriber given place).degradation_handler (expired_limit (new place).config) (λ i. has_sender_end (new place) i q)
             (new place).publisher_places (receiver_side (new place) q (new_subscriber given place)) side failure
-            → mid ≡ with_receiver_side (new place) q (new_subscriber given place) side → s' ≡ with_failure_warning mid (SubscriberPartlyConnected q) failure → R
+            → mid ≡ receiver_channels_reset (with_receiver_side (new place) q (new_subscriber given place) side) q → s' ≡ with_failure_warning mid (SubscriberPartlyConnected q) failure → R
         updated place mid side failure walk is is' =
             let most : (s.warnings).refused_connections ≤ refusal_limit = omega (arith, low) in
             let same : ((new place).warnings).refused_connections ≡ (s.warnings).refused_connections = raised-refusals s q in
@@ -226,6 +232,9 @@ module _ {T U : Type 0} where
                   ∙ put_at-same (new place).subscribers q _;
               receives = receives-by true side.is_due (contains (side.expired ++ occupants side.ends) p) refl
                   (⊎_elim (λ due. inl due) (λ end. inr (contains_right side.expired (occupants side.ends) p (contains-occupants side.ends p (x.place, end)))) (reaches.1 quiet));
+              takes = ap (λ (t : State T U). is_closed (t.channels p q 0)) is' ∙ ap (λ (f : ℕ → ℕ → ℕ → Channel). is_closed (f p q 0)) (warned-channels mid q failure)
+                  ∙ ap (λ (t : State T U). is_closed (t.channels p q 0)) is
+                  ∙ receiver-reset-takes (with_receiver_side (new place) q (new_subscriber given place) side) q p q takes;
             }
 
         made : (place : ℕ) → FirstSubscriberUpdate environment (with_new_subscriber s given place) s.next_port s' → R
@@ -236,14 +245,14 @@ module _ {T U : Type 0} where
             (λ _ m. updated place h.0 m.0 h.1
             (subst (λ (z : Subscriber). UpdateReceiverSide environment ((new place).config).service_id q z.degradation_handler (expired_limit (new place).config) (λ i. has_sender_end (new place) i q) (new place).publisher_places
             (receiver_side (new place) q z) m.0 h.1) (sym same) m.1)
-            (subst (λ (z : Subscriber). h.0 ≡ with_receiver_side (new place) q z m.0) (sym same) m.2) h.3)
+            (subst (λ (z : Subscriber). h.0 ≡ receiver_channels_reset (with_receiver_side (new place) q z m.0) q) (sym same) m.2) h.3)
             (λ undue m. absurd (true≢false (ap (λ (z : Subscriber). z.is_due) same ∙ undue))))
 
   -- the publisher's update connects it with whom it awaits
   pub awaited-connects : (environment : Environment) (s : State T U) (p : ℕ) (s' : State T U) (failure : Option ConnectionFailure) → IsWellFormed s → UpdatePublisher environment s p s' failure
       → (s.warnings).refused_connections < refusal_limit → (s'.warnings).refused_connections ≡ (s.warnings).refused_connections → (q : ℕ) → Awaits s p q → Connects s' p q
   awaited-connects environment s p s' failure w h low none q a =
-      update-publisher-connects environment s p s' failure w a.publisher a.stands a.due h q a.subscriber a.there a.receives low none
+      update-publisher-connects environment s p s' failure w a.publisher a.stands a.due h q a.subscriber a.there a.receives a.takes low none
 
   -- and leaves what others await
   pub others-await : (environment : Environment) (s : State T U) (p : ℕ) (s' : State T U) (failure : Option ConnectionFailure) → UpdatePublisher environment s p s' failure
@@ -255,6 +264,7 @@ module _ {T U : Type 0} where
     subscriber = a.subscriber;
     there = ap (λ (f : ℕ → Option Subscriber). f q) (update_publisher_subscribers environment s p s' failure h) ∙ a.there;
     receives = a.receives;
+    takes = takes;
   }
     where
       others : s'.publishers i ≡ s.publishers i
@@ -263,3 +273,10 @@ module _ {T U : Type 0} where
           by_bool (s'.publishers i ≡ s.publishers i) x.is_due _ _ k
           (λ _ j. ap (λ (t : State T U). t.publishers i) j.2 ∙ put_at-other s.publishers p _ i (ne_eqb i p away))
           (λ _ j. ap (λ (t : State T U). t.publishers i) j.0))
+
+      takes : is_closed (s'.channels i q 0) ≡ false
+      takes =
+          by_option (is_closed (s'.channels i q 0) ≡ false) (s.publishers p) _ _ h (λ _ v. absurd v) (λ x _ k.
+          by_bool (is_closed (s'.channels i q 0) ≡ false) x.is_due _ _ k
+          (λ _ j. ap (λ (t : State T U). is_closed (t.channels i q 0)) j.2 ∙ sender-reset-takes (with_sender_side s p x j.0) p i q a.takes)
+          (λ _ j. ap (λ (t : State T U). is_closed (t.channels i q 0)) j.0 ∙ a.takes))

@@ -6,7 +6,7 @@ use Rattle.std.specs.declared.time.Duration.{Duration}
 use Rattle.iox2_store.specs.machine.Mailbox.{Mailbox, has_room}
 use Rattle.iox2_store.specs.machine.Numbers.{without}
 use Rattle.iox2_store.specs.machine.Records.{BlockedSend, Environment, Handler, Fixed, Custom, Loan, Publisher}
-use Rattle.iox2_store.specs.machine.State.{State, receiving_buffer}
+use Rattle.iox2_store.specs.machine.State.{State, channel_buffer}
 use Rattle.iox2_store.specs.machine.Delivery.{Deliver, DeliveryEnd, Complete, Suspended, Decides, PutResult, Put, PutAtEnd, accepted_count, by_action, by_strategy, is_blocking, is_failed, no_time}
 use Rattle.iox2_store.specs.machine.Sends.{Send, Retry, GiveUp, SendResult, Delivered_to, Blocked_send, Send_error, ConcludeSend, DeliverAndConclude, more_retries, with_mailboxes, published}
 use Rattle.iox2_store.specs.declared.backpressure.BackpressureAction.{BackpressureAction}
@@ -96,7 +96,7 @@ module _ {T U : Type 0} where
   delivered-unfailed environment s p n retries elapsed place ends count has_failed s' result mild none h =
       by_option (IsUnfailed s' p result) (s.publishers p) _ _ h (λ _ v. absurd v) (λ x present h.
       concluded-unfailed (with_mailboxes s p h.1) p n x present h.0 s' result
-      (delivery-unfailed environment s.config p x.backpressure_strategy x.backpressure_handler (receiving_buffer s) n (elim mild [ inl over ↦ inl over | inr each ↦ inr (each x present) ])
+      (delivery-unfailed environment s.config p x.backpressure_strategy x.backpressure_handler (channel_buffer s p 0) n (elim mild [ inl over ↦ inl over | inr each ↦ inr (each x present) ])
       retries elapsed place ends count has_failed (s.mailboxes p) h.0 h.1 none h.2)
       h.3)
 

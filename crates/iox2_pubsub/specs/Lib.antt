@@ -8,6 +8,7 @@ pub mod QuestionCalls
 pub mod UpdateCalls
 pub mod Payloads
 pub mod LoansLeft
+pub mod Leaves
 pub mod ChangedLoans
 pub mod LoanLends
 pub mod Slices

@@ -159,25 +159,6 @@ fn lengths_rise_and_fall_around_a_sample_that_is_kept(rt: HostRuntime) {
     assert!(rt; domain.book_count() == 0);
 }
 
-#[test]
-fn loans_of_each_segment_are_out_at_once(rt: HostRuntime) {
-    let mut domain: Domain<u64, u64> = Domain::new(rt.alloc(), slices()).expect(&rt, "a domain");
-    let publisher = growing(&rt, &mut domain, 3, AllocationStrategy::PowerOfTwo);
-    let short = lend(&rt, &mut domain, &publisher, 1).expect(&rt, "a loan");
-    let short_length = short.payload(&domain).len();
-    let middle = lend(&rt, &mut domain, &publisher, 3).expect(&rt, "a loan");
-    let middle_length = middle.payload(&domain).len();
-    let long = lend(&rt, &mut domain, &publisher, 9).expect(&rt, "a loan");
-    let long_length = long.payload(&domain).len();
-    let fourth = lends(&rt, &mut domain, &publisher, 1);
-    short.disown();
-    middle.disown();
-    long.disown();
-    close_publisher(&rt, &mut domain, publisher);
-    assert!(rt; fourth == Err(LoanError::ExceedsMaxLoans));
-    assert!(rt; [short_length, middle_length, long_length] == [1, 3, 9]);
-}
-
 // Asserts that messages are slices, of elements of any number of units.
 fn assert_dynamic(rt: &impl Abort, domain: &Domain<CustomPayloadMarker, CustomHeaderMarker>)
     ensures sliced { IsSliced domain.now }

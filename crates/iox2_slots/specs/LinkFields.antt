@@ -1,10 +1,10 @@
 -- What the fields of a connection keep.
-use Rattle.std.specs.Prelude.{◌≡◌, ◌≤◌, ◌+◌}
+use Rattle.std.specs.Prelude.{◌≡◌, ◌+◌}
 use Rattle.std.specs.Vec.{vec_capacity}
 use Rattle.iox2_slots.specs.Link.{Link, IsBounded}
 use Rattle.iox2_slots.specs.declared.connection.Connection.TheInside.{Inside}
 
--- The connection that the fields stand for.
+-- The connection that the fields stand for. As many slots may be borrowed as there was room for at first.
 abbrev pub link_of : Inside → Link
 link_of a = record {
   home = record {
@@ -15,8 +15,9 @@ link_of a = record {
     book = a.book;
   };
   buffer = a.waiting.capacity;
-  limit = a.limit;
+  limit = vec_capacity a.borrowed;
   is_open = a.is_open;
+  channel = record { state = a.state; has_hint = a.has_hint };
   waiting = a.waiting.items;
   borrowed = a.borrowed.items;
   returned = a.returned.items;
@@ -25,5 +26,4 @@ link_of a = record {
 -- The slots are within their bounds, and the room for them is made.
 pub record IsConnection (a : Inside) : Type 0 where
   pub bounded : IsBounded (link_of a)
-  pub borrow_room : a.limit ≤ vec_capacity a.borrowed
-  pub return_room : a.returned.capacity ≡ a.waiting.capacity + a.limit + 1
+  pub return_room : a.returned.capacity ≡ a.waiting.capacity + vec_capacity a.borrowed + 1

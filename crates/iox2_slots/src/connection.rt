@@ -1,6 +1,6 @@
 //! What lies between one publisher and one subscriber: numbers of the publisher's slots.
 ghost use Rattle.std.specs.Prelude.{◌≡◌, ◌+◌, ◌<◌, ◌↔◌, length, Contains, IfOk, IsTrue};
-ghost use Rattle.iox2_slots.specs.Link.{load, empty_link, has_slots, has_borrowed_slots, has_returned_slots, can_borrow, with_returned, without_borrowed, IsBounded};
+ghost use Rattle.iox2_slots.specs.Link.{load, empty_link, has_slots, has_borrowed_slots, has_returned_slots, can_borrow, is_shut, with_mark, state_changed, hint_set, with_returned, without_borrowed, IsBounded};
 ghost use Rattle.iox2_store.specs.machine.Numbers.{IsOnce};
 
 use crate::place::take_slot;
@@ -24,6 +24,16 @@ pub struct Home {
     pub book: usize,
 }
 
+/// The state of a new channel.
+///
+/// iceoryx2's constant of this name, of `zero_copy_connection`.
+pub const CHANNEL_STATE_OPEN: u64 = 0;
+
+/// The state of a channel that takes no messages.
+///
+/// iceoryx2's constant of this name, of `zero_copy_connection`.
+pub const CHANNEL_STATE_CLOSED: u64 = u64::MAX;
+
 /// What `Connection::put` came to.
 #[derive(Debug, Clone, Copy, PartialEq, Eq)]
 pub enum PutOutcome {
@@ -44,15 +54,18 @@ pub enum PutOutcome {
 #[derive(Drop)]
 pub struct Connection {
     waiting: HeapCircularBuffer<usize>,
+    // Its capacity is how many may be borrowed (docs/decisions/cost.md, "A connection takes 160 bytes").
     borrowed: Vec<usize>,
     returned: HeapCircularBuffer<usize>,
-    limit: usize,
+    // Of the channel.
+    state: u64,
     // The fields of its `Home`, one by one: the mark behind them then needs no room of its own.
     publisher: u128,
     subscriber: u128,
     publisher_place: usize,
     subscriber_place: usize,
     book: usize,
+    has_hint: bool,
     is_open: bool,
 }
 
@@ -71,8 +84,8 @@ impl Model for Connection {
 impl Connection {
     ghost use Rattle.iox2_slots.specs.Link.{IsPut, IsTaken, IsDropped, IsReclaimed};
 
-    /// A connection in which no slot stands, and which isn't marked as open. At most `buffer` slots
-    /// wait there and at most `limit` are borrowed.
+    /// A connection in which no slot stands, whose channel is open, and which isn't marked as open.
+    /// At most `buffer` slots wait there and at most `limit` are borrowed.
     ///
     /// Returns `AllocError` where memory is refused, and where `buffer + limit + 1`, the room for
     /// slots that are given back, isn't a `usize`.
@@ -95,12 +108,13 @@ impl Connection {
             waiting,
             borrowed,
             returned,
-            limit,
+            state: CHANNEL_STATE_OPEN,
             publisher: home.publisher,
             subscriber: home.subscriber,
             publisher_place: home.publisher_place,
             subscriber_place: home.subscriber_place,
             book: home.book,
+            has_hint: false,
             is_open: false,
         })
     }
@@ -127,12 +141,56 @@ impl Connection {
         self.is_open
     }
 
-    /// Marks the connection as open, or as open no more.
+    /// Marks the connection as open, where its channel isn't closed, or as open no more.
     pub fn set_open(&mut self, is_open: bool)
-        ensures marked { self.new ≡ record self.old { is_open = is_open } }
+        ensures marked { self.new ≡ with_mark is_open self.old }
         ensures bounded { IsBounded self.new }
     {
-        self.is_open = is_open;
+        self.is_open = is_open && self.state != CHANNEL_STATE_CLOSED;
+    }
+
+    /// The state of the channel.
+    pub fn channel_state(&self) -> u64
+        ensures { result ≡ self.now.channel.state }
+    {
+        self.state
+    }
+
+    /// Whether the channel is closed, and so takes no slots.
+    pub fn is_closed(&self) -> bool
+        ensures { result ≡ is_shut self.now }
+    {
+        self.state == CHANNEL_STATE_CLOSED
+    }
+
+    /// Whether a disconnect was hinted since the channel came into its state.
+    pub fn has_disconnect_hint(&self) -> bool
+        ensures { result ≡ self.now.channel.has_hint }
+    {
+        self.has_hint
+    }
+
+    /// Brings the channel from the state `expected` into another, which takes its hint away. In any
+    /// other state nothing changes. A channel that closes isn't marked as open any more.
+    pub fn change_state(&mut self, expected: u64, state: u64)
+        ensures changed { self.new ≡ state_changed expected state self.old }
+        ensures bounded { IsBounded self.new }
+    {
+        if self.state == expected {
+            self.has_hint = self.has_hint && state == expected;
+            self.is_open = self.is_open && state != CHANNEL_STATE_CLOSED;
+            self.state = state;
+        }
+    }
+
+    /// Hints a disconnect, where the channel is in the state `expected`.
+    pub fn set_disconnect_hint(&mut self, expected: u64)
+        ensures hinted { self.new ≡ hint_set expected self.old }
+        ensures bounded { IsBounded self.new }
+    {
+        if self.state == expected {
+            self.has_hint = true;
+        }
     }
 
     /// How many slots may wait.
@@ -243,7 +301,7 @@ impl Connection {
     pub fn can_receive(&self) -> bool
         ensures { result ≡ can_borrow self.now }
     {
-        self.has_data() && self.borrowed.len() < self.limit
+        self.has_data() && self.borrowed.len() < self.borrowed.capacity()
     }
 
     /// The slots that are borrowed, in the order of receipt.

@@ -5,6 +5,6 @@ mod connection;
 mod place;
 mod slots;
 
-pub use connection::{Connection, Home, PutOutcome};
+pub use connection::{CHANNEL_STATE_CLOSED, CHANNEL_STATE_OPEN, Connection, Home, PutOutcome};
 pub use place::take_slot;
 pub use slots::{SlotBook, SlotMark};

@@ -11,6 +11,7 @@ pub mod Drops
 pub mod Left
 pub mod Idle
 pub mod Leaving
+pub mod SettledChannels
 pub mod GivenBack
 pub mod BookFreed
 pub mod ReturnedHere

@@ -1,4 +1,7 @@
 -- A port goes over the places of the other side.
+pub mod FollowedChannels
+pub mod ResetChannels
+pub mod SenderPresent
 pub mod AnyBoxes
 pub mod AnySubscriberBoxes
 pub mod MadeRoom

@@ -3,6 +3,7 @@ pub mod Limits
 pub mod Numbers
 pub mod Places
 pub mod Mailbox
+pub mod Channel
 pub mod Records
 pub mod State
 pub mod Delivery
@@ -12,6 +13,7 @@ pub mod SubscriberUpdate
 pub mod Loans
 pub mod LoansLeft
 pub mod Sends
+pub mod ChannelCalls
 pub mod Receives
 pub mod Releases
 pub mod Ports

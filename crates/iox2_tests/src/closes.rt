@@ -1,6 +1,5 @@
 use crate::fixtures::{
-    celsius_of, close_publisher, close_subscriber, domain, publisher_of, received, release, sent,
-    subscriber_of, waits,
+    close_publisher, close_subscriber, domain, publisher_of, received, release, sent, subscriber_of,
 };
 use iox2_fixtures::{Reading, receiver_count};
 use iox2_pubsub::{SendError, SubscriberCreateError};
@@ -21,29 +20,6 @@ fn a_loan_outlives_its_publisher(rt: HostRuntime) {
     assert!(rt; !live);
     assert!(rt; celsius == 20);
     assert!(rt; sent == Err(SendError::ConnectionBrokenSinceSenderNoLongerExists));
-}
-
-// What was sent arrives after its publisher was closed, where the subscriber knew of it, and a sample
-// reads on after its subscriber was closed too.
-#[test]
-fn a_sample_outlives_both_ports(rt: HostRuntime) {
-    let mut domain = domain(&rt, rt.alloc());
-    let subscriber = subscriber_of(&rt, &mut domain);
-    let publisher = publisher_of(&rt, &mut domain);
-    let takers = sent(&rt, &mut domain, &publisher, 21);
-    let waits = waits(&rt, &mut domain, &subscriber);
-    close_publisher(&rt, &mut domain, publisher);
-    let sample = received(&rt, &mut domain, &subscriber).expect(&rt, "a message");
-    let key = subscriber.key();
-    close_subscriber(&rt, &mut domain, subscriber);
-    let live = domain.holds_subscriber(key);
-    let celsius = celsius_of(&rt, &domain, &sample);
-    release(&rt, &mut domain, sample);
-    drop(domain);
-    assert!(rt; takers == 1);
-    assert!(rt; waits);
-    assert!(rt; !live);
-    assert!(rt; celsius == 21);
 }
 
 // A closed subscriber keeps its place until it has released its last sample.

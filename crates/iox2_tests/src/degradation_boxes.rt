@@ -1,4 +1,4 @@
-//! Ports whose handlers of refused connections are boxes, where no memory is refused.
+//! Ports whose handlers of refused connections are boxes: where no memory is refused, and where no memory holds a buffer.
 ghost use Rattle.std.specs.Prelude.{◌≡◌};
 ghost use Rattle.iox2_store.specs.declared.backpressure.BackpressureAction.TheVariants.{DiscardData};
 ghost use Rattle.iox2_store.specs.declared.degradation.DegradationAction.TheVariants.{DegradeAndFail};
@@ -21,6 +21,22 @@ impl DegradationFn for Strict {
 
     fn call(&self, _: DegradationCause, _: &DegradationInfo) -> DegradationAction {
         DegradationAction::DegradeAndFail
+    }
+}
+
+// Goes on without a connection from a port to one that was made later, and fails with any other.
+#[derive(Drop)]
+struct InOrder;
+
+impl DegradationFn for InOrder {
+    ghost allows = { λ _ _ _ _. Unit {0} };
+
+    fn call(&self, _: DegradationCause, info: &DegradationInfo) -> DegradationAction {
+        if info.sender_port_id < info.receiver_port_id {
+            DegradationAction::Ignore
+        } else {
+            DegradationAction::DegradeAndFail
+        }
     }
 }
 
@@ -89,4 +105,32 @@ fn factories_of_slices_take_boxes(rt: HostRuntime) {
     subscriber.close(&mut domain);
     drop(domain);
     assert!(rt; waits == Ok(false));
+}
+
+// No memory holds a buffer of 2^60 messages, so the subscriber's connection is refused. The publisher was
+// made first.
+#[test]
+fn a_box_is_told_which_port_sends(rt: HostRuntime) {
+    let config = ServiceConfig {
+        subscriber_max_buffer_size: 1 << 60,
+        ..settings()
+    };
+    let mut domain: Domain<Reading, Station> = Domain::new(rt.alloc(), config).expect(
+        &rt, "a domain",
+    );
+    let in_order: Box<dyn DegradationFn> = Box::new(rt.alloc(), InOrder).expect(&rt, "memory");
+    let factory = domain
+        .publisher_builder()
+        .override_sample_preallocation(|_| 1)
+        .set_degradation_handler(DegradationHandler::Custom(in_order));
+    let publisher = factory.create(&mut domain).expect(&rt, "a publisher");
+    let factory = domain.subscriber_builder();
+    let subscriber = factory.create(&mut domain).expect(&rt, "a subscriber");
+    let updated = publisher.update_connections(&mut domain);
+    publisher.close(&mut domain);
+    subscriber.close(&mut domain);
+    let refused = domain.refused_connections();
+    drop(domain);
+    assert!(rt; updated == Ok(()));
+    assert!(rt; refused == 2);
 }

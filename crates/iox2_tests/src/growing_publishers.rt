@@ -1,12 +1,12 @@
 //! Publishers of single values whose memory grows.
 
 use crate::fixtures::{
-    assert_ready, assert_single_valued, celsius_of, close_publisher, close_subscriber, domain,
-    next_reading, received, release, sent, subscriber_of,
+    celsius_of, close_publisher, close_subscriber, domain, next_reading, received, release, sent,
+    subscriber_of,
 };
 use iox2_fixtures::{Reading, Station, factory_for};
-use iox2_pubsub::{Domain, Publisher, SampleMutUninit};
-use iox2_store::{AllocationStrategy, LoanError};
+use iox2_pubsub::{Domain, Publisher};
+use iox2_store::AllocationStrategy;
 use std::process::Abort;
 
 // A publisher with so many loans and slots of one message each time.
@@ -21,17 +21,6 @@ fn growing(
         .allocation_strategy(strategy)
         .override_sample_preallocation(|_| 1);
     factory.create(domain).expect(rt, "a publisher")
-}
-
-// A loan that stays out, or why there is none.
-fn lend(
-    rt: &impl Abort,
-    domain: &mut Domain<Reading, Station>,
-    publisher: &Publisher,
-) -> Result<SampleMutUninit, LoanError> {
-    assert_single_valued(rt, domain);
-    assert_ready(rt, domain, publisher);
-    publisher.loan_uninit(domain)
 }
 
 #[test]
@@ -58,18 +47,4 @@ fn a_full_publisher_that_grows_sends_on(rt: HostRuntime) {
     assert!(rt; reads == 20);
     assert!(rt; next == [Some(21), Some(22), None]);
     assert!(rt; books == 0);
-}
-
-#[test]
-fn as_many_loans_are_out_as_there_are_segments(rt: HostRuntime) {
-    let mut domain = domain(&rt, rt.alloc());
-    let publisher = growing(&rt, &mut domain, 300, AllocationStrategy::PowerOfTwo);
-    for _ in 0..255 {
-        let loan = lend(&rt, &mut domain, &publisher).expect(&rt, "a loan");
-        loan.disown();
-    }
-    let next = lend(&rt, &mut domain, &publisher).map(|loan| loan.disown());
-    publisher.disown();
-    drop(domain);
-    assert!(rt; next == Err(LoanError::OutOfMemory));
 }

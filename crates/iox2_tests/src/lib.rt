@@ -21,8 +21,6 @@ mod fixtures;
 #[cfg(test)]
 mod growing_publishers;
 #[cfg(test)]
-mod histories;
-#[cfg(test)]
 mod in_place;
 #[cfg(test)]
 mod loans;

@@ -7,7 +7,7 @@ ghost use Rattle.iox2_domain.specs.Ports.{PublisherFields, SubscriberFields};
 ghost use Rattle.iox2_domain.specs.Updates.{MakesConnection, StandApart, home_of, is_open_subscriber, key_from, sender_key, IsUnblockedAt};
 ghost use Rattle.iox2_domain.specs.Invariant.{IsDomain, ReceiverHas, connection_count, one_if_receivers};
 ghost use Rattle.iox2_domain.specs.Connects.{MakesRoom, MakesSenderEnd, ConnectsSender};
-ghost use Rattle.iox2_domain.specs.Drops.{HasEnd, LosesSenderEnd, LosesWaiting};
+ghost use Rattle.iox2_domain.specs.Drops.{HasEnd, LosesSenderEnd, LosesWaiting, StandsElsewhere};
 ghost use Rattle.iox2_domain.specs.Histories.{HasNewEnd, HandsOut};
 
 use crate::failures::{ask, degrade};
@@ -215,8 +215,8 @@ fn hand_out_history<T: Drop, U: Default + Drop>(
 }
 
 // The publisher at a place that isn't due, with no end at a subscriber's place, gets one if an open
-// subscriber stands there. The last messages of its history wait in it, as many as fit. Where memory
-// for a connection is refused, its handler is asked.
+// subscriber stands there. The last messages of its history wait in it, as many as fit, but where its
+// channel is closed. Where memory for a connection is refused, its handler is asked.
 fn connect_sender<T: Drop, U: Default + Drop, F: BackpressureFn, G: DegradationFn>(
     state: &mut DomainState<T, U>,
     boxes: &Boxes<F, G>,
@@ -237,6 +237,9 @@ fn connect_sender<T: Drop, U: Default + Drop, F: BackpressureFn, G: DegradationF
     }
     match make_sender_end(state, boxes, publisher_place, subscriber_place) {
         Ok(key) => {
+            if state.connections[key].is_closed() {
+                return None;
+            }
             hand_out_history(state, publisher_place, key);
             mark_end(state, publisher_place, subscriber_place);
             None
@@ -276,6 +279,7 @@ fn disconnect_sender<T: Drop, U: Default + Drop>(
     requires end { HasEnd state.old publisher_place subscriber_place key }
     requires unused { IsSomeAnd (get state.old.connections key) (λ c. c.borrowed ≡ []) }
     requires alone { (c : Link) → get state.old.connections key ≡ Some c → ReceiverHas state.old.subscribers key c → ⊥ }
+    requires elsewhere { (c : Link) → get state.old.connections key ≡ Some c → StandsElsewhere state.old.subscribers subscriber_place c.home.subscriber }
     ensures { (x : PublisherFields) → slice_index_or state.old.publishers publisher_place None ≡ Some x
         → LosesSenderEnd state.old publisher_place subscriber_place x state.new }
 {

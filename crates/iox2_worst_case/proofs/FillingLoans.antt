@@ -53,6 +53,7 @@ module _ {T U : Type 0} (c : ServiceConfig) (most available : ℕ) (s : State T 
     subscriber_places = f.subscriber_places;
     subscribers = f.subscribers;
     mailboxes = f.mailboxes;
+    channels = f.channels;
   }
 
   granted_loan : (default_header : U) → HasFillingLoan (loan_granted default_header s 1 before 1 1) (suc sent + out) false
@@ -153,6 +154,7 @@ module _ {T U : Type 0} (c : ServiceConfig) (most available : ℕ) (s : State T 
           subscriber_places = f.subscriber_places;
           subscribers = f.subscribers;
           mailboxes = f.mailboxes;
+          channels = f.channels;
         };
         loan = (written l value, put_at-same s.loans n (Some (written l value)), loan.2, refl);
       })

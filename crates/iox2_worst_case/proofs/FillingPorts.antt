@@ -1,12 +1,13 @@
 -- The publisher and the subscribers are made on the way to full slots.
 use Rattle.std.proofs.Common.{◌≡◌, ℕ, suc, ◌+◌, ◌-◌, ◌≤◌, ◌<◌, Bool, true, false, cond, List, [], ◌∷◌, min, refl, sym, ap, subst, ◌∙◌, arith, eqb, ltb, Option, None, Some, option_map, ◌⊎◌, ⊎_elim}
 use Rattle.std.specs.Bool.{MatchBool}
-use Rattle.std.proofs.lemmas.Bool.{le-ltb, lt-ltb, ne_eqb, eqb-false, eqb-true}
+use Rattle.std.proofs.lemmas.Bool.{le-ltb, lt-ltb, ne_eqb, eqb-false, eqb-true, cond_both}
 use Rattle.iox2_store.specs.machine.Limits.{buffer_limit, expired_limit, last_number}
 use Rattle.iox2_store.specs.machine.Places.{occupant, free_place, lowest_free, set_place}
+use Rattle.iox2_store.specs.machine.Channel.{Channel, new_channels}
 use Rattle.iox2_store.specs.machine.Mailbox.{Mailbox, empty_mailbox}
 use Rattle.iox2_store.specs.machine.Records.{Publisher, Subscriber, PublisherSettings, SubscriberSettings, Handler, Fixed}
-use Rattle.iox2_store.specs.machine.State.{State, Messages, fresh, has_sender_end}
+use Rattle.iox2_store.specs.machine.State.{State, Messages, fresh, has_sender_end, is_linked, channels_if_linked, sender_channels_reset, receiver_channels_reset}
 use Rattle.iox2_store.specs.machine.Connections.{ForEachPlace, first_failure}
 use Rattle.iox2_store.specs.machine.PublisherUpdate.{sender_side, with_sender_side}
 use Rattle.iox2_store.specs.machine.SubscriberUpdate.{ReceiverSide, with_end, UpdateReceiverSide, ConnectReceiver, ConnectAtPlace, DisconnectAtPlace, receiver_side, with_receiver_side}
@@ -23,7 +24,7 @@ use Rattle.iox2_store.specs.declared.errors.ConnectionFailure.{ConnectionFailure
 use Rattle.iox2_store.specs.declared.errors.PublisherCreateError.{PublisherCreateError}
 use Rattle.iox2_store.specs.declared.errors.SubscriberCreateError.{SubscriberCreateError}
 use Rattle.iox2_store.specs.declared.warning.Warning.TheVariants.{PublisherPartlyConnected, SubscriberPartlyConnected}
-use Rattle.iox2_laws.proofs.Puts.{put_at-same}
+use Rattle.iox2_laws.proofs.Puts.{put_at-same, at_each}
 use Rattle.iox2_commands.specs.Outcomes.{Handle, Publisher_handle, Subscriber_handle, Outcome}
 use Rattle.iox2_commands.specs.Step.{Step, after_publisher, after_subscriber, publisher_settings}
 use Rattle.iox2_store.specs.machine.Environments.{ample_memory}
@@ -84,7 +85,7 @@ module _ {T U : Type 0} (c : ServiceConfig) (most available : ℕ) (s : State T 
   side_after = with_end (receiver_side new s.next_port who) 0 (Some 1)
 
   abbrev after : State T U
-  after = with_receiver_side new s.next_port who side_after
+  after = receiver_channels_reset (with_receiver_side new s.next_port who side_after) s.next_port
 
   updated_so : (s' : State T U) → FirstSubscriberUpdate ample_memory new s.next_port s' → s' ≡ after
   updated_so s' h =
@@ -92,7 +93,7 @@ module _ {T U : Type 0} (c : ServiceConfig) (most available : ℕ) (s : State T 
       × UpdateReceiverSide ample_memory (s.config).service_id s.next_port who.degradation_handler (expired_limit s.config)
       (λ p. has_sender_end new p s.next_port)
       s.publisher_places (receiver_side new s.next_port who) side h.1
-      × (h.0 ≡ with_receiver_side new s.next_port who side) =
+      × (h.0 ≡ receiver_channels_reset (with_receiver_side new s.next_port who side) s.next_port) =
       at_some (new.subscribers s.next_port) who _ _ (put_at-same s.subscribers s.next_port (Some who)) h.2 in
       let ends : (k.0 ≡ side_after) × (h.1 ≡ None) =
       connects_receiver (s.config).service_id s.next_port (expired_limit s.config) who.degradation_handler (λ p. has_sender_end new p s.next_port)
@@ -100,7 +101,7 @@ module _ {T U : Type 0} (c : ServiceConfig) (most available : ℕ) (s : State T 
       (subst (λ (places : List (Option ℕ)). UpdateReceiverSide ample_memory (s.config).service_id s.next_port who.degradation_handler
       (expired_limit s.config) (λ p. has_sender_end new p s.next_port)
       places (receiver_side new s.next_port who) k.0 h.1) f.publisher_places k.1) in
-      h.3 ∙ ap (with_failure_warning h.0 (SubscriberPartlyConnected s.next_port)) ends.1 ∙ k.2 ∙ ap (with_receiver_side new s.next_port who) ends.0
+      h.3 ∙ ap (with_failure_warning h.0 (SubscriberPartlyConnected s.next_port)) ends.1 ∙ k.2 ∙ ap (λ side. receiver_channels_reset (with_receiver_side new s.next_port who side) s.next_port) ends.0
 
   made_so : (s' : State T U) (refusal : Option SubscriberCreateError) → MakeSubscriber ample_memory s given made s' refusal → (s' ≡ after) × (refusal ≡ None)
   made_so s' None h = (updated_so s' h, refl)
@@ -138,6 +139,12 @@ module _ {T U : Type 0} (c : ServiceConfig) (most available : ℕ) (s : State T 
         ap (λ (places : List (Option ℕ)). set_place places made (Some s.next_port)) f.subscriber_places ∙ set_place-ports_from 2 made s.next_port f.next_port;
     subscribers = subscribers_after;
     mailboxes = put_at_own (s.mailboxes 1) s.next_port ∙ f.mailboxes;
+    channels = λ q.
+        let t : State T U = with_receiver_side new s.next_port who side_after in
+        at_each (s.channels 1) s.next_port (channels_if_linked t 1 s.next_port) (λ _ k. k ≡ new_channels) q
+        (λ _. cond_both (is_linked t 1 s.next_port) (s.channels 1 s.next_port) new_channels (λ (k : ℕ → Channel). k ≡ new_channels)
+        (λ _. f.channels s.next_port) (λ _. refl))
+        (λ _. f.channels q);
   }
 
   -- one more subscriber is made
@@ -188,7 +195,7 @@ module _ {T U : Type 0} (c : ServiceConfig) (most : ℕ) (slots : Option ℕ) wh
   the_new s = new_publisher s (filler_settings c most slots) 0
 
   abbrev at_first : State T U
-  at_first = with_sender_side begun 1 (the_new (fresh c)) (sender_side begun 1 (the_new (fresh c)))
+  at_first = sender_channels_reset (with_sender_side begun 1 (the_new (fresh c)) (sender_side begun 1 (the_new (fresh c)))) 1
 
   first_made : (s' : State T U) (refusal : Option PublisherCreateError) → MakePublisher ample_memory (fresh c) (filler_settings c most slots) 0 s' refusal
       → (s' ≡ at_first) × (refusal ≡ None)
@@ -197,7 +204,7 @@ module _ {T U : Type 0} (c : ServiceConfig) (most : ℕ) (slots : Option ℕ) wh
     h.3
         ∙ ap (with_failure_warning h.0 (PublisherPartlyConnected 1)) h.2.1.1
         ∙ h.2.2
-        ∙ ap (with_sender_side begun 1 (the_new (fresh c))) h.2.1.0,
+        ∙ ap (λ side. sender_channels_reset (with_sender_side begun 1 (the_new (fresh c)) side) 1) h.2.1.0,
     refl,
   )
 
@@ -215,6 +222,7 @@ module _ {T U : Type 0} (c : ServiceConfig) (most : ℕ) (slots : Option ℕ) wh
     subscriber_places = refl;
     subscribers = λ q low high. absurd (omega arith);
     mailboxes = refl;
+    channels = λ q. refl;
   }
 
   -- the publisher is made

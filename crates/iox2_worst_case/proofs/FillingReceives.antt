@@ -92,6 +92,7 @@ module _ {T U : Type 0} (c : ServiceConfig) (most available : ℕ) (s : State T 
     subscriber_places = f.subscriber_places;
     subscribers = f.subscribers;
     mailboxes = ap (λ (b : ℕ → Mailbox). put_at b q box) f.mailboxes ∙ ap (put_at boxes q) same;
+    channels = f.channels;
   }
 
   received_so : (s' : State T U) (result : ReceiveResult) → Receive ample_memory s q s' result

@@ -4,9 +4,10 @@ use Rattle.std.specs.Prelude.{slice_get, MatchOption}
 use Rattle.std.specs.Option.{option_map_or}
 use Rattle.std.proofs.lemmas.Bool.{eq-eqb}
 use Rattle.iox2_store.specs.machine.Numbers.{last_n, without}
+use Rattle.iox2_store.specs.machine.Channel.{Channel, is_closed}
 use Rattle.iox2_store.specs.machine.Mailbox.{Mailbox}
 use Rattle.iox2_store.specs.machine.Records.{Loan, Publisher, Subscriber}
-use Rattle.iox2_store.specs.machine.State.{State, Messages, receiving_buffer, is_blocked}
+use Rattle.iox2_store.specs.machine.State.{State, Messages, receiving_buffer, channel_buffer, is_blocked}
 use Rattle.iox2_store.specs.machine.Loans.{entry_of}
 use Rattle.iox2_store.specs.machine.Delivery.{Deliver, DeliveryEnd, Complete, no_time}
 use Rattle.iox2_store.specs.machine.PublisherUpdate.{UpdatePublisher}
@@ -63,6 +64,7 @@ module _ {T U : Type 0} (c : ServiceConfig) (most available : ℕ) (s : State T 
     subscriber_places = f.subscriber_places;
     subscribers = f.subscribers;
     mailboxes = same;
+    channels = f.channels;
   }
 
   -- the state in which it is delivered
@@ -71,15 +73,17 @@ module _ {T U : Type 0} (c : ServiceConfig) (most available : ℕ) (s : State T 
 
   -- its delivery
   delivered_so : (how : DeliveryEnd) (boxes' : ℕ → Mailbox)
-      → Deliver ample_memory s.config 1 DiscardData None (receiving_buffer now) (suc sent) 0 no_time 0 (ports_from 2 made) 0 false (s.mailboxes 1) how boxes'
+      → Deliver ample_memory s.config 1 DiscardData None (channel_buffer now 1 0) (suc sent) 0 no_time 0 (ports_from 2 made) 0 false (s.mailboxes 1) how boxes'
       → (count : ℕ) × (how ≡ Complete count false) × (boxes' ≡ wanted)
   delivered_so how boxes' h =
-      delivers (receiving_buffer now)
-      (λ q low high. ap (λ (v : Option Subscriber). option_and_then (λ (y : Subscriber). cond y.is_open (Some y.buffer) None) v) (f.subscribers q low high))
+      delivers (channel_buffer now 1 0)
+      (λ q low high.
+      ap (λ (channels : ℕ → Channel). cond (is_closed (channels 0)) None (receiving_buffer s q)) (f.channels q)
+      ∙ ap (λ (v : Option Subscriber). option_and_then (λ (y : Subscriber). cond y.is_open (Some y.buffer) None) v) (f.subscribers q low high))
       how boxes'
-      (subst (λ (b : ℕ → Mailbox). Deliver ample_memory c 1 DiscardData None (receiving_buffer now) (suc sent) 0 no_time 0 (ports_from 2 made) 0 false b how
+      (subst (λ (b : ℕ → Mailbox). Deliver ample_memory c 1 DiscardData None (channel_buffer now 1 0) (suc sent) 0 no_time 0 (ports_from 2 made) 0 false b how
       boxes') f.mailboxes
-      (subst (λ (v : ServiceConfig). Deliver ample_memory v 1 DiscardData None (receiving_buffer now) (suc sent) 0 no_time 0 (ports_from 2 made) 0 false
+      (subst (λ (v : ServiceConfig). Deliver ample_memory v 1 DiscardData None (channel_buffer now 1 0) (suc sent) 0 no_time 0 (ports_from 2 made) 0 false
       (s.mailboxes 1) how boxes')
       f.config h))
 
@@ -101,7 +105,7 @@ module _ {T U : Type 0} (c : ServiceConfig) (most available : ℕ) (s : State T 
       ap (λ (v : Option Publisher). option_map (λ (x : Publisher). record x { history = last_n (s.config).history_size (x.history ++ suc sent ∷ []) }) v)
       f.publisher in
       let k : (how : DeliveryEnd) × (boxes' : ℕ → Mailbox)
-      × Deliver ample_memory s.config 1 DiscardData None (receiving_buffer now) (suc sent) 0 no_time 0 (ports_from 2 made) 0 false (s.mailboxes 1) how boxes'
+      × Deliver ample_memory s.config 1 DiscardData None (channel_buffer now 1 0) (suc sent) 0 no_time 0 (ports_from 2 made) 0 false (s.mailboxes 1) how boxes'
       × ConcludeSend (with_mailboxes now 1 boxes') 1 (suc sent) how s' result =
       at_some (now.publishers 1) x _ _ present there in
       let ends : (count : ℕ) × (k.0 ≡ Complete count false) × (k.1 ≡ wanted) = delivered_so k.0 k.1 k.2 in

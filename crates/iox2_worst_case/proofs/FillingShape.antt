@@ -3,6 +3,7 @@ use Rattle.std.proofs.Common.{◌≡◌, ℕ, suc, ◌+◌, ◌-◌, ◌≤◌, 
 use Rattle.std.specs.Prelude.{slice_get, MatchOption}
 use Rattle.std.proofs.lemmas.List.{length-append}
 use Rattle.iox2_store.specs.machine.Limits.{buffer_limit}
+use Rattle.iox2_store.specs.machine.Channel.{new_channels}
 use Rattle.iox2_store.specs.machine.Mailbox.{Mailbox}
 use Rattle.iox2_store.specs.machine.Records.{Loan, Publisher, Subscriber, BlockedSend, Fixed}
 use Rattle.iox2_store.specs.machine.State.{State}
@@ -49,7 +50,7 @@ reader buffer place = record {
 }
 
 -- So many messages were sent and so many loans are out. So many subscribers were made, with the numbers from 2 on, and the
--- publisher has these ends and mailboxes.
+-- publisher has these ends and mailboxes. No channel is closed.
 pub record IsFilling {T U : Type 0} (c : ServiceConfig) (most available : ℕ) (s : State T U) (sent out made : ℕ) (links : List (Option ℕ)) (due : Bool)
     (boxes : ℕ → Mailbox) : Type 0 where
   pub well_formed : IsWellFormed s
@@ -62,6 +63,7 @@ pub record IsFilling {T U : Type 0} (c : ServiceConfig) (most available : ℕ) (
   pub subscriber_places : s.subscriber_places ≡ ports_from 2 made
   pub subscribers : (q : ℕ) → 2 ≤ q → q < 2 + made → s.subscribers q ≡ Some (reader (buffer_limit c) (q - 2))
   pub mailboxes : s.mailboxes 1 ≡ boxes
+  pub channels : (q : ℕ) → s.channels 1 q ≡ new_channels
 
 -- A loan of the publisher's is there.
 abbrev pub HasFillingLoan : {T U : Type 0} → State T U → (n : ℕ) → (is_written : Bool) → Type 0

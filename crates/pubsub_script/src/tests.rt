@@ -1,23 +1,9 @@
 mod arrivals;
-mod blocked_publishers;
-mod blocked_sends;
-mod buffers;
-mod calls;
 mod changing_ports;
-mod closes;
-mod growing;
-mod handlers;
-mod histories;
-mod loans;
-mod neighbours;
-mod overrides;
 mod plan;
 mod ports;
-mod slices;
 mod streams;
-mod waiting_sends;
 mod warnings;
-mod words;
 
 use script_runner::{Ending, ScriptError, script};
 use std::alloc::Global;
@@ -103,103 +89,6 @@ skipped
 /// What is told of a subscriber in a domain that has less room for departed publishers than messages
 /// may be borrowed.
 const RAISED: &[u8] = b"warning ExpiredBufferRaised\n";
-
-/// The same of two subscribers.
-const RAISED_TWICE: &[u8] = b"warning ExpiredBufferRaised\nwarning ExpiredBufferRaised\n";
-
-#[test]
-fn a_message_is_sent_received_and_released(rt: HostRuntime) {
-    Outcome::of(rt.alloc(), WORKED).assert(&rt, 0, WORKED_REPLIES, RAISED);
-}
-
-// Room is taken when connections are made, and not for what may come.
-#[test]
-fn a_limit_may_be_any_number(rt: HostRuntime) {
-    for text in [
-        b"domain 1 1 1 1 0 18446744073709551615 keep\nsub 1\npub 1 discard\n".as_slice(),
-        b"domain 18446744073709551615 1 1 1 0 1 keep\nsub 1\npub 1 discard\n".as_slice(),
-        b"domain 1 4611686018427387904 1 1 0 1 keep\nsub 1\nsub 1\n".as_slice(),
-    ] {
-        Outcome::of(rt.alloc(), text).assert(&rt, 0, b"ok\nok\n", b"");
-    }
-}
-
-/// Fills the three slots of a publisher with one loan: one is borrowed, one waits and one is lent.
-const FULL: &[u8] = b"\
-domain 1 1 1 1 0 1 keep
-sub 1
-pub 1 discard
-loan 2
-write 3 5
-send 3
-recv 1
-loan 2
-write 7 6
-send 7
-loan 2
-loan 2
-recv 1
-read 6
-release 6
-recv 1
-read 15
-";
-
-const FULL_REPLIES: &[u8] = b"\
-ok
-ok
-ok
-ok
-ok 1
-sample
-ok
-ok
-ok 1
-ok
-err LoanError::ExceedsMaxLoans
-err ReceiveError::ExceedsMaxBorrows
-ok 5
-ok
-sample
-ok 6
-";
-
-#[test]
-fn each_slot_is_used_and_each_limit_is_met(rt: HostRuntime) {
-    Outcome::of(rt.alloc(), FULL).assert(&rt, 0, FULL_REPLIES, b"");
-}
-
-/// Asks for more loans than the publisher may have out, for too large a buffer, and for one of none.
-const REFUSED: &[u8] = b"\
-domain 1 1 1 1 0 1 keep
-pub 2 discard
-loan 1
-loan 1
-loan 1
-sub 2
-sub 0
-recv 6
-";
-
-const REFUSED_REPLIES: &[u8] = b"\
-ok
-ok
-ok
-err LoanError::ExceedsMaxLoans
-err SubscriberCreateError::BufferSizeExceedsMaxSupportedBufferSizeOfService
-ok
-none
-";
-
-#[test]
-fn what_is_past_a_limit_is_refused(rt: HostRuntime) {
-    Outcome::of(rt.alloc(), REFUSED).assert(&rt, 0, REFUSED_REPLIES, b"");
-    Outcome::of(
-        rt.alloc(),
-        b"domain 1 1 1 1 0 0 keep\npub 0 discard\nloan 1\n",
-    )
-    .assert(&rt, 0, b"ok\nerr LoanError::ExceedsMaxLoans\n", b"");
-}
 
 #[test]
 fn a_domain_line_alone_prints_nothing(rt: HostRuntime) {
@@ -323,6 +212,25 @@ fn a_malformed_line_is_named(rt: HostRuntime) -> Result<(), Fail> {
         Outcome::of(rt.alloc(), text.as_slice()).assert(&rt, 2, b"", b"line 3: bad command\n");
     }
     Ok(())
+}
+
+/// Each has a word that names nothing, a word too many, or a number too large.
+const MALFORMED: [&[u8]; 8] = [
+    b"domain 1 1 1 1 0 1 keep\npub 1 discard static 1 most warn\n",
+    b"domain 1 1 1 1 0 1 keep\npub 1 discard static 1 most warn most\n",
+    b"domain 1 1 1 1 0 1 keep\nsub most most\n",
+    b"domain 1 1 1 1 0 1 keep\nretry 1 0 1000000000\n",
+    b"domain 1 1 1 1 0 1 keep\nretry 1 0\n",
+    b"domain 1 1 1 1 0 1 keep\nset 1 0\n",
+    b"domain 1 1 1 1 0 1 keep\ncell 1 0 18446744073709551616\n",
+    b"domain 1 1 1 1 0 1 keep\nnothing 1\n",
+];
+
+#[test]
+fn a_line_has_all_its_words(rt: HostRuntime) {
+    for text in MALFORMED {
+        Outcome::of(rt.alloc(), text).assert(&rt, 2, b"", b"line 2: bad command\n");
+    }
 }
 
 // The second has its carriage return, since no line feed follows.

@@ -13,6 +13,8 @@ pub mod Standing
 pub mod OpenPorts
 pub mod NamedBooks
 pub mod KeptBooks
+pub mod KeptChannels
+pub mod Rechanneled
 pub mod ExpiredRoom
 pub mod OpenReceivers
 pub mod OwnKeys

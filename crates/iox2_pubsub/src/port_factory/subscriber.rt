@@ -6,8 +6,8 @@ ghost use Rattle.iox2_store.specs.machine.Records.{Fixed};
 ghost use Rattle.iox2_store.specs.machine.Ports.{default_subscriber_settings, buffer_for, CreateSubscriber};
 ghost use Rattle.iox2_store.specs.machine.State.{State, Messages};
 ghost use Rattle.iox2_store.specs.machine.Limits.{expired_limit};
-ghost use Rattle.iox2_pubsub.specs.Live.{HasItsBuffer, HasRoomFor, IsLiveSubscriber, IsNewIn, Stays, subscriber_box, subscriber_port, UpToDateStay, waiting, WaitingStays, IsAwaited, NoneRefused, IsPublisherKey, publisher_key};
-ghost use Rattle.iox2_pubsub.specs.LoansLeft.{LoansLeftStay};
+ghost use Rattle.iox2_pubsub.specs.Live.{HasItsBuffer, HasRoomFor, IsLiveSubscriber, IsNewIn, subscriber_box, subscriber_port, waiting, IsAwaited, NoneRefused, IsPublisherKey, publisher_key};
+ghost use Rattle.iox2_pubsub.specs.Leaves.{Leaves};
 ghost use Rattle.iox2_pubsub.specs.Factories.{receiver_with_degradation};
 ghost use Rattle.iox2_domain.specs.Shows.{Shows};
 
@@ -131,10 +131,7 @@ impl<G: DegradationFn> PortFactorySubscriber<G> {
         ensures none { IfOk result (λ subscriber. waiting domain.new subscriber ≡ 0) }
         ensures awaits { IfOk result (λ subscriber. NoneRefused domain.old domain.new → (publisher : Publisher) → IsPublisherKey domain.old (publisher_key publisher) → IsAwaited domain.new (publisher_id publisher) subscriber) }
         ensures room { IfOk result (λ subscriber. (closes : ℕ) → closes ≤ expired_limit domain.old.config → HasRoomFor domain.new subscriber closes) }
-        ensures waits { WaitingStays domain.old domain.new }
-        ensures up_to_date { UpToDateStay domain.old domain.new }
-        ensures loans_left { LoansLeftStay domain.old domain.new }
-        ensures stays { Stays domain.old domain.new }
+        ensures leaves { Leaves domain.old domain.new }
     {
         let service_id = domain.state.config().service_id;
         let options = self.options;

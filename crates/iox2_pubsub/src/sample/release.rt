@@ -11,8 +11,8 @@ impl Sample {
     ghost use Rattle.iox2_store.specs.machine.Mailbox.{is_borrowed};
     ghost use Rattle.iox2_store.specs.machine.Releases.{released};
     ghost use Rattle.iox2_store.specs.machine.State.{State, Messages};
-    ghost use Rattle.iox2_pubsub.specs.Live.{IsLiveSample, StaysBut, UpToDateStay, received_sample, WaitingStays};
-    ghost use Rattle.iox2_pubsub.specs.LoansLeft.{LoansLeftStay};
+    ghost use Rattle.iox2_pubsub.specs.Live.{IsLiveSample, received_sample};
+    ghost use Rattle.iox2_pubsub.specs.Leaves.{LeavesBut};
     ghost use Rattle.iox2_domain.specs.Shows.{Shows};
     ghost use Rattle.iox2_pubsub.specs.Handles.{receiver_of, sample_number};
 
@@ -30,10 +30,7 @@ impl Sample {
             → (publisher : ℕ) → IsTrue (is_borrowed (sample_number self) (s.mailboxes publisher (receiver_of self)))
             → (s' : State T U) × Shows domain.new m s' × (s' ≡ released s publisher (receiver_of self) (sample_number self)) }
         ensures spent { IsLiveSample domain.new self → ⊥ }
-        ensures waits { WaitingStays domain.old domain.new }
-        ensures up_to_date { UpToDateStay domain.old domain.new }
-        ensures loans_left { LoansLeftStay domain.old domain.new }
-        ensures stays { StaysBut (received_sample self) domain.old domain.new }
+        ensures leaves { LeavesBut (received_sample self) domain.old domain.new }
     {
         let Sample {
             service_id: _,

@@ -11,8 +11,9 @@ impl SampleMut {
     ghost use Rattle.iox2_store.specs.machine.Loans.{loan_discarded};
     ghost use Rattle.iox2_store.specs.machine.Records.{Loan};
     ghost use Rattle.iox2_store.specs.machine.State.{State, Messages};
-    ghost use Rattle.iox2_pubsub.specs.Live.{IsLoanKey, StaysBut, UpToDateStay, written_key, written_loan, WaitingStays};
-    ghost use Rattle.iox2_pubsub.specs.LoansLeft.{HasOneMoreLeft, LoansLeftStay};
+    ghost use Rattle.iox2_pubsub.specs.Live.{IsLoanKey, written_key, written_loan};
+    ghost use Rattle.iox2_pubsub.specs.Leaves.{LeavesBut};
+    ghost use Rattle.iox2_pubsub.specs.LoansLeft.{HasOneMoreLeft};
     ghost use Rattle.iox2_domain.specs.Shows.{Shows};
     ghost use Rattle.iox2_pubsub.specs.Handles.{written_lender, written_number};
 
@@ -28,11 +29,8 @@ impl SampleMut {
         ensures discarded { (m : Messages T U) (s : State T U) (l : Loan T U) → Shows domain.old m s → s.loans (written_number self) ≡ Some l
             → Shows domain.new m (loan_discarded s (written_number self) l) }
         ensures spent { IsLoanKey domain.new (written_key self) → ⊥ }
-        ensures waits { WaitingStays domain.old domain.new }
-        ensures up_to_date { UpToDateStay domain.old domain.new }
-        ensures loans_left { LoansLeftStay domain.old domain.new }
         ensures given_back { HasOneMoreLeft (written_lender self) domain.old domain.new }
-        ensures stays { StaysBut (written_loan self) domain.old domain.new }
+        ensures leaves { LeavesBut (written_loan self) domain.old domain.new }
     {
         let SampleMut {
             service_id: _,

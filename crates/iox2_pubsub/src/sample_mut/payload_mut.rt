@@ -15,9 +15,9 @@ impl SampleMut {
     ghost use Rattle.iox2_domain.specs.Shows.{Shows};
     ghost use Rattle.iox2_domain.specs.LoanCalls.{first_cell_changed};
     ghost use Rattle.iox2_pubsub.specs.ChangedLoans.{with_payload};
-    ghost use Rattle.iox2_pubsub.specs.Live.{IsSingleValued, IsWritten, IsWrittenLoan, LoanHasHeader, LoanHasUserHeader, LoanReads, NeverWaits, StaysBut, UpToDateStay, written_key, written_loan, WaitingStays};
+    ghost use Rattle.iox2_pubsub.specs.Live.{IsSingleValued, IsWritten, IsWrittenLoan, LoanHasHeader, LoanHasUserHeader, LoanReads, NeverWaits, written_key, written_loan};
+    ghost use Rattle.iox2_pubsub.specs.Leaves.{LeavesBut};
     ghost use Rattle.iox2_pubsub.specs.LoanLends.{LendsPayload};
-    ghost use Rattle.iox2_pubsub.specs.LoansLeft.{LoansLeftStay};
     ghost use Rattle.iox2_pubsub.specs.Handles.{written_number};
 
     /// The payload, in a domain of single values, to be changed where it lies. What is left behind
@@ -44,10 +44,7 @@ impl SampleMut {
             → LoanHasHeader (with_payload domain.old (written_number sample.old) value) (written_key sample.new) header }
         ensures user_header { (value : T) (header : U) → LoanHasUserHeader domain.old (written_key sample.old) header
             → LoanHasUserHeader (with_payload domain.old (written_number sample.old) value) (written_key sample.new) header }
-        ensures waits { (value : T) → WaitingStays domain.old (with_payload domain.old (written_number sample.old) value) }
-        ensures up_to_date { (value : T) → UpToDateStay domain.old (with_payload domain.old (written_number sample.old) value) }
-        ensures loans_left { (value : T) → LoansLeftStay domain.old (with_payload domain.old (written_number sample.old) value) }
-        ensures stays { (value : T) → StaysBut (written_loan sample.old) domain.old (with_payload domain.old (written_number sample.old) value) }
+        ensures leaves { (value : T) → LeavesBut (written_loan sample.old) domain.old (with_payload domain.old (written_number sample.old) value) }
     {
         let at = domain.state.find_live_loan(&sample.loan);
         value_at_mut(&mut domain.state, at)

@@ -15,9 +15,9 @@ impl SampleMut {
     ghost use Rattle.iox2_domain.specs.LoanCalls.{user_header_changed};
     ghost use Rattle.iox2_domain.specs.Shows.{Shows};
     ghost use Rattle.iox2_pubsub.specs.ChangedLoans.{with_user_header};
-    ghost use Rattle.iox2_pubsub.specs.Live.{IsWritten, IsWrittenLoan, LoanHasHeader, LoanHasUserHeader, NeverWaits, StaysBut, UpToDateStay, written_key, written_loan, WaitingStays};
+    ghost use Rattle.iox2_pubsub.specs.Live.{IsWritten, IsWrittenLoan, LoanHasHeader, LoanHasUserHeader, NeverWaits, written_key, written_loan};
+    ghost use Rattle.iox2_pubsub.specs.Leaves.{LeavesBut};
     ghost use Rattle.iox2_pubsub.specs.LoanLends.{LendsUserHeader};
-    ghost use Rattle.iox2_pubsub.specs.LoansLeft.{LoansLeftStay};
     ghost use Rattle.iox2_pubsub.specs.Slices.{HasValues};
     ghost use Rattle.iox2_pubsub.specs.Handles.{written_number};
 
@@ -44,10 +44,7 @@ impl SampleMut {
             → HasValues (with_user_header domain.old (written_number sample.old) user_header) (written_number sample.old) values }
         ensures header { (user_header : U) (header : Header) → LoanHasHeader domain.old (written_key sample.old) header
             → LoanHasHeader (with_user_header domain.old (written_number sample.old) user_header) (written_key sample.new) header }
-        ensures waits { (user_header : U) → WaitingStays domain.old (with_user_header domain.old (written_number sample.old) user_header) }
-        ensures up_to_date { (user_header : U) → UpToDateStay domain.old (with_user_header domain.old (written_number sample.old) user_header) }
-        ensures loans_left { (user_header : U) → LoansLeftStay domain.old (with_user_header domain.old (written_number sample.old) user_header) }
-        ensures stays { (user_header : U) → StaysBut (written_loan sample.old) domain.old (with_user_header domain.old (written_number sample.old) user_header) }
+        ensures leaves { (user_header : U) → LeavesBut (written_loan sample.old) domain.old (with_user_header domain.old (written_number sample.old) user_header) }
     {
         let at = domain.state.find_live_loan(&sample.loan);
         user_header_at_mut(&mut domain.state, at)

@@ -15,8 +15,8 @@ impl SampleMutUninit {
     ghost use Rattle.iox2_store.specs.machine.Records.{Loan};
     ghost use Rattle.iox2_store.specs.machine.State.{State, Messages};
     ghost use Rattle.iox2_domain.specs.Shows.{Shows};
-    ghost use Rattle.iox2_pubsub.specs.Live.{HasLender, IsUnblocked, IsUnwritten, IsWritten, IsWrittenLoan, LoanHasHeader, LoanHasUserHeader, LoanReads, NeverWaits, StaysBut, UnwrittenReads, UpToDateStay, unwritten_key, unwritten_loan, written_key, WaitingStays};
-    ghost use Rattle.iox2_pubsub.specs.LoansLeft.{LoansLeftStay};
+    ghost use Rattle.iox2_pubsub.specs.Live.{HasLender, IsUnblocked, IsUnwritten, IsWritten, IsWrittenLoan, LoanHasHeader, LoanHasUserHeader, LoanReads, NeverWaits, UnwrittenReads, unwritten_key, unwritten_loan, written_key};
+    ghost use Rattle.iox2_pubsub.specs.Leaves.{LeavesBut};
     ghost use Rattle.iox2_pubsub.specs.Slices.{HasUnwrittenCells, HasValues};
     ghost use Rattle.iox2_pubsub.specs.Handles.{unwritten_number, written_number};
 
@@ -46,10 +46,7 @@ impl SampleMutUninit {
         ensures header { (header : Header) → LoanHasHeader domain.old (unwritten_key self) header → IfOk result (λ sample. LoanHasHeader domain.new (written_key sample) header) }
         ensures user_header { (header : U) → LoanHasUserHeader domain.old (unwritten_key self) header → IfOk result (λ sample. LoanHasUserHeader domain.new (written_key sample) header) }
         ensures handed_back { MatchResult result (λ _. self ≡ self) (λ loan. (loan ≡ self) × (domain.new ≡ domain.old)) }
-        ensures waits { WaitingStays domain.old domain.new }
-        ensures up_to_date { UpToDateStay domain.old domain.new }
-        ensures loans_left { LoansLeftStay domain.old domain.new }
-        ensures stays { StaysBut (unwritten_loan self) domain.old domain.new }
+        ensures leaves { LeavesBut (unwritten_loan self) domain.old domain.new }
     {
         if !assume_loan(&mut domain.state, &self.loan) {
             return Err(self);

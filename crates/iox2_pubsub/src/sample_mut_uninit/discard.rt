@@ -11,8 +11,9 @@ impl SampleMutUninit {
     ghost use Rattle.iox2_store.specs.machine.Loans.{loan_discarded};
     ghost use Rattle.iox2_store.specs.machine.Records.{Loan};
     ghost use Rattle.iox2_store.specs.machine.State.{State, Messages};
-    ghost use Rattle.iox2_pubsub.specs.Live.{IsLoanKey, StaysBut, UpToDateStay, unwritten_key, unwritten_loan, WaitingStays};
-    ghost use Rattle.iox2_pubsub.specs.LoansLeft.{HasOneMoreLeft, LoansLeftStay};
+    ghost use Rattle.iox2_pubsub.specs.Live.{IsLoanKey, unwritten_key, unwritten_loan};
+    ghost use Rattle.iox2_pubsub.specs.Leaves.{LeavesBut};
+    ghost use Rattle.iox2_pubsub.specs.LoansLeft.{HasOneMoreLeft};
     ghost use Rattle.iox2_domain.specs.Shows.{Shows};
     ghost use Rattle.iox2_pubsub.specs.Handles.{unwritten_lender, unwritten_number};
 
@@ -28,11 +29,8 @@ impl SampleMutUninit {
         ensures discarded { (m : Messages T U) (s : State T U) (l : Loan T U) → Shows domain.old m s → s.loans (unwritten_number self) ≡ Some l
             → Shows domain.new m (loan_discarded s (unwritten_number self) l) }
         ensures spent { IsLoanKey domain.new (unwritten_key self) → ⊥ }
-        ensures waits { WaitingStays domain.old domain.new }
-        ensures up_to_date { UpToDateStay domain.old domain.new }
-        ensures loans_left { LoansLeftStay domain.old domain.new }
         ensures given_back { HasOneMoreLeft (unwritten_lender self) domain.old domain.new }
-        ensures stays { StaysBut (unwritten_loan self) domain.old domain.new }
+        ensures leaves { LeavesBut (unwritten_loan self) domain.old domain.new }
     {
         let SampleMutUninit {
             service_id: _,

@@ -15,9 +15,9 @@ impl SampleMutUninit {
     ghost use Rattle.iox2_domain.specs.LoanCalls.{first_cell_changed};
     ghost use Rattle.iox2_domain.specs.Shows.{Shows};
     ghost use Rattle.iox2_pubsub.specs.ChangedLoans.{with_cell};
-    ghost use Rattle.iox2_pubsub.specs.Live.{IsSingleValued, IsUnwritten, IsUnwrittenLoan, LoanHasHeader, LoanHasUserHeader, NeverWaits, UnwrittenReads, StaysBut, UpToDateStay, unwritten_key, unwritten_loan, WaitingStays};
+    ghost use Rattle.iox2_pubsub.specs.Live.{IsSingleValued, IsUnwritten, IsUnwrittenLoan, LoanHasHeader, LoanHasUserHeader, NeverWaits, UnwrittenReads, unwritten_key, unwritten_loan};
+    ghost use Rattle.iox2_pubsub.specs.Leaves.{LeavesBut};
     ghost use Rattle.iox2_pubsub.specs.LoanLends.{LendsCell};
-    ghost use Rattle.iox2_pubsub.specs.LoansLeft.{LoansLeftStay};
     ghost use Rattle.iox2_pubsub.specs.Handles.{unwritten_number};
 
     /// The payload's cell, in a domain of single values, to be written, changed or emptied where it
@@ -45,10 +45,7 @@ impl SampleMutUninit {
             → LoanHasHeader (with_cell domain.old (unwritten_number sample.old) cell) (unwritten_key sample.new) header }
         ensures user_header { (cell : Option T) (header : U) → LoanHasUserHeader domain.old (unwritten_key sample.old) header
             → LoanHasUserHeader (with_cell domain.old (unwritten_number sample.old) cell) (unwritten_key sample.new) header }
-        ensures waits { (cell : Option T) → WaitingStays domain.old (with_cell domain.old (unwritten_number sample.old) cell) }
-        ensures up_to_date { (cell : Option T) → UpToDateStay domain.old (with_cell domain.old (unwritten_number sample.old) cell) }
-        ensures loans_left { (cell : Option T) → LoansLeftStay domain.old (with_cell domain.old (unwritten_number sample.old) cell) }
-        ensures stays { (cell : Option T) → StaysBut (unwritten_loan sample.old) domain.old (with_cell domain.old (unwritten_number sample.old) cell) }
+        ensures leaves { (cell : Option T) → LeavesBut (unwritten_loan sample.old) domain.old (with_cell domain.old (unwritten_number sample.old) cell) }
     {
         let at = domain.state.find_live_loan(&sample.loan);
         cell_at_mut(&mut domain.state, at)

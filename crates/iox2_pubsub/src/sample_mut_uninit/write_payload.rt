@@ -13,8 +13,8 @@ impl SampleMutUninit {
     ghost use Rattle.iox2_store.specs.machine.Records.{Loan};
     ghost use Rattle.iox2_store.specs.machine.State.{State, Messages, with_loan};
     ghost use Rattle.iox2_store.specs.machine.Loans.{written};
-    ghost use Rattle.iox2_pubsub.specs.Live.{HasLender, IsSingleValued, IsUnblocked, IsUnwritten, IsWritten, IsWrittenLoan, LoanHasHeader, LoanHasUserHeader, LoanReads, NeverWaits, StaysBut, unwritten_key, unwritten_loan, written_key, UpToDateStay, WaitingStays};
-    ghost use Rattle.iox2_pubsub.specs.LoansLeft.{LoansLeftStay};
+    ghost use Rattle.iox2_pubsub.specs.Live.{HasLender, IsSingleValued, IsUnblocked, IsUnwritten, IsWritten, IsWrittenLoan, LoanHasHeader, LoanHasUserHeader, LoanReads, NeverWaits, unwritten_key, unwritten_loan, written_key};
+    ghost use Rattle.iox2_pubsub.specs.Leaves.{LeavesBut};
     ghost use Rattle.iox2_domain.specs.Shows.{Shows};
     ghost use Rattle.iox2_pubsub.specs.Handles.{unwritten_number};
 
@@ -37,10 +37,7 @@ impl SampleMutUninit {
         ensures header { (header : Header) → LoanHasHeader domain.old (unwritten_key self) header → LoanHasHeader domain.new (written_key result) header }
         ensures user_header { (header : U) → LoanHasUserHeader domain.old (unwritten_key self) header → LoanHasUserHeader domain.new (written_key result) header }
         ensures key { written_key result ≡ unwritten_key self }
-        ensures waits { WaitingStays domain.old domain.new }
-        ensures up_to_date { UpToDateStay domain.old domain.new }
-        ensures loans_left { LoansLeftStay domain.old domain.new }
-        ensures stays { StaysBut (unwritten_loan self) domain.old domain.new }
+        ensures leaves { LeavesBut (unwritten_loan self) domain.old domain.new }
     {
         let SampleMutUninit { service_id, loan } = self;
         SampleMut {

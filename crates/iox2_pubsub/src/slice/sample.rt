@@ -28,8 +28,8 @@ impl Sample {
     ghost use Rattle.iox2_store.specs.machine.Releases.{released};
     ghost use Rattle.iox2_store.specs.machine.State.{State, Messages};
     ghost use Rattle.iox2_domain.specs.Shows.{Shows};
-    ghost use Rattle.iox2_pubsub.specs.Live.{IsFromOrigin, IsLiveSample, SampleHasHeader, SampleHasUserHeader, StaysBut, UpToDateStay, received_sample, sample_key, WaitingStays};
-    ghost use Rattle.iox2_pubsub.specs.LoansLeft.{LoansLeftStay};
+    ghost use Rattle.iox2_pubsub.specs.Live.{IsFromOrigin, IsLiveSample, SampleHasHeader, SampleHasUserHeader, received_sample, sample_key};
+    ghost use Rattle.iox2_pubsub.specs.Leaves.{LeavesBut};
     ghost use Rattle.iox2_pubsub.specs.Slices.{HoldsSlices, SampleHasValues};
     ghost use Rattle.iox2_pubsub.specs.Handles.{as_sample, origin_of, receiver_of, sample_number};
 
@@ -76,10 +76,7 @@ impl Sample {
             → (publisher : ℕ) → IsTrue (is_borrowed (sample_number (as_sample self)) (s.mailboxes publisher (receiver_of (as_sample self))))
             → (s' : State T U) × Shows domain.new m s' × (s' ≡ released s publisher (receiver_of (as_sample self)) (sample_number (as_sample self))) }
         ensures spent { IsLiveSample domain.new (as_sample self) → ⊥ }
-        ensures waits { WaitingStays domain.old domain.new }
-        ensures up_to_date { UpToDateStay domain.old domain.new }
-        ensures loans_left { LoansLeftStay domain.old domain.new }
-        ensures stays { StaysBut (received_sample (as_sample self)) domain.old domain.new }
+        ensures leaves { LeavesBut (received_sample (as_sample self)) domain.old domain.new }
     {
         let Sample { sample } = self;
         sample.release(domain);

@@ -33,7 +33,8 @@ impl SampleMut {
     ghost use Rattle.iox2_store.specs.machine.State.{State, Messages};
     ghost use Rattle.iox2_domain.specs.Boxes.{answers_of};
     ghost use Rattle.iox2_domain.specs.Shows.{Shows};
-    ghost use Rattle.iox2_pubsub.specs.Live.{AddAtMost, AllFrom, AreAllSlices, HasItsBuffer, HasLender, IsBlockedSend, IsConnected, IsLoanKey, IsServed, IsUnblocked, IsWritten, LoanHasHeader, LoanHasUserHeader, NeverFails, NeverWaits, OthersSend, StaysBut, blocked_key, UpToDateStay, payloads, waiting, written_key, written_loan, WaitingStays};
+    ghost use Rattle.iox2_pubsub.specs.Live.{AddAtMost, AllFrom, AreAllSlices, HasItsBuffer, HasLender, IsBlockedSend, IsConnected, IsLoanKey, IsServed, IsUnblocked, IsWritten, LoanHasHeader, LoanHasUserHeader, NeverFails, NeverWaits, OthersSend, StaysBut, blocked_key, UpToDateStay, payloads, waiting, written_key, written_loan};
+    ghost use Rattle.iox2_pubsub.specs.Leaves.{LeavesBut};
     ghost use Rattle.iox2_pubsub.specs.declared.subscriber.Subscriber.{Subscriber};
     ghost use Rattle.iox2_pubsub.specs.LoansLeft.{HasOneMoreLeft, LoansLeftStay};
     ghost use Rattle.iox2_pubsub.specs.SendCalls.{FailsSend, IfBlocked, IsDelivered, Sends, messages_after, spent_by_send};
@@ -98,12 +99,9 @@ impl SampleMut {
         requires live { IsLoanKey domain.old (written_key (as_written self)) }
         ensures discarded { (m : Messages T U) (s : State T U) (l : Loan T U) → Shows domain.old m s → s.loans (written_number (as_written self)) ≡ Some l
             → Shows domain.new m (loan_discarded s (written_number (as_written self)) l) }
-        ensures waits { WaitingStays domain.old domain.new }
-        ensures up_to_date { UpToDateStay domain.old domain.new }
         ensures spent { IsLoanKey domain.new (written_key (as_written self)) → ⊥ }
-        ensures loans_left { LoansLeftStay domain.old domain.new }
         ensures given_back { HasOneMoreLeft (written_lender (as_written self)) domain.old domain.new }
-        ensures stays { StaysBut (written_loan (as_written self)) domain.old domain.new }
+        ensures leaves { LeavesBut (written_loan (as_written self)) domain.old domain.new }
     {
         let SampleMut { sample } = self;
         sample.discard(domain);

@@ -35,8 +35,9 @@ impl SampleMutUninit {
     ghost use Rattle.iox2_store.specs.machine.State.{State, Messages};
     ghost use Rattle.iox2_store.specs.machine.SingleCalls.{WriteAllFrom};
     ghost use Rattle.iox2_domain.specs.Shows.{Shows};
-    ghost use Rattle.iox2_pubsub.specs.Live.{HasLender, IsLoanKey, IsUnblocked, IsUnwritten, IsWritten, IsWrittenLoan, LoanHasHeader, LoanHasUserHeader, NeverWaits, StaysBut, UpToDateStay, unwritten_key, unwritten_loan, written_key, WaitingStays};
-    ghost use Rattle.iox2_pubsub.specs.LoansLeft.{HasOneMoreLeft, LoansLeftStay};
+    ghost use Rattle.iox2_pubsub.specs.Live.{HasLender, IsLoanKey, IsUnblocked, IsUnwritten, IsWritten, IsWrittenLoan, LoanHasHeader, LoanHasUserHeader, NeverWaits, unwritten_key, unwritten_loan, written_key};
+    ghost use Rattle.iox2_pubsub.specs.Leaves.{LeavesBut};
+    ghost use Rattle.iox2_pubsub.specs.LoansLeft.{HasOneMoreLeft};
     ghost use Rattle.iox2_pubsub.specs.Slices.{HasUnwrittenCells, HasValues, HoldsSlices, IsSliced};
     ghost use Rattle.iox2_pubsub.specs.Handles.{as_unwritten, as_written, unwritten_lender, unwritten_number, written_number};
 
@@ -83,10 +84,7 @@ impl SampleMutUninit {
         ensures lent { HasLender domain.old (unwritten_key (as_unwritten self)) → HasLender domain.new (written_key (as_written result)) }
         ensures header { (header : Header) → LoanHasHeader domain.old (unwritten_key (as_unwritten self)) header → LoanHasHeader domain.new (written_key (as_written result)) header }
         ensures user_header { (header : U) → LoanHasUserHeader domain.old (unwritten_key (as_unwritten self)) header → LoanHasUserHeader domain.new (written_key (as_written result)) header }
-        ensures waits { WaitingStays domain.old domain.new }
-        ensures up_to_date { UpToDateStay domain.old domain.new }
-        ensures loans_left { LoansLeftStay domain.old domain.new }
-        ensures stays { StaysBut (unwritten_loan (as_unwritten self)) domain.old domain.new }
+        ensures leaves { LeavesBut (unwritten_loan (as_unwritten self)) domain.old domain.new }
     {
         let SampleMutUninit { sample } = self;
         let crate::SampleMutUninit { service_id, loan } = sample;
@@ -118,10 +116,7 @@ impl SampleMutUninit {
         ensures lent { HasLender domain.old (unwritten_key (as_unwritten self)) → HasLender domain.new (written_key (as_written result)) }
         ensures header { (header : Header) → LoanHasHeader domain.old (unwritten_key (as_unwritten self)) header → LoanHasHeader domain.new (written_key (as_written result)) header }
         ensures user_header { (header : U) → LoanHasUserHeader domain.old (unwritten_key (as_unwritten self)) header → LoanHasUserHeader domain.new (written_key (as_written result)) header }
-        ensures waits { WaitingStays domain.old domain.new }
-        ensures up_to_date { UpToDateStay domain.old domain.new }
-        ensures loans_left { LoansLeftStay domain.old domain.new }
-        ensures stays { StaysBut (unwritten_loan (as_unwritten self)) domain.old domain.new }
+        ensures leaves { LeavesBut (unwritten_loan (as_unwritten self)) domain.old domain.new }
     {
         let SampleMutUninit { sample } = self;
         let crate::SampleMutUninit { service_id, loan } = sample;
@@ -155,10 +150,7 @@ impl SampleMutUninit {
         ensures header { (header : Header) → LoanHasHeader domain.old (unwritten_key (as_unwritten self)) header → IfOk result (λ it. LoanHasHeader domain.new (written_key (as_written it)) header) }
         ensures user_header { (header : U) → LoanHasUserHeader domain.old (unwritten_key (as_unwritten self)) header → IfOk result (λ it. LoanHasUserHeader domain.new (written_key (as_written it)) header) }
         ensures handed_back { MatchResult result (λ _. self ≡ self) (λ it. (as_unwritten it ≡ as_unwritten self) × (domain.new ≡ domain.old)) }
-        ensures waits { WaitingStays domain.old domain.new }
-        ensures up_to_date { UpToDateStay domain.old domain.new }
-        ensures loans_left { LoansLeftStay domain.old domain.new }
-        ensures stays { StaysBut (unwritten_loan (as_unwritten self)) domain.old domain.new }
+        ensures leaves { LeavesBut (unwritten_loan (as_unwritten self)) domain.old domain.new }
     {
         let SampleMutUninit { sample } = self;
         match sample.assume_init(domain) {
@@ -175,12 +167,9 @@ impl SampleMutUninit {
         requires live { IsLoanKey domain.old (unwritten_key (as_unwritten self)) }
         ensures discarded { (m : Messages T U) (s : State T U) (l : Loan T U) → Shows domain.old m s → s.loans (unwritten_number (as_unwritten self)) ≡ Some l
             → Shows domain.new m (loan_discarded s (unwritten_number (as_unwritten self)) l) }
-        ensures waits { WaitingStays domain.old domain.new }
-        ensures up_to_date { UpToDateStay domain.old domain.new }
         ensures spent { IsLoanKey domain.new (unwritten_key (as_unwritten self)) → ⊥ }
-        ensures loans_left { LoansLeftStay domain.old domain.new }
         ensures given_back { HasOneMoreLeft (unwritten_lender (as_unwritten self)) domain.old domain.new }
-        ensures stays { StaysBut (unwritten_loan (as_unwritten self)) domain.old domain.new }
+        ensures leaves { LeavesBut (unwritten_loan (as_unwritten self)) domain.old domain.new }
     {
         let SampleMutUninit { sample } = self;
         sample.discard(domain);

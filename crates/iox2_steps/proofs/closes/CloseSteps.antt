@@ -20,6 +20,7 @@ use Rattle.iox2_domain.specs.Midway.{IsMidway}
 use Rattle.iox2_domain.specs.Reaches.{Reaches, ReachesBut}
 use Rattle.iox2_domain.specs.Closes.{FindsAll, LeavesConnections, LeavesSlots, SomeHasKey, left_subscriber, left_fields}
 use Rattle.iox2_domain.proofs.lemmas.slots.PublisherBooks.{book-there, book-covers, book-counts}
+use Rattle.iox2_domain.proofs.lemmas.fields.KeptChannels.{but-channels}
 use Rattle.iox2_domain.proofs.lemmas.fields.OwnKeys.{listed-at}
 use Rattle.iox2_steps.proofs.closes.LeftKeys.{expired-gone}
 use Rattle.iox2_steps.proofs.closes.LeftState.{left-reaches}
@@ -32,7 +33,8 @@ module _ {T U : Type 0} (key : ℕ) (old new : Fields T U) (s : State T U) (left
     consistent = left.agrees.parts;
     lone = left.agrees.lone;
     kept_books = record { own = λ b at. inr (left.agrees.left_book b at); others = λ k b away at. left.agrees.kept_books k b away at };
-    state = left.state;
+    state = but-channels new s left.state;
+    channels = left.channels;
     entries = left.entries;
     complete = left.agrees.entries;
   }
@@ -42,8 +44,8 @@ module _ {T U : Type 0} (key : ℕ) (old new : Fields T U) (s : State T U) (left
   closes-well = subst IsWellFormed left.state left.agrees.well_formed
 
   -- so it is closed
-  pub closes-freed : (k : ℕ) → k ≡ key → (after : Fields T U) → ((before : Fields T U) (t : State T U) → IsMidway before new t k → IsWellFormed t → Reaches before after t) → Reaches old after s
-  closes-freed k is after kept = kept old s (subst (IsMidway old new s) (sym is) closes-midway) closes-well
+  pub closes-freed : (k : ℕ) → k ≡ key → (after : Fields T U) → ((before : Fields T U) (t : State T U) → IsMidway before new t k → state_of (kept_of new) ≡ t → IsWellFormed t → Reaches before after t) → Reaches old after s
+  closes-freed k is after kept = kept old s (subst (IsMidway old new s) (sym is) closes-midway) left.state closes-well
 
 module _ {T U : Type 0} (f : Fields T U) (sound : IsDomain f) (i : ℕ) (x : PublisherFields) (here : get_or f.publishers i None ≡ Some x) where
   -- its book is there

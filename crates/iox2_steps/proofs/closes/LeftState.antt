@@ -6,11 +6,11 @@ use Rattle.std.specs.declared.option.Option.TheVariants.{None, Some}
 use Rattle.slab.specs.Slab.{Slab, get}
 use Rattle.iox2_slots.specs.Link.{Link}
 use Rattle.iox2_slots.specs.SlotBook.{Book, holders_at}
-use Rattle.iox2_store.specs.machine.Ports.{mailbox_after_publisher, publisher_gone, publisher_closed}
+use Rattle.iox2_store.specs.machine.Ports.{mailbox_after_publisher, publisher_gone, publisher_closed, subscribers_pruned}
 use Rattle.iox2_store.specs.machine.Mailbox.{Mailbox, numbers_in, waiting_dropped}
 use Rattle.iox2_store.specs.machine.Numbers.{contains}
 use Rattle.iox2_store.specs.machine.Records.{Entry, Loan}
-use Rattle.iox2_store.specs.machine.State.{State}
+use Rattle.iox2_store.specs.machine.State.{State, subscribers_due}
 use Rattle.iox2_store.specs.machine.WellFormed.{IsWellFormed}
 use Rattle.iox2_store.specs.Stored.{IsHeldMessage, In_history, In_mailbox, In_blocked_send}
 use Rattle.iox2_ends.specs.Counters.{with_counters}
@@ -29,7 +29,10 @@ use Rattle.iox2_domain.proofs.lemmas.slots.Messages.{lies_at, has_number, loan-t
 use Rattle.iox2_domain.specs.Reaches.{ReachesBut}
 use Rattle.iox2_domain.specs.Closes.{LeavesConnections, LeavesSlots}
 use Rattle.iox2_steps.proofs.closes.LoansLeft.{left-counters}
-use Rattle.iox2_steps.proofs.closes.LeftParts.{after, between, keeps_slots, publishers-apart, plain, number-back, numbered, counted, back, forth, leaver-agrees}
+use Rattle.iox2_steps.proofs.closes.LeftParts.{after, between, keeps_slots, publishers-apart, plain, number-back, numbered, counted, back, forth, leaver-agrees, leaver-parts}
+use Rattle.iox2_steps.proofs.closes.LeftConnections.{left-channels, left-had}
+use Rattle.iox2_steps.proofs.updates.ResetChannels.{sender-reset}
+use Rattle.iox2_domain.specs.Midway.{with_channels_of}
 use Rattle.iox2_steps.proofs.closes.LeftMailboxes.{leaver, mailboxes-left}
 use Rattle.iox2_steps.proofs.closes.LeftPublishers.{publishers-left, places-left as publisher_places-left}
 use Rattle.iox2_steps.proofs.closes.LeftSubscribers.{subscribers-left, places-left as subscriber_places-left}
@@ -104,16 +107,25 @@ module _ {T U : Type 0} (f : Fields T U) (sound : IsDomain f) (i : ℕ) (x : Pub
   mid-is : state_of (kept_of g) ≡ record (state_of (kept_of mid)) { loans = (state_of (kept_of g)).loans }
   mid-is = book-state mid x.book b (with_counters b holders) at (keeps_slots f sound i x here b at new left holders slots) sound.parts.books.one_each
 
-  -- the machine's state after the close
-  pub left-is : state_of (kept_of g) ≡ publisher_closed before x.id (leaver f sound i x here)
-  left-is = mid-is ∙ (λ t. record (publisher_closed before x.id (leaver f sound i x here)) {
+  -- the machine's state after the close, before it resets the publisher's channels
+  abbrev unsettled : State T U
+  unsettled = subscribers_due (subscribers_pruned (publisher_gone before x.id (leaver f sound i x here)))
+
+  left-shown : state_of (kept_of g) ≡ with_channels_of g unsettled
+  left-shown = ap (with_channels_of g) mid-is ∙ (λ t. with_channels_of g (record unsettled {
     loans = loans-same t;
     publishers = publishers-left f sound i x here new left t;
     subscribers = subscribers-left f sound i x here new left t;
     mailboxes = boxes t;
     publisher_places = publisher_places-left f sound i x here new left t;
     subscriber_places = subscriber_places-left f sound i x here new left t;
-  })
+  }))
+
+  -- and after that
+  pub left-is : IsUnmarkedSender f.connections i → state_of (kept_of g) ≡ publisher_closed before x.id (leaver f sound i x here)
+  left-is unmarked =
+      sender-reset f g sound.parts (leaver-parts f sound i x here b at new left holders slots unmarked free) x.id (λ _ _. Unit {0}) (left-channels x.id f.subscribers f.connections new left)
+      unsettled left-shown refl
 
   -- ---- messages
 
@@ -139,9 +151,9 @@ module _ {T U : Type 0} (f : Fields T U) (sound : IsDomain f) (i : ℕ) (x : Pub
       In_blocked_send z s (found_removed before.publishers x.id q z (before.publishers q ≡ Some z) at_z (λ away found. found)) blocked is
 
   -- the entry of a message that somebody holds is still kept
-  left-keeps : KeepsEntries (kept_of g)
-  left-keeps q n held =
-      let was = sound.entries q n (held-closed q n (subst (λ (s : State T U). IsHeldMessage s q n) left-is held)) in
+  left-keeps : IsUnmarkedSender f.connections i → KeepsEntries (kept_of g)
+  left-keeps unmarked q n held =
+      let was = sound.entries q n (held-closed q n (subst (λ (s : State T U). IsHeldMessage s q n) (left-is unmarked) held)) in
       let there = entry-there f n was.0 was.1 in
       let has = held-message-slot g (counted f sound i x here b at new left holders slots free) (publishers-apart f sound i x here b at new left holders slots)
       (plain f sound i x here b at new left holders slots) q n held in
@@ -161,7 +173,8 @@ module _ {T U : Type 0} (f : Fields T U) (sound : IsDomain f) (i : ℕ) (x : Pub
   pub left-reaches : IsUnmarkedSender f.connections i → ReachesBut x.book f g (publisher_closed before x.id (leaver f sound i x here))
   left-reaches unmarked = record {
     agrees = leaver-agrees f sound i x here b at new left holders slots unmarked free
-        (subst IsWellFormed (sym left-is) (publisher_closed_keeps before sound.well_formed x.id (leaver f sound i x here) (publisher-stands f sound.parts i x here))) left-keeps;
-    state = left-is;
+        (subst IsWellFormed (sym (left-is unmarked)) (publisher_closed_keeps before sound.well_formed x.id (leaver f sound i x here) (publisher-stands f sound.parts i x here))) (left-keeps unmarked);
+    state = left-is unmarked;
+    channels = λ k d at_d. left-had x.id f.subscribers f.connections new left k d at_d;
     entries = left-entries;
   }

@@ -12,10 +12,10 @@ use Rattle.iox2_store.specs.machine.Limits.{last_number}
 use Rattle.iox2_store.specs.machine.Numbers.{put_at}
 use Rattle.iox2_store.specs.machine.Places.{free_place, lowest_free}
 use Rattle.iox2_store.specs.machine.Ports.{first_segment_fits, with_new_publisher, with_failure_warning, CreatePublisher, MakePublisher, FirstPublisherUpdate}
-use Rattle.iox2_store.specs.machine.PublisherUpdate.{SenderSide, UpdatePublisher, UpdateSenderPlace, sender_side, with_sender_side}
+use Rattle.iox2_store.specs.machine.PublisherUpdate.{SenderSide, UpdatePublisher, UpdateSenderPlace, history_for, sender_side, with_sender_side}
 use Rattle.iox2_store.specs.machine.Records.{Publisher, PublisherSettings, Environment}
 use Rattle.iox2_store.specs.machine.SingleCalls.{HoldsPublisher}
-use Rattle.iox2_store.specs.machine.State.{State, receiving_buffer, has_receiver_end}
+use Rattle.iox2_store.specs.machine.State.{State, receiving_buffer, has_receiver_end, sender_channels_reset}
 use Rattle.iox2_store.specs.declared.errors.ConnectionFailure.{ConnectionFailure}
 use Rattle.iox2_store.specs.declared.errors.PublisherCreateError.{PublisherCreateError}
 use Rattle.iox2_store.specs.declared.errors.PublisherCreateError.TheVariants.{UnableToCreatePortTag, ExceedsMaxSupportedPublishers, UnableToCreateDataSegment}
@@ -110,16 +110,16 @@ module _ {T U : Type 0} (environment : Environment) where
   abbrev UpdateDue : State T U → (p : ℕ) → Publisher → State T U → Option ConnectionFailure → Type 0
   UpdateDue s p x s' failure =
       (side : SenderSide)
-      × ForEachPlace (UpdateSenderPlace environment (s.config).service_id p x.degradation_handler x.history (receiving_buffer s) (has_receiver_end s p))
+      × ForEachPlace (UpdateSenderPlace environment (s.config).service_id p x.degradation_handler (history_for s p x) (receiving_buffer s) (has_receiver_end s p))
       0 s.subscriber_places (sender_side s p x) side failure
-      × (s' ≡ with_sender_side s p x side)
+      × (s' ≡ sender_channels_reset (with_sender_side s p x side) p)
 
   -- an update keeps settings, numbers and loans, and its publisher
   pub update-keeps : (s s' : State T U) (p : ℕ) (failure : Option ConnectionFailure) → UpdatePublisher environment s p s' failure → KeepsPublisher s s' p
   update-keeps s s' p failure h = by (s.publishers p) refl h where
     at : (x : Publisher) (b : Bool) → s.publishers p ≡ Some x → MatchBool b (UpdateDue s p x s' failure) ((s' ≡ s) × (failure ≡ None)) → KeepsPublisher s s' p
     at x true is h = record {
-      keeps = joined s (with_sender_side s p x h.0) s' (record { config = refl; next_message = refl; loans = refl }) (same (with_sender_side s p x h.0) s' h.2);
+      keeps = joined s (sender_channels_reset (with_sender_side s p x h.0) p) s' (record { config = refl; next_message = refl; loans = refl }) (same (sender_channels_reset (with_sender_side s p x h.0) p) s' h.2);
       stands = (record x { ends = h.0.ends; is_due = false }, ap (λ (t : State T U). t.publishers p) h.2 ∙ put-here s.publishers p (record x { ends = h.0.ends; is_due = false }));
     }
     at x false is h = record { keeps = same s s' h.0; stands = (x, ap (λ (t : State T U). t.publishers p) h.0 ∙ is) }

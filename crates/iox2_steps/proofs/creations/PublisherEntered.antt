@@ -16,7 +16,8 @@ use Rattle.iox2_store.specs.machine.Mailbox.{Mailbox}
 use Rattle.iox2_ends.specs.LookUp.{look_up, IsOnly}
 use Rattle.iox2_laws.proofs.PortLaws.{no_publisher_yet}
 use Rattle.iox2_domain.specs.Ports.{PublisherFields, slot_length}
-use Rattle.iox2_domain.specs.Kept.{Named, Between, state_of, port_named, ids, is_named, loan_in, stands_between, box_if_any}
+use Rattle.iox2_domain.specs.Kept.{Named, Between, state_of, port_named, ids, is_named, loan_in, stands_between, box_if_any, channels_if_between}
+use Rattle.iox2_store.specs.machine.Channel.{Channel}
 use Rattle.iox2_domain.specs.Fields.{Fields, kept_of, publisher_of}
 use Rattle.iox2_domain.specs.Invariant.{IsDomain, HasForms, is_publisher}
 use Rattle.iox2_domain.specs.Placed.{placed}
@@ -121,7 +122,7 @@ module _ {T U : Type 0} (f : Fields T U) (place : ℕ) (given : PublisherSetting
     publishers = put_at (state_of (kept_of f)).publishers f.next_port (Some made);
     publisher_places = set_place (state_of (kept_of f)).publisher_places place (Some f.next_port);
   }
-  entered-is = λ i. record (state_of (kept_of f)) { next_port = f.next_port + 1; loans = loans_same i; mailboxes = boxes i; publishers = all i; publisher_places = places i } where
+  entered-is = λ i. record (state_of (kept_of f)) { next_port = f.next_port + 1; loans = loans_same i; mailboxes = boxes i; channels = channels i; publishers = all i; publisher_places = places i } where
     all : (state_of (kept_of with_entered_publisher)).publishers ≡ put_at (state_of (kept_of f)).publishers f.next_port (Some made)
     all = fun_ext named-entered
 
@@ -131,6 +132,10 @@ module _ {T U : Type 0} (f : Fields T U) (place : ℕ) (given : PublisherSetting
 
     boxes : (state_of (kept_of with_entered_publisher)).mailboxes ≡ (state_of (kept_of f)).mailboxes
     boxes = ap {B = ℕ → ℕ → Mailbox} (λ (cs : List (Option Between)) (p q : ℕ). box_if_any (look_up (stands_between p q) cs))
+        (connections-shown f enters.sound (slots_for f.config given) (slot_length given.initial_max_slice_len * (f.config).units_per_element) key books contents enters.book)
+
+    channels : (state_of (kept_of with_entered_publisher)).channels ≡ (state_of (kept_of f)).channels
+    channels = ap {B = ℕ → ℕ → ℕ → Channel} (λ (cs : List (Option Between)) (p q : ℕ). channels_if_between (look_up (stands_between p q) cs))
         (connections-shown f enters.sound (slots_for f.config given) (slot_length given.initial_max_slice_len * (f.config).units_per_element) key books contents enters.book)
 
     places : (state_of (kept_of with_entered_publisher)).publisher_places ≡ set_place (state_of (kept_of f)).publisher_places place (Some f.next_port)

@@ -9,7 +9,7 @@ use Rattle.iox2_store.specs.machine.Numbers.{put_at}
 use Rattle.iox2_store.specs.machine.Places.{free_place}
 use Rattle.iox2_store.specs.machine.Ports.{buffer_for, new_subscriber, with_new_subscriber, with_failure_warning, CreateSubscriber, MakeSubscriber, FirstSubscriberUpdate}
 use Rattle.iox2_store.specs.machine.Records.{Subscriber, SubscriberSettings, Environment}
-use Rattle.iox2_store.specs.machine.State.{State, has_sender_end}
+use Rattle.iox2_store.specs.machine.State.{State, has_sender_end, receiver_channels_reset}
 use Rattle.iox2_store.specs.machine.SubscriberUpdate.{ReceiverSide, UpdateSubscriber, UpdateReceiverSide, receiver_side, with_receiver_side}
 use Rattle.iox2_store.specs.declared.errors.ConnectionFailure.{ConnectionFailure}
 use Rattle.iox2_store.specs.declared.errors.SubscriberCreateError.{SubscriberCreateError}
@@ -55,13 +55,13 @@ module _ {T U : Type 0} (environment : Environment) where
       (side : ReceiverSide)
       × UpdateReceiverSide environment (s.config).service_id q y.degradation_handler (expired_limit s.config) (λ p. has_sender_end s p q)
       s.publisher_places (receiver_side s q y) side failure
-      × (s' ≡ with_receiver_side s q y side)
+      × (s' ≡ receiver_channels_reset (with_receiver_side s q y side) q)
 
   -- an update keeps them
   pub update-keeps : (s s' : State T U) (q : ℕ) (failure : Option ConnectionFailure) → UpdateSubscriber environment s q s' failure → KeepsLoans s s'
   update-keeps s s' q failure = by (s.subscribers q) where
     at : (y : Subscriber) (b : Bool) → MatchBool b (UpdateDue s q y s' failure) ((s' ≡ s) × (failure ≡ None)) → KeepsLoans s s'
-    at y true h = joined s (with_receiver_side s q y h.0) s' (record { config = refl; next_message = refl; loans = refl }) (same (with_receiver_side s q y h.0) s' h.2)
+    at y true h = joined s (receiver_channels_reset (with_receiver_side s q y h.0) q) s' (record { config = refl; next_message = refl; loans = refl }) (same (receiver_channels_reset (with_receiver_side s q y h.0) q) s' h.2)
     at y false h = same s s' h.0
 
     by : (o : Option Subscriber) → MatchOption o ⊥ (λ y. MatchBool y.is_due (UpdateDue s q y s' failure) ((s' ≡ s) × (failure ≡ None))) → KeepsLoans s s'

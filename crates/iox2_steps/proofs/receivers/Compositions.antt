@@ -1,5 +1,5 @@
 -- Changes of a subscriber, one after the other.
-use Rattle.std.proofs.Common.{◌≡◌, ℕ, Bool, false, List, get_or, slice_set, refl, ap, sym, ◌∙◌}
+use Rattle.std.proofs.Common.{◌≡◌, ℕ, Bool, false, List, get_or, slice_set, refl, ap, sym, subst, ◌∙◌}
 use Rattle.std.proofs.lemmas.List.{set-set, set-get_or}
 use Rattle.std.proofs.lemmas.Option.{same_Some}
 use Rattle.std.specs.declared.option.Option.{Option}
@@ -12,6 +12,10 @@ use Rattle.iox2_store.specs.machine.State.{State, has_sender_end}
 use Rattle.iox2_store.specs.machine.SubscriberUpdate.{ReceiverSide, with_receiver_side}
 use Rattle.iox2_laws.proofs.Puts.{put_at-same}
 use Rattle.iox2_ends.proofs.MailboxChanges.{put_at-own}
+use Rattle.iox2_domain.specs.KeptLinks.{ChannelsFollow}
+use Rattle.iox2_domain.specs.Midway.{with_channels_of}
+use Rattle.iox2_domain.proofs.lemmas.fields.KeptChannels.{but-channels}
+use Rattle.iox2_steps.proofs.updates.FollowedChannels.{follow-both, follow-same}
 use Rattle.iox2_domain.specs.Ports.{SubscriberFields}
 use Rattle.iox2_domain.specs.Kept.{state_of}
 use Rattle.iox2_domain.specs.Fields.{Fields, kept_of, subscriber_of}
@@ -40,7 +44,8 @@ module _ {T U : Type 0} (f : Fields T U) (sound : IsDomain f) (j : ℕ) (y : Sub
     expired_room = y.expired_room;
     fields = sym (ap (λ (ys : List (Option SubscriberFields)). record f { subscribers = ys }) (ap (slice_set f.subscribers j) (sym at) ∙ set-get_or f.subscribers j None));
     others = refl;
-    state = λ k. record s { subscribers = (put_at-own s.subscribers y.id ∙ ap (put_at s.subscribers y.id) (present f sound j y at)) k; mailboxes = λ p. put_at-own (s.mailboxes p) y.id k };
+    state = but-channels f (with_receiver_side s y.id Q (current_side s y.id Q)) (λ k. record s { subscribers = (put_at-own s.subscribers y.id ∙ ap (put_at s.subscribers y.id) (present f sound j y at)) k; mailboxes = λ p. put_at-own (s.mailboxes p) y.id k });
+    channels = follow-same (λ home. home.subscriber ≡ y.id) (λ p q. s.publishers p ≡ None) f.connections f.connections (record { same = λ k. refl });
     entries = λ n entry e. e;
   }
 
@@ -67,10 +72,10 @@ module _ {T U : Type 0} (f : Fields T U) (sound : IsDomain f) (j : ℕ) (y : Sub
         (λ k. current_side (ch.state k) y.id (port-is k))
         ∙ (λ k. record side { mailboxes = λ p. put_at-same (s.mailboxes p) y.id (side.mailboxes p) k })
 
-    state-again : (side' : ReceiverSide) → with_receiver_side (state_of (kept_of f')) y.id (subscriber_of f'.books f'.connections changed).port side' ≡ with_receiver_side s y.id Q side'
-    state-again side' =
-        (λ k. with_receiver_side (ch.state k) y.id (port-is k) side')
-        ∙ (λ k. record s {
+    state-again : (side' : ReceiverSide) (f'' : Fields T U) → with_channels_of f'' (with_receiver_side (state_of (kept_of f')) y.id (subscriber_of f'.books f'.connections changed).port side') ≡ with_channels_of f'' (with_receiver_side s y.id Q side')
+    state-again side' f'' =
+        (λ k. with_channels_of f'' (with_receiver_side (ch.state k) y.id (port-is k) side'))
+        ∙ ap (with_channels_of f'') (λ k. record s {
           subscribers = put_at-twice s.subscribers y.id (Some after) (Some (record Q { ends = side'.ends; expired = side'.expired; is_due = side'.is_due })) k;
           mailboxes = λ p. put_at-twice (s.mailboxes p) y.id (side.mailboxes p) (side'.mailboxes p) k;
           warnings = side'.warnings;
@@ -111,6 +116,8 @@ module _ {T U : Type 0} (f : Fields T U) (sound : IsDomain f) (j : ℕ) (y : Sub
           ∙ ap (λ (ys : List (Option SubscriberFields)). record f { subscribers = ys; publishers = f''.publishers; connections = f''.connections; books = f''.books; contents = f''.contents; warnings = f''.warnings })
           (set-set f.subscribers j (Some changed) (Some (record y { keys = more.keys; key_room = more.key_room; expired = more.expired; expired_room = more.expired_room; is_due = side'.is_due })));
       others = more.others ∙ ch.others;
-      state = more.state ∙ state-again side';
+      state = more.state ∙ state-again side' f'';
+      channels = follow-both (λ home. home.subscriber ≡ y.id) (λ p q. s.publishers p ≡ None) f.connections f'.connections f''.connections ch.channels
+          (subst (λ (publishers : ℕ → Option Publisher). ChannelsFollow (λ home. home.subscriber ≡ y.id) (λ p q. publishers p ≡ None) f'.connections f''.connections) (ap (λ (t : State T U). t.publishers) ch.state) more.channels);
       entries = λ n entry e. ch.entries n entry (more.entries n entry e);
     }

@@ -1,5 +1,7 @@
 -- A departed publisher's connection goes, of which nothing is borrowed, and what waits there is lost.
 use Rattle.std.proofs.Common.{◌≡◌, ◌≢◌, ℕ, List, [], map, Bool, true, false, cond, eqb, get_or, refl, ap, sym, subst, ◌∙◌, inl, inr, ◌⊎◌, arith}
+use Rattle.std.proofs.lemmas.Bool.{cases_eq, ne_eqb}
+use Rattle.std.specs.Option.{option_map}
 use Rattle.std.specs.declared.option.Option.{Option}
 use Rattle.std.specs.declared.option.Option.TheVariants.{None, Some}
 use Rattle.slab.specs.Slab.{Slab, get, with_value}
@@ -8,7 +10,7 @@ use Rattle.iox2_slots.specs.SlotBook.{Book}
 use Rattle.iox2_store.specs.machine.Mailbox.{Mailbox, waiting_dropped, numbers_in}
 use Rattle.iox2_store.specs.machine.Numbers.{put_at, contains, without}
 use Rattle.iox2_store.specs.machine.Places.{occupants, set_place}
-use Rattle.iox2_store.specs.machine.Records.{Entry, Subscriber}
+use Rattle.iox2_store.specs.machine.Records.{Entry, Publisher, Subscriber}
 use Rattle.iox2_store.specs.machine.State.{State}
 use Rattle.iox2_store.specs.Stored.{IsHeldMessage, In_history, In_mailbox, In_blocked_send}
 use Rattle.iox2_laws.proofs.NumberLemmas.{contains_right}
@@ -19,10 +21,15 @@ use Rattle.iox2_ends.specs.Mailboxes.{mailbox_of, mailboxes_of, with_box, publis
 use Rattle.iox2_ends.specs.Recounts.{Recounts}
 use Rattle.iox2_ends.proofs.DropSteps.{drops-recount}
 use Rattle.iox2_ends.proofs.MailboxChanges.{Updates-with_value, mailbox-there, mailboxes-changed, put_at-own}
+use Rattle.iox2_domain.specs.KeptLinks.{ChannelsFollow}
+use Rattle.iox2_domain.proofs.lemmas.containers.LookUps.{look_up-map}
+use Rattle.iox2_ends.proofs.LookUps.{look_up-nothing}
+use Rattle.iox2_domain.specs.Midway.{with_channels_of}
+use Rattle.iox2_steps.proofs.updates.FollowedChannels.{follow-fewer}
 use Rattle.iox2_domain.specs.Ports.{SubscriberFields}
-use Rattle.iox2_domain.specs.Kept.{state_of, entries_of}
-use Rattle.iox2_domain.specs.Invariant.{HasParts, IsDomain, HasLoneLoans, IsOwned, IsLeft, IsGone}
-use Rattle.iox2_domain.specs.Fields.{Fields, kept_of, subscriber_of, numbers_of}
+use Rattle.iox2_domain.specs.Kept.{Named, state_of, entries_of, is_named}
+use Rattle.iox2_domain.specs.Invariant.{is_publisher, HasParts, IsDomain, HasLoneLoans, IsOwned, IsLeft, IsGone}
+use Rattle.iox2_domain.specs.Fields.{Fields, kept_of, publisher_of, subscriber_of, numbers_of}
 use Rattle.iox2_domain.proofs.lemmas.fields.SameEnds.{with_connections, same-publisher_of_key}
 use Rattle.iox2_domain.proofs.lemmas.fields.Views.{mailboxes-are}
 use Rattle.iox2_domain.proofs.lemmas.slots.BookChanges.{book-was, book-here}
@@ -139,6 +146,34 @@ module _ {T U : Type 0} (f : Fields T U) (sound : IsDomain f) (j : ℕ) (y : Sub
 
   -- ---- the connection goes
 
+  -- its publisher is gone
+  departed-absent : s.publishers p ≡ None
+  departed-absent =
+      ap (option_map (λ (z : Named Publisher). z.port))
+      (look_up-map (is_named p) (publisher_of f.books f.connections) f.publishers
+      ∙ ap (option_map (publisher_of f.books f.connections)) (look_up-nothing (is_publisher p) f.publishers (λ k x at_x. ne_eqb x.id p (departed.publisher k x at_x))))
+
+  -- all other connections keep their channels
+  pub dropped-follows : ChannelsFollow (λ home. home.subscriber ≡ y.id) (λ r q. s.publishers r ≡ None) f.connections new
+  dropped-follows = follow-fewer (λ home. home.subscriber ≡ y.id) (λ r q. s.publishers r ≡ None) f.connections new fewer lost where
+    others : (k : ℕ) → k ≢ key → get new k ≡ get f.connections k
+    others k away = removes.goes.others k away ∙ (Updates-with_value f.connections key c emptied link).others k away
+
+    fewer : (k : ℕ) (d : Link) → get new k ≡ Some d → get f.connections k ≡ Some d
+    fewer k d at_d = elim (cases_eq k key) [
+      | inl here ↦ absurd (let no : None ≡ Some d = sym removes.goes.changed ∙ sym (ap (get new) here) ∙ at_d in cc)
+      | inr away ↦ sym (others k away) ∙ at_d
+    ]
+
+    lost : (k : ℕ) (d : Link) → get f.connections k ≡ Some d → (get new k ≡ Some d) ⊎ ((d.home.subscriber ≡ y.id) × (s.publishers d.home.publisher ≡ None))
+    lost k d at_d = elim (cases_eq k key) [
+      | inl here ↦
+          let both : Some d ≡ Some c = sym at_d ∙ ap (get f.connections) here ∙ link in
+          let is : d ≡ c = cc in
+          inr (ap (λ (l : Link). l.home.subscriber) is ∙ departed.subscriber, ap (λ (l : Link). s.publishers l.home.publisher) is ∙ departed-absent)
+      | inr away ↦ inl (others k away ∙ at_d)
+    ]
+
   linked : get between key ≡ Some emptied
   linked = (Updates-with_value f.connections key c emptied link).changed
 
@@ -172,15 +207,15 @@ module _ {T U : Type 0} (f : Fields T U) (sound : IsDomain f) (j : ℕ) (y : Sub
     removed_port = record Q { ends = receiver_ends f.connections keys; expired = occupants (receiver_ends f.connections (map Some expired)); is_due = y.is_due }
 
     -- the machine's state then
-    pub removed-is : state_of (kept_of removed_fields) ≡ record s {
+    pub removed-is : state_of (kept_of removed_fields) ≡ with_channels_of removed_fields (record s {
       subscribers = put_at s.subscribers y.id (Some removed_port);
       mailboxes = λ r. put_at (s.mailboxes r) y.id (put_at (λ i. s.mailboxes i y.id) p (waiting_dropped (s.mailboxes p y.id)) r);
-    }
+    })
     removed-is =
         left-is dropped_fields dropped-parts j y at keys expired y.is_due new fits
-        ∙ (λ k. record (dropped-is k) { subscribers = put_at ((dropped-is k).subscribers) y.id (Some (record Q { ends = map (leads k) keys; expired = occupants (map (leads k) (map Some expired)); is_due = y.is_due })) })
+        ∙ ap (with_channels_of removed_fields) ((λ k. record (dropped-is k) { subscribers = put_at ((dropped-is k).subscribers) y.id (Some (record Q { ends = map (leads k) keys; expired = occupants (map (leads k) (map Some expired)); is_due = y.is_due })) })
         ∙ ap (λ (boxes : ℕ → ℕ → Mailbox). record s { subscribers = put_at s.subscribers y.id (Some removed_port); mailboxes = boxes })
-        (dropped-box s.mailboxes p y.id (waiting_dropped (s.mailboxes p y.id)))
+        (dropped-box s.mailboxes p y.id (waiting_dropped (s.mailboxes p y.id))))
 
     -- the keys that are left lead where they led
     pub ends-removed : receiver_ends new keys ≡ receiver_ends f.connections keys

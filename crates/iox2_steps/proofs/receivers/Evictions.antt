@@ -1,5 +1,5 @@
 -- A departed publisher becomes expired in the place of another one.
-use Rattle.std.proofs.Common.{◌≡◌, ◌≢◌, ℕ, List, [], ◌∷◌, ◌++◌, map, true, false, get_or, refl, ap, sym, ◌∙◌}
+use Rattle.std.proofs.Common.{◌≡◌, ◌≢◌, ℕ, List, [], ◌∷◌, ◌++◌, map, true, false, get_or, refl, ap, sym, subst, ◌∙◌}
 use Rattle.std.proofs.lemmas.List.{set-set}
 use Rattle.std.specs.declared.option.Option.{Option}
 use Rattle.std.specs.declared.option.Option.TheVariants.{None, Some}
@@ -21,8 +21,11 @@ use Rattle.iox2_ends.specs.Drops.{RemovesDropped}
 use Rattle.iox2_ends.specs.Finds.{IsReceivers}
 use Rattle.iox2_ends.specs.Mailboxes.{publisher_of_key, receiver_ends, with_box}
 use Rattle.iox2_ends.proofs.MailboxChanges.{Updates-with_value}
+use Rattle.iox2_domain.specs.Midway.{with_channels_of}
+use Rattle.iox2_laws.proofs.PortChanges.{with_all_channels_keeps}
 use Rattle.iox2_domain.specs.WarningRing.{WarningRing, warning_ring}
 use Rattle.iox2_domain.specs.Ports.{SubscriberFields}
+use Rattle.iox2_store.specs.machine.WellFormed.{IsWellFormed}
 use Rattle.iox2_domain.specs.Kept.{state_of}
 use Rattle.iox2_domain.specs.Invariant.{HasParts, IsDomain, IsDomainBut}
 use Rattle.iox2_domain.specs.Fields.{Fields, kept_of, subscriber_of}
@@ -38,7 +41,7 @@ use Rattle.iox2_steps.proofs.receivers.LeftEnds.{IsDeparted, LeavesReceiver, lef
 use Rattle.iox2_steps.proofs.receivers.LeftStates.{left-is, occupants-pushed, occupants-without, same-lead}
 use Rattle.iox2_steps.proofs.receivers.LeftChanges.{parts-warned, present, side-well_formed}
 use Rattle.iox2_steps.proofs.receivers.Retirements.{retired_side, here, absent}
-use Rattle.iox2_steps.proofs.receivers.DroppedEnds.{dropped_fields, dropped-is, dropped-box, dropped-lone, dropped-kept, dropped-gone, dropped-entries, dropped-keeps, expired-fits, removed_fields, removed-parts, removed-is, ends-removed, expired-removed}
+use Rattle.iox2_steps.proofs.receivers.DroppedEnds.{dropped-follows, dropped_fields, dropped-is, dropped-box, dropped-lone, dropped-kept, dropped-gone, dropped-entries, dropped-keeps, expired-fits, removed_fields, removed-parts, removed-is, ends-removed, expired-removed}
 use Rattle.iox2_domain.proofs.lemmas.samples.HintedSamples.{contained}
 
 -- The subscriber y at the place j has this expired connection, of which nothing is borrowed.
@@ -152,17 +155,17 @@ module _ {T U : Type 0} (f : Fields T U) (sound : IsDomain f) (j i : ℕ) (y : S
         let e = own k has in
         (e.0.home.publisher, ap (option_map (λ (l : Link). l.home.publisher)) e.1, same-lead f parts y.id k first e.0 d e.1 old.link e.2.subscriber its)))
 
-    state : state_of (kept_of replaced_fields) ≡ with_receiver_side s y.id Q (retired_side f sound j i y key c end (Evict lost))
+    state : state_of (kept_of replaced_fields) ≡ with_channels_of replaced_fields (with_receiver_side s y.id Q (retired_side f sound j i y key c end (Evict lost)))
     state =
         (λ k. record (left-is evicted evicted-parts j mid mid-stands (set_place y.keys i None) (without first y.expired ++ key ∷ []) y.is_due new end-fits k) { warnings = warned f.warnings.items (ExpiredDataDiscarded lost y.id) })
-        ∙ (λ k. record (removed-is f sound j y end.stands first d old.link lost-departed old.unborrowed b at_b mine holders new removes y.keys (without first y.expired) fits k) {
+        ∙ (λ k. with_channels_of replaced_fields (record (removed-is f sound j y end.stands first d old.link lost-departed old.unborrowed b at_b mine holders new removes y.keys (without first y.expired) fits k) {
           subscribers = put_at ((removed-is f sound j y end.stands first d old.link lost-departed old.unborrowed b at_b mine holders new removes y.keys (without first y.expired) fits k).subscribers) y.id
               (Some (record Q { ends = ends-are k; expired = expired-are k; is_due = y.is_due }));
           warnings = warned f.warnings.items (ExpiredDataDiscarded lost y.id);
-        })
-        ∙ (λ k. record (with_receiver_side s y.id Q (retired_side f sound j i y key c end (Evict lost))) {
+        }))
+        ∙ (λ k. with_channels_of replaced_fields (record (with_receiver_side s y.id Q (retired_side f sound j i y key c end (Evict lost))) {
           subscribers = put_at-twice s.subscribers y.id (Some (record Q { ends = receiver_ends f.connections y.keys; expired = occupants (receiver_ends f.connections (map Some (without first y.expired))); is_due = y.is_due })) (Some (record Q { ends = set_place Q.ends i None; expired = without lost Q.expired ++ p ∷ []; is_due = y.is_due })) k;
-        })
+        }))
 
     pub evicts : ChangesReceiverTo (IsDomainBut d.home.book) f j y (retired_side f sound j i y key c end (Evict lost)) replaced_fields
     evicts = record {
@@ -171,8 +174,8 @@ module _ {T U : Type 0} (f : Fields T U) (sound : IsDomain f) (j i : ℕ) (y : S
           (dropped-lone f sound j y end.stands first d old.link lost-departed old.unborrowed b at_b mine holders new removes)
           (dropped-kept f sound j y end.stands first d old.link lost-departed old.unborrowed b at_b mine holders new removes)
           (dropped-gone f sound j y end.stands first d old.link lost-departed old.unborrowed b at_b mine holders new removes)
-          (rw state (with_receiver_side_keeps s sound.well_formed y.id Q (retired_side f sound j i y key c end (Evict lost)) (present f sound j y end.stands)
-          (evicted_keeps s y.id side i p (side-well_formed f sound j y end.stands) (here f sound j i y key c end) (absent f sound j i y key c end) lost expired-lost nothing_borrowed)))
+          (subst IsWellFormed (sym state) (with_all_channels_keeps (with_receiver_side s y.id Q (retired_side f sound j i y key c end (Evict lost))) (with_receiver_side_keeps s sound.well_formed y.id Q (retired_side f sound j i y key c end (Evict lost)) (present f sound j y end.stands)
+          (evicted_keeps s y.id side i p (side-well_formed f sound j y end.stands) (here f sound j i y key c end) (absent f sound j i y key c end) lost expired-lost nothing_borrowed)) (state_of (kept_of replaced_fields)).channels))
           (λ r n held. dropped-keeps f sound j y end.stands first d old.link lost-departed old.unborrowed b at_b mine holders new removes r n
           (held-before (state_of (kept_of between)) (state_of (kept_of replaced_fields)) r n
           (λ q. ap (λ (t : State T U). t.mailboxes r q) state ∙ sym (ap (λ boxes. boxes r q) (dropped-box s.mailboxes lost y.id (waiting_dropped (s.mailboxes lost y.id)))) ∙ sym (ap (λ (t : State T U). t.mailboxes r q) is))
@@ -185,6 +188,7 @@ module _ {T U : Type 0} (f : Fields T U) (sound : IsDomain f) (j i : ℕ) (y : S
           (set-set f.subscribers j (Some mid) (Some (record y { keys = set_place y.keys i None; expired = without first y.expired ++ key ∷ [] })));
       others = refl;
       state = state;
+      channels = dropped-follows f sound j y end.stands first d old.link lost-departed old.unborrowed b at_b mine holders new removes;
       entries = dropped-entries f sound j y end.stands first d old.link lost-departed old.unborrowed b at_b mine holders new removes;
     } where
       between : Fields T U

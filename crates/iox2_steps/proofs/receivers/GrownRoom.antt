@@ -8,6 +8,8 @@ use Rattle.iox2_store.specs.machine.Records.{Subscriber, Environment}
 use Rattle.iox2_store.specs.machine.State.{State, has_sender_end}
 use Rattle.iox2_store.specs.machine.SubscriberUpdate.{ReceiverSide, ConnectReceiver, with_receiver_side}
 use Rattle.iox2_store.specs.declared.errors.ConnectionFailure.{ConnectionFailure}
+use Rattle.iox2_domain.specs.KeptLinks.{ChannelsFollow}
+use Rattle.iox2_domain.specs.Midway.{with_channels_of}
 use Rattle.iox2_domain.specs.Ports.{PublisherFields, SubscriberFields}
 use Rattle.iox2_domain.specs.Kept.{state_of}
 use Rattle.iox2_domain.specs.Fields.{Fields, kept_of, subscriber_of}
@@ -41,7 +43,8 @@ module _ {T U : Type 0} (f : Fields T U) (sound : IsDomain f) (i j : ℕ) (x : P
         ∙ ap (λ (ys : List (Option SubscriberFields)). record f { subscribers = ys; publishers = f'.publishers; connections = f'.connections; books = f'.books; contents = f'.contents; warnings = f'.warnings })
         (set-set f.subscribers j (Some (with_receiver_rooms m e y)) (Some (record y { keys = ch.keys; key_room = ch.key_room; expired = ch.expired; expired_room = ch.expired_room; is_due = side.is_due })));
     others = ch.others ∙ same-shown publisher_but_room f.publishers i x (with_sender_room n x) at_x refl;
-    state = ch.state ∙ ap (λ (t : State T U). with_receiver_side t y.id Q side) grown-state;
+    state = ch.state ∙ ap (λ (t : State T U). with_channels_of f' (with_receiver_side t y.id Q side)) grown-state;
+    channels = subst (λ (t : State T U). ChannelsFollow (λ home. home.subscriber ≡ y.id) (λ p q. t.publishers p ≡ None) f.connections f'.connections) grown-state ch.channels;
     entries = ch.entries;
   }
 

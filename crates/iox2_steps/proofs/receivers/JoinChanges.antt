@@ -1,5 +1,5 @@
 -- A subscriber gets keys of its connections, one of which may be new, whichever publishers were closed.
-use Rattle.std.proofs.Common.{◌≡◌, ◌≤◌, le_refl, ℕ, Bool, List, map, get_or, slice_set, refl, ap, ◌∙◌, inl}
+use Rattle.std.proofs.Common.{◌≡◌, ◌≤◌, le_refl, ℕ, Bool, List, map, get_or, slice_set, refl, ap, sym, ◌∙◌, inl, inr}
 use Rattle.std.proofs.lemmas.List.{map-set}
 use Rattle.std.specs.declared.option.Option.{Option}
 use Rattle.std.specs.declared.option.Option.TheVariants.{None, Some}
@@ -9,6 +9,11 @@ use Rattle.iox2_slots.specs.Link.{Link}
 use Rattle.iox2_store.specs.machine.Numbers.{put_at}
 use Rattle.iox2_store.specs.machine.Records.{Subscriber}
 use Rattle.iox2_ends.specs.Mailboxes.{receiver_ends}
+use Rattle.iox2_domain.specs.KeptLinks.{ChannelsFollow}
+use Rattle.iox2_domain.proofs.lemmas.fields.ConnectionEnds.{publisher-stands}
+use Rattle.iox2_domain.proofs.lemmas.fields.KeptChannels.{channels-are}
+use Rattle.iox2_steps.proofs.updates.FollowedChannels.{follow-more}
+use Rattle.std.proofs.lemmas.Option.{none-some}
 use Rattle.iox2_domain.specs.WarningRing.{WarningRing}
 use Rattle.iox2_domain.specs.Ports.{SubscriberFields}
 use Rattle.iox2_domain.specs.Kept.{Named, state_of, port_named, ids, is_named}
@@ -57,6 +62,7 @@ module _ {T U : Type 0} (f : Fields T U) (parts : HasParts f) (j : ℕ) (y : Sub
     publishers = λ p. port_named p (publishers-same f parts connections fits.extends k);
     publisher_places = ids (publishers-same f parts connections fits.extends k);
     mailboxes = mailboxes-same f parts connections fits.extends k;
+    channels = (channels-are (with_receiver f j y keys key_room expired_room is_due connections warnings) ∙ fun_ext (λ p. fun_ext (λ q. fits.extends.channels p q)) ∙ sym (channels-are f)) k;
     subscriber_places = places k;
     warnings = warnings.items;
   } where
@@ -68,6 +74,13 @@ module _ {T U : Type 0} (f : Fields T U) (parts : HasParts f) (j : ℕ) (y : Sub
     places : (state_of (kept_of (with_receiver f j y keys key_room expired_room is_due connections warnings))).subscriber_places ≡ (state_of (kept_of f)).subscriber_places
     places = ap ids after-shown ∙ changed-ids shown j (subscriber_of f.books f.connections y) named_after stands-shown refl
 
+  -- channels stay, and new ones are new
+  pub joins-follow : ChannelsFollow (λ home. home.subscriber ≡ y.id) (λ p q. (state_of (kept_of f)).publishers p ≡ None) f.connections connections
+  joins-follow = follow-more (λ home. home.subscriber ≡ y.id) (λ p q. (state_of (kept_of f)).publishers p ≡ None) f.connections connections fits.extends (λ key d at_d. elim (fits.news key d at_d) [
+    | inl old ↦ inl old
+    | inr n ↦ inr (n.subscriber, λ gone. none-some _ (sym (ap (state_of (kept_of f)).publishers n.is_its ∙ gone) ∙ publisher-stands f parts d.home.publisher_place n.publisher n.stands))
+  ])
+
 module _ {T U : Type 0} (f : Fields T U) (parts : HasParts f) (j : ℕ) (y : SubscriberFields) (at : get_or f.subscribers j None ≡ Some y) where
   -- its own keys fit, whatever room there is for connections, and for more keys
   pub receiver_fits-grown : (n key_room expired_room : ℕ) → y.key_room ≤ key_room → y.expired_room ≤ expired_room
@@ -76,7 +89,7 @@ module _ {T U : Type 0} (f : Fields T U) (parts : HasParts f) (j : ℕ) (y : Sub
     grows = grows;
     expired_grows = expired_grows;
     rooms = record { at = parts.expired_room.at };
-    extends = record { apart = record { one = parts.apart.one }; sums = λ p slot. refl; boxes = λ number p q. refl; grows = λ key c at. at };
+    extends = record { apart = record { one = parts.apart.one }; sums = λ p slot. refl; boxes = λ number p q. refl; channels = λ p q. refl; grows = λ key c at. at };
     linked = record { at = (parts.linked.receivers j y at).at };
     places = λ place key c at_key at_c. parts.linked.receiver_places j place key y c at at_key at_c;
     keeps = λ place key at. at;

@@ -24,6 +24,7 @@ use Rattle.iox2_ends.specs.Mailboxes.{is_between, receiver_ends, subscriber_of_k
 use Rattle.iox2_ends.proofs.MailboxChanges.{put_at-own}
 use Rattle.iox2_laws.proofs.ReceiverSides.{connect_at_place_keeps}
 use Rattle.iox2_laws.proofs.SubscriberUpdates.{with_receiver_side_keeps}
+use Rattle.iox2_domain.proofs.lemmas.fields.KeptChannels.{but-channels}
 use Rattle.iox2_domain.specs.WarningRing.{WarningRing, warning_ring}
 use Rattle.iox2_domain.specs.Ports.{PublisherFields, SubscriberFields}
 use Rattle.iox2_domain.specs.Kept.{state_of}
@@ -40,7 +41,7 @@ use Rattle.iox2_domain.proofs.lemmas.containers.MadeConnections.{made-extends, m
 use Rattle.iox2_steps.proofs.updates.ReceiverActions.{connect-makes}
 use Rattle.iox2_steps.proofs.updates.ReceiverChanges.{FitsReceiver}
 use Rattle.iox2_steps.proofs.receivers.LeftChanges.{present, side-well_formed}
-use Rattle.iox2_steps.proofs.receivers.JoinChanges.{receiver-is, receiver_fits-same}
+use Rattle.iox2_steps.proofs.receivers.JoinChanges.{joins-follow, receiver-is, receiver_fits-same}
 use Rattle.iox2_steps.proofs.receivers.JoinAgrees.{receiver-agrees}
 
 module _ {T U : Type 0} (environment : Environment) (f : Fields T U) (sound : IsDomain f) (i j : ℕ) (x : PublisherFields) (y : SubscriberFields)
@@ -87,7 +88,8 @@ module _ {T U : Type 0} (environment : Environment) (f : Fields T U) (sound : Is
       expired_room = y.expired_room;
       fields = refl;
       others = refl;
-      state = state;
+      state = but-channels (joined_fields keys connections warnings) (with_receiver_side s y.id Q (side_with keys connections warnings)) state;
+      channels = joins-follow f sound.parts j y at_y keys y.key_room y.expired_room y.is_due connections warnings fits;
       entries = λ n entry e. e;
     },
     step,

@@ -9,6 +9,8 @@ use Rattle.iox2_store.specs.machine.State.{State}
 use Rattle.iox2_store.specs.machine.SubscriberUpdate.{ReceiverSide, receiver_side, with_receiver_side}
 use Rattle.iox2_laws.proofs.ReceiverSides.{ReceiverSideIsWellFormed, receiver_side_begins, receiver_side_marked}
 use Rattle.iox2_laws.proofs.SubscriberUpdates.{with_receiver_side_keeps}
+use Rattle.iox2_domain.proofs.lemmas.fields.KeptChannels.{but-channels}
+use Rattle.iox2_steps.proofs.updates.FollowedChannels.{follow-same}
 use Rattle.iox2_domain.specs.WarningRing.{WarningRing}
 use Rattle.iox2_domain.specs.Ports.{SubscriberFields}
 use Rattle.iox2_domain.specs.Kept.{state_of}
@@ -18,7 +20,7 @@ use Rattle.iox2_domain.specs.ReceiverSteps.{current_side, ChangesReceiver}
 use Rattle.iox2_domain.proofs.lemmas.fields.Views.{held-before}
 use Rattle.iox2_domain.proofs.lemmas.fields.Parts.{whole_of}
 use Rattle.iox2_steps.proofs.receivers.LeftEnds.{LeavesReceiver, left_fields, left-parts}
-use Rattle.iox2_steps.proofs.receivers.LeftStates.{left-is, left_port}
+use Rattle.iox2_steps.proofs.receivers.LeftStates.{left-still, left_port}
 use Rattle.iox2_domain.proofs.lemmas.fields.ConnectionEnds.{subscriber-stands}
 use Rattle.iox2_domain.proofs.lemmas.fields.SameLinks.{linked-same}
 
@@ -80,11 +82,12 @@ module _ {T U : Type 0} (f : Fields T U) (sound : IsDomain f) (j : ℕ) (y : Sub
     expired_room = y.expired_room;
     fields = refl;
     others = refl;
-    state = state;
+    state = but-channels after (with_receiver_side s y.id Q side) state;
+    channels = follow-same (λ home. home.subscriber ≡ y.id) (λ p q. s.publishers p ≡ None) f.connections f.connections (record { same = λ k. refl });
     entries = λ n entry e. e;
   } where
     after : Fields T U
     after = left_fields f parts j y at keys expired side.is_due f.connections fits
 
     is : state_of (kept_of after) ≡ record s { subscribers = put_at s.subscribers y.id (Some (left_port f sound.parts j y at keys expired side.is_due f.connections fits)) }
-    is = left-is f parts j y at keys expired side.is_due f.connections fits
+    is = left-still f parts j y at keys expired side.is_due fits

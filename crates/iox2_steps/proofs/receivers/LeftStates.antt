@@ -11,6 +11,8 @@ use Rattle.iox2_store.specs.machine.Records.{Subscriber}
 use Rattle.iox2_laws.proofs.NumberLemmas.{contains_first, contains_later}
 use Rattle.iox2_ends.specs.Mailboxes.{receiver_ends}
 use Rattle.iox2_ends.proofs.MailboxChanges.{is_between-own}
+use Rattle.iox2_domain.specs.Midway.{with_channels_of}
+use Rattle.iox2_domain.proofs.lemmas.fields.KeptChannels.{channels-are, whole-state}
 use Rattle.iox2_domain.specs.Ports.{SubscriberFields}
 use Rattle.iox2_domain.specs.Kept.{state_of}
 use Rattle.iox2_domain.specs.Invariant.{HasParts}
@@ -70,8 +72,18 @@ module _ {T U : Type 0} (f : Fields T U) (parts : HasParts f) (j : ℕ) (y : Sub
   left_port = record (subscriber_of f.books f.connections y).port { ends = receiver_ends f.connections keys; expired = occupants (receiver_ends f.connections (map Some expired)); is_due = is_due }
 
   -- the machine sees the subscriber's ends and its expired publishers alone
-  pub left-is : state_of (kept_of (left_fields f parts j y at keys expired is_due connections fits)) ≡ record (state_of (kept_of f)) { subscribers = put_at (state_of (kept_of f)).subscribers y.id (Some left_port) }
+  pub left-is : state_of (kept_of (left_fields f parts j y at keys expired is_due connections fits))
+      ≡ with_channels_of (left_fields f parts j y at keys expired is_due connections fits) (record (state_of (kept_of f)) { subscribers = put_at (state_of (kept_of f)).subscribers y.id (Some left_port) })
   left-is = forgets-is f parts j y at left refl connections (leaves f parts j y at keys expired is_due connections fits)
+
+-- where no connection goes, nothing else changes
+pub left-still : {T U : Type 0} (f : Fields T U) (parts : HasParts f) (j : ℕ) (y : SubscriberFields) (at : get_or f.subscribers j None ≡ Some y) (keys : List (Option ℕ)) (expired : List ℕ) (is_due : Bool)
+    (fits : LeavesReceiver f y keys expired f.connections) → state_of (kept_of (left_fields f parts j y at keys expired is_due f.connections fits))
+    ≡ record (state_of (kept_of f)) { subscribers = put_at (state_of (kept_of f)).subscribers y.id (Some (left_port f parts j y at keys expired is_due f.connections fits)) }
+left-still f parts j y at keys expired is_due fits =
+    whole-state (left_fields f parts j y at keys expired is_due f.connections fits)
+    (record (state_of (kept_of f)) { subscribers = put_at (state_of (kept_of f)).subscribers y.id (Some (left_port f parts j y at keys expired is_due f.connections fits)) })
+    (channels-are (left_fields f parts j y at keys expired is_due f.connections fits) ∙ sym (channels-are f)) (left-is f parts j y at keys expired is_due f.connections fits)
 
 -- two connections of a subscriber with the same publisher are one
 pub same-lead : {T U : Type 0} (f : Fields T U) (parts : HasParts f) (q k key : ℕ) (d c : Link) → get f.connections k ≡ Some d → get f.connections key ≡ Some c

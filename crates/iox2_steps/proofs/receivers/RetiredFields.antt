@@ -2,24 +2,25 @@
 use Rattle.std.proofs.Common.{◌≡◌, ◌<◌, ℕ, List, length, map, true, false, slice_set, refl, ap, sym, subst, ◌∙◌, arith}
 use Rattle.std.proofs.lemmas.List.{set-set}
 use Rattle.std.specs.declared.option.Option.{Option}
-use Rattle.std.specs.declared.option.Option.TheVariants.{Some}
+use Rattle.std.specs.declared.option.Option.TheVariants.{None, Some}
 use Rattle.std.specs.Option.{option_map, option_map_or}
-use Rattle.slab.specs.Slab.{get, with_value, ContainsKey}
+use Rattle.slab.specs.Slab.{Slab, get, with_value, ContainsKey}
 use Rattle.iox2_slots.specs.Link.{Link}
 use Rattle.iox2_slots.specs.SlotBook.{Book}
 use Rattle.iox2_store.specs.machine.Limits.{warning_limit, expired_limit}
 use Rattle.iox2_store.specs.machine.Numbers.{contains}
 use Rattle.iox2_store.specs.machine.State.{State, warned}
-use Rattle.iox2_store.specs.machine.SubscriberUpdate.{ReceiverSide, Retirement, is_refused, Keep_expired, Evict, Discard_data}
+use Rattle.iox2_store.specs.machine.SubscriberUpdate.{ReceiverSide, Retirement, is_refused, Keep_expired, Evict, Discard_data, with_receiver_side}
 use Rattle.iox2_store.specs.declared.warning.Warning.TheVariants.{ExpiredDataDiscarded}
 use Rattle.iox2_ends.specs.Counters.{with_counters}
 use Rattle.iox2_ends.specs.Retires.{has_borrowed, chosen}
 use Rattle.iox2_ends.specs.declared.retirement.Retirement.{Retirement as Choice}
 use Rattle.iox2_ends.specs.declared.retirement.Retirement.TheVariants.{Refuse as RefuseIt}
+use Rattle.iox2_domain.specs.KeptLinks.{ChannelsFollow}
 use Rattle.iox2_domain.specs.WarningRing.{warning_ring}
 use Rattle.iox2_domain.specs.Ports.{SubscriberFields}
 use Rattle.iox2_domain.specs.Kept.{state_of}
-use Rattle.iox2_domain.specs.Fields.{Fields, kept_of}
+use Rattle.iox2_domain.specs.Fields.{Fields, kept_of, subscriber_of}
 use Rattle.iox2_domain.specs.Invariant.{IsDomain, IsDomainBut}
 use Rattle.iox2_domain.specs.Updates.{changed_at, publisher_but_room, without_receiver_key}
 use Rattle.iox2_domain.specs.Reaches.{Reaches}
@@ -41,9 +42,9 @@ spares-same f k key same sound = subst (λ (n : ℕ). IsDomainBut n f) (sym same
 
 -- a book was freed where the step keeps the fields but for the books
 pub frees-book : {T U : Type 0} (f f' : Fields T U) (key : ℕ) → IsDomainBut key f
-    → ((before : Fields T U) (s : State T U) → IsMidway before f s key → IsWellFormed s → Reaches before f' s) → ChangesBooks f f' → FreesBook f f'
+    → ((before : Fields T U) (s : State T U) → IsMidway before f s key → state_of (kept_of f) ≡ s → IsWellFormed s → Reaches before f' s) → ChangesBooks f f' → FreesBook f f'
 frees-book f f' key sound kept books =
-    let attained = kept f (state_of (kept_of f)) (midway-but f key sound) sound.well_formed in
+    let attained = kept f (state_of (kept_of f)) (midway-but f key sound) refl sound.well_formed in
     record { agrees = attained.agrees; fields = books; state = attained.state; entries = attained.entries }
 
 module _ {T U : Type 0} (f f' f'' : Fields T U) (j : ℕ) (y : SubscriberFields) (side : ReceiverSide) (key : ℕ) (changes : ChangesReceiverTo (IsDomainBut key) f j y side f') (frees : FreesBook f' f'') where
@@ -74,7 +75,9 @@ module _ {T U : Type 0} (f f' f'' : Fields T U) (j : ℕ) (y : SubscriberFields)
           warnings = warnings k;
         });
     others = ap (map (option_map publisher_but_room)) (sym publishers) ∙ changes.others;
-    state = frees.state ∙ changes.state;
+    state = frees.state ∙ changes.state
+        ∙ ap (λ (t : State T U). record (with_receiver_side (state_of (kept_of f)) y.id (subscriber_of f.books f.connections y).port side) { channels = t.channels }) (sym frees.state);
+    channels = subst (λ (c : Slab Link). ChannelsFollow (λ home. home.subscriber ≡ y.id) (λ p q. (state_of (kept_of f)).publishers p ≡ None) f.connections c) connections changes.channels;
     entries = λ n entry e. changes.entries n entry (frees.entries n entry e);
   }
 

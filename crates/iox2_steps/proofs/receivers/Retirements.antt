@@ -1,5 +1,5 @@
 -- A departed publisher is retired from its place at a subscriber.
-use Rattle.std.proofs.Common.{◌≡◌, ℕ, ◌<◌, List, [], ◌∷◌, ◌++◌, length, true, false, refl, ap, sym, ◌∙◌}
+use Rattle.std.proofs.Common.{◌≡◌, ℕ, ◌<◌, List, [], ◌∷◌, ◌++◌, length, true, false, refl, ap, sym, subst, ◌∙◌}
 use Rattle.std.proofs.lemmas.Bool.{ne_eqb}
 use Rattle.std.specs.declared.option.Option.TheVariants.{None, Some}
 use Rattle.std.specs.Option.{option_map}
@@ -21,8 +21,11 @@ use Rattle.iox2_ends.specs.Drops.{RemovesDropped}
 use Rattle.iox2_ends.specs.Mailboxes.{publisher_of_key, with_box}
 use Rattle.iox2_ends.proofs.LookUps.{look_up-nothing}
 use Rattle.iox2_ends.proofs.MailboxChanges.{put_at-own}
+use Rattle.iox2_domain.specs.Midway.{with_channels_of}
+use Rattle.iox2_laws.proofs.PortChanges.{with_all_channels_keeps}
 use Rattle.iox2_domain.specs.WarningRing.{WarningRing, warning_ring}
 use Rattle.iox2_domain.specs.Ports.{SubscriberFields}
+use Rattle.iox2_store.specs.machine.WellFormed.{IsWellFormed}
 use Rattle.iox2_domain.specs.Kept.{Named, state_of, is_named}
 use Rattle.iox2_domain.specs.Invariant.{HasParts, IsDomain, IsDomainBut, StandsNowhere, is_publisher}
 use Rattle.iox2_domain.specs.Fields.{Fields, kept_of, publisher_of, subscriber_of}
@@ -34,9 +37,9 @@ use Rattle.iox2_domain.proofs.lemmas.fields.Views.{held-before}
 use Rattle.iox2_domain.proofs.lemmas.fields.Parts.{but-of}
 use Rattle.iox2_steps.proofs.receivers.DepartedEnds.{departed-nowhere}
 use Rattle.iox2_steps.proofs.receivers.LeftEnds.{IsDeparted, LeavesReceiver, left_fields, end-expires, nothing-leaves}
-use Rattle.iox2_steps.proofs.receivers.LeftStates.{left-is, occupants-pushed}
+use Rattle.iox2_steps.proofs.receivers.LeftStates.{left-still, occupants-pushed}
 use Rattle.iox2_steps.proofs.receivers.LeftChanges.{parts-warned, present, side-well_formed, left-changes}
-use Rattle.iox2_steps.proofs.receivers.DroppedEnds.{dropped_fields, dropped-is, dropped-box, dropped-lone, dropped-kept, dropped-gone, dropped-entries, dropped-keeps, place-fits, removed_fields, removed-parts, removed-is}
+use Rattle.iox2_steps.proofs.receivers.DroppedEnds.{dropped-follows, dropped_fields, dropped-is, dropped-box, dropped-lone, dropped-kept, dropped-gone, dropped-entries, dropped-keeps, place-fits, removed_fields, removed-parts, removed-is}
 
 module _ {T U : Type 0} (f : Fields T U) (sound : IsDomain f) (j i : ℕ) (y : SubscriberFields) (key : ℕ) (c : Link) (end : HasDepartedEnd f j i y key c) where
   abbrev s : State T U
@@ -96,7 +99,7 @@ module _ {T U : Type 0} (f : Fields T U) (sound : IsDomain f) (j i : ℕ) (y : S
   expires room =
       left-changes f sound j y end.stands (set_place y.keys i None) (y.expired ++ key ∷ []) (end-expires f parts j y end.stands i key end.has) (retired_side Keep_expired)
       (kept_expired_keeps s y.id side i p (side-well_formed f sound j y end.stands) here absent room)
-      (left-is f parts j y end.stands (set_place y.keys i None) (y.expired ++ key ∷ []) y.is_due f.connections (end-expires f parts j y end.stands i key end.has)
+      (left-still f parts j y end.stands (set_place y.keys i None) (y.expired ++ key ∷ []) y.is_due (end-expires f parts j y end.stands i key end.has)
       ∙ (λ k. record s {
         subscribers = put_at s.subscribers y.id (Some (record Q {
           ends = map-set_place (publisher_of_key f.connections) refl y.keys i None k;
@@ -115,7 +118,7 @@ module _ {T U : Type 0} (f : Fields T U) (sound : IsDomain f) (j i : ℕ) (y : S
   refuses =
       left-changes f sound j y end.stands y.keys y.expired (nothing-leaves f parts j y end.stands) (after_retirement y.id side p Refuse)
       (receiver_side_marked s y.id side true s.warnings (side-well_formed f sound j y end.stands))
-      (left-is f parts j y end.stands y.keys y.expired true f.connections (nothing-leaves f parts j y end.stands)
+      (left-still f parts j y end.stands y.keys y.expired true (nothing-leaves f parts j y end.stands)
       ∙ (λ k. record s { subscribers = put_at s.subscribers y.id (Some (record Q { is_due = true })); mailboxes = λ r. put_at-own (s.mailboxes r) y.id k }))
 
   -- ---- what waits is lost
@@ -133,10 +136,10 @@ module _ {T U : Type 0} (f : Fields T U) (sound : IsDomain f) (j i : ℕ) (y : S
     abbrev pub without_end : Fields T U
     without_end = record (removed_fields f sound j y end.stands key c end.link departed unborrowed b at_b mine holders new removes (set_place y.keys i None) y.expired fits) { warnings = told }
 
-    state : state_of (kept_of without_end) ≡ with_receiver_side s y.id Q (retired_side Discard_data)
+    state : state_of (kept_of without_end) ≡ with_channels_of without_end (with_receiver_side s y.id Q (retired_side Discard_data))
     state =
         (λ k. record (removed-is f sound j y end.stands key c end.link departed unborrowed b at_b mine holders new removes (set_place y.keys i None) y.expired fits k) { warnings = warned f.warnings.items (ExpiredDataDiscarded p y.id) })
-        ∙ (λ k. record (with_receiver_side s y.id Q (retired_side Discard_data)) {
+        ∙ ap (with_channels_of without_end) (λ k. record (with_receiver_side s y.id Q (retired_side Discard_data)) {
           subscribers = put_at s.subscribers y.id (Some (record Q { ends = map-set_place (publisher_of_key f.connections) refl y.keys i None k; is_due = y.is_due }));
         })
 
@@ -147,8 +150,8 @@ module _ {T U : Type 0} (f : Fields T U) (sound : IsDomain f) (j i : ℕ) (y : S
           (dropped-lone f sound j y end.stands key c end.link departed unborrowed b at_b mine holders new removes)
           (dropped-kept f sound j y end.stands key c end.link departed unborrowed b at_b mine holders new removes)
           (dropped-gone f sound j y end.stands key c end.link departed unborrowed b at_b mine holders new removes)
-          (rw state (with_receiver_side_keeps s sound.well_formed y.id Q (retired_side Discard_data) (present f sound j y end.stands)
-          (discarded_keeps s y.id side i p (side-well_formed f sound j y end.stands) here absent nothing_borrowed)))
+          (subst IsWellFormed (sym state) (with_all_channels_keeps (with_receiver_side s y.id Q (retired_side Discard_data)) (with_receiver_side_keeps s sound.well_formed y.id Q (retired_side Discard_data) (present f sound j y end.stands)
+          (discarded_keeps s y.id side i p (side-well_formed f sound j y end.stands) here absent nothing_borrowed)) (state_of (kept_of without_end)).channels))
           (λ r n held. dropped-keeps f sound j y end.stands key c end.link departed unborrowed b at_b mine holders new removes r n
           (held-before (state_of (kept_of between)) (state_of (kept_of without_end)) r n
           (λ q. ap (λ (t : State T U). t.mailboxes r q) state ∙ sym (ap (λ boxes. boxes r q) (dropped-box s.mailboxes p y.id (waiting_dropped (s.mailboxes p y.id)))) ∙ sym (ap (λ (t : State T U). t.mailboxes r q) is))
@@ -160,6 +163,7 @@ module _ {T U : Type 0} (f : Fields T U) (sound : IsDomain f) (j i : ℕ) (y : S
       fields = refl;
       others = refl;
       state = state;
+      channels = dropped-follows f sound j y end.stands key c end.link departed unborrowed b at_b mine holders new removes;
       entries = dropped-entries f sound j y end.stands key c end.link departed unborrowed b at_b mine holders new removes;
     } where
       between : Fields T U

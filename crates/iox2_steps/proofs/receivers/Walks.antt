@@ -11,12 +11,13 @@ use Rattle.iox2_store.specs.machine.Limits.{expired_limit}
 use Rattle.iox2_store.specs.machine.Numbers.{put_at}
 use Rattle.iox2_store.specs.machine.Places.{occupant}
 use Rattle.iox2_store.specs.machine.Records.{Subscriber, Environment}
-use Rattle.iox2_store.specs.machine.State.{State, has_sender_end}
+use Rattle.iox2_store.specs.machine.State.{receiver_channels_reset, State, has_sender_end}
 use Rattle.iox2_store.specs.machine.SubscriberUpdate.{ReceiverSide, ConnectAtPlace, DisconnectAtPlace, UpdateReceiverSide, receiver_side, with_receiver_side}
 use Rattle.iox2_store.specs.declared.errors.ConnectionFailure.{ConnectionFailure}
 use Rattle.iox2_store.specs.declared.service_config.ServiceConfig.{ServiceConfig}
 use Rattle.iox2_laws.proofs.ReceiverSides.{receiver_side_begins}
 use Rattle.iox2_ends.proofs.MailboxChanges.{put_at-own}
+use Rattle.iox2_steps.proofs.updates.ResetChannels.{receiver-reset}
 use Rattle.iox2_domain.specs.Ports.{SubscriberFields}
 use Rattle.iox2_domain.specs.Kept.{state_of}
 use Rattle.iox2_domain.specs.Fields.{Fields, kept_of, subscriber_of}
@@ -26,7 +27,7 @@ use Rattle.iox2_domain.specs.ReceiverSteps.{current_side, ChangesReceiver, Conne
 use Rattle.iox2_steps.proofs.updates.SenderWalk.{occupant-get_or, first_failure-none, first_failure-assoc}
 use Rattle.iox2_steps.proofs.receivers.LeftChanges.{present, left-changes}
 use Rattle.iox2_steps.proofs.receivers.LeftEnds.{nothing-leaves}
-use Rattle.iox2_steps.proofs.receivers.LeftStates.{left-is}
+use Rattle.iox2_steps.proofs.receivers.LeftStates.{left-still}
 use Rattle.iox2_steps.proofs.receivers.Compositions.{unchanged, changed, changed-stands, side-again, senders-again, places-again, config-again, changes-more}
 
 -- a step at a place
@@ -75,7 +76,7 @@ module _ {T U : Type 0} (environment : Environment) (f : Fields T U) (sound : Is
   settles =
       left-changes f sound j y at y.keys y.expired (nothing-leaves f sound.parts j y at) (receiver_side s y.id Q)
       (receiver_side_begins s sound.well_formed y.id Q (present f sound j y at))
-      (left-is f sound.parts j y at y.keys y.expired false f.connections (nothing-leaves f sound.parts j y at)
+      (left-still f sound.parts j y at y.keys y.expired false (nothing-leaves f sound.parts j y at)
       ∙ (λ k. record s { subscribers = put_at s.subscribers y.id (Some (record Q { is_due = false })); mailboxes = λ r. put_at-own (s.mailboxes r) y.id k }))
 
   -- a walk begins with any side
@@ -161,7 +162,7 @@ module _ {T U : Type 0} (environment : Environment) (f : Fields T U) (sound : Is
   Updates o s' failure = MatchOption o ⊥ (λ (z : Subscriber). MatchBool z.is_due
       ((end : ReceiverSide)
       × UpdateReceiverSide environment (f.config).service_id y.id z.degradation_handler (expired_limit f.config) (λ p. has_sender_end s p y.id) s.publisher_places (receiver_side s y.id z) end failure
-      × (s' ≡ with_receiver_side s y.id z end))
+      × (s' ≡ receiver_channels_reset (with_receiver_side s y.id z end) y.id))
       ((s' ≡ s) × (failure ≡ None)))
 
   -- both walks are the update of a subscriber that is due
@@ -175,9 +176,13 @@ module _ {T U : Type 0} (environment : Environment) (f : Fields T U) (sound : Is
     by : (b : Bool) → b ≡ true → MatchBool b
         ((end : ReceiverSide)
         × UpdateReceiverSide environment (f.config).service_id y.id Q.degradation_handler (expired_limit f.config) (λ p. has_sender_end s p y.id) s.publisher_places (receiver_side s y.id Q) end (first_failure first later)
-        × (state_of (kept_of f') ≡ with_receiver_side s y.id Q end))
+        × (state_of (kept_of f') ≡ receiver_channels_reset (with_receiver_side s y.id Q end) y.id))
         ((state_of (kept_of f') ≡ s) × (first_failure first later ≡ None))
-    by true e = (walks.side, (mid, first, later, connects, walk-over AtEmpty mid i f' later walks past, refl), walks.changes.state)
+    by true e = (
+      walks.side,
+      (mid, first, later, connects, walk-over AtEmpty mid i f' later walks past, refl),
+      receiver-reset f f' sound.parts walks.changes.agrees.parts y.id (λ p q. s.publishers p ≡ None) walks.changes.channels (with_receiver_side s y.id Q walks.side) walks.changes.state refl,
+    )
     by false e = absurd cc
 
   -- a subscriber that isn't due is as it is
@@ -188,7 +193,7 @@ module _ {T U : Type 0} (environment : Environment) (f : Fields T U) (sound : Is
     updates = subst (λ o. Updates o s None) (sym (present f sound j y at)) (subst (λ b. MatchBool b
         ((end : ReceiverSide)
         × UpdateReceiverSide environment (f.config).service_id y.id Q.degradation_handler (expired_limit f.config) (λ p. has_sender_end s p y.id) s.publisher_places (receiver_side s y.id Q) end None
-        × (s ≡ with_receiver_side s y.id Q end))
+        × (s ≡ receiver_channels_reset (with_receiver_side s y.id Q end) y.id))
         ((s ≡ s) × (◌≡◌ {A = Option ConnectionFailure} None None))) (sym due) (refl, refl));
   }
 

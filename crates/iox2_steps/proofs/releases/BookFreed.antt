@@ -13,7 +13,8 @@ use Rattle.iox2_ends.specs.LookUp.{look_up}
 use Rattle.iox2_ends.proofs.LookUps.{look_up-none}
 use Rattle.iox2_ends.proofs.MailboxChanges.{within_if_some}
 use Rattle.iox2_domain.specs.Ports.{PublisherFields}
-use Rattle.iox2_domain.specs.Fields.{Fields}
+use Rattle.iox2_domain.specs.Fields.{Fields, kept_of}
+use Rattle.iox2_domain.specs.Kept.{state_of}
 use Rattle.iox2_domain.specs.Invariant.{HasParts, KeepsBooks, IsLeft, IsOwned, IsUsed, is_publisher}
 use Rattle.iox2_domain.specs.LeftBooks.{with_book_gone}
 use Rattle.iox2_domain.specs.Midway.{ChangesBooks, IsMidway}
@@ -59,10 +60,10 @@ unused-book b unused slot = elim (cases_lt slot (length b.holders)) [
 
 module _ {T U : Type 0} (f : Fields T U) where
   -- where each book is kept a step is done
-  pub attains : KeepsBooks f.next_port f.publishers f.books → (before : Fields T U) (s : State T U) (key : ℕ) → IsMidway before f s key → IsWellFormed s → Reaches before f s
-  attains kept before s key midway well = record {
-    agrees = whole_of f midway.consistent midway.lone kept (subst IsWellFormed (sym midway.state) well) midway.complete;
-    state = midway.state;
+  pub attains : KeepsBooks f.next_port f.publishers f.books → (before : Fields T U) (s : State T U) (key : ℕ) → IsMidway before f s key → state_of (kept_of f) ≡ s → IsWellFormed s → Reaches before f s
+  attains kept before s key midway is well = record {
+    agrees = whole_of f midway.consistent midway.lone kept (subst IsWellFormed (sym is) well) midway.complete;
+    state = is;
     entries = midway.entries;
   }
 
@@ -98,10 +99,10 @@ module _ {T U : Type 0} (f : Fields T U) where
 
 -- the book goes
 pub frees : {T U : Type 0} (f : Fields T U) (key : ℕ) (b : Book) → get f.books key ≡ Some b → ((slot : ℕ) → holders_at b slot ≡ 0) → look_up (is_publisher b.publisher) f.publishers ≡ None
-    → (before : Fields T U) (s : State T U) → IsMidway before f s key → IsWellFormed s → Reaches before (with_book_gone f key) s
-frees f key b at_b free gone before s midway well =
-    let gone_now = goes f midway.consistent midway.lone (subst IsWellFormed (sym midway.state) well) midway.complete key b at_b known absent (λ k c away at_c. midway.kept_books.others k c away at_c) free in
-    record { agrees = gone_now.agrees; state = gone_now.state ∙ midway.state; entries = λ n entry e. midway.entries n entry (gone_now.entries n entry e) }
+    → (before : Fields T U) (s : State T U) → IsMidway before f s key → state_of (kept_of f) ≡ s → IsWellFormed s → Reaches before (with_book_gone f key) s
+frees f key b at_b free gone before s midway is well =
+    let gone_now = goes f midway.consistent midway.lone (subst IsWellFormed (sym is) well) midway.complete key b at_b known absent (λ k c away at_c. midway.kept_books.others k c away at_c) free in
+    record { agrees = gone_now.agrees; state = gone_now.state ∙ is; entries = λ n entry e. midway.entries n entry (gone_now.entries n entry e) }
   where
     absent : (i : ℕ) (x : PublisherFields) → get_or f.publishers i None ≡ Some x → x.id ≢ b.publisher
     absent = stands-nowhere f.publishers b.publisher gone

@@ -19,7 +19,7 @@ use Rattle.iox2_domain.specs.Departures.{key_forgotten}
 use Rattle.iox2_domain.specs.Fields.{Fields, kept_of, numbers_of, publisher_of, subscriber_of}
 use Rattle.iox2_domain.specs.Invariant.{SenderHas, is_publisher, HasParts}
 use Rattle.iox2_domain.specs.Kept.{Named, state_of, is_named}
-use Rattle.iox2_domain.specs.Midway.{IsMidway}
+use Rattle.iox2_domain.specs.Midway.{IsMidway, with_channels_of}
 use Rattle.iox2_domain.specs.Ports.{SubscriberFields}
 use Rattle.iox2_domain.proofs.lemmas.containers.LookUps.{look_up-map}
 use Rattle.iox2_domain.proofs.lemmas.fields.LostConnections.{unloaded}
@@ -46,7 +46,7 @@ nobody-has f key c none has =
 module _ {T U : Type 0} (s : State T U) (well : IsWellFormed s) (n : ℕ) (g : Fields T U) (parts : HasParts g) (j : ℕ) (y : SubscriberFields) (at_y : get_or g.subscribers j None ≡ Some y)
     (key : ℕ) (c : Link) (at_c : get g.connections key ≡ Some c) (mine : c.home.subscriber ≡ y.id) (empty : load c ≡ 0)
     (gone : look_up (is_publisher c.home.publisher) g.publishers ≡ None) (new : Slab Link) (goes : Updates g.connections new key None)
-    (is : state_of (kept_of g) ≡ unborrowed s c.home.publisher y.id n) where
+    (is : state_of (kept_of g) ≡ with_channels_of g (unborrowed s c.home.publisher y.id n)) where
   abbrev after : State T U
   after = unborrowed s c.home.publisher y.id n
 

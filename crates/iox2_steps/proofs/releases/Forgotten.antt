@@ -9,7 +9,7 @@ use Rattle.iox2_domain.specs.Departures.{key_forgotten}
 use Rattle.iox2_domain.specs.Fields.{Fields, kept_of, subscriber_of}
 use Rattle.iox2_domain.specs.Invariant.{HasParts, SenderHas}
 use Rattle.iox2_domain.specs.Kept.{state_of}
-use Rattle.iox2_domain.specs.Midway.{IsMidway}
+use Rattle.iox2_domain.specs.Midway.{IsMidway, with_channels_of}
 use Rattle.iox2_domain.specs.Ports.{SubscriberFields}
 use Rattle.iox2_domain.proofs.lemmas.containers.ForgottenKeys.{kept-key, keeps-key, kept-expired, keeps-expired}
 use Rattle.iox2_domain.proofs.lemmas.fields.ForgetfulSubscribers.{Knows, forgetful, forgets-is}
@@ -71,9 +71,9 @@ module _ {T U : Type 0} (f : Fields T U) (parts : HasParts f) (j : ℕ) (y : Sub
   })
 
   -- the machine sees that the subscriber has these keys no more
-  pub forgetting-is : state_of (kept_of forgetting) ≡ record (state_of (kept_of f)) {
+  pub forgetting-is : state_of (kept_of forgetting) ≡ with_channels_of forgetting (record (state_of (kept_of f)) {
     subscribers = put_at (state_of (kept_of f)).subscribers y.id (Some ((subscriber_of f.books f.connections (key_forgotten key y)).port));
-  }
+  })
   forgetting-is = forgets-is f parts j y at_y (key_forgotten key y) refl new forgetting-it
 
   pub forgetting-midway : (old : Fields T U) (s : State T U) (book : ℕ) → IsMidway old f s book
@@ -81,5 +81,5 @@ module _ {T U : Type 0} (f : Fields T U) (parts : HasParts f) (j : ℕ) (y : Sub
   forgetting-midway old s book midway =
       forgotten-midway f parts (slice_set f.subscribers j (Some (key_forgotten key y))) new forgetting-it old s
       (record s { subscribers = put_at s.subscribers y.id (Some ((subscriber_of f.books f.connections (key_forgotten key y)).port)) }) book
-      (forgetting-is ∙ ap (λ (t : State T U). record t { subscribers = put_at t.subscribers y.id (Some ((subscriber_of f.books f.connections (key_forgotten key y)).port)) }) midway.state)
+      (forgetting-is ∙ ap (λ (t : State T U). with_channels_of forgetting (record t { subscribers = put_at t.subscribers y.id (Some ((subscriber_of f.books f.connections (key_forgotten key y)).port)) })) midway.state)
       midway

@@ -24,7 +24,7 @@ use Rattle.iox2_domain.specs.Departures.{BorrowsNothing, BorrowsSome, IsUnshared
 use Rattle.iox2_domain.specs.Fields.{Fields, kept_of, numbers_of, subscriber_of}
 use Rattle.iox2_domain.specs.Invariant.{SenderHas, HasParts}
 use Rattle.iox2_domain.specs.Kept.{state_of}
-use Rattle.iox2_domain.specs.Midway.{IsMidway}
+use Rattle.iox2_domain.specs.Midway.{IsMidway, with_channels_of}
 use Rattle.iox2_domain.specs.Ports.{SubscriberFields}
 use Rattle.iox2_domain.proofs.lemmas.fields.OwnKeys.{own-key}
 use Rattle.iox2_domain.proofs.lemmas.fields.Views.{mailboxes-are}
@@ -164,6 +164,6 @@ module _ {T U : Type 0} (f : Fields T U) (parts : HasParts f) (j : ℕ) (y : Sub
   stays-midway old s book used midway =
       subst (λ (u : State T U). IsMidway old f u book) (ap (λ b. cond b (place_freed s y.id) s) (sym (ap (λ (u : State T U). is_unused u y.id) (sym midway.state) ∙ used))) midway
 
-  pub goes-midway : (old new : Fields T U) (s : State T U) (book : ℕ) → is_unused t y.id ≡ true → t ≡ s → IsMidway old new (place_freed s y.id) book → IsMidway old new (freed_if_unused s y.id) book
+  pub goes-midway : (old new : Fields T U) (s : State T U) (book : ℕ) → is_unused t y.id ≡ true → t ≡ with_channels_of f s → IsMidway old new (place_freed s y.id) book → IsMidway old new (freed_if_unused s y.id) book
   goes-midway old new s book unused same midway =
       subst (λ (u : State T U). IsMidway old new u book) (ap (λ b. cond b (place_freed s y.id) s) (sym (ap (λ (u : State T U). is_unused u y.id) (sym same) ∙ unused))) midway

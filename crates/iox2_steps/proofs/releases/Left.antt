@@ -13,7 +13,7 @@ use Rattle.iox2_domain.specs.Departures.{IsUnshared, KnowsKey, DropsUnshared}
 use Rattle.iox2_domain.specs.Fields.{Fields, kept_of}
 use Rattle.iox2_domain.specs.Invariant.{HasOpenReceiver, HasParts, ReceiverHas, SenderHas}
 use Rattle.iox2_domain.specs.Kept.{state_of}
-use Rattle.iox2_domain.specs.Midway.{IsMidway}
+use Rattle.iox2_domain.specs.Midway.{IsMidway, with_channels_of}
 use Rattle.iox2_domain.specs.Ports.{SubscriberFields}
 use Rattle.iox2_steps.proofs.creations.PublishersDue.{with_publishers_due, publishers_due-midway}
 use Rattle.iox2_domain.proofs.lemmas.fields.ForgetfulSubscribers.{its-place, same-receiver, subscribers-forget}
@@ -98,11 +98,11 @@ module _ {T U : Type 0} (f : Fields T U) (parts : HasParts f) (j : ℕ) (y : Sub
 
   pub left-midway : (old : Fields T U) (s : State T U) (book : ℕ) → IsMidway old f s book → IsMidway old left (place_freed s y.id) book
   left-midway old s book midway =
-      publishers_due-midway emptied old (out s) book (forgotten-midway f parts subscribers new emptying old s (out s) book (emptied-is ∙ ap out midway.state) midway)
+      publishers_due-midway emptied old (out s) book (forgotten-midway f parts subscribers new emptying old s (out s) book (emptied-is ∙ ap (λ (t : State T U). with_channels_of emptied (out t)) midway.state) midway)
     where
       -- the machine's subscriber is out
       out : State T U → State T U
       out t = record t { subscribers = put_at t.subscribers y.id None; subscriber_places = vacated y.id t.subscriber_places }
 
-      emptied-is : state_of (kept_of emptied) ≡ out (state_of (kept_of f))
-      emptied-is = forgotten-is f parts f.publishers subscribers new emptying ∙ subscriber_gone-is f j y at_y parts.subscriber_ids
+      emptied-is : state_of (kept_of emptied) ≡ with_channels_of emptied (out (state_of (kept_of f)))
+      emptied-is = forgotten-is f parts f.publishers subscribers new emptying ∙ ap (with_channels_of emptied) (subscriber_gone-is f j y at_y parts.subscriber_ids)

@@ -17,6 +17,8 @@ use Rattle.iox2_domain.specs.Fields.{Fields, kept_of, numbers_of}
 use Rattle.iox2_domain.specs.Invariant.{IsDomain, KeepsBooks, KeepsBooksBut, IsOwned, IsGone, is_publisher, HasParts}
 use Rattle.iox2_domain.specs.Midway.{IsMidway}
 use Rattle.iox2_steps.proofs.releases.Released.{unborrowed_here, unborrows, numbers-were}
+use Rattle.iox2_domain.proofs.lemmas.fields.KeptChannels.{but-channels}
+use Rattle.iox2_steps.proofs.updates.FollowedChannels.{links-same}
 use Rattle.iox2_domain.proofs.lemmas.receives.Reconnected.{held-within}
 use Rattle.iox2_domain.proofs.lemmas.slots.BookChanges.{KeepsSlots, book-here, book-others}
 use Rattle.iox2_domain.proofs.lemmas.slots.LoneLoans.{lone-counters}
@@ -70,7 +72,8 @@ module _ {T U : Type 0} (f : Fields T U) (sound : IsDomain f) (key slot : ℕ) (
       consistent = let_go-consistent;
       lone = lone-counters f.books c.home.book b (one_holder_less slot b.holders) at_b sound.lone (λ s. omega (arith, fewer s));
       kept_books = kept-after kept;
-      state = let_go-is;
+      state = but-channels let_go (unborrowed_here f sound key slot c at_c new releases held) let_go-is;
+      channels = links-same f.connections new r.homes;
       entries = counts.recounted-entries f sound p c.home.book b at_b its (one_holder_less slot b.holders) new r;
       complete = λ q n is_held.
           let old = sound.entries q n (held-within (state_of (kept_of f)) (mailboxes_of (numbers_of f.books) new) q n (λ k. numbers-were f sound key slot c at_c new releases held q k n)

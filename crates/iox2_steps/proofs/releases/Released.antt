@@ -26,7 +26,9 @@ use Rattle.iox2_domain.proofs.lemmas.fields.SameEnds.{with_connections, connecti
 use Rattle.iox2_domain.proofs.lemmas.receives.Received.{boxes-are}
 use Rattle.iox2_domain.proofs.lemmas.receives.Reconnected.{with_all_mailboxes, its-still, reconnected-consistent, reconnected-complete}
 use Rattle.iox2_domain.proofs.lemmas.receives.SenderEnds.{sender-has}
+use Rattle.iox2_domain.proofs.lemmas.fields.KeptChannels.{but-channels}
 use Rattle.iox2_steps.proofs.releases.Pruning.{pruned-none}
+use Rattle.iox2_steps.proofs.updates.FollowedChannels.{links-same}
 
 module _ {T U : Type 0} (f : Fields T U) (sound : IsDomain f) (key slot : ℕ) (c : Link) (at_c : get f.connections key ≡ Some c) (new : Slab Link)
     (releases : ReleasesSlot f.connections key slot new)
@@ -82,7 +84,9 @@ module _ {T U : Type 0} (f : Fields T U) (sound : IsDomain f) (key slot : ℕ) (
     consistent = reconnected-consistent f sound key c at_c new same others stay returned;
     lone = sound.lone;
     kept_books = let but = kept-but f.next_port f.publishers f.books book kept in record { own = but.own; others = but.others };
-    state = connections-are f new same ∙ unborrows ∙ sym (nobody-forgotten (or_left (is_present unborrowed_here c.home.publisher) _ present));
+    state = but-channels (with_connections f new same) (subscriber_pruned unborrowed_here c.home.subscriber)
+        (connections-are f new same ∙ unborrows ∙ sym (nobody-forgotten (or_left (is_present unborrowed_here c.home.publisher) _ present)));
+    channels = links-same f.connections new same;
     entries = λ n entry e. e;
     complete = reconnected-complete f sound key c at_c new same others stay returned numbers-were;
   }

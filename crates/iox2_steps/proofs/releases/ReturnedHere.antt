@@ -71,7 +71,7 @@ module _ {T U : Type 0} (f : Fields T U) (sound : IsDomain f) (sample : SampleAt
         gives-back f sound sample.subscriber sample.number (at f sound sample may.lies) may.lies (home f sound sample may.lies) refl mid mid mid midway both.receiver.subscriber both.receiver.is_its
         (stays-open mid midway.consistent (home f sound sample may.lies).subscriber_place both.receiver.subscriber both.receiver.stands
         (pruned-boxes f sound sample.subscriber sample.number (at f sound sample may.lies) may.lies (home f sound sample may.lies) refl mid midway both.receiver.subscriber both.receiver.is_its) both.receiver.is_open)
-        (λ before s step well. attains mid (record { at = sound.kept_books.at }) before s (home f sound sample may.lies).book step well)
+        (λ before s step is well. attains mid (record { at = sound.kept_books.at }) before s (home f sound sample may.lies).book step is well)
 
   abbrev ReturnsInto : (g : Fields T U) → Type 0
   ReturnsInto g = (p : ℕ) → is_borrowed sample.number ((state_of (kept_of f)).mailboxes p sample.subscriber) ≡ true

@@ -12,7 +12,7 @@ use Rattle.iox2_store.specs.machine.Numbers.{last_n}
 use Rattle.iox2_store.specs.machine.PublisherUpdate.{UpdatePublisher}
 use Rattle.iox2_store.specs.machine.Records.{BlockedSend, Environment, Loan, Publisher}
 use Rattle.iox2_store.specs.machine.Sends.{SendResult, Send_error, DeliverAndConclude, ConcludeSend, Publish, Send, Retry, GiveUp, published, with_mailboxes, more_retries}
-use Rattle.iox2_store.specs.machine.State.{State, receiving_buffer, with_loan}
+use Rattle.iox2_store.specs.machine.State.{State, channel_buffer, with_loan}
 use Rattle.iox2_store.specs.declared.errors.ConnectionFailure.{ConnectionFailure}
 use Rattle.iox2_store.specs.declared.errors.SendError.TheVariants.{ConnectionBrokenSinceSenderNoLongerExists, ConnectionError}
 use Rattle.iox2_laws.proofs.Puts.{put_at-same}
@@ -28,7 +28,7 @@ module _ {T U : Type 0} (e e' : Environment) where
     -- what is delivered and concluded of the publisher x
     abbrev Concludes : Environment → Publisher → Type 0
     Concludes environment x = (how : DeliveryEnd) × (boxes : ℕ → Mailbox)
-        × Deliver environment s.config p x.backpressure_strategy x.backpressure_handler (receiving_buffer s) n
+        × Deliver environment s.config p x.backpressure_strategy x.backpressure_handler (channel_buffer s p 0) n
         retries elapsed place ends count has_failed (s.mailboxes p) how boxes
         × ConcludeSend (with_mailboxes s p boxes) p n how s' result
 
@@ -39,7 +39,7 @@ module _ {T U : Type 0} (e e' : Environment) where
       by (Some x) allowed h = (
         h.0,
         h.1,
-        Deliver-any e e' s.config p x.backpressure_strategy x.backpressure_handler (receiving_buffer s) n (allowed x refl)
+        Deliver-any e e' s.config p x.backpressure_strategy x.backpressure_handler (channel_buffer s p 0) n (allowed x refl)
             retries elapsed place ends count has_failed (s.mailboxes p) h.0 h.1 h.2,
         h.3,
       )

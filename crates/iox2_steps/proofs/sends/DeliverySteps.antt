@@ -22,7 +22,7 @@ use Rattle.iox2_store.specs.declared.degradation.DegradationInfo.{DegradationInf
 use Rattle.iox2_store.specs.declared.service_config.ServiceConfig.{ServiceConfig}
 use Rattle.iox2_ends.specs.Counters.{GrowsAlone, with_counters, HoldsItself, times}
 use Rattle.iox2_ends.specs.Mailboxes.{mailboxes_of, sender_ends}
-use Rattle.iox2_ends.specs.Receivers.{IsReadyToDeliver, buffers_of, has_id}
+use Rattle.iox2_ends.specs.Receivers.{IsReadyToDeliver, taking_buffers, has_id}
 use Rattle.iox2_ends.specs.Recounts.{Recounts}
 use Rattle.iox2_laws.proofs.Cases.{by_bool}
 use Rattle.iox2_domain.specs.Boxes.{BoxAnswers, box_of, answers_of}
@@ -100,10 +100,10 @@ pub never-fails : {T U : Type 0} (environment : Environment) (f : Fields T U) (x
     → DeliversFrom environment f x slot start elapsed outcome new → may_fail x.backpressure_handler ≡ false → start.has_failed ≡ false
     → (count : ℕ) (has_failed : Bool) → outcome ≡ DeliveryOutcome.Complete count has_failed → has_failed ≡ false
 never-fails environment f x slot start elapsed outcome new d none so_far count has_failed is =
-    delivery-passes environment f.config x.id x.strategy x.backpressure_handler none (buffers_of (map (option_map details_of) f.subscribers)) 0
+    delivery-passes environment f.config x.id x.strategy x.backpressure_handler none (taking_buffers f.connections x.id (map (option_map details_of) f.subscribers)) 0
     start.retries elapsed start.place (drop start.place (sender_ends f.connections x.keys)) start.count start.has_failed (mailboxes_of number f.connections x.id) (mailboxes_of number d.connections x.id)
     so_far count has_failed
-    (subst (λ (o : DeliveryOutcome). Deliver environment f.config x.id x.strategy x.backpressure_handler (buffers_of (map (option_map details_of) f.subscribers)) 0
+    (subst (λ (o : DeliveryOutcome). Deliver environment f.config x.id x.strategy x.backpressure_handler (taking_buffers f.connections x.id (map (option_map details_of) f.subscribers)) 0
     start.retries elapsed start.place (drop start.place (sender_ends f.connections x.keys)) start.count start.has_failed (mailboxes_of number f.connections x.id)
     (end_of 0 (sender_ends f.connections x.keys) o) (mailboxes_of number d.connections x.id)) is (d.delivers number))
   where
@@ -135,7 +135,7 @@ module _ {T U : Type 0} (e e' : Environment) (old : Fields T U) (x : PublisherFi
     recounts = d.recounts;
     alone = d.alone;
     delivers = λ number.
-        Deliver-any e e' old.config x.id x.strategy x.backpressure_handler (buffers_of (map (option_map details_of) old.subscribers)) (number x.id slot) allows
+        Deliver-any e e' old.config x.id x.strategy x.backpressure_handler (taking_buffers old.connections x.id (map (option_map details_of) old.subscribers)) (number x.id slot) allows
         start.retries elapsed start.place (drop start.place (sender_ends old.connections x.keys)) start.count start.has_failed (mailboxes_of number old.connections x.id)
         (end_of (number x.id slot) (sender_ends old.connections x.keys) outcome) (mailboxes_of number d.connections x.id) (d.delivers number);
   }
@@ -165,7 +165,7 @@ module _ {T U : Type 0} (f : Fields T U) (y : PublisherFields) (slot : ℕ) (sta
   -- the publisher's slot is delivered where this handler answers for it
   abbrev pub DeliversWith : Environment → Option (Handler BackpressureAction) → Type 0
   DeliversWith environment h = (number : ℕ → ℕ → ℕ)
-      → Deliver environment f.config y.id y.strategy h (buffers_of (map (option_map details_of) f.subscribers)) (number y.id slot)
+      → Deliver environment f.config y.id y.strategy h (taking_buffers f.connections y.id (map (option_map details_of) f.subscribers)) (number y.id slot)
       start.retries elapsed start.place (drop start.place (sender_ends f.connections y.keys)) start.count start.has_failed (mailboxes_of number f.connections y.id)
       (end_of (number y.id slot) (sender_ends f.connections y.keys) outcome) (mailboxes_of number new y.id)
 
@@ -198,7 +198,7 @@ module _ {T U : Type 0} (environment : Environment) (before f : Fields T U) (sam
   module _ (b book : Book) (at : get f.books y.book ≡ Some b) (new : Slab Link) (is : book ≡ with_counters b book.holders) (r : Recounts y.id b.holders f.connections book.holders new)
       (slot : ℕ) (start : Progress) (elapsed : Duration) (outcome : DeliveryOutcome) (alone : GrowsAlone slot b.holders book.holders)
       (delivers : (number : ℕ → ℕ → ℕ)
-      → Deliver environment f.config y.id y.strategy y.backpressure_handler (buffers_of (map (option_map details_of) f.subscribers)) (number y.id slot)
+      → Deliver environment f.config y.id y.strategy y.backpressure_handler (taking_buffers f.connections y.id (map (option_map details_of) f.subscribers)) (number y.id slot)
       start.retries elapsed start.place (drop start.place (sender_ends f.connections y.keys)) start.count start.has_failed (mailboxes_of number f.connections y.id)
       (end_of (number y.id slot) (sender_ends f.connections y.keys) outcome) (mailboxes_of number new y.id)) where
     abbrev delivered : Fields T U
@@ -251,7 +251,7 @@ module _ {T U : Type 0} (environment : Environment) (before f : Fields T U) (sam
   module _ (b book : Book) (at : get f.books y.book ≡ Some b) (new : Slab Link) (is : book ≡ with_counters b book.holders) (r : Recounts y.id b.holders f.connections book.holders new)
       (slot : ℕ) (outcome : DeliveryOutcome) (alone : GrowsAlone slot b.holders book.holders)
       (delivers : (number : ℕ → ℕ → ℕ)
-      → Deliver environment f.config y.id y.strategy y.backpressure_handler (buffers_of (map (option_map details_of) f.subscribers)) (number y.id slot)
+      → Deliver environment f.config y.id y.strategy y.backpressure_handler (taking_buffers f.connections y.id (map (option_map details_of) f.subscribers)) (number y.id slot)
       0 no_time 0 (sender_ends f.connections y.keys) 0 false (mailboxes_of number f.connections y.id)
       (end_of (number y.id slot) (sender_ends f.connections y.keys) outcome) (mailboxes_of number new y.id)) where
     pub sends-slot : (out : PublisherFields) → out ≡ sender_after outcome slot y → (sent : Book) → sent ≡ book_after outcome slot y book

@@ -18,7 +18,7 @@ use Rattle.iox2_store.specs.machine.Places.{occupant}
 use Rattle.iox2_store.specs.machine.Records.{Entry, Loan, Publisher, BlockedSend, Environment}
 use Rattle.iox2_store.specs.machine.Sends.{ConcludeSend, DeliverAndConclude, with_mailboxes}
 use Rattle.iox2_store.specs.Stored.{IsHeldMessage, In_history, In_mailbox, In_blocked_send}
-use Rattle.iox2_store.specs.machine.State.{State, receiving_buffer}
+use Rattle.iox2_store.specs.machine.State.{State, channel_buffer}
 use Rattle.iox2_store.specs.machine.WellFormed.{IsWellFormed, IsInjective, LeadsTo}
 use Rattle.iox2_ends.specs.Counters.{times, with_counters, one_holder_less}
 use Rattle.iox2_ends.specs.Deliveries.{end_of}
@@ -54,7 +54,7 @@ use Rattle.iox2_domain.proofs.lemmas.slots.LoneLoans.{IsLoneIn, lone-changed, lo
 use Rattle.iox2_domain.proofs.lemmas.slots.Rebooked.{CanRebook, rebooked, rebooked-parts, rebooked-is, rebooked-entries, rebooked-keeps, rebooked-kept}
 use Rattle.iox2_steps.proofs.sends.LoanAlone.{once-times}
 use Rattle.iox2_steps.proofs.sends.SentSlots.{times-without-one, map-without}
-use Rattle.iox2_steps.proofs.sends.Published.{buffers-are}
+use Rattle.iox2_steps.proofs.sends.Published.{taking-are}
 use Rattle.iox2_domain.proofs.lemmas.loans.PublisherChanges.{other_slots}
 use Rattle.iox2_domain.proofs.lemmas.slots.Holders.{book-by_id}
 use mathlib.Core.Path.{fun_ext}
@@ -282,12 +282,12 @@ module _ {T U : Type 0} (environment : Environment) (f : Fields T U) (sound : Is
 
   -- ---- the machine's step
 
-  delivers : Deliver environment f.config x.id x.strategy x.backpressure_handler (receiving_buffer s) n start.retries elapsed start.place (drop start.place port.ends) start.count start.has_failed (s.mailboxes x.id) how (boxes x.id)
+  delivers : Deliver environment f.config x.id x.strategy x.backpressure_handler (channel_buffer s x.id 0) n start.retries elapsed start.place (drop start.place port.ends) start.count start.has_failed (s.mailboxes x.id) how (boxes x.id)
   delivers =
-      subst (λ (row : ℕ → Mailbox). Deliver environment f.config x.id x.strategy x.backpressure_handler (receiving_buffer s) n start.retries elapsed start.place (drop start.place port.ends) start.count start.has_failed row how (boxes x.id))
+      subst (λ (row : ℕ → Mailbox). Deliver environment f.config x.id x.strategy x.backpressure_handler (channel_buffer s x.id 0) n start.retries elapsed start.place (drop start.place port.ends) start.count start.has_failed row how (boxes x.id))
       (fun_ext (λ r. sym (mailboxes-are f x.id r)))
       (subst (λ (buffers : ℕ → Option ℕ). Deliver environment f.config x.id x.strategy x.backpressure_handler buffers n start.retries elapsed start.place (drop start.place port.ends) start.count start.has_failed
-      (mailboxes_of (numbers_of f.books) f.connections x.id) how (boxes x.id)) (buffers-are f) (d.delivers (numbers_of f.books)))
+      (mailboxes_of (numbers_of f.books) f.connections x.id) how (boxes x.id)) (taking-are f x.id) (d.delivers (numbers_of f.books)))
 
   ends-so : (o : DeliveryOutcome) → state_of (kept_of after) ≡ record s { mailboxes = put_at s.mailboxes x.id (boxes x.id); publishers = put_at s.publishers x.id (option_map (change (end_of n port.ends o)) (s.publishers x.id)) }
       → ConcludeSend (with_mailboxes s x.id (boxes x.id)) x.id n (end_of n port.ends o) (state_of (kept_of after)) (result_of_send o)
@@ -336,8 +336,8 @@ module _ {T U : Type 0} (environment : Environment) (f : Fields T U) (sound : Is
   injective-drop i j id h e =
       let same : start.place + i ≡ start.place + j = (sound.well_formed.publishers x.id port stands).ends_apart (start.place + i) (start.place + j) id (sym (occupant-drop start.place port.ends i) ∙ h) (sym (occupant-drop start.place port.ends j) ∙ e) in omega (arith, same)
 
-  delivered : Delivered (receiving_buffer s) n port.ends (drop start.place port.ends) (s.mailboxes x.id) how (boxes x.id)
-  delivered = deliver_is environment f.config x.id x.strategy x.backpressure_handler (receiving_buffer s) n start.retries elapsed start.place (drop start.place port.ends) start.count start.has_failed port.ends (s.mailboxes x.id) how (boxes x.id)
+  delivered : Delivered (channel_buffer s x.id 0) n port.ends (drop start.place port.ends) (s.mailboxes x.id) how (boxes x.id)
+  delivered = deliver_is environment f.config x.id x.strategy x.backpressure_handler (channel_buffer s x.id 0) n start.retries elapsed start.place (drop start.place port.ends) start.count start.has_failed port.ends (s.mailboxes x.id) how (boxes x.id)
       injective-drop refl can.counted delivers
 
   -- and before it

@@ -16,15 +16,17 @@ use Rattle.iox2_store.specs.machine.Numbers.{put_at, contains, without, last_n}
 use Rattle.iox2_store.specs.machine.Records.{Entry, Loan, Publisher, Subscriber, Environment, BlockedSend}
 use Rattle.iox2_store.specs.machine.Sends.{Publish, published, send_ended, with_mailboxes, SendResult, Blocked_send, ConcludeSend, send_blocked}
 use Rattle.iox2_store.specs.Stored.{IsHeldMessage, In_history, In_mailbox, In_blocked_send}
-use Rattle.iox2_store.specs.machine.State.{State, receiving_buffer, publisher_changed}
+use Rattle.iox2_store.specs.machine.State.{State, receiving_buffer, channel_buffer, publisher_changed}
 use Rattle.iox2_store.specs.machine.WellFormed.{IsWellFormed}
 use Rattle.iox2_ends.specs.Counters.{times, with_counters, one_holder_more}
 use Rattle.iox2_ends.specs.LookUp.{look_up, IsOnly}
 use Rattle.iox2_ends.proofs.LookUps.{look_up-found}
 use Rattle.iox2_ends.specs.Mailboxes.{mailboxes_of}
-use Rattle.iox2_ends.specs.Receivers.{buffers_of, buffer_if_open, has_id}
+use Rattle.iox2_ends.specs.Receivers.{buffers_of, taking_buffers, buffer_if_open, has_id}
 use Rattle.iox2_ends.proofs.MailboxChanges.{others-stay, one-put, both-true}
 use Rattle.iox2_laws.proofs.Altered.{same_state}
+use Rattle.iox2_store.specs.machine.Channel.{Channel, is_closed}
+use Rattle.iox2_domain.proofs.lemmas.fields.KeptChannels.{channels-are}
 use Rattle.iox2_laws.proofs.DeliveryLaws.{Delivered, deliver_is}
 use Rattle.iox2_laws.proofs.MailboxLemmas.{contains_in_appended}
 use Rattle.iox2_laws.proofs.NumberLemmas.{contains_in_append, contains_in_last_n}
@@ -90,6 +92,12 @@ module _ {T U : Type 0} (f : Fields T U) where
           ≡ takes (option_map (λ (z : Named Subscriber). z.port) (option_map (subscriber_of f.books f.connections) o))
       by None = refl
       by (Some y) = refl
+
+  -- of those that take messages of a publisher too
+  pub taking-are : (p : ℕ) → taking_buffers f.connections p (map (option_map details_of) f.subscribers) ≡ channel_buffer (state_of (kept_of f)) p 0
+  taking-are p = fun_ext (λ q.
+      ap (λ (channels : ℕ → ℕ → ℕ → Channel). cond (is_closed (channels p q 0)) None (buffers_of (map (option_map details_of) f.subscribers) q)) (sym (channels-are f))
+      ∙ ap (λ (buffers : ℕ → Option ℕ). cond (is_closed ((state_of (kept_of f)).channels p q 0)) None (buffers q)) buffers-are)
 
 module _ {T U : Type 0} (environment : Environment) (f : Fields T U) (sound : IsDomain f) (i : ℕ) (x : PublisherFields) (here : get_or f.publishers i None ≡ Some x)
     (slot n : ℕ) (l : Loan T U) (lies : lies_at f x.book slot ≡ Some (Lent_message n l)) (is_written : l.is_written ≡ true)
@@ -329,21 +337,21 @@ module _ {T U : Type 0} (environment : Environment) (f : Fields T U) (sound : Is
       after-is
       ∙ same_state (record s { mailboxes = boxes; publishers = put_at s.publishers x.id (Some sender); loans = put_at s.loans n None })
       (send_ended (with_mailboxes (published s x.id n) x.id (boxes x.id)) x.id n)
-      refl refl refl (λ _. refl) publishers-are (λ _. refl) (λ q r. ap (λ (m : ℕ → ℕ → Mailbox). m q r) boxes-are) refl refl refl
+      refl refl refl (λ _. refl) publishers-are (λ _. refl) (λ q r. ap (λ (m : ℕ → ℕ → Mailbox). m q r) boxes-are) (λ _ _. refl) refl refl refl
 
   -- ---- the machine's step
 
   abbrev how : DeliveryEnd
   how = end_of n port.ends outcome
 
-  delivers : Deliver environment f.config x.id x.strategy x.backpressure_handler (receiving_buffer s) n 0 no_time 0 port.ends 0 false (s.mailboxes x.id) how (boxes x.id)
+  delivers : Deliver environment f.config x.id x.strategy x.backpressure_handler (channel_buffer s x.id 0) n 0 no_time 0 port.ends 0 false (s.mailboxes x.id) how (boxes x.id)
   delivers =
-      subst (λ (row : ℕ → Mailbox). Deliver environment f.config x.id x.strategy x.backpressure_handler (receiving_buffer s) n 0 no_time 0 port.ends 0 false row how (boxes x.id))
+      subst (λ (row : ℕ → Mailbox). Deliver environment f.config x.id x.strategy x.backpressure_handler (channel_buffer s x.id 0) n 0 no_time 0 port.ends 0 false row how (boxes x.id))
       (fun_ext (λ r. sym (mailboxes-are f x.id r)))
-      (subst (λ (m : ℕ). Deliver environment f.config x.id x.strategy x.backpressure_handler (receiving_buffer s) m 0 no_time 0 port.ends 0 false
+      (subst (λ (m : ℕ). Deliver environment f.config x.id x.strategy x.backpressure_handler (channel_buffer s x.id 0) m 0 no_time 0 port.ends 0 false
       (mailboxes_of (numbers_of f.books) f.connections x.id) (end_of m port.ends outcome) (boxes x.id)) (loan-number f sound i x here slot n l lies)
       (subst (λ (buffers : ℕ → Option ℕ). Deliver environment f.config x.id x.strategy x.backpressure_handler buffers (numbers_of f.books x.id slot) 0 no_time 0 port.ends 0 false
-      (mailboxes_of (numbers_of f.books) f.connections x.id) (end_of (numbers_of f.books x.id slot) port.ends outcome) (boxes x.id)) (buffers-are f) (d.delivers (numbers_of f.books))))
+      (mailboxes_of (numbers_of f.books) f.connections x.id) (end_of (numbers_of f.books x.id slot) port.ends outcome) (boxes x.id)) (taking-are f x.id) (d.delivers (numbers_of f.books))))
 
   -- what the send concludes is published
   publishes-so : (h : State T U) (result : SendResult) → ConcludeSend (with_mailboxes (published s x.id n) x.id (boxes x.id)) x.id n how h result → Publish environment s x.id n h result
@@ -378,8 +386,8 @@ module _ {T U : Type 0} (environment : Environment) (f : Fields T U) (sound : Is
   held-mid z longer waiting q m away (In_blocked_send y b at waits is) = found_put s.publishers x.id z (λ j v. v.blocked ≡ Some b → IsHeldMessage (record s { mailboxes = boxes }) j m) q y at
       (λ _ h. absurd (away (sym is ∙ waiting b h))) (λ _ there h. In_blocked_send y b there h is) waits
 
-  delivered : Delivered (receiving_buffer s) n port.ends port.ends (s.mailboxes x.id) how (boxes x.id)
-  delivered = deliver_is environment f.config x.id x.strategy x.backpressure_handler (receiving_buffer s) n 0 no_time 0 port.ends 0 false port.ends (s.mailboxes x.id) how (boxes x.id)
+  delivered : Delivered (channel_buffer s x.id 0) n port.ends port.ends (s.mailboxes x.id) how (boxes x.id)
+  delivered = deliver_is environment f.config x.id x.strategy x.backpressure_handler (channel_buffer s x.id 0) n 0 no_time 0 port.ends 0 false port.ends (s.mailboxes x.id) how (boxes x.id)
       (sound.well_formed.publishers x.id port stands).ends_apart refl (le_refl 0) delivers
 
   -- and before it
@@ -603,7 +611,7 @@ module _ {T U : Type 0} (environment : Environment) (f : Fields T U) (sound : Is
     blocked-state =
         stopped-is
         ∙ same_state (with_port stopped_port) (send_blocked (with_mailboxes (published s x.id n) x.id (boxes x.id)) x.id b)
-        refl refl refl (λ _. refl) (publishers-changed (λ v. record v { blocked = Some b }) stopped_port refl) (λ _. refl) (λ q r. ap (λ (m : ℕ → ℕ → Mailbox). m q r) boxes-are) refl refl refl
+        refl refl refl (λ _. refl) (publishers-changed (λ v. record v { blocked = Some b }) stopped_port refl) (λ _. refl) (λ q r. ap (λ (m : ℕ → ℕ → Mailbox). m q r) boxes-are) (λ _ _. refl) refl refl refl
 
     publishes-blocked : Publish environment s x.id n (state_of (kept_of stopped)) Blocked_send
     publishes-blocked = publishes-so (state_of (kept_of stopped)) Blocked_send

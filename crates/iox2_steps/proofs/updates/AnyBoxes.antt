@@ -5,11 +5,11 @@ use Rattle.std.specs.Prelude.{MatchOption}
 use Rattle.std.specs.declared.option.Option.{Option}
 use Rattle.std.specs.declared.option.Option.TheVariants.{None, Some}
 use Rattle.iox2_store.specs.machine.Connections.{ForEachPlace, DegradationAnswers}
-use Rattle.iox2_store.specs.machine.PublisherUpdate.{SenderAction, Keep_end, Drop_waiting, Disconnect, Connect, SenderSide, sender_action, sender_side, with_sender_side, Performs, UpdateSenderPlace, UpdatePublisher}
+use Rattle.iox2_store.specs.machine.PublisherUpdate.{SenderAction, Keep_end, Drop_waiting, Disconnect, Connect, SenderSide, sender_action, sender_side, with_sender_side, Performs, UpdateSenderPlace, UpdatePublisher, history_for}
 use Rattle.iox2_store.specs.machine.Environments.{fixed_handlers}
 use Rattle.iox2_store.specs.machine.Places.{occupant}
 use Rattle.iox2_store.specs.machine.Records.{Environment, Handler, Fixed, Custom, Publisher}
-use Rattle.iox2_store.specs.machine.State.{State, receiving_buffer, has_receiver_end}
+use Rattle.iox2_store.specs.machine.State.{State, receiving_buffer, has_receiver_end, sender_channels_reset}
 use Rattle.iox2_store.specs.declared.degradation.DegradationAction.{DegradationAction}
 use Rattle.iox2_store.specs.declared.degradation.DegradationCause.TheVariants.{FailedToEstablishConnection as NotEstablished}
 use Rattle.iox2_store.specs.declared.degradation.DegradationInfo.{DegradationInfo}
@@ -42,9 +42,9 @@ answers-alike e e' port (Fixed answer) allows info action h = h
 answers-alike e e' port Custom allows info action h = allows info action h
 
 module _ (e e' : Environment) where
-  module _ (service_id p : ℕ) (handler : Handler DegradationAction) (allows : AllowsUpdates e e' p handler) (history : List ℕ) (buffers : ℕ → Option ℕ) (has_end : ℕ → Bool) where
+  module _ (service_id p : ℕ) (handler : Handler DegradationAction) (allows : AllowsUpdates e e' p handler) (histories : ℕ → List ℕ) (buffers : ℕ → Option ℕ) (has_end : ℕ → Bool) where
     performs-alike : (action : SenderAction) (place : ℕ) (side side' : SenderSide) (failure : Option ConnectionFailure)
-        → Performs e service_id p handler history buffers has_end action place side side' failure → Performs e' service_id p handler history buffers has_end action place side side' failure
+        → Performs e service_id p handler histories buffers has_end action place side side' failure → Performs e' service_id p handler histories buffers has_end action place side side' failure
     performs-alike Keep_end place side side' failure h = h
     performs-alike (Drop_waiting q) place side side' failure h = h
     performs-alike Disconnect place side side' failure h = h
@@ -53,7 +53,7 @@ module _ (e e' : Environment) where
         inr (h.0, h.1, (h.2.0, allows.memory h.2.1, answers-alike e e' p handler allows.answers _ h.2.0 h.2.2, h.2.3, h.2.4), h.3)
 
     place-alike : (place : ℕ) (at : Option ℕ) (side side' : SenderSide) (failure : Option ConnectionFailure)
-        → UpdateSenderPlace e service_id p handler history buffers has_end place at side side' failure → UpdateSenderPlace e' service_id p handler history buffers has_end place at side side' failure
+        → UpdateSenderPlace e service_id p handler histories buffers has_end place at side side' failure → UpdateSenderPlace e' service_id p handler histories buffers has_end place at side side' failure
     place-alike place at side side' failure h = performs-alike (sender_action buffers at (occupant side.ends place)) place side side' failure h
 
   module _ {T U : Type 0} (s : State T U) (p : ℕ) (s' : State T U) (failure : Option ConnectionFailure)
@@ -61,9 +61,9 @@ module _ (e e' : Environment) where
     -- what becomes of the publisher where it is due
     abbrev Walks : Environment → Publisher → Type 0
     Walks environment x = (side : SenderSide)
-        × ForEachPlace (UpdateSenderPlace environment (s.config).service_id p x.degradation_handler x.history (receiving_buffer s) (has_receiver_end s p))
+        × ForEachPlace (UpdateSenderPlace environment (s.config).service_id p x.degradation_handler (history_for s p x) (receiving_buffer s) (has_receiver_end s p))
         0 s.subscriber_places (sender_side s p x) side failure
-        × (s' ≡ with_sender_side s p x side)
+        × (s' ≡ sender_channels_reset (with_sender_side s p x side) p)
 
     -- a publisher's update in one environment is one in the other
     pub update-alike : UpdatePublisher e s p s' failure → UpdatePublisher e' s p s' failure
@@ -71,7 +71,7 @@ module _ (e e' : Environment) where
       due : (x : Publisher) → AllowsUpdates e e' p x.degradation_handler → (is_due : Bool) → MatchBool is_due (Walks e x) ((s' ≡ s) × (failure ≡ None)) → MatchBool is_due (Walks e' x) ((s' ≡ s) × (failure ≡ None))
       due x allows true h = (
         h.0,
-        each-place _ _ (place-alike (s.config).service_id p x.degradation_handler allows x.history (receiving_buffer s) (has_receiver_end s p)) 0 s.subscriber_places (sender_side s p x) h.0 failure h.1,
+        each-place _ _ (place-alike (s.config).service_id p x.degradation_handler allows (history_for s p x) (receiving_buffer s) (has_receiver_end s p)) 0 s.subscriber_places (sender_side s p x) h.0 failure h.1,
         h.2,
       )
       due x allows false h = h

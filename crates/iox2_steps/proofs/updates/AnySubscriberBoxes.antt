@@ -10,7 +10,7 @@ use Rattle.iox2_store.specs.machine.Places.{free_place, occupant}
 use Rattle.iox2_store.specs.machine.Ports.{CreatePublisher, CreateSubscriber, MakePublisher, MakeSubscriber, buffer_for, first_segment_fits, new_publisher, new_subscriber, with_new_publisher, with_new_subscriber}
 use Rattle.iox2_store.specs.machine.Receives.{HasSamples, Receive, ReceiveResult}
 use Rattle.iox2_store.specs.machine.Records.{Environment, Handler, Publisher, PublisherSettings, Subscriber, SubscriberSettings}
-use Rattle.iox2_store.specs.machine.State.{State, has_sender_end}
+use Rattle.iox2_store.specs.machine.State.{State, has_sender_end, receiver_channels_reset}
 use Rattle.iox2_store.specs.machine.SubscriberUpdate.{ReceiverSide, ConnectReceiver, ConnectAtPlace, Retire, UpdateReceiverSide, UpdateSubscriber, after_retirement, is_refused, receiver_side, retirement_of, with_end, with_receiver_side}
 use Rattle.iox2_store.specs.declared.degradation.DegradationAction.{DegradationAction}
 use Rattle.iox2_store.specs.declared.errors.ConnectionFailure.{ConnectionFailure}
@@ -66,7 +66,7 @@ module _ (e e' : Environment) where
       abbrev Walks : Environment → Subscriber → Type 0
       Walks environment y = (side : ReceiverSide)
           × UpdateReceiverSide environment (s.config).service_id q y.degradation_handler (expired_limit s.config) (λ p. has_sender_end s p q) s.publisher_places (receiver_side s q y) side failure
-          × (s' ≡ with_receiver_side s q y side)
+          × (s' ≡ receiver_channels_reset (with_receiver_side s q y side) q)
 
       -- a subscriber's update in one environment is one in the other
       pub update-subscriber-alike : UpdateSubscriber e s q s' failure → UpdateSubscriber e' s q s' failure

@@ -14,7 +14,7 @@ use Rattle.iox2_domain.specs.Fields.{Fields}
 use Rattle.iox2_domain.specs.Invariant.{IsDomain, ReceiverHas}
 use Rattle.iox2_domain.specs.Updates.{changed_at, without_sender_key}
 use Rattle.iox2_domain.specs.Reaches.{Reaches}
-use Rattle.iox2_domain.specs.Drops.{with_waiting_dropped, HasEnd, LosesWaiting, LosesSenderEnd}
+use Rattle.iox2_domain.specs.Drops.{with_waiting_dropped, HasEnd, LosesWaiting, LosesSenderEnd, StandsElsewhere}
 use Rattle.iox2_steps.proofs.updates.WaitingDropped.{dropped_fields, dropped-reaches, dropped-well, end-own}
 use Rattle.iox2_steps.proofs.updates.SenderDisconnects.{loses-end}
 
@@ -64,6 +64,7 @@ module _ {T U : Type 0} (before f : Fields T U) (same : f ≡ before) (agrees : 
         (subst (λ (d : Book). LosesWaiting f x drops.link (record f { connections = new; books = with_value f.books x.book d })) (sym is1) (record {
           agrees = reached.agrees;
           fields = refl;
+          homes = drops.recounts.homes;
           state = reached.state;
           entries = reached.entries;
         }))))
@@ -79,15 +80,16 @@ module _ {T U : Type 0} (before f : Fields T U) (same : f ≡ before) (agrees : 
 
     -- the end is gone
     pub end-lost : j < length before.subscribers → ((c : Link) → get before.connections key ≡ Some c → ReceiverHas before.subscribers key c → ⊥)
+        → ((c : Link) → get before.connections key ≡ Some c → StandsElsewhere before.subscribers j c.home.subscriber)
         → (new : Slab Link) → RemovesConnection x.id b.holders f.connections key b1.holders new
         → (z : PublisherFields) → get_or before.publishers i None ≡ Some z
         → LosesSenderEnd before i j z (record f { publishers = changed_at (without_sender_key j) f.publishers i; connections = new; books = with_value f.books x.book b1 })
-    end-lost low alone new removes z at_z =
+    end-lost low alone elsewhere new removes z at_z =
         subst (λ (y : PublisherFields). LosesSenderEnd before i j y after) (publisher-is z at_z)
         (subst (λ (h : Fields T U). LosesSenderEnd h i j x after) same
         (subst (λ (xs : List (Option PublisherFields)). LosesSenderEnd f i j x (record f { publishers = xs; connections = new; books = with_value f.books x.book b1 })) (sym publishers-are)
         (subst (λ (d : Book). LosesSenderEnd f i j x (record f { publishers = slice_set f.publishers i (Some (record x { keys = set_place x.keys j None })); connections = new; books = with_value f.books x.book d })) (sym is1)
-        (loses-end f sound i j x here settled free (subst (λ (h : Fields T U). j < length h.subscribers) (sym same) low) key has b at b1.holders new removes alone-f))))
+        (loses-end f sound i j x here settled free (subst (λ (h : Fields T U). j < length h.subscribers) (sym same) low) key has b at b1.holders new removes alone-f elsewhere-f))))
       where
         after : Fields T U
         after = record f { publishers = changed_at (without_sender_key j) f.publishers i; connections = new; books = with_value f.books x.book b1 }
@@ -100,3 +102,7 @@ module _ {T U : Type 0} (before f : Fields T U) (same : f ≡ before) (agrees : 
         alone-f : ReceiverHas f.subscribers key (removes.drops).link → ⊥
         alone-f = subst (λ (h : Fields T U). ReceiverHas h.subscribers key (removes.drops).link → ⊥) (sym same)
             (alone (removes.drops).link (sym (ap (λ (h : Fields T U). get h.connections key) same) ∙ (removes.drops).stood))
+
+        elsewhere-f : StandsElsewhere f.subscribers j (removes.drops).link.home.subscriber
+        elsewhere-f = subst (λ (h : Fields T U). StandsElsewhere h.subscribers j (removes.drops).link.home.subscriber) (sym same)
+            (elsewhere (removes.drops).link (sym (ap (λ (h : Fields T U). get h.connections key) same) ∙ (removes.drops).stood))

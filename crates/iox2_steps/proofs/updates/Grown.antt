@@ -5,11 +5,13 @@ use Rattle.std.specs.declared.option.Option.{Option}
 use Rattle.std.specs.declared.option.Option.TheVariants.{None, Some}
 use Rattle.std.specs.Option.{option_map}
 use Rattle.iox2_store.specs.machine.Places.{occupant}
-use Rattle.iox2_store.specs.machine.PublisherUpdate.{UpdateSenderPlace, connected, sender_side, with_sender_side}
+use Rattle.iox2_store.specs.machine.PublisherUpdate.{history_for, UpdateSenderPlace, connected, sender_side, with_sender_side}
 use Rattle.iox2_store.specs.machine.Records.{Publisher, Environment}
 use Rattle.iox2_store.specs.machine.State.{State, receiving_buffer, has_receiver_end}
 use Rattle.iox2_store.specs.machine.WellFormed.{IsWellFormed}
 use Rattle.iox2_store.specs.declared.errors.ConnectionFailure.{ConnectionFailure}
+use Rattle.iox2_domain.specs.KeptLinks.{ChannelsFollow}
+use Rattle.iox2_domain.specs.Midway.{with_channels_of}
 use Rattle.iox2_domain.specs.Ports.{PublisherFields, SubscriberFields}
 use Rattle.iox2_domain.specs.Kept.{state_of}
 use Rattle.iox2_domain.specs.Fields.{Fields, kept_of, publisher_of, subscriber_of}
@@ -81,9 +83,10 @@ module _ {T U : Type 0} (f : Fields T U) (i j : ℕ) (x : PublisherFields) (y : 
           (set-set f.publishers i (Some (with_sender_room n x)) (Some (record x { keys = step.keys; key_room = step.key_room })));
       others = step.others ∙ same-shown subscriber_but_room f.subscribers j y (with_receiver_rooms m e y) at_y refl;
       side = step.side;
-      steps = subst (λ (s : State T U). UpdateSenderPlace environment (f.config).service_id x.id P.degradation_handler P.history (receiving_buffer s) (has_receiver_end s x.id)
+      steps = subst (λ (s : State T U). UpdateSenderPlace environment (f.config).service_id x.id P.degradation_handler (history_for s x.id P) (receiving_buffer s) (has_receiver_end s x.id)
           j (occupant s.subscriber_places j) (sender_side s x.id P) step.side failure) grown-state step.steps;
-      state = step.state ∙ ap (λ (s : State T U). with_sender_side s x.id P step.side) grown-state;
+      state = step.state ∙ ap (λ (s : State T U). with_channels_of f' (with_sender_side s x.id P step.side)) grown-state;
+      channels = subst (λ (s : State T U). ChannelsFollow (λ home. home.publisher ≡ x.id) (λ p q. s.subscribers q ≡ None) f.connections f'.connections) grown-state step.channels;
       entries = step.entries;
     }
 
@@ -101,7 +104,8 @@ module _ {T U : Type 0} (f : Fields T U) (i j : ℕ) (x : PublisherFields) (y : 
       stands = step.stands;
       is_its = step.is_its;
       empty = step.empty;
-      steps = subst (λ (s : State T U). UpdateSenderPlace environment (f.config).service_id x.id P.degradation_handler P.history (receiving_buffer s) (has_receiver_end s x.id)
-          j (occupant s.subscriber_places j) (sender_side s x.id P) (connected P.history (sender_side s x.id P) j (step.link).home.subscriber (step.link).buffer) None) grown-state step.steps;
+      steps = subst (λ (s : State T U). UpdateSenderPlace environment (f.config).service_id x.id P.degradation_handler (history_for s x.id P) (receiving_buffer s) (has_receiver_end s x.id)
+          j (occupant s.subscriber_places j) (sender_side s x.id P) (connected (history_for s x.id P (step.link).home.subscriber) (sender_side s x.id P) j (step.link).home.subscriber (step.link).buffer) None) grown-state step.steps;
       state = step.state ∙ ap (λ (s : State T U). with_sender_side s x.id P (connected [] (sender_side s x.id P) j (step.link).home.subscriber (step.link).buffer)) grown-state;
+      channels = subst (λ (s : State T U). ChannelsFollow (λ home. home.publisher ≡ x.id) (λ p q. s.subscribers q ≡ None) f.connections f'.connections) grown-state step.channels;
     }

@@ -1,18 +1,23 @@
 -- A publisher's end is made, and the last messages of its history wait there.
-use Rattle.std.proofs.Common.{◌≡◌, ℕ, ◌+◌, ◌<◌, ◌^◌, List, [], length, map, get_or, slice_set, refl, ap, sym, subst, ◌∙◌, set-set}
+use Rattle.std.proofs.Common.{◌≡◌, ℕ, Bool, true, false, cond, ◌+◌, ◌<◌, ◌^◌, List, [], length, map, get_or, slice_set, refl, ap, sym, subst, ◌∙◌, set-set}
 use Rattle.std.proofs.lemmas.List.{get_or-set_same}
 use Rattle.std.specs.declared.option.Option.{Option}
 use Rattle.std.specs.declared.option.Option.TheVariants.{None, Some}
 use Rattle.std.specs.Option.{option_map}
+use Rattle.iox2_store.specs.machine.Channel.{Channel, is_closed}
+use Rattle.iox2_ends.proofs.MailboxChanges.{channels-there, SameHomes-trans}
+use Rattle.iox2_domain.proofs.lemmas.fields.KeptChannels.{but-channels, channels-are}
+use Rattle.iox2_steps.proofs.updates.FollowedChannels.{follow-both, follow-same}
 use Rattle.iox2_domain.specs.Updates.{subscriber_but_room}
 use Rattle.slab.specs.Slab.{Slab, get, with_value, ContainsKey}
-use Rattle.iox2_slots.specs.Link.{Link, load}
+use Rattle.iox2_slots.specs.Link.{is_shut, Link, load}
 use Rattle.iox2_slots.specs.SlotBook.{Book, holders_at}
 use Rattle.iox2_store.specs.machine.Mailbox.{Mailbox, with_waiting}
 use Rattle.iox2_store.specs.machine.Numbers.{put_at, last_n}
-use Rattle.iox2_store.specs.machine.PublisherUpdate.{SenderSide, connected, sender_side, with_sender_side}
+use Rattle.iox2_store.specs.machine.Places.{occupant}
+use Rattle.iox2_store.specs.machine.PublisherUpdate.{SenderSide, UpdateSenderPlace, connected, sender_side, with_sender_side}
 use Rattle.iox2_store.specs.machine.Records.{Publisher, Environment}
-use Rattle.iox2_store.specs.machine.State.{State}
+use Rattle.iox2_store.specs.machine.State.{State, receiving_buffer, has_receiver_end}
 use Rattle.iox2_store.specs.machine.WellFormed.{IsWellFormed}
 use Rattle.iox2_ends.specs.Counters.{times, with_counters}
 use Rattle.iox2_ends.specs.Mailboxes.{with_box}
@@ -27,7 +32,7 @@ use Rattle.iox2_domain.specs.Ports.{PublisherFields}
 use Rattle.iox2_domain.specs.Kept.{state_of, entries_of}
 use Rattle.iox2_domain.specs.Fields.{Fields, kept_of, publisher_of, numbers_of}
 use Rattle.iox2_domain.specs.Invariant.{IsDomain}
-use Rattle.iox2_domain.specs.Connects.{MakesSenderEnd, ConnectsSender}
+use Rattle.iox2_domain.specs.Connects.{histories_of, MakesSenderEnd, ConnectsSender}
 use Rattle.iox2_domain.specs.Histories.{with_history_waiting, HasNewEnd, HandsOut}
 use Rattle.iox2_domain.proofs.lemmas.fields.ConnectionEnds.{publisher-stands}
 use Rattle.iox2_domain.proofs.lemmas.fields.Standing.{place-within}
@@ -87,6 +92,7 @@ module _ {T U : Type 0} (before f : Fields T U) (same : f ≡ before) (sound : I
       (subst (λ (h : Fields T U). HandsOut f x c h) as-made (record {
         agrees = out.agrees;
         fields = refl;
+        homes = SameHomes-trans f.connections new (with_value new key (record c { waiting = last_n c.buffer (x.history).items })) r.recounts.homes out.homes;
         state = out.state ∙ waiting-same;
         entries = λ n entry e. (reclaimed-reaches f sound x.id x.book b at (book-own f sound.parts i x here b at) (book-owned f sound.parts i x here) b1.holders new r).entries n entry (out.entries n entry e);
       }))
@@ -225,41 +231,95 @@ module _ {T U : Type 0} (environment : Environment) (f : Fields T U) (sound : Is
   present : s.publishers x.id ≡ Some P
   present = publisher-stands f sound.parts i x at
 
-  well : IsWellFormed (with_sender_side s x.id P full)
-  well =
-      with_sender_side_keeps s sound.well_formed x.id P present (unblocked f.books f.connections x free) full
-      (performed_keeps s sound.well_formed x.id P present environment j _ _ (sender_side s x.id P) full None
-      (place-within f j low) refl refl (sender_side_begins s sound.well_formed x.id P present) made.steps)
+  -- ---- the channel
 
-  -- the history may go out
-  pub new-end : HasNewEnd f1 i key
-  new-end = record {
-    publisher = keyed;
-    stands = keyed-stands;
-    link = made.link;
-    connected = made.stands;
-    is_its = made.is_its;
-    empty = made.empty;
-    well_formed = subst IsWellFormed (sym waits-is) well;
-  }
+  -- it has the same as before
+  channel-is : s.channels x.id q 0 ≡ (made.link).channel
+  channel-is =
+      ap (λ (t : State T U). t.channels x.id q 0) (sym made.state)
+      ∙ ap (λ (channels : ℕ → ℕ → ℕ → Channel). channels x.id q 0) (channels-are f1)
+      ∙ ap (λ (channels : ℕ → Channel). channels 0) (channels-there f1.connections key x.id q made.link made.agrees.parts.apart made.stands made.is_its refl)
 
-  -- and then the machine's step is done
-  pub connects-with-history : (f2 : Fields T U) → ((end : HasNewEnd f1 i key) → HandsOut f1 end.publisher end.link f2) → ConnectsSender environment f i j x f2 None
-  unfolding new-end
-  connects-with-history f2 hands = record {
-    agrees = out.agrees;
+  -- nothing goes out where it is closed
+  history-shut : is_shut made.link ≡ true → histories_of f x q ≡ []
+  history-shut shut = ap (λ (k : Channel). cond (is_closed k) [] P.history) channel-is ∙ ap (λ (t : Bool). cond t [] P.history) shut
+
+  -- and else the history
+  history-open : is_shut made.link ≡ false → histories_of f x q ≡ P.history
+  history-open shut = ap (λ (k : Channel). cond (is_closed k) [] P.history) channel-is ∙ ap (λ (t : Bool). cond t [] P.history) shut
+
+  -- where it is closed the machine's step is done
+  pub connects-shut : (c : Link) → get f1.connections key ≡ Some c → is_shut c ≡ true → ConnectsSender environment f i j x f1 None
+  connects-shut c at_c shut = record {
+    agrees = made.agrees;
     keys = made.keys;
     key_room = made.key_room;
-    fields = out.fields ∙ (λ t. record (made.fields t) { connections = f2.connections; books = f2.books })
-        ∙ (λ t. record f { publishers = slice_set f.publishers i (Some keyed); subscribers = sym (ap (λ (h : Fields T U). h.subscribers) out.fields) t; connections = f2.connections; books = f2.books; warnings = sym warnings-same t });
-    others = ap (λ (h : Fields T U). map (option_map subscriber_but_room) h.subscribers) out.fields ∙ made.others;
-    side = full;
-    steps = made.steps;
-    state = out.state ∙ waits-is;
-    entries = λ n entry e. sym (ap (λ (h : Fields T U). entries_of (kept_of h) n) made.fields) ∙ out.entries n entry e;
+    fields = made.fields ∙ (λ t. record f { publishers = slice_set f.publishers i (Some keyed); subscribers = f1.subscribers; connections = f1.connections; books = sym books-same t; warnings = sym warnings-same t });
+    others = made.others;
+    side = bare;
+    steps = subst (λ (ns : List ℕ). UpdateSenderPlace environment (f.config).service_id x.id P.degradation_handler (histories_of f x) (receiving_buffer s) (has_receiver_end s x.id)
+        j (occupant s.subscriber_places j) (sender_side s x.id P) (connected ns (sender_side s x.id P) j q size) None) (history-shut (ap is_shut is ∙ shut)) made.steps;
+    state = but-channels f1 (with_sender_side s x.id P bare) made.state;
+    channels = made.channels;
+    entries = λ n entry e. sym (ap (λ (h : Fields T U). entries_of (kept_of h) n) made.fields) ∙ e;
   } where
-    out : HandsOut f1 keyed made.link f2
-    out = hands new-end
+    is : made.link ≡ c
+    is = let both : Some made.link ≡ Some c = sym made.stands ∙ at_c in cc
 
-    warnings-same : f2.warnings ≡ f.warnings
-    warnings-same = ap (λ (h : Fields T U). h.warnings) out.fields ∙ ap (λ (h : Fields T U). h.warnings) made.fields
+    warnings-same : f1.warnings ≡ f.warnings
+    warnings-same = ap (λ (h : Fields T U). h.warnings) made.fields
+
+    books-same : f1.books ≡ f.books
+    books-same = ap (λ (h : Fields T U). h.books) made.fields
+
+  -- ---- where it isn't
+
+  module _ (c : Link) (at_c : get f1.connections key ≡ Some c) (at_open : is_shut c ≡ false) where
+    history-is : histories_of f x q ≡ P.history
+    history-is = history-open (ap is_shut (let both : Some made.link ≡ Some c = sym made.stands ∙ at_c in let is : made.link ≡ c = cc in is) ∙ at_open)
+
+    steps-full : UpdateSenderPlace environment (f.config).service_id x.id P.degradation_handler (histories_of f x) (receiving_buffer s) (has_receiver_end s x.id)
+        j (occupant s.subscriber_places j) (sender_side s x.id P) full None
+    steps-full = subst (λ (ns : List ℕ). UpdateSenderPlace environment (f.config).service_id x.id P.degradation_handler (histories_of f x) (receiving_buffer s) (has_receiver_end s x.id)
+        j (occupant s.subscriber_places j) (sender_side s x.id P) (connected ns (sender_side s x.id P) j q size) None) history-is made.steps
+
+    well : IsWellFormed (with_sender_side s x.id P full)
+    well =
+        with_sender_side_keeps s sound.well_formed x.id P present (unblocked f.books f.connections x free) full
+        (performed_keeps s sound.well_formed x.id P present environment j _ _ (sender_side s x.id P) full None
+        (place-within f j low) refl refl (sender_side_begins s sound.well_formed x.id P present) steps-full)
+
+    -- the history may go out
+    pub new-end : HasNewEnd f1 i key
+    new-end = record {
+      publisher = keyed;
+      stands = keyed-stands;
+      link = made.link;
+      connected = made.stands;
+      is_its = made.is_its;
+      empty = made.empty;
+      well_formed = subst IsWellFormed (sym waits-is) well;
+    }
+
+    -- and then the machine's step is done
+    pub connects-with-history : (f2 : Fields T U) → ((end : HasNewEnd f1 i key) → HandsOut f1 end.publisher end.link f2) → ConnectsSender environment f i j x f2 None
+    unfolding new-end
+    connects-with-history f2 hands = record {
+      agrees = out.agrees;
+      keys = made.keys;
+      key_room = made.key_room;
+      fields = out.fields ∙ (λ t. record (made.fields t) { connections = f2.connections; books = f2.books })
+          ∙ (λ t. record f { publishers = slice_set f.publishers i (Some keyed); subscribers = sym (ap (λ (h : Fields T U). h.subscribers) out.fields) t; connections = f2.connections; books = f2.books; warnings = sym warnings-same t });
+      others = ap (λ (h : Fields T U). map (option_map subscriber_but_room) h.subscribers) out.fields ∙ made.others;
+      side = full;
+      steps = steps-full;
+      state = but-channels f2 (with_sender_side s x.id P full) (out.state ∙ waits-is);
+      channels = follow-both (λ home. home.publisher ≡ x.id) (λ p r. s.subscribers r ≡ None) f.connections f1.connections f2.connections made.channels
+          (follow-same (λ home. home.publisher ≡ x.id) (λ p r. s.subscribers r ≡ None) f1.connections f2.connections out.homes);
+      entries = λ n entry e. sym (ap (λ (h : Fields T U). entries_of (kept_of h) n) made.fields) ∙ out.entries n entry e;
+    } where
+      out : HandsOut f1 keyed made.link f2
+      out = hands new-end
+
+      warnings-same : f2.warnings ≡ f.warnings
+      warnings-same = ap (λ (h : Fields T U). h.warnings) out.fields ∙ ap (λ (h : Fields T U). h.warnings) made.fields

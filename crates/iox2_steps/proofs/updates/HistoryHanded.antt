@@ -187,6 +187,7 @@ module _ {T U : Type 0} (f : Fields T U) (sound : IsDomain f) (i : ℕ) (x : Pub
         let old = sound.entries p n (held-before p n (subst (λ (t : State T U). IsHeldMessage t p n) handed-is held)) in
         (old.0, recounted-keeps f sound x.id x.book b at mine holders connections recounts p n old.0 held old.1, old.2));
     fields = refl;
+    homes = recounts.homes;
     state = handed-is;
     entries = recounted-entries f sound x.id x.book b at mine holders connections recounts;
   }

@@ -1,11 +1,11 @@
 -- The mark of a publisher's end at a subscriber's place is set or cleared.
-use Rattle.std.proofs.Common.{◌≡◌, ◌≢◌, ℕ, ◌+◌, ◌<◌, ◌≤◌, true, false, length, get_or, refl, ap, sym, subst, ◌∙◌, inl, inr, Option, None, Some, arith}
+use Rattle.std.proofs.Common.{◌≡◌, ◌≢◌, ℕ, ◌+◌, ◌<◌, ◌≤◌, true, false, not, length, get_or, refl, ap, sym, subst, ◌∙◌, inl, inr, Option, None, Some, arith}
 use Rattle.std.proofs.lemmas.Bool.{cases_eq, true≢false}
 use Rattle.std.proofs.lemmas.Option.{same_Some}
 use Rattle.std.specs.Prelude.{IsSomeAnd}
 use Rattle.std.specs.Option.{option_map, option_and_then, option_map_or}
 use Rattle.slab.specs.Slab.{ContainsKey, get, with_value}
-use Rattle.iox2_slots.specs.Link.{Link}
+use Rattle.iox2_slots.specs.Link.{Link, is_shut, with_mark}
 use Rattle.iox2_store.specs.declared.errors.ConnectionFailure.{ConnectionFailure}
 use Rattle.iox2_store.specs.machine.Ports.{publisher_closed, subscriber_closed}
 use Rattle.iox2_store.specs.machine.Records.{Environment}
@@ -20,6 +20,8 @@ use Rattle.iox2_domain.specs.OpenMarks.{ChangesMarks, ClearsEnd, ClearsMarks, Is
 use Rattle.iox2_domain.specs.Ports.{PublisherFields, SubscriberFields}
 use Rattle.iox2_domain.specs.Reaches.{Reaches}
 use Rattle.iox2_domain.specs.Updates.{is_open_subscriber, sender_key}
+use Rattle.iox2_store.specs.machine.PublisherUpdate.{with_sender_side}
+use Rattle.iox2_steps.proofs.updates.FollowedChannels.{follow-both, follow-still}
 use Rattle.iox2_domain.proofs.lemmas.containers.LookUps.{map-at}
 use Rattle.iox2_domain.proofs.lemmas.fields.ChangedMarks.{changes-mark, mark-was}
 use Rattle.iox2_domain.proofs.lemmas.fields.Standing.{key-sender, some_is}
@@ -27,7 +29,7 @@ use Rattle.iox2_domain.proofs.lemmas.fields.Standing.{key-sender, some_is}
 module _ {T U : Type 0} (f : Fields T U) where
   -- nothing changed
   pub changes-none : IsDomain f → ChangesMarks f f
-  changes-none sound = record { agrees = sound; fields = refl; kept = refl }
+  changes-none sound = record { agrees = sound; fields = refl; kept = refl; same = record { same = λ key. refl } }
 
   pub clears-none : IsDomain f → ClearsMarks f f
   clears-none sound = record { changes = changes-none sound; fewer = λ key c at is. at }
@@ -38,6 +40,7 @@ changes-trans f g h a b = record {
   agrees = b.agrees;
   fields = b.fields ∙ (λ t. record (a.fields t) { connections = h.connections });
   kept = b.kept ∙ a.kept;
+  same = record { same = λ key. b.same.same key ∙ a.same.same key };
 }
 
 pub clears-trans : {T U : Type 0} (f g h : Fields T U) → ClearsMarks f g → ClearsMarks g h → ClearsMarks f h
@@ -58,7 +61,9 @@ connects-marked {T} {U} environment f g h i j x failure connects marks =
       others = connects.others;
       side = connects.side;
       steps = connects.steps;
-      state = ap state_of kept ∙ connects.state;
+      state = ap state_of kept ∙ connects.state ∙ ap (λ (k : Kept T U ⊥ ⊥). let t : State T U = with_sender_side (state_of (kept_of f)) x.id (publisher_of f.books f.connections x).port connects.side in record t { channels = (state_of k).channels }) (sym kept);
+      channels = follow-both (λ home. home.publisher ≡ x.id) (λ p q. (state_of (kept_of f)).subscribers q ≡ None) f.connections g.connections h.connections connects.channels
+          (follow-still (λ home. home.publisher ≡ x.id) (λ p q. (state_of (kept_of f)).subscribers q ≡ None) g.connections h.connections marks.same);
       entries = λ n entry e. connects.entries n entry (sym (ap (λ (k : Kept T U ⊥ ⊥). entries_of k n) kept) ∙ e);
     })
   where
@@ -101,9 +106,9 @@ module _ {T U : Type 0} (f : Fields T U) (sound : IsDomain f) (i j key : ℕ) (n
         }
 
     -- it is marked then
-    pub end-marked : IsBetweenOpen f.publishers f.subscribers key c → (d : Link) → d ≡ record c { is_open = true } → ChangesMarks f (record f { connections = with_value f.connections key d })
+    pub end-marked : IsBetweenOpen f.publishers f.subscribers key c → (d : Link) → d ≡ with_mark true c → ChangesMarks f (record f { connections = with_value f.connections key d })
     end-marked between d is =
-        subst (λ (e : Link). ChangesMarks f (record f { connections = with_value f.connections key e })) (sym is) (changes-mark f sound key c at true (λ _. between))
+        subst (λ (e : Link). ChangesMarks f (record f { connections = with_value f.connections key e })) (sym is) (changes-mark f sound key c at (not (is_shut c)) (λ _. between))
 
     shut : false ≡ true → IsBetweenOpen f.publishers f.subscribers key c
     shut wrong = absurd (true≢false (sym wrong))

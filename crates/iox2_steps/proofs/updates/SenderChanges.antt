@@ -1,5 +1,5 @@
 -- A publisher gets keys of its connections, one of which may be new.
-use Rattle.std.proofs.Common.{◌≡◌, ◌<◌, ◌≤◌, le_refl, ℕ, Bool, false, List, map, get_or, slice_set, refl, ap, ◌∙◌, ◌⊎◌, inl}
+use Rattle.std.proofs.Common.{◌≡◌, ◌<◌, ◌≤◌, le_refl, ℕ, Bool, false, List, map, get_or, slice_set, refl, ap, sym, ◌∙◌, ◌⊎◌, inl, inr}
 use Rattle.std.proofs.lemmas.List.{map-set}
 use Rattle.std.specs.declared.option.Option.{Option}
 use Rattle.std.specs.declared.option.Option.TheVariants.{None, Some}
@@ -10,6 +10,11 @@ use Rattle.iox2_store.specs.machine.Numbers.{put_at}
 use Rattle.iox2_store.specs.machine.Records.{Publisher}
 use Rattle.iox2_ends.specs.Homes.{IsSenderLinked}
 use Rattle.iox2_ends.specs.Mailboxes.{sender_ends}
+use Rattle.iox2_domain.specs.KeptLinks.{ChannelsFollow}
+use Rattle.iox2_domain.proofs.lemmas.fields.ConnectionEnds.{subscriber-stands}
+use Rattle.iox2_domain.proofs.lemmas.fields.KeptChannels.{channels-are}
+use Rattle.iox2_steps.proofs.updates.FollowedChannels.{follow-more}
+use Rattle.std.proofs.lemmas.Option.{none-some}
 use Rattle.iox2_domain.specs.WarningRing.{WarningRing}
 use Rattle.iox2_domain.specs.Ports.{PublisherFields, SubscriberFields}
 use Rattle.iox2_domain.specs.Kept.{Named, state_of, port_named, ids, is_named}
@@ -92,6 +97,7 @@ module _ {T U : Type 0} (f : Fields T U) (sound : IsDomain f) (i : ℕ) (x : Pub
     subscribers = λ q. port_named q (subscribers-same f sound.parts connections fits.extends k);
     subscriber_places = ids (subscribers-same f sound.parts connections fits.extends k);
     mailboxes = mailboxes-same f sound.parts connections fits.extends k;
+    channels = (channels-are (with_sender f i x keys key_room is_due connections warnings) ∙ fun_ext (λ p. fun_ext (λ q. fits.extends.channels p q)) ∙ sym (channels-are f)) k;
     publisher_places = places k;
     warnings = warnings.items;
   } where
@@ -104,13 +110,20 @@ module _ {T U : Type 0} (f : Fields T U) (sound : IsDomain f) (i : ℕ) (x : Pub
     places : (state_of (kept_of (with_sender f i x keys key_room is_due connections warnings))).publisher_places ≡ (state_of (kept_of f)).publisher_places
     places = ap ids after-shown ∙ changed-ids shown i (publisher_of f.books f.connections x) (publisher_of f.books connections (with_keys x keys key_room is_due)) stands-shown refl
 
+  -- channels stay, and new ones are new
+  pub fits-follow : ChannelsFollow (λ home. home.publisher ≡ x.id) (λ p q. (state_of (kept_of f)).subscribers q ≡ None) f.connections connections
+  fits-follow = follow-more (λ home. home.publisher ≡ x.id) (λ p q. (state_of (kept_of f)).subscribers q ≡ None) f.connections connections fits.extends (λ key d at_d. elim (fits.news key d at_d) [
+    | inl old ↦ inl old
+    | inr n ↦ inr (n.publisher, λ gone. none-some _ (sym (ap (state_of (kept_of f)).subscribers n.is_its ∙ gone) ∙ subscriber-stands f sound.parts d.home.subscriber_place n.subscriber n.stands))
+  ])
+
 module _ {T U : Type 0} (f : Fields T U) (sound : IsDomain f) (i : ℕ) (x : PublisherFields) (at : get_or f.publishers i None ≡ Some x) where
   -- its own keys fit, whatever room there is for connections, and for more keys
   pub fits-grown : (n key_room : ℕ) → x.key_room ≤ key_room → FitsSender f i x x.keys key_room (record f.connections { capacity = n })
   fits-grown n key_room grows = record {
     grows = grows;
     rooms = record { at = sound.parts.expired_room.at };
-    extends = record { apart = record { one = sound.parts.apart.one }; sums = λ p slot. refl; boxes = λ number p q. refl; grows = λ key c at. at };
+    extends = record { apart = record { one = sound.parts.apart.one }; sums = λ p slot. refl; boxes = λ number p q. refl; channels = λ p q. refl; grows = λ key c at. at };
     linked = record { at = (sound.parts.linked.senders i x at).at };
     keeps = λ place key at. at;
     news = λ key c at. inl at;

@@ -28,12 +28,16 @@ use Rattle.iox2_domain.specs.Kept.{Named, state_of, is_named}
 use Rattle.iox2_domain.specs.Fields.{Fields, kept_of, publisher_of, subscriber_of, numbers_of}
 use Rattle.iox2_domain.specs.Invariant.{IsDomain, ReceiverHas, is_subscriber, details_of}
 use Rattle.iox2_domain.specs.Reaches.{Reaches}
-use Rattle.iox2_domain.specs.Drops.{with_waiting_dropped, LosesSenderEnd}
+use Rattle.iox2_domain.specs.Drops.{with_waiting_dropped, LosesSenderEnd, StandsElsewhere}
+use Rattle.iox2_domain.specs.KeptLinks.{ChannelsFollow}
+use Rattle.iox2_domain.specs.Midway.{with_channels_of}
+use Rattle.iox2_laws.proofs.PortChanges.{with_all_channels_keeps}
+use Rattle.iox2_steps.proofs.updates.FollowedChannels.{follow-both, follow-same}
 use Rattle.iox2_domain.proofs.lemmas.containers.LookUps.{look_up-map, map-at}
 use Rattle.iox2_domain.proofs.lemmas.fields.ConnectionEnds.{publisher-stands}
 use Rattle.iox2_domain.proofs.lemmas.fields.Standing.{place-within}
 use Rattle.iox2_domain.proofs.lemmas.fields.Views.{mailboxes-are, unblocked}
-use Rattle.iox2_steps.proofs.updates.SenderLeft.{LeavesEmpty, left-is, left-agrees}
+use Rattle.iox2_steps.proofs.updates.SenderLeft.{LeavesEmpty, left-is, left-agrees, left-follows}
 use Rattle.iox2_steps.proofs.updates.SenderWalk.{put_at-twice}
 use Rattle.iox2_steps.proofs.updates.WaitingDropped.{dropped_fields, dropped-reaches, dropped-side, dropped-well, end-own, end-leads}
 
@@ -82,7 +86,8 @@ module _ {T U : Type 0} (f : Fields T U) (sound : IsDomain f) where
 
 module _ {T U : Type 0} (f : Fields T U) (sound : IsDomain f) (i j : ℕ) (x : PublisherFields) (here : get_or f.publishers i None ≡ Some x) (due : x.is_due ≡ false) (free : x.blocked ≡ None)
     (low : j < length f.subscribers) (key : ℕ) (has : get_or x.keys j None ≡ Some key) (b : Book) (at : get f.books x.book ≡ Some b)
-    (holders : List ℕ) (new : Slab Link) (r : RemovesConnection x.id b.holders f.connections key holders new) (alone : ReceiverHas f.subscribers key (r.drops).link → ⊥) where
+    (holders : List ℕ) (new : Slab Link) (r : RemovesConnection x.id b.holders f.connections key holders new) (alone : ReceiverHas f.subscribers key (r.drops).link → ⊥)
+    (elsewhere : StandsElsewhere f.subscribers j (r.drops).link.home.subscriber) where
   abbrev s : State T U
   s = state_of (kept_of f)
 
@@ -140,13 +145,27 @@ module _ {T U : Type 0} (f : Fields T U) (sound : IsDomain f) (i j : ℕ) (x : P
     books = mid.books;
   }
 
-  after-is : state_of (kept_of disconnected_fields) ≡ with_sender_side s x.id P (disconnected side j (occupant P.ends j))
+  -- the subscriber is gone
+  absent : s.subscribers c.home.subscriber ≡ None
+  absent = by (s.subscribers c.home.subscriber) refl where
+    by : (o : Option Subscriber) → s.subscribers c.home.subscriber ≡ o → s.subscribers c.home.subscriber ≡ None
+    by None e = e
+    by (Some y) e = absurd (gone-is f sound c.home.subscriber (gone-from f sound key j c r.drops.stood (end-own f sound i j x here due key has c r.drops.stood).place elsewhere) y e)
+
+  follows : ChannelsFollow (λ home. home.publisher ≡ x.id) (λ p q. s.subscribers q ≡ None) f.connections new
+  follows = follow-both (λ home. home.publisher ≡ x.id) (λ p q. s.subscribers q ≡ None) f.connections r.mid new
+      (follow-same (λ home. home.publisher ≡ x.id) (λ p q. s.subscribers q ≡ None) f.connections r.mid r.drops.recounts.homes)
+      (subst (λ (subscribers : ℕ → Option Subscriber). ChannelsFollow (λ home. home.publisher ≡ x.id) (λ p q. subscribers q ≡ None) r.mid new) (ap (λ (t : State T U). t.subscribers) mid-is)
+      (left-follows mid mid-agrees i j x free key (borrowed_alone (r.drops).link) leaves new r.gone
+      (ap (λ (t : State T U). t.subscribers c.home.subscriber) mid-is ∙ absent)))
+
+  after-is : state_of (kept_of disconnected_fields) ≡ with_channels_of disconnected_fields (with_sender_side s x.id P (disconnected side j (occupant P.ends j)))
   after-is =
       left-is mid mid-agrees i j x free key (borrowed_alone (r.drops).link) leaves new r.gone
-      ∙ (λ t. record (mid-is t) { publishers = put_at (mid-is t).publishers x.id (Some (record (port-is t) { ends = set_place (port-is t).ends j None })) })
+      ∙ ap (with_channels_of disconnected_fields) ((λ t. record (mid-is t) { publishers = put_at (mid-is t).publishers x.id (Some (record (port-is t) { ends = set_place (port-is t).ends j None })) })
       ∙ ap (λ (publishers : ℕ → Option Publisher). record (with_sender_side s x.id P (dropped side c.home.subscriber)) { publishers = publishers })
       (put_at-twice s.publishers x.id (Some settled) (Some (record settled { ends = set_place P.ends j None })))
-      ∙ ap (λ (end : Option ℕ). with_sender_side s x.id P (disconnected side j end)) (sym leads)
+      ∙ ap (λ (end : Option ℕ). with_sender_side s x.id P (disconnected side j end)) (sym leads))
 
   -- nothing is borrowed through the end
   unused : has_borrows (s.mailboxes x.id c.home.subscriber) ≡ true → ⊥
@@ -167,8 +186,10 @@ module _ {T U : Type 0} (f : Fields T U) (sound : IsDomain f) (i j : ℕ) (x : P
   -- the machine's step is done
   pub loses-end : LosesSenderEnd f i j x disconnected_fields
   loses-end = record {
-    agrees = left-agrees mid mid-agrees i j x free key (borrowed_alone (r.drops).link) leaves new r.gone (subst IsWellFormed (sym after-is) well);
+    agrees = left-agrees mid mid-agrees i j x free key (borrowed_alone (r.drops).link) leaves new r.gone (subst IsWellFormed (sym after-is)
+        (with_all_channels_keeps (with_sender_side s x.id P (disconnected side j (occupant P.ends j))) well (state_of (kept_of disconnected_fields)).channels));
     fields = refl;
+    channels = follows;
     state = after-is;
     entries = λ n entry e. mid-reached.entries n entry e;
   }

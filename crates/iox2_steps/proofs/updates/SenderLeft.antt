@@ -14,6 +14,9 @@ use Rattle.iox2_store.specs.machine.WellFormed.{IsWellFormed}
 use Rattle.iox2_ends.specs.Homes.{IsSenders}
 use Rattle.iox2_ends.specs.Mailboxes.{subscriber_of_key, sender_ends}
 use Rattle.iox2_laws.proofs.Puts.{found_put}
+use Rattle.iox2_domain.specs.KeptLinks.{ChannelsFollow}
+use Rattle.iox2_domain.specs.Midway.{with_channels_of}
+use Rattle.iox2_steps.proofs.updates.FollowedChannels.{follow-fewer}
 use Rattle.iox2_domain.specs.Ports.{PublisherFields}
 use Rattle.iox2_domain.specs.Kept.{state_of}
 use Rattle.iox2_domain.specs.Fields.{Fields, kept_of, publisher_of, numbers_of, blocked_send}
@@ -156,11 +159,21 @@ module _ {T U : Type 0} (f : Fields T U) (sound : IsDomain f) (i j : ℕ) (x : P
   }
 
   -- the machine sees that the end is gone
-  pub left-is : state_of (kept_of left) ≡ record s { publishers = put_at s.publishers x.id (Some port_after) }
+  pub left-is : state_of (kept_of left) ≡ with_channels_of left (record s { publishers = put_at s.publishers x.id (Some port_after) })
   left-is =
       forgotten-is f sound.parts publishers f.subscribers new forgets
-      ∙ changed-is f i x changed leaves.here refl sound.parts.publisher_ids
-      ∙ ap (λ (w : Publisher). record s { publishers = put_at s.publishers x.id (Some w) }) after-port
+      ∙ ap (with_channels_of left) (changed-is f i x changed leaves.here refl sound.parts.publisher_ids
+      ∙ ap (λ (w : Publisher). record s { publishers = put_at s.publishers x.id (Some w) }) after-port)
+
+  -- one connection is gone, whose subscriber is
+  pub left-follows : (s.subscribers c.home.subscriber ≡ None) → ChannelsFollow (λ home. home.publisher ≡ x.id) (λ p q. s.subscribers q ≡ None) f.connections new
+  left-follows absent = follow-fewer (λ home. home.publisher ≡ x.id) (λ p q. s.subscribers q ≡ None) f.connections new loses.fewer (λ k d at. elim (cases_eq k key) [
+    | inl here ↦
+        let both : Some d ≡ Some c = sym at ∙ ap (get f.connections) here ∙ leaves.there in
+        let is : d ≡ c = cc in
+        inr (ap (λ (l : Link). l.home.publisher) is ∙ own.publisher, ap (λ (l : Link). s.subscribers l.home.subscriber) is ∙ absent)
+    | inr away ↦ inl (gone.others k away ∙ at)
+  ])
 
   -- ---- the whole
 

@@ -1,5 +1,5 @@
 -- What a publisher's update comes to at one place, whoever stands there.
-use Rattle.std.proofs.Common.{◌≡◌, ℕ, false, cond, List, map, get_or, slice_set, refl, ap, sym, subst, ◌∙◌, set-set}
+use Rattle.std.proofs.Common.{◌≡◌, ℕ, false, cond, List, [], map, get_or, slice_set, refl, ap, sym, subst, ◌∙◌, set-set}
 use Rattle.std.proofs.lemmas.Bool.{ne_eqb}
 use Rattle.std.proofs.lemmas.List.{set-get_or}
 use Rattle.std.proofs.lemmas.Option.{same_Some}
@@ -17,12 +17,18 @@ use Rattle.iox2_store.specs.declared.errors.ConnectionFailure.{ConnectionFailure
 use Rattle.iox2_ends.proofs.MailboxChanges.{put_at-own}
 use Rattle.iox2_laws.proofs.SenderSides.{end_set}
 use Rattle.iox2_laws.proofs.Puts.{put_at-same}
+use Rattle.iox2_store.specs.machine.Channel.{Channel, is_closed}
+use Rattle.iox2_domain.specs.KeptLinks.{ChannelsFollow}
+use Rattle.iox2_domain.specs.Midway.{with_channels_of}
+use Rattle.iox2_domain.proofs.lemmas.fields.KeptChannels.{but-channels, channels-are}
+use Rattle.iox2_steps.proofs.updates.FollowedChannels.{follow-both, follow-present, follow-same}
+use Rattle.iox2_steps.proofs.updates.SenderPresent.{stands-present}
 use Rattle.iox2_domain.specs.Ports.{PublisherFields, SubscriberFields}
 use Rattle.iox2_domain.specs.Kept.{Named, state_of}
 use Rattle.iox2_domain.specs.Fields.{Fields, kept_of, publisher_of, subscriber_of}
 use Rattle.iox2_domain.specs.Invariant.{IsDomain}
 use Rattle.iox2_domain.specs.Updates.{is_open_subscriber, subscriber_but_room}
-use Rattle.iox2_domain.specs.Connects.{ConnectsSender}
+use Rattle.iox2_domain.specs.Connects.{histories_of, ConnectsSender}
 use Rattle.iox2_domain.specs.Drops.{LosesWaiting, LosesSenderEnd, StandsElsewhere}
 use Rattle.iox2_domain.proofs.lemmas.containers.LookUps.{map-at}
 use Rattle.iox2_domain.proofs.lemmas.containers.ChangedRecords.{changed-here}
@@ -84,17 +90,18 @@ module _ {T U : Type 0} (environment : Environment) (f : Fields T U) (sound : Is
     others = refl;
     side = side;
     steps = step;
-    state = λ t. record s {
+    state = but-channels f (with_sender_side s x.id P side) (λ t. record s {
       publishers = (put_at-own s.publishers x.id ∙ ap (put_at s.publishers x.id) present ∙ (λ k. put_at s.publishers x.id (Some (record P { is_due = due k })))) t;
       mailboxes = put_at-own s.mailboxes x.id t;
-    };
+    });
+    channels = follow-same (λ home. home.publisher ≡ x.id) (λ p q. s.subscribers q ≡ None) f.connections f.connections (record { same = λ k. refl });
     entries = λ n entry e. e;
   }
 
   -- where it has no end and no open subscriber stands
   pub nothing-as : get_or x.keys j None ≡ None → is_open_subscriber f.subscribers j ≡ false → ConnectsSender environment f i j x f None
   nothing-as none closed =
-      stays-as (update-nothing environment (f.config).service_id x.id P.degradation_handler P.history (receiving_buffer s) (has_receiver_end s x.id) j
+      stays-as (update-nothing environment (f.config).service_id x.id P.degradation_handler (histories_of f x) (receiving_buffer s) (has_receiver_end s x.id) j
       (occupant s.subscriber_places j) side (occupant-sender_ends f.connections x.keys j ∙ ap (λ o. option_map (λ (c : Link). c.home.subscriber) (option_and_then (get f.connections) o)) none) (nobody-takes closed))
 
   -- ---- what waits is lost
@@ -109,10 +116,11 @@ module _ {T U : Type 0} (environment : Environment) (f : Fields T U) (sound : Is
     fields = loses.fields ∙ (λ t. record f { publishers = sym same_publishers t; subscribers = sym subscribers t; connections = f'.connections; books = f'.books; warnings = sym warnings t });
     others = ap (λ (ys : List (Option SubscriberFields)). map (option_map subscriber_but_room) ys) subscribers;
     side = dropped side c.home.subscriber;
-    steps = update-drops environment (f.config).service_id x.id P.degradation_handler P.history (receiving_buffer s) (has_receiver_end s x.id) j
+    steps = update-drops environment (f.config).service_id x.id P.degradation_handler (histories_of f x) (receiving_buffer s) (has_receiver_end s x.id) j
         (occupant s.subscriber_places j) side c.home.subscriber (subscriber-listed f sound.parts j y at ∙ ap Some (sym to))
         (ap (receiving_buffer s) to ∙ closed-buffer y at closed) (end-leads f sound i j x here due key has c there);
-    state = loses.state ∙ dropped-side f sound i j x here due key has c there;
+    state = but-channels f' (with_sender_side s x.id P (dropped side c.home.subscriber)) (loses.state ∙ dropped-side f sound i j x here due key has c there);
+    channels = follow-same (λ home. home.publisher ≡ x.id) (λ p q. s.subscribers q ≡ None) f.connections f'.connections loses.homes;
     entries = loses.entries;
   } where
     subscribers : f'.subscribers ≡ f.subscribers
@@ -172,17 +180,30 @@ module _ {T U : Type 0} (environment : Environment) (f : Fields T U) (sound : Is
           (set-set f.publishers i (Some without_end) (Some (record x { keys = step.keys; key_room = step.key_room })));
       others = step.others ∙ ap (λ (h : Fields T U). map (option_map subscriber_but_room) h.subscribers) loses.fields;
       side = step.side;
-      steps = update-after environment (f.config).service_id x.id P.degradation_handler P.history (receiving_buffer s) (has_receiver_end s x.id) j
+      steps = update-after environment (f.config).service_id x.id P.degradation_handler (histories_of f x) (receiving_buffer s) (has_receiver_end s x.id) j
           (occupant s.subscriber_places j) side (occupant P.ends j) refl other step.side failure cleared machine;
       state = step.state
-          ∙ (λ t. with_sender_side (loses.state t) x.id (port-is t) step.side)
-          ∙ state-again environment s x.id P present side1 step.side;
+          ∙ (λ t. with_channels_of f2 (with_sender_side (loses.state t) x.id (port-is t) step.side))
+          ∙ ap (with_channels_of f2) (state-again environment s x.id P present side1 step.side);
+      channels = follow-both (λ home. home.publisher ≡ x.id) (λ p q. s.subscribers q ≡ None) f.connections f1.connections f2.connections loses.channels
+          (subst (λ (subscribers : ℕ → Option Subscriber). ChannelsFollow (λ home. home.publisher ≡ x.id) (λ p q. subscribers q ≡ None) f1.connections f2.connections) (ap (λ (t : State T U). t.subscribers) loses.state) step.channels);
       entries = λ n entry e. loses.entries n entry (step.entries n entry e);
     } where
-      machine : UpdateSenderPlace environment (f.config).service_id x.id P.degradation_handler P.history (receiving_buffer s) (has_receiver_end s x.id) j
+      same-history : (q : ℕ) → occupant s.subscriber_places j ≡ Some q → histories_of f1 without_end q ≡ histories_of f x q
+      same-history q stands =
+          (λ k. cond (is_closed ((channels-kept k) 0)) [] (port-is k).history)
+        where
+          channels-kept : (state_of (kept_of f1)).channels x.id q ≡ s.channels x.id q
+          channels-kept =
+              ap (λ (channels : ℕ → ℕ → ℕ → Channel). channels x.id q) (channels-are f1)
+              ∙ follow-present (λ home. home.publisher ≡ x.id) (λ p r. s.subscribers r ≡ None) f.connections f1.connections sound.parts.apart loses.agrees.parts.apart loses.channels x.id q
+              (λ gone. stands-present f sound j q stands gone)
+              ∙ sym (ap (λ (channels : ℕ → ℕ → ℕ → Channel). channels x.id q) (channels-are f))
+
+      machine : UpdateSenderPlace environment (f.config).service_id x.id P.degradation_handler (histories_of f x) (receiving_buffer s) (has_receiver_end s x.id) j
           (occupant s.subscriber_places j) side1 step.side failure
-      machine = step-again environment s x.id P present side1 j step.side failure
-          (subst (λ (z : Publisher). UpdateSenderPlace environment (f.config).service_id x.id z.degradation_handler z.history (receiving_buffer (with_sender_side s x.id P side1))
+      machine = step-again environment s x.id P present side1 (histories_of f1 without_end) j step.side failure same-history
+          (subst (λ (z : Publisher). UpdateSenderPlace environment (f.config).service_id x.id z.degradation_handler (histories_of f1 without_end) (receiving_buffer (with_sender_side s x.id P side1))
           (has_receiver_end (with_sender_side s x.id P side1) x.id) j (occupant s.subscriber_places j) (sender_side (with_sender_side s x.id P side1) x.id z) step.side failure) port-is
-          (subst (λ (t : State T U). UpdateSenderPlace environment (t.config).service_id x.id (publisher_of f1.books f1.connections without_end).port.degradation_handler (publisher_of f1.books f1.connections without_end).port.history
+          (subst (λ (t : State T U). UpdateSenderPlace environment (t.config).service_id x.id (publisher_of f1.books f1.connections without_end).port.degradation_handler (histories_of f1 without_end)
           (receiving_buffer t) (has_receiver_end t x.id) j (occupant t.subscriber_places j) (sender_side t x.id (publisher_of f1.books f1.connections without_end).port) step.side failure) loses.state step.steps))

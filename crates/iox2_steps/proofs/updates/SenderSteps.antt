@@ -25,10 +25,11 @@ use Rattle.iox2_domain.specs.Ports.{PublisherFields, SubscriberFields}
 use Rattle.iox2_domain.specs.Kept.{state_of}
 use Rattle.iox2_domain.specs.Fields.{Fields, kept_of, publisher_of, subscriber_of}
 use Rattle.iox2_domain.specs.Invariant.{IsDomain}
-use Rattle.iox2_domain.specs.Connects.{ConnectsSender, MakesSenderEnd}
+use Rattle.iox2_domain.specs.Connects.{histories_of, ConnectsSender, MakesSenderEnd}
 use Rattle.iox2_domain.proofs.lemmas.fields.Views.{unblocked}
 use Rattle.iox2_domain.proofs.lemmas.fields.ConnectionEnds.{publisher-stands, subscriber-stands, occupant-sender_ends}
-use Rattle.iox2_steps.proofs.updates.SenderChanges.{FitsSender, sender-is}
+use Rattle.iox2_domain.proofs.lemmas.fields.KeptChannels.{but-channels}
+use Rattle.iox2_steps.proofs.updates.SenderChanges.{FitsSender, sender-is, fits-follow}
 use Rattle.iox2_steps.proofs.updates.SenderActions.{update-keeps, update-connects}
 use Rattle.iox2_steps.proofs.updates.SenderAgrees.{sender-agrees}
 use Rattle.iox2_domain.proofs.lemmas.fields.Standing.{subscriber-listed, subscriber-place}
@@ -43,7 +44,7 @@ module _ {T U : Type 0} (f : Fields T U) where
   -- the machine's step of the publisher x at the place j
   abbrev pub StepsSender : Environment → (j : ℕ) → PublisherFields → SenderSide → Option ConnectionFailure → Type 0
   StepsSender environment j x side failure =
-      UpdateSenderPlace environment (f.config).service_id x.id (port x).degradation_handler (port x).history (receiving_buffer now) (has_receiver_end now x.id)
+      UpdateSenderPlace environment (f.config).service_id x.id (port x).degradation_handler (histories_of f x) (receiving_buffer now) (has_receiver_end now x.id)
       j (occupant now.subscriber_places j) (sender_side now x.id (port x)) side failure
 
   -- the publisher's side with these keys, connections and warnings
@@ -78,7 +79,8 @@ module _ {T U : Type 0} (environment : Environment) (f : Fields T U) (sound : Is
     others = refl;
     side = side_with f x keys connections warnings;
     steps = step;
-    state = state;
+    state = but-channels (connected_sender f i x keys connections warnings) (with_sender_side s x.id P (side_with f x keys connections warnings)) state;
+    channels = fits-follow f sound i x at_x keys x.key_room x.is_due connections warnings fits;
     entries = λ n entry e. e;
   } where
     after : SenderSide
@@ -115,15 +117,15 @@ module _ {T U : Type 0} (environment : Environment) (f : Fields T U) (sound : Is
   -- an end to the subscriber stays
   pub keeps-end : occupant P.ends j ≡ Some y.id → Step (sender_side s x.id P) None
   keeps-end there =
-      update-keeps environment (f.config).service_id x.id P.degradation_handler P.history (receiving_buffer s) (has_receiver_end s x.id) j y.id y.buffer
+      update-keeps environment (f.config).service_id x.id P.degradation_handler (histories_of f x) (receiving_buffer s) (has_receiver_end s x.id) j y.id y.buffer
       (occupant s.subscriber_places j) (sender_side s x.id P) (subscriber-listed f sound.parts j y at_y) open_buffer there
 
   -- without an end one is made
   pub makes-end : occupant P.ends j ≡ None → (side : SenderSide) (failure : Option ConnectionFailure)
-      → ConnectSender environment (f.config).service_id x.id P.degradation_handler P.history (receiving_buffer s) (has_receiver_end s x.id) (sender_side s x.id P) j y.id y.buffer side failure
+      → ConnectSender environment (f.config).service_id x.id P.degradation_handler (histories_of f x) (receiving_buffer s) (has_receiver_end s x.id) (sender_side s x.id P) j y.id y.buffer side failure
       → Step side failure
   makes-end none side failure step =
-      update-connects environment (f.config).service_id x.id P.degradation_handler P.history (receiving_buffer s) (has_receiver_end s x.id) j y.id y.buffer
+      update-connects environment (f.config).service_id x.id P.degradation_handler (histories_of f x) (receiving_buffer s) (has_receiver_end s x.id) j y.id y.buffer
       (occupant s.subscriber_places j) (sender_side s x.id P) (subscriber-listed f sound.parts j y at_y) open_buffer side failure none step
 
   pub no_end : get_or x.keys j None ≡ None → occupant P.ends j ≡ None
@@ -178,9 +180,10 @@ module _ {T U : Type 0} (environment : Environment) (f : Fields T U) (sound : Is
     stands = at;
     is_its = its;
     empty = nobody;
-    steps = subst (λ (q : ℕ). Step (connected P.history (sender_side s x.id P) j q c.buffer) None) (sym to)
-        (subst (λ (n : ℕ). Step (connected P.history (sender_side s x.id P) j y.id n) None) (sym size)
-        (makes-end (no_end none) (connected P.history (sender_side s x.id P) j y.id y.buffer) None (inl (refl, refl))));
+    steps = subst (λ (q : ℕ). Step (connected (histories_of f x q) (sender_side s x.id P) j q c.buffer) None) (sym to)
+        (subst (λ (n : ℕ). Step (connected (histories_of f x y.id) (sender_side s x.id P) j y.id n) None) (sym size)
+        (makes-end (no_end none) (connected (histories_of f x y.id) (sender_side s x.id P) j y.id y.buffer) None (inl (refl, refl))));
+    channels = fits-follow f sound i x at_x keys x.key_room x.is_due connections f.warnings fits;
     state = subst (λ (q : ℕ). state_of (kept_of after) ≡ with_sender_side s x.id P (connected [] (sender_side s x.id P) j q c.buffer)) (sym to)
         (subst (λ (n : ℕ). state_of (kept_of after) ≡ with_sender_side s x.id P (connected [] (sender_side s x.id P) j y.id n)) (sym size) state);
   } where

@@ -1,5 +1,5 @@
 -- A publisher's update of a domain's fields.
-use Rattle.std.proofs.Common.{◌≡◌, ℕ, ◌+◌, ◌<◌, ◌≤◌, true, false, List, map, length, drop, get_or, slice_set, refl, ap, sym, subst, ◌∙◌, arith}
+use Rattle.std.proofs.Common.{◌≡◌, ℕ, ◌+◌, ◌<◌, ◌≤◌, true, false, cond, List, [], map, length, drop, get_or, slice_set, refl, ap, sym, subst, ◌∙◌, arith}
 use Rattle.std.proofs.lemmas.List.{set-set, set-get_or, length-map}
 use Rattle.std.proofs.lemmas.Option.{same_Some}
 use Rattle.std.specs.declared.option.Option.{Option}
@@ -9,19 +9,26 @@ use Rattle.iox2_store.specs.machine.Connections.{ForEachPlace, first_failure}
 use Rattle.iox2_store.specs.machine.Numbers.{put_at}
 use Rattle.iox2_store.specs.machine.Places.{occupant}
 use Rattle.iox2_store.specs.machine.PublisherUpdate.{SenderSide, UpdateSenderPlace, sender_side, with_sender_side}
-use Rattle.iox2_store.specs.machine.Records.{Entry, Publisher, Environment}
-use Rattle.iox2_store.specs.machine.State.{State, receiving_buffer, has_receiver_end}
+use Rattle.iox2_store.specs.machine.Records.{Entry, Publisher, Subscriber, Environment}
+use Rattle.iox2_store.specs.machine.State.{sender_channels_reset, State, receiving_buffer, has_receiver_end}
 use Rattle.iox2_laws.proofs.Puts.{put_at-same}
 use Rattle.iox2_laws.proofs.SenderSides.{sender_side_begins}
 use Rattle.iox2_laws.proofs.PublisherUpdates.{with_sender_side_keeps}
 use Rattle.iox2_store.specs.declared.errors.ConnectionFailure.{ConnectionFailure}
 use Rattle.iox2_ends.proofs.MailboxChanges.{put_at-own}
+use Rattle.iox2_store.specs.machine.Channel.{Channel, is_closed}
+use Rattle.iox2_domain.specs.KeptLinks.{ChannelsFollow}
+use Rattle.iox2_domain.specs.Midway.{with_channels_of}
+use Rattle.iox2_domain.proofs.lemmas.fields.KeptChannels.{but-channels, channels-are}
+use Rattle.iox2_steps.proofs.updates.FollowedChannels.{follow-both, follow-present, follow-same}
+use Rattle.iox2_steps.proofs.updates.ResetChannels.{sender-reset}
+use Rattle.iox2_steps.proofs.updates.SenderPresent.{stands-present}
 use Rattle.iox2_domain.specs.Ports.{PublisherFields}
 use Rattle.iox2_domain.specs.Kept.{state_of, entries_of}
 use Rattle.iox2_domain.specs.Fields.{Fields, kept_of, publisher_of, subscriber_of}
 use Rattle.iox2_domain.specs.Invariant.{IsDomain}
 use Rattle.iox2_domain.specs.Updates.{is_publisher_due, subscriber_but_room}
-use Rattle.iox2_domain.specs.Connects.{ConnectsSender, UpdatesPublisher}
+use Rattle.iox2_domain.specs.Connects.{histories_of, SenderChannelsFollow, ConnectsSender, UpdatesPublisher}
 use Rattle.iox2_domain.proofs.lemmas.fields.Views.{unblocked}
 use Rattle.iox2_domain.proofs.lemmas.fields.ConnectionEnds.{publisher-stands}
 use Rattle.iox2_domain.proofs.lemmas.containers.ChangedRecords.{changed-here}
@@ -38,11 +45,12 @@ pub record WalksSender {T U : Type 0} (environment : Environment) (f : Fields T 
   pub fields : f' ≡ record f { publishers = slice_set f.publishers i (Some (record x { keys = keys; key_room = key_room; is_due = false })); subscribers = f'.subscribers; connections = f'.connections; books = f'.books; warnings = f'.warnings }
   pub others : map (option_map subscriber_but_room) f'.subscribers ≡ map (option_map subscriber_but_room) f.subscribers
   pub side : SenderSide
-  pub state : state_of (kept_of f') ≡ with_sender_side (state_of (kept_of f)) x.id (publisher_of f.books f.connections x).port side
+  pub state : state_of (kept_of f') ≡ with_channels_of f' (with_sender_side (state_of (kept_of f)) x.id (publisher_of f.books f.connections x).port side)
+  pub channels : SenderChannelsFollow f x f'
   pub walk : (end : SenderSide) (later : Option ConnectionFailure)
-      → ForEachPlace (UpdateSenderPlace environment (f.config).service_id x.id (publisher_of f.books f.connections x).port.degradation_handler (publisher_of f.books f.connections x).port.history
+      → ForEachPlace (UpdateSenderPlace environment (f.config).service_id x.id (publisher_of f.books f.connections x).port.degradation_handler (histories_of f x)
       (receiving_buffer (state_of (kept_of f))) (has_receiver_end (state_of (kept_of f)) x.id)) j (drop j (state_of (kept_of f)).subscriber_places) side end later
-      → ForEachPlace (UpdateSenderPlace environment (f.config).service_id x.id (publisher_of f.books f.connections x).port.degradation_handler (publisher_of f.books f.connections x).port.history
+      → ForEachPlace (UpdateSenderPlace environment (f.config).service_id x.id (publisher_of f.books f.connections x).port.degradation_handler (histories_of f x)
       (receiving_buffer (state_of (kept_of f))) (has_receiver_end (state_of (kept_of f)) x.id)) 0 (state_of (kept_of f)).subscriber_places
       (sender_side (state_of (kept_of f)) x.id (publisher_of f.books f.connections x).port) end (first_failure failure later)
   pub entries : (n : ℕ) (entry : Entry T U) → entries_of (kept_of f') n ≡ Some entry → entries_of (kept_of f) n ≡ Some entry
@@ -80,7 +88,8 @@ module _ {T U : Type 0} (environment : Environment) (f : Fields T U) (sound : Is
     fields = refl;
     others = refl;
     side = sender_side s x.id P;
-    state = settled-is;
+    state = but-channels settled (with_sender_side s x.id P (sender_side s x.id P)) settled-is;
+    channels = follow-same (λ home. home.publisher ≡ x.id) (λ p q. s.subscribers q ≡ None) f.connections f.connections (record { same = λ key. refl });
     walk = λ end later rest. rest;
     entries = λ n entry e. e;
   }
@@ -118,24 +127,42 @@ module _ {T U : Type 0} (environment : Environment) (f : Fields T U) (sound : Is
           (set-set f.publishers i (Some walking) (Some (record x { keys = step.keys; key_room = step.key_room; is_due = false })));
       others = step.others ∙ walks.others;
       side = step.side;
-      state = step.state ∙ (λ k. with_sender_side (walks.state k) x.id (port-is k) step.side) ∙ state-again environment s x.id P present walks.side step.side;
+      state = step.state ∙ (λ k. with_channels_of f'' (with_sender_side (walks.state k) x.id (port-is k) step.side)) ∙ ap (with_channels_of f'') (state-again environment s x.id P present walks.side step.side);
+      channels = follow-both (λ home. home.publisher ≡ x.id) (λ p q. s.subscribers q ≡ None) f.connections f'.connections f''.connections walks.channels
+          (subst (λ (subscribers : ℕ → Option Subscriber). ChannelsFollow (λ home. home.publisher ≡ x.id) (λ p q. subscribers q ≡ None) f'.connections f''.connections) (ap (λ (t : State T U). t.subscribers) walks.state) step.channels);
       walk = λ end later rest. subst (Whole end) (sym (first_failure-assoc failure first later))
           (walks.walk end (first_failure first later) (walk-goes-on environment s x.id P present j walks.side step.side end first later (omega (arith, listed)) machine rest));
       entries = λ n entry e. walks.entries n entry (step.entries n entry e);
     } where
+      -- what is handed out to whoever stands there
+      same-history : (q : ℕ) → occupant s.subscriber_places j ≡ Some q → histories_of f' walking q ≡ histories_of f x q
+      same-history q stands =
+          (λ k. cond (is_closed ((channels-kept k) 0)) [] (port-is k).history)
+        where
+          channels-kept : (state_of (kept_of f')).channels x.id q ≡ s.channels x.id q
+          channels-kept =
+              ap (λ (channels : ℕ → ℕ → ℕ → Channel). channels x.id q) (channels-are f')
+              ∙ follow-present (λ home. home.publisher ≡ x.id) (λ p r. s.subscribers r ≡ None) f.connections f'.connections sound.parts.apart walks.agrees.parts.apart walks.channels x.id q
+              (λ gone. stands-present f sound j q stands gone)
+              ∙ sym (ap (λ (channels : ℕ → ℕ → ℕ → Channel). channels x.id q) (channels-are f))
+
       machine : AtPlace environment s x.id P present j (occupant s.subscriber_places j) walks.side step.side first
-      machine = step-again environment s x.id P present walks.side j step.side first
-          (subst (λ (z : Publisher). UpdateSenderPlace environment (f.config).service_id x.id z.degradation_handler z.history (receiving_buffer (with_sender_side s x.id P walks.side))
+      machine = step-again environment s x.id P present walks.side (histories_of f' walking) j step.side first same-history
+          (subst (λ (z : Publisher). UpdateSenderPlace environment (f.config).service_id x.id z.degradation_handler (histories_of f' walking) (receiving_buffer (with_sender_side s x.id P walks.side))
           (has_receiver_end (with_sender_side s x.id P walks.side) x.id) j (occupant s.subscriber_places j) (sender_side (with_sender_side s x.id P walks.side) x.id z) step.side first) port-is
-          (subst (λ (t : State T U). UpdateSenderPlace environment (t.config).service_id x.id (publisher_of f'.books f'.connections walking).port.degradation_handler (publisher_of f'.books f'.connections walking).port.history
+          (subst (λ (t : State T U). UpdateSenderPlace environment (t.config).service_id x.id (publisher_of f'.books f'.connections walking).port.degradation_handler (histories_of f' walking)
           (receiving_buffer t) (has_receiver_end t x.id) j (occupant t.subscriber_places j) (sender_side t x.id (publisher_of f'.books f'.connections walking).port) step.side first) walks.state step.steps))
 
     -- the publisher is updated where the walk is over
     pub walk-updates : x.is_due ≡ true → length f.subscribers ≤ j → UpdatesPublisher environment f i x f' failure
     walk-updates due past = record {
-      after = with_sender_side s x.id P walks.side;
+      after = sender_channels_reset (with_sender_side s x.id P walks.side) x.id;
       updates = due-updates environment s x.id P present due walks.side failure (subst (Whole walks.side) (first_failure-none failure) (walks.walk walks.side None (walk-ends environment s x.id P present j walks.side (omega (arith, listed)))));
-      reaches = record { agrees = walks.agrees; state = walks.state; entries = walks.entries };
+      reaches = record {
+        agrees = walks.agrees;
+        state = sender-reset f f' sound.parts walks.agrees.parts x.id (λ p q. s.subscribers q ≡ None) walks.channels (with_sender_side s x.id P walks.side) walks.state refl;
+        entries = walks.entries;
+      };
       keys = walks.keys;
       key_room = walks.key_room;
       fields = walks.fields;

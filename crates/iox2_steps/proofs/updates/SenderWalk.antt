@@ -7,11 +7,12 @@ use Rattle.std.specs.Option.{option_map_or}
 use Rattle.iox2_store.specs.machine.Connections.{ForEachPlace, first_failure}
 use Rattle.iox2_store.specs.machine.Numbers.{put_at}
 use Rattle.iox2_store.specs.machine.Places.{occupant, is_port}
-use Rattle.iox2_store.specs.machine.PublisherUpdate.{SenderSide, UpdateSenderPlace, sender_side, with_sender_side, UpdatePublisher}
+use Rattle.iox2_store.specs.machine.PublisherUpdate.{history_for, SenderSide, UpdateSenderPlace, sender_side, with_sender_side, UpdatePublisher}
 use Rattle.iox2_store.specs.machine.Records.{Publisher, Subscriber, Environment}
-use Rattle.iox2_store.specs.machine.State.{State, receiving_buffer, has_receiver_end}
+use Rattle.iox2_store.specs.machine.State.{sender_channels_reset, State, receiving_buffer, has_receiver_end}
 use Rattle.iox2_store.specs.declared.errors.ConnectionFailure.{ConnectionFailure}
 use Rattle.iox2_laws.proofs.Puts.{put_at-same}
+use Rattle.iox2_steps.proofs.updates.SenderActions.{update-histories}
 use mathlib.Core.Path.{fun_ext}
 
 -- a function that is written twice
@@ -44,7 +45,7 @@ module _ {T U : Type 0} (environment : Environment) (s : State T U) (p : ℕ) (x
   -- what the publisher does at a place
   abbrev pub AtPlace : (place : ℕ) → Option ℕ → SenderSide → SenderSide → Option ConnectionFailure → Type 0
   AtPlace place at side side' failure =
-      UpdateSenderPlace environment (s.config).service_id p x.degradation_handler x.history (receiving_buffer s) (has_receiver_end s p) place at side side' failure
+      UpdateSenderPlace environment (s.config).service_id p x.degradation_handler (history_for s p x) (receiving_buffer s) (has_receiver_end s p) place at side side' failure
 
   module _ (side : SenderSide) where
     abbrev mid : State T U
@@ -70,15 +71,18 @@ module _ {T U : Type 0} (environment : Environment) (s : State T U) (p : ℕ) (x
       joined : ℕ → Option Publisher → Bool
       joined q o = option_map_or (λ (y : Subscriber). option_map_or (λ (z : Publisher). is_port (occupant y.ends z.place) p) o false) (s.subscribers q) false
 
-    -- a step from there is a step of the walk
-    pub step-again : (place : ℕ) (side' : SenderSide) (failure : Option ConnectionFailure)
-        → UpdateSenderPlace environment (mid.config).service_id p publisher_mid.degradation_handler publisher_mid.history (receiving_buffer mid) (has_receiver_end mid p)
+    -- a step from there is a step of the walk, where the same is handed out to the subscriber at the place
+    pub step-again : (histories : ℕ → List ℕ) (place : ℕ) (side' : SenderSide) (failure : Option ConnectionFailure)
+        → ((q : ℕ) → occupant s.subscriber_places place ≡ Some q → histories q ≡ history_for s p x q)
+        → UpdateSenderPlace environment (mid.config).service_id p publisher_mid.degradation_handler histories (receiving_buffer mid) (has_receiver_end mid p)
         place (occupant mid.subscriber_places place) (sender_side mid p publisher_mid) side' failure
         → AtPlace place (occupant s.subscriber_places place) side side' failure
-    step-again place side' failure step =
-        subst (λ (now : SenderSide). AtPlace place (occupant s.subscriber_places place) now side' failure) side-again
-        (subst (λ (has : ℕ → Bool). UpdateSenderPlace environment (s.config).service_id p x.degradation_handler x.history (receiving_buffer s) has
-        place (occupant s.subscriber_places place) (sender_side mid p publisher_mid) side' failure) same_receivers step)
+    step-again histories place side' failure same step =
+        update-histories environment (s.config).service_id p x.degradation_handler histories (receiving_buffer s) (has_receiver_end s p) place (occupant s.subscriber_places place) side
+        (history_for s p x) same side' failure
+        (subst (λ (now : SenderSide). UpdateSenderPlace environment (s.config).service_id p x.degradation_handler histories (receiving_buffer s) (has_receiver_end s p) place (occupant s.subscriber_places place) now side' failure) side-again
+        (subst (λ (has : ℕ → Bool). UpdateSenderPlace environment (s.config).service_id p x.degradation_handler histories (receiving_buffer s) has
+        place (occupant s.subscriber_places place) (sender_side mid p publisher_mid) side' failure) same_receivers step))
 
   -- one place more
   pub walk-goes-on : (place : ℕ) (side side' end : SenderSide) (first later : Option ConnectionFailure) → place < length s.subscriber_places
@@ -96,7 +100,7 @@ module _ {T U : Type 0} (environment : Environment) (s : State T U) (p : ℕ) (x
 
   -- the update of a publisher that is due is such a walk
   pub due-updates : x.is_due ≡ true → (side : SenderSide) (failure : Option ConnectionFailure) → ForEachPlace AtPlace 0 s.subscriber_places (sender_side s p x) side failure
-      → UpdatePublisher environment s p (with_sender_side s p x side) failure
+      → UpdatePublisher environment s p (sender_channels_reset (with_sender_side s p x side) p) failure
   due-updates due side failure walk = rw present (rw due (side, walk, refl))
 
   -- that of another does nothing

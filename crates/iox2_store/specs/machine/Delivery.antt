@@ -71,7 +71,8 @@ Decides environment p (Some Custom) strategy info result =
 abbrev pub no_time : Duration
 no_time = record { secs = 0; nanos = 0 }
 
--- The message n of the publisher p, whose mailboxes stand by the subscriber's id; `buffers` has those of open subscribers.
+-- The message n of the publisher p, whose mailboxes stand by the subscriber's id; `buffers` has those of open subscribers
+-- whose channel isn't closed.
 module _ (environment : Environment) (c : ServiceConfig) (p : ℕ) (strategy : BackpressureStrategy) (handler : Option (Handler BackpressureAction)) (buffers : ℕ → Option ℕ) (n : ℕ) where
   -- What the handler is told of the receiver q.
   abbrev pub info_of : (q retries : ℕ) → Duration → BackpressureInfo

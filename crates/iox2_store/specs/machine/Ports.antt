@@ -9,7 +9,7 @@ use Rattle.iox2_store.specs.machine.Numbers.{put_at}
 use Rattle.iox2_store.specs.machine.Places.{occupant, is_port, vacated, free_place, set_place}
 use Rattle.iox2_store.specs.machine.Mailbox.{Mailbox, waiting_dropped}
 use Rattle.iox2_store.specs.machine.Records.{Publisher, Subscriber, PublisherSettings, SubscriberSettings, Fixed, Environment}
-use Rattle.iox2_store.specs.machine.State.{State, with_warning, is_present, publishers_due, subscribers_due}
+use Rattle.iox2_store.specs.machine.State.{State, with_warning, is_present, publishers_due, subscribers_due, sender_channels_reset, receiver_channels_reset}
 use Rattle.iox2_store.specs.machine.PublisherUpdate.{UpdatePublisher}
 use Rattle.iox2_store.specs.machine.SubscriberUpdate.{UpdateSubscriber}
 use Rattle.iox2_store.specs.machine.Releases.{pruned, freed_if_unused, subscriber_pruned}
@@ -141,7 +141,7 @@ module _ {T U : Type 0} where
   -- The publisher p is closed, and every subscriber is due.
   -- (iceoryx2: `port/publisher.rs`, `Publisher`'s drop.)
   abbrev pub publisher_closed : State T U → (p : ℕ) → Publisher → State T U
-  publisher_closed s p x = subscribers_due (subscribers_pruned (publisher_gone s p x))
+  publisher_closed s p x = sender_channels_reset (subscribers_due (subscribers_pruned (publisher_gone s p x))) p
 
   -- The mailbox of p and a subscriber that closes: what waits from a departed publisher is lost.
   abbrev pub mailbox_after_subscriber : State T U → (q p : ℕ) → Mailbox
@@ -157,7 +157,7 @@ module _ {T U : Type 0} where
   -- The subscriber q is closed. It is gone at once where it has borrowed nothing.
   -- (iceoryx2: `port/subscriber.rs`, `Subscriber`'s drop.)
   abbrev pub subscriber_closed : State T U → (q : ℕ) → Subscriber → State T U
-  subscriber_closed s q y = freed_if_unused (subscriber_pruned (subscriber_shut s q y) q) q
+  subscriber_closed s q y = receiver_channels_reset (freed_if_unused (subscriber_pruned (subscriber_shut s q y) q) q) q
 
 module _ {T U : Type 0} (environment : Environment) where
   -- The first update of a new publisher, whose failure is a warning.

@@ -1,14 +1,15 @@
 -- A publisher's update: it goes over the subscribers that are listed now.
 -- (iceoryx2: `port/publisher.rs`, `force_update_connections`, and `port/details/sender.rs`.)
-use Rattle.std.specs.Prelude.{ℕ, Bool, false, cond, List, ◌≡◌, ◌⊎◌, MatchOption}
+use Rattle.std.specs.Prelude.{ℕ, Bool, false, cond, List, [], ◌≡◌, ◌⊎◌, MatchOption}
 use Rattle.std.specs.Bool.{MatchBool}
 use Rattle.std.specs.declared.option.Option.{Option}
 use Rattle.std.specs.declared.option.Option.TheVariants.{None, Some}
 use Rattle.iox2_store.specs.machine.Numbers.{put_at, last_n}
 use Rattle.iox2_store.specs.machine.Places.{occupant, set_place, is_port}
+use Rattle.iox2_store.specs.machine.Channel.{is_closed}
 use Rattle.iox2_store.specs.machine.Mailbox.{Mailbox, with_waiting, waiting_dropped}
 use Rattle.iox2_store.specs.machine.Records.{Publisher, Handler, Environment}
-use Rattle.iox2_store.specs.machine.State.{State, Warnings, receiving_buffer, has_receiver_end}
+use Rattle.iox2_store.specs.machine.State.{State, Warnings, receiving_buffer, has_receiver_end, sender_channels_reset}
 use Rattle.iox2_store.specs.machine.Connections.{ForEachPlace, ConnectionRefused}
 use Rattle.iox2_store.specs.declared.degradation.DegradationAction.{DegradationAction}
 use Rattle.iox2_store.specs.declared.errors.ConnectionFailure.{ConnectionFailure}
@@ -53,13 +54,13 @@ connected history side place q buffer = record side {
   mailboxes = put_at side.mailboxes q (with_waiting (last_n buffer history) (side.mailboxes q));
 }
 
--- The update of the publisher p with that history and handler; `buffers` has those of open subscribers, and
--- `has_receiver_end` says which subscribers have their end of the mailbox already.
-module _ (environment : Environment) (service_id p : ℕ) (handler : Handler DegradationAction) (history : List ℕ) (buffers : ℕ → Option ℕ) (has_receiver_end : ℕ → Bool) where
+-- The update of the publisher p with that handler; `histories` has what is handed out to a new receiver, `buffers` has those
+-- of open subscribers, and `has_receiver_end` says which subscribers have their end of the mailbox already.
+module _ (environment : Environment) (service_id p : ℕ) (handler : Handler DegradationAction) (histories : ℕ → List ℕ) (buffers : ℕ → Option ℕ) (has_receiver_end : ℕ → Bool) where
   -- The end to q is made. Where q has no end either, memory may be refused in place of that.
   abbrev pub ConnectSender : SenderSide → (place q buffer : ℕ) → SenderSide → Option ConnectionFailure → Type 0
   ConnectSender side place q buffer side' failure =
-      ((side' ≡ connected history side place q buffer) × (failure ≡ None))
+      ((side' ≡ connected (histories q) side place q buffer) × (failure ≡ None))
       ⊎ ((has_receiver_end q ≡ false) × (warnings : Warnings)
       × ConnectionRefused environment service_id p q p handler side.warnings warnings failure
       × (side' ≡ record side { warnings = warnings }))
@@ -90,13 +91,18 @@ module _ {T U : Type 0} where
     warnings = side.warnings;
   }
 
+  -- What the publisher p hands out to a new receiver q: its history, or nothing where channel 0 is closed, which q may have
+  -- done if it has its end already.
+  abbrev pub history_for : State T U → (p : ℕ) → Publisher → (q : ℕ) → List ℕ
+  history_for s p x q = cond (is_closed (s.channels p q 0)) [] x.history
+
   -- The publisher p, where it is due, goes over the subscribers' places.
   abbrev pub UpdatePublisher : Environment → State T U → (p : ℕ) → State T U → Option ConnectionFailure → Type 0
   UpdatePublisher environment s p s' failure =
       MatchOption (s.publishers p) ⊥ (λ x.
       MatchBool x.is_due
       ((side : SenderSide)
-      × ForEachPlace (UpdateSenderPlace environment (s.config).service_id p x.degradation_handler x.history (receiving_buffer s) (has_receiver_end s p))
+      × ForEachPlace (UpdateSenderPlace environment (s.config).service_id p x.degradation_handler (history_for s p x) (receiving_buffer s) (has_receiver_end s p))
       0 s.subscriber_places (sender_side s p x) side failure
-      × (s' ≡ with_sender_side s p x side))
+      × (s' ≡ sender_channels_reset (with_sender_side s p x side) p))
       ((s' ≡ s) × (failure ≡ None)))

@@ -7,7 +7,7 @@ use Rattle.iox2_store.specs.machine.Numbers.{put_at}
 use Rattle.iox2_store.specs.machine.Places.{places_kept, vacated}
 use Rattle.iox2_store.specs.machine.Mailbox.{has_numbers, has_borrows, with_released}
 use Rattle.iox2_store.specs.machine.Records.{Subscriber}
-use Rattle.iox2_store.specs.machine.State.{State, is_present, connected_publishers, with_mailbox, subscriber_changed, publishers_due}
+use Rattle.iox2_store.specs.machine.State.{State, is_present, connected_publishers, with_mailbox, subscriber_changed, publishers_due, receiver_channels_reset}
 
 module _ {T U : Type 0} where
   -- q still has to do with p: p wasn't closed, or some message of it waits or is borrowed.
@@ -45,4 +45,4 @@ module _ {T U : Type 0} where
   -- last borrowed message where it was closed.
   -- (iceoryx2: `sample.rs`, `Sample`'s drop, and `port/details/receiver.rs`, `release_offset`.)
   abbrev pub released : State T U → (p q n : ℕ) → State T U
-  released s p q n = freed_if_unused (subscriber_pruned (unborrowed s p q n) q) q
+  released s p q n = receiver_channels_reset (freed_if_unused (subscriber_pruned (unborrowed s p q n) q) q) q

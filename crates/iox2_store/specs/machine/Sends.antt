@@ -6,7 +6,7 @@ use Rattle.std.specs.declared.time.Duration.{Duration}
 use Rattle.iox2_store.specs.machine.Numbers.{put_at, without, last_n}
 use Rattle.iox2_store.specs.machine.Mailbox.{Mailbox}
 use Rattle.iox2_store.specs.machine.Records.{Loan, Environment, BlockedSend}
-use Rattle.iox2_store.specs.machine.State.{State, receiving_buffer, with_loan, publisher_changed}
+use Rattle.iox2_store.specs.machine.State.{State, channel_buffer, with_loan, publisher_changed}
 use Rattle.iox2_store.specs.machine.Delivery.{Deliver, DeliveryEnd, Complete, Suspended, no_time}
 use Rattle.iox2_store.specs.machine.PublisherUpdate.{UpdatePublisher}
 use Rattle.iox2_store.specs.machine.Loans.{loan_discarded}
@@ -58,7 +58,7 @@ module _ {T U : Type 0} (environment : Environment) where
   DeliverAndConclude s p n retries elapsed place ends count has_failed s' result =
       MatchOption (s.publishers p) ⊥ (λ x.
       (how : DeliveryEnd) × (boxes : ℕ → Mailbox)
-      × Deliver environment s.config p x.backpressure_strategy x.backpressure_handler (receiving_buffer s) n
+      × Deliver environment s.config p x.backpressure_strategy x.backpressure_handler (channel_buffer s p 0) n
       retries elapsed place ends count has_failed (s.mailboxes p) how boxes
       × ConcludeSend (with_mailboxes s p boxes) p n how s' result)
 

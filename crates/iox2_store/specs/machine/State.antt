@@ -1,12 +1,13 @@
 -- The machine's state, and how it is read and written.
-use Rattle.std.specs.Prelude.{ℕ, Bool, true, false, cond, List, [], ◌∷◌, ◌++◌, ◌+◌, min, is_some}
+use Rattle.std.specs.Prelude.{ℕ, Bool, true, false, cond, ◌||◌, List, [], ◌∷◌, ◌++◌, ◌+◌, min, is_some}
 use Rattle.std.specs.declared.option.Option.{Option}
 use Rattle.std.specs.declared.option.Option.TheVariants.{None, Some}
 use Rattle.std.specs.List.{flat_map}
 use Rattle.std.specs.Option.{option_and_then, option_map, option_map_or}
 use Rattle.iox2_store.specs.machine.Limits.{warning_limit, refusal_limit}
-use Rattle.iox2_store.specs.machine.Numbers.{put_at, last_n}
+use Rattle.iox2_store.specs.machine.Numbers.{put_at, last_n, contains}
 use Rattle.iox2_store.specs.machine.Places.{occupant, occupants, is_port}
+use Rattle.iox2_store.specs.machine.Channel.{Channel, new_channels, is_closed}
 use Rattle.iox2_store.specs.machine.Mailbox.{Mailbox, empty_mailbox, numbers_in}
 use Rattle.iox2_store.specs.machine.Records.{Entry, Loan, Publisher, Subscriber}
 use Rattle.iox2_store.specs.declared.service_config.ServiceConfig.{ServiceConfig}
@@ -26,6 +27,7 @@ pub record State (T U : Type 0) : Type 0 where
   pub publishers : ℕ → Option Publisher  -- by id
   pub subscribers : ℕ → Option Subscriber  -- by id
   pub mailboxes : ℕ → ℕ → Mailbox  -- by the publisher's id, then the subscriber's
+  pub channels : ℕ → ℕ → ℕ → Channel  -- by the publisher's id, the subscriber's, and the channel's number
   pub publisher_places : List (Option ℕ)
   pub subscriber_places : List (Option ℕ)
   pub warnings : Warnings
@@ -38,7 +40,7 @@ Messages T U = ℕ → Option (Entry T U)
 abbrev pub no_warnings : Warnings
 no_warnings = record { latest = []; refused_connections = 0 }
 
--- A new domain: no port, loan, message, mailbox or warning, and both counters are at 1.
+-- A new domain: no port, loan, message, mailbox, connection or warning, and both counters are at 1.
 abbrev pub fresh : {T U : Type 0} → ServiceConfig → State T U
 fresh c = record {
   config = c;
@@ -48,6 +50,7 @@ fresh c = record {
   publishers = λ _. None;
   subscribers = λ _. None;
   mailboxes = λ _ _. empty_mailbox;
+  channels = λ _ _. new_channels;
   publisher_places = [];
   subscriber_places = [];
   warnings = no_warnings;
@@ -84,6 +87,10 @@ module _ {T U : Type 0} where
   abbrev pub is_open : State T U → (q : ℕ) → Bool
   is_open s q = is_some (receiving_buffer s q)
 
+  -- The buffer of a subscriber that takes messages of p in that channel, or none where it is closed or the channel is.
+  abbrev pub channel_buffer : State T U → (p channel q : ℕ) → Option ℕ
+  channel_buffer s p channel q = cond (is_closed (s.channels p q channel)) None (receiving_buffer s q)
+
   -- The publisher p has its end of the mailbox with q.
   abbrev pub has_sender_end : State T U → (p q : ℕ) → Bool
   has_sender_end s p q = option_map_or (λ (x : Publisher). option_map_or (λ (y : Subscriber). is_port (occupant x.ends y.place) q) (s.subscribers q) false) (s.publishers p) false
@@ -91,6 +98,12 @@ module _ {T U : Type 0} where
   -- The subscriber q has its end of the mailbox with p, which wasn't closed.
   abbrev pub has_receiver_end : State T U → (p q : ℕ) → Bool
   has_receiver_end s p q = option_map_or (λ (y : Subscriber). option_map_or (λ (x : Publisher). is_port (occupant y.ends x.place) p) (s.publishers p) false) (s.subscribers q) false
+
+  -- p and q are connected: p has an end to q, or q has one to p or keeps it among its departed publishers.
+  abbrev pub is_linked : State T U → (p q : ℕ) → Bool
+  is_linked s p q =
+      option_map_or (λ (x : Publisher). contains (occupants x.ends) q) (s.publishers p) false
+      || option_map_or (λ (y : Subscriber). contains (connected_publishers y) p) (s.subscribers q) false
 
   -- All that the publisher p holds: its loans, its history, and what is in the mailboxes to which its ends lead.
   -- A message in three mailboxes stands here three times.
@@ -107,6 +120,22 @@ module _ {T U : Type 0} where
   -- The mailbox between p and q is this one now.
   abbrev pub with_mailbox : State T U → (p q : ℕ) → Mailbox → State T U
   with_mailbox s p q box = record s { mailboxes = put_at s.mailboxes p (put_at (s.mailboxes p) q box) }
+
+  -- The channels of p and q are these now.
+  abbrev pub with_channels : State T U → (p q : ℕ) → (ℕ → Channel) → State T U
+  with_channels s p q channels = record s { channels = put_at s.channels p (put_at (s.channels p) q channels) }
+
+  -- The channels of p and q where these are connected; else new ones, for what was set while they were is forgotten.
+  abbrev pub channels_if_linked : State T U → (p q : ℕ) → ℕ → Channel
+  channels_if_linked s p q = cond (is_linked s p q) (s.channels p q) new_channels
+
+  -- The publisher p's channels are new where it isn't connected any more. No two ports are connected twice.
+  abbrev pub sender_channels_reset : State T U → (p : ℕ) → State T U
+  sender_channels_reset s p = record s { channels = put_at s.channels p (channels_if_linked s p) }
+
+  -- The subscriber q's channels are new where it isn't connected any more.
+  abbrev pub receiver_channels_reset : State T U → (q : ℕ) → State T U
+  receiver_channels_reset s q = record s { channels = λ p. put_at (s.channels p) q (channels_if_linked s p q) }
 
   -- The loan n has these contents now, or none.
   abbrev pub with_loan : State T U → (n : ℕ) → Option (Loan T U) → State T U

@@ -9,7 +9,7 @@ use Rattle.iox2_store.specs.machine.Numbers.{put_at, without}
 use Rattle.iox2_store.specs.machine.Places.{occupant, set_place}
 use Rattle.iox2_store.specs.machine.Mailbox.{Mailbox, has_borrows, waiting_dropped}
 use Rattle.iox2_store.specs.machine.Records.{Subscriber, Handler, Environment}
-use Rattle.iox2_store.specs.machine.State.{State, Warnings, has_sender_end, warned}
+use Rattle.iox2_store.specs.machine.State.{State, Warnings, has_sender_end, warned, receiver_channels_reset}
 use Rattle.iox2_store.specs.machine.Connections.{ForEachPlace, ConnectionRefused, first_failure, expired_buffer_full}
 use Rattle.iox2_store.specs.declared.degradation.DegradationAction.{DegradationAction}
 use Rattle.iox2_store.specs.declared.errors.ConnectionFailure.{ConnectionFailure}
@@ -141,5 +141,5 @@ module _ {T U : Type 0} where
       ((side : ReceiverSide)
       × UpdateReceiverSide environment (s.config).service_id q y.degradation_handler (expired_limit s.config) (λ p. has_sender_end s p q)
       s.publisher_places (receiver_side s q y) side failure
-      × (s' ≡ with_receiver_side s q y side))
+      × (s' ≡ receiver_channels_reset (with_receiver_side s q y side) q))
       ((s' ≡ s) × (failure ≡ None)))

@@ -25,16 +25,6 @@ impl Plan {
         Ok(plan)
     }
 
-    /// The script of these lines after that first one, each with its reply.
-    pub(super) fn of(alloc: Global, domain: &str, lines: &[(&str, &str)]) -> Result<Plan, Fail> {
-        let mut plan = Plan::new(alloc, domain)?;
-        for &(line, reply) in lines {
-            write!(plan.text, "{line}")?;
-            plan.end(reply)?;
-        }
-        Ok(plan)
-    }
-
     /// Adds a call of what the command with the number `of` made, with its reply.
     pub(super) fn call(&mut self, call: &str, of: usize, reply: &str) -> Result<usize, Fail> {
         write!(self.text, "{call} {of}")?;
@@ -79,19 +69,8 @@ impl Plan {
         Ok(())
     }
 
-    /// Adds a message that is sent at once and is blocked, and returns the number of its send.
-    pub(super) fn blocked_copy(&mut self, publisher: usize, value: usize) -> Result<usize, Fail> {
-        write!(self.text, "copy {publisher} {value}")?;
-        self.end("blocked")
-    }
-
     /// Asserts that the script prints these lines, and nothing else.
     pub(super) fn assert(&self, rt: &impl Abort, alloc: Global) {
-        self.assert_warned(rt, alloc, b"");
-    }
-
-    /// Asserts that the script prints these lines, and these lines of warnings.
-    pub(super) fn assert_warned(&self, rt: &impl Abort, alloc: Global, warnings: &[u8]) {
-        Outcome::of(alloc, self.text.as_slice()).assert(rt, 0, self.replies.as_slice(), warnings);
+        Outcome::of(alloc, self.text.as_slice()).assert(rt, 0, self.replies.as_slice(), b"");
     }
 }

@@ -145,28 +145,3 @@ fn each_message_arrives_at_each_subscriber(rt: HostRuntime) -> Result<(), Fail> 
     }
     Ok(())
 }
-
-// Each subscriber has room for one message of each publisher, and holds all three at once.
-#[test]
-fn forty_subscribers_hear_three_publishers(rt: HostRuntime) -> Result<(), Fail> {
-    let mut plan = Plan::new(rt.alloc(), "domain 3 40 1 1 0 1 keep")?;
-    for _ in 0..40 {
-        plan.call("sub", 1, "ok")?;
-    }
-    for _ in 0..3 {
-        write!(plan.text, "pub 1 discard")?;
-        plan.end("ok")?;
-    }
-    for (publisher, value) in [(41, 1), (42, 2), (43, 3)] {
-        plan.copy(rt.alloc(), publisher, value, 40)?;
-    }
-    for subscriber in 1..=40 {
-        for reply in ["ok 1", "ok 2", "ok 3"] {
-            let sample = plan.call("recv", subscriber, "sample")?;
-            plan.call("read", sample, reply)?;
-        }
-        plan.call("recv", subscriber, "none")?;
-    }
-    plan.assert(&rt, rt.alloc());
-    Ok(())
-}

@@ -9,7 +9,7 @@ returns-clause-first g c = λ publisher value others all.
     let left = leaves publisher (value ∷ []) others all in (
       c.payload-received.ensures.same value (takes publisher (value ∷ []) others all),
       record {
-        all = ap (λ (f : Subscriber → List (List ℕ)). f c.args.subscriber.now) c.release.ensures.waits.all ∙ left.all;
-        from = ap (λ (f : ℕ → Subscriber → List (List ℕ)). f publisher c.args.subscriber.now) c.release.ensures.waits.from ∙ left.from;
+        all = ap (λ (f : Subscriber → List (List ℕ)). f c.args.subscriber.now) c.release.ensures.leaves.waits.all ∙ left.all;
+        from = ap (λ (f : ℕ → Subscriber → List (List ℕ)). f publisher c.args.subscriber.now) c.release.ensures.leaves.waits.from ∙ left.from;
       },
     )

@@ -9,14 +9,15 @@ use Rattle.iox2_slots.specs.Link.{Link}
 use Rattle.iox2_ends.specs.Homes.{IsApart, IsSenderLinked, IsSenders}
 use Rattle.iox2_ends.specs.Finds.{IsReceiverLinked, IsReceivers}
 use Rattle.iox2_ends.specs.Counters.{stands}
-use Rattle.iox2_ends.specs.Mailboxes.{mailboxes_of, subscriber_of_key, publisher_of_key, sender_ends, receiver_ends}
+use Rattle.iox2_ends.specs.Mailboxes.{mailboxes_of, channels_in, subscriber_of_key, publisher_of_key, sender_ends, receiver_ends}
 use Rattle.iox2_domain.proofs.lemmas.containers.ChangedRecords.{ends-agree}
 
--- Each connection is there as it was. Slots stand where they stood, and no mailbox changes.
+-- Each connection is there as it was. Slots stand where they stood, and no mailbox and no channel changes.
 pub record Extends (old new : Slab Link) : Type 0 where
   pub apart : IsApart new
   pub sums : (p slot : ℕ) → sum_by (stands p slot) new.slots ≡ sum_by (stands p slot) old.slots
   pub boxes : (number : ℕ → ℕ → ℕ) (p q : ℕ) → mailboxes_of number new p q ≡ mailboxes_of number old p q
+  pub channels : (p q : ℕ) → channels_in new p q ≡ channels_in old p q
   pub grows : (key : ℕ) (c : Link) → get old key ≡ Some c → get new key ≡ Some c
 
 module _ (old new : Slab Link) (e : Extends old new) where

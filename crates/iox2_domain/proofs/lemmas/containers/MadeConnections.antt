@@ -1,5 +1,5 @@
 -- A connection is made, where there was none between its ports.
-use Rattle.std.proofs.Common.{◌≡◌, ◌≢◌, ℕ, ◌+◌, zero, suc, List, [], ◌∷◌, true, false, Bool, cond, ◌&&◌, get_or, refl, ap, sym, ◌∙◌, ◌⊎◌, inl, inr, arith}
+use Rattle.std.proofs.Common.{◌≡◌, ◌≢◌, ℕ, ◌+◌, zero, suc, List, [], ◌∷◌, true, false, Bool, cond, eqb, ◌&&◌, get_or, refl, ap, sym, ◌∙◌, ◌⊎◌, inl, inr, arith}
 use Rattle.std.proofs.lemmas.Bool.{cases_eq, eqb-true}
 use Rattle.std.proofs.lemmas.List.Sums.{sum_by-cons}
 use Rattle.std.specs.List.{sum_by}
@@ -11,7 +11,9 @@ use Rattle.iox2_slots.specs.declared.connection.Home.{Home}
 use Rattle.iox2_ends.specs.LookUp.{look_up}
 use Rattle.iox2_ends.specs.Homes.{IsApart}
 use Rattle.iox2_ends.specs.Counters.{stands}
-use Rattle.iox2_ends.specs.Mailboxes.{is_between, mailboxes_of, mailbox_if_any}
+use Rattle.iox2_ends.specs.Mailboxes.{is_between, mailboxes_of, mailbox_if_any, channels_of, channels_if_any, channels_in}
+use Rattle.iox2_store.specs.machine.Channel.{new_channel}
+use mathlib.Core.Path.{fun_ext}
 use Rattle.iox2_domain.specs.Updates.{MakesConnection}
 use Rattle.iox2_domain.proofs.lemmas.containers.LookUps.{look_up-written, IsOnly-inserted}
 use Rattle.iox2_domain.proofs.lemmas.containers.Extensions.{Extends}
@@ -78,12 +80,28 @@ module _ (old new : Slab Link) (home : Home) (buffer limit key : ℕ) (apart : I
       by true e = sym (ap (mailbox_if_any (number p)) (none_between p q e))
       by false e = refl
 
+  made-channels : (p q : ℕ) → channels_in new p q ≡ channels_in old p q
+  made-channels p q =
+      ap channels_if_any (look_up-written (is_between p q) old.slots new.slots key link (made-apart.one p q)
+      (λ c at. absurd (let no : None ≡ Some c = sym made.was_free ∙ at in cc)) made.made.changed made.made.others)
+      ∙ by (is_between p q link) refl
+    where
+      by : (b : Bool) → is_between p q link ≡ b → channels_if_any (cond b (Some link) (look_up (is_between p q) old.slots)) ≡ channels_if_any (look_up (is_between p q) old.slots)
+      by true e = fun_ext fresh ∙ sym (ap channels_if_any (none_between p q e)) where
+        alike : (b : Bool) → cond b new_channel new_channel ≡ new_channel
+        alike true = refl
+        alike false = refl
+
+        fresh : (k : ℕ) → channels_of new_channel k ≡ new_channel
+        fresh k = alike (eqb k 0)
+      by false e = refl
+
   made-grows : (k : ℕ) (c : Link) → get old k ≡ Some c → get new k ≡ Some c
   made-grows k c at = made.made.others k (λ here. absurd (let no : None ≡ Some c = sym made.was_free ∙ sym (ap (get old) here) ∙ at in cc)) ∙ at
 
   -- all else is as before
   pub made-extends : Extends old new
-  made-extends = record { apart = made-apart; sums = made-sums; boxes = made-boxes; grows = made-grows }
+  made-extends = record { apart = made-apart; sums = made-sums; boxes = made-boxes; channels = made-channels; grows = made-grows }
 
   -- what is there was there before, or is the new connection
   pub made-news : (k : ℕ) (c : Link) → get new k ≡ Some c → (get old k ≡ Some c) ⊎ ((k ≡ key) × (c ≡ link))

@@ -164,4 +164,5 @@ module _ {T U : Type 0} (f : Fields T U) (sound : IsDomain f) (key : ℕ) (c : L
         (subst KeepsEntries (sym mark-kept) sound.entries);
     fields = refl;
     kept = mark-kept;
+    same = record { same = alike (option_map (λ (l : Link). (l.home, l.channel))) refl };
   }

@@ -6,6 +6,7 @@ use Rattle.std.specs.List.{sum_by}
 use Rattle.std.specs.Option.{option_map}
 use Rattle.slab.specs.Slab.{Slab, Updates, get}
 use Rattle.iox2_slots.specs.Link.{Link}
+use Rattle.iox2_store.specs.machine.Channel.{Channel}
 use Rattle.iox2_slots.specs.declared.connection.Home.{Home}
 use Rattle.iox2_ends.specs.Homes.{SameHomes, fixed_of}
 use Rattle.iox2_domain.specs.Ports.{SubscriberFields}
@@ -30,7 +31,7 @@ count-still old new same q = sum-alike (one_if_receivers q) refl old.slots new.s
   by (Some c) None e = absurd cc
   by (Some c) (Some d) e =
       let is : fixed_of d ≡ fixed_of c = cc in
-      ap (λ (t : Home × ℕ × ℕ × Bool). one_if_receivers q (Some (record c { home = t.0 }))) is
+      ap (λ (t : Home × ℕ × ℕ × Bool × Channel). one_if_receivers q (Some (record c { home = t.0 }))) is
 
 -- so the room suffices
 pub room-still : (subscribers : List (Option SubscriberFields)) (old new : Slab Link) → SameHomes old new → HasExpiredRoom subscribers old → HasExpiredRoom subscribers new

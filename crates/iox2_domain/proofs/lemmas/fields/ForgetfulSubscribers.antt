@@ -7,6 +7,7 @@ use Rattle.iox2_store.specs.machine.Numbers.{put_at}
 use Rattle.iox2_domain.specs.Fields.{Fields, kept_of, subscriber_of}
 use Rattle.iox2_domain.specs.Invariant.{HasOpenReceiver, HasParts, ReceiverHas, SenderHas}
 use Rattle.iox2_domain.specs.Kept.{state_of}
+use Rattle.iox2_domain.specs.Midway.{with_channels_of}
 use Rattle.iox2_domain.specs.Ports.{PublisherFields, SubscriberFields}
 use Rattle.iox2_domain.proofs.lemmas.containers.ChangedRecords.{changed-here, changed-still, changed-stood}
 use Rattle.iox2_domain.proofs.lemmas.fields.ForgottenKeys.{ForgetsReceiverKeys, ForgetsSenderKeys, Forgets, IsForgotten, forgotten}
@@ -109,5 +110,7 @@ module _ {T U : Type 0} (f : Fields T U) (parts : HasParts f) where
       -- the machine sees the changed subscriber alone
       pub forgets-is : (g : Forgets f f.publishers subscribers connections)
           → state_of (kept_of (forgotten f parts f.publishers subscribers connections g))
-          ≡ record (state_of (kept_of f)) { subscribers = put_at (state_of (kept_of f)).subscribers y.id (Some ((subscriber_of f.books f.connections y').port)) }
-      forgets-is g = forgotten-is f parts f.publishers subscribers connections g ∙ subscriber_set-is f j y y' at_y id parts.subscriber_ids
+          ≡ with_channels_of (forgotten f parts f.publishers subscribers connections g)
+          (record (state_of (kept_of f)) { subscribers = put_at (state_of (kept_of f)).subscribers y.id (Some ((subscriber_of f.books f.connections y').port)) })
+      forgets-is g = forgotten-is f parts f.publishers subscribers connections g
+          ∙ ap (with_channels_of (forgotten f parts f.publishers subscribers connections g)) (subscriber_set-is f j y y' at_y id parts.subscriber_ids)

@@ -13,7 +13,7 @@ use Rattle.iox2_domain.specs.Ports.{PublisherFields, SubscriberFields}
 use Rattle.iox2_domain.specs.Kept.{state_of, port_named, ids}
 use Rattle.iox2_domain.specs.Fields.{Fields, kept_of, publisher_of, subscriber_of, numbers_of, blocked_send}
 use Rattle.iox2_domain.specs.Invariant.{HasParts}
-use Rattle.iox2_domain.specs.Midway.{IsMidway}
+use Rattle.iox2_domain.specs.Midway.{IsMidway, with_channels_of}
 use Rattle.iox2_domain.proofs.lemmas.containers.ChangedRecords.{map-agrees, ends-agree}
 use Rattle.iox2_domain.proofs.lemmas.fields.Views.{mailboxes-are, held-before}
 use Rattle.iox2_domain.proofs.lemmas.fields.LostConnections.{lost-boxes}
@@ -71,25 +71,27 @@ module _ {T U : Type 0} (f : Fields T U) (parts : HasParts f) (publishers : List
   mailboxes-same = fun_ext (λ p. fun_ext (λ q. mailboxes-are after p q
       ∙ lost-boxes f.connections connections (loses f parts publishers subscribers connections g) parts.apart (numbers_of f.books) p q ∙ sym (mailboxes-are f p q)))
 
-  -- the machine sees the ports alone
-  pub forgotten-is : state_of (kept_of after) ≡ state_of (kept_of (record f { publishers = publishers; subscribers = subscribers }))
+  -- the machine sees the ports alone, and the channels of the connections that are left
+  pub forgotten-is : state_of (kept_of after) ≡ record (state_of (kept_of (record f { publishers = publishers; subscribers = subscribers }))) { channels = (state_of (kept_of after)).channels }
   forgotten-is = λ k. record (state_of (kept_of f)) {
     publishers = λ p. port_named p (publishers-same k);
     publisher_places = ids (publishers-same k);
     subscribers = λ q. port_named q (subscribers-same k);
     subscriber_places = ids (subscribers-same k);
     mailboxes = mailboxes-same k;
+    channels = (state_of (kept_of after)).channels;
   }
 
 -- subscribers alone forget connections in the midst of a step
 pub forgotten-midway : {T U : Type 0} (f : Fields T U) (parts : HasParts f) (subscribers : List (Option SubscriberFields)) (connections : Slab Link) (g : Forgets f f.publishers subscribers connections)
-    → (old : Fields T U) (s s' : State T U) (book : ℕ) → state_of (kept_of (forgotten f parts f.publishers subscribers connections g)) ≡ s'
+    → (old : Fields T U) (s s' : State T U) (book : ℕ) → state_of (kept_of (forgotten f parts f.publishers subscribers connections g)) ≡ with_channels_of (forgotten f parts f.publishers subscribers connections g) s'
     → IsMidway old f s book → IsMidway old (forgotten f parts f.publishers subscribers connections g) s' book
 forgotten-midway {T} {U} f parts subscribers connections g old s s' book is midway = record {
   consistent = forgotten-parts f parts f.publishers subscribers connections g;
   lone = midway.lone;
   kept_books = record { own = midway.kept_books.own; others = midway.kept_books.others };
   state = is;
+  channels = λ key d at. let was = g.fewer key d at in midway.channels key d was;
   entries = midway.entries;
   complete = λ p n held. midway.complete p n (held-before (state_of (kept_of f)) (state_of (kept_of after)) p n
       (λ q. ap (λ (t : State T U). t.mailboxes p q) seen)
@@ -98,5 +100,5 @@ forgotten-midway {T} {U} f parts subscribers connections g old s s' book is midw
   after : Fields T U
   after = forgotten f parts f.publishers subscribers connections g
 
-  seen : state_of (kept_of after) ≡ state_of (kept_of (record f { subscribers = subscribers }))
+  seen : state_of (kept_of after) ≡ with_channels_of after (state_of (kept_of (record f { subscribers = subscribers })))
   seen = forgotten-is f parts f.publishers subscribers connections g

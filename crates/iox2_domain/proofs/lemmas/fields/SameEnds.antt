@@ -4,6 +4,7 @@ use Rattle.std.specs.Prelude.{[]}
 use Rattle.std.specs.Option.{option_map}
 use Rattle.slab.specs.Slab.{Slab, get}
 use Rattle.iox2_slots.specs.Link.{Link}
+use Rattle.iox2_store.specs.machine.Channel.{Channel}
 use Rattle.iox2_slots.specs.declared.connection.Home.{Home}
 use Rattle.iox2_ends.specs.Homes.{SameHomes, fixed_of}
 use Rattle.iox2_ends.specs.Mailboxes.{mailboxes_of, subscriber_of_key, publisher_of_key}
@@ -11,6 +12,7 @@ use Rattle.iox2_ends.proofs.MailboxChanges.{was}
 use Rattle.iox2_domain.specs.Kept.{state_of, port_named, ids}
 use Rattle.iox2_domain.specs.Fields.{Fields, kept_of, numbers_of}
 use Rattle.iox2_domain.specs.Invariant.{IsLinked, IsBetweenOpen, SenderHas}
+use Rattle.iox2_domain.proofs.lemmas.fields.KeptChannels.{channels-are, channels-still}
 use Rattle.iox2_domain.proofs.lemmas.fields.Views.{mailboxes-are}
 use Rattle.iox2_domain.proofs.lemmas.fields.SameSeats.{SameSeats, seat_of, seated-publisher_of_key, seated-subscriber_of_key, senders-seated, receivers-seated, sender-seated, open-seated, linked-seated}
 use mathlib.Core.Path.{fun_ext}
@@ -19,9 +21,9 @@ module _ (old new : Slab Link) (same : SameHomes old new) where
   -- all the more each connection keeps its seat
   pub seats-of : SameSeats old new
   seats-of = record {
-    same = λ key. through (get new key) ∙ ap (option_map (λ (t : Home × ℕ × ℕ × Bool). (t.0, t.1, t.2))) (same.same key) ∙ sym (through (get old key));
+    same = λ key. through (get new key) ∙ ap (option_map (λ (t : Home × ℕ × ℕ × Bool × Channel). (t.0, t.1, t.2))) (same.same key) ∙ sym (through (get old key));
   } where
-    through : (o : Option Link) → option_map seat_of o ≡ option_map (λ (t : Home × ℕ × ℕ × Bool). (t.0, t.1, t.2)) (option_map fixed_of o)
+    through : (o : Option Link) → option_map seat_of o ≡ option_map (λ (t : Home × ℕ × ℕ × Bool × Channel). (t.0, t.1, t.2)) (option_map fixed_of o)
     through None = refl
     through (Some c) = refl
 
@@ -45,12 +47,16 @@ module _ {T U : Type 0} (f : Fields T U) (new : Slab Link) (same : SameHomes f.c
   seats : SameSeats f.connections new
   seats = seats-of f.connections new same
 
+  channels : (state_of (kept_of with_connections)).channels ≡ (state_of (kept_of f)).channels
+  channels = channels-are with_connections ∙ channels-still f.connections new same ∙ sym (channels-are f)
+
   -- the machine knows of the connections by the mailboxes alone
   pub connections-are : state_of (kept_of with_connections) ≡ record (state_of (kept_of f)) { mailboxes = mailboxes_of (numbers_of f.books) new }
   connections-are = λ i. record (state_of (kept_of f)) {
     publishers = λ p. port_named p (map (option_map (senders-seated f new seats i)) f.publishers);
     subscribers = λ q. port_named q (map (option_map (receivers-seated f new seats i)) f.subscribers);
     mailboxes = boxes i;
+    channels = channels i;
     publisher_places = ids (map (option_map (senders-seated f new seats i)) f.publishers);
     subscriber_places = ids (map (option_map (receivers-seated f new seats i)) f.subscribers);
   }
@@ -59,7 +65,7 @@ module _ {T U : Type 0} (f : Fields T U) (new : Slab Link) (same : SameHomes f.c
       boxes = fun_ext (λ p. fun_ext (λ q. mailboxes-are with_connections p q))
 
   seat-same : (c d : Link) → fixed_of c ≡ fixed_of d → seat_of c ≡ seat_of d
-  seat-same c d fixed = ap (λ (t : Home × ℕ × ℕ × Bool). (t.0, t.1, t.2)) fixed
+  seat-same c d fixed = ap (λ (t : Home × ℕ × ℕ × Bool × Channel). (t.0, t.1, t.2)) fixed
 
   pub sender-same : (key : ℕ) (c d : Link) → fixed_of c ≡ fixed_of d → SenderHas f.publishers key c → SenderHas f.publishers key d
   sender-same key c d fixed has = sender-seated f new seats key c d (seat-same c d fixed) has
@@ -70,5 +76,5 @@ module _ {T U : Type 0} (f : Fields T U) (new : Slab Link) (same : SameHomes f.c
     marked : (key : ℕ) (d : Link) → get new key ≡ Some d → d.is_open ≡ true → IsBetweenOpen f.publishers f.subscribers key d
     marked key d at is =
         let c = was f.connections new key d same at in
-        let both = linked.marked key c.0 c.1 (ap (λ (t : Home × ℕ × ℕ × Bool). t.3) c.2 ∙ is) in
+        let both = linked.marked key c.0 c.1 (ap (λ (t : Home × ℕ × ℕ × Bool × Channel). t.3) c.2 ∙ is) in
         record { sender = sender-same key c.0 d c.2 both.sender; receiver = open-seated f new seats c.0 d (seat-same c.0 d c.2) both.receiver }

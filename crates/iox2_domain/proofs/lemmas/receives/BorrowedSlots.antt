@@ -4,6 +4,7 @@ use Rattle.std.proofs.lemmas.List.Elements.{Contains-append_right}
 use Rattle.std.specs.Option.{option_map}
 use Rattle.slab.specs.Slab.{Slab, get}
 use Rattle.iox2_slots.specs.Link.{Link}
+use Rattle.iox2_store.specs.machine.Channel.{Channel}
 use Rattle.iox2_store.specs.machine.Mailbox.{Mailbox}
 use Rattle.iox2_slots.specs.declared.connection.Home.{Home}
 use Rattle.iox2_laws.proofs.Puts.{put_at-same}
@@ -25,7 +26,7 @@ module _ (old new : Slab Link) (key slot : ℕ) (c : Link) (at_c : get old key �
     by (Some d) e is =
         let here : Some (fixed_of d) ≡ Some (fixed_of c) = is in
         let fixed : fixed_of d ≡ fixed_of c = cc in
-        (d, e, ap (λ (f : Home × ℕ × ℕ × Bool). f.0) fixed)
+        (d, e, ap (λ (f : Home × ℕ × ℕ × Bool × Channel). f.0) fixed)
 
   borrowed : Contains (stays.0).borrowed slot
   borrowed =

@@ -17,7 +17,7 @@ use Rattle.iox2_ends.specs.Mailboxes.{sender_ends}
 use Rattle.iox2_ends.proofs.LookUps.{look_up-found, look_up-nothing}
 use Rattle.iox2_ends.proofs.MailboxChanges.{within_if_some}
 use Rattle.iox2_domain.specs.Ports.{PublisherFields}
-use Rattle.iox2_domain.specs.Kept.{state_of, entries_of, entry_in, loan_in, message_numbered, port_named, ids, stands_between, box_if_any}
+use Rattle.iox2_domain.specs.Kept.{state_of, entries_of, entry_in, loan_in, message_numbered, port_named, ids, stands_between, box_if_any, channels_if_between}
 use Rattle.iox2_domain.specs.Fields.{Fields, kept_of, kept_book, map_from, is_book_of, numbers_of, message_in, messages_in, contents_at, publisher_of, between_of, blocked_send}
 use Rattle.iox2_domain.specs.Invariant.{HasLoneLoans, HasNumber, HasBook, HasBooks, IsBook, NamesBooks, IsNumbered, IsCounted, HasShapes, HasForms, IsOwned, IsLeft, KeepsBooks, holders_of, own_holders, is_publisher, is_loan_in, HasParts}
 use Rattle.iox2_domain.specs.LeftBooks.{with_book_gone}
@@ -138,6 +138,7 @@ module _ {T U : Type 0} (f : Fields T U) (parts : HasParts f) (key : ℕ) (b : B
     loans = fun_ext (λ n. ap (option_and_then loan_in) (messages-same n)) i;
     publishers = λ p. port_named p (publishers-shown i);
     mailboxes = λ p q. box_if_any (look_up (stands_between p q) (connections-shown i));
+    channels = λ p q. channels_if_between (look_up (stands_between p q) (connections-shown i));
     publisher_places = ids (publishers-shown i);
   }
 

@@ -14,7 +14,7 @@ use Rattle.iox2_ends.specs.Mailboxes.{sender_ends}
 use Rattle.iox2_laws.proofs.NumberLemmas.{contains_first, contains_later}
 use Rattle.iox2_domain.specs.Ports.{PublisherFields}
 use Rattle.iox2_domain.specs.declared.publisher_state.BlockedDelivery.{BlockedDelivery}
-use Rattle.iox2_domain.specs.Kept.{state_of, port_named, ids, box_if_any, stands_between}
+use Rattle.iox2_domain.specs.Kept.{state_of, port_named, ids, box_if_any, channels_if_between, stands_between}
 use Rattle.iox2_domain.specs.Fields.{Fields, kept_of, publisher_of, between_of, numbers_of, blocked_send}
 use Rattle.iox2_domain.specs.Invariant.{IsDomain, holders_of}
 use Rattle.iox2_domain.proofs.lemmas.slots.HeldMessages.{own-in_use, standing-in_use}
@@ -86,6 +86,7 @@ module _ {T U : Type 0} (f : Fields T U) (sound : IsDomain f) (new : Slab Book)
       loans = (state_of (kept_of with_books)).loans;
       publishers = λ p. port_named p (publishers t);
       mailboxes = λ p q. box_if_any (look_up (stands_between p q) (connections t));
+      channels = λ p q. channels_if_between (look_up (stands_between p q) (connections t));
       publisher_places = ids (publishers t);
     }
       where

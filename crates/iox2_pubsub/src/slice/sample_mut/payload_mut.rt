@@ -15,9 +15,9 @@ impl SampleMut {
     ghost use Rattle.iox2_domain.specs.LoanCalls.{cells_changed};
     ghost use Rattle.iox2_domain.specs.Shows.{Shows};
     ghost use Rattle.iox2_pubsub.specs.ChangedLoans.{with_payloads};
-    ghost use Rattle.iox2_pubsub.specs.Live.{IsWritten, IsWrittenLoan, LoanHasHeader, LoanHasUserHeader, NeverWaits, StaysBut, UpToDateStay, written_key, written_loan, WaitingStays};
+    ghost use Rattle.iox2_pubsub.specs.Live.{IsWritten, IsWrittenLoan, LoanHasHeader, LoanHasUserHeader, NeverWaits, written_key, written_loan};
+    ghost use Rattle.iox2_pubsub.specs.Leaves.{LeavesBut};
     ghost use Rattle.iox2_pubsub.specs.LoanLends.{LendsPayloads};
-    ghost use Rattle.iox2_pubsub.specs.LoansLeft.{LoansLeftStay};
     ghost use Rattle.iox2_pubsub.specs.Slices.{HasValues, HoldsSlices};
     ghost use Rattle.iox2_pubsub.specs.Handles.{as_written, written_number};
 
@@ -44,10 +44,7 @@ impl SampleMut {
             → LoanHasHeader (with_payloads domain.old (written_number (as_written sample.old)) left) (written_key (as_written sample.new)) header }
         ensures user_header { (left : List T) (header : U) → LoanHasUserHeader domain.old (written_key (as_written sample.old)) header
             → LoanHasUserHeader (with_payloads domain.old (written_number (as_written sample.old)) left) (written_key (as_written sample.new)) header }
-        ensures waits { (left : List T) → WaitingStays domain.old (with_payloads domain.old (written_number (as_written sample.old)) left) }
-        ensures up_to_date { (left : List T) → UpToDateStay domain.old (with_payloads domain.old (written_number (as_written sample.old)) left) }
-        ensures loans_left { (left : List T) → LoansLeftStay domain.old (with_payloads domain.old (written_number (as_written sample.old)) left) }
-        ensures stays { (left : List T) → StaysBut (written_loan (as_written sample.old)) domain.old (with_payloads domain.old (written_number (as_written sample.old)) left) }
+        ensures leaves { (left : List T) → LeavesBut (written_loan (as_written sample.old)) domain.old (with_payloads domain.old (written_number (as_written sample.old)) left) }
     {
         let at = domain.state.find_live_loan(&sample.sample.loan);
         values_at_mut(&mut domain.state, at)

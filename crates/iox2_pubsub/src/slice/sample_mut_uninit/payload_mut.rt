@@ -15,9 +15,9 @@ impl SampleMutUninit {
     ghost use Rattle.iox2_domain.specs.LoanCalls.{cells_changed};
     ghost use Rattle.iox2_domain.specs.Shows.{Shows};
     ghost use Rattle.iox2_pubsub.specs.ChangedLoans.{with_cells};
-    ghost use Rattle.iox2_pubsub.specs.Live.{IsUnwritten, IsUnwrittenLoan, LoanHasHeader, LoanHasUserHeader, NeverWaits, StaysBut, UpToDateStay, unwritten_key, unwritten_loan, WaitingStays};
+    ghost use Rattle.iox2_pubsub.specs.Live.{IsUnwritten, IsUnwrittenLoan, LoanHasHeader, LoanHasUserHeader, NeverWaits, unwritten_key, unwritten_loan};
+    ghost use Rattle.iox2_pubsub.specs.Leaves.{LeavesBut};
     ghost use Rattle.iox2_pubsub.specs.LoanLends.{LendsCells};
-    ghost use Rattle.iox2_pubsub.specs.LoansLeft.{LoansLeftStay};
     ghost use Rattle.iox2_pubsub.specs.Slices.{HasUnwrittenCells, IsSliced};
     ghost use Rattle.iox2_pubsub.specs.Handles.{as_unwritten, unwritten_number};
 
@@ -45,10 +45,7 @@ impl SampleMutUninit {
             → LoanHasHeader (with_cells domain.old (unwritten_number (as_unwritten sample.old)) left) (unwritten_key (as_unwritten sample.new)) header }
         ensures user_header { (left : List (Option T)) (header : U) → LoanHasUserHeader domain.old (unwritten_key (as_unwritten sample.old)) header
             → LoanHasUserHeader (with_cells domain.old (unwritten_number (as_unwritten sample.old)) left) (unwritten_key (as_unwritten sample.new)) header }
-        ensures waits { (left : List (Option T)) → WaitingStays domain.old (with_cells domain.old (unwritten_number (as_unwritten sample.old)) left) }
-        ensures up_to_date { (left : List (Option T)) → UpToDateStay domain.old (with_cells domain.old (unwritten_number (as_unwritten sample.old)) left) }
-        ensures loans_left { (left : List (Option T)) → LoansLeftStay domain.old (with_cells domain.old (unwritten_number (as_unwritten sample.old)) left) }
-        ensures stays { (left : List (Option T)) → StaysBut (unwritten_loan (as_unwritten sample.old)) domain.old (with_cells domain.old (unwritten_number (as_unwritten sample.old)) left) }
+        ensures leaves { (left : List (Option T)) → LeavesBut (unwritten_loan (as_unwritten sample.old)) domain.old (with_cells domain.old (unwritten_number (as_unwritten sample.old)) left) }
     {
         let at = domain.state.find_live_loan(&sample.sample.loan);
         cells_at_mut(&mut domain.state, at)

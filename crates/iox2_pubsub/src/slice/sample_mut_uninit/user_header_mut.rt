@@ -14,9 +14,9 @@ impl SampleMutUninit {
     ghost use Rattle.iox2_domain.specs.LoanCalls.{user_header_changed};
     ghost use Rattle.iox2_domain.specs.Shows.{Shows};
     ghost use Rattle.iox2_pubsub.specs.ChangedLoans.{with_user_header};
-    ghost use Rattle.iox2_pubsub.specs.Live.{IsUnwritten, IsUnwrittenLoan, LoanHasHeader, LoanHasUserHeader, NeverWaits, StaysBut, UpToDateStay, unwritten_key, unwritten_loan, WaitingStays};
+    ghost use Rattle.iox2_pubsub.specs.Live.{IsUnwritten, IsUnwrittenLoan, LoanHasHeader, LoanHasUserHeader, NeverWaits, unwritten_key, unwritten_loan};
+    ghost use Rattle.iox2_pubsub.specs.Leaves.{LeavesBut};
     ghost use Rattle.iox2_pubsub.specs.LoanLends.{LendsUserHeader};
-    ghost use Rattle.iox2_pubsub.specs.LoansLeft.{LoansLeftStay};
     ghost use Rattle.iox2_pubsub.specs.Slices.{HasUnwrittenCells};
     ghost use Rattle.iox2_pubsub.specs.Handles.{as_unwritten, unwritten_number};
 
@@ -42,10 +42,7 @@ impl SampleMutUninit {
             → HasUnwrittenCells (with_user_header domain.old (unwritten_number (as_unwritten sample.old)) user_header) (unwritten_number (as_unwritten sample.old)) cells }
         ensures header { (user_header : U) (header : Header) → LoanHasHeader domain.old (unwritten_key (as_unwritten sample.old)) header
             → LoanHasHeader (with_user_header domain.old (unwritten_number (as_unwritten sample.old)) user_header) (unwritten_key (as_unwritten sample.new)) header }
-        ensures waits { (user_header : U) → WaitingStays domain.old (with_user_header domain.old (unwritten_number (as_unwritten sample.old)) user_header) }
-        ensures up_to_date { (user_header : U) → UpToDateStay domain.old (with_user_header domain.old (unwritten_number (as_unwritten sample.old)) user_header) }
-        ensures loans_left { (user_header : U) → LoansLeftStay domain.old (with_user_header domain.old (unwritten_number (as_unwritten sample.old)) user_header) }
-        ensures stays { (user_header : U) → StaysBut (unwritten_loan (as_unwritten sample.old)) domain.old (with_user_header domain.old (unwritten_number (as_unwritten sample.old)) user_header) }
+        ensures leaves { (user_header : U) → LeavesBut (unwritten_loan (as_unwritten sample.old)) domain.old (with_user_header domain.old (unwritten_number (as_unwritten sample.old)) user_header) }
     {
         crate::SampleMutUninit::user_header_mut(domain, &mut sample.sample)
     }

@@ -13,8 +13,8 @@ impl SampleMutUninit {
     ghost use Rattle.iox2_store.specs.machine.State.{State, Messages};
     ghost use Rattle.iox2_store.specs.machine.SingleCalls.{WriteAllFrom};
     ghost use Rattle.iox2_domain.specs.Shows.{Shows};
-    ghost use Rattle.iox2_pubsub.specs.Live.{HasLender, IsUnblocked, IsUnwritten, IsWritten, IsWrittenLoan, LoanHasHeader, LoanHasUserHeader, NeverWaits, StaysBut, UpToDateStay, unwritten_key, unwritten_loan, written_key, WaitingStays};
-    ghost use Rattle.iox2_pubsub.specs.LoansLeft.{LoansLeftStay};
+    ghost use Rattle.iox2_pubsub.specs.Live.{HasLender, IsUnblocked, IsUnwritten, IsWritten, IsWrittenLoan, LoanHasHeader, LoanHasUserHeader, NeverWaits, unwritten_key, unwritten_loan, written_key};
+    ghost use Rattle.iox2_pubsub.specs.Leaves.{LeavesBut};
     ghost use Rattle.iox2_pubsub.specs.Slices.{HasUnwrittenCells, HasValues, HoldsSlices};
     ghost use Rattle.iox2_pubsub.specs.Handles.{as_unwritten, as_written, unwritten_number, written_number};
 
@@ -44,10 +44,7 @@ impl SampleMutUninit {
         ensures lent { HasLender domain.old (unwritten_key (as_unwritten self)) → HasLender domain.new (written_key (as_written result)) }
         ensures header { (header : Header) → LoanHasHeader domain.old (unwritten_key (as_unwritten self)) header → LoanHasHeader domain.new (written_key (as_written result)) header }
         ensures user_header { (header : U) → LoanHasUserHeader domain.old (unwritten_key (as_unwritten self)) header → LoanHasUserHeader domain.new (written_key (as_written result)) header }
-        ensures waits { WaitingStays domain.old domain.new }
-        ensures up_to_date { UpToDateStay domain.old domain.new }
-        ensures loans_left { LoansLeftStay domain.old domain.new }
-        ensures stays { StaysBut (unwritten_loan (as_unwritten self)) domain.old domain.new }
+        ensures leaves { LeavesBut (unwritten_loan (as_unwritten self)) domain.old domain.new }
     {
         let SampleMutUninit { sample } = self;
         let crate::SampleMutUninit { service_id, loan } = sample;

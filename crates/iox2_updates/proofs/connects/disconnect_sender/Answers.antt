@@ -44,5 +44,5 @@ returns g c = λ x at.
     (λ k. record (the_view (param 0 g.row.T) (param 1 g.row.U) c.state.inside) { publishers = sym written k; connections = c.remove_connection.new.connections; books = with_value c.state.inside.books c.publisher.inside.book c.remove_connection.new.book })
     (end-lost c.args.state.now _ c.state.view_is c.requires.agrees c.args.publisher_place c.args.subscriber_place c.args.key c.requires.end _
     (read-there _ c.args.publisher_place _ _ (ap (λ (f : Fields g.row.T.Denot g.row.U.Denot). slice_index_or f.publishers c.args.publisher_place None) c.state.view_is ∙ c.requires.end.stands) c.index.ensures ∙ c.in-Some.is ∙ ap Some (sym c.publisher.view_is))
-    _ c.index_mut-book.ensures.value c.remove_connection.new.book c.remove_connection.ensures.book c.requires.subscriber c.requires.alone
+    _ c.index_mut-book.ensures.value c.remove_connection.new.book c.remove_connection.ensures.book c.requires.subscriber c.requires.alone c.requires.elsewhere
     c.remove_connection.new.connections (rw c.value.ensures at c.remove_connection.ensures.removes) x at)

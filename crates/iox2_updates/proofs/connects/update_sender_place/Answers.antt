@@ -145,6 +145,20 @@ disconnect_sender-requires-clause-alone g c = λ d at_d.
     alone-there old c.requires.agrees c.args.publisher_place c.args.subscriber_place there.0 there.1 (c.requires.settled there.0 there.1) (c.requires.unblocked there.0 there.1) c.in-Some.key named d at_d
     (subst (λ (l : Link). StandsElsewhere old.subscribers c.args.subscriber_place l.home.subscriber) is elsewhere)
 
+pub disconnect_sender-requires-clause-elsewhere : goal.disconnect_sender-requires-clause-elsewhere
+disconnect_sender-requires-clause-elsewhere g c = λ d at_d.
+    let old = c.args.state.now in
+    let viewed = c.state.view_is in
+    let subscribers : c.state.inside.subscribers.items ≡ old.subscribers = ap (λ (f : Fields g.row.T.Denot g.row.U.Denot). f.subscribers) viewed in
+    let named : sender_key old.publishers c.args.publisher_place c.args.subscriber_place ≡ Some c.in-Some.key =
+    ap (λ xs. sender_key xs c.args.publisher_place c.args.subscriber_place) (sym (c.deref.ensures.value ∙ ap (λ (f : Fields g.row.T.Denot g.row.U.Denot). f.publishers) viewed)) ∙ sym c.key_at.ensures ∙ c.in-Some.is in
+    let at_c : get old.connections c.in-Some.key ≡ Some c.index.result.now = ap (λ (f : Fields g.row.T.Denot g.row.U.Denot). get f.connections c.in-Some.key) (sym viewed) ∙ c.index.ensures in
+    let elsewhere : StandsElsewhere old.subscribers c.args.subscriber_place c.index.result.now.home.subscriber =
+    rw (sym (c.deref-2.ensures.value ∙ subscribers), sym c.home-subscriber.ensures.value) (stands-elsewhere _ c.args.subscriber_place _ c.stands_at.result c.stands_at.ensures c.if-not-stands_at.true) in
+    let both : Some c.index.result.now ≡ Some d = sym at_c ∙ at_d in
+    let is : c.index.result.now ≡ d = cc in
+    subst (λ (l : Link). StandsElsewhere old.subscribers c.args.subscriber_place l.home.subscriber) is elsewhere
+
 pub returns-then-not-stands_at : goal.returns-then-not-stands_at
 returns-then-not-stands_at g c = λ x at.
     let old = c.args.state.now in

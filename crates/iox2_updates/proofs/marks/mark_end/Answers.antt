@@ -3,7 +3,7 @@ use Rattle.std.proofs.lemmas.Option.{same_Some}
 use Rattle.std.specs.Prelude.{IsSomeAnd}
 use Rattle.std.specs.declared.option.Option.{Option}
 use Rattle.slab.specs.Slab.{ContainsKey, get, with_value}
-use Rattle.iox2_slots.specs.Link.{Link}
+use Rattle.iox2_slots.specs.Link.{Link, with_mark}
 use Rattle.iox2_slots.specs.declared.connection.Home.{Home}
 use Rattle.iox2_domain.specs.Fields.{Fields}
 use Rattle.iox2_domain.specs.OpenMarks.{ChangesMarks}
@@ -33,4 +33,4 @@ returns-then-is_open_at g c =
     subst (λ (f : Fields g.row.T.Denot g.row.U.Denot). ChangesMarks c.args.state.now (record f { connections = with_value f.connections c.in-Some.key c.set_open.new.self })) (sym c.state.view_is)
     (end-marked c.args.state.now c.requires c.args.publisher_place c.args.subscriber_place c.in-Some.key named c.index.result.now at
     (end-open c.args.state.now c.requires c.args.publisher_place c.args.subscriber_place c.in-Some.key named c.index.result.now at stands is_open)
-    c.set_open.new.self (c.set_open.ensures.marked ∙ ap (λ (l : Link). let m : Link = record l { is_open = true } in m) same))
+    c.set_open.new.self (c.set_open.ensures.marked ∙ ap (with_mark true) same))

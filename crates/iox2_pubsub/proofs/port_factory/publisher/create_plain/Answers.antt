@@ -18,6 +18,7 @@ use Rattle.iox2_pubsub.proofs.DepartedShown.{publisher-creation-room}
 use Rattle.iox2_pubsub.proofs.PublishersShown.{created-shows, created-ready, created-never-fails, created-never-waits, created-overflows}
 use Rattle.iox2_pubsub.proofs.CallsStay.{always-shown, apart-from-next, publisher-creation-stays, publisher-is-new}
 use Rattle.iox2_pubsub.proofs.ConnectionsShown.{made-connections, made-connects}
+use Rattle.iox2_pubsub.proofs.NextPorts.{next-sender-takes}
 use Rattle.iox2_pubsub.proofs.WaitingShown.{publisher-refused, publisher-no-fewer}
 use Rattle.iox2_pubsub.proofs.LoansLeftShown.{publisher-creation-left, created-grows, created-left}
 use Rattle.iox2_pubsub.proofs.StaysBut.{box-is, degradation-box-is, live-boxes}
@@ -164,6 +165,7 @@ returns-clause-connects g c =
     let it = always-shown {T = g.row.T.Denot} {U = g.row.U.Denot} c.domain.inside.state c.args.domain.now c.domain.invariant c.domain.view_is in
     let step = returns-clause-creates g c it.0 it.1 it.2 in
     made-connects {T = g.row.T.Denot} {U = g.row.U.Denot} c.args.domain.now _ it.0 it.0 it.1 step.0 it.2 step.1 (answers_of g.F.BackpressureFn.allows g.G.DegradationFn.allows (c.create_publisher.new.boxes).boxes) (settings_with c.args.given.now (marks_of c.args.handler) c.args.segments) c.in_ok-port.port.id (step.2).0 (step.2).1
+    (next-sender-takes {T = g.row.T.Denot} {U = g.row.U.Denot} c.domain.inside.state c.args.domain.now c.domain.invariant c.domain.view_is)
 
 pub returns-in_err-port-clause-room : goal.returns-in_err-port-clause-room
 returns-in_err-port-clause-room g c =

@@ -25,26 +25,13 @@ returns-clause-spent g c = λ live.
     let step = returns-clause-released g c it.0 it.1 it.2 (it.3).0 (it.3).1 in
     release-spends {T = g.row.T.Denot} {U = g.row.U.Denot} c.args.domain.now _ it.0 it.1 it.2 (it.3).0 c.args.self.sample.subscriber c.args.self.sample.number step.0 step.1 (it.3).1 step.2 _ refl refl live
 
-pub returns-clause-stays : goal.returns-clause-stays
-returns-clause-stays g c =
+pub returns-clause-leaves : goal.returns-clause-leaves
+returns-clause-leaves g c =
     let it = sample-shown {T = g.row.T.Denot} {U = g.row.U.Denot} c.domain.inside.state c.args.domain.now c.domain.invariant c.domain.view_is _ c.requires.live in
     let step = returns-clause-released g c it.0 it.1 it.2 (it.3).0 (it.3).1 in
-    release-stays {T = g.row.T.Denot} {U = g.row.U.Denot} c.args.domain.now _ it.0 it.1 it.2 (it.3).0 c.args.self.sample.subscriber c.args.self.sample.number step.0 step.1 step.2 (same-boxes c.domain.inside.state c.give_back.new.state c.args.domain.now c.domain.view_is)
-
-pub returns-clause-waits : goal.returns-clause-waits
-returns-clause-waits g c =
-    let it = sample-shown {T = g.row.T.Denot} {U = g.row.U.Denot} c.domain.inside.state c.args.domain.now c.domain.invariant c.domain.view_is _ c.requires.live in
-    let step = returns-clause-released g c it.0 it.1 it.2 (it.3).0 (it.3).1 in
-    release-waits {T = g.row.T.Denot} {U = g.row.U.Denot} c.args.domain.now _ it.0 it.0 it.1 step.0 it.2 step.1 (λ n entry at. at) (it.3).0 c.args.self.sample.subscriber c.args.self.sample.number step.2
-
-pub returns-clause-up_to_date : goal.returns-clause-up_to_date
-returns-clause-up_to_date g c =
-    let it = sample-shown {T = g.row.T.Denot} {U = g.row.U.Denot} c.domain.inside.state c.args.domain.now c.domain.invariant c.domain.view_is _ c.requires.live in
-    let step = returns-clause-released g c it.0 it.1 it.2 (it.3).0 (it.3).1 in
-    release-leaves {T = g.row.T.Denot} {U = g.row.U.Denot} c.args.domain.now _ it.0 it.0 it.1 step.0 it.2 step.1 (it.3).0 c.args.self.sample.subscriber c.args.self.sample.number step.2
-
-pub returns-clause-loans_left : goal.returns-clause-loans_left
-returns-clause-loans_left g c =
-    let it = sample-shown {T = g.row.T.Denot} {U = g.row.U.Denot} c.domain.inside.state c.args.domain.now c.domain.invariant c.domain.view_is _ c.requires.live in
-    let step = returns-clause-released g c it.0 it.1 it.2 (it.3).0 (it.3).1 in
-    release-left {T = g.row.T.Denot} {U = g.row.U.Denot} c.args.domain.now _ it.0 it.0 it.1 step.0 it.2 step.1 (it.3).0 c.args.self.sample.subscriber c.args.self.sample.number step.2
+    record {
+      stays = release-stays {T = g.row.T.Denot} {U = g.row.U.Denot} c.args.domain.now _ it.0 it.1 it.2 (it.3).0 c.args.self.sample.subscriber c.args.self.sample.number step.0 step.1 step.2 (same-boxes c.domain.inside.state c.give_back.new.state c.args.domain.now c.domain.view_is);
+      waits = release-waits {T = g.row.T.Denot} {U = g.row.U.Denot} c.args.domain.now _ it.0 it.0 it.1 step.0 it.2 step.1 (λ n entry at. at) (it.3).0 c.args.self.sample.subscriber c.args.self.sample.number step.2;
+      up_to_date = release-leaves {T = g.row.T.Denot} {U = g.row.U.Denot} c.args.domain.now _ it.0 it.0 it.1 step.0 it.2 step.1 (it.3).0 c.args.self.sample.subscriber c.args.self.sample.number step.2;
+      loans_left = release-left {T = g.row.T.Denot} {U = g.row.U.Denot} c.args.domain.now _ it.0 it.0 it.1 step.0 it.2 step.1 (it.3).0 c.args.self.sample.subscriber c.args.self.sample.number step.2;
+    }

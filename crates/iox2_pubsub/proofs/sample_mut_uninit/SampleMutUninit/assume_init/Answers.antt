@@ -24,10 +24,12 @@ returns-then-not-assume_loan g c = record {
   header = λ header has. tt;
   user_header = λ header has. tt;
   handed_back = (refl, left-same {T = g.row.T.Denot} {U = g.row.U.Denot} c.domain.inside.state c.assume_loan.new.state c.domain.invariant c.args.domain.now c.domain.view_is c.args.self.loan.number c.assume_loan.result c.assume_loan.ensures c.if-not-assume_loan.true);
-  waits = waiting-same c.args.domain.now _ (left-same {T = g.row.T.Denot} {U = g.row.U.Denot} c.domain.inside.state c.assume_loan.new.state c.domain.invariant c.args.domain.now c.domain.view_is c.args.self.loan.number c.assume_loan.result c.assume_loan.ensures c.if-not-assume_loan.true);
-  up_to_date = left-leaves {T = g.row.T.Denot} {U = g.row.U.Denot} c.domain.inside.state c.assume_loan.new.state c.domain.invariant c.args.domain.now c.domain.view_is c.args.self.loan.number c.assume_loan.result c.assume_loan.ensures c.if-not-assume_loan.true;
-  loans_left = left-loans {T = g.row.T.Denot} {U = g.row.U.Denot} c.domain.inside.state c.assume_loan.new.state c.domain.invariant c.args.domain.now c.domain.view_is c.args.self.loan.number c.assume_loan.result c.assume_loan.ensures c.if-not-assume_loan.true;
-  stays = left-stays {T = g.row.T.Denot} {U = g.row.U.Denot} c.domain.inside.state c.assume_loan.new.state c.domain.invariant c.args.domain.now c.domain.view_is c.args.self.loan.number c.assume_loan.result c.assume_loan.ensures c.if-not-assume_loan.true;
+  leaves = record {
+    stays = left-stays {T = g.row.T.Denot} {U = g.row.U.Denot} c.domain.inside.state c.assume_loan.new.state c.domain.invariant c.args.domain.now c.domain.view_is c.args.self.loan.number c.assume_loan.result c.assume_loan.ensures c.if-not-assume_loan.true;
+    waits = waiting-same c.args.domain.now _ (left-same {T = g.row.T.Denot} {U = g.row.U.Denot} c.domain.inside.state c.assume_loan.new.state c.domain.invariant c.args.domain.now c.domain.view_is c.args.self.loan.number c.assume_loan.result c.assume_loan.ensures c.if-not-assume_loan.true);
+    up_to_date = left-leaves {T = g.row.T.Denot} {U = g.row.U.Denot} c.domain.inside.state c.assume_loan.new.state c.domain.invariant c.args.domain.now c.domain.view_is c.args.self.loan.number c.assume_loan.result c.assume_loan.ensures c.if-not-assume_loan.true;
+    loans_left = left-loans {T = g.row.T.Denot} {U = g.row.U.Denot} c.domain.inside.state c.assume_loan.new.state c.domain.invariant c.args.domain.now c.domain.view_is c.args.self.loan.number c.assume_loan.result c.assume_loan.ensures c.if-not-assume_loan.true;
+  };
 }
 
 pub returns : goal.returns
@@ -48,8 +50,10 @@ returns g c = record {
   header = λ header. taken-header {T = g.row.T.Denot} {U = g.row.U.Denot} c.domain.inside.state c.assume_loan.new.state c.domain.invariant c.args.domain.now c.domain.view_is c.args.self.loan.number c.assume_loan.result c.assume_loan.ensures c.if-not-assume_loan.false (unwritten_key c.args.self) (written_key (record { service_id = c.args.self.service_id; loan = c.args.self.loan })) refl refl header;
   user_header = λ header. taken-user-header {T = g.row.T.Denot} {U = g.row.U.Denot} c.domain.inside.state c.assume_loan.new.state c.domain.invariant c.args.domain.now c.domain.view_is c.args.self.loan.number c.assume_loan.result c.assume_loan.ensures c.if-not-assume_loan.false (unwritten_key c.args.self) (written_key (record { service_id = c.args.self.service_id; loan = c.args.self.loan })) refl refl header;
   handed_back = refl;
-  waits = taken-waits {T = g.row.T.Denot} {U = g.row.U.Denot} c.domain.inside.state c.assume_loan.new.state c.domain.invariant c.args.domain.now c.domain.view_is c.args.self.loan.number c.assume_loan.result c.assume_loan.ensures c.if-not-assume_loan.false;
-  up_to_date = taken-leaves {T = g.row.T.Denot} {U = g.row.U.Denot} c.domain.inside.state c.assume_loan.new.state c.domain.invariant c.args.domain.now c.domain.view_is c.args.self.loan.number c.assume_loan.result c.assume_loan.ensures c.if-not-assume_loan.false;
-  loans_left = taken-left {T = g.row.T.Denot} {U = g.row.U.Denot} c.domain.inside.state c.assume_loan.new.state c.domain.invariant c.args.domain.now c.domain.view_is c.args.self.loan.number c.assume_loan.result c.assume_loan.ensures c.if-not-assume_loan.false;
-  stays = taken-stays {T = g.row.T.Denot} {U = g.row.U.Denot} c.domain.inside.state c.assume_loan.new.state c.domain.invariant c.args.domain.now c.domain.view_is c.args.self.loan.number c.assume_loan.result c.assume_loan.ensures c.if-not-assume_loan.false;
+  leaves = record {
+    stays = taken-stays {T = g.row.T.Denot} {U = g.row.U.Denot} c.domain.inside.state c.assume_loan.new.state c.domain.invariant c.args.domain.now c.domain.view_is c.args.self.loan.number c.assume_loan.result c.assume_loan.ensures c.if-not-assume_loan.false;
+    waits = taken-waits {T = g.row.T.Denot} {U = g.row.U.Denot} c.domain.inside.state c.assume_loan.new.state c.domain.invariant c.args.domain.now c.domain.view_is c.args.self.loan.number c.assume_loan.result c.assume_loan.ensures c.if-not-assume_loan.false;
+    up_to_date = taken-leaves {T = g.row.T.Denot} {U = g.row.U.Denot} c.domain.inside.state c.assume_loan.new.state c.domain.invariant c.args.domain.now c.domain.view_is c.args.self.loan.number c.assume_loan.result c.assume_loan.ensures c.if-not-assume_loan.false;
+    loans_left = taken-left {T = g.row.T.Denot} {U = g.row.U.Denot} c.domain.inside.state c.assume_loan.new.state c.domain.invariant c.args.domain.now c.domain.view_is c.args.self.loan.number c.assume_loan.result c.assume_loan.ensures c.if-not-assume_loan.false;
+  };
 }

@@ -24,29 +24,19 @@ returns-clause-spent g c =
     discard-spends {T = g.row.T.Denot} {U = g.row.U.Denot} c.args.domain.now (keeping _ c.discard_loan.new.state) it.0 it.1 it.2 c.args.self.loan.number (it.3).0
     (returns-clause-discarded g c it.0 it.1 (it.3).0 it.2 (it.3).1) (unwritten_key c.args.self) refl
 
-pub returns-clause-stays : goal.returns-clause-stays
-returns-clause-stays g c =
+pub returns-clause-leaves : goal.returns-clause-leaves
+returns-clause-leaves g c =
     let it = loan-shown {T = g.row.T.Denot} {U = g.row.U.Denot} c.domain.inside.state c.args.domain.now c.domain.invariant c.domain.view_is _ c.requires.live in
-    discard-stays {T = g.row.T.Denot} {U = g.row.U.Denot} c.args.domain.now (keeping _ c.discard_loan.new.state) it.0 it.1 it.2 c.args.self.loan.number (it.3).0
-    (returns-clause-discarded g c it.0 it.1 (it.3).0 it.2 (it.3).1) (same-boxes c.domain.inside.state c.discard_loan.new.state c.args.domain.now c.domain.view_is)
-
-pub returns-clause-waits : goal.returns-clause-waits
-returns-clause-waits g c =
-    let it = loan-shown {T = g.row.T.Denot} {U = g.row.U.Denot} c.domain.inside.state c.args.domain.now c.domain.invariant c.domain.view_is _ c.requires.live in
-    discard-waits {T = g.row.T.Denot} {U = g.row.U.Denot} c.args.domain.now (keeping _ c.discard_loan.new.state) it.0 it.1 it.2 c.args.self.loan.number (it.3).0
-    (returns-clause-discarded g c it.0 it.1 (it.3).0 it.2 (it.3).1)
-
-pub returns-clause-up_to_date : goal.returns-clause-up_to_date
-returns-clause-up_to_date g c =
-    let it = loan-shown {T = g.row.T.Denot} {U = g.row.U.Denot} c.domain.inside.state c.args.domain.now c.domain.invariant c.domain.view_is _ c.requires.live in
-    discard-leaves {T = g.row.T.Denot} {U = g.row.U.Denot} c.args.domain.now (keeping _ c.discard_loan.new.state) it.0 it.1 it.2 c.args.self.loan.number (it.3).0
-    (returns-clause-discarded g c it.0 it.1 (it.3).0 it.2 (it.3).1)
-
-pub returns-clause-loans_left : goal.returns-clause-loans_left
-returns-clause-loans_left g c =
-    let it = loan-shown {T = g.row.T.Denot} {U = g.row.U.Denot} c.domain.inside.state c.args.domain.now c.domain.invariant c.domain.view_is _ c.requires.live in
-    discard-left {T = g.row.T.Denot} {U = g.row.U.Denot} c.args.domain.now (keeping _ c.discard_loan.new.state) it.0 it.0 it.1 _ it.2
-    (returns-clause-discarded g c it.0 it.1 (it.3).0 it.2 (it.3).1) c.args.self.loan.number (it.3).0 (it.3).1 refl
+    record {
+      stays = discard-stays {T = g.row.T.Denot} {U = g.row.U.Denot} c.args.domain.now (keeping _ c.discard_loan.new.state) it.0 it.1 it.2 c.args.self.loan.number (it.3).0
+          (returns-clause-discarded g c it.0 it.1 (it.3).0 it.2 (it.3).1) (same-boxes c.domain.inside.state c.discard_loan.new.state c.args.domain.now c.domain.view_is);
+      waits = discard-waits {T = g.row.T.Denot} {U = g.row.U.Denot} c.args.domain.now (keeping _ c.discard_loan.new.state) it.0 it.1 it.2 c.args.self.loan.number (it.3).0
+          (returns-clause-discarded g c it.0 it.1 (it.3).0 it.2 (it.3).1);
+      up_to_date = discard-leaves {T = g.row.T.Denot} {U = g.row.U.Denot} c.args.domain.now (keeping _ c.discard_loan.new.state) it.0 it.1 it.2 c.args.self.loan.number (it.3).0
+          (returns-clause-discarded g c it.0 it.1 (it.3).0 it.2 (it.3).1);
+      loans_left = discard-left {T = g.row.T.Denot} {U = g.row.U.Denot} c.args.domain.now (keeping _ c.discard_loan.new.state) it.0 it.0 it.1 _ it.2
+          (returns-clause-discarded g c it.0 it.1 (it.3).0 it.2 (it.3).1) c.args.self.loan.number (it.3).0 (it.3).1 refl;
+    }
 
 pub returns-clause-given_back : goal.returns-clause-given_back
 returns-clause-given_back g c =

@@ -35,9 +35,11 @@ returns g c =
         reads = λ w. (lent w).cells (w ∷ []) (one-changed _ w one);
         header = λ w header. (lent w).same_header refl (unwritten_key c.args.sample.now) refl header;
         user_header = λ w header. (lent w).same_user_header refl (unwritten_key c.args.sample.now) refl header;
-        waits = λ w. (lent w).waits;
-        up_to_date = λ w. (lent w).up_to_date;
-        loans_left = λ w. (lent w).loans_left;
-        stays = λ w. (lent w).stays;
+        leaves = λ w. record {
+          stays = (lent w).stays;
+          waits = (lent w).waits;
+          up_to_date = (lent w).up_to_date;
+          loans_left = (lent w).loans_left;
+        };
       },
     )

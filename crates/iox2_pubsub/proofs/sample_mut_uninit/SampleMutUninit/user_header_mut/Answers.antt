@@ -32,9 +32,11 @@ returns g c =
         is = λ w. (lent w).user_header (unwritten_key c.args.sample.now) w refl refl;
         reads = λ w. (lent w).same_cells refl;
         header = λ w header. (lent w).same_header refl (unwritten_key c.args.sample.now) refl header;
-        waits = λ w. (lent w).waits;
-        up_to_date = λ w. (lent w).up_to_date;
-        loans_left = λ w. (lent w).loans_left;
-        stays = λ w. (lent w).stays;
+        leaves = λ w. record {
+          stays = (lent w).stays;
+          waits = (lent w).waits;
+          up_to_date = (lent w).up_to_date;
+          loans_left = (lent w).loans_left;
+        };
       },
     )

@@ -29,23 +29,28 @@ returns-clause-out g c =
     c.args.self.loan.number c.args.value c.write_loan.ensures.writes c.args.self (record { service_id = c.args.self.service_id; loan = c.write_loan.result }) refl refl
     (ap (λ (at : LoanAt). at.publisher) c.write_loan.ensures.same) (ap (λ (at : LoanAt). at.number) c.write_loan.ensures.same) c.requires.live
 
-pub returns-clause-stays : goal.returns-clause-stays
-returns-clause-stays g c =
+pub returns-clause-leaves : goal.returns-clause-leaves
+returns-clause-leaves g c =
     let it = always-shown {T = g.row.T.Denot} {U = g.row.U.Denot} c.domain.inside.state c.args.domain.now c.domain.invariant c.domain.view_is in
     let step = returns-clause-written g c it.0 it.1 it.2 in
-    change-stays {T = g.row.T.Denot} {U = g.row.U.Denot} c.args.domain.now _ it.0 it.1 it.2 c.args.self.loan.number (written step.0 c.args.value) step.2 (same-boxes c.domain.inside.state c.write_loan.new.state c.args.domain.now c.domain.view_is)
+    record {
+      stays = change-stays {T = g.row.T.Denot} {U = g.row.U.Denot} c.args.domain.now _ it.0 it.1 it.2 c.args.self.loan.number (written step.0 c.args.value) step.2 (same-boxes c.domain.inside.state c.write_loan.new.state c.args.domain.now c.domain.view_is);
+      waits = set-waits {T = g.row.T.Denot} {U = g.row.U.Denot} c.args.domain.now _ it.0 it.1 it.2 c.args.self.loan.number _ step.2;
+      up_to_date = set-leaves {T = g.row.T.Denot} {U = g.row.U.Denot} c.args.domain.now _ it.0 it.1 it.2 c.args.self.loan.number _ step.2;
+      loans_left = set-left {T = g.row.T.Denot} {U = g.row.U.Denot} c.args.domain.now _ it.0 it.0 it.1 _ it.2 step.2 c.args.self.loan.number _ refl;
+    }
 
 pub returns-clause-live : goal.returns-clause-live
 returns-clause-live g c = λ never. record {
   out = returns-clause-out g c;
   never_waits = never-waits-alike (keeping (record { publishers = (c.domain.inside.boxes).boxes; subscribers = (c.domain.inside.subscriber_boxes).boxes }) c.write_loan.new.state) (unwritten_key c.args.self) (written_key (record { service_id = c.args.self.service_id; loan = c.write_loan.result }))
-      (ap (λ (at : LoanAt). at.publisher) c.write_loan.ensures.same) ((returns-clause-stays g c).never_wait (unwritten_key c.args.self) never);
+      (ap (λ (at : LoanAt). at.publisher) c.write_loan.ensures.same) (((returns-clause-leaves g c).stays).never_wait (unwritten_key c.args.self) never);
 }
 
 pub returns-clause-unblocked : goal.returns-clause-unblocked
 returns-clause-unblocked g c = λ free.
     unblocked-alike (keeping (record { publishers = (c.domain.inside.boxes).boxes; subscribers = (c.domain.inside.subscriber_boxes).boxes }) c.write_loan.new.state) (unwritten_key c.args.self) (written_key (record { service_id = c.args.self.service_id; loan = c.write_loan.result }))
-    (ap (λ (at : LoanAt). at.publisher) c.write_loan.ensures.same) ((returns-clause-stays g c).unblocked (unwritten_key c.args.self) free tt)
+    (ap (λ (at : LoanAt). at.publisher) c.write_loan.ensures.same) (((returns-clause-leaves g c).stays).unblocked (unwritten_key c.args.self) free tt)
 
 pub write_loan-requires-clause-single : goal.write_loan-requires-clause-single
 write_loan-requires-clause-single g c =
@@ -75,22 +80,4 @@ returns-clause-user_header g c = λ header.
 pub returns-clause-lent : goal.returns-clause-lent
 returns-clause-lent g c = λ lent.
     subst (λ (p : ℕ). IsPublisherKey (keeping (record { publishers = (c.domain.inside.boxes).boxes; subscribers = (c.domain.inside.subscriber_boxes).boxes }) c.write_loan.new.state) (record { service_id = c.args.self.service_id; port = p; message = 0 })) (sym (ap (λ (at : LoanAt). at.publisher) c.write_loan.ensures.same))
-    ((returns-clause-stays g c).publishers (lender_key (unwritten_key c.args.self)) lent tt)
-
-pub returns-clause-waits : goal.returns-clause-waits
-returns-clause-waits g c =
-    let it = always-shown {T = g.row.T.Denot} {U = g.row.U.Denot} c.domain.inside.state c.args.domain.now c.domain.invariant c.domain.view_is in
-    let step = returns-clause-written g c it.0 it.1 it.2 in
-    set-waits {T = g.row.T.Denot} {U = g.row.U.Denot} c.args.domain.now _ it.0 it.1 it.2 c.args.self.loan.number _ step.2
-
-pub returns-clause-up_to_date : goal.returns-clause-up_to_date
-returns-clause-up_to_date g c =
-    let it = always-shown {T = g.row.T.Denot} {U = g.row.U.Denot} c.domain.inside.state c.args.domain.now c.domain.invariant c.domain.view_is in
-    let step = returns-clause-written g c it.0 it.1 it.2 in
-    set-leaves {T = g.row.T.Denot} {U = g.row.U.Denot} c.args.domain.now _ it.0 it.1 it.2 c.args.self.loan.number _ step.2
-
-pub returns-clause-loans_left : goal.returns-clause-loans_left
-returns-clause-loans_left g c =
-    let it = always-shown {T = g.row.T.Denot} {U = g.row.U.Denot} c.domain.inside.state c.args.domain.now c.domain.invariant c.domain.view_is in
-    let step = returns-clause-written g c it.0 it.1 it.2 in
-    set-left {T = g.row.T.Denot} {U = g.row.U.Denot} c.args.domain.now _ it.0 it.0 it.1 _ it.2 step.2 c.args.self.loan.number _ refl
+    (((returns-clause-leaves g c).stays).publishers (lender_key (unwritten_key c.args.self)) lent tt)

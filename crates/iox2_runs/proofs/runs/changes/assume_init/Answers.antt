@@ -42,7 +42,7 @@ returns-in_default-clause-carries g c =
 pub returns-in-Ok-clause-leaves : goal.returns-in-Ok-clause-leaves
 returns-in-Ok-clause-leaves g c =
     leaves-spending {T = g.row.T.Denot} {U = g.row.U.Denot} c.args.domain.now c.assume_init.new.domain c.args.table.now.items c.put.new.table.items c.args.of
-    (Unwritten c.in-Unwritten.loan) (Written c.in-Ok.loan) (sym c.take.ensures.made ∙ c.in-Unwritten.is) (stays-but-more _ _ _ _ c.assume_init.ensures.stays)
+    (Unwritten c.in-Unwritten.loan) (Written c.in-Ok.loan) (sym c.take.ensures.made ∙ c.in-Unwritten.is) (stays-but-more _ _ _ _ c.assume_init.ensures.leaves.stays)
     (λ start fresh. subst (λ (k : Key). IsNewIn start (Both (A_loan k.message) (A_blocked_send k.port))) (sym c.in-Ok.ensures.key) fresh)
     (c.put.ensures.items ∙ ap (λ (t : List Made). slice_set t c.args.of (Written c.in-Ok.loan)) c.take.ensures.items ∙ set_again c.args.table.now.items c.args.of Nothing (Written c.in-Ok.loan)) tt
 

@@ -27,7 +27,7 @@ returns-in-Unwritten-clause-carries g c =
 pub returns-in-Unwritten-clause-leaves : goal.returns-in-Unwritten-clause-leaves
 returns-in-Unwritten-clause-leaves g c =
     leaves-spending {T = g.row.T.Denot} {U = g.row.U.Denot} c.args.domain.now (with_user_header c.args.domain.now c.in-Unwritten.loan.loan.number c.args.value) c.args.table.now.items c.put.new.table.items c.args.of
-    (Unwritten c.in-Unwritten.loan) (Unwritten c.user_header_mut.new.sample) (sym c.take.ensures.made ∙ c.in-Unwritten.is) (stays-but-more _ _ _ _ (c.user_header_mut.ensures.stays c.args.value))
+    (Unwritten c.in-Unwritten.loan) (Unwritten c.user_header_mut.new.sample) (sym c.take.ensures.made ∙ c.in-Unwritten.is) (stays-but-more _ _ _ _ (c.user_header_mut.ensures.leaves c.args.value).stays)
     (λ start fresh. rw c.user_header_mut.ensures.same fresh)
     (c.put.ensures.items ∙ ap (λ (t : List Made). slice_set t c.args.of (Unwritten c.user_header_mut.new.sample)) c.take.ensures.items ∙ set_again c.args.table.now.items c.args.of Nothing (Unwritten c.user_header_mut.new.sample)) tt
 
@@ -46,7 +46,7 @@ returns-in-Written-clause-carries g c =
 pub returns-in-Written-clause-leaves : goal.returns-in-Written-clause-leaves
 returns-in-Written-clause-leaves g c =
     leaves-spending {T = g.row.T.Denot} {U = g.row.U.Denot} c.args.domain.now (with_user_header c.args.domain.now c.in-Written.loan.loan.number c.args.value) c.args.table.now.items c.put-in-Written.new.table.items c.args.of
-    (Written c.in-Written.loan) (Written c.user_header_mut-in-Written.new.sample) (sym c.take.ensures.made ∙ c.in-Written.is) (stays-but-more _ _ _ _ (c.user_header_mut-in-Written.ensures.stays c.args.value))
+    (Written c.in-Written.loan) (Written c.user_header_mut-in-Written.new.sample) (sym c.take.ensures.made ∙ c.in-Written.is) (stays-but-more _ _ _ _ (c.user_header_mut-in-Written.ensures.leaves c.args.value).stays)
     (λ start fresh. rw c.user_header_mut-in-Written.ensures.same fresh)
     (c.put-in-Written.ensures.items ∙ ap (λ (t : List Made). slice_set t c.args.of (Written c.user_header_mut-in-Written.new.sample)) c.take.ensures.items ∙ set_again c.args.table.now.items c.args.of Nothing (Written c.user_header_mut-in-Written.new.sample)) tt
 

@@ -40,12 +40,12 @@ returns-in_default-clause-carries g c =
 pub returns-in-Unwritten-clause-leaves : goal.returns-in-Unwritten-clause-leaves
 returns-in-Unwritten-clause-leaves g c =
     leaves-spending {T = g.row.T.Denot} {U = g.row.U.Denot} c.args.domain.now c.discard.new.domain c.args.table.now.items c.take.new.table.items c.args.of
-    (Unwritten c.in-Unwritten.loan) Nothing (sym c.take.ensures.made ∙ c.in-Unwritten.is) (stays-but-more _ _ _ _ c.discard.ensures.stays) (λ start new. nothing-is-new start) c.take.ensures.items tt
+    (Unwritten c.in-Unwritten.loan) Nothing (sym c.take.ensures.made ∙ c.in-Unwritten.is) (stays-but-more _ _ _ _ c.discard.ensures.leaves.stays) (λ start new. nothing-is-new start) c.take.ensures.items tt
 
 pub returns-in-Written-clause-leaves : goal.returns-in-Written-clause-leaves
 returns-in-Written-clause-leaves g c =
     leaves-spending {T = g.row.T.Denot} {U = g.row.U.Denot} c.args.domain.now c.discard-in-Written.new.domain c.args.table.now.items c.take.new.table.items c.args.of
-    (Written c.in-Written.loan) Nothing (sym c.take.ensures.made ∙ c.in-Written.is) (stays-but-more _ _ _ _ c.discard-in-Written.ensures.stays) (λ start new. nothing-is-new start) c.take.ensures.items tt
+    (Written c.in-Written.loan) Nothing (sym c.take.ensures.made ∙ c.in-Written.is) (stays-but-more _ _ _ _ c.discard-in-Written.ensures.leaves.stays) (λ start new. nothing-is-new start) c.take.ensures.items tt
 
 pub returns-in_default-clause-leaves : goal.returns-in_default-clause-leaves
 returns-in_default-clause-leaves g c =

@@ -44,8 +44,8 @@ returns-in-Err-clause-carries g c =
 
 pub returns-in-Ok-clause-leaves : goal.returns-in-Ok-clause-leaves
 returns-in-Ok-clause-leaves g c =
-    leaves-making {T = g.row.T.Denot} {U = g.row.U.Denot} c.args.domain.now c.create.new.domain c.args.table.now c.create.ensures.stays (MadeSubscriber c.in-Ok.subscriber) c.in-Ok.ensures.new c.in-Ok.ensures.live.placed
+    leaves-making {T = g.row.T.Denot} {U = g.row.U.Denot} c.args.domain.now c.create.new.domain c.args.table.now c.create.ensures.leaves.stays (MadeSubscriber c.in-Ok.subscriber) c.in-Ok.ensures.new c.in-Ok.ensures.live.placed
 
 pub returns-in-Err-clause-leaves : goal.returns-in-Err-clause-leaves
 returns-in-Err-clause-leaves g c =
-    leaves-making {T = g.row.T.Denot} {U = g.row.U.Denot} c.args.domain.now c.create.new.domain c.args.table.now c.create.ensures.stays Nothing (nothing-is-new {T = g.row.T.Denot} {U = g.row.U.Denot} c.args.domain.now) tt
+    leaves-making {T = g.row.T.Denot} {U = g.row.U.Denot} c.args.domain.now c.create.new.domain c.args.table.now c.create.ensures.leaves.stays Nothing (nothing-is-new {T = g.row.T.Denot} {U = g.row.U.Denot} c.args.domain.now) tt

@@ -32,7 +32,7 @@ returns-in_default-clause-carries g c =
 pub returns-in-Sample-clause-leaves : goal.returns-in-Sample-clause-leaves
 returns-in-Sample-clause-leaves g c =
     leaves-spending {T = g.row.T.Denot} {U = g.row.U.Denot} c.args.domain.now c.release.new.domain c.args.table.now.items c.take.new.table.items c.args.of
-    (Sample c.in-Sample.sample) Nothing (sym c.take.ensures.made ∙ c.in-Sample.is) c.release.ensures.stays (λ start new. nothing-is-new start) c.take.ensures.items tt
+    (Sample c.in-Sample.sample) Nothing (sym c.take.ensures.made ∙ c.in-Sample.is) c.release.ensures.leaves.stays (λ start new. nothing-is-new start) c.take.ensures.items tt
 
 pub returns-in_default-clause-leaves : goal.returns-in_default-clause-leaves
 returns-in_default-clause-leaves g c =

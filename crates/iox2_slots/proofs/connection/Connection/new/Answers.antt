@@ -3,11 +3,10 @@ use Rattle.std.proofs.lemmas.Grind.{common_steps}
 use Rattle.iox2_slots.proofs.connection.Connection.new.Goals as goal
 
 pub returns : goal.returns
-returns c = rw (c.in_ok-waiting.ensures, c.in_ok-borrowed.ensures.items, c.in_ok-returned.ensures) refl
+returns c = rw (c.in_ok-waiting.ensures, c.in_ok-borrowed.ensures.items, c.in_ok-borrowed.ensures.exact, c.in_ok-returned.ensures) refl
 
 pub invariant_of-result : goal.invariant_of-result
 invariant_of-result c = record {
   bounded = grind (arith, common_steps);
-  borrow_room = grind (arith, common_steps);
   return_room = grind (arith, common_steps);
 }

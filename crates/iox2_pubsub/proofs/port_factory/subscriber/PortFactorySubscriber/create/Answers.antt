@@ -10,6 +10,7 @@ use Rattle.iox2_pubsub.proofs.CallsStay.{always-shown, subscriber-apart-from-nex
 use Rattle.iox2_pubsub.proofs.WaitingShown.{created-none, creation-waits}
 use Rattle.iox2_pubsub.proofs.UpToDateShown.{creation-leaves}
 use Rattle.iox2_pubsub.proofs.AwaitedShown.{made-awaits}
+use Rattle.iox2_pubsub.proofs.NextPorts.{next-receiver-takes}
 use Rattle.iox2_pubsub.proofs.LoansLeftShown.{subscriber-creation-left}
 use Rattle.iox2_pubsub.proofs.StaysBut.{live-subscriber-boxes, subscriber-box-is}
 use Rattle.iox2_pubsub.specs.Factories.{SubscriberFactory}
@@ -44,20 +45,30 @@ returns-clause-buffer g c =
     (record { service_id = c.config.result.now.service_id; id = c.in_ok-port.port.id; place = c.in_ok-port.port.place; buffer_size = c.max.result })
     c.in_ok-port.ensures.id size (returns-clause-live g c)
 
-pub returns-in_err-port-clause-stays : goal.returns-in_err-port-clause-stays
-returns-in_err-port-clause-stays g c =
+pub returns-in_err-port-clause-leaves : goal.returns-in_err-port-clause-leaves
+returns-in_err-port-clause-leaves g c =
     let it = always-shown {T = g.row.T.Denot} {U = g.row.U.Denot} c.domain.inside.state c.args.domain.now c.domain.invariant c.domain.view_is in
     let step = refused-shown {T = g.row.T.Denot} {U = g.row.U.Denot} (answers_of g.F.BackpressureFn.allows g.G.DegradationFn.allows (c.create_subscriber.new.boxes).boxes) c.domain.inside.state c.create_subscriber.new.state c.args.domain.now c.domain.view_is
     (asked_for c.self.inside.options) c.args.self.settings (ap (λ (f : SubscriberFactory g.row.G.Denot). f.settings) c.self.view_is) c.in_err-port.field-0.0 c.in_err-port.ensures.step it.0 it.1 it.2 in
-    subscriber-creation-stays {T = g.row.T.Denot} {U = g.row.U.Denot} c.args.domain.now _ it.0 it.1 it.2 (answers_of g.F.BackpressureFn.allows g.G.DegradationFn.allows (c.create_subscriber.new.boxes).boxes) c.args.self.settings (Some c.in_err-port.field-0.0) step.0 step.1 step.2 (live-subscriber-boxes c.domain.inside.state c.create_subscriber.new.state c.args.domain.now c.domain.view_is
-    (λ key live other. c.create_subscriber.ensures.others key.port (subscriber-apart-from-next c.domain.inside.state c.args.domain.now c.domain.invariant c.domain.view_is key live)))
+    record {
+      stays = subscriber-creation-stays {T = g.row.T.Denot} {U = g.row.U.Denot} c.args.domain.now _ it.0 it.1 it.2 (answers_of g.F.BackpressureFn.allows g.G.DegradationFn.allows (c.create_subscriber.new.boxes).boxes) c.args.self.settings (Some c.in_err-port.field-0.0) step.0 step.1 step.2 (live-subscriber-boxes c.domain.inside.state c.create_subscriber.new.state c.args.domain.now c.domain.view_is
+          (λ key live other. c.create_subscriber.ensures.others key.port (subscriber-apart-from-next c.domain.inside.state c.args.domain.now c.domain.invariant c.domain.view_is key live)));
+      waits = creation-waits {T = g.row.T.Denot} {U = g.row.U.Denot} c.args.domain.now _ it.0 it.0 it.1 step.0 it.2 step.1 (λ n entry at. at) (answers_of g.F.BackpressureFn.allows g.G.DegradationFn.allows (c.create_subscriber.new.boxes).boxes) c.args.self.settings (Some c.in_err-port.field-0.0) step.2;
+      up_to_date = creation-leaves {T = g.row.T.Denot} {U = g.row.U.Denot} c.args.domain.now _ it.0 it.0 it.1 step.0 it.2 step.1 (answers_of g.F.BackpressureFn.allows g.G.DegradationFn.allows (c.create_subscriber.new.boxes).boxes) c.args.self.settings (Some c.in_err-port.field-0.0) step.2;
+      loans_left = subscriber-creation-left {T = g.row.T.Denot} {U = g.row.U.Denot} c.args.domain.now _ it.0 it.0 it.1 step.0 it.2 step.1 (answers_of g.F.BackpressureFn.allows g.G.DegradationFn.allows (c.create_subscriber.new.boxes).boxes) c.args.self.settings (Some c.in_err-port.field-0.0) step.2;
+    }
 
-pub returns-clause-stays : goal.returns-clause-stays
-returns-clause-stays g c =
+pub returns-clause-leaves : goal.returns-clause-leaves
+returns-clause-leaves g c =
     let it = always-shown {T = g.row.T.Denot} {U = g.row.U.Denot} c.domain.inside.state c.args.domain.now c.domain.invariant c.domain.view_is in
     let step = returns-clause-creates g c it.0 it.1 it.2 in
-    subscriber-creation-stays {T = g.row.T.Denot} {U = g.row.U.Denot} c.args.domain.now _ it.0 it.1 it.2 (answers_of g.F.BackpressureFn.allows g.G.DegradationFn.allows (c.create_subscriber.new.boxes).boxes) c.args.self.settings None step.0 step.1 (step.2).0 (live-subscriber-boxes c.domain.inside.state c.create_subscriber.new.state c.args.domain.now c.domain.view_is
-    (λ key live other. c.create_subscriber.ensures.others key.port (subscriber-apart-from-next c.domain.inside.state c.args.domain.now c.domain.invariant c.domain.view_is key live)))
+    record {
+      stays = subscriber-creation-stays {T = g.row.T.Denot} {U = g.row.U.Denot} c.args.domain.now _ it.0 it.1 it.2 (answers_of g.F.BackpressureFn.allows g.G.DegradationFn.allows (c.create_subscriber.new.boxes).boxes) c.args.self.settings None step.0 step.1 (step.2).0 (live-subscriber-boxes c.domain.inside.state c.create_subscriber.new.state c.args.domain.now c.domain.view_is
+          (λ key live other. c.create_subscriber.ensures.others key.port (subscriber-apart-from-next c.domain.inside.state c.args.domain.now c.domain.invariant c.domain.view_is key live)));
+      waits = creation-waits {T = g.row.T.Denot} {U = g.row.U.Denot} c.args.domain.now _ it.0 it.0 it.1 step.0 it.2 step.1 (λ n entry at. at) (answers_of g.F.BackpressureFn.allows g.G.DegradationFn.allows (c.create_subscriber.new.boxes).boxes) c.args.self.settings None (step.2).0;
+      up_to_date = creation-leaves {T = g.row.T.Denot} {U = g.row.U.Denot} c.args.domain.now _ it.0 it.0 it.1 step.0 it.2 step.1 (answers_of g.F.BackpressureFn.allows g.G.DegradationFn.allows (c.create_subscriber.new.boxes).boxes) c.args.self.settings None (step.2).0;
+      loans_left = subscriber-creation-left {T = g.row.T.Denot} {U = g.row.U.Denot} c.args.domain.now _ it.0 it.0 it.1 step.0 it.2 step.1 (answers_of g.F.BackpressureFn.allows g.G.DegradationFn.allows (c.create_subscriber.new.boxes).boxes) c.args.self.settings None (step.2).0;
+    }
 
 pub returns-clause-new : goal.returns-clause-new
 returns-clause-new g c =
@@ -72,45 +83,6 @@ returns-clause-none g c =
     created-none {T = g.row.T.Denot} {U = g.row.U.Denot} c.args.domain.now _ it.0 it.0 it.1 step.0 it.2 step.1 (λ n entry at. at) (answers_of g.F.BackpressureFn.allows g.G.DegradationFn.allows (c.create_subscriber.new.boxes).boxes) c.args.self.settings (step.2).0
     (record { service_id = c.config.result.now.service_id; id = c.in_ok-port.port.id; place = c.in_ok-port.port.place; buffer_size = c.max.result }) (step.2).1
 
-pub returns-in_err-port-clause-waits : goal.returns-in_err-port-clause-waits
-returns-in_err-port-clause-waits g c =
-    let it = always-shown {T = g.row.T.Denot} {U = g.row.U.Denot} c.domain.inside.state c.args.domain.now c.domain.invariant c.domain.view_is in
-    let step = refused-shown {T = g.row.T.Denot} {U = g.row.U.Denot} (answers_of g.F.BackpressureFn.allows g.G.DegradationFn.allows (c.create_subscriber.new.boxes).boxes) c.domain.inside.state c.create_subscriber.new.state c.args.domain.now c.domain.view_is
-    (asked_for c.self.inside.options) c.args.self.settings (ap (λ (f : SubscriberFactory g.row.G.Denot). f.settings) c.self.view_is) c.in_err-port.field-0.0 c.in_err-port.ensures.step it.0 it.1 it.2 in
-    creation-waits {T = g.row.T.Denot} {U = g.row.U.Denot} c.args.domain.now _ it.0 it.0 it.1 step.0 it.2 step.1 (λ n entry at. at) (answers_of g.F.BackpressureFn.allows g.G.DegradationFn.allows (c.create_subscriber.new.boxes).boxes) c.args.self.settings (Some c.in_err-port.field-0.0) step.2
-
-pub returns-clause-waits : goal.returns-clause-waits
-returns-clause-waits g c =
-    let it = always-shown {T = g.row.T.Denot} {U = g.row.U.Denot} c.domain.inside.state c.args.domain.now c.domain.invariant c.domain.view_is in
-    let step = returns-clause-creates g c it.0 it.1 it.2 in
-    creation-waits {T = g.row.T.Denot} {U = g.row.U.Denot} c.args.domain.now _ it.0 it.0 it.1 step.0 it.2 step.1 (λ n entry at. at) (answers_of g.F.BackpressureFn.allows g.G.DegradationFn.allows (c.create_subscriber.new.boxes).boxes) c.args.self.settings None (step.2).0
-
-pub returns-in_err-port-clause-up_to_date : goal.returns-in_err-port-clause-up_to_date
-returns-in_err-port-clause-up_to_date g c =
-    let it = always-shown {T = g.row.T.Denot} {U = g.row.U.Denot} c.domain.inside.state c.args.domain.now c.domain.invariant c.domain.view_is in
-    let step = refused-shown {T = g.row.T.Denot} {U = g.row.U.Denot} (answers_of g.F.BackpressureFn.allows g.G.DegradationFn.allows (c.create_subscriber.new.boxes).boxes) c.domain.inside.state c.create_subscriber.new.state c.args.domain.now c.domain.view_is
-    (asked_for c.self.inside.options) c.args.self.settings (ap (λ (f : SubscriberFactory g.row.G.Denot). f.settings) c.self.view_is) c.in_err-port.field-0.0 c.in_err-port.ensures.step it.0 it.1 it.2 in
-    creation-leaves {T = g.row.T.Denot} {U = g.row.U.Denot} c.args.domain.now _ it.0 it.0 it.1 step.0 it.2 step.1 (answers_of g.F.BackpressureFn.allows g.G.DegradationFn.allows (c.create_subscriber.new.boxes).boxes) c.args.self.settings (Some c.in_err-port.field-0.0) step.2
-
-pub returns-clause-up_to_date : goal.returns-clause-up_to_date
-returns-clause-up_to_date g c =
-    let it = always-shown {T = g.row.T.Denot} {U = g.row.U.Denot} c.domain.inside.state c.args.domain.now c.domain.invariant c.domain.view_is in
-    let step = returns-clause-creates g c it.0 it.1 it.2 in
-    creation-leaves {T = g.row.T.Denot} {U = g.row.U.Denot} c.args.domain.now _ it.0 it.0 it.1 step.0 it.2 step.1 (answers_of g.F.BackpressureFn.allows g.G.DegradationFn.allows (c.create_subscriber.new.boxes).boxes) c.args.self.settings None (step.2).0
-
-pub returns-in_err-port-clause-loans_left : goal.returns-in_err-port-clause-loans_left
-returns-in_err-port-clause-loans_left g c =
-    let it = always-shown {T = g.row.T.Denot} {U = g.row.U.Denot} c.domain.inside.state c.args.domain.now c.domain.invariant c.domain.view_is in
-    let step = refused-shown {T = g.row.T.Denot} {U = g.row.U.Denot} (answers_of g.F.BackpressureFn.allows g.G.DegradationFn.allows (c.create_subscriber.new.boxes).boxes) c.domain.inside.state c.create_subscriber.new.state c.args.domain.now c.domain.view_is
-    (asked_for c.self.inside.options) c.args.self.settings (ap (λ (f : SubscriberFactory g.row.G.Denot). f.settings) c.self.view_is) c.in_err-port.field-0.0 c.in_err-port.ensures.step it.0 it.1 it.2 in
-    subscriber-creation-left {T = g.row.T.Denot} {U = g.row.U.Denot} c.args.domain.now _ it.0 it.0 it.1 step.0 it.2 step.1 (answers_of g.F.BackpressureFn.allows g.G.DegradationFn.allows (c.create_subscriber.new.boxes).boxes) c.args.self.settings (Some c.in_err-port.field-0.0) step.2
-
-pub returns-clause-loans_left : goal.returns-clause-loans_left
-returns-clause-loans_left g c =
-    let it = always-shown {T = g.row.T.Denot} {U = g.row.U.Denot} c.domain.inside.state c.args.domain.now c.domain.invariant c.domain.view_is in
-    let step = returns-clause-creates g c it.0 it.1 it.2 in
-    subscriber-creation-left {T = g.row.T.Denot} {U = g.row.U.Denot} c.args.domain.now _ it.0 it.0 it.1 step.0 it.2 step.1 (answers_of g.F.BackpressureFn.allows g.G.DegradationFn.allows (c.create_subscriber.new.boxes).boxes) c.args.self.settings None (step.2).0
-
 pub returns-clause-boxed : goal.returns-clause-boxed
 returns-clause-boxed g c =
     subscriber-box-is (record { publishers = (c.domain.inside.boxes).boxes; subscribers = (c.create_subscriber.new.boxes).boxes }) c.create_subscriber.new.state c.in_ok-port.port.id c.args.self.box
@@ -121,7 +93,8 @@ returns-clause-awaits g c = λ none publisher there.
     let it = always-shown {T = g.row.T.Denot} {U = g.row.U.Denot} c.domain.inside.state c.args.domain.now c.domain.invariant c.domain.view_is in
     let step = returns-clause-creates g c it.0 it.1 it.2 in
     made-awaits {T = g.row.T.Denot} {U = g.row.U.Denot} c.args.domain.now _ it.0 it.0 it.1 step.0 it.2 step.1 (answers_of g.F.BackpressureFn.allows g.G.DegradationFn.allows (c.create_subscriber.new.boxes).boxes) c.args.self.settings (step.2).0
-    (record { service_id = c.config.result.now.service_id; id = c.in_ok-port.port.id; place = c.in_ok-port.port.place; buffer_size = c.max.result }) (step.2).1 none publisher there
+    (record { service_id = c.config.result.now.service_id; id = c.in_ok-port.port.id; place = c.in_ok-port.port.place; buffer_size = c.max.result }) (step.2).1
+    (next-receiver-takes {T = g.row.T.Denot} {U = g.row.U.Denot} c.domain.inside.state c.args.domain.now c.domain.invariant c.domain.view_is) none publisher there
 
 pub returns-clause-room : goal.returns-clause-room
 returns-clause-room g c =

@@ -35,9 +35,11 @@ returns g c =
         reads = λ w same. (lent w).values w (values-left (state_of (kept_of c.domain.inside.state)) c.args.sample.now.sample.loan.number (c.find_live_loan-at.ensures).loan (c.find_live_loan-at.ensures).is_out c.values_at_mut.result.now w known same);
         header = λ w header. (lent w).same_header refl (written_key c.args.sample.now.sample) refl header;
         user_header = λ w header. (lent w).same_user_header refl (written_key c.args.sample.now.sample) refl header;
-        waits = λ w. (lent w).waits;
-        up_to_date = λ w. (lent w).up_to_date;
-        loans_left = λ w. (lent w).loans_left;
-        stays = λ w. (lent w).stays;
+        leaves = λ w. record {
+          stays = (lent w).stays;
+          waits = (lent w).waits;
+          up_to_date = (lent w).up_to_date;
+          loans_left = (lent w).loans_left;
+        };
       },
     )

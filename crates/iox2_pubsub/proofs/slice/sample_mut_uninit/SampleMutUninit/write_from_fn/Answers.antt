@@ -23,23 +23,25 @@ returns-clause-written g c = (c.write_loan_from_fn-loan.ensures.writes.0, c.writ
 pub returns-clause-out : goal.returns-clause-out
 returns-clause-out g c = filled-live {T = g.row.T.Denot} {U = g.row.U.Denot} c.domain.inside.state c.write_loan_from_fn-loan.new.state c.domain.invariant c.args.domain.now c.domain.view_is c.args.self.sample.loan.number c.write_loan_from_fn-loan.ensures.writes.0 c.write_loan_from_fn-loan.ensures.writes.2 c.args.self.sample (record { service_id = c.args.self.sample.service_id; loan = c.write_loan_from_fn-loan.result }) refl refl (ap (λ (at : LoanAt). at.publisher) c.write_loan_from_fn-loan.ensures.same) (ap (λ (at : LoanAt). at.number) c.write_loan_from_fn-loan.ensures.same) c.requires.live
 
-pub returns-clause-stays : goal.returns-clause-stays
-returns-clause-stays g c = filled-stays {T = g.row.T.Denot} {U = g.row.U.Denot} c.domain.inside.state c.write_loan_from_fn-loan.new.state c.domain.invariant c.args.domain.now c.domain.view_is c.args.self.sample.loan.number c.write_loan_from_fn-loan.ensures.writes.0 c.write_loan_from_fn-loan.ensures.writes.2
+pub returns-clause-leaves : goal.returns-clause-leaves
+returns-clause-leaves g c = record {
+  stays = filled-stays {T = g.row.T.Denot} {U = g.row.U.Denot} c.domain.inside.state c.write_loan_from_fn-loan.new.state c.domain.invariant c.args.domain.now c.domain.view_is c.args.self.sample.loan.number c.write_loan_from_fn-loan.ensures.writes.0 c.write_loan_from_fn-loan.ensures.writes.2;
+  waits = filled-waits {T = g.row.T.Denot} {U = g.row.U.Denot} c.domain.inside.state c.write_loan_from_fn-loan.new.state c.domain.invariant c.args.domain.now c.domain.view_is c.args.self.sample.loan.number c.write_loan_from_fn-loan.ensures.writes.0 c.write_loan_from_fn-loan.ensures.writes.2;
+  up_to_date = filled-leaves {T = g.row.T.Denot} {U = g.row.U.Denot} c.domain.inside.state c.write_loan_from_fn-loan.new.state c.domain.invariant c.args.domain.now c.domain.view_is c.args.self.sample.loan.number c.write_loan_from_fn-loan.ensures.writes.0 c.write_loan_from_fn-loan.ensures.writes.2;
+  loans_left = filled-left {T = g.row.T.Denot} {U = g.row.U.Denot} c.domain.inside.state c.write_loan_from_fn-loan.new.state c.domain.invariant c.args.domain.now c.domain.view_is c.args.self.sample.loan.number c.write_loan_from_fn-loan.ensures.writes.0 c.write_loan_from_fn-loan.ensures.writes.2;
+}
 
 pub returns-clause-live : goal.returns-clause-live
 returns-clause-live g c = λ never. record {
   out = returns-clause-out g c;
   never_waits = never-waits-alike (keeping (record { publishers = (c.domain.inside.boxes).boxes; subscribers = (c.domain.inside.subscriber_boxes).boxes }) c.write_loan_from_fn-loan.new.state) (unwritten_key c.args.self.sample) (written_key (record { service_id = c.args.self.sample.service_id; loan = c.write_loan_from_fn-loan.result }))
-      (ap (λ (at : LoanAt). at.publisher) c.write_loan_from_fn-loan.ensures.same) ((returns-clause-stays g c).never_wait (unwritten_key c.args.self.sample) never);
+      (ap (λ (at : LoanAt). at.publisher) c.write_loan_from_fn-loan.ensures.same) (((returns-clause-leaves g c).stays).never_wait (unwritten_key c.args.self.sample) never);
 }
 
 pub returns-clause-unblocked : goal.returns-clause-unblocked
 returns-clause-unblocked g c = λ free.
     unblocked-alike (keeping (record { publishers = (c.domain.inside.boxes).boxes; subscribers = (c.domain.inside.subscriber_boxes).boxes }) c.write_loan_from_fn-loan.new.state) (unwritten_key c.args.self.sample) (written_key (record { service_id = c.args.self.sample.service_id; loan = c.write_loan_from_fn-loan.result }))
-    (ap (λ (at : LoanAt). at.publisher) c.write_loan_from_fn-loan.ensures.same) ((returns-clause-stays g c).unblocked (unwritten_key c.args.self.sample) free tt)
-
-pub returns-clause-loans_left : goal.returns-clause-loans_left
-returns-clause-loans_left g c = filled-left {T = g.row.T.Denot} {U = g.row.U.Denot} c.domain.inside.state c.write_loan_from_fn-loan.new.state c.domain.invariant c.args.domain.now c.domain.view_is c.args.self.sample.loan.number c.write_loan_from_fn-loan.ensures.writes.0 c.write_loan_from_fn-loan.ensures.writes.2
+    (ap (λ (at : LoanAt). at.publisher) c.write_loan_from_fn-loan.ensures.same) (((returns-clause-leaves g c).stays).unblocked (unwritten_key c.args.self.sample) free tt)
 
 pub returns-clause-lengths : goal.returns-clause-lengths
 returns-clause-lengths g c = λ cells values has reads.
@@ -49,16 +51,10 @@ returns-clause-lengths g c = λ cells values has reads.
 pub returns-clause-lent : goal.returns-clause-lent
 returns-clause-lent g c = λ lent.
     subst (λ (p : ℕ). IsPublisherKey (keeping (record { publishers = (c.domain.inside.boxes).boxes; subscribers = (c.domain.inside.subscriber_boxes).boxes }) c.write_loan_from_fn-loan.new.state) (record { service_id = c.args.self.sample.service_id; port = p; message = 0 })) (sym (ap (λ (at : LoanAt). at.publisher) c.write_loan_from_fn-loan.ensures.same))
-    ((returns-clause-stays g c).publishers (lender_key (unwritten_key c.args.self.sample)) lent tt)
+    (((returns-clause-leaves g c).stays).publishers (lender_key (unwritten_key c.args.self.sample)) lent tt)
 
 pub returns-clause-header : goal.returns-clause-header
 returns-clause-header g c = filled-header {T = g.row.T.Denot} {U = g.row.U.Denot} c.domain.inside.state c.write_loan_from_fn-loan.new.state c.domain.invariant c.args.domain.now c.domain.view_is c.args.self.sample.loan.number c.write_loan_from_fn-loan.ensures.writes.0 c.write_loan_from_fn-loan.ensures.writes.2 (unwritten_key c.args.self.sample) (written_key (record { service_id = c.args.self.sample.service_id; loan = c.write_loan_from_fn-loan.result })) refl (ap (λ (at : LoanAt). at.number) c.write_loan_from_fn-loan.ensures.same)
 
 pub returns-clause-user_header : goal.returns-clause-user_header
 returns-clause-user_header g c = filled-user-header {T = g.row.T.Denot} {U = g.row.U.Denot} c.domain.inside.state c.write_loan_from_fn-loan.new.state c.domain.invariant c.args.domain.now c.domain.view_is c.args.self.sample.loan.number c.write_loan_from_fn-loan.ensures.writes.0 c.write_loan_from_fn-loan.ensures.writes.2 (unwritten_key c.args.self.sample) (written_key (record { service_id = c.args.self.sample.service_id; loan = c.write_loan_from_fn-loan.result })) refl (ap (λ (at : LoanAt). at.number) c.write_loan_from_fn-loan.ensures.same)
-
-pub returns-clause-waits : goal.returns-clause-waits
-returns-clause-waits g c = filled-waits {T = g.row.T.Denot} {U = g.row.U.Denot} c.domain.inside.state c.write_loan_from_fn-loan.new.state c.domain.invariant c.args.domain.now c.domain.view_is c.args.self.sample.loan.number c.write_loan_from_fn-loan.ensures.writes.0 c.write_loan_from_fn-loan.ensures.writes.2
-
-pub returns-clause-up_to_date : goal.returns-clause-up_to_date
-returns-clause-up_to_date g c = filled-leaves {T = g.row.T.Denot} {U = g.row.U.Denot} c.domain.inside.state c.write_loan_from_fn-loan.new.state c.domain.invariant c.args.domain.now c.domain.view_is c.args.self.sample.loan.number c.write_loan_from_fn-loan.ensures.writes.0 c.write_loan_from_fn-loan.ensures.writes.2
