@@ -24,13 +24,11 @@ use Rattle.iox2_c.specs.declared.numbers.PublisherNumbers.{PublisherNumbers}
 use Rattle.iox2_c.proofs.BecomesSteps.{loan-code-high, moved}
 
 -- what a publisher says of it is said without its handle
-module _ {A : Type 0} (IsByte : ℕ → Type 0) (old new : KeptBytes) (id len : ℕ) where
-  abbrev Lent : {B : Type 0} → Result B LoanError → Type 0
-  Lent made = (m : Messages ℕ (Unit {0})) (s : BytesState) → Shows old m s → (s' : BytesState) × Shows new m s' × DefaultSliceCall IsByte (λ header. Unit {0}) len s id made s'
-
-  pub lent-told : (made : Result A LoanError) → Lent made → Lent (loan_made made)
-  lent-told (Ok it) told = told
-  lent-told (Err error) told = told
+pub lent-told : {A : Type 0} (IsByte : ℕ → Type 0) (old new : KeptBytes) (id len : ℕ) (made : Result A LoanError)
+    → ((m : Messages ℕ (Unit {0})) (s : BytesState) → Shows old m s → (s' : BytesState) × Shows new m s' × DefaultSliceCall IsByte (λ header. Unit {0}) len s id made s')
+    → (m : Messages ℕ (Unit {0})) (s : BytesState) → Shows old m s → (s' : BytesState) × Shows new m s' × DefaultSliceCall IsByte (λ header. Unit {0}) len s id (loan_made made) s'
+lent-told IsByte old new id len (Ok it) told = told
+lent-told IsByte old new id len (Err error) told = told
 
 -- bytes of which nothing is asked
 pub any-bytes : (bytes : List ℕ) → All (λ byte. Unit {0}) bytes
