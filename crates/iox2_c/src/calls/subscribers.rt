@@ -19,7 +19,7 @@ use crate::config::Config;
 use crate::handlers::NoHandler;
 use crate::numbers::{SampleNumbers, SubscriberNumbers};
 use crate::options::{SubscriberOptions, degradation_of};
-use crate::recording::{error_of, subscriber_reply};
+use crate::recording::subscriber_reply;
 use crate::service::{BytesDomain, Service};
 use crate::starts::start_of;
 use crate::status::{INVALID_SETTINGS, NO_SAMPLE, NOT_LIVE, OK, receive_status, subscriber_status};
@@ -172,11 +172,13 @@ fn receive_named(
     };
     let received = subscriber.receive(&mut service.domain);
     subscriber.disown();
-    *failed = error_of(&received);
     match received {
         Ok(Some(sample)) => tell_received(service, numbers, sample, out, payload, len),
         Ok(None) => NO_SAMPLE,
-        Err(error) => receive_status(error),
+        Err(error) => {
+            *failed = Some(error);
+            receive_status(error)
+        }
     }
 }
 
