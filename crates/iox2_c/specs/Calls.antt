@@ -6,7 +6,6 @@ use Rattle.iox2_store.specs.declared.errors.LoanError.{LoanError}
 use Rattle.iox2_store.specs.declared.errors.PublisherCreateError.{PublisherCreateError}
 use Rattle.iox2_store.specs.declared.key.Key.{Key}
 use Rattle.iox2_pubsub.specs.declared.slice.publisher.Publisher.{Publisher}
-use Rattle.iox2_pubsub.specs.declared.slice.sample_mut.SampleMut.{SampleMut}
 use Rattle.iox2_pubsub.specs.Handles.{as_publisher, publisher_id}
 use Rattle.iox2_pubsub.specs.Live.{HasMark, IsLoanKey, IsPublisherKey, IsUnblocked}
 use Rattle.iox2_c.specs.Serving.{KeptBytes}
@@ -19,7 +18,7 @@ publisher_made (Ok it) = Ok (publisher_id (as_publisher it))
 publisher_made (Err error) = Err error
 
 -- What came of a loan, without its handle.
-abbrev pub loan_made : Result SampleMut LoanError → Result (Unit {0}) LoanError
+abbrev pub loan_made : {A : Type 0} → Result A LoanError → Result (Unit {0}) LoanError
 loan_made (Ok it) = Ok tt
 loan_made (Err error) = Err error
 

@@ -5,6 +5,7 @@ mod messages;
 mod ports;
 
 use crate::status::NOT_LIVE;
+pub use answers::{error_of, publisher_reply, subscriber_reply};
 use call_recorder::{NOWHERE, Name, Recorder};
 use iox2_pubsub::ServiceConfig;
 use std::alloc::{AllocError, Global};

@@ -30,6 +30,14 @@ pub fn start_to_write(bytes: &[u8]) -> *mut u8 {
     }
 }
 
+/// The same of a first byte, if there is one.
+pub fn start_if_any(first: Option<NonNull<u8>>) -> *mut u8 {
+    match first {
+        Some(first) => first.as_ptr(),
+        None => nowhere_to_write(),
+    }
+}
+
 // The same.
 #[cold]
 #[inline(never)]

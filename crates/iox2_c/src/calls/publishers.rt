@@ -17,12 +17,13 @@ use crate::config::{Config, strategy_of};
 use crate::handlers::NoHandler;
 use crate::numbers::{LoanNumbers, PublisherNumbers};
 use crate::options::{PublisherOptions, allocation_of, degradation_of};
+use crate::recording::{error_of, publisher_reply};
 use crate::service::{BytesDomain, Service};
-use crate::starts::start_to_write;
+use crate::starts::{start_if_any, start_to_write};
 use crate::status::{
     INVALID_SETTINGS, NOT_LIVE, OK, PUBLISHER_IS_BLOCKED, loan_status, publisher_status,
 };
-use iox2_pubsub::slice::{PortFactoryPublisher, Publisher, SampleMut};
+use iox2_pubsub::slice::{LocatedLoan, PortFactoryPublisher, Publisher, SampleMut};
 use iox2_pubsub::{LoanError, PublisherCreateError};
 
 // A factory of publishers without an override.
@@ -40,10 +41,11 @@ pub fn create(service: &mut Service, out: &mut PublisherNumbers) -> u32
 {
     let factory = plain_factory(service);
     let made = factory.create(&mut service.domain);
+    let reply = publisher_reply(&made);
     let code = tell(made, out);
     let plain = Config::of(service.domain.config(), service.payload_size, 1);
     let options = PublisherOptions::of(&plain);
-    service.recording.publisher(&options, out, code);
+    service.recording.publisher(&options, reply);
     code
 }
 
@@ -152,8 +154,9 @@ pub fn create_with(
     }
     let factory = factory_with(service, options);
     let made = create_by(&mut service.domain, factory, options.preallocated_samples);
+    let reply = publisher_reply(&made);
     let code = tell(made, out);
-    service.recording.publisher(options, out, code);
+    service.recording.publisher(options, reply);
     code
 }
 
@@ -214,7 +217,7 @@ pub fn loan(
     if service.domain.lends_at_once(&numbers.parts(), len) {
         loan_named(service, numbers, len, out, payload)
     } else {
-        loan_elsewhere(service, numbers, len, out, payload)
+        loan_elsewhere(service, numbers, len, out, payload, &mut None)
     }
 }
 
@@ -233,12 +236,12 @@ fn loan_named(
         Ok(publisher) => publisher,
         Err(code) => return code,
     };
-    let lent = publisher.loan_slice(&mut service.domain, len);
+    let lent = publisher.loan_slice_located(&mut service.domain, len);
     publisher.disown();
-    tell_lent(service, numbers, lent, out, payload)
+    tell_located(numbers, lent, out, payload)
 }
 
-// The same, where the publisher is sought.
+// The same, where the publisher is sought, and why it was refused, if it was.
 #[cold]
 #[inline(never)]
 fn loan_elsewhere(
@@ -247,6 +250,7 @@ fn loan_elsewhere(
     len: usize,
     out: &mut LoanNumbers,
     payload: &mut *mut u8,
+    refused: &mut Option<LoanError>,
 ) -> u32
     ensures { LoanReturns Lends numbers.now len service.old service.new out.old out.new result }
 {
@@ -256,6 +260,7 @@ fn loan_elsewhere(
     };
     let lent = lend_zeros(&mut service.domain, &publisher, len);
     publisher.disown();
+    *refused = error_of(&lent);
     tell_lent(service, numbers, lent, out, payload)
 }
 
@@ -271,13 +276,15 @@ fn loan_recorded(
 ) -> u32
     ensures { LoanReturns Lends numbers.now len service.old service.new out.old out.new result }
 {
-    let code = loan_elsewhere(service, numbers, len, out, payload);
-    service.recording.loan(numbers, len, out, code);
+    let mut refused = None;
+    let code = loan_elsewhere(service, numbers, len, out, payload, &mut refused);
+    service.recording.loan(numbers, len, out, code, refused);
     code
 }
 
 // Lends as `loan_slice` does, with a closure of its own: the compiler inlines what fills a loan where
-// one place calls it with this closure, and so it does in `loan_named` with that of `loan_slice`.
+// one place calls it with this closure, and so it does in `loan_named` with that of
+// `loan_slice_located`.
 fn lend_zeros(
     domain: &mut BytesDomain,
     publisher: &Publisher,
@@ -317,6 +324,30 @@ pub fn tell_lent(
     match lent {
         Ok(loan) => {
             *payload = start_to_write(loan.payload(&service.domain));
+            *out = LoanNumbers::lent_by(numbers, &loan.into_inner().into_parts());
+            OK
+        }
+        Err(error) => loan_status(error),
+    }
+}
+
+/// The same of a loan that says where its bytes lie, which isn't looked for again.
+#[inline(always)]
+pub fn tell_located(
+    numbers: &PublisherNumbers,
+    lent: Result<LocatedLoan<u8>, LoanError>,
+    out: &mut LoanNumbers,
+    payload: &mut *mut u8,
+) -> u32
+    requires { IfOk lent (λ it. lender_key (written_key (as_written it.loan)) ≡ named_publisher numbers.now) }
+    ensures code { result ≡ code_of loan_code lent }
+    ensures named { IfOk lent (λ it. named_loan out.new ≡ written_key (as_written it.loan)) }
+    ensures same { IfErr lent (λ _. out.new ≡ out.old) }
+{
+    match lent {
+        Ok(located) => {
+            let LocatedLoan { loan, start } = located;
+            *payload = start_if_any(start);
             *out = LoanNumbers::lent_by(numbers, &loan.into_inner().into_parts());
             OK
         }

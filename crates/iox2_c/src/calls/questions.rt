@@ -20,6 +20,7 @@ use crate::calls::samples::copy_bytes;
 use crate::calls::subscribers::live_subscriber;
 use crate::config::Config;
 use crate::numbers::{PublisherNumbers, SubscriberNumbers};
+use crate::recording::error_of;
 use crate::service::Service;
 use crate::status::{NOT_LIVE, OK, OUT_OF_MEMORY, failure_status};
 use crate::warning::{WarningNumbers, numbers_of};
@@ -36,14 +37,15 @@ pub fn update_publisher(service: &mut Service, numbers: &PublisherNumbers) -> u3
     let publisher = match ready_publisher(&service.domain, numbers) {
         Ok(publisher) => publisher,
         Err(code) => {
-            service.recording.update(numbers.name(), code);
+            service.recording.update(numbers.name(), code, None);
             return code;
         }
     };
     let updated = publisher.update_connections(&mut service.domain);
     publisher.disown();
+    let failed = error_of(&updated);
     let code = update_code(updated);
-    service.recording.update(numbers.name(), code);
+    service.recording.update(numbers.name(), code, failed);
     code
 }
 
@@ -55,13 +57,14 @@ pub fn update_subscriber(service: &mut Service, numbers: &SubscriberNumbers) -> 
     ensures stays { ServesBut No_item service.old service.new }
 {
     let Some(subscriber) = live_subscriber(&service.domain, numbers) else {
-        service.recording.update(numbers.name(), NOT_LIVE);
+        service.recording.update(numbers.name(), NOT_LIVE, None);
         return NOT_LIVE;
     };
     let updated = subscriber.update_connections(&mut service.domain);
     subscriber.disown();
+    let failed = error_of(&updated);
     let code = update_code(updated);
-    service.recording.update(numbers.name(), code);
+    service.recording.update(numbers.name(), code, failed);
     code
 }
 
@@ -74,13 +77,14 @@ pub fn has_samples(service: &mut Service, numbers: &SubscriberNumbers, waits: &m
     ensures stays { ServesBut No_item service.old service.new }
 {
     let Some(subscriber) = live_subscriber(&service.domain, numbers) else {
-        service.recording.question(numbers, NOT_LIVE, 0);
+        service.recording.question(numbers, NOT_LIVE, 0, None);
         return NOT_LIVE;
     };
     let answer = subscriber.has_samples(&mut service.domain);
     subscriber.disown();
+    let failed = error_of(&answer);
     let code = tell_answer(answer, waits);
-    service.recording.question(numbers, code, *waits);
+    service.recording.question(numbers, code, *waits, failed);
     code
 }
 

@@ -16,6 +16,7 @@ ghost use Rattle.iox2_c.specs.Steps.{GivesUp, Retries, SendsCopy};
 use crate::calls::loans::written_loan;
 use crate::calls::publishers::ready_publisher;
 use crate::numbers::{LoanNumbers, PublisherNumbers};
+use crate::recording::error_of;
 use crate::service::{BytesDomain, Service};
 use crate::status::{BLOCKED, NOT_LIVE, OK, PUBLISHER_IS_BLOCKED, send_status};
 use iox2_pubsub::slice::Publisher;
@@ -82,19 +83,21 @@ pub fn send(
         return send_recorded(service, numbers, receivers, blocked);
     }
     if service.domain.sends_at_once(&numbers.parts()) {
-        send_named(service, numbers, receivers, blocked)
+        send_named(service, numbers, receivers, blocked, &mut None)
     } else {
-        send_elsewhere(service, numbers, receivers, blocked)
+        send_elsewhere(service, numbers, receivers, blocked, &mut None)
     }
 }
 
-// The same. What was found before of the loan, and of its publisher, isn't tested again here.
+// The same, and why it failed, if it did. What was found before of the loan, and of its publisher, isn't
+// tested again here.
 #[inline(always)]
 fn send_named(
     service: &mut Service,
     numbers: &LoanNumbers,
     receivers: &mut usize,
     blocked: &mut LoanNumbers,
+    failed: &mut Option<SendError>,
 ) -> u32
     ensures { SendReturns numbers.now service.old service.new receivers.old receivers.new blocked.old blocked.new result }
 {
@@ -106,6 +109,7 @@ fn send_named(
         return PUBLISHER_IS_BLOCKED;
     }
     let sent = loan.send(&mut service.domain);
+    *failed = error_of(&sent);
     tell_of(sent, numbers, receivers, blocked)
 }
 
@@ -117,10 +121,11 @@ fn send_elsewhere(
     numbers: &LoanNumbers,
     receivers: &mut usize,
     blocked: &mut LoanNumbers,
+    failed: &mut Option<SendError>,
 ) -> u32
     ensures { SendReturns numbers.now service.old service.new receivers.old receivers.new blocked.old blocked.new result }
 {
-    send_named(service, numbers, receivers, blocked)
+    send_named(service, numbers, receivers, blocked, failed)
 }
 
 // The same, and it is recorded with its bytes, which C wrote before.
@@ -135,8 +140,9 @@ fn send_recorded(
     ensures { SendReturns numbers.now service.old service.new receivers.old receivers.new blocked.old blocked.new result }
 {
     record_bytes(service, numbers);
-    let code = send_elsewhere(service, numbers, receivers, blocked);
-    service.recording.sent(numbers, code, *receivers);
+    let mut failed = None;
+    let code = send_elsewhere(service, numbers, receivers, blocked, &mut failed);
+    service.recording.sent(numbers, code, *receivers, failed);
     code
 }
 
@@ -173,16 +179,17 @@ pub fn send_copy(
         Err(code) => {
             service
                 .recording
-                .sent_copy(numbers, bytes, blocked, code, 0);
+                .sent_copy(numbers, bytes, blocked, code, 0, None);
             return code;
         }
     };
     let sent = send_bytes(&mut service.domain, &publisher, bytes);
     publisher.disown();
+    let failed = error_of(&sent);
     let code = tell(sent, receivers, blocked);
     service
         .recording
-        .sent_copy(numbers, bytes, blocked, code, *receivers);
+        .sent_copy(numbers, bytes, blocked, code, *receivers, failed);
     code
 }
 
@@ -219,15 +226,18 @@ pub fn retry(
     ensures stays { ServesBut (A_blocked_send (wide (numbers.now).publisher)) service.old service.new }
 {
     let Some(waiting) = service.domain.blocked_of(&numbers.parts()) else {
-        service.recording.retried(numbers, elapsed, NOT_LIVE, 0);
+        service
+            .recording
+            .retried(numbers, elapsed, NOT_LIVE, 0, None);
         return NOT_LIVE;
     };
     let mut still = *numbers;
     let end = waiting.retry(&mut service.domain, Duration::from_nanos(elapsed));
+    let failed = error_of(&end);
     let code = tell(end, receivers, &mut still);
     service
         .recording
-        .retried(numbers, elapsed, code, *receivers);
+        .retried(numbers, elapsed, code, *receivers, failed);
     code
 }
 
@@ -241,12 +251,15 @@ pub fn give_up(service: &mut Service, numbers: &LoanNumbers, receivers: &mut usi
     ensures stays { ServesBut (A_blocked_send (wide (numbers.now).publisher)) service.old service.new }
 {
     let Some(waiting) = service.domain.blocked_of(&numbers.parts()) else {
-        service.recording.given_up(numbers, NOT_LIVE, 0);
+        service.recording.given_up(numbers, NOT_LIVE, 0, None);
         return NOT_LIVE;
     };
     let mut still = *numbers;
     let end = waiting.give_up(&mut service.domain);
+    let failed = error_of(&end);
     let code = tell(end, receivers, &mut still);
-    service.recording.given_up(numbers, code, *receivers);
+    service
+        .recording
+        .given_up(numbers, code, *receivers, failed);
     code
 }

@@ -19,11 +19,12 @@ use crate::config::Config;
 use crate::handlers::NoHandler;
 use crate::numbers::{SampleNumbers, SubscriberNumbers};
 use crate::options::{SubscriberOptions, degradation_of};
+use crate::recording::subscriber_reply;
 use crate::service::{BytesDomain, Service};
 use crate::starts::start_of;
 use crate::status::{INVALID_SETTINGS, NO_SAMPLE, NOT_LIVE, OK, receive_status, subscriber_status};
-use iox2_pubsub::SubscriberCreateError;
 use iox2_pubsub::slice::{PortFactorySubscriber, Sample, Subscriber};
+use iox2_pubsub::{ReceiveError, SubscriberCreateError};
 
 /// Makes a subscriber, as the settings say.
 pub fn create(service: &mut Service, out: &mut SubscriberNumbers) -> u32
@@ -36,10 +37,11 @@ pub fn create(service: &mut Service, out: &mut SubscriberNumbers) -> u32
 {
     let factory = plain_factory(service);
     let made = factory.create(&mut service.domain);
+    let reply = subscriber_reply(&made);
     let code = tell(made, out);
     let plain = Config::of(service.domain.config(), 1, 1);
     let options = SubscriberOptions::of(&plain);
-    service.recording.subscriber(&options, out, code);
+    service.recording.subscriber(&options, reply);
     code
 }
 
@@ -96,8 +98,9 @@ pub fn create_with(
     }
     let factory = factory_with(service, options);
     let made = factory.create(&mut service.domain);
+    let reply = subscriber_reply(&made);
     let code = tell(made, out);
-    service.recording.subscriber(options, out, code);
+    service.recording.subscriber(options, reply);
     code
 }
 
@@ -145,13 +148,14 @@ pub fn receive(
         return receive_recorded(service, numbers, out, payload, len);
     }
     if service.domain.receives_at_once(&numbers.parts()) {
-        receive_named(service, numbers, out, payload, len)
+        receive_named(service, numbers, out, payload, len, &mut None)
     } else {
-        receive_elsewhere(service, numbers, out, payload, len)
+        receive_elsewhere(service, numbers, out, payload, len, &mut None)
     }
 }
 
-// The same. What was found before of the subscriber isn't tested again here.
+// The same, and why it failed, if it did. What was found before of the subscriber isn't tested again
+// here.
 #[inline(always)]
 fn receive_named(
     service: &mut Service,
@@ -159,6 +163,7 @@ fn receive_named(
     out: &mut SampleNumbers,
     payload: &mut *const u8,
     len: &mut usize,
+    failed: &mut Option<ReceiveError>,
 ) -> u32
     ensures { ReceiveReturns numbers.now service.old service.new out.old out.new len.old len.new result }
 {
@@ -170,7 +175,10 @@ fn receive_named(
     match received {
         Ok(Some(sample)) => tell_received(service, numbers, sample, out, payload, len),
         Ok(None) => NO_SAMPLE,
-        Err(error) => receive_status(error),
+        Err(error) => {
+            *failed = Some(error);
+            receive_status(error)
+        }
     }
 }
 
@@ -232,10 +240,11 @@ fn receive_elsewhere(
     out: &mut SampleNumbers,
     payload: &mut *const u8,
     len: &mut usize,
+    failed: &mut Option<ReceiveError>,
 ) -> u32
     ensures { ReceiveReturns numbers.now service.old service.new out.old out.new len.old len.new result }
 {
-    receive_named(service, numbers, out, payload, len)
+    receive_named(service, numbers, out, payload, len, failed)
 }
 
 // The same, and it is recorded.
@@ -250,11 +259,12 @@ fn receive_recorded(
 ) -> u32
     ensures { ReceiveReturns numbers.now service.old service.new out.old out.new len.old len.new result }
 {
-    let code = receive_elsewhere(service, numbers, out, payload, len);
+    let mut failed = None;
+    let code = receive_elsewhere(service, numbers, out, payload, len, &mut failed);
     if code == OK {
         record_sample(service, out);
     } else {
-        service.recording.received_nothing(numbers, code);
+        service.recording.received_nothing(numbers, code, failed);
     }
     code
 }
@@ -296,7 +306,7 @@ pub fn receive_copy(
     ensures stays { ServesBut No_item service.old service.new }
 {
     let Some(subscriber) = live_subscriber(&service.domain, numbers) else {
-        service.recording.received_nothing(numbers, NOT_LIVE);
+        service.recording.received_nothing(numbers, NOT_LIVE, None);
         return NOT_LIVE;
     };
     let received = subscriber.receive(&mut service.domain);
@@ -304,12 +314,14 @@ pub fn receive_copy(
     match received {
         Ok(Some(sample)) => samples::copy_out(service, sample, bytes, len, out),
         Ok(None) => {
-            service.recording.received_nothing(numbers, NO_SAMPLE);
+            service.recording.received_nothing(numbers, NO_SAMPLE, None);
             NO_SAMPLE
         }
         Err(error) => {
             let code = receive_status(error);
-            service.recording.received_nothing(numbers, code);
+            service
+                .recording
+                .received_nothing(numbers, code, Some(error));
             code
         }
     }

@@ -7,9 +7,9 @@ ghost use Rattle.iox2_c.specs.Returns.{LoanReturns};
 ghost use Rattle.iox2_c.specs.Serving.{IsOfBytes};
 ghost use Rattle.iox2_c.specs.Steps.{LendsUninit};
 
-use crate::calls::publishers::{ready_publisher, tell_lent};
+use crate::calls::publishers::{ready_publisher, tell_lent, tell_located};
 use crate::numbers::{LoanNumbers, PublisherNumbers};
-use crate::recording::Recording;
+use crate::recording::error_of;
 use crate::service::{BytesDomain, Service};
 use iox2_pubsub::LoanError;
 use iox2_pubsub::slice::{Publisher, SampleMut};
@@ -24,28 +24,17 @@ pub fn loan_uninit(
 ) -> u32
     ensures { LoanReturns LendsUninit numbers.now len service.old service.new out.old out.new result }
 {
-    let code = loan_named(service, numbers, len, out, payload);
-    // Asked behind the loan: a second way to `loan_named` would keep it from being inlined.
     if service.recording.is_on() {
-        record_loan(&mut service.recording, numbers, len, out, code);
+        return loan_recorded(service, numbers, len, out, payload);
     }
-    code
+    if service.domain.lends_at_once(&numbers.parts(), len) {
+        loan_named(service, numbers, len, out, payload)
+    } else {
+        loan_elsewhere(service, numbers, len, out, payload, &mut None)
+    }
 }
 
-// Records what came of a loan.
-#[cold]
-#[inline(never)]
-fn record_loan(
-    recording: &mut Recording,
-    numbers: &PublisherNumbers,
-    len: usize,
-    out: &LoanNumbers,
-    code: u32,
-) {
-    recording.loan(numbers, len, out, code);
-}
-
-// The loan, which is not recorded.
+// The same. What was found before of the publisher isn't tested again here.
 #[inline(always)]
 fn loan_named(
     service: &mut Service,
@@ -60,9 +49,50 @@ fn loan_named(
         Ok(publisher) => publisher,
         Err(code) => return code,
     };
+    let lent = publisher.loan_unspecified_located(&mut service.domain, len);
+    publisher.disown();
+    tell_located(numbers, lent, out, payload)
+}
+
+// The same, where the publisher is sought, and why it was refused, if it was.
+#[cold]
+#[inline(never)]
+fn loan_elsewhere(
+    service: &mut Service,
+    numbers: &PublisherNumbers,
+    len: usize,
+    out: &mut LoanNumbers,
+    payload: &mut *mut u8,
+    refused: &mut Option<LoanError>,
+) -> u32
+    ensures { LoanReturns LendsUninit numbers.now len service.old service.new out.old out.new result }
+{
+    let publisher = match ready_publisher(&service.domain, numbers) {
+        Ok(publisher) => publisher,
+        Err(code) => return code,
+    };
     let lent = lend_uninit(&mut service.domain, &publisher, len);
     publisher.disown();
+    *refused = error_of(&lent);
     tell_lent(service, numbers, lent, out, payload)
+}
+
+// The same, and it is recorded.
+#[cold]
+#[inline(never)]
+fn loan_recorded(
+    service: &mut Service,
+    numbers: &PublisherNumbers,
+    len: usize,
+    out: &mut LoanNumbers,
+    payload: &mut *mut u8,
+) -> u32
+    ensures { LoanReturns LendsUninit numbers.now len service.old service.new out.old out.new result }
+{
+    let mut refused = None;
+    let code = loan_elsewhere(service, numbers, len, out, payload, &mut refused);
+    service.recording.loan(numbers, len, out, code, refused);
+    code
 }
 
 // Lends unspecified bytes.

@@ -1,15 +1,24 @@
-//! The replies of a run to which a code comes.
+//! The replies of a run to what came of a call.
 
-use crate::status::{BLOCKED, NO_SAMPLE, NOT_LIVE, OK, PUBLISHER_IS_BLOCKED};
+use crate::status::{BLOCKED, NO_SAMPLE, OK};
 use iox2_commands::Reply;
+use iox2_pubsub::slice::{Publisher, Subscriber};
 use iox2_pubsub::{
     ConnectionFailure, LoanError, PublisherCreateError, ReceiveError, SendError,
-    SharedMemoryOpenError, SubscriberCreateError, UniquePublisherId, UniqueSubscriberId,
-    ZeroCopyCreationError,
+    SubscriberCreateError,
 };
 
 /// What came of a call on bytes.
 pub type BytesReply = Reply<u64, u64>;
+
+/// Why a call failed, if it did.
+#[inline(always)]
+pub fn error_of<T, E: Copy>(came: &Result<T, E>) -> Option<E> {
+    match came {
+        Ok(_) => None,
+        Err(error) => Some(*error),
+    }
+}
 
 /// Of a call that has nothing to tell.
 pub fn plain_reply(code: u32) -> BytesReply {
@@ -19,107 +28,68 @@ pub fn plain_reply(code: u32) -> BytesReply {
     }
 }
 
-/// Of making a publisher, which has this id where it was made.
-pub fn publisher_reply(code: u32, id: u128) -> BytesReply {
-    Reply::PublisherRefused(match code {
-        OK => return Reply::PublisherMade(UniquePublisherId::new(id)),
-        50 => PublisherCreateError::ExceedsMaxSupportedPublishers,
-        51 => PublisherCreateError::UnableToCreateDataSegment,
-        52 => PublisherCreateError::FailedToDeployThreadsafetyPolicy,
-        _ => PublisherCreateError::UnableToCreatePortTag,
-    })
-}
-
-/// Of making a subscriber, which has this id where it was made.
-pub fn subscriber_reply(code: u32, id: u128) -> BytesReply {
-    Reply::SubscriberRefused(match code {
-        OK => return Reply::SubscriberMade(UniqueSubscriberId::new(id)),
-        60 => SubscriberCreateError::ExceedsMaxSupportedSubscribers,
-        61 => SubscriberCreateError::BufferSizeExceedsMaxSupportedBufferSizeOfService,
-        62 => SubscriberCreateError::FailedToDeployThreadsafetyPolicy,
-        _ => SubscriberCreateError::UnableToCreatePortTag,
-    })
-}
-
-/// Of a loan.
-pub fn loan_reply(code: u32) -> BytesReply {
-    match code {
-        OK => Reply::Loaned,
-        NOT_LIVE | PUBLISHER_IS_BLOCKED => Reply::Skipped,
-        _ => Reply::LoanRefused(loan_error(code)),
+/// Of making a publisher.
+pub fn publisher_reply(made: &Result<Publisher, PublisherCreateError>) -> BytesReply {
+    match made {
+        Ok(publisher) => Reply::PublisherMade(publisher.id()),
+        Err(error) => Reply::PublisherRefused(*error),
     }
 }
 
-/// Whether the code is that of a refused loan.
-pub fn is_loan_code(code: u32) -> bool {
-    code >= 10 && code < 20
+/// Of making a subscriber.
+pub fn subscriber_reply(made: &Result<Subscriber, SubscriberCreateError>) -> BytesReply {
+    match made {
+        Ok(subscriber) => Reply::SubscriberMade(subscriber.id()),
+        Err(error) => Reply::SubscriberRefused(*error),
+    }
 }
 
-fn loan_error(code: u32) -> LoanError {
+/// Of a loan.
+pub fn loan_reply(code: u32, refused: Option<LoanError>) -> BytesReply {
+    if let Some(error) = refused {
+        return Reply::LoanRefused(error);
+    }
     match code {
-        10 => LoanError::OutOfMemory,
-        11 => LoanError::ExceedsMaxLoans,
-        12 => LoanError::ExceedsMaxLoanSize,
-        _ => LoanError::InternalFailure,
+        OK => Reply::Loaned,
+        _ => Reply::Skipped,
     }
 }
 
 /// Of a send or a retry, whose message so many subscribers took.
-pub fn send_reply(code: u32, receivers: usize) -> BytesReply {
+pub fn send_reply(code: u32, receivers: usize, failed: Option<SendError>) -> BytesReply {
+    if let Some(error) = failed {
+        return Reply::SendRefused(error);
+    }
     match code {
         OK => Reply::Delivered(receivers),
-        NOT_LIVE | PUBLISHER_IS_BLOCKED => Reply::Skipped,
         BLOCKED => Reply::Blocked,
-        _ => Reply::SendRefused(send_error(code)),
+        _ => Reply::Skipped,
     }
-}
-
-fn send_error(code: u32) -> SendError {
-    match code {
-        20 => SendError::ConnectionBrokenSinceSenderNoLongerExists,
-        21 => SendError::ConnectionCorrupted,
-        22 => SendError::UnableToDeliver,
-        23 => SendError::InternalError,
-        _ => SendError::ConnectionError(failure(code)),
-    }
-}
-
-// A failure of a connection, by the last digit of its code: 4 to 7.
-fn failure(code: u32) -> ConnectionFailure {
-    ConnectionFailure::FailedToEstablishConnection(match code % 10 {
-        4 => ZeroCopyCreationError::IncompatibleBufferSize,
-        5 => ZeroCopyCreationError::OutOfMemory,
-        6 => ZeroCopyCreationError::ExpiredConnectionBufferFull,
-        _ => {
-            let cause = SharedMemoryOpenError::InternalError;
-            return ConnectionFailure::UnableToMapSendersDataSegment(cause);
-        }
-    })
 }
 
 /// Of an update of connections.
-pub fn update_reply(code: u32) -> BytesReply {
-    match code {
-        OK => Reply::Done,
-        NOT_LIVE | PUBLISHER_IS_BLOCKED => Reply::Skipped,
-        _ => Reply::UpdateRefused(failure(code)),
+pub fn update_reply(code: u32, failed: Option<ConnectionFailure>) -> BytesReply {
+    match failed {
+        Some(failure) => Reply::UpdateRefused(failure),
+        None => plain_reply(code),
     }
 }
 
 /// Of the question whether a message waits.
-pub fn question_reply(code: u32, waits: u32) -> BytesReply {
+pub fn question_reply(code: u32, waits: u32, failed: Option<ConnectionFailure>) -> BytesReply {
     match code {
         OK => Reply::Has(waits != 0),
-        _ => update_reply(code),
+        _ => update_reply(code, failed),
     }
 }
 
 /// Of a receive that got nothing.
-pub fn receive_reply(code: u32) -> BytesReply {
+pub fn receive_reply(code: u32, failed: Option<ReceiveError>) -> BytesReply {
+    if let Some(error) = failed {
+        return Reply::ReceiveRefused(error);
+    }
     match code {
-        NOT_LIVE => Reply::Skipped,
         NO_SAMPLE => Reply::NoSample,
-        30 => Reply::ReceiveRefused(ReceiveError::ExceedsMaxBorrows),
-        _ => Reply::ReceiveRefused(ReceiveError::ConnectionFailure(failure(code))),
+        _ => Reply::Skipped,
     }
 }

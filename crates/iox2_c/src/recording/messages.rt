@@ -1,32 +1,34 @@
 //! Calls of messages are recorded.
 
-use super::answers::{is_loan_code, loan_reply, plain_reply, receive_reply, send_reply};
+use super::answers::{BytesReply, loan_reply, plain_reply, receive_reply, send_reply};
 use super::{Recording, target};
 use crate::numbers::{LoanNumbers, PublisherNumbers, SubscriberNumbers};
 use crate::status::{BLOCKED, NOT_LIVE, OK, PUBLISHER_IS_BLOCKED};
 use call_recorder::{Name, Recorder};
 use iox2_commands::{Command, Reply};
-use iox2_pubsub::Key;
 use iox2_pubsub::slice::Sample;
+use iox2_pubsub::{Key, LoanError, ReceiveError, SendError};
 use std::time::Duration;
 
 impl Recording {
-    /// A loan of so many bytes was asked for.
+    /// A loan of so many bytes was asked for. It was granted, or not, as the code and the error say.
     pub fn loan(
         &mut self,
         publisher: &PublisherNumbers,
         len: usize,
         loan: &LoanNumbers,
         code: u32,
+        refused: Option<LoanError>,
     ) {
         let Some(recorder) = &mut self.recorder else {
             return;
         };
         let of = target(recorder, publisher.name(), code);
         let command = Command::LoanSlice { of, len };
+        let reply = loan_reply(code, refused);
         match code {
-            OK => recorder.keep_maker(loan_name(loan), command, loan_reply(code)),
-            _ => recorder.keep(command, loan_reply(code)),
+            OK => recorder.keep_maker(loan_name(loan), command, reply),
+            _ => recorder.keep(command, reply),
         }
     }
 
@@ -37,8 +39,14 @@ impl Recording {
         }
     }
 
-    /// A loan was sent, and so many subscribers took it, or it wasn't, as the code says.
-    pub fn sent(&mut self, loan: &LoanNumbers, code: u32, receivers: usize) {
+    /// A loan was sent, and so many subscribers took it, or it wasn't, as the code and the error say.
+    pub fn sent(
+        &mut self,
+        loan: &LoanNumbers,
+        code: u32,
+        receivers: usize,
+        failed: Option<SendError>,
+    ) {
         let Some(recorder) = &mut self.recorder else {
             return;
         };
@@ -46,7 +54,13 @@ impl Recording {
         if code != NOT_LIVE && code != PUBLISHER_IS_BLOCKED {
             recorder.forget(loan_name(loan));
         }
-        keep_send(recorder, of, loan, code, receivers);
+        keep_send(
+            recorder,
+            of,
+            loan,
+            code,
+            send_reply(code, receivers, failed),
+        );
     }
 
     /// A copy of these bytes was sent, by a send with these numbers where it waits.
@@ -57,18 +71,21 @@ impl Recording {
         blocked: &LoanNumbers,
         code: u32,
         receivers: usize,
+        failed: Option<SendError>,
     ) {
         let Some(recorder) = &mut self.recorder else {
             return;
         };
         let of = target(recorder, publisher.name(), code);
-        if code == NOT_LIVE || code == PUBLISHER_IS_BLOCKED || is_loan_code(code) {
+        let refused = refused_loan(failed);
+        if code == NOT_LIVE || code == PUBLISHER_IS_BLOCKED || refused.is_some() {
             let len = bytes.len();
-            recorder.keep(Command::LoanSlice { of, len }, loan_reply(code));
+            recorder.keep(Command::LoanSlice { of, len }, loan_reply(code, refused));
             return;
         }
         let position = recorder.keep_loan(of, bytes);
-        keep_send(recorder, position, blocked, code, receivers);
+        let reply = send_reply(code, receivers, failed);
+        keep_send(recorder, position, blocked, code, reply);
     }
 
     /// A loan was given back unsent.
@@ -84,23 +101,38 @@ impl Recording {
     }
 
     /// A send that waits was tried again, so many nanoseconds after it was blocked.
-    pub fn retried(&mut self, blocked: &LoanNumbers, elapsed: u64, code: u32, receivers: usize) {
+    pub fn retried(
+        &mut self,
+        blocked: &LoanNumbers,
+        elapsed: u64,
+        code: u32,
+        receivers: usize,
+        failed: Option<SendError>,
+    ) {
         let Some(recorder) = &mut self.recorder else {
             return;
         };
         let of = target(recorder, blocked_name(blocked), code);
         let elapsed = Duration::from_nanos(elapsed);
-        recorder.keep(Command::Retry { of, elapsed }, send_reply(code, receivers));
+        let reply = send_reply(code, receivers, failed);
+        recorder.keep(Command::Retry { of, elapsed }, reply);
         forget_ended(recorder, blocked, code);
     }
 
     /// The subscriber for which a send waits was given up.
-    pub fn given_up(&mut self, blocked: &LoanNumbers, code: u32, receivers: usize) {
+    pub fn given_up(
+        &mut self,
+        blocked: &LoanNumbers,
+        code: u32,
+        receivers: usize,
+        failed: Option<SendError>,
+    ) {
         let Some(recorder) = &mut self.recorder else {
             return;
         };
         let of = target(recorder, blocked_name(blocked), code);
-        recorder.keep(Command::GiveUp { of }, send_reply(code, receivers));
+        let reply = send_reply(code, receivers, failed);
+        recorder.keep(Command::GiveUp { of }, reply);
         forget_ended(recorder, blocked, code);
     }
 
@@ -117,13 +149,18 @@ impl Recording {
         recorder.keep_reads(position, bytes);
     }
 
-    /// A subscriber received nothing, for the reason that the code says.
-    pub fn received_nothing(&mut self, subscriber: &SubscriberNumbers, code: u32) {
+    /// A subscriber received nothing, for the reason that the code and the error say.
+    pub fn received_nothing(
+        &mut self,
+        subscriber: &SubscriberNumbers,
+        code: u32,
+        failed: Option<ReceiveError>,
+    ) {
         let Some(recorder) = &mut self.recorder else {
             return;
         };
         let of = target(recorder, subscriber.name(), code);
-        recorder.keep(Command::Receive { of }, receive_reply(code));
+        recorder.keep(Command::Receive { of }, receive_reply(code, failed));
     }
 
     /// The message with this key was given back, or not, as the code says.
@@ -146,12 +183,20 @@ fn keep_send(
     of: usize,
     blocked: &LoanNumbers,
     code: u32,
-    receivers: usize,
+    reply: BytesReply,
 ) {
-    let (command, reply) = (Command::Send { of }, send_reply(code, receivers));
+    let command = Command::Send { of };
     match code {
         BLOCKED => recorder.keep_maker(blocked_name(blocked), command, reply),
         _ => recorder.keep(command, reply),
+    }
+}
+
+// Why a send lent nothing, if that is what failed.
+fn refused_loan(failed: Option<SendError>) -> Option<LoanError> {
+    match failed {
+        Some(SendError::LoanError(error)) => Some(error),
+        _ => None,
     }
 }
 

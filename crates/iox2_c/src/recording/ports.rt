@@ -1,20 +1,21 @@
 //! Calls of ports are recorded.
 
-use super::answers::{
-    plain_reply, publisher_reply, question_reply, subscriber_reply, update_reply,
-};
+use super::answers::{BytesReply, plain_reply, question_reply, update_reply};
 use super::{Recording, target};
 use crate::config::strategy_of;
 use crate::numbers::{PublisherNumbers, SubscriberNumbers};
 use crate::options::{PublisherOptions, SubscriberOptions, allocation_of, degradation_of};
-use crate::status::{INVALID_SETTINGS, OK};
+use crate::status::OK;
 use call_recorder::Name;
-use iox2_commands::Command;
-use iox2_pubsub::{BackpressureAction, BackpressureHandler, DegradationAction, DegradationHandler};
+use iox2_commands::{Command, Reply};
+use iox2_pubsub::{
+    BackpressureAction, BackpressureHandler, ConnectionFailure, DegradationAction,
+    DegradationHandler,
+};
 
 impl Recording {
-    /// A publisher with these options was made, or refused with the code.
-    pub fn publisher(&mut self, options: &PublisherOptions, made: &PublisherNumbers, code: u32) {
+    /// A publisher with these options was asked for, and this came of it.
+    pub fn publisher(&mut self, options: &PublisherOptions, reply: BytesReply) {
         let Some(recorder) = &mut self.recorder else {
             return;
         };
@@ -27,16 +28,16 @@ impl Recording {
             degradation: degradation_action(options.degradation),
             backpressure: handler_action(options),
         };
-        let id = made.id.get();
-        match code {
-            INVALID_SETTINGS => {}
-            OK => recorder.keep_maker(Name::Publisher(id), command, publisher_reply(code, id)),
-            _ => recorder.keep(command, publisher_reply(code, id)),
+        match reply {
+            Reply::PublisherMade(id) => {
+                recorder.keep_maker(Name::Publisher(id.value()), command, reply);
+            }
+            _ => recorder.keep(command, reply),
         }
     }
 
-    /// A subscriber with these options was made, or refused with the code.
-    pub fn subscriber(&mut self, options: &SubscriberOptions, made: &SubscriberNumbers, code: u32) {
+    /// A subscriber with these options was asked for, and this came of it.
+    pub fn subscriber(&mut self, options: &SubscriberOptions, reply: BytesReply) {
         let Some(recorder) = &mut self.recorder else {
             return;
         };
@@ -44,11 +45,11 @@ impl Recording {
             buffer: Some(options.buffer_size),
             degradation: degradation_action(options.degradation),
         };
-        let id = made.id.get();
-        match code {
-            INVALID_SETTINGS => {}
-            OK => recorder.keep_maker(Name::Subscriber(id), command, subscriber_reply(code, id)),
-            _ => recorder.keep(command, subscriber_reply(code, id)),
+        match reply {
+            Reply::SubscriberMade(id) => {
+                recorder.keep_maker(Name::Subscriber(id.value()), command, reply);
+            }
+            _ => recorder.keep(command, reply),
         }
     }
 
@@ -64,22 +65,31 @@ impl Recording {
         }
     }
 
-    /// The connections of a port were updated.
-    pub fn update(&mut self, name: Name, code: u32) {
+    /// The connections of a port were updated, or not, as the code and the failure say.
+    pub fn update(&mut self, name: Name, code: u32, failed: Option<ConnectionFailure>) {
         let Some(recorder) = &mut self.recorder else {
             return;
         };
         let of = target(recorder, name, code);
-        recorder.keep(Command::Update { of }, update_reply(code));
+        recorder.keep(Command::Update { of }, update_reply(code, failed));
     }
 
     /// A subscriber was asked whether a message waits.
-    pub fn question(&mut self, subscriber: &SubscriberNumbers, code: u32, waits: u32) {
+    pub fn question(
+        &mut self,
+        subscriber: &SubscriberNumbers,
+        code: u32,
+        waits: u32,
+        failed: Option<ConnectionFailure>,
+    ) {
         let Some(recorder) = &mut self.recorder else {
             return;
         };
         let of = target(recorder, subscriber.name(), code);
-        recorder.keep(Command::HasSamples { of }, question_reply(code, waits));
+        recorder.keep(
+            Command::HasSamples { of },
+            question_reply(code, waits, failed),
+        );
     }
 }
 

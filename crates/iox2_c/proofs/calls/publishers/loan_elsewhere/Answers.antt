@@ -1,5 +1,6 @@
 use Rattle.std.proofs.Common.{rules, ap}
 use Rattle.iox2_pubsub.specs.Handles.{as_publisher, publisher_id}
+use Rattle.iox2_pubsub.specs.declared.slice.sample_mut.SampleMut.{SampleMut}
 use Rattle.iox2_c.specs.Serving.{Serving}
 use Rattle.iox2_c.specs.Steps.{Lends}
 use Rattle.iox2_c.proofs.LoanSteps.{loan-asked, loan-refused}
@@ -10,6 +11,6 @@ returns-in-Err c = loan-refused Lends _ c.args.len c.args.service.now _ _ _ _ (s
 
 pub returns : goal.returns
 returns c =
-    loan-asked Lends c.args.numbers.now c.args.len c.args.service.now _ _ _ _ c.service.inside.domain (publisher_id (as_publisher c.in-Ok.publisher)) c.lend_zeros-lent.result
+    loan-asked (λ (it : SampleMut). it) Lends c.args.numbers.now c.args.len c.args.service.now _ _ _ _ c.service.inside.domain (publisher_id (as_publisher c.in-Ok.publisher)) c.lend_zeros-lent.result
     (ap (λ (s : Serving). s.domain) c.service.view_is) c.in-Ok.ensures.id c.lend_zeros-lent.ensures.lends
     c.lend_zeros-lent.ensures.out c.lend_zeros-lent.ensures.new c.tell_lent.ensures.code c.tell_lent.ensures.named c.tell_lent.ensures.same (search rules)

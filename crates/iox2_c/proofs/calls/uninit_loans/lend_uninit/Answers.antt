@@ -1,4 +1,4 @@
-use Rattle.std.proofs.Common.{◌≡◌, ap, sym, ◌∙◌}
+use Rattle.std.proofs.Common.{ap, sym, ◌∙◌}
 use Rattle.iox2_pubsub.specs.Handles.{as_publisher, as_unwritten, publisher_id, unwritten_number}
 use Rattle.iox2_pubsub.proofs.WrittenLoanCalls.{default-grants, default-refused}
 use Rattle.iox2_c.specs.Steps.{BytesState}

@@ -1,8 +1,9 @@
-use Rattle.std.proofs.Common.{rules, ap}
+use Rattle.std.proofs.Common.{rules, ℕ, ap}
 use Rattle.iox2_pubsub.specs.Handles.{as_publisher, publisher_id}
+use Rattle.iox2_pubsub.specs.declared.slice.publisher.loan_located.LocatedLoan.{LocatedLoan}
 use Rattle.iox2_c.specs.Serving.{Serving}
 use Rattle.iox2_c.specs.Steps.{LendsUninit}
-use Rattle.iox2_c.proofs.LoanSteps.{loan-asked, loan-refused}
+use Rattle.iox2_c.proofs.LoanSteps.{lent-told, loan-asked, loan-refused}
 use Rattle.iox2_c.proofs.calls.uninit_loans.loan_named.Goals as goal
 
 pub returns-in-Err : goal.returns-in-Err
@@ -10,6 +11,6 @@ returns-in-Err c = loan-refused LendsUninit _ c.args.len c.args.service.now _ _ 
 
 pub returns : goal.returns
 returns c =
-    loan-asked LendsUninit c.args.numbers.now c.args.len c.args.service.now _ _ _ _ c.service.inside.domain (publisher_id (as_publisher c.in-Ok.publisher)) c.lend_uninit-lent.result
-    (ap (λ (s : Serving). s.domain) c.service.view_is) c.in-Ok.ensures.id c.lend_uninit-lent.ensures.lends
-    c.lend_uninit-lent.ensures.out c.lend_uninit-lent.ensures.new c.tell_lent.ensures.code c.tell_lent.ensures.named c.tell_lent.ensures.same (search rules)
+    loan-asked (λ (it : LocatedLoan ℕ). it.loan) LendsUninit c.args.numbers.now c.args.len c.args.service.now _ _ _ _ c.service.inside.domain (publisher_id (as_publisher c.in-Ok.publisher)) c.loan_unspecified_located-lent.result
+    (ap (λ (s : Serving). s.domain) c.service.view_is) c.in-Ok.ensures.id (lent-told (λ byte. Unit {0}) c.service.inside.domain c.loan_unspecified_located-lent.new.domain _ _ c.loan_unspecified_located-lent.result c.loan_unspecified_located-lent.ensures.lends)
+    c.loan_unspecified_located-lent.ensures.out c.loan_unspecified_located-lent.ensures.new c.tell_located.ensures.code c.tell_located.ensures.named c.tell_located.ensures.same (search rules)
