@@ -330,6 +330,8 @@ fn ports_of_slices_are_told_of_their_channels(rt: HostRuntime) {
     let subscriber = slice_subscriber(&rt, &mut domain);
     let publisher = slice_publisher(&rt, &mut domain, 1);
     let is_updated = update_both(&rt, &mut domain, &publisher, &subscriber);
+    assert_ready(&rt, &domain, &publisher);
+    assert_live(&rt, &domain, &subscriber);
     let place = publisher.get_connection_id_of(&domain, subscriber.id().value());
     let told = [
         subscriber.at_least_one_channel_has_state(&domain, 0, 0),

@@ -1,6 +1,8 @@
 //! What ports are told of the channels of their connections.
 use crate::fixtures::{domain, publisher_of, subscriber_of};
-use iox2_pubsub::UpdateConnections;
+use iox2_fixtures::{Reading, Station, settings};
+use iox2_pubsub::{Domain, UpdateConnections};
+use iox2_store::ServiceConfig;
 
 #[test]
 fn a_new_channel_is_open_and_has_no_hint(rt: HostRuntime) {
@@ -18,27 +20,37 @@ fn a_new_channel_is_open_and_has_no_hint(rt: HostRuntime) {
         publisher.has_channel_state(&domain, 0, 0, u64::MAX),
         publisher.has_disconnect_hint(&domain, 0, 0, 0),
     ];
-    subscriber.close(&mut domain);
     publisher.close(&mut domain);
+    subscriber.close(&mut domain);
+    drop(domain);
     assert!(rt; updated.is_ok());
-    assert!(rt; !before && told == [true; 2] && others == [false; 3]);
+    assert!(rt; !before);
+    assert!(rt; told == [true, true]);
+    assert!(rt; others == [false, false, false]);
 }
 
 #[test]
 fn a_connection_is_named_by_its_subscribers_place(rt: HostRuntime) {
-    let mut domain = domain(&rt, rt.alloc());
+    let config = ServiceConfig {
+        max_subscribers: 2,
+        ..settings()
+    };
+    let mut domain: Domain<Reading, Station> = Domain::new(rt.alloc(), config).expect(
+        &rt, "a domain",
+    );
     let first = subscriber_of(&rt, &mut domain);
     let second = subscriber_of(&rt, &mut domain);
     let publisher = publisher_of(&rt, &mut domain);
-    let named = [
+    let places = [
         publisher.get_connection_id_of(&domain, first.id().value()),
         publisher.get_connection_id_of(&domain, second.id().value()),
+        publisher.get_connection_id_of(&domain, publisher.id().value()),
     ];
-    let nobody = publisher.get_connection_id_of(&domain, publisher.id().value());
     let past = publisher.has_channel_state(&domain, 0, 2, 0);
-    first.close(&mut domain);
-    second.close(&mut domain);
-    publisher.close(&mut domain);
-    assert!(rt; named == [Some(0), Some(1)]);
-    assert!(rt; nobody.is_none() && !past);
+    first.disown();
+    second.disown();
+    publisher.disown();
+    drop(domain);
+    assert!(rt; places == [Some(0), Some(1), None]);
+    assert!(rt; !past);
 }
