@@ -40,7 +40,7 @@ fn a_loan_that_nobody_wrote_says_where_its_values_begin(rt: HostRuntime) {
     let subscriber = slice_subscriber(&rt, &mut domain);
     let publisher = slice_publisher(&rt, &mut domain, 16);
     let refused = publisher.loan_unspecified_located(&mut domain, 17);
-    let refused = refused.map(|located| located.loan.disown());
+    let refused = refused.map(|LocatedLoan { loan, start: _ }| loan.disown());
     let lent = publisher.loan_unspecified_located(&mut domain, 5);
     publisher.disown();
     let LocatedLoan { loan, start } = lent.expect(&rt, "a loan");
