@@ -90,121 +90,130 @@ skipped
 /// may be borrowed.
 const RAISED: &[u8] = b"warning ExpiredBufferRaised\n";
 
+/// Scripts of one line.
+const DOMAINS_ALONE: [&[u8]; 3] = [
+    b"domain 1 1 1 1 0 0 keep\n",
+    b"domain 1 1 1 1 0 0 keep",
+    b"  domain   01 001 0 0 00 18446744073709551615 keep \r\n",
+];
+
 #[test]
 fn a_domain_line_alone_prints_nothing(rt: HostRuntime) {
-    for text in [
-        b"domain 1 1 1 1 0 0 keep\n".as_slice(),
-        b"domain 1 1 1 1 0 0 keep".as_slice(),
-        b"  domain   01 001 0 0 00 18446744073709551615 keep \r\n".as_slice(),
-    ] {
+    for text in DOMAINS_ALONE {
         Outcome::of(rt.alloc(), text).assert(&rt, 0, b"", b"");
     }
 }
 
+/// Scripts whose first line makes no domain.
+const WITHOUT_A_DOMAIN: [&[u8]; 22] = [
+    b"",
+    b"\n",
+    b"  \n",
+    b"\r\n",
+    b"sub 1\n",
+    b"domain\n",
+    b"domain 1 1 1 1 0 0\n",
+    b"domain 1 1 1 1 0 keep\n",
+    b"domain 1 1 1 1 0 0 keep 0\n",
+    b"domain 1 1 1 1 0 0 Keep\n",
+    b"domain 1 1 1 1 0 0 keep overflow\n",
+    b"domain 1 1 1 1 0 0 overflows\n",
+    b"domain x 1 1 1 0 0 keep\n",
+    b"domain 1 x 1 1 0 0 keep\n",
+    b"domain 1 1 1 1 0 0 keep\r",
+    b"domain 1 1 1 1 0 0 keep\r\r\n",
+    b"domain 1 1 x 1 0 0 keep\n",
+    b"domain 1 1 1 -1 0 0 keep\n",
+    b"domain 1 1 1 1 0 18446744073709551616 keep\n",
+    b"domain 1 1 1 1 0 0 k\xC3ep\n",
+    b"domain 1 1 1 1 x 0 keep\n",
+    b"\nsub x\n",
+];
+
 #[test]
 fn the_first_line_is_a_domain_line(rt: HostRuntime) {
-    for text in [
-        b"".as_slice(),
-        b"\n".as_slice(),
-        b"  \n".as_slice(),
-        b"\r\n".as_slice(),
-        b"sub 1\n".as_slice(),
-        b"domain\n".as_slice(),
-        b"domain 1 1 1 1 0 0\n".as_slice(),
-        b"domain 1 1 1 1 0 keep\n".as_slice(),
-        b"domain 1 1 1 1 0 0 keep 0\n".as_slice(),
-        b"domain 1 1 1 1 0 0 Keep\n".as_slice(),
-        b"domain 1 1 1 1 0 0 keep overflow\n".as_slice(),
-        b"domain 1 1 1 1 0 0 overflows\n".as_slice(),
-        b"domain x 1 1 1 0 0 keep\n".as_slice(),
-        b"domain 1 x 1 1 0 0 keep\n".as_slice(),
-        b"domain 1 1 1 1 0 0 keep\r".as_slice(),
-        b"domain 1 1 1 1 0 0 keep\r\r\n".as_slice(),
-        b"domain 1 1 x 1 0 0 keep\n".as_slice(),
-        b"domain 1 1 1 -1 0 0 keep\n".as_slice(),
-        b"domain 1 1 1 1 0 18446744073709551616 keep\n".as_slice(),
-        b"domain 1 1 1 1 0 0 k\xC3ep\n".as_slice(),
-        b"domain 1 1 1 1 x 0 keep\n".as_slice(),
-        b"\nsub x\n".as_slice(),
-    ] {
+    for text in WITHOUT_A_DOMAIN {
         Outcome::of(rt.alloc(), text).assert(&rt, 2, b"", b"line 1: bad command\n");
     }
 }
 
+/// Lines of which none is a command.
+const MALFORMED_LINES: [&[u8]; 69] = [
+    b"",
+    b"  ",
+    b"nothing 1",
+    b"domain 1 1 1 1 0 0 keep",
+    b"sub",
+    b"sub x",
+    b"sub 1 1",
+    b"sub +1",
+    b"sub -1",
+    b"sub 1.0",
+    b"sub 0x1",
+    b"sub 18446744073709551616",
+    b"sub 00000000000000000000018446744073709551616",
+    b"Sub 1",
+    b"sub1",
+    b"sub\t1",
+    b"\tsub 1",
+    b"su\rb 1",
+    b"sub \r1",
+    b"sub 1\r",
+    b"sub 1 \r",
+    b"sub \xFF",
+    b"sub 1\xC2\xA0",
+    b"sub \xD9\xA1",
+    b"sub 1 2 3 4 5 6 7 8",
+    b"pub",
+    b"pub 1",
+    b"pub discard",
+    b"pub 1 discards",
+    b"pub 1 discard 1",
+    b"pub retry",
+    b"pub 1 Retry",
+    b"pub 1 retry 1",
+    b"pub 1 retry discard",
+    b"loan",
+    b"loan 1 1",
+    b"write 1",
+    b"write 1 1 1",
+    b"write 1 18446744073709551616",
+    b"send",
+    b"send 1 1",
+    b"copy",
+    b"copy 1",
+    b"copy 1 x",
+    b"copy 1 1 1",
+    b"discard",
+    b"discard 1 1",
+    b"retry",
+    b"retry x",
+    b"retry 1 0",
+    b"giveup",
+    b"giveup 1 1",
+    b"give 1",
+    b"blocked 1",
+    b"close",
+    b"close 1 1",
+    b"recv",
+    b"recv 1 1",
+    b"has",
+    b"has 1 1",
+    b"update",
+    b"update 1 1",
+    b"read",
+    b"read 1 0 0",
+    b"release",
+    b"release 1 1",
+    // What later scripts may ask for.
+    b"pub 1 wait",
+    b"wait 1",
+    b"shut 1",
+];
+
 #[test]
 fn a_malformed_line_is_named(rt: HostRuntime) -> Result<(), Fail> {
-    for line in [
-        b"".as_slice(),
-        b"  ".as_slice(),
-        b"nothing 1".as_slice(),
-        b"domain 1 1 1 1 0 0 keep".as_slice(),
-        b"sub".as_slice(),
-        b"sub x".as_slice(),
-        b"sub 1 1".as_slice(),
-        b"sub +1".as_slice(),
-        b"sub -1".as_slice(),
-        b"sub 1.0".as_slice(),
-        b"sub 0x1".as_slice(),
-        b"sub 18446744073709551616".as_slice(),
-        b"sub 00000000000000000000018446744073709551616".as_slice(),
-        b"Sub 1".as_slice(),
-        b"sub1".as_slice(),
-        b"sub\t1".as_slice(),
-        b"\tsub 1".as_slice(),
-        b"su\rb 1".as_slice(),
-        b"sub \r1".as_slice(),
-        b"sub 1\r".as_slice(),
-        b"sub 1 \r".as_slice(),
-        b"sub \xFF".as_slice(),
-        b"sub 1\xC2\xA0".as_slice(),
-        b"sub \xD9\xA1".as_slice(),
-        b"sub 1 2 3 4 5 6 7 8".as_slice(),
-        b"pub".as_slice(),
-        b"pub 1".as_slice(),
-        b"pub discard".as_slice(),
-        b"pub 1 discards".as_slice(),
-        b"pub 1 discard 1".as_slice(),
-        b"pub retry".as_slice(),
-        b"pub 1 Retry".as_slice(),
-        b"pub 1 retry 1".as_slice(),
-        b"pub 1 retry discard".as_slice(),
-        b"loan".as_slice(),
-        b"loan 1 1".as_slice(),
-        b"write 1".as_slice(),
-        b"write 1 1 1".as_slice(),
-        b"write 1 18446744073709551616".as_slice(),
-        b"send".as_slice(),
-        b"send 1 1".as_slice(),
-        b"copy".as_slice(),
-        b"copy 1".as_slice(),
-        b"copy 1 x".as_slice(),
-        b"copy 1 1 1".as_slice(),
-        b"discard".as_slice(),
-        b"discard 1 1".as_slice(),
-        b"retry".as_slice(),
-        b"retry x".as_slice(),
-        b"retry 1 0".as_slice(),
-        b"giveup".as_slice(),
-        b"giveup 1 1".as_slice(),
-        b"give 1".as_slice(),
-        b"blocked 1".as_slice(),
-        b"close".as_slice(),
-        b"close 1 1".as_slice(),
-        b"recv".as_slice(),
-        b"recv 1 1".as_slice(),
-        b"has".as_slice(),
-        b"has 1 1".as_slice(),
-        b"update".as_slice(),
-        b"update 1 1".as_slice(),
-        b"read".as_slice(),
-        b"read 1 0 0".as_slice(),
-        b"release".as_slice(),
-        b"release 1 1".as_slice(),
-        // What later scripts may ask for.
-        b"pub 1 wait".as_slice(),
-        b"wait 1".as_slice(),
-        b"shut 1".as_slice(),
-    ] {
+    for line in MALFORMED_LINES {
         let mut text = Vec::new(rt.alloc());
         text.extend_from_slice(b"domain 1 1 1 1 0 0 keep\nsub 1\r\n")?;
         text.extend_from_slice(line)?;
@@ -233,35 +242,41 @@ fn a_line_has_all_its_words(rt: HostRuntime) {
     }
 }
 
+/// Scripts whose second line is no command.
+const MALFORMED_SECOND_LINES: [&[u8]; 2] = [
+    b"domain 1 1 1 1 0 0 keep\nsub x\n",
+    b"domain 1 1 1 1 0 0 keep\nloan 0\r",
+];
+
 // The second has its carriage return, since no line feed follows.
 #[test]
 fn the_line_after_the_domain_is_the_second(rt: HostRuntime) {
-    for text in [
-        b"domain 1 1 1 1 0 0 keep\nsub x\n".as_slice(),
-        b"domain 1 1 1 1 0 0 keep\nloan 0\r".as_slice(),
-    ] {
+    for text in MALFORMED_SECOND_LINES {
         Outcome::of(rt.alloc(), text).assert(&rt, 2, b"", b"line 2: bad command\n");
     }
 }
 
+/// Scripts of one command, whose number names nothing.
+const NAMING_NOTHING: [&[u8]; 14] = [
+    b"domain 1 1 1 1 0 0 keep\nloan 0",
+    b"domain 1 1 1 1 0 0 keep\nloan 1\n",
+    b"domain 1 1 1 1 0 0 keep\n  send   02 \n",
+    b"domain 1 1 1 1 0 0 keep\nrecv 18446744073709551615\r\n",
+    b"domain 1 1 1 1 0 0 keep\nwrite 0 18446744073709551615",
+    b"domain 1 1 1 1 0 0 keep\ncopy 1 18446744073709551615",
+    b"domain 1 1 1 1 0 0 keep\nread 00000000000000000000000000001",
+    b"domain 1 1 1 1 0 0 keep\nrelease 1",
+    b"domain 1 1 1 1 0 0 keep\ndiscard 1",
+    b"domain 1 1 1 1 0 0 keep\nretry 1",
+    b"domain 1 1 1 1 0 0 keep\ngiveup 0",
+    b"domain 1 1 1 1 0 0 keep\nhas 1",
+    b"domain 1 1 1 1 0 0 keep\nupdate 1",
+    b"domain 1 1 1 1 0 0 keep\nclose 1",
+];
+
 #[test]
 fn a_number_that_names_nothing_is_skipped(rt: HostRuntime) {
-    for text in [
-        b"domain 1 1 1 1 0 0 keep\nloan 0".as_slice(),
-        b"domain 1 1 1 1 0 0 keep\nloan 1\n".as_slice(),
-        b"domain 1 1 1 1 0 0 keep\n  send   02 \n".as_slice(),
-        b"domain 1 1 1 1 0 0 keep\nrecv 18446744073709551615\r\n".as_slice(),
-        b"domain 1 1 1 1 0 0 keep\nwrite 0 18446744073709551615".as_slice(),
-        b"domain 1 1 1 1 0 0 keep\ncopy 1 18446744073709551615".as_slice(),
-        b"domain 1 1 1 1 0 0 keep\nread 00000000000000000000000000001".as_slice(),
-        b"domain 1 1 1 1 0 0 keep\nrelease 1".as_slice(),
-        b"domain 1 1 1 1 0 0 keep\ndiscard 1".as_slice(),
-        b"domain 1 1 1 1 0 0 keep\nretry 1".as_slice(),
-        b"domain 1 1 1 1 0 0 keep\ngiveup 0".as_slice(),
-        b"domain 1 1 1 1 0 0 keep\nhas 1".as_slice(),
-        b"domain 1 1 1 1 0 0 keep\nupdate 1".as_slice(),
-        b"domain 1 1 1 1 0 0 keep\nclose 1".as_slice(),
-    ] {
+    for text in NAMING_NOTHING {
         Outcome::of(rt.alloc(), text).assert(&rt, 0, b"skipped\n", b"");
     }
 }
