@@ -12,7 +12,7 @@ from .programs import ARCHIVE, WARNINGS
 from .steps import said
 
 BESIDE = BINDINGS / "beside"
-LENGTHS = ((8, "8 B"), (4096, "4 KB"), (65536, "64 KB"), (1 << 20, "1 MB"), (8 << 20, "8 MB"))
+LENGTHS = ((64, "64 B"), (4096, "4 KB"), (65536, "64 KB"), (1 << 20, "1 MB"), (8 << 20, "8 MB"))
 ROUNDS = 5
 # How many messages the function `counted` of the programs passes.
 COUNTED = 20

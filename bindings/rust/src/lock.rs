@@ -1,7 +1,8 @@
 //! The lock of a domain that threads share.
 
 use std::fmt;
-use std::sync::{Mutex, PoisonError};
+use std::hint::spin_loop;
+use std::sync::{Mutex, MutexGuard, PoisonError, TryLockError};
 
 /// A lock under which the calls of a shared domain are made. [`StdLock`] is the one that is there; another is
 /// brought by [`DomainBuilder::create_with_lock`](crate::DomainBuilder::create_with_lock), for example one that
@@ -28,8 +29,36 @@ pub unsafe trait DomainLock: Send + Sync + 'static {
     fn hold<R>(&self, run: impl FnOnce() -> R) -> R;
 }
 
-/// The standard library's lock.
+/// The standard library's lock. Who finds it taken looks again after pauses that double, some 30 microseconds in
+/// all, and sleeps then: so its holder makes several calls meanwhile, and what they need stays near its processor.
 pub struct StdLock(Mutex<()>);
+
+// How many short pauses are between two looks.
+const PAUSES: [u32; 4] = [32, 64, 128, 256];
+
+// A panic leaves nothing half done: what runs under the lock are calls of the archive, which don't unwind, and
+// counts. So the poison says nothing.
+impl StdLock {
+    #[inline]
+    fn look(&self) -> Option<MutexGuard<'_, ()>> {
+        match self.0.try_lock() {
+            Ok(guard) => Some(guard),
+            Err(TryLockError::Poisoned(poison)) => Some(poison.into_inner()),
+            Err(TryLockError::WouldBlock) => None,
+        }
+    }
+
+    #[cold]
+    fn wait(&self) -> MutexGuard<'_, ()> {
+        for pauses in PAUSES {
+            (0..pauses).for_each(|_| spin_loop());
+            if let Some(guard) = self.look() {
+                return guard;
+            }
+        }
+        self.0.lock().unwrap_or_else(PoisonError::into_inner)
+    }
+}
 
 impl fmt::Debug for StdLock {
     fn fmt(&self, f: &mut fmt::Formatter<'_>) -> fmt::Result {
@@ -43,11 +72,9 @@ unsafe impl DomainLock for StdLock {
         StdLock(Mutex::new(()))
     }
 
-    // A panic leaves nothing half done: what runs under the lock are calls of the archive, which don't unwind,
-    // and counts. So the poison says nothing.
     #[inline]
     fn hold<R>(&self, run: impl FnOnce() -> R) -> R {
-        let _guard = self.0.lock().unwrap_or_else(PoisonError::into_inner);
+        let _guard = self.look().unwrap_or_else(|| self.wait());
         run()
     }
 }

@@ -5,10 +5,12 @@
 //! isn't part of that crate is for the prover's time alone: two crates are proved side by side.
 #![tactic(auto)]
 
+mod channels;
 mod questions;
 mod receipts;
 mod sends;
 
+pub use channels::{is_sent_hinted, is_sent_in, place_of_receiver, some_received_in};
 pub use questions::has_samples_at;
 pub use receipts::{give_back, receive_at};
 pub use sends::{is_ready, send_unready};

@@ -37,6 +37,7 @@ pub mod PayloadLists
 pub mod OldestFirst
 pub mod OpenChannels
 pub mod NextPorts
+pub mod ChannelsShown
 pub mod ConnectedSends
 pub mod SendsServe
 pub mod ConnectionsStay

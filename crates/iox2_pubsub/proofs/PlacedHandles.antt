@@ -76,7 +76,7 @@ module _ {T U F G : Type 0} (boxes : DomainBoxes F G) (f : Fields T U) (sound : 
 
 module _ {T U F G : Type 0} {boxes : DomainBoxes F G} (f : Fields T U) (sound : IsDomain f) (kept : Kept T U F G) (view : keeping boxes f ≡ kept) where
   -- the record of a publisher that is there stands at its handle's place
-  publisher-there : (it : PublisherHandle) → IsPublisherKey kept (publisher_key it) → IsPlacedPublisher kept it → (x : PublisherFields) × (get_or f.publishers it.place None ≡ Some x) × (x.id ≡ it.id)
+  pub publisher-there : (it : PublisherHandle) → IsPublisherKey kept (publisher_key it) → IsPlacedPublisher kept it → (x : PublisherFields) × (get_or f.publishers it.place None ≡ Some x) × (x.id ≡ it.id)
   publisher-there it there placed =
       let has = (publisher-parts (keeping boxes f) _ (subst (λ (k : Kept T U F G). IsPublisherKey k (publisher_key it)) (sym view) there)).2 in
       let parts = placed-parts (keeping boxes f) it (subst (λ (k : Kept T U F G). IsPlacedPublisher k it) (sym view) placed) in

@@ -2,6 +2,7 @@
 ghost use Rattle.std.specs.Prelude.{◌≡◌};
 ghost use Rattle.iox2_pubsub.specs.Live.{publisher_key};
 
+mod channels;
 mod close;
 mod loan;
 mod loan_default;

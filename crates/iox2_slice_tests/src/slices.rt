@@ -324,6 +324,25 @@ fn ports_of_slices_have_the_calls_of_ports(rt: HostRuntime) {
     assert!(rt; buffer_size == 2);
 }
 
+#[test]
+fn ports_of_slices_are_told_of_their_channels(rt: HostRuntime) {
+    let mut domain: Domain<Tag, Tag> = Domain::new(rt.alloc(), slices()).expect(&rt, "a domain");
+    let subscriber = slice_subscriber(&rt, &mut domain);
+    let publisher = slice_publisher(&rt, &mut domain, 1);
+    let is_updated = update_both(&rt, &mut domain, &publisher, &subscriber);
+    let place = publisher.get_connection_id_of(&domain, subscriber.id().value());
+    let told = [
+        subscriber.at_least_one_channel_has_state(&domain, 0, 0),
+        publisher.has_channel_state(&domain, 0, 0, 0),
+        publisher.has_disconnect_hint(&domain, 0, 0, 0),
+    ];
+    close_publisher(&rt, &mut domain, publisher);
+    close_subscriber(&rt, &mut domain, subscriber);
+    assert!(rt; is_updated == [true, true]);
+    assert!(rt; place == Some(0));
+    assert!(rt; told == [true, true, false]);
+}
+
 // The number in one of the cells, where there is one.
 fn written_number(cells: &[Option<Tag>], index: usize) -> Option<u64> {
     cells.get(index)?.as_ref().map(|tag| tag.0)

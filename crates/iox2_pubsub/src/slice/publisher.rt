@@ -1,6 +1,7 @@
 //! A publisher of slices.
 ghost use Rattle.std.specs.Prelude.{◌≡◌};
 
+mod channels;
 mod close;
 mod loan_custom_payload;
 mod loan_located;

@@ -1,6 +1,7 @@
 //! A subscriber of slices.
 ghost use Rattle.std.specs.Prelude.{◌≡◌};
 
+mod channels;
 mod close;
 mod has_samples;
 mod receive;

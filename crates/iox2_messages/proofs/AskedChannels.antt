@@ -1,0 +1,185 @@
+-- What ports are told of their channels is what the machine says.
+use Rattle.std.proofs.Common.{◌≡◌, ℕ, zero, suc, ◌+◌, ◌<◌, ◌≤◌, Bool, true, false, cond, ◌||◌, List, [], ◌∷◌, ◌++◌, length, map, drop, Option, None, Some, get_or, refl, sym, ap, ◌∙◌, arith}
+use Rattle.std.specs.List.{list_any}
+use Rattle.std.specs.Option.{option_and_then, option_map, option_map_or}
+use Rattle.std.specs.Prelude.{IsSomeAnd}
+use Rattle.std.proofs.lemmas.List.{drop_all, drop_more, get_or_read}
+use Rattle.std.proofs.lemmas.List.Folds.{list_any-append}
+use Rattle.slab.specs.Slab.{Slab, get}
+use Rattle.iox2_slots.specs.Link.{Link}
+use Rattle.iox2_store.specs.machine.Channel.{Channel, is_in_state, is_hinted}
+use Rattle.iox2_store.specs.machine.ChannelCalls.{connection_place, has_channel_state, has_disconnect_hint, place_from, some_channel_has_state}
+use Rattle.iox2_store.specs.machine.Places.{is_port, occupant, occupants}
+use Rattle.iox2_store.specs.machine.Records.{Publisher, Subscriber}
+use Rattle.iox2_store.specs.machine.State.{connected_publishers}
+use Rattle.iox2_ends.specs.Finds.{IsReceivers, IsReceiverLinked}
+use Rattle.iox2_ends.specs.Homes.{IsApart, IsSenders, IsSenderLinked}
+use Rattle.iox2_ends.specs.Mailboxes.{channels_in, channels_of, receiver_ends, sender_ends, subscriber_of_key}
+use Rattle.iox2_ends.proofs.MailboxChanges.{channels-there, within_if_some}
+use Rattle.iox2_domain.specs.Fields.{Fields, kept_of}
+use Rattle.iox2_domain.specs.Invariant.{IsDomain}
+use Rattle.iox2_domain.specs.Kept.{state_of}
+use Rattle.iox2_domain.specs.Ports.{PublisherFields, SubscriberFields}
+use Rattle.iox2_domain.specs.Updates.{sender_key}
+use Rattle.iox2_domain.proofs.lemmas.fields.ConnectionEnds.{occupant-sender_ends, publisher-stands, subscriber-stands}
+use Rattle.iox2_domain.proofs.lemmas.fields.KeptChannels.{channels-are}
+use Rattle.iox2_domain.proofs.lemmas.receives.ReceiptSteps.{HasKeys, same-one}
+use Rattle.iox2_messages.specs.KeyChannels.{key_in_state, key_hinted, some_in_state}
+
+-- ---- walks over keys
+
+module _ (connections : Slab Link) (state : ℕ) where
+  -- a key that isn't in the state says nothing of the others
+  pub some-behind : (keys : List (Option ℕ)) (i : ℕ) (b : Bool) → i < length keys → b ≡ key_in_state connections state (get_or keys i None) → b ≡ false
+      → some_in_state connections state (drop i keys) ≡ some_in_state connections state (drop (i + 1) keys)
+  some-behind keys i b below is fails =
+      ap (some_in_state connections state) (drop_more keys i None below) ∙ ap (λ (c : Bool). c || some_in_state connections state (drop (i + 1) keys)) (sym is ∙ fails)
+
+  -- one that is tells all
+  pub some-here : (keys : List (Option ℕ)) (i : ℕ) (b : Bool) → i < length keys → b ≡ key_in_state connections state (get_or keys i None) → b ≡ true
+      → some_in_state connections state (drop i keys) ≡ true
+  some-here keys i b below is holds =
+      ap (some_in_state connections state) (drop_more keys i None below) ∙ ap (λ (c : Bool). c || some_in_state connections state (drop (i + 1) keys)) (sym is ∙ holds)
+
+  -- behind the last there is none
+  pub some-ended : (keys : List (Option ℕ)) (i : ℕ) → length keys ≤ i → some_in_state connections state (drop i keys) ≡ false
+  some-ended keys i past = ap (some_in_state connections state) (drop_all i keys past)
+
+module _ (connections : Slab Link) (q : ℕ) where
+  -- the place is further on
+  pub place-behind : (keys : List (Option ℕ)) (i : ℕ) (b : Bool) → i < length keys → b ≡ is_port (subscriber_of_key connections (get_or keys i None)) q → b ≡ false
+      → place_from i (sender_ends connections (drop i keys)) q ≡ place_from (i + 1) (sender_ends connections (drop (i + 1) keys)) q
+  place-behind keys i b below is fails =
+      ap (λ (rest : List (Option ℕ)). place_from i (sender_ends connections rest) q) (drop_more keys i None below)
+      ∙ ap (λ (c : Bool). cond c (Some i) (place_from (suc i) (sender_ends connections (drop (i + 1) keys)) q)) (sym is ∙ fails)
+      ∙ ap (λ (k : ℕ). place_from k (sender_ends connections (drop (i + 1) keys)) q) (let next : suc i ≡ i + 1 = omega arith in next)
+
+  -- it is this one
+  pub place-here : (keys : List (Option ℕ)) (i : ℕ) (b : Bool) → i < length keys → b ≡ is_port (subscriber_of_key connections (get_or keys i None)) q → b ≡ true
+      → place_from i (sender_ends connections (drop i keys)) q ≡ Some i
+  place-here keys i b below is holds =
+      ap (λ (rest : List (Option ℕ)). place_from i (sender_ends connections rest) q) (drop_more keys i None below)
+      ∙ ap (λ (c : Bool). cond c (Some i) (place_from (suc i) (sender_ends connections (drop (i + 1) keys)) q)) (sym is ∙ holds)
+
+  -- there is none
+  pub place-ended : (keys : List (Option ℕ)) (i : ℕ) → length keys ≤ i → place_from i (sender_ends connections (drop i keys)) q ≡ None
+  place-ended keys i past = ap (λ (rest : List (Option ℕ)). place_from i (sender_ends connections rest) q) (drop_all i keys past)
+
+-- ---- one answer after another
+
+-- what tells of one tells of both
+pub told-first : (told a b : Bool) → told ≡ a → told ≡ true → told ≡ (a || b)
+told-first told a b is holds = holds ∙ ap (λ (c : Bool). c || b) (sym (sym is ∙ holds))
+
+-- and else the other does
+pub told-later : (told later a b : Bool) → told ≡ a → told ≡ false → later ≡ b → later ≡ (a || b)
+told-later told later a b is fails later_is = later_is ∙ ap (λ (c : Bool). c || b) (sym (sym is ∙ fails))
+
+-- ---- a subscriber's connections
+
+module _ (q most state : ℕ) (connections : Slab Link) (apart : IsApart connections) where
+  -- of the publishers to which keys lead, one has a channel in the state where one of the keys leads to it
+  among : (keys : List (Option ℕ)) → IsReceiverLinked q most connections keys
+      → list_any (λ p. is_in_state state (channels_in connections p q 0)) (occupants (receiver_ends connections keys)) ≡ some_in_state connections state keys
+  among [] linked = refl
+  among (None ∷ keys) linked = among keys (record { at = λ i k e. linked.at (suc i) k e })
+  among (Some key ∷ keys) linked = by (get connections key) refl (linked.at zero key refl) (among keys (record { at = λ i k e. linked.at (suc i) k e })) where
+    by : (o : Option Link) → get connections key ≡ o → IsSomeAnd o (IsReceivers q most)
+        → list_any (λ p. is_in_state state (channels_in connections p q 0)) (occupants (receiver_ends connections keys)) ≡ some_in_state connections state keys
+        → list_any (λ p. is_in_state state (channels_in connections p q 0)) (occupants (option_map (λ (c : Link). c.home.publisher) o ∷ receiver_ends connections keys))
+        ≡ (option_map_or (λ (c : Link). is_in_state state c.channel) o false || some_in_state connections state keys)
+    by None e h rest = absurd h
+    by (Some c) e h rest =
+        ap (λ (channels : ℕ → Channel). is_in_state state (channels 0) || list_any (λ p. is_in_state state (channels_in connections p q 0)) (occupants (receiver_ends connections keys)))
+        (channels-there connections key c.home.publisher q c apart e refl h.subscriber)
+        ∙ ap (λ (b : Bool). is_in_state state c.channel || b) rest
+
+module _ {T U : Type 0} (f : Fields T U) (sound : IsDomain f) (i : ℕ) (y : SubscriberFields) (at : get_or f.subscribers i None ≡ Some y) (state : ℕ) where
+  abbrev expired : List ℕ
+  expired = occupants (receiver_ends f.connections (map Some y.expired))
+
+  abbrev ends : List ℕ
+  ends = occupants (receiver_ends f.connections y.keys)
+
+  -- what a subscriber's keys tell
+  received-in : (some_in_state f.connections state (map Some y.expired) || some_in_state f.connections state y.keys) ≡ some_channel_has_state (state_of (kept_of f)) y.id 0 state
+  received-in = sym (
+      ap (λ (o : Option Subscriber). list_any (λ p. is_in_state state ((state_of (kept_of f)).channels p y.id 0)) (option_map_or (λ (z : Subscriber). connected_publishers z) o [])) (subscriber-stands f sound.parts i y at)
+      ∙ ap (λ (channels : ℕ → ℕ → ℕ → Channel). list_any (λ p. is_in_state state (channels p y.id 0)) (expired ++ ends)) (channels-are f)
+      ∙ list_any-append (λ p. is_in_state state (channels_in f.connections p y.id 0)) expired ends
+      ∙ ap (λ (b : Bool). b || list_any (λ p. is_in_state state (channels_in f.connections p y.id 0)) ends)
+      (among y.id (f.config).subscriber_max_borrowed_samples state f.connections sound.parts.apart (map Some y.expired) (sound.parts.linked.expired i y at))
+      ∙ ap (λ (b : Bool). some_in_state f.connections state (map Some y.expired) || b)
+      (among y.id (f.config).subscriber_max_borrowed_samples state f.connections sound.parts.apart y.keys (sound.parts.linked.receivers i y at)))
+
+module _ {T U : Type 0} (f now : Fields T U) (place : ℕ) (z : SubscriberFields) (keys : List ℕ) (places : List (Option ℕ)) (has : HasKeys f now place z keys places) (state : ℕ) where
+  -- the same as the code reads it
+  pub asked-received : (y : SubscriberFields) → get_or now.subscribers place None ≡ Some y
+      → (some_in_state f.connections state (map Some keys) || some_in_state f.connections state places) ≡ some_channel_has_state (state_of (kept_of now)) y.id 0 state
+  asked-received y at =
+      ap (λ (xs : List ℕ). some_in_state f.connections state (map Some xs) || some_in_state f.connections state places) has.expired_is
+      ∙ ap (λ (xs : List (Option ℕ)). some_in_state f.connections state (map Some z.expired) || some_in_state f.connections state xs) has.places_is
+      ∙ ap (λ (h : Fields T U). some_in_state h.connections state (map Some z.expired) || some_in_state h.connections state z.keys) has.same
+      ∙ received-in now has.sound place z has.stands state
+      ∙ ap (λ (w : SubscriberFields). some_channel_has_state (state_of (kept_of now)) w.id 0 state) (same-one f now place z keys places has y at)
+
+-- ---- a publisher's connections
+
+module _ {T U : Type 0} (f : Fields T U) (sound : IsDomain f) (i : ℕ) (x : PublisherFields) (at : get_or f.publishers i None ≡ Some x) where
+  -- the place at which a subscriber stands among a publisher's keys
+  pub placed : (q : ℕ) → place_from 0 (sender_ends f.connections x.keys) q ≡ connection_place (state_of (kept_of f)) x.id q
+  placed q = sym (ap (option_and_then (λ (z : Publisher). place_from 0 z.ends q)) (publisher-stands f sound.parts i x at))
+
+  module _ (test : Channel → Bool) where
+    -- what a test says of the channel to which the key leads
+    abbrev tested : Option ℕ → Bool
+    tested key = option_map_or (λ (c : Link). test c.channel) (option_and_then (get f.connections) key) false
+
+    to-place : (other : ℕ) → tested (get_or x.keys other None)
+        ≡ option_map_or (λ q. test ((state_of (kept_of f)).channels x.id q 0)) (occupant (sender_ends f.connections x.keys) other) false
+    to-place other =
+        by (get_or x.keys other None) refl
+        ∙ ap (λ (o : Option ℕ). option_map_or (λ q. test (channels_in f.connections x.id q 0)) o false) (sym (occupant-sender_ends f.connections x.keys other))
+        ∙ ap (λ (channels : ℕ → ℕ → ℕ → Channel). option_map_or (λ q. test (channels x.id q 0)) (occupant (sender_ends f.connections x.keys) other) false) (sym (channels-are f))
+      where
+        at_link : (key : ℕ) (o : Option Link) → get f.connections key ≡ o → IsSomeAnd o (IsSenders x.id other)
+            → option_map_or (λ (c : Link). test c.channel) o false
+            ≡ option_map_or (λ q. test (channels_in f.connections x.id q 0)) (option_map (λ (c : Link). c.home.subscriber) o) false
+        at_link key None e h = refl
+        at_link key (Some c) e h = ap (λ (channels : ℕ → Channel). test (channels 0)) (sym (channels-there f.connections key x.id c.home.subscriber c sound.parts.apart e h.publisher refl))
+
+        by : (o : Option ℕ) → get_or x.keys other None ≡ o
+            → tested o ≡ option_map_or (λ q. test (channels_in f.connections x.id q 0)) (subscriber_of_key f.connections o) false
+        by None e = refl
+        by (Some key) e = at_link key (get f.connections key) refl ((sound.parts.linked.senders i x at).at other key e)
+
+    -- so it says of the machine's, where the publisher's key at a place is read
+    pub sent : (other : ℕ) → tested (sender_key f.publishers i other)
+        ≡ option_map_or (λ q. test ((state_of (kept_of f)).channels x.id q 0)) (option_and_then (λ (z : Publisher). occupant z.ends other) ((state_of (kept_of f)).publishers x.id)) false
+    sent other =
+        ap (λ (o : Option PublisherFields). tested (option_and_then (λ (z : PublisherFields). get_or z.keys other None) o)) at
+        ∙ to-place other
+        ∙ ap (λ (o : Option Publisher). option_map_or (λ q. test ((state_of (kept_of f)).channels x.id q 0)) (option_and_then (λ (z : Publisher). occupant z.ends other) o) false) (sym (publisher-stands f sound.parts i x at))
+
+module _ {T U : Type 0} (f now : Fields T U) (same : f ≡ now) (sound : IsDomain now) (i : ℕ) where
+  -- the same of a publisher that was read, by its keys
+  pub asked-place : (o : Option PublisherFields) (x z : PublisherFields) (keys : List (Option ℕ)) → (w : PublisherFields) × (get_or now.publishers i None ≡ Some w) → o ≡ get_or f.publishers i o → o ≡ Some x → z ≡ x → keys ≡ z.keys
+      → (q : ℕ) (y : PublisherFields) → get_or now.publishers i None ≡ Some y → place_from 0 (sender_ends f.connections keys) q ≡ connection_place (state_of (kept_of now)) y.id q
+  asked-place o x z keys stands read is is_x keys_is q y at =
+      let there : get_or f.publishers i None ≡ Some stands.0 = ap (λ (h : Fields T U). get_or h.publishers i None) same ∙ stands.1 in
+      let found : o ≡ get_or f.publishers i None = get_or_read f.publishers i o (within_if_some f.publishers i stands.0 there) read None in
+      let both : Some x ≡ Some y = sym is ∙ found ∙ ap (λ (h : Fields T U). get_or h.publishers i None) same ∙ at in
+      let one : x ≡ y = cc in
+      ap (λ (xs : List (Option ℕ)). place_from 0 (sender_ends f.connections xs) q) (keys_is ∙ ap (λ (v : PublisherFields). v.keys) (is_x ∙ one))
+      ∙ ap (λ (h : Fields T U). place_from 0 (sender_ends h.connections y.keys) q) same
+      ∙ placed now sound i y at q
+
+  -- and of its key at a place
+  pub asked-sent : (test : Channel → Bool) (other : ℕ) (publishers : List (Option PublisherFields)) (key : Option ℕ) → publishers ≡ f.publishers → key ≡ sender_key publishers i other
+      → (x : PublisherFields) → get_or now.publishers i None ≡ Some x
+      → option_map_or (λ (c : Link). test c.channel) (option_and_then (get f.connections) key) false
+      ≡ option_map_or (λ q. test ((state_of (kept_of now)).channels x.id q 0)) (option_and_then (λ (z : Publisher). occupant z.ends other) ((state_of (kept_of now)).publishers x.id)) false
+  asked-sent test other publishers key read is x at =
+      ap (λ (k : Option ℕ). option_map_or (λ (c : Link). test c.channel) (option_and_then (get f.connections) k) false) (is ∙ ap (λ (xs : List (Option PublisherFields)). sender_key xs i other) read)
+      ∙ ap (λ (h : Fields T U). option_map_or (λ (c : Link). test c.channel) (option_and_then (get h.connections) (sender_key h.publishers i other)) false) same
+      ∙ sent now sound i x at test other

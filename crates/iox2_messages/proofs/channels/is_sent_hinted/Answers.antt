@@ -1,0 +1,9 @@
+use Rattle.std.proofs.Common.{◌∙◌}
+use Rattle.iox2_store.specs.machine.Channel.{is_hinted}
+use Rattle.iox2_messages.proofs.AskedChannels.{asked-sent}
+use Rattle.iox2_messages.proofs.channels.is_sent_hinted.Goals as goal
+
+pub returns : goal.returns
+returns g c = λ x at.
+    c.is_hinted.ensures
+    ∙ asked-sent _ c.args.state.now c.state.view_is c.requires.agrees c.args.place (is_hinted c.args.channel_state) c.args.connection c.deref.result.now c.key_at-key.result c.deref.ensures.value c.key_at-key.ensures x at

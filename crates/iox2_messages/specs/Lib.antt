@@ -1,0 +1,2 @@
+-- Words of sends, receives and questions.
+pub mod KeyChannels

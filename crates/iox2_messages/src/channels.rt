@@ -1,0 +1,166 @@
+//! What ports are told of the channels of their connections. Nothing changes by it.
+ghost use Rattle.std.specs.Prelude.{◌≡◌, None, Some, map, slice_index_or};
+ghost use Rattle.iox2_store.specs.machine.ChannelCalls.{connection_place, has_channel_state, has_disconnect_hint, place_from, some_channel_has_state};
+ghost use Rattle.iox2_store.specs.machine.Places.{is_port};
+ghost use Rattle.iox2_ends.specs.Mailboxes.{sender_ends, subscriber_of_key};
+ghost use Rattle.iox2_domain.specs.Fields.{kept_of};
+ghost use Rattle.iox2_domain.specs.Invariant.{IsDomain};
+ghost use Rattle.iox2_domain.specs.Kept.{state_of};
+ghost use Rattle.iox2_domain.specs.Ports.{PublisherFields, SubscriberFields};
+ghost use Rattle.iox2_messages.specs.KeyChannels.{key_in_state, key_hinted, some_in_state};
+
+use iox2_domain::{DomainState, key_at};
+use iox2_slots::Connection;
+use slab::Slab;
+
+// Whether a key leads to a connection whose channel is in that state.
+fn is_in_state(connections: &Slab<Connection>, key: Option<usize>, state: u64) -> bool
+    ensures { result ≡ key_in_state connections.now state key }
+{
+    let Some(key) = key else {
+        return false;
+    };
+    match connections.get(key) {
+        Some(connection) => connection.channel_state() == state,
+        None => false,
+    }
+}
+
+// The same, and a disconnect was hinted there.
+fn is_hinted(connections: &Slab<Connection>, key: Option<usize>, state: u64) -> bool
+    ensures { result ≡ key_hinted connections.now state key }
+{
+    let Some(key) = key else {
+        return false;
+    };
+    match connections.get(key) {
+        Some(connection) => connection.channel_state() == state && connection.has_disconnect_hint(),
+        None => false,
+    }
+}
+
+// Whether one of these keys leads to a connection whose channel is in that state.
+fn some_at_places(connections: &Slab<Connection>, keys: &[Option<usize>], state: u64) -> bool
+    ensures { result ≡ some_in_state connections.now state keys.now }
+{
+    for place in 0..keys.len() {
+        if is_in_state(connections, keys[place], state) {
+            return true;
+        }
+    }
+    false
+}
+
+// The same, for keys of which each leads to a connection.
+fn some_expired(connections: &Slab<Connection>, keys: &[usize], state: u64) -> bool
+    ensures { result ≡ some_in_state connections.now state (map Some keys.now) }
+{
+    for index in 0..keys.len() {
+        if is_in_state(connections, Some(keys[index]), state) {
+            return true;
+        }
+    }
+    false
+}
+
+/// Whether channel 0 of some connection of the subscriber at a place is in that state.
+///
+/// iceoryx2's `Receiver::at_least_one_channel_has_state` (`src/port/details/receiver.rs`).
+pub fn some_received_in<T: Drop, U: Default + Drop>(
+    state: &DomainState<T, U>,
+    place: usize,
+    channel_state: u64,
+) -> bool
+    requires agrees { IsDomain state.now }
+    requires stands { (y : SubscriberFields) × (slice_index_or state.now.subscribers place None ≡ Some y) }
+    ensures { (y : SubscriberFields) → slice_index_or state.now.subscribers place None ≡ Some y
+        → result ≡ some_channel_has_state (state_of (kept_of state.now)) y.id 0 channel_state }
+{
+    let Some(subscriber) = &state.subscribers[place] else {
+        unreachable!()
+    };
+    some_expired(&state.connections, &subscriber.expired, channel_state)
+        || some_at_places(&state.connections, &subscriber.keys, channel_state)
+}
+
+// Whether a key leads to a connection with that subscriber.
+fn leads_to(connections: &Slab<Connection>, key: Option<usize>, subscriber: u128) -> bool
+    ensures { result ≡ is_port (subscriber_of_key connections.now key) subscriber }
+{
+    let Some(key) = key else {
+        return false;
+    };
+    match connections.get(key) {
+        Some(connection) => connection.home().subscriber == subscriber,
+        None => false,
+    }
+}
+
+// The first place whose key leads to a connection with that subscriber.
+fn place_in(
+    connections: &Slab<Connection>,
+    keys: &[Option<usize>],
+    subscriber: u128,
+) -> Option<usize>
+    ensures { result ≡ place_from 0 (sender_ends connections.now keys.now) subscriber }
+{
+    for place in 0..keys.len() {
+        if leads_to(connections, keys[place], subscriber) {
+            return Some(place);
+        }
+    }
+    None
+}
+
+/// The place at which the publisher at another has a connection to a subscriber.
+///
+/// iceoryx2's `Sender::get_connection_id_of` (`src/port/details/sender.rs`).
+pub fn place_of_receiver<T: Drop, U: Default + Drop>(
+    state: &DomainState<T, U>,
+    place: usize,
+    subscriber: u128,
+) -> Option<usize>
+    requires agrees { IsDomain state.now }
+    requires stands { (x : PublisherFields) × (slice_index_or state.now.publishers place None ≡ Some x) }
+    ensures { (x : PublisherFields) → slice_index_or state.now.publishers place None ≡ Some x
+        → result ≡ connection_place (state_of (kept_of state.now)) x.id subscriber }
+{
+    let Some(publisher) = &state.publishers[place] else {
+        unreachable!()
+    };
+    place_in(&state.connections, &publisher.keys, subscriber)
+}
+
+/// Whether the publisher at a place has a connection at another, whose channel 0 is in that state.
+///
+/// iceoryx2's `Sender::has_channel_state` (`src/port/details/sender.rs`).
+pub fn is_sent_in<T: Drop, U: Default + Drop>(
+    state: &DomainState<T, U>,
+    place: usize,
+    connection: usize,
+    channel_state: u64,
+) -> bool
+    requires agrees { IsDomain state.now }
+    ensures { (x : PublisherFields) → slice_index_or state.now.publishers place None ≡ Some x
+        → result ≡ has_channel_state (state_of (kept_of state.now)) x.id 0 connection channel_state }
+{
+    let key = key_at(&state.publishers, place, connection);
+    is_in_state(&state.connections, key, channel_state)
+}
+
+/// The same, and a disconnect was hinted there.
+///
+/// iceoryx2's `Sender::has_disconnect_hint` (`src/port/details/sender.rs`).
+pub fn is_sent_hinted<T: Drop, U: Default + Drop>(
+    state: &DomainState<T, U>,
+    place: usize,
+    connection: usize,
+    channel_state: u64,
+) -> bool
+    requires agrees { IsDomain state.now }
+    ensures { (x : PublisherFields) → slice_index_or state.now.publishers place None ≡ Some x
+        → result ≡ has_disconnect_hint (state_of (kept_of state.now)) x.id 0 connection channel_state }
+{
+    let key = key_at(&state.publishers, place, connection);
+    is_hinted(&state.connections, key, channel_state)
+}

@@ -1,0 +1,71 @@
+//! A publisher asks about the channels of its connections.
+ghost use Rattle.std.specs.Prelude.{◌≡◌, ◌<◌};
+
+use crate::domain::Domain;
+use crate::publisher::Publisher;
+use iox2_messages::{is_sent_hinted, is_sent_in, place_of_receiver};
+use iox2_store::{BackpressureFn, DegradationFn};
+
+impl Publisher {
+    ghost use Rattle.iox2_store.specs.machine.ChannelCalls.{connection_place, has_channel_state, has_disconnect_hint};
+    ghost use Rattle.iox2_store.specs.machine.State.{State, Messages};
+    ghost use Rattle.iox2_pubsub.specs.Live.{IsPlacedPublisher, IsPublisherKey, publisher_key};
+    ghost use Rattle.iox2_pubsub.specs.Handles.{publisher_id};
+    ghost use Rattle.iox2_domain.specs.Shows.{Shows};
+
+    /// Names the publisher's connection to a subscriber, where it has one: by the subscriber's
+    /// place.
+    ///
+    /// iceoryx2's `Sender::get_connection_id_of` (`src/port/details/sender.rs`), which is internal.
+    pub fn get_connection_id_of<T: Drop, U: Default + Drop, F: BackpressureFn, G: DegradationFn>(
+        &self,
+        domain: &Domain<T, U, F, G>,
+        receiver_port_id: u128,
+    ) -> Option<usize>
+        requires there { IsPublisherKey domain.now (publisher_key self.now) }
+        requires placed { IsPlacedPublisher domain.now self.now }
+        ensures { (m : Messages T U) (s : State T U) → Shows domain.now m s → result ≡ connection_place s (publisher_id self.now) receiver_port_id }
+    {
+        place_of_receiver(&domain.state, self.place, receiver_port_id)
+    }
+
+    /// Whether a channel is in a state at a connection. `channel` is its number: a connection has
+    /// one channel, number 0. It isn't, where there is no such connection.
+    ///
+    /// iceoryx2's `Sender::has_channel_state` (`src/port/details/sender.rs`), which is internal.
+    pub fn has_channel_state<T: Drop, U: Default + Drop, F: BackpressureFn, G: DegradationFn>(
+        &self,
+        domain: &Domain<T, U, F, G>,
+        channel: usize,
+        connection: usize,
+        state: u64,
+    ) -> bool
+        requires there { IsPublisherKey domain.now (publisher_key self.now) }
+        requires placed { IsPlacedPublisher domain.now self.now }
+        requires channel { channel < 1 }
+        ensures { (m : Messages T U) (s : State T U) → Shows domain.now m s → result ≡ has_channel_state s (publisher_id self.now) channel connection state }
+    {
+        let _number = channel;
+        is_sent_in(&domain.state, self.place, connection, state)
+    }
+
+    /// Whether a channel is in a state at a connection, and a disconnect was hinted since it came
+    /// into that. None was, where there is no such connection.
+    ///
+    /// iceoryx2's `Sender::has_disconnect_hint` (`src/port/details/sender.rs`), which is internal.
+    pub fn has_disconnect_hint<T: Drop, U: Default + Drop, F: BackpressureFn, G: DegradationFn>(
+        &self,
+        domain: &Domain<T, U, F, G>,
+        channel: usize,
+        connection: usize,
+        state: u64,
+    ) -> bool
+        requires there { IsPublisherKey domain.now (publisher_key self.now) }
+        requires placed { IsPlacedPublisher domain.now self.now }
+        requires channel { channel < 1 }
+        ensures { (m : Messages T U) (s : State T U) → Shows domain.now m s → result ≡ has_disconnect_hint s (publisher_id self.now) channel connection state }
+    {
+        let _number = channel;
+        is_sent_hinted(&domain.state, self.place, connection, state)
+    }
+}
