@@ -9,6 +9,7 @@ few = os.environ.get("FEW")  # fewer messages, for slow checkers
 work = tempfile.mkdtemp()
 atexit.register(shutil.rmtree, work, True)
 nice = os.environ.get("NICE", "10")
+first_port = 10000 + 100 * (os.getpid() % 200)  # so that tests of two runs at a time don't meet
 turn = 0
 started = []
 
@@ -16,6 +17,7 @@ def uri(lease=None, extra=""):
     discovery = "<LeaseDuration>%s</LeaseDuration>" % lease if lease else ""
     return ("<CycloneDDS><Domain id='any'><General><Interfaces><NetworkInterface name='lo'/></Interfaces>"
             "<AllowMulticast>false</AllowMulticast></General><Discovery><ParticipantIndex>auto</ParticipantIndex>"
+            "<Ports><Base>%d</Base></Ports>" % first_port +
             "<Peers><Peer Address='127.0.0.1'/></Peers>" + discovery + "</Discovery>" + extra + "</Domain></CycloneDDS>")
 
 def start(program, role, where=None, log_to=None, **options):
