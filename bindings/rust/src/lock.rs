@@ -29,8 +29,10 @@ pub unsafe trait DomainLock: Send + Sync + 'static {
     fn hold<R>(&self, run: impl FnOnce() -> R) -> R;
 }
 
-/// The standard library's lock. Who finds it taken looks again after pauses that double, some 30 microseconds in
-/// all, and sleeps then: so its holder makes several calls meanwhile, and what they need stays near its processor.
+/// The standard library's lock. Who finds it taken looks again after pauses that double, 480 in all (some 30
+/// microseconds on the Xeon where they were measured), and sleeps then: so its holder makes several calls meanwhile,
+/// and what they need stays near its processor. It lends no priority, and a thread keeps its processor during its
+/// pauses: where threads have unequal priorities, or there is one processor, bring a lock of your own.
 pub struct StdLock(Mutex<()>);
 
 // How many short pauses are between two looks.
