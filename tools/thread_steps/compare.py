@@ -1,22 +1,21 @@
 """What a message between threads costs beside channels, and the soak."""
-import os
 import shutil
-from pathlib import Path
 
+from binding_steps import registry
 from binding_steps.bench import where
 
 from .base import BINDINGS, STRESS, WORK, Count, env, sh, step
 
-REGISTRY = Path(os.environ.get("DEBIAN_CRATES", "/usr/share/cargo/registry"))
+CHANNELS = "crossbeam-channel"
 CONSUMERS = (1, 4, 16)
 # What is asked of a message in place with buffers of 64: at most so many times one by mpsc, by the processors of all threads.
 MOST = {1: 1.5, 4: 1.0, 16: 1.0}
 RUNS = 7
 
 
-def stress_program(name, crates=STRESS, rustflags="", target="target"):
+def stress_program(name, crates=STRESS, rustflags="", target="target", words=()):
     """One of bindings/stress, compiled."""
-    sh("cargo", "build", "--offline", "--release", "--quiet", "--bin", name, cwd=crates,
+    sh("cargo", "build", *words, "--offline", "--release", "--quiet", "--bin", name, cwd=crates,
        env=env(CARGO_TARGET_DIR=str(WORK / target), RUSTFLAGS=rustflags))
     return WORK / target / "release" / name
 
@@ -34,19 +33,17 @@ def part_soak(seconds=20):
 
 def with_crossbeam():
     """The stress programs with crossbeam-channel, where Debian's crate is there."""
-    if not list(REGISTRY.glob("crossbeam-channel-*")):
-        Count.missing.append("crossbeam-channel (librust-crossbeam-channel-dev)")
+    if not registry.has_crate(CHANNELS):
+        Count.missing.append(f"{CHANNELS} ({registry.package(CHANNELS)})")
         return stress_program("compare_threads"), ["mpsc"]
     crates = WORK / "compare"
     for crate in ("rust", "rust-sys", "stress", "include"):
         shutil.copytree(BINDINGS / crate, crates / crate, ignore=shutil.ignore_patterns("target"))
-    config = crates / "stress/.cargo/config.toml"
-    config.parent.mkdir()
-    config.write_text(f'[source.crates-io]\nreplace-with = "debian"\n[source.debian]\ndirectory = "{REGISTRY}"\n')
     manifest = crates / "stress/Cargo.toml"
-    manifest.write_text(manifest.read_text().replace("[dependencies]\n", '[dependencies]\ncrossbeam-channel = "0.5"\n'))
+    manifest.write_text(manifest.read_text().replace("[dependencies]\n", f'[dependencies]\n{CHANNELS} = "0.5"\n'))
     (crates / "stress/Cargo.lock").unlink(missing_ok=True)
-    return stress_program("compare_threads", crates / "stress", "--cfg crossbeam", "target_compare"), ["mpsc", "crossbeam"]
+    program = stress_program("compare_threads", crates / "stress", "--cfg crossbeam", "target_compare", registry.words())
+    return program, ["mpsc", "crossbeam"]
 
 
 def once(program, what, consumers, messages, buffer):

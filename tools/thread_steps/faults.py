@@ -33,6 +33,8 @@ IN_RUST = [
     ("what is given back then frees no loan", "subscriber.rs", "shared.brings_too = Brings::LOAN;", "", "waits"),
     ("a task isn't remembered", "guarded.rs", "state.waiting.add_task(port, waker)", "Some(waker)", "events"),
     ("a task isn't woken", "waiting.rs", "            waker.wake();", "            drop(waker);", "events"),
+    ("a task that is forgotten is woken", "waiting.rs", "let at = self.tasks.iter().position(is_it)?;",
+     "let at = self.tasks.iter().position(is_it).filter(|_| false)?;", "events"),
     ("a call waits in a listener", "guarded.rs", "if is_over || is_listening()", "if is_over", "events"),
     ("a listener is called inside of itself", "listeners.rs", "if put_off(&self)", "if put_off(&self) && false", "events"),
     ("a listener stays when its subscriber goes", "subscriber.rs", "        self.hold.forget(self.port.id);", "", "events"),

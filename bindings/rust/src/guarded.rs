@@ -4,7 +4,7 @@ use crate::listeners::{is_listening, Listener, Listeners};
 use crate::lock::DomainLock;
 use crate::shared::Shared;
 use crate::sys::{self, Wide};
-use crate::threads::{Brings, Place, Wait, Waits};
+use crate::threads::{Brings, Place, Wait, WaitingPlace, Waits};
 use crate::waiting::{Sleeper, WaitingList, Wake};
 use std::cell::UnsafeCell;
 use std::hint::spin_loop;
@@ -127,56 +127,6 @@ impl<L: DomainLock> Guarded<L> {
             sleeper
         })
     }
-
-    /// No call waits any longer, or calls wait again.
-    pub(crate) fn stop_waits(&self, is_stopped: bool) {
-        let wake = self.with(|state| {
-            state.is_stopped = is_stopped;
-            count(&self.changes.messages);
-            count(&self.changes.others);
-            state.waiting.bring(Brings::ALL);
-            state.waiting.next(true)
-        });
-        wake.wake();
-    }
-
-    /// Makes calls, and lets this task be woken when a message may have come for the subscriber, where none is
-    /// there. `None` then.
-    pub(crate) fn poll(
-        &self,
-        port: Wide,
-        brings: Brings,
-        waker: &Waker,
-        calls: impl FnOnce(&mut Shared) -> u32,
-    ) -> Option<u32> {
-        let mut waker = Some(waker.clone());
-        let (code, waits, wake) = self.with(|state| {
-            let code = calls(&mut state.shared);
-            let wake = self.brought(state, brings, code);
-            let waits = code == sys::NO_SAMPLE && !state.is_stopped;
-            if waits {
-                waker = waker
-                    .take()
-                    .and_then(|waker| state.waiting.add_task(port, waker));
-            }
-            (code, waits, wake)
-        });
-        if let Some(wake) = wake {
-            wake.wake();
-        }
-        (!waits).then_some(code)
-    }
-
-    /// This is called from now on when a message may have come for the subscriber, in place of what was before.
-    pub(crate) fn listen(&self, port: Wide, listener: Option<Listener>) {
-        let old = self.with(|state| {
-            let none = Listeners::default();
-            let listeners = state.waiting.listeners.as_deref().unwrap_or(&none);
-            let listeners = listeners.with(port, listener);
-            state.waiting.listen(listeners)
-        });
-        drop(old);
-    }
 }
 
 impl<L: DomainLock> Place for Guarded<L> {
@@ -238,6 +188,59 @@ impl<L: DomainLock> Place for Guarded<L> {
             Some((listeners, state.waiting.remove_tasks(port)))
         });
         drop(gone);
+    }
+}
+
+impl<L: DomainLock> WaitingPlace for Guarded<L> {
+    fn poll(
+        &self,
+        port: Wide,
+        brings: Brings,
+        waker: &Waker,
+        calls: impl FnOnce(&mut Shared) -> u32,
+    ) -> Option<u32> {
+        let mut waker = Some(waker.clone());
+        let (code, waits, wake) = self.with(|state| {
+            let code = calls(&mut state.shared);
+            let wake = self.brought(state, brings, code);
+            let waits = code == sys::NO_SAMPLE && !state.is_stopped;
+            if waits {
+                waker = waker
+                    .take()
+                    .and_then(|waker| state.waiting.add_task(port, waker));
+            }
+            (code, waits, wake)
+        });
+        if let Some(wake) = wake {
+            wake.wake();
+        }
+        (!waits).then_some(code)
+    }
+
+    fn forget_waker(&self, port: Wide, waker: &Waker) {
+        let gone = self.with(|state| state.waiting.remove_task(port, waker));
+        drop(gone);
+    }
+
+    fn listen(&self, port: Wide, listener: Option<Listener>) {
+        let old = self.with(|state| {
+            let none = Listeners::default();
+            let listeners = state.waiting.listeners.as_deref().unwrap_or(&none);
+            let listeners = listeners.with(port, listener);
+            state.waiting.listen(listeners)
+        });
+        drop(old);
+    }
+
+    fn stop_waits(&self, is_stopped: bool) {
+        let wake = self.with(|state| {
+            state.is_stopped = is_stopped;
+            count(&self.changes.messages);
+            count(&self.changes.others);
+            state.waiting.bring(Brings::ALL);
+            state.waiting.next(true)
+        });
+        wake.wake();
     }
 }
 

@@ -1,6 +1,7 @@
 //! For which threads the handles of a domain are, and how they hold it.
 
 use crate::guarded::Guarded;
+use crate::listeners::Listener;
 use crate::lock::{DomainLock, StdLock};
 use crate::shared::Shared;
 use crate::sys;
@@ -10,6 +11,7 @@ use std::marker::PhantomData;
 use std::ops::Deref;
 use std::rc::Rc;
 use std::sync::Arc;
+use std::task::Waker;
 use std::time::Instant;
 
 mod sealed {
@@ -29,7 +31,10 @@ pub trait Threads: sealed::Sealed {
 }
 
 /// Of [`Threads`] those whose calls may wait: [`ManyThreads`], also [`Borrowed`].
-pub trait MayWait: Threads {}
+pub trait MayWait: Threads<Place = <Self as MayWait>::WaitingPlace> {
+    #[doc(hidden)]
+    type WaitingPlace: WaitingPlace;
+}
 
 /// The handles stay on the thread that made the domain, and nothing is locked. Each has a counted part
 /// in the domain.
@@ -75,8 +80,16 @@ where
     type Hold = &'d M::Place;
 }
 
-impl<L: DomainLock> MayWait for ManyThreads<L> {}
-impl<'d, M: MayWait> MayWait for Borrowed<'d, M> where M::Place: 'd {}
+impl<L: DomainLock> MayWait for ManyThreads<L> {
+    type WaitingPlace = Guarded<L>;
+}
+
+impl<'d, M: MayWait> MayWait for Borrowed<'d, M>
+where
+    M::Place: 'd,
+{
+    type WaitingPlace = M::WaitingPlace;
+}
 
 /// What a call may have brought to those who wait: a sum of these.
 #[doc(hidden)]
@@ -233,6 +246,29 @@ pub trait Place {
 
     /// A subscriber goes: no task waits for it, and nothing is called for it any longer.
     fn forget(&self, port: sys::Wide);
+}
+
+/// Where a domain lies that several threads use.
+#[doc(hidden)]
+pub trait WaitingPlace: Place {
+    /// Makes calls, and lets this task be woken when a message may have come for the subscriber, where none is
+    /// there. `None` then.
+    fn poll(
+        &self,
+        port: sys::Wide,
+        brings: Brings,
+        waker: &Waker,
+        calls: impl FnOnce(&mut Shared) -> u32,
+    ) -> Option<u32>;
+
+    /// This task isn't woken any longer for the subscriber.
+    fn forget_waker(&self, port: sys::Wide, waker: &Waker);
+
+    /// This is called from now on when a message may have come for the subscriber, in place of what was before.
+    fn listen(&self, port: sys::Wide, listener: Option<Listener>);
+
+    /// No call waits any longer, or calls wait again.
+    fn stop_waits(&self, is_stopped: bool);
 }
 
 /// A domain that stays on its thread.
