@@ -145,7 +145,7 @@ def full_disk():
     to = start("peer", "receive", log_to="/dev/full", topic=name, expect=rounds, max=64, buffer=64, limit=256, mode="retry")
     end(start("plain", "hostile", topic=name, count=rounds, len=50000000, mode="retry")); got = end(to)
     assert got["received"] == rounds and got["too_long"] == 0, got
-    return "%d good ones came, and no line of log" % rounds
+    return "%d good ones came, while nothing could be written to the log" % rounds
 
 def typed_values():
     name = topic()

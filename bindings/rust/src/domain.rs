@@ -171,10 +171,7 @@ impl<P: Payload + ?Sized, M: Threads> Domain<P, M> {
     }
 
     pub(crate) fn config(&self) -> sys::Config {
-        let mut config = sys::Config::default();
-        // SAFETY: see `Shared::at`.
-        self.ask(|shared| unsafe { sys::iox2ps_domain_config(shared.at(), &mut config) });
-        config
+        config(&*self.hold)
     }
 
     fn ask(&self, question: impl FnOnce(&mut Shared) -> u32) {
@@ -196,6 +193,16 @@ impl<P: Payload + ?Sized, M: MayWait> Domain<P, M> {
     pub fn stop_waits(&self, stopped: bool) {
         self.hold.stop_waits(stopped);
     }
+}
+
+/// The settings of the domain that lies there.
+pub(crate) fn config(place: &impl Place) -> sys::Config {
+    let mut config = sys::Config::default();
+    // SAFETY: see `Shared::at`.
+    expect(place.call(Brings::NOTHING, |shared| unsafe {
+        sys::iox2ps_domain_config(shared.at(), &mut config)
+    }));
+    config
 }
 
 #[inline(always)]

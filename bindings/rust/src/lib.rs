@@ -93,6 +93,7 @@ mod numbers;
 mod payload;
 mod port_factory;
 mod publisher;
+mod reader;
 mod recording;
 mod sample;
 mod send_outcome;
@@ -102,6 +103,7 @@ mod threads;
 mod timeout;
 mod waiting;
 mod warning;
+mod writer;
 
 pub(crate) use iox2_pubsub_sys as sys;
 
@@ -121,9 +123,11 @@ pub use port_factory::{
     AllocationStrategy, DegradationAction, PortFactoryPublisher, PortFactorySubscriber,
 };
 pub use publisher::{BackpressureAction, BackpressureStrategy, Publisher};
+pub use reader::Reader;
 pub use recording::Recording;
 pub use sample::Sample;
 pub use send_outcome::{BlockedSend, SendOutcome};
 pub use subscriber::{Incoming, Received, Subscriber};
 pub use threads::{Borrowed, ManyThreads, MayWait, OneThread, Threads};
 pub use warning::{Warning, WarningKind};
+pub use writer::Writer;

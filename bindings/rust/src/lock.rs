@@ -18,7 +18,7 @@ pub unsafe trait DomainLock: Send + Sync + 'static {
     /// woken before it has run, whatever its priority.
     const WAKES_ALL: bool = false;
 
-    /// How often a thread that waits looks for a change before it sleeps: up to 6 short looks, and then after
+    /// How often a thread that waits looks for a change before it sleeps: up to 7 short looks, and then after
     /// others were let run. 0 for one that sleeps at once.
     const LOOKS: u32 = 10;
 
