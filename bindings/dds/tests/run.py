@@ -77,12 +77,14 @@ def late_joiner():
     return "of 50 messages the last 10 came, from the 41st on"
 
 def without_history():
+    """The first that a process gets which comes later is what is sent when it is there."""
     name, all_sent, over = topic(), flag(), flag()
-    of = start("peer", "send", topic=name, count=50, peers=0, sent=all_sent, until=over)
+    of = start("peer", "send", topic=name, count=50, peers=0, sent=all_sent, late=1, until=over)
     wait_for(all_sent, of)
-    got = end(start("cases", "look", topic=name, writers=1, hold=2)); put_up(over); end(of)
-    assert got["received"] == 0 and got["writers"] == 1, got
-    return "of 50 messages none came"
+    got = end(start("peer", "receive", topic=name, expect=1)); put_up(over); end(of)
+    sound(got)
+    assert got["good"] == 1 and got["first"] == [51] and got["gaps"] == 0, got
+    return "of 50 messages none came, and the next did"
 
 def receiver_killed():
     """The receiver is killed among messages, and another one starts: the sender goes on."""
