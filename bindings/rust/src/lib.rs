@@ -79,6 +79,7 @@
 
 #[cfg(feature = "dds")]
 pub mod dds;
+mod desk;
 mod domain;
 mod errors;
 mod events;

@@ -1,16 +1,16 @@
 //! Reads one message after the other, of which several are received in one hold of the lock.
 
+use crate::desk::{Batch, Desk};
 use crate::domain::config;
 use crate::errors::ReceiveError;
 use crate::payload::Payload;
-use crate::sample::release;
 use crate::shared::Shared;
-use crate::subscriber::{receive_next, Got, Subscriber};
+use crate::subscriber::Subscriber;
 use crate::sys;
-use crate::threads::{Brings, MayWait, OneThread, Place, Threads};
+use crate::threads::{Brings, MayWait, OneThread, Place, Threads, WaitingPlace};
 use crate::timeout::after;
 use std::fmt;
-use std::mem::MaybeUninit;
+use std::sync::Arc;
 use std::time::{Duration, Instant};
 
 // How many messages a reader takes at a time, unless it is said.
@@ -49,61 +49,21 @@ const CAPACITY: usize = 64;
 /// [`BufReader`](std::io::BufReader) loses its buffer. One of capacity 1 takes only what it reads.
 pub struct Reader<'s, P: Payload + ?Sized, M: Threads = OneThread> {
     subscriber: &'s Subscriber<P, M>,
-    batch: Batch,
-}
-
-// What was received in one hold of the lock.
-struct Batch {
-    taken: Vec<Got>,
-    // How many of them were read.
-    read: usize,
-    capacity: usize,
-}
-
-impl Batch {
-    // Gives back all that is taken, and takes what waits.
-    fn turn(&mut self, shared: &mut Shared, port: &sys::Subscriber) -> u32 {
-        let gave_back = self.give_back(shared);
-        let code = self.take(shared, port);
-        if gave_back && code == sys::NO_SAMPLE {
-            shared.brings_too = Brings::LOAN;
-        }
-        code
-    }
-
-    fn give_back(&mut self, shared: &mut Shared) -> bool {
-        let had_some = !self.taken.is_empty();
-        for got in self.taken.drain(..) {
-            release(shared, &got.sample);
-        }
-        self.read = 0;
-        had_some
-    }
-
-    fn take(&mut self, shared: &mut Shared, port: &sys::Subscriber) -> u32 {
-        let mut got = MaybeUninit::uninit();
-        while self.taken.len() < self.capacity {
-            match receive_next(shared, port, &mut got) {
-                // SAFETY: with this code it is written.
-                sys::OK => self.taken.push(unsafe { *got.as_ptr() }),
-                code if self.taken.is_empty() => return code,
-                // What is refused now is asked for again when what is taken has been given back.
-                _ => break,
-            }
-        }
-        sys::OK
-    }
-
-    fn unread(&self) -> usize {
-        self.taken.len() - self.read
-    }
+    desk: Arc<Desk>,
+    // Whether others may make its turns.
+    is_open: bool,
 }
 
 impl<P: Payload + ?Sized, M: Threads> Reader<'_, P, M> {
+    fn batch(&self) -> &Batch {
+        // SAFETY: it asks only within a call that borrows it mutably.
+        unsafe { &*self.desk.batch() }
+    }
+
     /// How many messages it has taken and not read yet.
     #[must_use]
     pub fn unread(&self) -> usize {
-        self.batch.unread()
+        self.batch().unread()
     }
 
     /// The next message, or `None` where none waits. It stays where it is until the next call.
@@ -112,28 +72,26 @@ impl<P: Payload + ?Sized, M: Threads> Reader<'_, P, M> {
     ///
     /// See [`ReceiveError`].
     pub fn receive(&mut self) -> Result<Option<&P>, ReceiveError> {
-        self.next(|batch, subscriber| {
-            subscriber
-                .hold
-                .call(Brings::COPY, |shared| batch.turn(shared, &subscriber.port))
+        self.next(|reader| {
+            let turn = |shared: &mut Shared| reader.desk.turn(shared);
+            reader.subscriber.hold.call(Brings::COPY, turn)
         })
     }
 
     // Reads on, and lets this take more where nothing is left.
     #[inline]
-    fn next(
-        &mut self,
-        turn: impl FnOnce(&mut Batch, &Subscriber<P, M>) -> u32,
-    ) -> Result<Option<&P>, ReceiveError> {
-        if self.batch.unread() == 0 {
-            match turn(&mut self.batch, self.subscriber) {
+    fn next(&mut self, turn: impl FnOnce(&mut Self) -> u32) -> Result<Option<&P>, ReceiveError> {
+        if self.unread() == 0 {
+            match turn(self) {
                 sys::OK => {}
                 sys::NO_SAMPLE => return Ok(None),
                 code => return Err(ReceiveError::of(code)),
             }
         }
-        let got = &self.batch.taken[self.batch.read];
-        self.batch.read += 1;
+        // SAFETY: it doesn't ask now.
+        let batch = unsafe { &mut *self.desk.batch() };
+        let got = &batch.taken[batch.read];
+        batch.read += 1;
         // SAFETY: the bytes were sent as a `P`. They stay where they are and aren't written until the message is given
         // back, by a later call.
         Ok(Some(unsafe { &*got.payload::<P>() }))
@@ -164,12 +122,22 @@ impl<P: Payload + ?Sized, M: MayWait> Reader<'_, P, M> {
         &mut self,
         until: impl FnOnce() -> Option<Instant>,
     ) -> Result<Option<&P>, ReceiveError> {
-        self.next(|batch, subscriber| {
-            let wait = subscriber.wait_for_message(until(), Brings::COPY);
-            subscriber
-                .hold
-                .wait(wait, |shared| batch.turn(shared, &subscriber.port))
-        })
+        self.next(|reader| reader.turn_until(until()))
+    }
+
+    fn turn_until(&mut self, until: Option<Instant>) -> u32 {
+        let (hold, desk) = (&self.subscriber.hold, &self.desk);
+        // A message at a time comes sooner by a call of its own.
+        let asks = self.batch().capacity > 1;
+        if asks && !self.is_open {
+            hold.open(desk);
+            self.is_open = true;
+        }
+        if asks && hold.is_served(desk) {
+            return sys::OK;
+        }
+        let wait = self.subscriber.wait_for_message(until, Brings::COPY);
+        hold.wait(wait, |shared| desk.turn(shared))
     }
 }
 
@@ -186,11 +154,8 @@ impl<P: Payload + ?Sized, M: Threads> Subscriber<P, M> {
         let capacity = capacity.max(1);
         Reader {
             subscriber: self,
-            batch: Batch {
-                taken: Vec::with_capacity(capacity),
-                read: 0,
-                capacity,
-            },
+            desk: Arc::new(Desk::new(self.port, capacity)),
+            is_open: false,
         }
     }
 }
@@ -201,9 +166,14 @@ unsafe impl<P: Payload + ?Sized + Send + Sync, M: MayWait> Sync for Reader<'_, P
 
 impl<P: Payload + ?Sized, M: Threads> Drop for Reader<'_, P, M> {
     fn drop(&mut self) {
-        let batch = &mut self.batch;
+        let hold = &self.subscriber.hold;
+        if self.is_open {
+            hold.close(&self.desk);
+        }
+        // SAFETY: it doesn't ask, and is the reader's alone from now on.
+        let batch = unsafe { &mut *self.desk.batch() };
         if !batch.taken.is_empty() {
-            self.subscriber.hold.call(Brings::LOAN, |shared| {
+            hold.call(Brings::LOAN, |shared| {
                 batch.give_back(shared);
                 sys::OK
             });

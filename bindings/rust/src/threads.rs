@@ -1,5 +1,6 @@
 //! For which threads the handles of a domain are, and how they hold it.
 
+use crate::desk::Desk;
 use crate::guarded::Guarded;
 use crate::listeners::Listener;
 use crate::lock::{DomainLock, StdLock};
@@ -114,7 +115,7 @@ impl Brings {
     /// Of a receive with its release.
     pub(crate) const COPY: Brings = Brings::ROOM.and(Brings::LOAN);
 
-    const fn and(self, other: Brings) -> Brings {
+    pub(crate) const fn and(self, other: Brings) -> Brings {
         Brings(self.0 | other.0)
     }
 
@@ -246,6 +247,9 @@ pub trait Place {
 
     /// A subscriber goes: no task waits for it, and nothing is called for it any longer.
     fn forget(&self, port: sys::Wide);
+
+    /// The reader of an open desk goes: nobody serves it any longer.
+    fn close(&self, desk: &Arc<Desk>);
 }
 
 /// Where a domain lies that several threads use.
@@ -266,6 +270,12 @@ pub trait WaitingPlace: Place {
 
     /// This is called from now on when a message may have come for the subscriber, in place of what was before.
     fn listen(&self, port: sys::Wide, listener: Option<Listener>);
+
+    /// Whoever has the lock when a message comes serves this desk from now on.
+    fn open(&self, desk: &Arc<Desk>);
+
+    /// Asks there, and whether somebody serves it soon. Else it still asks.
+    fn is_served(&self, desk: &Desk) -> bool;
 
     /// No call waits any longer, or calls wait again.
     fn stop_waits(&self, is_stopped: bool);
@@ -296,4 +306,6 @@ impl Place for Single {
 
     #[inline]
     fn forget(&self, _: sys::Wide) {}
+
+    fn close(&self, _: &Arc<Desk>) {}
 }

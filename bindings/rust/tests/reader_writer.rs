@@ -5,6 +5,7 @@ use iox2_pubsub::{
     Payload, Publisher, Reader, ReceiveError, SendError, SendOutcome, SharedDomain, Subscriber,
     Threads, Writer,
 };
+use std::sync::mpsc;
 use std::thread;
 use std::time::{Duration, Instant};
 
@@ -370,6 +371,37 @@ fn a_writer_waits_for_room_for_a_loan_and_for_an_earlier_send() {
         assert!(sends.join().unwrap());
     });
     receive(4);
+}
+
+// The send that finds the buffer full may itself take what waits there, for a reader that asks. It goes on then, though the
+// reader takes no more.
+#[test]
+fn a_blocked_send_goes_on_when_it_has_made_room() {
+    let domain = keeping(1, 2);
+    let (publisher, subscriber) = (domain.publisher().unwrap(), domain.subscriber().unwrap());
+    const ROUNDS: u64 = 3000;
+    let (tell, told) = mpsc::channel();
+    thread::scope(|scope| {
+        let subscriber = &subscriber;
+        let reads = scope.spawn(move || {
+            let mut reader = subscriber.reader();
+            for round in 0..ROUNDS {
+                let number = *reader.blocking_receive().unwrap().unwrap();
+                assert_eq!(number, 2 * round);
+                told.recv().unwrap(); // both were sent
+                assert_eq!(reader.blocking_receive().unwrap(), Some(&(number + 1)));
+            }
+        });
+        let mut writer = publisher.writer();
+        for round in 0..ROUNDS {
+            (0..round % 64 * 8).for_each(|_| std::hint::spin_loop());
+            for number in [2 * round, 2 * round + 1] {
+                assert!(is_delivered(writer.blocking_send(number)));
+            }
+            tell.send(()).unwrap();
+        }
+        reads.join().unwrap();
+    });
 }
 
 #[test]
