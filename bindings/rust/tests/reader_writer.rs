@@ -5,8 +5,10 @@ use iox2_pubsub::{
     Payload, Publisher, Reader, ReceiveError, SendError, SendOutcome, SharedDomain, Subscriber,
     Threads, Writer,
 };
+use std::hint::spin_loop;
+use std::sync::atomic::{AtomicU64, Ordering};
 use std::sync::mpsc;
-use std::thread;
+use std::thread::{self, yield_now};
 use std::time::{Duration, Instant};
 
 const MOMENT: Duration = Duration::from_millis(20);
@@ -329,6 +331,9 @@ fn a_writer_is_blocked_by_a_full_buffer() {
     let still = writer.timed_send(7, MOMENT).unwrap().blocked().unwrap();
     assert_eq!(still.give_up().unwrap().delivered(), Some(0));
     assert_eq!(subscriber.receive_copy().unwrap(), Some(6));
+    // None of its loans is out any longer.
+    drop(writer);
+    let _two = [publisher.loan().unwrap(), publisher.loan().unwrap()];
 }
 
 #[test]
@@ -374,33 +379,67 @@ fn a_writer_waits_for_room_for_a_loan_and_for_an_earlier_send() {
 }
 
 // The send that finds the buffer full may itself take what waits there, for a reader that asks. It goes on then, though the
-// reader takes no more.
+// reader takes no more. So the second of two sends has to come while the reader asks.
 #[test]
 fn a_blocked_send_goes_on_when_it_has_made_room() {
+    const ROUNDS: u64 = 2000;
     let domain = keeping(1, 2);
     let (publisher, subscriber) = (domain.publisher().unwrap(), domain.subscriber().unwrap());
-    const ROUNDS: u64 = 3000;
-    let (tell, told) = mpsc::channel();
+    let sent = AtomicU64::new(0);
+    let pause = |count: u64| (0..count).for_each(|_| spin_loop());
     thread::scope(|scope| {
-        let subscriber = &subscriber;
+        let (subscriber, sent) = (&subscriber, &sent);
         let reads = scope.spawn(move || {
             let mut reader = subscriber.reader();
             for round in 0..ROUNDS {
-                let number = *reader.blocking_receive().unwrap().unwrap();
-                assert_eq!(number, 2 * round);
-                told.recv().unwrap(); // both were sent
-                assert_eq!(reader.blocking_receive().unwrap(), Some(&(number + 1)));
+                while sent.load(Ordering::Acquire) == 2 * round {
+                    yield_now();
+                }
+                pause(round * 7 % 200);
+                assert_eq!(reader.blocking_receive().unwrap(), Some(&(2 * round)));
+                while sent.load(Ordering::Acquire) < 2 * round + 2 {
+                    yield_now();
+                }
+                assert_eq!(reader.blocking_receive().unwrap(), Some(&(2 * round + 1)));
             }
         });
         let mut writer = publisher.writer();
         for round in 0..ROUNDS {
-            (0..round % 64 * 8).for_each(|_| std::hint::spin_loop());
-            for number in [2 * round, 2 * round + 1] {
-                assert!(is_delivered(writer.blocking_send(number)));
-            }
-            tell.send(()).unwrap();
+            assert!(is_delivered(writer.blocking_send(2 * round)));
+            sent.store(2 * round + 1, Ordering::Release);
+            pause(round * 13 % 300);
+            assert!(is_delivered(writer.blocking_send(2 * round + 1)));
+            sent.store(2 * round + 2, Ordering::Release);
         }
         reads.join().unwrap();
+    });
+}
+
+#[test]
+fn a_message_of_a_writer_wakes_a_reader() {
+    let domain = keeping(2, 2);
+    let (publisher, subscriber) = (domain.publisher().unwrap(), domain.subscriber().unwrap());
+    let (tell, told) = mpsc::channel();
+    thread::scope(|scope| {
+        let subscriber = &subscriber;
+        scope.spawn(move || {
+            let mut reader = subscriber.reader();
+            while let Some(number) = reader.blocking_receive().unwrap() {
+                tell.send(*number).unwrap();
+            }
+        });
+        let mut writer = publisher.writer();
+        for number in 0..9 {
+            thread::sleep(MOMENT / 4); // it sleeps
+            let sent = match number % 3 {
+                0 => writer.send(number),
+                1 => writer.blocking_send(number),
+                _ => writer.timed_send(number, MOMENT),
+            };
+            assert!(is_delivered(sent));
+            assert_eq!(told.recv_timeout(Duration::from_secs(5)), Ok(number));
+        }
+        domain.stop_waits(true);
     });
 }
 
