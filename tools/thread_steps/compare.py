@@ -8,8 +8,10 @@ from .base import BINDINGS, STRESS, WORK, Count, env, sh, step
 
 CHANNELS = "crossbeam-channel"
 CONSUMERS = (1, 4, 16)
-# What is asked of a message in place with buffers of 64: at most so many times one by mpsc, by the processors of all threads.
-MOST = {1: 1.5, 4: 1.0, 16: 1.0}
+# What is asked of a message in place with buffers of 64: at most so many times one by mpsc of `Arc`, by the processors of all threads.
+# By a writer and readers, and by a call for each of its four steps.
+MOST_IN_A_LOOP = {1: 1.5, 4: 1.0, 16: 1.0}
+MOST_BY_CALLS = {4: 1.0, 16: 1.0}
 RUNS = 7
 
 
@@ -35,7 +37,7 @@ def with_crossbeam():
     """The stress programs with crossbeam-channel, where Debian's crate is there."""
     if not registry.has_crate(CHANNELS):
         Count.missing.append(f"{CHANNELS} ({registry.package(CHANNELS)})")
-        return stress_program("compare_threads"), ["mpsc"]
+        return stress_program("compare_threads"), ["mpsc", "mpsc-values"]
     crates = WORK / "compare"
     for crate in ("rust", "rust-sys", "stress", "include"):
         shutil.copytree(BINDINGS / crate, crates / crate, ignore=shutil.ignore_patterns("target"))
@@ -43,7 +45,7 @@ def with_crossbeam():
     manifest.write_text(manifest.read_text().replace("[dependencies]\n", f'[dependencies]\n{CHANNELS} = "0.5"\n'))
     (crates / "stress/Cargo.lock").unlink(missing_ok=True)
     program = stress_program("compare_threads", crates / "stress", "--cfg crossbeam", "target_compare", registry.words())
-    return program, ["mpsc", "crossbeam"]
+    return program, ["mpsc", "mpsc-values", "crossbeam"]
 
 
 def once(program, what, consumers, messages, buffer):
@@ -70,13 +72,21 @@ def print_table(title, program, kinds, messages, buffer):
     return table
 
 
-def as_asked(table, what, consumers):
+def as_asked(table, what, consumers, most):
     """Whether such handles take no more processor time than is asked."""
     taken, channel = table[consumers][what][1], table[consumers]["mpsc"][1]
-    said = f"{taken} ns of processors, {taken / channel:.2f} times the {channel} of mpsc, at most {MOST[consumers]}"
-    if taken > MOST[consumers] * channel:
+    said = f"{taken} ns of processors, {taken / channel:.2f} times the {channel} of mpsc, at most {most}"
+    if taken > most * channel:
         raise RuntimeError(said)
     return said
+
+
+def hold_to_mpsc(table):
+    """Holds what is in place."""
+    held = {"reader": MOST_IN_A_LOOP, "borrowed-reader": MOST_IN_A_LOOP, "in-place": MOST_BY_CALLS, "borrowed-in-place": MOST_BY_CALLS}
+    for what, of in held.items():
+        for consumers, most in of.items():
+            step(f"{what}, buffers of 64, {consumers} consumers", lambda: as_asked(table, what, consumers, most))
 
 
 def part_compare():
@@ -84,10 +94,8 @@ def part_compare():
     program, channels = with_crossbeam()
     print(where())
     print(f"nanoseconds of a message by the clock / by the processors of all threads, the least of {RUNS} runs; consumers:")
-    domains = ["in-place", "each", "copy", "borrowed-in-place", "borrowed-each", "borrowed-copy"]
-    table = print_table("buffers of 64", program, domains + channels, 20000, 64)
+    kinds = ["reader", "in-place", "each", "copy"]
+    domains = kinds + [f"borrowed-{kind}" for kind in kinds]
+    hold_to_mpsc(print_table("buffers of 64", program, domains + channels, 20000, 64))
     print_table("buffers of 2", program, domains + channels, 20000, 2)
     print_table("a thread by itself", program, ["alone-one-thread", "alone-shared", "alone-borrowed"], 100000, 2)
-    for what in ("in-place", "borrowed-in-place"):
-        for consumers in CONSUMERS:
-            step(f"{what}, buffers of 64, {consumers} consumers", lambda: as_asked(table, what, consumers))

@@ -17,8 +17,9 @@ use std::time::{Duration, Instant};
 const CAPACITY: usize = 64;
 
 /// Reads what comes to a subscriber, one message after the other, each where it lies. It takes all messages that wait in
-/// one hold of the lock, up to its capacity, and gives them back when it takes the next. So it costs less for each
-/// message than [`Subscriber::receive`], which takes the lock to receive it and to give it back.
+/// one hold of the lock, up to its capacity, and gives them back when it takes the next. While it waits, a thread that
+/// sends does this for it. So it costs less for each message than [`Subscriber::receive`], which takes the lock to
+/// receive it and once more to give it back.
 ///
 /// ```
 /// use iox2_pubsub::Domain;
