@@ -1,5 +1,6 @@
 """What a message between threads costs beside channels, and the soak."""
 import shutil
+import statistics
 
 from binding_steps import registry
 from binding_steps.bench import where
@@ -7,7 +8,8 @@ from binding_steps.bench import where
 from .base import BINDINGS, STRESS, WORK, Count, env, sh, step
 
 CHANNELS = "crossbeam-channel"
-CONSUMERS = (1, 4, 16)
+# How many messages are passed to so many consumers: for long enough that the threads are spread over the processors.
+MESSAGES = {1: 200000, 4: 40000, 16: 10000}
 # What is asked of a message in place with buffers of 64: at most so many times one by mpsc of `Arc`, by the processors of all threads.
 # By a writer and readers, and by a call for each of its four steps.
 MOST_IN_A_LOOP = {1: 1.5, 4: 1.0, 16: 1.0}
@@ -53,21 +55,22 @@ def once(program, what, consumers, messages, buffer):
     return tuple(map(int, sh(program, what, consumers, messages, buffer).split()))
 
 
-def least(program, kinds, consumers, messages, buffer):
-    """The least of the runs of each kind, by the clock and by processors. They take turns, so that what else the machine does meets all."""
+def medians(program, kinds, consumers, buffer):
+    """The medians of the runs of each kind, by the clock and by processors. They take turns, so that what else the machine does meets
+    all. (The least would be that of a run in which all threads happened to share one processor.)"""
     runs = {what: [] for what in kinds}
     for _ in range(RUNS):
         for what in kinds:
-            runs[what].append(once(program, what, consumers, messages, buffer))
-    return {what: tuple(map(min, zip(*of))) for what, of in runs.items()}
+            runs[what].append(once(program, what, consumers, MESSAGES[consumers], buffer))
+    return {what: tuple(map(statistics.median, zip(*of))) for what, of in runs.items()}
 
 
-def print_table(title, program, kinds, messages, buffer):
+def print_table(title, program, kinds, buffer):
     """Prints a table, and returns it."""
-    table = {consumers: least(program, kinds, consumers, messages, buffer) for consumers in CONSUMERS}
-    print(f"{title:26}" + "".join(f"{consumers:>18}" for consumers in CONSUMERS), flush=True)
+    table = {consumers: medians(program, kinds, consumers, buffer) for consumers in MESSAGES}
+    print(f"{title:26}" + "".join(f"{consumers:>18}" for consumers in MESSAGES), flush=True)
     for what in kinds:
-        cells = ["{} / {}".format(*table[consumers][what]) for consumers in CONSUMERS]
+        cells = ["{} / {}".format(*table[consumers][what]) for consumers in MESSAGES]
         print(f"{what:26}" + "".join(f"{cell:>18}" for cell in cells), flush=True)
     return table
 
@@ -93,9 +96,9 @@ def part_compare():
     """Prints all, and holds what is in place to mpsc."""
     program, channels = with_crossbeam()
     print(where())
-    print(f"nanoseconds of a message by the clock / by the processors of all threads, the least of {RUNS} runs; consumers:")
+    print(f"nanoseconds of a message by the clock / by the processors of all threads, the medians of {RUNS} runs; consumers:")
     kinds = ["reader", "in-place", "each", "copy"]
     domains = kinds + [f"borrowed-{kind}" for kind in kinds]
-    hold_to_mpsc(print_table("buffers of 64", program, domains + channels, 20000, 64))
-    print_table("buffers of 2", program, domains + channels, 20000, 2)
-    print_table("a thread by itself", program, ["alone-one-thread", "alone-shared", "alone-borrowed"], 100000, 2)
+    hold_to_mpsc(print_table("buffers of 64", program, domains + channels, 64))
+    print_table("buffers of 2", program, domains + channels, 2)
+    print_table("a thread by itself", program, ["alone-one-thread", "alone-shared", "alone-borrowed"], 2)
