@@ -1,9 +1,16 @@
 -- What a port is told of the channels of its connections.
-use Rattle.std.proofs.Common.{◌≡◌, ℕ, Bool, ap, ◌∙◌}
+use Rattle.std.proofs.Common.{◌≡◌, ℕ, Bool, ap, sym, subst, ◌∙◌}
+use Rattle.std.specs.declared.option.Option.{Option}
+use Rattle.std.specs.declared.option.Option.TheVariants.{Some}
+use Rattle.iox2_c.specs.Boxed.{Knows}
 use Rattle.iox2_c.specs.Channels.{InEachState, as_number}
-use Rattle.iox2_c.specs.Serving.{KeptBytes}
+use Rattle.iox2_c.specs.Serving.{KeptBytes, Serving}
 use Rattle.iox2_c.specs.Steps.{BytesState}
 use Rattle.iox2_c.proofs.BecomesSteps.{moved}
+
+-- what is so of a domain that was taken out
+pub knows : (P : KeptBytes → Type 0) (service : Option Serving) (a : Serving) → service ≡ Some a → P a.domain → Knows P service
+knows P service a was holds = subst (λ (o : Option Serving). Knows P o) (sym was) holds
 
 -- what the domain that was opened answers by a port's id, the domain answers by its numbers
 pub told : {A : Type 0} (answer : BytesState → ℕ → A) (result : A) (inside old : KeptBytes) (q p : ℕ) → inside ≡ old → q ≡ p → InEachState inside (λ s. result ≡ answer s q) → InEachState old (λ s. result ≡ answer s p)
