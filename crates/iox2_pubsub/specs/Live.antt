@@ -17,7 +17,7 @@ use Rattle.iox2_domain.specs.Handlers.{may_fail, may_fail_update}
 use Rattle.iox2_domain.specs.Kept.{Kept, state_of, entries_of}
 use Rattle.iox2_domain.specs.LoanCalls.{HasLoanHeader, HasLoanUserHeader}
 use Rattle.iox2_pubsub.specs.ConnectedPorts.{Awaits, Connects}
-use Rattle.iox2_pubsub.specs.DepartedPorts.{HasRoom, departed_at}
+use Rattle.iox2_pubsub.specs.DepartedPorts.{HasRoom}
 use Rattle.iox2_pubsub.specs.Handlers.{may_wait}
 use Rattle.iox2_pubsub.specs.Payloads.{payload_of, payloads_for}
 use Rattle.iox2_pubsub.specs.Slices.{HoldsSlices, IsSliced, HasUnwrittenCells, HasValues, SampleHasValues}
