@@ -13,7 +13,6 @@ pub mod DefaultSlices
 pub mod SliceParts
 pub mod FilledLengths
 pub mod FilledLoans
-mod FilledSlots
 mod LocatedLoans
 pub mod SentMessages
 pub mod OverflowSends

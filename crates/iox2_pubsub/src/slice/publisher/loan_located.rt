@@ -2,9 +2,8 @@
 ghost use Rattle.std.specs.Prelude.{◌≡◌, IfOk};
 
 use crate::domain::Domain;
-use crate::slice::fills::{fill_from_fn, fill_unspecified};
 use crate::slice::{Publisher, SampleMut};
-use iox2_deliveries::loan;
+use iox2_deliveries::{fill_from_fn, fill_unspecified, loan};
 use iox2_domain::LoanAt;
 use iox2_store::{BackpressureFn, DegradationFn, LoanError};
 use std::ptr::NonNull;
