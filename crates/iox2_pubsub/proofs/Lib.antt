@@ -37,6 +37,8 @@ pub mod OldestFirst
 pub mod OpenChannels
 pub mod NextPorts
 pub mod ChannelsShown
+mod ClosedChannels
+mod ChangedChannels
 pub mod ConnectedSends
 pub mod SendsServe
 pub mod ConnectionsStay

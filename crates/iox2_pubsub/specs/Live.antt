@@ -263,7 +263,7 @@ module _ {T U F G : Type 0} (domain : Kept T U F G) where
   KeepsAll subscriber = IsUpToDate subscriber ⊎ HasRoomFor subscriber 0
 
   -- The publisher with this id has its connection with the subscriber, which is open, and has it too or makes its end in its next
-  -- update. So what the publisher sends waits for the subscriber.
+  -- update. Their channel isn't closed. So what the publisher sends waits for the subscriber.
   unfoldable pub IsConnected : (publisher : ℕ) → Subscriber → Type 0
   IsConnected publisher subscriber = Connects (state_of domain) publisher subscriber.id
 
