@@ -59,6 +59,7 @@ pub mod ConnectionsShown
 pub mod ClosesWait
 pub mod DepartedShown
 pub mod LoansLeftShown
+mod AtOnce
 pub mod SureLoans
 pub mod KeptCounts
 pub mod BlockedShown
