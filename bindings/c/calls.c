@@ -549,6 +549,47 @@ static void warnings_are_read(void) {
   IS(iox2ps_domain_destroy(&domain), IOX2PS_OK);
 }
 
+/* A port has its connections after its own update alone, which its creation makes too. */
+static void channels_are_asked_about(void) {
+  iox2ps_domain_t domain;
+  iox2ps_config_t config;
+  iox2ps_publisher_t publisher;
+  iox2ps_subscriber_t subscriber, alone;
+  iox2ps_wide_t nobody = {77, 0};
+  size_t connection = 99;
+  uint32_t answer = 9;
+  iox2ps_config_defaults(&config, 7, 1, 1);
+  create(&domain, &config);
+  IS(iox2ps_subscriber_create(&domain, &alone), IOX2PS_OK);
+  IS(iox2ps_subscriber_at_least_one_channel_has_state(&domain, &alone, 0, IOX2PS_CHANNEL_STATE_OPEN, &answer), IOX2PS_OK);
+  CHECK(answer == 0);
+  IS(iox2ps_publisher_create(&domain, &publisher), IOX2PS_OK);
+  IS(iox2ps_subscriber_create(&domain, &subscriber), IOX2PS_OK);
+  IS(iox2ps_subscriber_at_least_one_channel_has_state(&domain, &subscriber, 0, IOX2PS_CHANNEL_STATE_OPEN, &answer), IOX2PS_OK);
+  CHECK(answer == 1);
+  IS(iox2ps_subscriber_at_least_one_channel_has_state(&domain, &subscriber, 0, IOX2PS_CHANNEL_STATE_CLOSED, &answer), IOX2PS_OK);
+  CHECK(answer == 0);
+
+  IS(iox2ps_publisher_get_connection_id_of(&domain, &publisher, &alone.id, &connection), IOX2PS_OK);
+  CHECK(connection == 0);
+  IS(iox2ps_publisher_get_connection_id_of(&domain, &publisher, &subscriber.id, &connection), IOX2PS_NO_CONNECTION);
+  IS(iox2ps_publisher_has_channel_state(&domain, &publisher, 0, 1, IOX2PS_CHANNEL_STATE_OPEN, &answer), IOX2PS_OK);
+  CHECK(connection == 0 && answer == 0);
+  IS(iox2ps_publisher_update_connections(&domain, &publisher), IOX2PS_OK);
+  IS(iox2ps_publisher_get_connection_id_of(&domain, &publisher, &subscriber.id, &connection), IOX2PS_OK);
+  CHECK(connection == 1);
+  IS(iox2ps_publisher_get_connection_id_of(&domain, &publisher, &nobody, &connection), IOX2PS_NO_CONNECTION);
+  CHECK(connection == 1);
+  IS(iox2ps_publisher_has_channel_state(&domain, &publisher, 0, connection, IOX2PS_CHANNEL_STATE_OPEN, &answer), IOX2PS_OK);
+  CHECK(answer == 1);
+  IS(iox2ps_publisher_has_channel_state(&domain, &publisher, 0, connection, 3, &answer), IOX2PS_OK);
+  CHECK(answer == 0);
+  answer = 9;
+  IS(iox2ps_publisher_has_disconnect_hint(&domain, &publisher, 0, connection, IOX2PS_CHANNEL_STATE_OPEN, &answer), IOX2PS_OK);
+  CHECK(answer == 0);
+  IS(iox2ps_domain_destroy(&domain), IOX2PS_OK);
+}
+
 /* All codes, and the kinds of warnings. */
 static const uint32_t codes[] = {
     IOX2PS_OK, IOX2PS_NO_DOMAIN, IOX2PS_NOT_LIVE, IOX2PS_NO_SAMPLE, IOX2PS_OUT_OF_MEMORY, IOX2PS_HAS_DOMAIN, IOX2PS_BLOCKED,
@@ -569,7 +610,8 @@ static const uint32_t codes[] = {
     IOX2PS_SUBSCRIBER_CREATE_ERROR_EXCEEDS_MAX_SUPPORTED_SUBSCRIBERS,
     IOX2PS_SUBSCRIBER_CREATE_ERROR_BUFFER_SIZE_EXCEEDS_MAX,
     IOX2PS_SUBSCRIBER_CREATE_ERROR_FAILED_TO_DEPLOY_THREADSAFETY_POLICY,
-    IOX2PS_SUBSCRIBER_CREATE_ERROR_UNABLE_TO_CREATE_PORT_TAG, IOX2PS_WARNING_EXPIRED_BUFFER_RAISED,
+    IOX2PS_SUBSCRIBER_CREATE_ERROR_UNABLE_TO_CREATE_PORT_TAG, IOX2PS_NO_SUCH_CHANNEL, IOX2PS_NO_CONNECTION,
+    IOX2PS_WARNING_EXPIRED_BUFFER_RAISED,
     IOX2PS_WARNING_PUBLISHER_PARTLY_CONNECTED, IOX2PS_WARNING_SUBSCRIBER_PARTLY_CONNECTED,
     IOX2PS_WARNING_CONNECTION_NOT_MADE, IOX2PS_WARNING_EXPIRED_DATA_DISCARDED};
 
@@ -630,6 +672,7 @@ int main(void) {
   a_publisher_grows();
   a_late_subscriber_gets_the_history();
   warnings_are_read();
+  channels_are_asked_about();
   texts_are_iceoryx2s();
   each_code_has_a_text_that_no_other_has();
   slots_are_counted();

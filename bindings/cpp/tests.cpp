@@ -462,6 +462,27 @@ static void connections_and_books_are_counted() {
   CHECK(domain.connection_count() == 0 && domain.book_count() == 0 && domain.refused_connections() == 0);
 }
 
+/* A port has its connections after its own update alone, which its creation makes too. */
+static void channels_are_asked_about() {
+  constexpr auto open = iox2ps::channel_state_open, closed = iox2ps::channel_state_closed;
+  auto domain = made(Config<int>(23));
+  auto publisher = domain.publisher().expect("a publisher");
+  auto subscriber = domain.subscriber().expect("a subscriber");
+  CHECK(*subscriber.at_least_one_channel_has_state(0, open) && !*subscriber.at_least_one_channel_has_state(0, closed));
+  CHECK(!*publisher.get_connection_id_of(subscriber.id()) && !*publisher.has_channel_state(0, 0, open));
+  CHECK(publisher.update_connections().has_value());
+  CHECK(*publisher.get_connection_id_of(subscriber.id()) == std::size_t(0));
+  CHECK(!*publisher.get_connection_id_of(Id{subscriber.id().low, 1}));
+  CHECK(*publisher.has_channel_state(0, 0, open) && !*publisher.has_channel_state(0, 0, 3) && !*publisher.has_channel_state(0, 1, open));
+  CHECK(!*publisher.has_disconnect_hint(0, 0, open));
+  CHECK(publisher.has_channel_state(1, 0, open).error() == Error::NoSuchChannel);
+  CHECK(publisher.has_disconnect_hint(SIZE_MAX, 0, open).error() == Error::NoSuchChannel);
+  CHECK(subscriber.at_least_one_channel_has_state(1, open).error() == Error::NoSuchChannel);
+  auto moved = std::move(publisher);
+  CHECK(publisher.get_connection_id_of(subscriber.id()).error() == Error::NotLive);
+  CHECK(publisher.has_channel_state(0, 0, open).error() == Error::NotLive && *moved.has_channel_state(0, 0, open));
+}
+
 static void settings_say_how_many_slots_a_publisher_has() {
   Config<int> config(15);
   config.max_subscribers(2);
@@ -503,6 +524,7 @@ int main() {
   a_late_subscriber_gets_the_history();
   a_header_says_where_a_message_comes_from();
   connections_and_books_are_counted();
+  channels_are_asked_about();
   settings_say_how_many_slots_a_publisher_has();
   errors_have_texts();
   std::printf("%d passed, %d failed\n", passed, failed);

@@ -136,7 +136,9 @@ typedef enum iox2ps_status_e {
   IOX2PS_SUBSCRIBER_CREATE_ERROR_EXCEEDS_MAX_SUPPORTED_SUBSCRIBERS = 60,
   IOX2PS_SUBSCRIBER_CREATE_ERROR_BUFFER_SIZE_EXCEEDS_MAX = 61, /**< a larger buffer than the domain allows */
   IOX2PS_SUBSCRIBER_CREATE_ERROR_FAILED_TO_DEPLOY_THREADSAFETY_POLICY = 62, /**< memory was refused */
-  IOX2PS_SUBSCRIBER_CREATE_ERROR_UNABLE_TO_CREATE_PORT_TAG = 63 /**< no id is left for a port */
+  IOX2PS_SUBSCRIBER_CREATE_ERROR_UNABLE_TO_CREATE_PORT_TAG = 63, /**< no id is left for a port */
+  IOX2PS_NO_SUCH_CHANNEL = 70, /**< a connection has no channel with this number */
+  IOX2PS_NO_CONNECTION = 71 /**< the publisher has no connection to that subscriber */
 } iox2ps_status_e;
 
 /** What a publisher does where a subscriber's buffer is full and the domain doesn't overflow. */
@@ -524,6 +526,45 @@ IOX2PS_NODISCARD iox2ps_status_t iox2ps_sample_header(iox2ps_domain_t *domain, c
 
 /** Gives a message back. IOX2PS_NOT_LIVE. */
 IOX2PS_NODISCARD iox2ps_status_t iox2ps_sample_release(iox2ps_domain_t *domain, const iox2ps_sample_t *sample);
+
+/** @}
+ * @name Channels
+ * A publisher and a subscriber that are connected have a channel, number 0, which carries their messages. It is in a state,
+ * which is a number, and it may have a hint that a side disconnects. A subscriber asks about all its connections, a
+ * publisher about one, which has the number of its subscriber's place. Nothing changes by it, so that nothing of it is
+ * recorded, and a publisher may ask while a send of it waits. IOX2PS_NO_SUCH_CHANNEL comes for each channel but 0.
+ * @{ */
+
+#define IOX2PS_CHANNEL_STATE_OPEN UINT64_C(0)  /**< the state of a new channel */
+#define IOX2PS_CHANNEL_STATE_CLOSED UINT64_MAX /**< the state of a channel that takes no message */
+
+/** Whether a channel is in this state at some connection of the subscriber: 1 or 0. It isn't where the subscriber has
+ * none. IOX2PS_NOT_LIVE, IOX2PS_NO_SUCH_CHANNEL. */
+IOX2PS_NODISCARD iox2ps_status_t iox2ps_subscriber_at_least_one_channel_has_state(iox2ps_domain_t *domain,
+                                                                                  const iox2ps_subscriber_t *subscriber,
+                                                                                  size_t channel, uint64_t state,
+                                                                                  uint32_t *has_state);
+
+/** Names the publisher's connection to the subscriber with this id, which an update or a send has made, by a number for
+ * the calls below. IOX2PS_NO_CONNECTION where it has none. IOX2PS_NOT_LIVE. */
+IOX2PS_NODISCARD iox2ps_status_t iox2ps_publisher_get_connection_id_of(iox2ps_domain_t *domain,
+                                                                       const iox2ps_publisher_t *publisher,
+                                                                       const iox2ps_wide_t *receiver_port_id,
+                                                                       size_t *connection);
+
+/** Whether a channel is in this state at one connection of the publisher: 1 or 0. It isn't where there is no such
+ * connection. IOX2PS_NOT_LIVE, IOX2PS_NO_SUCH_CHANNEL. */
+IOX2PS_NODISCARD iox2ps_status_t iox2ps_publisher_has_channel_state(iox2ps_domain_t *domain,
+                                                                    const iox2ps_publisher_t *publisher, size_t channel,
+                                                                    size_t connection, uint64_t state,
+                                                                    uint32_t *has_state);
+
+/** Whether a channel is in this state at one connection of the publisher and has a hint: 1 or 0. It isn't where there is
+ * no such connection. IOX2PS_NOT_LIVE, IOX2PS_NO_SUCH_CHANNEL. */
+IOX2PS_NODISCARD iox2ps_status_t iox2ps_publisher_has_disconnect_hint(iox2ps_domain_t *domain,
+                                                                      const iox2ps_publisher_t *publisher, size_t channel,
+                                                                      size_t connection, uint64_t state,
+                                                                      uint32_t *has_hint);
 
 /** @} */
 

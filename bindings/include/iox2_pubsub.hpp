@@ -59,6 +59,9 @@ constexpr Brings operator|(Waits one, Waits other) { return static_cast<Brings>(
 constexpr Brings operator|(Brings some, Waits other) { return some | static_cast<Brings>(other); }                   /**< all of them */
 constexpr Brings only(Waits one) { return static_cast<Brings>(one); }                                                /**< one */
 
+inline constexpr std::uint64_t channel_state_open = IOX2PS_CHANNEL_STATE_OPEN;     /**< the state of a new channel */
+inline constexpr std::uint64_t channel_state_closed = IOX2PS_CHANNEL_STATE_CLOSED; /**< that of one which takes no message */
+
 /** Until when a call waits, or for good. */
 using Until = std::optional<std::chrono::steady_clock::time_point>;
 
@@ -151,6 +154,15 @@ public:
 
   /* The same of calls that bring nothing to anybody. */
   template <typename Call> iox2ps_status_t ask(Call &&make) const { return call(0, std::forward<Call>(make)); }
+
+  /* What a question of a port is answered, by 1 or 0. */
+  template <typename Question> Result<bool> told(Question &&question) const {
+    if (!shared_) return Error::NotLive;
+    std::uint32_t answer = 0;
+    iox2ps_status_t code = ask([&](iox2ps_domain_t *domain) { return question(domain, &answer); });
+    if (code != IOX2PS_OK) return error_of(code);
+    return answer != 0;
+  }
 
   /* Makes them again as long as their code says that the port still waits, each time when something came that may help. */
   template <typename Call>
@@ -601,6 +613,36 @@ public:
     }));
   }
 
+  /** Names its connection to the subscriber with this id by a number for the two calls below, or is none where it has no
+   * such connection. An update or a send makes them. */
+  Result<std::optional<std::size_t>> get_connection_id_of(Id receiver_port_id) const {
+    if (!hold_) return Error::NotLive;
+    iox2ps_wide_t receiver = {receiver_port_id.low, receiver_port_id.high};
+    std::size_t connection = 0;
+    iox2ps_status_t code = hold_.ask([&](iox2ps_domain_t *domain) {
+      return iox2ps_publisher_get_connection_id_of(domain, &port_, &receiver, &connection);
+    });
+    if (code == IOX2PS_NO_CONNECTION) return std::optional<std::size_t>();
+    if (code != IOX2PS_OK) return detail::error_of(code);
+    return std::optional<std::size_t>(connection);
+  }
+
+  /** Whether a channel is in this state at one of its connections; it isn't where there is no such connection. A connection
+   * has one channel, number 0: Error::NoSuchChannel for another. */
+  Result<bool> has_channel_state(std::size_t channel, std::size_t connection, std::uint64_t state) const {
+    return hold_.told([&](iox2ps_domain_t *domain, std::uint32_t *answer) {
+      return iox2ps_publisher_has_channel_state(domain, &port_, channel, connection, state, answer);
+    });
+  }
+
+  /** Whether a channel is in this state at one of its connections, and a disconnect was hinted there. Answers as
+   * has_channel_state. */
+  Result<bool> has_disconnect_hint(std::size_t channel, std::size_t connection, std::uint64_t state) const {
+    return hold_.told([&](iox2ps_domain_t *domain, std::uint32_t *answer) {
+      return iox2ps_publisher_has_disconnect_hint(domain, &port_, channel, connection, state, answer);
+    });
+  }
+
   /** Closes it, or lets it close when a send of it that waits has ended. */
   void close() {
     if (!hold_) return;
@@ -774,13 +816,9 @@ public:
 
   /** Whether a message waits, also one that can't be received yet. */
   Result<bool> has_samples() {
-    if (!hold_) return Error::NotLive;
-    std::uint32_t waits = 0;
-    iox2ps_status_t code = hold_.ask([&](iox2ps_domain_t *domain) {
-      return iox2ps_subscriber_has_samples(domain, &port_, &waits);
+    return hold_.told([&](iox2ps_domain_t *domain, std::uint32_t *waits) {
+      return iox2ps_subscriber_has_samples(domain, &port_, waits);
     });
-    if (code != IOX2PS_OK) return detail::error_of(code);
-    return waits != 0;
   }
 
   /** Makes the connections with publishers that came, as each receive does first. */
@@ -789,6 +827,14 @@ public:
     return detail::done(hold_.ask([&](iox2ps_domain_t *domain) {
       return iox2ps_subscriber_update_connections(domain, &port_);
     }));
+  }
+
+  /** Whether a channel is in this state at some connection of it; it isn't where it has none. A connection has one channel,
+   * number 0: Error::NoSuchChannel for another. */
+  Result<bool> at_least_one_channel_has_state(std::size_t channel, std::uint64_t state) const {
+    return hold_.told([&](iox2ps_domain_t *domain, std::uint32_t *answer) {
+      return iox2ps_subscriber_at_least_one_channel_has_state(domain, &port_, channel, state, answer);
+    });
   }
 
   /** For several threads alone: calls this when a message may have come, from now on, in place of what was set before; but not

@@ -43,8 +43,8 @@ pub enum BackpressureAction {
 /// Sends messages to every subscriber of its domain, until it is dropped. One that is dropped while a
 /// send of it is blocked closes when that send has ended.
 pub struct Publisher<P: Payload + ?Sized, M: Threads = OneThread> {
-    hold: M::Hold,
-    port: sys::Publisher,
+    pub(crate) hold: M::Hold,
+    pub(crate) port: sys::Publisher,
     messages: PhantomData<P>,
 }
 

@@ -9,3 +9,4 @@ pub mod Calls
 pub mod Warnings
 pub mod Steps
 pub mod Returns
+pub mod Channels
