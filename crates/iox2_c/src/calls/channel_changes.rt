@@ -6,12 +6,11 @@ ghost use Rattle.iox2_c.specs.Channels.{ClosesReceived, ClosesSent, HintsReceive
 ghost use Rattle.iox2_c.specs.Numbers.{named_publisher, named_subscriber, wide};
 ghost use Rattle.iox2_c.specs.Serving.{ServesBut};
 
-use crate::calls::channels::{CHANNELS, live_publisher};
+use crate::calls::channels::{publisher_with_channel, subscriber_with_channel};
 use crate::calls::questions::number_of;
-use crate::calls::subscribers::live_subscriber;
 use crate::numbers::{PublisherNumbers, SubscriberNumbers};
 use crate::service::Service;
-use crate::status::{NO_SUCH_CHANNEL, NOT_LIVE, OK};
+use crate::status::OK;
 
 /// Brings a channel into a state at each connection of a subscriber where it is closed, and says whether it
 /// was at all of them.
@@ -29,19 +28,15 @@ pub fn set_state(
     ensures same { 0 < result → were_closed.new ≡ were_closed.old }
     ensures stays { ServesBut No_item service.old service.new }
 {
-    let Some(subscriber) = live_subscriber(&service.domain, numbers) else {
-        return NOT_LIVE;
+    let subscriber = match subscriber_with_channel(&service.domain, numbers, channel) {
+        Ok(subscriber) => subscriber,
+        Err(code) => return code,
     };
-    let code = if channel < CHANNELS {
-        let answer = subscriber.set_channel_state(&mut service.domain, channel, state);
-        *were_closed = number_of(answer);
-        service.recording.end();
-        OK
-    } else {
-        NO_SUCH_CHANNEL
-    };
+    let answer = subscriber.set_channel_state(&mut service.domain, channel, state);
     subscriber.disown();
-    code
+    service.recording.end();
+    *were_closed = number_of(answer);
+    OK
 }
 
 /// Closes a channel at each connection of a subscriber where it is in a state.
@@ -57,18 +52,14 @@ pub fn close_received(
     ensures refused { 0 < result → service.new ≡ service.old }
     ensures stays { ServesBut No_item service.old service.new }
 {
-    let Some(subscriber) = live_subscriber(&service.domain, numbers) else {
-        return NOT_LIVE;
+    let subscriber = match subscriber_with_channel(&service.domain, numbers, channel) {
+        Ok(subscriber) => subscriber,
+        Err(code) => return code,
     };
-    let code = if channel < CHANNELS {
-        subscriber.close_channel(&mut service.domain, channel, expected);
-        service.recording.end();
-        OK
-    } else {
-        NO_SUCH_CHANNEL
-    };
+    subscriber.close_channel(&mut service.domain, channel, expected);
     subscriber.disown();
-    code
+    service.recording.end();
+    OK
 }
 
 /// Hints at each connection of a subscriber where a channel is in a state that the subscriber disconnects.
@@ -84,18 +75,14 @@ pub fn hint(
     ensures refused { 0 < result → service.new ≡ service.old }
     ensures stays { ServesBut No_item service.old service.new }
 {
-    let Some(subscriber) = live_subscriber(&service.domain, numbers) else {
-        return NOT_LIVE;
+    let subscriber = match subscriber_with_channel(&service.domain, numbers, channel) {
+        Ok(subscriber) => subscriber,
+        Err(code) => return code,
     };
-    let code = if channel < CHANNELS {
-        subscriber.set_disconnect_hint(&mut service.domain, channel, expected);
-        service.recording.end();
-        OK
-    } else {
-        NO_SUCH_CHANNEL
-    };
+    subscriber.set_disconnect_hint(&mut service.domain, channel, expected);
     subscriber.disown();
-    code
+    service.recording.end();
+    OK
 }
 
 /// Closes a channel at one connection of a publisher, if it is in a state there.
@@ -112,16 +99,12 @@ pub fn close_sent(
     ensures refused { 0 < result → service.new ≡ service.old }
     ensures stays { ServesBut No_item service.old service.new }
 {
-    let Some(publisher) = live_publisher(&service.domain, numbers) else {
-        return NOT_LIVE;
+    let publisher = match publisher_with_channel(&service.domain, numbers, channel) {
+        Ok(publisher) => publisher,
+        Err(code) => return code,
     };
-    let code = if channel < CHANNELS {
-        publisher.close_channel(&mut service.domain, channel, connection, expected);
-        service.recording.end();
-        OK
-    } else {
-        NO_SUCH_CHANNEL
-    };
+    publisher.close_channel(&mut service.domain, channel, connection, expected);
     publisher.disown();
-    code
+    service.recording.end();
+    OK
 }

@@ -1,6 +1,6 @@
 //! The exports of calls that change the channels of connections.
 ghost use Rattle.std.specs.Prelude.{◌≡◌, ◌<◌, ◌↔◌, None};
-ghost use Rattle.iox2_pubsub.specs.Live.{No_item};
+ghost use Rattle.iox2_pubsub.specs.Live.{IsPublisherKey, IsSubscriberKey, No_item};
 ghost use Rattle.iox2_c.specs.Boxed.{Becomes, HoldsOn, Knows};
 ghost use Rattle.iox2_c.specs.Channels.{ClosesReceived, ClosesSent, HintsReceived, RefusesPublisherChannel, RefusesSubscriberChannel, SetsState};
 ghost use Rattle.iox2_c.specs.Numbers.{named_publisher, named_subscriber, wide};
@@ -23,6 +23,7 @@ pub extern "C" fn iox2ps_subscriber_set_channel_state(
 ) -> u32
     ensures no_domain { (result ≡ 1) ↔ (domain.old.service ≡ None) }
     ensures sets { result ≡ 0 → Becomes (λ old new. SetsState old new (wide (subscriber.now).id) channel state were_closed.new) domain.old.service domain.new.service }
+    ensures live { result ≡ 0 → Knows (λ kept. IsSubscriberKey kept (named_subscriber subscriber.now)) domain.old.service }
     ensures why { 1 < result → Knows (λ kept. RefusesSubscriberChannel kept (named_subscriber subscriber.now) channel result) domain.old.service }
     ensures refused { 0 < result → domain.new.service ≡ domain.old.service }
     ensures same { 0 < result → were_closed.new ≡ were_closed.old }
@@ -47,6 +48,7 @@ pub extern "C" fn iox2ps_subscriber_close_channel(
 ) -> u32
     ensures no_domain { (result ≡ 1) ↔ (domain.old.service ≡ None) }
     ensures closes { result ≡ 0 → Becomes (λ old new. ClosesReceived old new (wide (subscriber.now).id) channel expected) domain.old.service domain.new.service }
+    ensures live { result ≡ 0 → Knows (λ kept. IsSubscriberKey kept (named_subscriber subscriber.now)) domain.old.service }
     ensures why { 1 < result → Knows (λ kept. RefusesSubscriberChannel kept (named_subscriber subscriber.now) channel result) domain.old.service }
     ensures refused { 0 < result → domain.new.service ≡ domain.old.service }
     ensures stays { HoldsOn No_item domain.old.service domain.new.service }
@@ -70,6 +72,7 @@ pub extern "C" fn iox2ps_subscriber_set_disconnect_hint(
 ) -> u32
     ensures no_domain { (result ≡ 1) ↔ (domain.old.service ≡ None) }
     ensures hints { result ≡ 0 → Becomes (λ old new. HintsReceived old new (wide (subscriber.now).id) channel expected) domain.old.service domain.new.service }
+    ensures live { result ≡ 0 → Knows (λ kept. IsSubscriberKey kept (named_subscriber subscriber.now)) domain.old.service }
     ensures why { 1 < result → Knows (λ kept. RefusesSubscriberChannel kept (named_subscriber subscriber.now) channel result) domain.old.service }
     ensures refused { 0 < result → domain.new.service ≡ domain.old.service }
     ensures stays { HoldsOn No_item domain.old.service domain.new.service }
@@ -94,6 +97,7 @@ pub extern "C" fn iox2ps_publisher_close_channel(
 ) -> u32
     ensures no_domain { (result ≡ 1) ↔ (domain.old.service ≡ None) }
     ensures closes { result ≡ 0 → Becomes (λ old new. ClosesSent old new (wide (publisher.now).id) channel connection expected) domain.old.service domain.new.service }
+    ensures live { result ≡ 0 → Knows (λ kept. IsPublisherKey kept (named_publisher publisher.now)) domain.old.service }
     ensures why { 1 < result → Knows (λ kept. RefusesPublisherChannel kept (named_publisher publisher.now) channel result) domain.old.service }
     ensures refused { 0 < result → domain.new.service ≡ domain.old.service }
     ensures stays { HoldsOn No_item domain.old.service domain.new.service }
