@@ -659,18 +659,19 @@ int main(int count, char **arguments) {
   iox2ps_domain_t domain = IOX2PS_DOMAIN_INIT;
   if (count != 3) fail("usage: random_channels SEED CALLS");
   random_state = strtoull(arguments[1], NULL, 10);
-  size_t calls = strtoull(arguments[2], NULL, 10), chosen = 0;
+  size_t calls = strtoull(arguments[2], NULL, 10), on_channels = 0, by_nothing = 0;
   choose_settings();
   is_code(iox2ps_domain_create(&domain, &config), IOX2PS_OK);
   for (size_t i = 0; i < calls; i++) {
-    size_t before = channel_calls;
+    channel_calls = not_live = 0;
     call(&domain);
-    chosen += channel_calls > before;
+    on_channels += channel_calls > 0;
+    by_nothing += not_live > 0;
     look_at_all_channels(&domain);
   }
   is_code(iox2ps_domain_destroy(&domain), IOX2PS_OK);
   printf("%zu calls, %zu of them on channels, and %zu by numbers of nothing; closed channels let %zu messages pass, end %zu waits "
          "and keep %zu histories back\n",
-         calls, chosen, not_live, passed_over, waits_ended, histories_kept_back);
+         calls, on_channels, by_nothing, passed_over, waits_ended, histories_kept_back);
   return 0;
 }
