@@ -10,7 +10,7 @@ use Rattle.iox2_store.specs.machine.ChannelCalls.{senders_of, received_changed}
 use Rattle.iox2_store.specs.machine.Numbers.{contains, put_at}
 use Rattle.iox2_store.specs.machine.Places.{occupants}
 use Rattle.iox2_store.specs.machine.Records.{Subscriber}
-use Rattle.iox2_store.specs.machine.State.{connected_publishers}
+use Rattle.iox2_store.specs.machine.State.{State, connected_publishers}
 use Rattle.iox2_ends.specs.Finds.{IsReceivers, IsReceiverLinked}
 use Rattle.iox2_ends.specs.Mailboxes.{channels_in, publisher_of_key, receiver_ends}
 use Rattle.iox2_ends.proofs.MailboxChanges.{both-true}
@@ -20,7 +20,8 @@ use Rattle.iox2_domain.specs.ChannelChanges.{ChangesLinks}
 use Rattle.iox2_domain.specs.Departures.{KnowsKey}
 use Rattle.iox2_domain.specs.Fields.{Fields, kept_of}
 use Rattle.iox2_domain.specs.Invariant.{IsDomain}
-use Rattle.iox2_domain.specs.Kept.{state_of}
+use Rattle.iox2_domain.specs.Kept.{Kept, entries_of, state_of}
+use Rattle.iox2_domain.specs.OpenMarks.{ChangesMarks}
 use Rattle.iox2_domain.specs.Ports.{SubscriberFields}
 use Rattle.iox2_domain.specs.Reaches.{Reaches}
 use Rattle.iox2_domain.proofs.lemmas.fields.ConnectionEnds.{subscriber-stands}
@@ -123,3 +124,11 @@ module _ {T U : Type 0} (f now : Fields T U) (same : f ≡ now) (sound : IsDomai
       subst (λ (w : SubscriberFields). Reaches now (record f { connections = new }) (received_changed (state_of (kept_of now)) w.id 0 expected (changed_channel change))) (same_Some z y (sym stands ∙ at))
       (subst (λ (h : Fields T U). Reaches now (record h { connections = new }) (received_changed (state_of (kept_of now)) z.id 0 expected (changed_channel change))) (sym same)
       (received-reaches now sound i z stands change expected new (subst (λ (h : Fields T U). ChangesLinks (changed_link change expected) (KnowsKey z) h.connections new) same changes)))
+
+-- a step after which marks change comes to the same
+pub reaches-then-marks : {T U : Type 0} (f g h : Fields T U) (s : State T U) → Reaches f g s → ChangesMarks g h → Reaches f h s
+reaches-then-marks {T} {U} f g h s step marks = record {
+  agrees = marks.agrees;
+  state = ap state_of marks.kept ∙ step.state;
+  entries = λ n entry e. step.entries n entry (sym (ap (λ (k : Kept T U ⊥ ⊥). entries_of k n) marks.kept) ∙ e);
+}

@@ -3,7 +3,7 @@ use Rattle.std.proofs.Common.{◌≡◌, ℕ, Bool, true, false, cond, ◌&&◌,
 use Rattle.std.proofs.lemmas.Bool.{eqb-true, eq-eqb, true≢false}
 use Rattle.std.proofs.lemmas.Option.{same_Some}
 use Rattle.std.specs.Option.{option_map, option_map_or, option_and_then}
-use Rattle.slab.specs.Slab.{Slab, get}
+use Rattle.slab.specs.Slab.{Slab, ContainsKey, get}
 use Rattle.iox2_slots.specs.Link.{Link}
 use Rattle.iox2_store.specs.machine.Channel.{Channel, closed_state, with_state, changed_if}
 use Rattle.iox2_store.specs.machine.ChannelCalls.{receiver_at, sent_closed}
@@ -24,6 +24,7 @@ use Rattle.iox2_domain.specs.Updates.{sender_key}
 use Rattle.iox2_domain.proofs.lemmas.fields.ConnectionEnds.{occupant-sender_ends, publisher-stands}
 use Rattle.iox2_domain.proofs.lemmas.fields.KeptChannels.{channels-are}
 use Rattle.iox2_domain.proofs.lemmas.fields.Standing.{some_is}
+use Rattle.iox2_steps.proofs.updates.MarkedEnds.{end-there}
 use Rattle.iox2_messages.specs.ChannelChanges.{changed_link}
 use Rattle.iox2_messages.specs.declared.changed_channels.ChannelChange.{ChannelChange}
 use Rattle.iox2_messages.specs.declared.changed_channels.ChannelChange.TheVariants.{SetState}
@@ -131,12 +132,19 @@ module _ {T U : Type 0} (f : Fields T U) (sound : IsDomain f) (i : ℕ) (x : Pub
         let it = some_is (IsSenders x.id place) (get f.connections key) ((sound.parts.linked.senders i x at).at place key has) in
         one-sent key changes has it.0 it.1 it.2
 
-module _ {T U : Type 0} (f now : Fields T U) (same : f ≡ now) (sound : IsDomain now) (i place : ℕ) where
-  -- the same as the code does it
-  pub closed-from : (publishers : List (Option PublisherFields)) (key : Option ℕ) → publishers ≡ f.publishers → key ≡ sender_key publishers i place
-      → (expected : ℕ) (new : Slab Link) → ChangesLinks (changed_link (SetState closed_state) expected) (λ k. key ≡ Some k) f.connections new
+module _ {T U : Type 0} (f now : Fields T U) (same : f ≡ now) (sound : IsDomain now) (i place : ℕ) (publishers : List (Option PublisherFields)) (key : Option ℕ) (read : publishers ≡ f.publishers) (is : key ≡ sender_key publishers i place) where
+  -- the key that the code reads
+  key-now : key ≡ sender_key now.publishers i place
+  key-now = is ∙ ap (λ (xs : List (Option PublisherFields)). sender_key xs i place) (read ∙ ap (λ (h : Fields T U). h.publishers) same)
+
+  -- it leads to a connection
+  pub connected-from : (k : ℕ) → key ≡ Some k → ContainsKey f.connections k
+  connected-from k has = subst (λ (h : Fields T U). ContainsKey h.connections k) (sym same) (end-there now sound i place k (sym key-now ∙ has))
+
+  -- what the code does there is what the machine does
+  pub closed-from : (expected : ℕ) (new : Slab Link) → ChangesLinks (changed_link (SetState closed_state) expected) (λ k. key ≡ Some k) f.connections new
       → (x : PublisherFields) → get_or now.publishers i None ≡ Some x → Reaches now (record f { connections = new }) (sent_closed (state_of (kept_of now)) x.id 0 place expected)
-  closed-from publishers key read is expected new changes x at =
+  closed-from expected new changes x at =
       subst (λ (h : Fields T U). Reaches now (record h { connections = new }) (sent_closed (state_of (kept_of now)) x.id 0 place expected)) (sym same)
-      (closed-reaches now sound i x at place expected new key (is ∙ ap (λ (xs : List (Option PublisherFields)). sender_key xs i place) (read ∙ ap (λ (h : Fields T U). h.publishers) same))
+      (closed-reaches now sound i x at place expected new key key-now
       (subst (λ (h : Fields T U). ChangesLinks (changed_link (SetState closed_state) expected) (λ k. key ≡ Some k) h.connections new) same changes))

@@ -10,12 +10,14 @@ ghost use Rattle.iox2_domain.specs.Departures.{HasKey, KnowsKey};
 ghost use Rattle.iox2_domain.specs.Fields.{kept_of};
 ghost use Rattle.iox2_domain.specs.Invariant.{IsDomain};
 ghost use Rattle.iox2_domain.specs.Kept.{state_of};
+ghost use Rattle.iox2_domain.specs.OpenMarks.{ChangesMarks};
 ghost use Rattle.iox2_domain.specs.Ports.{PublisherFields, SubscriberFields};
 ghost use Rattle.iox2_domain.specs.Reaches.{Reaches};
 ghost use Rattle.iox2_messages.specs.ChannelChanges.{changed_channel, changed_link};
 
 use iox2_domain::{DomainState, SubscriberState, key_at};
 use iox2_slots::{CHANNEL_STATE_CLOSED, Connection};
+use iox2_updates::mark_end;
 use slab::Slab;
 
 /// What becomes of a channel.
@@ -98,6 +100,17 @@ fn change_known(
     change_expired(connections, &subscriber.expired, expected, change);
 }
 
+// The connections of the subscriber at a place are marked as open where they are, as those are whose
+// channels are open again.
+fn mark_received<T: Drop, U: Default + Drop>(state: &mut DomainState<T, U>, place: usize)
+    requires { IsDomain state.old }
+    ensures { ChangesMarks state.old state.new }
+{
+    for publisher_place in 0..state.publishers.len() {
+        mark_end(state, publisher_place, place);
+    }
+}
+
 /// Channel 0 of each connection of the subscriber at a place is changed, where it is in the state
 /// `expected`.
 ///
@@ -118,6 +131,7 @@ pub fn change_received<T: Drop, U: Default + Drop>(
         unreachable!()
     };
     change_known(&mut state.connections, subscriber, expected, change);
+    mark_received(state, place);
 }
 
 /// Channel 0 of the connection that the publisher at a place has at another, if there is one, is
