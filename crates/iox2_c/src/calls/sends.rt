@@ -83,9 +83,9 @@ pub fn send(
         return send_recorded(service, numbers, receivers, blocked);
     }
     if service.domain.sends_at_once(&numbers.parts()) {
-        send_named(service, numbers, receivers, blocked, &mut None)
+        send_named(service, numbers, receivers, blocked, None)
     } else {
-        send_elsewhere(service, numbers, receivers, blocked, &mut None)
+        send_elsewhere(service, numbers, receivers, blocked, None)
     }
 }
 
@@ -97,7 +97,7 @@ fn send_named(
     numbers: &LoanNumbers,
     receivers: &mut usize,
     blocked: &mut LoanNumbers,
-    failed: &mut Option<SendError>,
+    failed: Option<&mut Option<SendError>>,
 ) -> u32
     ensures { SendReturns numbers.now service.old service.new receivers.old receivers.new blocked.old blocked.new result }
 {
@@ -109,7 +109,9 @@ fn send_named(
         return PUBLISHER_IS_BLOCKED;
     }
     let sent = loan.send(&mut service.domain);
-    *failed = error_of(&sent);
+    if let Some(failed) = failed {
+        *failed = error_of(&sent);
+    }
     tell_of(sent, numbers, receivers, blocked)
 }
 
@@ -121,7 +123,7 @@ fn send_elsewhere(
     numbers: &LoanNumbers,
     receivers: &mut usize,
     blocked: &mut LoanNumbers,
-    failed: &mut Option<SendError>,
+    failed: Option<&mut Option<SendError>>,
 ) -> u32
     ensures { SendReturns numbers.now service.old service.new receivers.old receivers.new blocked.old blocked.new result }
 {
@@ -141,7 +143,7 @@ fn send_recorded(
 {
     record_bytes(service, numbers);
     let mut failed = None;
-    let code = send_elsewhere(service, numbers, receivers, blocked, &mut failed);
+    let code = send_elsewhere(service, numbers, receivers, blocked, Some(&mut failed));
     service.recording.sent(numbers, code, *receivers, failed);
     code
 }

@@ -111,12 +111,10 @@ pub extern "C" fn iox2ps_publisher_loan(
     ensures same { 0 < result → loan.new ≡ loan.old }
     ensures stays { HoldsOn No_item domain.old.service domain.new.service }
 {
-    let Some(mut boxed) = domain.take(alloc) else {
-        return NO_DOMAIN;
-    };
-    let code = publishers::loan(&mut boxed, publisher, len, loan, payload);
-    domain.put(boxed);
-    code
+    match domain.service() {
+        Some(service) => publishers::loan(service, publisher, len, loan, payload),
+        None => NO_DOMAIN,
+    }
 }
 
 /// Lends a message of so many bytes, whatever they are, and says where they lie. It costs the same for
@@ -140,10 +138,8 @@ pub extern "C" fn iox2ps_publisher_loan_uninit(
     ensures same { 0 < result → loan.new ≡ loan.old }
     ensures stays { HoldsOn No_item domain.old.service domain.new.service }
 {
-    let Some(mut boxed) = domain.take(alloc) else {
-        return NO_DOMAIN;
-    };
-    let code = uninit_loans::loan_uninit(&mut boxed, publisher, len, loan, payload);
-    domain.put(boxed);
-    code
+    match domain.service() {
+        Some(service) => uninit_loans::loan_uninit(service, publisher, len, loan, payload),
+        None => NO_DOMAIN,
+    }
 }

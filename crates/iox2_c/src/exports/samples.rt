@@ -108,10 +108,8 @@ pub extern "C" fn iox2ps_sample_release(
     ensures refused { 0 < result → domain.new.service ≡ domain.old.service }
     ensures stays { HoldsOn (A_sample (wide (sample.now).subscriber) (wide (sample.now).number)) domain.old.service domain.new.service }
 {
-    let Some(mut boxed) = domain.take(alloc) else {
-        return NO_DOMAIN;
-    };
-    let code = samples::release(&mut boxed, sample);
-    domain.put(boxed);
-    code
+    match domain.service() {
+        Some(service) => samples::release(service, sample),
+        None => NO_DOMAIN,
+    }
 }

@@ -37,12 +37,10 @@ pub extern "C" fn iox2ps_loan_send(
     ensures same_count { (result ≡ 1) ⊎ (result ≡ 2) ⊎ (result ≡ 7) → receivers.new ≡ receivers.old }
     ensures stays { HoldsOn (A_sent_loan (wide (loan.now).number) (wide (loan.now).publisher) (nat_eq result 6)) domain.old.service domain.new.service }
 {
-    let Some(mut boxed) = domain.take(alloc) else {
-        return NO_DOMAIN;
-    };
-    let code = sends::send(&mut boxed, loan, receivers, blocked);
-    domain.put(boxed);
-    code
+    match domain.service() {
+        Some(service) => sends::send(service, loan, receivers, blocked),
+        None => NO_DOMAIN,
+    }
 }
 
 /// Sends a copy of the bytes, and says how many subscribers took it or which send waits.

@@ -114,12 +114,10 @@ pub extern "C" fn iox2ps_subscriber_receive(
     ensures same_length { 0 < result → len.new ≡ len.old }
     ensures stays { HoldsOn No_item domain.old.service domain.new.service }
 {
-    let Some(mut boxed) = domain.take(alloc) else {
-        return NO_DOMAIN;
-    };
-    let code = subscribers::receive(&mut boxed, subscriber, sample, payload, len);
-    domain.put(boxed);
-    code
+    match domain.service() {
+        Some(service) => subscribers::receive(service, subscriber, sample, payload, len),
+        None => NO_DOMAIN,
+    }
 }
 
 /// Receives a message, copies its bytes and gives it back. One for which there is no room stays borrowed.
