@@ -23,9 +23,9 @@
  *
  * Threads. Nothing here starts a thread, takes a lock, waits, or keeps state outside of a domain. So threads may call
  * different domains at a time, and a domain may go from one thread to another. Threads that share one have a lock for it:
- *  - each call that takes the domain is made with the lock, also one that only asks: it takes the domain out of its
- *    iox2ps_domain_t and puts it back. For the same reason no call takes a const domain: to a C compiler const would
- *    say that nothing is written there;
+ *  - each call that takes the domain is made with the lock, also one that only asks: each has the domain for itself, and
+ *    some write into its iox2ps_domain_t meanwhile. For the same reason no call takes a const domain: to a C compiler
+ *    const would say that nothing is written there;
  *  - payloads need no lock. The bytes of a loan are its holder's from the call that lends it to the call that sends or
  *    discards it; those of a sample are read by whoever likes, by several threads at a time, from the call that receives
  *    it to the call that releases it. No other call touches them, but that one which copies a message reads it. A thread

@@ -1,5 +1,6 @@
 pub mod Serving
 pub mod Holding
+pub mod Lending
 pub mod Boxed
 pub mod Numbers
 pub mod Codes

@@ -244,16 +244,24 @@ fn numbers_say_whether_a_publisher_lends_at_once(rt: HostRuntime) {
 fn numbers_say_whether_a_loan_is_sent_at_once(rt: HostRuntime) {
     let mut domain = domain(&rt, rt.alloc());
     let unwritten = lent(&rt, &mut domain);
-    let is_unwritten = !domain.sends_at_once(&unwritten);
+    let is_unwritten = domain.sends_at_once(&unwritten).is_none();
     let loan = write(&rt, &mut domain, &unwritten);
     let sends = [
-        domain.sends_at_once(&loan),
-        domain.sends_at_once(&LoanParts { place: 1, ..loan }),
-        domain.sends_at_once(&LoanParts { slot: 1, ..loan }),
-        domain.sends_at_once(&LoanParts { number: 9, ..loan }),
+        domain
+            .sends_at_once(&LoanParts { book: 9, ..loan })
+            .is_some(),
+        domain
+            .sends_at_once(&LoanParts { place: 1, ..loan })
+            .is_some(),
+        domain
+            .sends_at_once(&LoanParts { slot: 1, ..loan })
+            .is_some(),
+        domain
+            .sends_at_once(&LoanParts { number: 9, ..loan })
+            .is_some(),
     ];
     subscriber_of(&rt, &mut domain).disown();
-    let is_due = !domain.sends_at_once(&loan);
+    let is_due = domain.sends_at_once(&loan).is_none();
     drop(domain);
     assert!(rt; is_unwritten);
     assert!(rt; sends == [true, false, false, false]);

@@ -4,8 +4,8 @@ ghost use Rattle.std.specs.Prelude.{◌≡◌, ◌↔◌, true, IfSome, IsTrue};
 
 use crate::domain::Domain;
 use crate::parts::hints::{
-    has_publisher_at_hint, has_subscriber_at_hint, is_written_at_hint, lends_at_once,
-    receives_at_once, sends_at_once,
+    has_publisher_at_hint, has_subscriber_at_hint, lends_at_once, receives_at_once, sends_at_once,
+    written_at_hint,
 };
 use crate::parts::{LoanParts, PublisherParts, SampleParts, SubscriberParts};
 use crate::sample::Sample;
@@ -60,22 +60,26 @@ impl<T: Drop, U: Default + Drop, F: BackpressureFn, G: DegradationFn> Domain<T, 
         self.is_publisher_at_hint(parts) && lends_at_once(&self.state, parts.place, len)
     }
 
-    /// Whether the written loan with these numbers is out, lies in the slot that they name, and is sent
-    /// at once: its publisher stands at the place that they name, is due for no update, has no handler
-    /// for full buffers, and no send of it waits. This library's own.
-    pub fn sends_at_once(&self, parts: &LoanParts) -> bool
-        ensures live { IsTrue result → IsLoanKey self.now (loan_named parts.now) }
-        ensures written { IsTrue result → HasMark self.now (parts.now).number true }
-        ensures placed { IsTrue result → LenderIsPlaced self.now parts.now }
-        ensures unblocked { IsTrue result → IsUnblocked self.now (loan_named parts.now) }
+    /// The key of the book in which the written loan with these numbers lies, where it is out, lies in
+    /// the slot that they name, and is sent at once: its publisher stands at the place that they name,
+    /// is due for no update, has no handler for full buffers, and no send of it waits. The book that
+    /// they name isn't looked at. This library's own.
+    pub fn sends_at_once(&self, parts: &LoanParts) -> Option<usize>
+        ensures live { IfSome result (λ _. IsLoanKey self.now (loan_named parts.now)) }
+        ensures written { IfSome result (λ _. HasMark self.now (parts.now).number true) }
+        ensures placed { IfSome result (λ _. LenderIsPlaced self.now parts.now) }
+        ensures unblocked { IfSome result (λ _. IsUnblocked self.now (loan_named parts.now)) }
     {
         if !sends_at_once(&self.state, parts.place) {
-            return false;
+            return None;
         }
         if parts.service_id != self.state.config().service_id {
-            return false;
+            return None;
         }
-        is_written_at_hint(&self.state, &parts.loan())
+        let Some(book) = written_at_hint(&self.state, &parts.loan()) else {
+            return None;
+        };
+        Some(book)
     }
 
     /// Whether the subscriber with these numbers wasn't closed, stands at the place that they name, and

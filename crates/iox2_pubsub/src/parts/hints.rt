@@ -1,5 +1,5 @@
 //! What a handle made of numbers names is looked for first where the numbers say.
-ghost use Rattle.std.specs.Prelude.{◌≡◌, ◌↔◌, ◌<◌, ◌≤◌, [], true, false, length, slice_index_or, is_some, IfSome, IsTrue, MatchOption, None, Some};
+ghost use Rattle.std.specs.Prelude.{◌≡◌, ◌↔◌, ◌<◌, ◌≤◌, [], true, false, length, slice_get, slice_index_or, is_some, IfSome, IsTrue, MatchOption, None, Some};
 ghost use Rattle.iox2_store.specs.SingleValues.{is_single_valued};
 ghost use Rattle.iox2_store.specs.declared.allocation.AllocationStrategy.TheVariants.{Static};
 ghost use Rattle.iox2_store.specs.machine.Limits.{last_number};
@@ -10,11 +10,12 @@ ghost use Rattle.iox2_domain.specs.Fields.{kept_of};
 ghost use Rattle.iox2_domain.specs.Invariant.{IsDomain};
 ghost use Rattle.iox2_domain.specs.LoanCalls.{HoldsUnwritten, HoldsWritten};
 ghost use Rattle.iox2_domain.specs.Ports.{PublisherFields, SubscriberFields};
-ghost use Rattle.iox2_domain.specs.LoanSlots.{LiesInSlot};
+ghost use Rattle.iox2_domain.specs.LoanSlots.{IsLoanSlot, LiesInSlot};
+ghost use Rattle.iox2_slots.specs.declared.slots.mark.SlotMark.{SlotMark};
 ghost use Rattle.iox2_pubsub.specs.Parts.{IsMarkOf, written_mark};
 
 use iox2_domain::{DomainState, LoanAt, SampleAt, is_loan_slot};
-use iox2_slots::SlotMark;
+use iox2_slots::{SlotBook, SlotMark};
 use iox2_store::{AllocationStrategy, UniquePublisherId, UniqueSubscriberId};
 
 /// The place of the publisher with this id, where it wasn't closed. It is looked for at the place
@@ -161,20 +162,56 @@ pub(crate) fn receives_at_once<T, U>(state: &DomainState<T, U>, place: usize) ->
     subscriber.expired.is_empty()
 }
 
-/// Whether the publisher's loan is out and written, and lies in the slot that is named, in the book of
-/// the publisher that stands at its place.
-pub(crate) fn is_written_at_hint<T: Drop, U: Default + Drop>(
-    state: &DomainState<T, U>,
-    loan: &LoanAt,
-) -> bool
-    requires { IsDomain state.now }
-    ensures written { IsTrue result → HoldsWritten (state_of (kept_of state.now)) loan.now.publisher loan.now.number }
-    ensures placed { IsTrue result → (x : PublisherFields) × (slice_index_or state.now.publishers loan.now.place None ≡ Some x) × (x.id ≡ loan.now.publisher) }
+// Whether a written loan with this number lies in the slot.
+fn is_written_slot(book: &SlotBook, slot: usize, number: u128) -> bool
+    ensures loan { IsTrue result → IsLoanSlot book.now slot number }
+    ensures written { IsTrue result → (mark : SlotMark) × (slice_get book.now.marks slot ≡ Some mark) × (written_mark mark ≡ true) }
 {
-    if !is_lent_at_hint(state, loan) {
+    if slot >= book.len() {
         return false;
     }
-    is_written(state.books[loan.book].mark(loan.slot))
+    if !is_written(book.mark(slot)) {
+        return false;
+    }
+    is_loan_slot(book, slot, number)
+}
+
+// The key of the book of the publisher with this id, where it stands at the place.
+fn book_of<T: Drop, U: Default + Drop>(
+    state: &DomainState<T, U>,
+    place: usize,
+    id: UniquePublisherId,
+) -> Option<usize>
+    ensures { IfSome result (λ key. (x : PublisherFields) × (slice_index_or state.now.publishers place None ≡ Some x) × (x.id ≡ id) × (x.book ≡ key)) }
+{
+    let Some(Some(publisher)) = state.publishers.get(place) else {
+        return None;
+    };
+    if publisher.id.value() != id.value() {
+        return None;
+    }
+    Some(publisher.book)
+}
+
+/// The key of the book in which the publisher's loan lies, where the loan is out and written and lies in
+/// the slot that is named, and the publisher stands at its place. The book that is named isn't looked
+/// at: a publisher that stands has one, so that it needs no test whether it is there.
+pub(crate) fn written_at_hint<T: Drop, U: Default + Drop>(
+    state: &DomainState<T, U>,
+    loan: &LoanAt,
+) -> Option<usize>
+    requires { IsDomain state.now }
+    ensures written { IfSome result (λ _. HoldsWritten (state_of (kept_of state.now)) loan.now.publisher loan.now.number) }
+    ensures placed { IfSome result (λ _. (x : PublisherFields) × (slice_index_or state.now.publishers loan.now.place None ≡ Some x) × (x.id ≡ loan.now.publisher)) }
+{
+    let Some(key) = book_of(state, loan.place, loan.publisher) else {
+        return None;
+    };
+    if is_written_slot(&state.books[key], loan.slot, loan.number) {
+        Some(key)
+    } else {
+        None
+    }
 }
 
 fn is_written(mark: SlotMark) -> bool
