@@ -9,12 +9,10 @@ use crate::calls::channel_changes;
 use crate::domain_box::DomainBox;
 use crate::numbers::{PublisherNumbers, SubscriberNumbers};
 use crate::status::NO_DOMAIN;
-use std::alloc::Global;
 
 /// Brings a channel into a state at each connection of a subscriber where it is closed.
 #[unsafe(no_mangle)]
 pub extern "C" fn iox2ps_subscriber_set_channel_state(
-    alloc: Global,
     domain: &mut DomainBox,
     subscriber: &SubscriberNumbers,
     channel: usize,
@@ -29,18 +27,21 @@ pub extern "C" fn iox2ps_subscriber_set_channel_state(
     ensures same { 0 < result → were_closed.new ≡ were_closed.old }
     ensures stays { HoldsOn No_item domain.old.service domain.new.service }
 {
-    let Some(mut boxed) = domain.take(alloc) else {
-        return NO_DOMAIN;
-    };
-    let code = channel_changes::set_state(&mut boxed, subscriber, channel, state, were_closed);
-    domain.put(boxed);
-    code
+    match domain.service() {
+        Some(service) => channel_changes::set_state(
+            service,
+            subscriber,
+            channel,
+            state,
+            were_closed,
+        ),
+        None => NO_DOMAIN,
+    }
 }
 
 /// Closes a channel at each connection of a subscriber where it is in the expected state.
 #[unsafe(no_mangle)]
 pub extern "C" fn iox2ps_subscriber_close_channel(
-    alloc: Global,
     domain: &mut DomainBox,
     subscriber: &SubscriberNumbers,
     channel: usize,
@@ -53,18 +54,15 @@ pub extern "C" fn iox2ps_subscriber_close_channel(
     ensures refused { 0 < result → domain.new.service ≡ domain.old.service }
     ensures stays { HoldsOn No_item domain.old.service domain.new.service }
 {
-    let Some(mut boxed) = domain.take(alloc) else {
-        return NO_DOMAIN;
-    };
-    let code = channel_changes::close_received(&mut boxed, subscriber, channel, expected);
-    domain.put(boxed);
-    code
+    match domain.service() {
+        Some(service) => channel_changes::close_received(service, subscriber, channel, expected),
+        None => NO_DOMAIN,
+    }
 }
 
 /// Hints at each connection of a subscriber, where a channel is in the expected state, that it disconnects.
 #[unsafe(no_mangle)]
 pub extern "C" fn iox2ps_subscriber_set_disconnect_hint(
-    alloc: Global,
     domain: &mut DomainBox,
     subscriber: &SubscriberNumbers,
     channel: usize,
@@ -77,18 +75,15 @@ pub extern "C" fn iox2ps_subscriber_set_disconnect_hint(
     ensures refused { 0 < result → domain.new.service ≡ domain.old.service }
     ensures stays { HoldsOn No_item domain.old.service domain.new.service }
 {
-    let Some(mut boxed) = domain.take(alloc) else {
-        return NO_DOMAIN;
-    };
-    let code = channel_changes::hint(&mut boxed, subscriber, channel, expected);
-    domain.put(boxed);
-    code
+    match domain.service() {
+        Some(service) => channel_changes::hint(service, subscriber, channel, expected),
+        None => NO_DOMAIN,
+    }
 }
 
 /// Closes a channel at one connection of a publisher, if it is in the expected state there.
 #[unsafe(no_mangle)]
 pub extern "C" fn iox2ps_publisher_close_channel(
-    alloc: Global,
     domain: &mut DomainBox,
     publisher: &PublisherNumbers,
     channel: usize,
@@ -102,10 +97,10 @@ pub extern "C" fn iox2ps_publisher_close_channel(
     ensures refused { 0 < result → domain.new.service ≡ domain.old.service }
     ensures stays { HoldsOn No_item domain.old.service domain.new.service }
 {
-    let Some(mut boxed) = domain.take(alloc) else {
-        return NO_DOMAIN;
-    };
-    let code = channel_changes::close_sent(&mut boxed, publisher, channel, connection, expected);
-    domain.put(boxed);
-    code
+    match domain.service() {
+        Some(service) => channel_changes::close_sent(
+            service, publisher, channel, connection, expected,
+        ),
+        None => NO_DOMAIN,
+    }
 }

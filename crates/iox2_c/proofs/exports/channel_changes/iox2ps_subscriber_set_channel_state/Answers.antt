@@ -1,10 +1,6 @@
-use Rattle.std.proofs.Common.{ap, sym, ◌∙◌}
-use Rattle.std.specs.declared.option.Option.TheVariants.{Some}
-use Rattle.iox2_c.specs.Serving.{Serving}
+use Rattle.std.proofs.Common.{refl}
 use Rattle.iox2_c.proofs.BecomesSteps.{becomes}
 use Rattle.iox2_c.proofs.exports.channel_changes.iox2ps_subscriber_set_channel_state.Goals as goal
 
-pub returns-clause-sets : goal.returns-clause-sets
-returns-clause-sets c = λ ok.
-    becomes _ _ _ c.deref_mut.result.now c.set_state-code.new.service (c.in-Some.ensures.taken ∙ sym (ap {A = Serving} Some c.deref_mut.ensures.value)) c.put.ensures
-    (c.set_state-code.ensures.sets ok)
+pub returns-in-Some-clause-sets : goal.returns-in-Some-clause-sets
+returns-in-Some-clause-sets c = λ ok. becomes _ _ _ c.in-Some.service.now c.set_state.new.service c.in-Some.ensures.value refl (c.set_state.ensures.sets ok)
