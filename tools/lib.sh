@@ -31,6 +31,13 @@ compile_with() {
   gcc -O2 -Wall -Wextra -o "$folder/$1" "$top/tools/$1.c" "$top/crates/$2/out/lib$2.a" "$(dirname "$(rt doc)")/c/liblibc_c.a"
 }
 
+# Lets the C library fill and copy by vector stores, at any length. It would do so with long runs by one string instruction, of
+# which valgrind counts one for each byte.
+by_vectors() {
+  GLIBC_TUNABLES=$(< "$top/tools/glibc_tunables.txt")
+  export GLIBC_TUNABLES
+}
+
 # Runs a program, and notes the instructions of each of its functions, with those of what it calls.
 count_instructions() {
   quietly valgrind --tool=callgrind --callgrind-out-file="$folder/calls" "$@"

@@ -4,6 +4,7 @@ import os
 import platform
 import re
 
+from . import machine
 from .packages import cargo
 from .places import TOP, is_here
 from .programs import compile_program
@@ -39,22 +40,14 @@ def programs(work):
     return work / "target/release/examples/compare", compile_program("gcc", "c/compare.c", "c11", work / "compare_c", "-O2")
 
 
-def first_line(*words):
-    """What a program says first, or that it isn't here."""
-    return said(*words).splitlines()[0] if is_here(words[0]) else f"no {words[0]}"
-
-
 def where():
     """The day, the commit, the machine, what else it does, and the compilers, in lines of text."""
-    processors = re.findall(r"^model name\s*: (.*)", open("/proc/cpuinfo").read(), re.M)
     commit = said("git", "describe", "--always", "--dirty", cwd=TOP).strip()
-    compilers = [first_line("gcc", "--version"), first_line("rustc", "--version")]
-    load = " ".join(f"{of:.1f}" for of in os.getloadavg())
     return "\n".join((
         f"{datetime.datetime.now():%-d %B %Y, %H:%M}, commit {commit}",
-        f"{len(processors)} processors, {processors[0] if processors else platform.machine()}, Linux {platform.release()}",
-        f"load of the last 1, 5 and 15 minutes: {load}" + (", so that times tell little" if os.getloadavg()[0] > 1 else ""),
-        "; ".join(compilers),
+        f"{os.cpu_count()} processors, {machine.processor()}, Linux {platform.release()}",
+        f"load of the last minute: {machine.load():.1f}" + (", so that times tell little" if machine.load() > 1 else ""),
+        machine.compilers(),
     ))
 
 

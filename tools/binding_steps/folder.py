@@ -7,7 +7,7 @@ import threading
 import time
 from pathlib import Path
 
-from .places import BINDINGS, LICENCES, OUT, TOP, version
+from .places import BINDINGS, CRATES, LICENCES, OUT, TOP, version
 from .steps import Failed, said
 
 ARCHIVE_CRATE = "iox2_c"
@@ -132,7 +132,7 @@ def build(archive=None, to=OUT):
     filled("iox2_pubsubConfig.cmake", to / "lib/cmake/iox2_pubsub/iox2_pubsubConfig.cmake")
     filled("iox2_pubsubConfigVersion.cmake.in", to / "lib/cmake/iox2_pubsub/iox2_pubsubConfigVersion.cmake")
     filled("iox2_pubsub.pc.in", to / "lib/pkgconfig/iox2_pubsub.pc")
-    for crate in ("rust", "rust-sys"):
+    for crate in CRATES:
         copy_crate(crate, to)
     for licence in LICENCES:
         shutil.copyfile(TOP / licence, to / licence)

@@ -3,7 +3,7 @@ import re
 import subprocess
 from pathlib import Path
 
-from .places import BINDINGS, OUT, is_here, version
+from .places import BINDINGS, CRATES, OUT, is_here, version
 from .programs import ARCHIVE, PAIRS, WARNINGS
 from .steps import Failed, said
 
@@ -30,7 +30,7 @@ def same_functions():
 
 def same_versions():
     """The crates of Rust have the version that the header says."""
-    crates = [OUT / crate / "Cargo.toml" for crate in ("rust", "rust-sys")]
+    crates = [OUT / crate / "Cargo.toml" for crate in CRATES]
     others = [crate for crate in crates if f'\nversion = "{version()}"\n' not in crate.read_text()]
     if others:
         raise Failed(f"the header says {version()}, and not so {', '.join(map(str, others))}")

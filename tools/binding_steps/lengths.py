@@ -1,14 +1,14 @@
 """Compares what a message takes by its length: this library, a copy, a queue of Rust and iceoryx, one after the other."""
 import os
-import platform
 import re
 import statistics
 import time
 from pathlib import Path
 
+from . import machine
 from .headers import ICEORYX
-from .places import BINDINGS, OUT, is_here, version
-from .programs import ARCHIVE, WARNINGS
+from .places import BINDINGS, TOP, is_here, version
+from .programs import WARNINGS, compile_program
 from .steps import said
 
 BESIDE = BINDINGS / "beside"
@@ -16,8 +16,8 @@ LENGTHS = ((64, "64 B"), (4096, "4 KB"), (65536, "64 KB"), (1 << 20, "1 MB"), (8
 ROUNDS = 5
 # How many messages the function `counted` of the programs passes.
 COUNTED = 20
-# valgrind counts each byte of a string instruction as one, so that the C library is to copy by vector stores, as it does else.
-VECTORS = {"GLIBC_TUNABLES": "glibc.cpu.x86_rep_stosb_threshold=1000000000:glibc.cpu.x86_rep_movsb_threshold=1000000000"}
+# The C library is to fill and copy by vector stores: see tools/lib.sh.
+VECTORS = {"GLIBC_TUNABLES": (TOP / "tools/glibc_tunables.txt").read_text().strip()}
 ROUDI = ("-liceoryx_binding_c", "-liceoryx_posh_roudi", "-liceoryx_posh", "-liceoryx_hoofs", "-liceoryx_platform")
 # What iceoryx's headers of C++ include.
 ACCESS_LISTS = Path("/usr/include/sys/acl.h")
@@ -29,11 +29,9 @@ def main_program(work):
     return work / "lengths.o"
 
 
-def of_c(work, name, *more):
+def of_c(work, name):
     """A program whose library is called from C."""
-    source = BESIDE / f"lengths_{name}.c"
-    said("gcc", "-std=c11", *WARNINGS, "-O2", "-I", OUT / "include", source, main_program(work), *more, "-pthread", "-o", work / name)
-    return work / name
+    return compile_program("gcc", f"beside/lengths_{name}.c", "c11", work / name, "-O2", objects=[main_program(work)])
 
 
 def of_rust(work):
@@ -55,7 +53,7 @@ def of_iceoryx(work):
 
 def programs(work):
     """The columns: what each is called, and its program."""
-    columns = [("this library, from C", of_c(work, "iox2_pubsub", ARCHIVE)), ("`memcpy` alone", of_c(work, "memcpy"))]
+    columns = [("this library, from C", of_c(work, "iox2_pubsub")), ("`memcpy` alone", of_c(work, "memcpy"))]
     if is_here("rustc"):
         columns.append(("`VecDeque` of `Rc<[u8]>`", of_rust(work)))
     else:
@@ -92,31 +90,19 @@ def times(columns):
     return found
 
 
-def machine():
-    """The processor, as Linux calls it."""
-    with open("/proc/cpuinfo") as lines:
-        return next((line.split(":", 1)[1].strip() for line in lines if line.startswith("model name")), platform.machine())
-
-
-def compilers():
-    """Which ones built the programs."""
-    rust = said("rustc", "--version").split()[1] if is_here("rustc") else "none"
-    return f"gcc {said('gcc', '-dumpfullversion').strip()}, rustc {rust}, glibc {platform.libc_ver()[1]}"
-
-
 def run_lengths(work):
     """Prints the table."""
-    columns, loads = programs(work), [os.getloadavg()[0]]
+    columns, loads = programs(work), [machine.load()]
     measured = times(columns)
-    loads.append(os.getloadavg()[0])
+    loads.append(machine.load())
     print("\n| A message of | " + " | ".join(name for name, _ in columns) + " |\n|---|" + "---|" * len(columns))
     for length, title in LENGTHS:
         cells = (f"{figure(instructions(program, length))}, {figure(statistics.median(measured[length, program]))} ns" for _, program in columns)
         print(f"| {title} | {' | '.join(cells)} |", flush=True)
     print(f"\nInstructions and nanoseconds of one message, which is lent, one word of it written, sent, received, read and released by one"
           f" thread. Instructions by callgrind, of {COUNTED} messages; nanoseconds on a processor, the median of {ROUNDS} runs of which each"
-          f" library's comes after the other's. {time.strftime('%-d %B %Y')}, {machine()}, load of the machine {min(loads):.1f} to"
-          f" {max(loads):.1f} on {os.cpu_count()} processors; iox2_pubsub {version()}, {compilers()}.")
+          f" library's comes after the other's. {time.strftime('%-d %B %Y')}, {machine.processor()}, load of the machine {min(loads):.1f} to"
+          f" {max(loads):.1f} on {os.cpu_count()} processors; iox2_pubsub {version()}, {machine.compilers()}.")
     for length, title in LENGTHS:
         for name, program in columns:
             every = ", ".join(figure(one) for one in sorted(measured[length, program]))

@@ -3,11 +3,14 @@ import os
 import re
 import shutil
 
+from . import registry
 from .places import BINDINGS, OUT, is_here
 from .programs import ARCHIVE, GRIND, PAIRS, check_example
 from .steps import Failed, said
 
 READING = "21.5 °C, read by 1\n"
+# The crate of others that the crate of streams needs.
+STREAMS_NEED = "futures-core"
 
 
 # ---- CMake and pkg-config
@@ -130,15 +133,15 @@ def run_readme(steps, work):
 
 # ---- the crates of Rust
 
-def cargo(work, *words, **environment):
+def cargo(work, *words, crate="rust", **environment):
     """What cargo writes in the crate, with what it makes in $work/target."""
     more = {"CARGO_TARGET_DIR": str(work / "target"), **environment}
-    return said("cargo", *words, cwd=OUT / "rust", env={**os.environ, **more})
+    return said("cargo", *words, cwd=OUT / crate, env={**os.environ, **more})
 
 
-def cargo_test(work):
+def cargo_test(work, *words, crate="rust"):
     """The crate's tests, and those in its comments."""
-    results = re.findall(r"^test result: .* (\d+) passed; (\d+) failed", cargo(work, "test", "--offline"), re.M)
+    results = re.findall(r"^test result: .* (\d+) passed; (\d+) failed", cargo(work, "test", "--offline", *words, crate=crate), re.M)
     return f"{sum(int(passed) for passed, _ in results)} passed, {sum(int(failed) for _, failed in results)} failed"
 
 
@@ -152,11 +155,11 @@ def other_version(work):
     return result
 
 
-def without_archive(work, *words):
+def without_archive(work, *words, crate="rust"):
     """What needs no archive, where there is none."""
     (work / "empty").mkdir(exist_ok=True)
     places = {"IOX2_PUBSUB_LIB_DIR": str(work / "empty"), "CARGO_TARGET_DIR": str(work / "target_without")}
-    cargo(work, *words, "--offline", "--quiet", RUSTFLAGS="-D warnings", RUSTDOCFLAGS="-D warnings", **places)
+    cargo(work, *words, "--offline", "--quiet", crate=crate, RUSTFLAGS="-D warnings", RUSTDOCFLAGS="-D warnings", **places)
     return "without a warning"
 
 
@@ -190,6 +193,28 @@ def run_cargo(steps, work):
     if is_here("valgrind"):
         for name in ("calls", "numbers"):
             steps.run(f"rust/tests/{name}.rs, valgrind", rust_under_valgrind, work, name)
+
+
+def run_stream(steps, work):
+    """The crate of streams, which is the only one that has a crate of others below it."""
+    if not is_here("cargo") or not registry.has_crate(STREAMS_NEED):
+        lacking = registry.package(STREAMS_NEED) if is_here("cargo") else "cargo"
+        steps.skip("rust-stream, the crate of streams", lacking)
+        return
+    steps.run("rust-stream, cargo test", stream_test, work)
+    for words in (("check", "--all-targets"), ("clippy", "--all-targets"), ("doc", "--no-deps")):
+        if words[0] != "clippy" or is_here("cargo-clippy"):
+            steps.run(f"rust-stream, cargo {words[0]} without the archive", stream_without_archive, work, *words)
+
+
+def stream_test(work):
+    """Its tests, and those in its comments."""
+    return cargo_test(work, *registry.words(), crate="rust-stream")
+
+
+def stream_without_archive(work, *words):
+    """What needs no archive, where there is none."""
+    return without_archive(work, *words, *registry.words(), crate="rust-stream")
 
 
 # ---- the gateway to DDS

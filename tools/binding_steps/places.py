@@ -8,6 +8,8 @@ BINDINGS = TOP / "bindings"
 OUT = BINDINGS / "out"
 HEADER = BINDINGS / "include/iox2_pubsub.h"
 LICENCES = ("LICENSE-APACHE", "LICENSE-MIT")
+# The crates of Rust.
+CRATES = ("rust", "rust-sys", "rust-stream")
 
 
 def version():

@@ -20,13 +20,13 @@ NOTHING_LEFT = ("--show-leak-kinds=all", "--errors-for-leak-kinds=all")
 BUT_REACHABLE = ("--show-leak-kinds=definite,indirect,possible", "--errors-for-leak-kinds=definite,indirect,possible")
 
 
-def compile_program(compiler, source, standard, program, *flags):
-    """Compiles a file of bindings to a program over the archive."""
+def compile_program(compiler, source, standard, program, *flags, objects=()):
+    """Compiles a file of bindings to a program over the archive, with what is compiled already."""
     language = "c++" if standard.startswith("c++") else "c"
     # gcc's manual says that a sanitizer makes it warn of values that are set.
     warnings = [*WARNINGS, "-Wno-maybe-uninitialized"] if SANITIZERS[0] in flags and compiler in PAIRS[0] else WARNINGS
     words = [compiler, "-x", language, f"-std={standard}", *warnings, *flags, "-I", OUT / "include", BINDINGS / source]
-    said(*words, "-x", "none", ARCHIVE, "-pthread", "-o", program)
+    said(*words, "-x", "none", *objects, ARCHIVE, "-pthread", "-o", program)
     return program
 
 

@@ -19,7 +19,8 @@ void send(Peer &peer, iox2ps::Publisher<Bytes> &publisher, std::size_t len, cons
 }
 
 /* Options: count, len, publishers, gentle (0: send on while messages wait for the topic), more_when (a file: so many messages more
- * once it is there), sent (a file to make when all are), until (a file: to stay until it is there). */
+ * once it is there), sent (a file to make when all are), late (1: one message more, once somebody is there), until (a file: to
+ * stay until it is there). */
 int send_role(const Options &options) {
   Peer peer = peer_of(options);
   std::vector<iox2ps::Publisher<Bytes>> publishers;
@@ -47,6 +48,11 @@ int send_role(const Options &options) {
   double all = seconds_since(start);
   cpu = cpu_seconds() - cpu;
   options.tell("sent");
+  if (options.number("late", 0) != 0) {
+    if (!wait_for_peers(peer.gateway, Options(options).with("peers", "1"))) return 4;
+    send(peer, publishers[0], len, Head{static_cast<std::uint64_t>(getpid()), 0, count / publishers.size() + 1});
+    acknowledged = peer.gateway.flush(std::chrono::seconds(options.number("flush", 20)));
+  }
   stay(peer.gateway, options);
   std::printf("{\"count\": %llu, \"sending_s\": %.3f, \"acknowledged\": %d, \"all_s\": %.3f, \"cpu_s\": %.4f, \"most_held\": %zu, ",
               static_cast<unsigned long long>(count), sending, acknowledged, all, cpu, most_held);

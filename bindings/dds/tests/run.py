@@ -77,12 +77,14 @@ def late_joiner():
     return "of 50 messages the last 10 came, from the 41st on"
 
 def without_history():
+    """The first that a process gets which comes later is what is sent when it is there."""
     name, all_sent, over = topic(), flag(), flag()
-    of = start("peer", "send", topic=name, count=50, peers=0, sent=all_sent, until=over)
+    of = start("peer", "send", topic=name, count=50, peers=0, sent=all_sent, late=1, until=over)
     wait_for(all_sent, of)
-    got = end(start("cases", "look", topic=name, writers=1, hold=2)); put_up(over); end(of)
-    assert got["received"] == 0 and got["writers"] == 1, got
-    return "of 50 messages none came"
+    got = end(start("peer", "receive", topic=name, expect=1)); put_up(over); end(of)
+    sound(got)
+    assert got["good"] == 1 and got["first"] == [51] and got["gaps"] == 0, got
+    return "of 50 messages none came, and the next did"
 
 def receiver_killed():
     """The receiver is killed among messages, and another one starts: the sender goes on."""
@@ -145,7 +147,7 @@ def full_disk():
     to = start("peer", "receive", log_to="/dev/full", topic=name, expect=rounds, max=64, buffer=64, limit=256, mode="retry")
     end(start("plain", "hostile", topic=name, count=rounds, len=50000000, mode="retry")); got = end(to)
     assert got["received"] == rounds and got["too_long"] == 0, got
-    return "%d good ones came, and no line of log" % rounds
+    return "%d good ones came, while nothing could be written to the log" % rounds
 
 def typed_values():
     name = topic()

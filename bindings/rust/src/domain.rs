@@ -11,7 +11,9 @@ use crate::recording::{Recording, Room};
 use crate::shared::Shared;
 use crate::subscriber::Subscriber;
 use crate::sys;
-use crate::threads::{Borrowed, Brings, ManyThreads, OneThread, Part, Place, Single, Threads};
+use crate::threads::{
+    Borrowed, Brings, ManyThreads, MayWait, OneThread, Part, Place, Single, Threads, WaitingPlace,
+};
 use crate::warning::Warning;
 use crate::{PublisherCreateError, SubscriberCreateError};
 use std::fmt;
@@ -169,10 +171,7 @@ impl<P: Payload + ?Sized, M: Threads> Domain<P, M> {
     }
 
     pub(crate) fn config(&self) -> sys::Config {
-        let mut config = sys::Config::default();
-        // SAFETY: see `Shared::at`.
-        self.ask(|shared| unsafe { sys::iox2ps_domain_config(shared.at(), &mut config) });
-        config
+        config(&*self.hold)
     }
 
     fn ask(&self, question: impl FnOnce(&mut Shared) -> u32) {
@@ -188,17 +187,22 @@ impl<P: Payload + ?Sized, M: Threads> fmt::Debug for Domain<P, M> {
     }
 }
 
-impl<P, M, L> Domain<P, M>
-where
-    P: Payload + ?Sized,
-    M: Threads<Place = Guarded<L>>,
-    L: DomainLock,
-{
+impl<P: Payload + ?Sized, M: MayWait> Domain<P, M> {
     /// Lets no call wait any longer, here and on other threads: each tries once, and returns what it
     /// found. So a program ends its threads. With `false` calls wait again.
     pub fn stop_waits(&self, stopped: bool) {
         self.hold.stop_waits(stopped);
     }
+}
+
+/// The settings of the domain that lies there.
+pub(crate) fn config(place: &impl Place) -> sys::Config {
+    let mut config = sys::Config::default();
+    // SAFETY: see `Shared::at`.
+    expect(place.call(Brings::NOTHING, |shared| unsafe {
+        sys::iox2ps_domain_config(shared.at(), &mut config)
+    }));
+    config
 }
 
 #[inline(always)]

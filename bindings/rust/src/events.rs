@@ -1,28 +1,20 @@
 //! How a receive fits into a task or an event loop.
 
 use crate::errors::ReceiveError;
-use crate::guarded::Guarded;
-use crate::lock::DomainLock;
 use crate::payload::Payload;
 use crate::sample::Sample;
 use crate::subscriber::{receive_next, Subscriber};
-use crate::threads::{Brings, MayWait, Threads};
+use crate::threads::{Brings, MayWait, WaitingPlace};
 use std::fmt;
 use std::future::Future;
 use std::mem::MaybeUninit;
 use std::pin::Pin;
 use std::sync::Arc;
-use std::task::{Context, Poll};
+use std::task::{Context, Poll, Waker};
 
-impl<P, M, L> Subscriber<P, M>
-where
-    P: Payload + ?Sized,
-    M: MayWait + Threads<Place = Guarded<L>>,
-    L: DomainLock,
-{
+impl<P: Payload + ?Sized, M: MayWait> Subscriber<P, M> {
     /// The next message, or `Pending`: then the task is woken when one may have come. `None` where waits are
-    /// stopped (`SharedDomain::stop_waits`). Of a stream's `poll_next` it is the whole, for example by
-    /// `futures::stream::poll_fn(|context| subscriber.poll_receive(context).map(Result::transpose))`.
+    /// stopped (`SharedDomain::stop_waits`). The crate `iox2_pubsub-stream` makes a `Stream` of it.
     ///
     /// # Errors
     ///
@@ -40,6 +32,31 @@ where
             Some(code) => Poll::Ready(self.sample(code, &got)),
             None => Poll::Pending,
         }
+    }
+
+    /// Lets a task that has polled this subscriber be woken no longer, for one that won't poll it again. Others
+    /// that have polled it are woken as before.
+    ///
+    /// ```
+    /// # use std::{sync::Arc, task::{Context, Wake, Waker}};
+    /// # struct Task;
+    /// # impl Wake for Task {
+    /// #     fn wake(self: Arc<Self>) {}
+    /// # }
+    /// # fn main() -> Result<(), Box<dyn std::error::Error>> {
+    /// let domain = iox2_pubsub::Domain::<u64>::builder(7).create_shared()?;
+    /// let subscriber = domain.subscriber()?;
+    /// let task = Arc::new(Task);
+    /// let waker = Waker::from(task.clone());
+    /// assert!(subscriber.poll_receive(&mut Context::from_waker(&waker)).is_pending());
+    /// subscriber.forget_waker(&waker);
+    /// drop(waker);
+    /// assert_eq!(Arc::strong_count(&task), 1); // nobody else has it
+    /// # Ok(())
+    /// # }
+    /// ```
+    pub fn forget_waker(&self, waker: &Waker) {
+        self.hold.forget_waker(self.port.id, waker);
     }
 
     /// The next message as a future, for any runtime: `subscriber.receive_async().await`. Where it is dropped
@@ -73,12 +90,7 @@ pub struct Receive<'s, P: Payload + ?Sized, M: MayWait> {
     subscriber: &'s Subscriber<P, M>,
 }
 
-impl<P, M, L> Future for Receive<'_, P, M>
-where
-    P: Payload + ?Sized,
-    M: MayWait + Threads<Place = Guarded<L>>,
-    L: DomainLock,
-{
+impl<P: Payload + ?Sized, M: MayWait> Future for Receive<'_, P, M> {
     type Output = Result<Option<Sample<P, M>>, ReceiveError>;
 
     fn poll(self: Pin<&mut Self>, context: &mut Context<'_>) -> Poll<Self::Output> {

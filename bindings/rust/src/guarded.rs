@@ -1,15 +1,17 @@
 //! A domain under its lock, and those who wait in it.
 
+use crate::desk::Desk;
 use crate::listeners::{is_listening, Listener, Listeners};
 use crate::lock::DomainLock;
 use crate::shared::Shared;
 use crate::sys::{self, Wide};
-use crate::threads::{Brings, Place, Wait, Waits};
+use crate::threads::{Brings, Place, Wait, WaitingPlace, Waits};
 use crate::waiting::{Sleeper, WaitingList, Wake};
 use std::cell::UnsafeCell;
 use std::hint::spin_loop;
 use std::mem::take;
 use std::sync::atomic::{AtomicUsize, Ordering};
+use std::sync::Arc;
 use std::task::Waker;
 use std::thread::yield_now;
 use std::time::Instant;
@@ -34,6 +36,7 @@ struct Changes {
 struct State {
     shared: Shared,
     waiting: WaitingList,
+    desks: Vec<Arc<Desk>>,
     is_stopped: bool,
 }
 
@@ -49,6 +52,7 @@ impl<L: DomainLock> Guarded<L> {
             state: UnsafeCell::new(State {
                 shared,
                 waiting: WaitingList::default(),
+                desks: Vec::new(),
                 is_stopped: false,
             }),
             changes: Changes::default(),
@@ -73,11 +77,16 @@ impl<L: DomainLock> Guarded<L> {
     // Under the lock: what a call that returned this code has brought. Returns whom to wake, where anybody waits.
     #[inline]
     fn brought(&self, state: &mut State, brings: Brings, code: u32) -> Option<Wake> {
-        let brings = match code {
+        let mut brings = match code {
             sys::OK => brings,
             sys::NO_SAMPLE => take(&mut state.shared.brings_too),
             _ => brought_by(brings, code),
         };
+        if brings.meets(Brings::MESSAGE) {
+            for desk in &state.desks {
+                brings = brings.and(desk.serve(&mut state.shared));
+            }
+        }
         // What may have come so far, so that one may look for it without the lock.
         if brings.meets(Brings::MESSAGE) {
             count(&self.changes.messages);
@@ -112,7 +121,7 @@ impl<L: DomainLock> Guarded<L> {
     }
 
     // Sleeps, unless something came since then. Returns whether it did, by whose name in the list.
-    fn sleep(&self, wait: &Wait, seen: usize) -> Option<std::sync::Arc<Sleeper>> {
+    fn sleep(&self, wait: &Wait, seen: usize) -> Option<Arc<Sleeper>> {
         let sleeper = Sleeper::own();
         let listed = sleeper.clone();
         let sleeps = self.with(|state| {
@@ -126,56 +135,6 @@ impl<L: DomainLock> Guarded<L> {
             sleeper.sleep(wait.until);
             sleeper
         })
-    }
-
-    /// No call waits any longer, or calls wait again.
-    pub(crate) fn stop_waits(&self, is_stopped: bool) {
-        let wake = self.with(|state| {
-            state.is_stopped = is_stopped;
-            count(&self.changes.messages);
-            count(&self.changes.others);
-            state.waiting.bring(Brings::ALL);
-            state.waiting.next(true)
-        });
-        wake.wake();
-    }
-
-    /// Makes calls, and lets this task be woken when a message may have come for the subscriber, where none is
-    /// there. `None` then.
-    pub(crate) fn poll(
-        &self,
-        port: Wide,
-        brings: Brings,
-        waker: &Waker,
-        calls: impl FnOnce(&mut Shared) -> u32,
-    ) -> Option<u32> {
-        let mut waker = Some(waker.clone());
-        let (code, waits, wake) = self.with(|state| {
-            let code = calls(&mut state.shared);
-            let wake = self.brought(state, brings, code);
-            let waits = code == sys::NO_SAMPLE && !state.is_stopped;
-            if waits {
-                waker = waker
-                    .take()
-                    .and_then(|waker| state.waiting.add_task(port, waker));
-            }
-            (code, waits, wake)
-        });
-        if let Some(wake) = wake {
-            wake.wake();
-        }
-        (!waits).then_some(code)
-    }
-
-    /// This is called from now on when a message may have come for the subscriber, in place of what was before.
-    pub(crate) fn listen(&self, port: Wide, listener: Option<Listener>) {
-        let old = self.with(|state| {
-            let none = Listeners::default();
-            let listeners = state.waiting.listeners.as_deref().unwrap_or(&none);
-            let listeners = listeners.with(port, listener);
-            state.waiting.listen(listeners)
-        });
-        drop(old);
     }
 }
 
@@ -205,9 +164,10 @@ impl<L: DomainLock> Place for Guarded<L> {
                 if code == sys::NO_SAMPLE {
                     state.waiting.nothing_for(wait.port);
                 }
+                // Before what it brings, which may serve a reader and so bring what this waits for.
+                let seen = self.changes(wait.what).load(Ordering::Relaxed);
                 let wake = self.brought(state, wait.brings, code);
                 let is_over = !wait.what.goes_on(code) || state.is_stopped || is_past(wait.until);
-                let seen = self.changes(wait.what).load(Ordering::Relaxed);
                 (code, is_over, seen, wake)
             });
             if let Some(wake) = wake {
@@ -220,6 +180,14 @@ impl<L: DomainLock> Place for Guarded<L> {
                 listed = self.sleep(&wait, seen);
             }
         }
+    }
+
+    fn close(&self, desk: &Arc<Desk>) {
+        let closed = self.with(|state| {
+            let at = state.desks.iter().position(|one| Arc::ptr_eq(one, desk))?;
+            Some(state.desks.swap_remove(at))
+        });
+        drop(closed);
     }
 
     fn forget(&self, port: Wide) {
@@ -238,6 +206,76 @@ impl<L: DomainLock> Place for Guarded<L> {
             Some((listeners, state.waiting.remove_tasks(port)))
         });
         drop(gone);
+    }
+}
+
+impl<L: DomainLock> WaitingPlace for Guarded<L> {
+    fn poll(
+        &self,
+        port: Wide,
+        brings: Brings,
+        waker: &Waker,
+        calls: impl FnOnce(&mut Shared) -> u32,
+    ) -> Option<u32> {
+        let mut waker = Some(waker.clone());
+        let (code, waits, wake) = self.with(|state| {
+            let code = calls(&mut state.shared);
+            let wake = self.brought(state, brings, code);
+            let waits = code == sys::NO_SAMPLE && !state.is_stopped;
+            if waits {
+                waker = waker
+                    .take()
+                    .and_then(|waker| state.waiting.add_task(port, waker));
+            }
+            (code, waits, wake)
+        });
+        if let Some(wake) = wake {
+            wake.wake();
+        }
+        (!waits).then_some(code)
+    }
+
+    fn forget_waker(&self, port: Wide, waker: &Waker) {
+        let gone = self.with(|state| state.waiting.remove_task(port, waker));
+        drop(gone);
+    }
+
+    fn listen(&self, port: Wide, listener: Option<Listener>) {
+        let old = self.with(|state| {
+            let none = Listeners::default();
+            let listeners = state.waiting.listeners.as_deref().unwrap_or(&none);
+            let listeners = listeners.with(port, listener);
+            state.waiting.listen(listeners)
+        });
+        drop(old);
+    }
+
+    fn open(&self, desk: &Arc<Desk>) {
+        let desk = desk.clone();
+        self.with(|state| state.desks.push(desk));
+    }
+
+    fn is_served(&self, desk: &Desk) -> bool {
+        if L::LOOKS == 0 {
+            return false;
+        }
+        // Where more may wait already, not for long: perhaps nobody sends.
+        let looks = if desk.ask() { 4 } else { 7 };
+        (0..looks).any(|turn| {
+            (0..1 << turn).for_each(|_| spin_loop());
+            desk.is_served()
+        })
+    }
+
+    fn stop_waits(&self, is_stopped: bool) {
+        let wake = self.with(|state| {
+            state.is_stopped = is_stopped;
+            count(&self.changes.messages);
+            count(&self.changes.others);
+            state.waiting.bring(Brings::ALL);
+            state.waiting.next(true)
+        });
+        wake.wake();
     }
 }
 

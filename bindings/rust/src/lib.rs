@@ -80,6 +80,7 @@
 mod channels;
 #[cfg(feature = "dds")]
 pub mod dds;
+mod desk;
 mod domain;
 mod errors;
 mod events;
@@ -94,6 +95,7 @@ mod numbers;
 mod payload;
 mod port_factory;
 mod publisher;
+mod reader;
 mod recording;
 mod sample;
 mod send_outcome;
@@ -103,6 +105,7 @@ mod threads;
 mod timeout;
 mod waiting;
 mod warning;
+mod writer;
 
 pub(crate) use iox2_pubsub_sys as sys;
 
@@ -123,9 +126,11 @@ pub use port_factory::{
     AllocationStrategy, DegradationAction, PortFactoryPublisher, PortFactorySubscriber,
 };
 pub use publisher::{BackpressureAction, BackpressureStrategy, Publisher};
+pub use reader::Reader;
 pub use recording::Recording;
 pub use sample::Sample;
 pub use send_outcome::{BlockedSend, SendOutcome};
 pub use subscriber::{Incoming, Received, Subscriber};
 pub use threads::{Borrowed, ManyThreads, MayWait, OneThread, Threads};
 pub use warning::{Warning, WarningKind};
+pub use writer::Writer;

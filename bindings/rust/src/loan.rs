@@ -25,10 +25,8 @@ struct Lent<M: Threads> {
 
 impl<M: Threads> Drop for Lent<M> {
     fn drop(&mut self) {
-        // SAFETY: see `Shared::at`.
-        expect(self.hold.call(Brings::LOAN, |shared| unsafe {
-            sys::iox2ps_loan_discard(shared.at(), &self.loan)
-        }));
+        let discard = |shared: &mut Shared| discard(shared, &self.loan);
+        expect(self.hold.call(Brings::LOAN, discard));
     }
 }
 
@@ -214,8 +212,13 @@ impl<P: Payload + ?Sized, M: Threads> Loan<P, M> {
     }
 }
 
+pub(crate) fn discard(shared: &mut Shared, loan: &sys::Loan) -> u32 {
+    // SAFETY: see `Shared::at`.
+    unsafe { sys::iox2ps_loan_discard(shared.at(), loan) }
+}
+
 #[inline(always)]
-fn send(
+pub(crate) fn send(
     shared: &mut Shared,
     loan: &sys::Loan,
     receivers: &mut usize,

@@ -1,10 +1,8 @@
 //! A file descriptor that is readable when a message may have come, for `poll`, `epoll` and event loops of Linux.
 
-use crate::guarded::Guarded;
-use crate::lock::DomainLock;
 use crate::payload::Payload;
 use crate::subscriber::Subscriber;
-use crate::threads::{MayWait, Threads};
+use crate::threads::MayWait;
 use std::fs::File;
 use std::io::{self, ErrorKind, Read, Write};
 use std::os::unix::io::{AsFd, AsRawFd, BorrowedFd, FromRawFd, RawFd};
@@ -79,12 +77,7 @@ impl AsFd for MessageFd {
     }
 }
 
-impl<P, M, L> Subscriber<P, M>
-where
-    P: Payload + ?Sized,
-    M: MayWait + Threads<Place = Guarded<L>>,
-    L: DomainLock,
-{
+impl<P: Payload + ?Sized, M: MayWait> Subscriber<P, M> {
     /// A file descriptor for an event loop. It is the subscriber's listener from now on, in place of another
     /// (see [`set_listener`](Subscriber::set_listener)).
     ///

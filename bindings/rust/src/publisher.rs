@@ -139,13 +139,13 @@ impl<P: Payload + ?Sized, M: MayWait> Publisher<P, M> {
 }
 
 // What a call writes that lends.
-struct Lent {
-    loan: sys::Loan,
-    start: *mut u8,
+pub(crate) struct Lent {
+    pub(crate) loan: sys::Loan,
+    pub(crate) start: *mut u8,
 }
 
 #[inline(always)]
-fn lend(
+pub(crate) fn lend(
     shared: &mut Shared,
     port: &sys::Publisher,
     bytes: usize,
@@ -160,7 +160,7 @@ fn lend(
 }
 
 // A closed subscriber's slots come back by an update of the connections alone, which a loan doesn't make.
-fn update_for_slots(shared: &mut Shared, port: &sys::Publisher, code: u32) -> bool {
+pub(crate) fn update_for_slots(shared: &mut Shared, port: &sys::Publisher, code: u32) -> bool {
     // SAFETY: see `Shared::at`. A loan says what it comes to.
     code == sys::LOAN_ERROR_OUT_OF_MEMORY
         && unsafe { sys::iox2ps_publisher_update_connections(shared.at(), port) } == sys::OK

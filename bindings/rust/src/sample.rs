@@ -9,9 +9,7 @@ use crate::subscriber::Got;
 use crate::sys;
 use crate::threads::{Brings, MayWait, OneThread, Place, Threads};
 use std::fmt;
-use std::mem::ManuallyDrop;
 use std::ops::Deref;
-use std::ptr;
 
 /// A message that was received, which reads as its payload where that lies. It is given back when it
 /// is dropped, and until then it counts against what its subscriber may borrow.
@@ -32,12 +30,10 @@ unsafe impl<P: Payload + ?Sized + Send + Sync, M: MayWait> Sync for Sample<P, M>
 impl<P: Payload + ?Sized, M: Threads> Sample<P, M> {
     #[inline(always)]
     pub(crate) fn new(hold: M::Hold, got: &Got) -> Self {
-        let payload =
-            P::at(got.start as *mut u8, got.len).expect("each message of a domain is of its type");
         Sample {
             hold,
             sample: got.sample,
-            payload,
+            payload: got.payload(),
         }
     }
 
@@ -68,14 +64,6 @@ impl<P: Payload + ?Sized, M: Threads> Sample<P, M> {
             sys::iox2ps_sample_header(shared.at(), &self.sample, &mut header)
         }));
         Header::of(&header, P::SIZE)
-    }
-
-    // Leaves the sample in the domain. A part in the domain goes, which isn't the last.
-    pub(crate) fn into_number(self) -> sys::Sample {
-        let this = ManuallyDrop::new(self);
-        // SAFETY: the fields of `this` are never dropped, and this one is moved out once.
-        drop(unsafe { ptr::read(&this.hold) });
-        this.sample
     }
 
     /// The message itself.

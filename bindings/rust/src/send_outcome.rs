@@ -222,7 +222,12 @@ pub(crate) fn outcome<P: Payload + ?Sized, M: Threads>(
     }
 }
 
-fn retry(shared: &mut Shared, blocked: &sys::Blocked, elapsed: Duration, count: &mut usize) -> u32 {
+pub(crate) fn retry(
+    shared: &mut Shared,
+    blocked: &sys::Blocked,
+    elapsed: Duration,
+    count: &mut usize,
+) -> u32 {
     let nanoseconds = u64::try_from(elapsed.as_nanos()).unwrap_or(u64::MAX);
     // SAFETY: see `Shared::at`.
     let code = unsafe { sys::iox2ps_blocked_retry(shared.at(), blocked, nanoseconds, count) };

@@ -4,7 +4,7 @@ use crate::domain::expect;
 use crate::errors::{ConnectionFailure, ReceiveError};
 use crate::numbers::number;
 use crate::payload::Payload;
-use crate::sample::{release, Sample};
+use crate::sample::Sample;
 use crate::shared::Shared;
 use crate::sys;
 use crate::threads::{Brings, MayWait, OneThread, Place, Threads, Wait, Waits};
@@ -192,10 +192,18 @@ impl<T: Copy + 'static, M: MayWait> Subscriber<T, M> {
 }
 
 /// What a receive writes.
+#[derive(Clone, Copy)]
 pub(crate) struct Got {
     pub(crate) sample: sys::Sample,
     pub(crate) start: *const u8,
     pub(crate) len: usize,
+}
+
+impl Got {
+    #[inline(always)]
+    pub(crate) fn payload<P: Payload + ?Sized>(&self) -> *const P {
+        P::at(self.start as *mut u8, self.len).expect("each message of a domain is of its type")
+    }
 }
 
 #[inline(always)]
@@ -244,7 +252,7 @@ impl<P: Payload + ?Sized, M: MayWait> Subscriber<P, M> {
         self.sample(code, &got)
     }
 
-    fn wait_for_message(&self, until: Option<Instant>, brings: Brings) -> Wait {
+    pub(crate) fn wait_for_message(&self, until: Option<Instant>, brings: Brings) -> Wait {
         Wait {
             what: Waits::Message,
             port: self.port.id,
@@ -255,7 +263,7 @@ impl<P: Payload + ?Sized, M: MayWait> Subscriber<P, M> {
 
     /// Waits for one message after the other, and reads each where it lies, without the lock. Ends where
     /// the function breaks off, or waits are stopped. A message is given back in the call that asks for
-    /// the next, so that each takes the lock once.
+    /// the next, so that each takes the lock once. A [`reader`](Subscriber::reader) takes it less often.
     ///
     /// # Errors
     ///
@@ -264,26 +272,14 @@ impl<P: Payload + ?Sized, M: MayWait> Subscriber<P, M> {
         &self,
         mut read: impl FnMut(&P) -> ControlFlow<()>,
     ) -> Result<(), ReceiveError> {
-        let mut last = None;
-        loop {
-            let mut got = MaybeUninit::uninit();
-            let wait = self.wait_for_message(None, Brings::COPY);
-            let code = self.hold.wait(wait, |shared| {
-                let ended = last.take().map(Sample::into_number);
-                if let Some(sample) = &ended {
-                    release(shared, sample);
-                }
-                let code = receive_next(shared, &self.port, &mut got);
-                if ended.is_some() && code == sys::NO_SAMPLE {
-                    shared.brings_too = Brings::LOAN;
-                }
-                code
-            });
-            match self.sample(code, &got)? {
-                Some(sample) if read(&sample).is_continue() => last = Some(sample),
-                _ => return Ok(()),
+        // What is taken is read, so that none is lost where it breaks off.
+        let mut reader = self.reader_with_capacity(1);
+        while let Some(message) = reader.blocking_receive()? {
+            if read(message).is_break() {
+                break;
             }
         }
+        Ok(())
     }
 
     /// Waits for one message after the other, and ends where waits are stopped or a call is refused;

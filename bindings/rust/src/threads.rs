@@ -1,6 +1,8 @@
 //! For which threads the handles of a domain are, and how they hold it.
 
+use crate::desk::Desk;
 use crate::guarded::Guarded;
+use crate::listeners::Listener;
 use crate::lock::{DomainLock, StdLock};
 use crate::shared::Shared;
 use crate::sys;
@@ -10,6 +12,7 @@ use std::marker::PhantomData;
 use std::ops::Deref;
 use std::rc::Rc;
 use std::sync::Arc;
+use std::task::Waker;
 use std::time::Instant;
 
 mod sealed {
@@ -29,7 +32,10 @@ pub trait Threads: sealed::Sealed {
 }
 
 /// Of [`Threads`] those whose calls may wait: [`ManyThreads`], also [`Borrowed`].
-pub trait MayWait: Threads {}
+pub trait MayWait: Threads<Place = <Self as MayWait>::WaitingPlace> {
+    #[doc(hidden)]
+    type WaitingPlace: WaitingPlace;
+}
 
 /// The handles stay on the thread that made the domain, and nothing is locked. Each has a counted part
 /// in the domain.
@@ -75,8 +81,16 @@ where
     type Hold = &'d M::Place;
 }
 
-impl<L: DomainLock> MayWait for ManyThreads<L> {}
-impl<'d, M: MayWait> MayWait for Borrowed<'d, M> where M::Place: 'd {}
+impl<L: DomainLock> MayWait for ManyThreads<L> {
+    type WaitingPlace = Guarded<L>;
+}
+
+impl<'d, M: MayWait> MayWait for Borrowed<'d, M>
+where
+    M::Place: 'd,
+{
+    type WaitingPlace = M::WaitingPlace;
+}
 
 /// What a call may have brought to those who wait: a sum of these.
 #[doc(hidden)]
@@ -101,7 +115,7 @@ impl Brings {
     /// Of a receive with its release.
     pub(crate) const COPY: Brings = Brings::ROOM.and(Brings::LOAN);
 
-    const fn and(self, other: Brings) -> Brings {
+    pub(crate) const fn and(self, other: Brings) -> Brings {
         Brings(self.0 | other.0)
     }
 
@@ -233,6 +247,38 @@ pub trait Place {
 
     /// A subscriber goes: no task waits for it, and nothing is called for it any longer.
     fn forget(&self, port: sys::Wide);
+
+    /// The reader of an open desk goes: nobody serves it any longer.
+    fn close(&self, desk: &Arc<Desk>);
+}
+
+/// Where a domain lies that several threads use.
+#[doc(hidden)]
+pub trait WaitingPlace: Place {
+    /// Makes calls, and lets this task be woken when a message may have come for the subscriber, where none is
+    /// there. `None` then.
+    fn poll(
+        &self,
+        port: sys::Wide,
+        brings: Brings,
+        waker: &Waker,
+        calls: impl FnOnce(&mut Shared) -> u32,
+    ) -> Option<u32>;
+
+    /// This task isn't woken any longer for the subscriber.
+    fn forget_waker(&self, port: sys::Wide, waker: &Waker);
+
+    /// This is called from now on when a message may have come for the subscriber, in place of what was before.
+    fn listen(&self, port: sys::Wide, listener: Option<Listener>);
+
+    /// Whoever has the lock when a message comes serves this desk from now on.
+    fn open(&self, desk: &Arc<Desk>);
+
+    /// Asks there, and whether somebody serves it soon. Else it still asks.
+    fn is_served(&self, desk: &Desk) -> bool;
+
+    /// No call waits any longer, or calls wait again.
+    fn stop_waits(&self, is_stopped: bool);
 }
 
 /// A domain that stays on its thread.
@@ -260,4 +306,6 @@ impl Place for Single {
 
     #[inline]
     fn forget(&self, _: sys::Wide) {}
+
+    fn close(&self, _: &Arc<Desk>) {}
 }

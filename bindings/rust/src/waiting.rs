@@ -141,6 +141,15 @@ impl WaitingList {
         None
     }
 
+    /// It isn't to be woken any longer for this subscriber. Returns what is to be dropped without the lock.
+    pub(crate) fn remove_task(&mut self, port: Wide, waker: &Waker) -> Option<Waker> {
+        let is_it = |task: &(Wide, Waker)| task.0 == port && task.1.will_wake(waker);
+        let at = self.tasks.iter().position(is_it)?;
+        let (_, gone) = self.tasks.swap_remove(at);
+        self.look();
+        Some(gone)
+    }
+
     /// Its subscriber goes. Returns what is to be dropped without the lock.
     pub(crate) fn remove_tasks(&mut self, port: Wide) -> Vec<Waker> {
         let (gone, stay) = take(&mut self.tasks)

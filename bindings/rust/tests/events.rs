@@ -106,6 +106,38 @@ fn a_task_is_woken_once_and_a_future_that_is_dropped_loses_nothing() {
 }
 
 #[test]
+fn a_waker_that_is_forgotten_is_dropped_and_no_other_is() {
+    let domain = domain();
+    let publisher = domain.publisher().unwrap();
+    let subscribers = [domain.subscriber().unwrap(), domain.subscriber().unwrap()];
+    let tasks = [waker(), waker()];
+    for (_, waker) in &tasks {
+        for subscriber in &subscribers {
+            assert!(!poll_once(Pin::new(&mut subscriber.receive_async()), waker));
+        }
+    }
+    let [(first, first_waker), (second, second_waker)] = tasks;
+    subscribers[0].forget_waker(&first_waker);
+    subscribers[0].forget_waker(&first_waker);
+    publisher.send_copy(1).unwrap().delivered();
+    let wakes = |task: &Unpark| task.1.load(Ordering::SeqCst);
+    assert_eq!((wakes(&first), wakes(&second)), (1, 2));
+    for subscriber in &subscribers {
+        assert_eq!(subscriber.receive_copy().unwrap(), Some(1));
+        assert!(!poll_once(
+            Pin::new(&mut subscriber.receive_async()),
+            &second_waker
+        ));
+        subscriber.forget_waker(&second_waker);
+    }
+    drop((first_waker, second_waker));
+    assert_eq!(
+        (Arc::strong_count(&first), Arc::strong_count(&second)),
+        (1, 1)
+    );
+}
+
+#[test]
 fn two_tasks_share_a_subscriber_and_a_stop_ends_both() {
     let domain = domain();
     let publisher = domain.publisher().unwrap();

@@ -2,9 +2,11 @@
 //! many, and each consumer gets all. Prints the nanoseconds of a message by the clock and by the processors of all threads.
 //!
 //! WHAT is `in-place` (a loan, written without the lock, and a send; a receive, read without the lock, and a release), `each` (the
-//! same, where a message is released in the call that receives the next), `copy` (one call on each side), each also as
-//! `borrowed-in-place` and so on (by handles that borrow their domain), `mpsc` or, where it is compiled with `--cfg crossbeam`, `crossbeam` (bounded
-//! channels of `Arc`s, one for each consumer); `alone-one-thread` and `alone-shared` (one thread passes to itself, in place).
+//! same, where a message is released in the call that receives the next), `reader` (in place too, by a writer and by readers, which
+//! may borrow as many messages as their buffer has), `copy` (one call on each side), each also as `borrowed-in-place` and so on (by
+//! handles that borrow their domain), `mpsc` or, where it is compiled with `--cfg crossbeam`, `crossbeam` (bounded channels of
+//! `Arc`s, one for each consumer), `mpsc-values` (of the messages themselves, a copy for each consumer); `alone-one-thread` and
+//! `alone-shared` (one thread passes to itself, in place).
 
 use iox2_pubsub::*;
 use std::ops::ControlFlow;
@@ -30,6 +32,11 @@ impl Sizes {
             .max_subscribers(self.consumers)
             .subscriber_max_buffer_size(self.buffer)
             .enable_safe_overflow(false)
+    }
+
+    // For readers, which take at once what waits.
+    fn domain_for_readers(&self) -> DomainBuilder<Message> {
+        self.domain().subscriber_max_borrowed_samples(self.buffer)
     }
 
     // What a consumer has to have read in sum.
@@ -80,6 +87,7 @@ fn timed(jobs: Vec<Job<'_>>) -> u128 {
 enum By {
     InPlace,
     Each,
+    Readers,
     Copies,
 }
 
@@ -93,6 +101,12 @@ fn receive<M: MayWait>(from: &Subscriber<Message, M>, by: By, messages: u64) -> 
         By::Copies => {
             return (0..messages)
                 .map(|_| from.blocking_receive_copy().unwrap().unwrap()[0])
+                .sum();
+        }
+        By::Readers => {
+            let mut reader = from.reader();
+            return (0..messages)
+                .map(|_| reader.blocking_receive().unwrap().unwrap()[0])
                 .sum();
         }
         By::Each => from.blocking_for_each(|message| {
@@ -110,8 +124,10 @@ fn receive<M: MayWait>(from: &Subscriber<Message, M>, by: By, messages: u64) -> 
 }
 
 fn send<M: MayWait>(to: &Publisher<Message, M>, by: By, messages: u64) {
+    let mut writer = to.writer();
     for number in 0..messages {
         let sent = match by {
+            By::Readers => writer.blocking_send(message(number)),
             By::Copies => to.blocking_send_copy(message(number)),
             _ => {
                 let loan = to.loan_uninit().unwrap();
@@ -139,22 +155,46 @@ where
     timed(jobs)
 }
 
-fn by_mpsc(sizes: &Sizes) -> u128 {
+// What a channel passes: one message for all its consumers, or a copy for each.
+trait Passed: Clone + Send {
+    fn of(message: Message) -> Self;
+    fn number(&self) -> u64;
+}
+
+impl Passed for Arc<Message> {
+    fn of(message: Message) -> Self {
+        Arc::new(message)
+    }
+
+    fn number(&self) -> u64 {
+        self[0]
+    }
+}
+
+impl Passed for Message {
+    fn of(message: Message) -> Self {
+        message
+    }
+
+    fn number(&self) -> u64 {
+        self[0]
+    }
+}
+
+fn by_mpsc<T: Passed>(sizes: &Sizes) -> u128 {
     let (senders, receivers): (Vec<_>, Vec<_>) = (0..sizes.consumers)
-        .map(|_| mpsc::sync_channel::<Arc<Message>>(sizes.buffer))
+        .map(|_| mpsc::sync_channel::<T>(sizes.buffer))
         .unzip();
     let mut jobs: Vec<Job> = Vec::new();
     for receiver in receivers {
         jobs.push(Box::new(move || {
-            assert_eq!(
-                receiver.iter().map(|message| message[0]).sum::<u64>(),
-                sizes.sum()
-            );
+            let sum: u64 = receiver.iter().map(|message| message.number()).sum();
+            assert_eq!(sum, sizes.sum());
         }));
     }
     jobs.push(Box::new(move || {
         for number in 0..sizes.messages {
-            let sent = Arc::new(message(number));
+            let sent = T::of(message(number));
             senders
                 .iter()
                 .for_each(|sender| sender.send(sent.clone()).unwrap());
@@ -219,14 +259,18 @@ fn alone<M: Threads>(domain: &Domain<Message, M>, sizes: &Sizes) -> u128 {
 
 fn run(what: &str, sizes: &Sizes) -> u128 {
     let shared = || sizes.domain().create_shared().unwrap();
+    let readers = || sizes.domain_for_readers().create_shared().unwrap();
     match what {
         "in-place" => by_domain(&shared(), sizes, By::InPlace),
         "each" => by_domain(&shared(), sizes, By::Each),
+        "reader" => by_domain(&readers(), sizes, By::Readers),
         "copy" => by_domain(&shared(), sizes, By::Copies),
         "borrowed-in-place" => by_domain(&shared().borrowed(), sizes, By::InPlace),
         "borrowed-each" => by_domain(&shared().borrowed(), sizes, By::Each),
+        "borrowed-reader" => by_domain(&readers().borrowed(), sizes, By::Readers),
         "borrowed-copy" => by_domain(&shared().borrowed(), sizes, By::Copies),
-        "mpsc" => by_mpsc(sizes),
+        "mpsc" => by_mpsc::<Arc<Message>>(sizes),
+        "mpsc-values" => by_mpsc::<Message>(sizes),
         "crossbeam" => by_crossbeam(sizes),
         "alone-one-thread" => alone(&sizes.domain().create().unwrap(), sizes),
         "alone-shared" => alone(&shared(), sizes),

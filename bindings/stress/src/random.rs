@@ -161,6 +161,35 @@ impl Worker<'_> {
         }
     }
 
+    // By a reader, which may have some messages when it goes that it hasn't read.
+    fn read_on(&mut self, subscriber: &Subscriber<Message, M>) {
+        let mut reader = subscriber.reader_with_capacity(self.random.below(5));
+        for _ in 0..self.random.below(7) {
+            let received = match self.random.below(6) {
+                0 => reader.timed_receive(TIME),
+                _ => reader.receive(),
+            };
+            match received {
+                Ok(Some(message)) => drop(read(message)),
+                _ => return,
+            }
+            self.reads += 1;
+        }
+    }
+
+    // By a writer, whose loan is written without the lock.
+    fn write_on(&mut self, publisher: &Publisher<Message, M>) {
+        let mut writer = publisher.writer();
+        for _ in 0..self.random.below(4) {
+            let value = self.next_value();
+            let sent = match self.random.below(4) {
+                0 => writer.timed_send([value; 8], TIME),
+                _ => writer.send([value; 8]),
+            };
+            self.sent(sent);
+        }
+    }
+
     // Reads all messages that it has, without the lock.
     fn read_all(&mut self) {
         for (sample, value) in &self.own.samples {
@@ -208,7 +237,7 @@ impl Worker<'_> {
     }
 
     fn call(&mut self) {
-        let which = self.random.below(100);
+        let which = self.random.below(106);
         let random = &mut self.random;
         match which {
             0..=3 => {
@@ -303,6 +332,16 @@ impl Worker<'_> {
             },
             79..=83 => self.exchange(),
             84..=96 => drop(take(random, &mut self.own.samples)),
+            97..=99 => {
+                if let Some(subscriber) = pick(random, &self.own.subscribers).cloned() {
+                    self.read_on(&subscriber);
+                }
+            }
+            100..=102 => {
+                if let Some(publisher) = pick(random, &self.own.publishers).cloned() {
+                    self.write_on(&publisher);
+                }
+            }
             _ => match random.below(2) {
                 0 => drop(take(random, &mut self.own.publishers)),
                 _ => drop(take(random, &mut self.own.subscribers)),

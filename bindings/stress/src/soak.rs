@@ -131,20 +131,44 @@ impl Reader {
             Err(ReceiveError::ExceedsMaxBorrows) => return None,
             Err(error) => panic!("{error}"),
         };
-        let (publisher, number) = read(&received);
-        if let Some(before) = last.insert(publisher, number) {
-            let given_up = lock(&round.given_up);
-            let missing = (before + 1..number).filter(|it| !given_up.contains(&(publisher, *it)));
-            assert_eq!(
-                missing.count(),
-                0,
-                "messages are missing between {before} and {number}"
-            );
-            assert!(number > before, "{number} came after {before}");
-        }
-        add(&round.counts.received);
+        account(&mut last, round, read(&received));
         Some(received)
     }
+
+    /// The same of all that a reader takes at once, of which no other thread may receive a later one meanwhile.
+    fn read_all(&self, round: &Round, capacity: usize, wait: Option<Duration>) {
+        let mut last = lock(&self.last);
+        let mut reader = self.subscriber.reader_with_capacity(capacity);
+        loop {
+            let received = match wait {
+                Some(time) => reader.timed_receive(time),
+                None => reader.receive(),
+            };
+            match received {
+                Ok(Some(message)) => account(&mut last, round, read(message)),
+                Ok(None) | Err(ReceiveError::ExceedsMaxBorrows) => return,
+                Err(error) => panic!("{error}"),
+            }
+            if reader.unread() == 0 {
+                return;
+            }
+        }
+    }
+}
+
+// Of a subscriber that has got these last, the next.
+fn account(last: &mut HashMap<u64, u64>, round: &Round, (publisher, number): (u64, u64)) {
+    if let Some(before) = last.insert(publisher, number) {
+        let given_up = lock(&round.given_up);
+        let missing = (before + 1..number).filter(|it| !given_up.contains(&(publisher, *it)));
+        assert_eq!(
+            missing.count(),
+            0,
+            "messages are missing between {before} and {number}"
+        );
+        assert!(number > before, "{number} came after {before}");
+    }
+    add(&round.counts.received);
 }
 
 struct Nobody;
@@ -199,7 +223,9 @@ impl Worker<'_> {
         let mut sent = lock(&source.sent);
         let next = message(source.name, *sent + 1);
         let publisher = &source.publisher;
-        let outcome = match self.random.below(4) {
+        let outcome = match self.random.below(6) {
+            4 => publisher.writer().send(next),
+            5 => publisher.writer().timed_send(next, TIME),
             0 => publisher.send_copy(next),
             1 => publisher.timed_send_copy(next, TIME),
             2 => match publisher.timed_loan_uninit(TIME) {
@@ -265,7 +291,11 @@ impl Worker<'_> {
             return;
         };
         let round = self.round;
-        let sample = match self.random.below(6) {
+        let sample = match self.random.below(8) {
+            6 | 7 => {
+                let wait = (self.random.below(3) == 0).then_some(TIME);
+                return reader.read_all(round, self.random.below(5), wait);
+            }
             0 => {
                 reader.receive(round, Subscriber::receive_copy, read);
                 return;
