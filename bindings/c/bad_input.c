@@ -46,6 +46,7 @@ static void publisher_is_refused(iox2ps_domain_t *domain, const iox2ps_publisher
   for (size_t channel = 0; channel < 2; channel++) {
     REFUSED(iox2ps_publisher_has_channel_state(domain, publisher, channel, 0, 0, &outs.answer), code);
     REFUSED(iox2ps_publisher_has_disconnect_hint(domain, publisher, channel, 0, 0, &outs.answer), code);
+    REFUSED(iox2ps_publisher_close_channel(domain, publisher, channel, 0, 0), code);
   }
   REFUSED(iox2ps_publisher_update_connections(domain, publisher), code);
   REFUSED(iox2ps_publisher_loan(domain, publisher, 8, &outs.loan, &outs.written), code);
@@ -59,6 +60,9 @@ static void subscriber_is_refused(iox2ps_domain_t *domain, const iox2ps_subscrib
   REFUSED(iox2ps_subscriber_has_samples(domain, subscriber, &outs.answer), code);
   for (size_t channel = 0; channel < 2; channel++) {
     REFUSED(iox2ps_subscriber_at_least_one_channel_has_state(domain, subscriber, channel, 0, &outs.answer), code);
+    REFUSED(iox2ps_subscriber_set_channel_state(domain, subscriber, channel, 0, &outs.answer), code);
+    REFUSED(iox2ps_subscriber_close_channel(domain, subscriber, channel, 0), code);
+    REFUSED(iox2ps_subscriber_set_disconnect_hint(domain, subscriber, channel, 0), code);
   }
   REFUSED(iox2ps_subscriber_update_connections(domain, subscriber), code);
   REFUSED(iox2ps_subscriber_receive(domain, subscriber, &outs.sample, &outs.read, &outs.len), code);
@@ -315,11 +319,17 @@ static void channels_are_not_there(void) {
   for (int i = 0; i < 5; i++) {
     REFUSED(iox2ps_subscriber_at_least_one_channel_has_state(&world.domain, &world.subscriber, wrong[i], 0, &outs.answer),
             IOX2PS_NO_SUCH_CHANNEL);
+    REFUSED(iox2ps_subscriber_set_channel_state(&world.domain, &world.subscriber, wrong[i], 0, &outs.answer),
+            IOX2PS_NO_SUCH_CHANNEL);
+    REFUSED(iox2ps_subscriber_close_channel(&world.domain, &world.subscriber, wrong[i], 0), IOX2PS_NO_SUCH_CHANNEL);
+    REFUSED(iox2ps_subscriber_set_disconnect_hint(&world.domain, &world.subscriber, wrong[i], 0), IOX2PS_NO_SUCH_CHANNEL);
     for (int of = 0; of < 2; of++) {
       REFUSED(iox2ps_publisher_has_channel_state(&world.domain, publishers[of], wrong[i], 0, 0, &outs.answer),
               IOX2PS_NO_SUCH_CHANNEL);
       REFUSED(iox2ps_publisher_has_disconnect_hint(&world.domain, publishers[of], wrong[i], 0, 0, &outs.answer),
               IOX2PS_NO_SUCH_CHANNEL);
+      REFUSED(iox2ps_publisher_close_channel(&world.domain, publishers[of], wrong[i], 0, 0), IOX2PS_NO_SUCH_CHANNEL);
+      REFUSED(iox2ps_publisher_close_channel(&world.domain, publishers[of], 0, wrong[i], 0), IOX2PS_OK);
       IS(iox2ps_publisher_has_channel_state(&world.domain, publishers[of], 0, wrong[i], 0, &answer), IOX2PS_OK);
       CHECK(answer == 0);
       IS(iox2ps_publisher_has_channel_state(&world.domain, publishers[of], 0, 0, 0, &answer), IOX2PS_OK);

@@ -36,7 +36,7 @@
  *    try again once another thread has made such a call:
  *     - for a message: a send, a retry or a giving up, also one that returned IOX2PS_BLOCKED, an update of a publisher's
  *       connections, or a publisher made or closed;
- *     - for room: a receive, or a subscriber closed. A release makes no room in a buffer;
+ *     - for room: a receive, or a subscriber or a channel closed. A release makes no room in a buffer;
  *     - for an earlier send: a retry or a giving up;
  *     - for a loan: a send, a discard, a release, a receive that copies, a retry, a giving up, or an update of the publisher's
  *       connections, which alone takes back what waited for a subscriber that was closed;
@@ -359,9 +359,10 @@ IOX2PS_NODISCARD iox2ps_status_t iox2ps_domain_create_recorded(iox2ps_domain_t *
                                                                size_t commands, size_t bytes);
 
 /** Writes the recording as text, which tools/replay runs again and tools/draw draws: docs/RECORDINGS.md says what is in
- * it. missed says how many commands had no room: the recording ends before the first of these. len says how long the text
- * is, also with IOX2PS_TOO_SMALL, where it has more than room bytes and nothing is written; it has no zero byte. The
- * recording stays, and goes on. That of a domain that isn't recorded is empty. IOX2PS_OUT_OF_MEMORY. */
+ * it. missed says how many commands had no room, with the calls for which there is no command, as those that change a
+ * channel: the recording ends before the first of these. len says how long the text is, also with IOX2PS_TOO_SMALL, where
+ * it has more than room bytes and nothing is written; it has no zero byte. The recording stays, and goes on. That of a
+ * domain that isn't recorded is empty. IOX2PS_OUT_OF_MEMORY. */
 IOX2PS_NODISCARD iox2ps_status_t iox2ps_domain_recording(iox2ps_domain_t *domain, void *bytes, size_t room, size_t *len,
                                                          uint64_t *missed);
 
@@ -530,13 +531,41 @@ IOX2PS_NODISCARD iox2ps_status_t iox2ps_sample_release(iox2ps_domain_t *domain, 
 /** @}
  * @name Channels
  * A publisher and a subscriber that are connected have a channel, number 0, which carries their messages. It is in a state,
- * which is a number, and it may have a hint that a side disconnects. A subscriber asks about all its connections, a
- * publisher about one, which has the number of its subscriber's place. Nothing changes by it, so that nothing of it is
- * recorded, and a publisher may ask while a send of it waits. IOX2PS_NO_SUCH_CHANNEL comes for each channel but 0.
+ * which is a number. A closed channel takes no message and no history, as a closed subscriber does: a send goes past it and
+ * doesn't count it. What waits there is received all the same. Each other state is open, and the program says what it
+ * means. A channel may also have a hint that its subscriber is about to disconnect, which goes with each change of the
+ * state. State and hint are the connection's, and go with it.
+ *
+ * A subscriber's calls go over all connections that it has, also those with closed publishers of which it has messages; a
+ * publisher's are about one, which iox2ps_publisher_get_connection_id_of() names. A port has a connection once it was made
+ * by an update of its own. A publisher may make these calls while a send of it waits; one that waits for a closed channel
+ * goes past it when it is tried again. IOX2PS_NO_SUCH_CHANNEL comes for each channel but 0.
+ *
+ * Calls that only ask aren't recorded, and nothing recorded depends on them. For calls that change a channel there is no
+ * command, so that a recording ends before the first of them: it and what follows are counted as missed.
  * @{ */
 
 #define IOX2PS_CHANNEL_STATE_OPEN UINT64_C(0)  /**< the state of a new channel */
 #define IOX2PS_CHANNEL_STATE_CLOSED UINT64_MAX /**< the state of a channel that takes no message */
+
+/** Brings a channel into this state at each connection of the subscriber where it is closed, so that it takes messages
+ * again, and says whether it was closed at all of them: 1 or 0. It says 1 where the subscriber has none. Where the channel
+ * isn't closed it stays as it is. IOX2PS_NOT_LIVE, IOX2PS_NO_SUCH_CHANNEL. */
+IOX2PS_NODISCARD iox2ps_status_t iox2ps_subscriber_set_channel_state(iox2ps_domain_t *domain,
+                                                                     const iox2ps_subscriber_t *subscriber, size_t channel,
+                                                                     uint64_t state, uint32_t *were_closed);
+
+/** Closes a channel at each connection of the subscriber where it is in the expected state. IOX2PS_NOT_LIVE,
+ * IOX2PS_NO_SUCH_CHANNEL. */
+IOX2PS_NODISCARD iox2ps_status_t iox2ps_subscriber_close_channel(iox2ps_domain_t *domain,
+                                                                 const iox2ps_subscriber_t *subscriber, size_t channel,
+                                                                 uint64_t expected);
+
+/** Hints that the subscriber is about to disconnect, at each connection where the channel is in the expected state.
+ * IOX2PS_NOT_LIVE, IOX2PS_NO_SUCH_CHANNEL. */
+IOX2PS_NODISCARD iox2ps_status_t iox2ps_subscriber_set_disconnect_hint(iox2ps_domain_t *domain,
+                                                                       const iox2ps_subscriber_t *subscriber,
+                                                                       size_t channel, uint64_t expected);
 
 /** Whether a channel is in this state at some connection of the subscriber: 1 or 0. It isn't where the subscriber has
  * none. IOX2PS_NOT_LIVE, IOX2PS_NO_SUCH_CHANNEL. */
@@ -565,6 +594,12 @@ IOX2PS_NODISCARD iox2ps_status_t iox2ps_publisher_has_disconnect_hint(iox2ps_dom
                                                                       const iox2ps_publisher_t *publisher, size_t channel,
                                                                       size_t connection, uint64_t state,
                                                                       uint32_t *has_hint);
+
+/** Closes a channel at one connection of the publisher, if it is in the expected state there. Where there is no such
+ * connection nothing is done. IOX2PS_NOT_LIVE, IOX2PS_NO_SUCH_CHANNEL. */
+IOX2PS_NODISCARD iox2ps_status_t iox2ps_publisher_close_channel(iox2ps_domain_t *domain,
+                                                                const iox2ps_publisher_t *publisher, size_t channel,
+                                                                size_t connection, uint64_t expected);
 
 /** @} */
 

@@ -155,7 +155,7 @@ public:
   /* The same of calls that bring nothing to anybody. */
   template <typename Call> iox2ps_status_t ask(Call &&make) const { return call(0, std::forward<Call>(make)); }
 
-  /* What a question of a port is answered, by 1 or 0. */
+  /* What a call of a port answers by 1 or 0, which brings nothing to anybody. */
   template <typename Question> Result<bool> told(Question &&question) const {
     if (!shared_) return Error::NotLive;
     std::uint32_t answer = 0;
@@ -643,6 +643,16 @@ public:
     });
   }
 
+  /** Closes a channel at one of its connections, if it is in the expected state there, so that it takes no message. A send
+   * that waits for it goes past it when it is tried again. Where there is no such connection nothing is done.
+   * Error::NoSuchChannel. */
+  Done close_channel(std::size_t channel, std::size_t connection, std::uint64_t expected) {
+    if (!hold_) return Error::NotLive;
+    return detail::done(hold_.call(only(Waits::Room), [&](iox2ps_domain_t *domain) {
+      return iox2ps_publisher_close_channel(domain, &port_, channel, connection, expected);
+    }));
+  }
+
   /** Closes it, or lets it close when a send of it that waits has ended. */
   void close() {
     if (!hold_) return;
@@ -835,6 +845,33 @@ public:
     return hold_.told([&](iox2ps_domain_t *domain, std::uint32_t *answer) {
       return iox2ps_subscriber_at_least_one_channel_has_state(domain, &port_, channel, state, answer);
     });
+  }
+
+  /** Brings a channel into this state at each connection of it where it is closed, so that it takes messages again. Whether
+   * it was closed at all of them, and so true where there is none. Where it isn't closed it stays as it is.
+   * Error::NoSuchChannel. */
+  Result<bool> set_channel_state(std::size_t channel, std::uint64_t state) {
+    return hold_.told([&](iox2ps_domain_t *domain, std::uint32_t *were_closed) {
+      return iox2ps_subscriber_set_channel_state(domain, &port_, channel, state, were_closed);
+    });
+  }
+
+  /** Closes a channel at each connection of it where it is in the expected state: it takes no message there, and what
+   * waits is received all the same. Error::NoSuchChannel. */
+  Done close_channel(std::size_t channel, std::uint64_t expected) {
+    if (!hold_) return Error::NotLive;
+    return detail::done(hold_.call(only(Waits::Room), [&](iox2ps_domain_t *domain) {
+      return iox2ps_subscriber_close_channel(domain, &port_, channel, expected);
+    }));
+  }
+
+  /** Hints at each connection of it, where a channel is in the expected state, that it is about to disconnect. The hint goes
+   * with the next change of the state. Error::NoSuchChannel. */
+  Done set_disconnect_hint(std::size_t channel, std::uint64_t expected) {
+    if (!hold_) return Error::NotLive;
+    return detail::done(hold_.ask([&](iox2ps_domain_t *domain) {
+      return iox2ps_subscriber_set_disconnect_hint(domain, &port_, channel, expected);
+    }));
   }
 
   /** For several threads alone: calls this when a message may have come, from now on, in place of what was set before; but not

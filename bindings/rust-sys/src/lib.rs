@@ -369,4 +369,30 @@ extern "C" {
         state: u64,
         has_hint: *mut u32,
     ) -> u32;
+    pub fn iox2ps_publisher_close_channel(
+        domain: *mut Domain,
+        publisher: *const Publisher,
+        channel: usize,
+        connection: usize,
+        expected: u64,
+    ) -> u32;
+    pub fn iox2ps_subscriber_set_channel_state(
+        domain: *mut Domain,
+        subscriber: *const Subscriber,
+        channel: usize,
+        state: u64,
+        were_closed: *mut u32,
+    ) -> u32;
+    pub fn iox2ps_subscriber_close_channel(
+        domain: *mut Domain,
+        subscriber: *const Subscriber,
+        channel: usize,
+        expected: u64,
+    ) -> u32;
+    pub fn iox2ps_subscriber_set_disconnect_hint(
+        domain: *mut Domain,
+        subscriber: *const Subscriber,
+        channel: usize,
+        expected: u64,
+    ) -> u32;
 }

@@ -17,6 +17,6 @@ pub told : {A : Type 0} (answer : BytesState → ℕ → A) (result : A) (inside
 told answer result inside old q p same id holds = moved (λ k port. InEachState k (λ s. result ≡ answer s port)) inside old q p same id holds
 
 -- and so where it is told by a number
-pub told-number : (answer : BytesState → ℕ → Bool) (result : Bool) (out number : ℕ) (inside old : KeptBytes) (q p : ℕ) → inside ≡ old → q ≡ p → out ≡ number → number ≡ as_number result
-    → InEachState inside (λ s. result ≡ answer s q) → InEachState old (λ s. out ≡ as_number (answer s p))
-told-number answer result out number inside old q p same id is tells holds m s shows = is ∙ tells ∙ ap as_number (told answer result inside old q p same id holds m s shows)
+pub told-number : (answer : BytesState → ℕ → Bool) (result : Bool) (out : ℕ) (inside old : KeptBytes) (q p : ℕ) → inside ≡ old → q ≡ p → out ≡ as_number result → InEachState inside (λ s. result ≡ answer s q)
+    → InEachState old (λ s. out ≡ as_number (answer s p))
+told-number answer result out inside old q p same id tells holds m s shows = tells ∙ ap as_number (told answer result inside old q p same id holds m s shows)

@@ -1,13 +1,13 @@
--- Calls on the channels of connections: why they are refused, and what they answer.
+-- Calls on the channels of connections: why they are refused, what they answer, and which step of the machine they made.
 use Rattle.std.specs.Prelude.{ℕ, Bool, cond, ◌≡◌, ◌≤◌, ◌⊎◌}
 use Rattle.std.specs.declared.option.Option.{Option}
 use Rattle.iox2_store.specs.declared.key.Key.{Key}
-use Rattle.iox2_store.specs.machine.ChannelCalls.{connection_place, has_channel_state, has_disconnect_hint, some_channel_has_state}
+use Rattle.iox2_store.specs.machine.ChannelCalls.{SetChannelState, connection_place, has_channel_state, has_disconnect_hint, received_closed, received_hinted, sent_closed, some_channel_has_state}
 use Rattle.iox2_store.specs.machine.State.{Messages}
 use Rattle.iox2_domain.specs.Shows.{Shows}
 use Rattle.iox2_pubsub.specs.Live.{IsPublisherKey, IsSubscriberKey}
 use Rattle.iox2_c.specs.Serving.{KeptBytes}
-use Rattle.iox2_c.specs.Steps.{BytesState}
+use Rattle.iox2_c.specs.Steps.{BytesState, StepsTo}
 
 -- ---- refusals, which change nothing: 2 where no live port is named, and 70 where the number is no channel's, of which there is one
 
@@ -46,3 +46,28 @@ module _ (domain : KeptBytes) where
   -- The answer says whether it is in the state there, and has a hint.
   abbrev pub TellsHint : (publisher channel place state answer : ℕ) → Type 0
   TellsHint publisher channel place state answer = InEachState (λ s. answer ≡ as_number (has_disconnect_hint s publisher channel place state))
+
+-- ---- changes
+
+module _ (old new : KeptBytes) where
+  -- From each state that the domain showed it came to this one.
+  abbrev pub ComesTo : (BytesState → BytesState) → Type 0
+  ComesTo change = (m : Messages ℕ (Unit {0})) (s : BytesState) → Shows old m s → Shows new m (change s)
+
+  -- The subscriber with this id brought the channel into the state wherever it was closed; the answer says whether it was at each
+  -- connection.
+  abbrev pub SetsState : (subscriber channel state answer : ℕ) → Type 0
+  SetsState subscriber channel state answer =
+      (were_closed : Bool) × (answer ≡ as_number were_closed) × StepsTo old new (λ s s'. SetChannelState s subscriber channel state s' were_closed)
+
+  -- The subscriber with this id closed the channel wherever it was in the state `expected`.
+  abbrev pub ClosesReceived : (subscriber channel expected : ℕ) → Type 0
+  ClosesReceived subscriber channel expected = ComesTo (λ s. received_closed s subscriber channel expected)
+
+  -- The subscriber with this id hinted that it disconnects wherever the channel was in the state `expected`.
+  abbrev pub HintsReceived : (subscriber channel expected : ℕ) → Type 0
+  HintsReceived subscriber channel expected = ComesTo (λ s. received_hinted s subscriber channel expected)
+
+  -- The publisher with this id closed the channel at that connection, if it was in the state `expected`.
+  abbrev pub ClosesSent : (publisher channel place expected : ℕ) → Type 0
+  ClosesSent publisher channel place expected = ComesTo (λ s. sent_closed s publisher channel place expected)

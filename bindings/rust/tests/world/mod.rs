@@ -68,6 +68,9 @@ pub fn publisher_is_refused(domain: &mut Domain, publisher: &Publisher, code: u3
                 let out = &mut outs.answer;
                 iox2ps_publisher_has_disconnect_hint(domain, publisher, channel, 0, 0, out)
             });
+            refused(code, |_| {
+                iox2ps_publisher_close_channel(domain, publisher, channel, 0, 0)
+            });
         }
         refused(code, |_| {
             iox2ps_publisher_update_connections(domain, publisher)
@@ -96,6 +99,16 @@ pub fn subscriber_is_refused(domain: &mut Domain, subscriber: &Subscriber, code:
                 iox2ps_subscriber_at_least_one_channel_has_state(
                     domain, subscriber, channel, 0, out,
                 )
+            });
+            refused(code, |outs| {
+                let out = &mut outs.answer;
+                iox2ps_subscriber_set_channel_state(domain, subscriber, channel, 0, out)
+            });
+            refused(code, |_| {
+                iox2ps_subscriber_close_channel(domain, subscriber, channel, 0)
+            });
+            refused(code, |_| {
+                iox2ps_subscriber_set_disconnect_hint(domain, subscriber, channel, 0)
             });
         }
         refused(code, |_| {

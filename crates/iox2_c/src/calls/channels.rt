@@ -1,8 +1,8 @@
-//! What ports ask about the channels of their connections. No answer of a recorded domain's other calls
+//! What ports ask about the channels of their connections. No reply of a recorded domain's other calls
 //! depends on it, so that nothing of it is recorded.
-ghost use Rattle.std.specs.Prelude.{◌≡◌, ◌<◌, ◌⊎◌, IfNone, IfSome, None, Some};
-ghost use Rattle.iox2_pubsub.specs.Handles.{publisher_id};
-ghost use Rattle.iox2_pubsub.specs.Live.{IsPlacedPublisher, IsPublisherKey, IsSubscriberKey, publisher_key};
+ghost use Rattle.std.specs.Prelude.{◌≡◌, ◌<◌, ◌⊎◌, IfErr, IfNone, IfOk, IfSome, None, Some};
+ghost use Rattle.iox2_pubsub.specs.Handles.{as_subscriber, publisher_id, subscriber_id};
+ghost use Rattle.iox2_pubsub.specs.Live.{IsLiveSubscriber, IsPlacedPublisher, IsPublisherKey, IsSubscriberKey, publisher_key, subscriber_key};
 ghost use Rattle.iox2_c.specs.Channels.{RefusesPublisherChannel, RefusesSubscriberChannel, TellsConnection, TellsHint, TellsSomeState, TellsState};
 ghost use Rattle.iox2_c.specs.Numbers.{named_publisher, named_subscriber, wide};
 
@@ -11,10 +11,67 @@ use crate::calls::subscribers::live_subscriber;
 use crate::numbers::{PublisherNumbers, SubscriberNumbers, Wide};
 use crate::service::{BytesDomain, Service};
 use crate::status::{NO_CONNECTION, NO_SUCH_CHANNEL, NOT_LIVE, OK};
-use iox2_pubsub::Publisher;
+use iox2_pubsub::{Publisher, slice};
 
-/// How many channels a connection has.
-pub const CHANNELS: usize = 1;
+// How many channels a connection has.
+const CHANNELS: usize = 1;
+
+/// A handle of the subscriber with these numbers, whose connections have this channel, or the code that says
+/// why there is none.
+pub fn subscriber_with_channel(
+    domain: &BytesDomain,
+    numbers: &SubscriberNumbers,
+    channel: usize,
+) -> Result<slice::Subscriber, u32>
+    ensures live { IfOk result (λ it. IsLiveSubscriber domain.now (as_subscriber it)) }
+    ensures named { IfOk result (λ it. subscriber_key (as_subscriber it) ≡ named_subscriber numbers.now) }
+    ensures id { IfOk result (λ it. subscriber_id (as_subscriber it) ≡ wide (numbers.now).id) }
+    ensures channel { IfOk result (λ it. channel < 1) }
+    ensures refused { IfErr result (RefusesSubscriberChannel domain.now (named_subscriber numbers.now) channel) }
+{
+    let Some(subscriber) = live_subscriber(domain, numbers) else {
+        return Err(NOT_LIVE);
+    };
+    if channel < CHANNELS {
+        return Ok(subscriber);
+    }
+    subscriber.disown();
+    Err(NO_SUCH_CHANNEL)
+}
+
+// A handle of the publisher with these numbers, also where a send of it waits.
+fn live_publisher(domain: &BytesDomain, numbers: &PublisherNumbers) -> Option<Publisher>
+    ensures live { IfSome result (λ it. IsPublisherKey domain.now (publisher_key it)) }
+    ensures placed { IfSome result (λ it. IsPlacedPublisher domain.now it) }
+    ensures named { IfSome result (λ it. publisher_key it ≡ named_publisher numbers.now) }
+    ensures id { IfSome result (λ it. publisher_id it ≡ wide (numbers.now).id) }
+    ensures none { IfNone result (IsPublisherKey domain.now (named_publisher numbers.now) → ⊥) }
+{
+    domain.publisher_of(&numbers.parts())
+}
+
+/// The same of a publisher, also where a send of it waits.
+pub fn publisher_with_channel(
+    domain: &BytesDomain,
+    numbers: &PublisherNumbers,
+    channel: usize,
+) -> Result<Publisher, u32>
+    ensures live { IfOk result (λ it. IsPublisherKey domain.now (publisher_key it)) }
+    ensures placed { IfOk result (λ it. IsPlacedPublisher domain.now it) }
+    ensures named { IfOk result (λ it. publisher_key it ≡ named_publisher numbers.now) }
+    ensures id { IfOk result (λ it. publisher_id it ≡ wide (numbers.now).id) }
+    ensures channel { IfOk result (λ it. channel < 1) }
+    ensures refused { IfErr result (RefusesPublisherChannel domain.now (named_publisher numbers.now) channel) }
+{
+    let Some(publisher) = live_publisher(domain, numbers) else {
+        return Err(NOT_LIVE);
+    };
+    if channel < CHANNELS {
+        return Ok(publisher);
+    }
+    publisher.disown();
+    Err(NO_SUCH_CHANNEL)
+}
 
 /// Whether a channel is in a state at some connection of a subscriber.
 pub fn some_has_state(
@@ -29,32 +86,14 @@ pub fn some_has_state(
     ensures tells { result ≡ 0 → TellsSomeState service.now.domain (wide (numbers.now).id) channel state out.new }
     ensures same { 0 < result → out.new ≡ out.old }
 {
-    let Some(subscriber) = live_subscriber(&service.domain, numbers) else {
-        return NOT_LIVE;
+    let subscriber = match subscriber_with_channel(&service.domain, numbers, channel) {
+        Ok(subscriber) => subscriber,
+        Err(code) => return code,
     };
-    let code = if channel < CHANNELS {
-        *out = number_of(subscriber.at_least_one_channel_has_state(
-            &service.domain,
-            channel,
-            state,
-        ));
-        OK
-    } else {
-        NO_SUCH_CHANNEL
-    };
+    let is_so = subscriber.at_least_one_channel_has_state(&service.domain, channel, state);
     subscriber.disown();
-    code
-}
-
-/// A handle of the publisher with these numbers, also where a send of it waits.
-pub fn live_publisher(domain: &BytesDomain, numbers: &PublisherNumbers) -> Option<Publisher>
-    ensures live { IfSome result (λ it. IsPublisherKey domain.now (publisher_key it)) }
-    ensures placed { IfSome result (λ it. IsPlacedPublisher domain.now it) }
-    ensures named { IfSome result (λ it. publisher_key it ≡ named_publisher numbers.now) }
-    ensures id { IfSome result (λ it. publisher_id it ≡ wide (numbers.now).id) }
-    ensures none { IfNone result (IsPublisherKey domain.now (named_publisher numbers.now) → ⊥) }
-{
-    domain.publisher_of(&numbers.parts())
+    *out = number_of(is_so);
+    OK
 }
 
 /// Where a publisher has its connection to the subscriber with this id.
@@ -98,18 +137,14 @@ pub fn has_state(
     ensures tells { result ≡ 0 → TellsState service.now.domain (wide (numbers.now).id) channel connection state out.new }
     ensures same { 0 < result → out.new ≡ out.old }
 {
-    let Some(publisher) = live_publisher(&service.domain, numbers) else {
-        return NOT_LIVE;
+    let publisher = match publisher_with_channel(&service.domain, numbers, channel) {
+        Ok(publisher) => publisher,
+        Err(code) => return code,
     };
-    let code = if channel < CHANNELS {
-        let is_so = publisher.has_channel_state(&service.domain, channel, connection, state);
-        *out = number_of(is_so);
-        OK
-    } else {
-        NO_SUCH_CHANNEL
-    };
+    let is_so = publisher.has_channel_state(&service.domain, channel, connection, state);
     publisher.disown();
-    code
+    *out = number_of(is_so);
+    OK
 }
 
 /// Whether a channel is in a state at one connection of a publisher, and has a hint.
@@ -126,16 +161,12 @@ pub fn has_hint(
     ensures tells { result ≡ 0 → TellsHint service.now.domain (wide (numbers.now).id) channel connection state out.new }
     ensures same { 0 < result → out.new ≡ out.old }
 {
-    let Some(publisher) = live_publisher(&service.domain, numbers) else {
-        return NOT_LIVE;
+    let publisher = match publisher_with_channel(&service.domain, numbers, channel) {
+        Ok(publisher) => publisher,
+        Err(code) => return code,
     };
-    let code = if channel < CHANNELS {
-        let is_so = publisher.has_disconnect_hint(&service.domain, channel, connection, state);
-        *out = number_of(is_so);
-        OK
-    } else {
-        NO_SUCH_CHANNEL
-    };
+    let is_so = publisher.has_disconnect_hint(&service.domain, channel, connection, state);
     publisher.disown();
-    code
+    *out = number_of(is_so);
+    OK
 }

@@ -9,12 +9,10 @@ use crate::calls::channels;
 use crate::domain_box::DomainBox;
 use crate::numbers::{PublisherNumbers, SubscriberNumbers, Wide};
 use crate::status::NO_DOMAIN;
-use std::alloc::Global;
 
 /// Whether a channel is in a state at some connection of a subscriber.
 #[unsafe(no_mangle)]
 pub extern "C" fn iox2ps_subscriber_at_least_one_channel_has_state(
-    alloc: Global,
     domain: &mut DomainBox,
     subscriber: &SubscriberNumbers,
     channel: usize,
@@ -28,18 +26,15 @@ pub extern "C" fn iox2ps_subscriber_at_least_one_channel_has_state(
     ensures same { 0 < result → has_state.new ≡ has_state.old }
     ensures unchanged { domain.new.service ≡ domain.old.service }
 {
-    let Some(boxed) = domain.take(alloc) else {
-        return NO_DOMAIN;
-    };
-    let code = channels::some_has_state(&boxed, subscriber, channel, state, has_state);
-    domain.put(boxed);
-    code
+    match domain.service() {
+        Some(service) => channels::some_has_state(service, subscriber, channel, state, has_state),
+        None => NO_DOMAIN,
+    }
 }
 
 /// Names a publisher's connection to the subscriber with this id.
 #[unsafe(no_mangle)]
 pub extern "C" fn iox2ps_publisher_get_connection_id_of(
-    alloc: Global,
     domain: &mut DomainBox,
     publisher: &PublisherNumbers,
     receiver_port_id: &Wide,
@@ -53,18 +48,15 @@ pub extern "C" fn iox2ps_publisher_get_connection_id_of(
     ensures same { 0 < result → connection.new ≡ connection.old }
     ensures unchanged { domain.new.service ≡ domain.old.service }
 {
-    let Some(boxed) = domain.take(alloc) else {
-        return NO_DOMAIN;
-    };
-    let code = channels::connection_of(&boxed, publisher, receiver_port_id, connection);
-    domain.put(boxed);
-    code
+    match domain.service() {
+        Some(service) => channels::connection_of(service, publisher, receiver_port_id, connection),
+        None => NO_DOMAIN,
+    }
 }
 
 /// Whether a channel is in a state at one connection of a publisher.
 #[unsafe(no_mangle)]
 pub extern "C" fn iox2ps_publisher_has_channel_state(
-    alloc: Global,
     domain: &mut DomainBox,
     publisher: &PublisherNumbers,
     channel: usize,
@@ -79,18 +71,17 @@ pub extern "C" fn iox2ps_publisher_has_channel_state(
     ensures same { 0 < result → has_state.new ≡ has_state.old }
     ensures unchanged { domain.new.service ≡ domain.old.service }
 {
-    let Some(boxed) = domain.take(alloc) else {
-        return NO_DOMAIN;
-    };
-    let code = channels::has_state(&boxed, publisher, channel, connection, state, has_state);
-    domain.put(boxed);
-    code
+    match domain.service() {
+        Some(service) => channels::has_state(
+            service, publisher, channel, connection, state, has_state,
+        ),
+        None => NO_DOMAIN,
+    }
 }
 
 /// Whether a channel is in a state at one connection of a publisher, and a disconnect was hinted there.
 #[unsafe(no_mangle)]
 pub extern "C" fn iox2ps_publisher_has_disconnect_hint(
-    alloc: Global,
     domain: &mut DomainBox,
     publisher: &PublisherNumbers,
     channel: usize,
@@ -105,10 +96,10 @@ pub extern "C" fn iox2ps_publisher_has_disconnect_hint(
     ensures same { 0 < result → has_hint.new ≡ has_hint.old }
     ensures unchanged { domain.new.service ≡ domain.old.service }
 {
-    let Some(boxed) = domain.take(alloc) else {
-        return NO_DOMAIN;
-    };
-    let code = channels::has_hint(&boxed, publisher, channel, connection, state, has_hint);
-    domain.put(boxed);
-    code
+    match domain.service() {
+        Some(service) => channels::has_hint(
+            service, publisher, channel, connection, state, has_hint,
+        ),
+        None => NO_DOMAIN,
+    }
 }

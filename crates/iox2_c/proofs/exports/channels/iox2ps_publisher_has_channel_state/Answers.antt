@@ -1,8 +1,5 @@
-use Rattle.std.proofs.Common.{ap, sym, ◌∙◌}
-use Rattle.std.specs.declared.option.Option.TheVariants.{Some}
-use Rattle.iox2_c.specs.Serving.{Serving}
 use Rattle.iox2_c.proofs.ChannelSteps.{knows}
 use Rattle.iox2_c.proofs.exports.channels.iox2ps_publisher_has_channel_state.Goals as goal
 
-pub returns-clause-tells : goal.returns-clause-tells
-returns-clause-tells c = λ ok. knows _ _ c.deref.result.now (c.in-Some.ensures.taken ∙ sym (ap {A = Serving} Some c.deref.ensures)) (c.has_state-code.ensures.live ok, c.has_state-code.ensures.tells ok)
+pub returns-in-Some-clause-tells : goal.returns-in-Some-clause-tells
+returns-in-Some-clause-tells c = λ ok. knows _ _ c.in-Some.service.now c.in-Some.ensures.value (c.has_state.ensures.live ok, c.has_state.ensures.tells ok)
