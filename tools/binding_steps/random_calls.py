@@ -46,7 +46,7 @@ def run_random_calls(steps, work, script_of_run):
 
 
 def run_random_channels(steps, work):
-    """The program that has a model of its own, in the same way. More than half of its calls are on channels."""
+    """The program that has a model of its own, in the same way. Half of its calls are on channels."""
     program = compile_program("gcc", "c/random_channels.c", "c11", work / "random_channels", "-O1", *SANITIZERS)
     for seed in SEEDS:
         steps.run(f"c/random_channels.c, sanitizers, seed {seed}", said, program, seed, 20000)
