@@ -42,6 +42,12 @@ static void fill(void) {
 static void publisher_is_refused(iox2ps_domain_t *domain, const iox2ps_publisher_t *publisher, iox2ps_status_t code) {
   REFUSED(iox2ps_publisher_close(domain, publisher), code);
   REFUSED(iox2ps_publisher_is_blocked(domain, publisher, &outs.answer), code);
+  REFUSED(iox2ps_publisher_get_connection_id_of(domain, publisher, &untouched.subscriber.id, &outs.count), code);
+  for (size_t channel = 0; channel < 2; channel++) {
+    REFUSED(iox2ps_publisher_has_channel_state(domain, publisher, channel, 0, 0, &outs.answer), code);
+    REFUSED(iox2ps_publisher_has_disconnect_hint(domain, publisher, channel, 0, 0, &outs.answer), code);
+    REFUSED(iox2ps_publisher_close_channel(domain, publisher, channel, 0, 0), code);
+  }
   REFUSED(iox2ps_publisher_update_connections(domain, publisher), code);
   REFUSED(iox2ps_publisher_loan(domain, publisher, 8, &outs.loan, &outs.written), code);
   REFUSED(iox2ps_publisher_loan(domain, publisher, SIZE_MAX, &outs.loan, &outs.written), code);
@@ -52,6 +58,12 @@ static void publisher_is_refused(iox2ps_domain_t *domain, const iox2ps_publisher
 static void subscriber_is_refused(iox2ps_domain_t *domain, const iox2ps_subscriber_t *subscriber, iox2ps_status_t code) {
   REFUSED(iox2ps_subscriber_close(domain, subscriber), code);
   REFUSED(iox2ps_subscriber_has_samples(domain, subscriber, &outs.answer), code);
+  for (size_t channel = 0; channel < 2; channel++) {
+    REFUSED(iox2ps_subscriber_at_least_one_channel_has_state(domain, subscriber, channel, 0, &outs.answer), code);
+    REFUSED(iox2ps_subscriber_set_channel_state(domain, subscriber, channel, 0, &outs.answer), code);
+    REFUSED(iox2ps_subscriber_close_channel(domain, subscriber, channel, 0), code);
+    REFUSED(iox2ps_subscriber_set_disconnect_hint(domain, subscriber, channel, 0), code);
+  }
   REFUSED(iox2ps_subscriber_update_connections(domain, subscriber), code);
   REFUSED(iox2ps_subscriber_receive(domain, subscriber, &outs.sample, &outs.read, &outs.len), code);
   REFUSED(iox2ps_subscriber_receive_copy(domain, subscriber, outs.bytes, sizeof outs.bytes, &outs.len, &outs.sample), code);
@@ -297,6 +309,36 @@ static void a_publisher_is_blocked(void) {
   end(&world);
 }
 
+/* A connection has channel 0 alone, and a number that no connection has is no fault. */
+static void channels_are_not_there(void) {
+  const size_t wrong[] = {1, 2, 77, SIZE_MAX / 2, SIZE_MAX};
+  world_t world;
+  uint32_t answer;
+  begin(&world, 1);
+  const iox2ps_publisher_t *publishers[] = {&world.publisher, &world.waiting};
+  for (int i = 0; i < 5; i++) {
+    REFUSED(iox2ps_subscriber_at_least_one_channel_has_state(&world.domain, &world.subscriber, wrong[i], 0, &outs.answer),
+            IOX2PS_NO_SUCH_CHANNEL);
+    REFUSED(iox2ps_subscriber_set_channel_state(&world.domain, &world.subscriber, wrong[i], 0, &outs.answer),
+            IOX2PS_NO_SUCH_CHANNEL);
+    REFUSED(iox2ps_subscriber_close_channel(&world.domain, &world.subscriber, wrong[i], 0), IOX2PS_NO_SUCH_CHANNEL);
+    REFUSED(iox2ps_subscriber_set_disconnect_hint(&world.domain, &world.subscriber, wrong[i], 0), IOX2PS_NO_SUCH_CHANNEL);
+    for (int of = 0; of < 2; of++) {
+      REFUSED(iox2ps_publisher_has_channel_state(&world.domain, publishers[of], wrong[i], 0, 0, &outs.answer),
+              IOX2PS_NO_SUCH_CHANNEL);
+      REFUSED(iox2ps_publisher_has_disconnect_hint(&world.domain, publishers[of], wrong[i], 0, 0, &outs.answer),
+              IOX2PS_NO_SUCH_CHANNEL);
+      REFUSED(iox2ps_publisher_close_channel(&world.domain, publishers[of], wrong[i], 0, 0), IOX2PS_NO_SUCH_CHANNEL);
+      REFUSED(iox2ps_publisher_close_channel(&world.domain, publishers[of], 0, wrong[i], 0), IOX2PS_OK);
+      IS(iox2ps_publisher_has_channel_state(&world.domain, publishers[of], 0, wrong[i], 0, &answer), IOX2PS_OK);
+      CHECK(answer == 0);
+      IS(iox2ps_publisher_has_channel_state(&world.domain, publishers[of], 0, 0, 0, &answer), IOX2PS_OK);
+      CHECK(answer == 1);
+    }
+  }
+  end(&world);
+}
+
 /* ---- no domain */
 
 static void all_is_refused(iox2ps_domain_t *domain, const world_t *world, iox2ps_status_t code) {
@@ -522,6 +564,7 @@ int main(void) {
   numbers_are_of_another_domain();
   numbers_are_used_twice_and_kept_too_long();
   a_publisher_is_blocked();
+  channels_are_not_there();
   there_is_no_domain();
   a_domain_is_made_twice();
   lengths_are_at_their_limits();

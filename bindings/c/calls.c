@@ -549,6 +549,165 @@ static void warnings_are_read(void) {
   IS(iox2ps_domain_destroy(&domain), IOX2PS_OK);
 }
 
+/* A port has its connections after its own update alone, which its creation makes too. */
+static void channels_are_asked_about(void) {
+  iox2ps_domain_t domain;
+  iox2ps_config_t config;
+  iox2ps_publisher_t publisher;
+  iox2ps_subscriber_t subscriber, alone;
+  iox2ps_wide_t nobody = {77, 0};
+  size_t connection = 99;
+  uint32_t answer = 9;
+  iox2ps_config_defaults(&config, 7, 1, 1);
+  create(&domain, &config);
+  IS(iox2ps_subscriber_create(&domain, &alone), IOX2PS_OK);
+  IS(iox2ps_subscriber_at_least_one_channel_has_state(&domain, &alone, 0, IOX2PS_CHANNEL_STATE_OPEN, &answer), IOX2PS_OK);
+  CHECK(answer == 0);
+  IS(iox2ps_publisher_create(&domain, &publisher), IOX2PS_OK);
+  IS(iox2ps_subscriber_create(&domain, &subscriber), IOX2PS_OK);
+  IS(iox2ps_subscriber_at_least_one_channel_has_state(&domain, &subscriber, 0, IOX2PS_CHANNEL_STATE_OPEN, &answer), IOX2PS_OK);
+  CHECK(answer == 1);
+  IS(iox2ps_subscriber_at_least_one_channel_has_state(&domain, &subscriber, 0, IOX2PS_CHANNEL_STATE_CLOSED, &answer), IOX2PS_OK);
+  CHECK(answer == 0);
+
+  IS(iox2ps_publisher_get_connection_id_of(&domain, &publisher, &alone.id, &connection), IOX2PS_OK);
+  CHECK(connection == 0);
+  IS(iox2ps_publisher_get_connection_id_of(&domain, &publisher, &subscriber.id, &connection), IOX2PS_NO_CONNECTION);
+  IS(iox2ps_publisher_has_channel_state(&domain, &publisher, 0, 1, IOX2PS_CHANNEL_STATE_OPEN, &answer), IOX2PS_OK);
+  CHECK(connection == 0 && answer == 0);
+  IS(iox2ps_publisher_update_connections(&domain, &publisher), IOX2PS_OK);
+  IS(iox2ps_publisher_get_connection_id_of(&domain, &publisher, &subscriber.id, &connection), IOX2PS_OK);
+  CHECK(connection == 1);
+  IS(iox2ps_publisher_get_connection_id_of(&domain, &publisher, &nobody, &connection), IOX2PS_NO_CONNECTION);
+  CHECK(connection == 1);
+  IS(iox2ps_publisher_has_channel_state(&domain, &publisher, 0, connection, IOX2PS_CHANNEL_STATE_OPEN, &answer), IOX2PS_OK);
+  CHECK(answer == 1);
+  IS(iox2ps_publisher_has_channel_state(&domain, &publisher, 0, connection, 3, &answer), IOX2PS_OK);
+  CHECK(answer == 0);
+  answer = 9;
+  IS(iox2ps_publisher_has_disconnect_hint(&domain, &publisher, 0, connection, IOX2PS_CHANNEL_STATE_OPEN, &answer), IOX2PS_OK);
+  CHECK(answer == 0);
+  IS(iox2ps_domain_destroy(&domain), IOX2PS_OK);
+}
+
+/* How many subscribers take this byte, of a publisher that no send of waits. */
+static size_t taken_by(iox2ps_domain_t *domain, const iox2ps_publisher_t *publisher, uint8_t byte) {
+  iox2ps_blocked_t blocked;
+  size_t receivers = 99;
+  IS(iox2ps_publisher_send_copy(domain, publisher, &byte, 1, &receivers, &blocked), IOX2PS_OK);
+  return receivers;
+}
+
+static void channels_are_closed_opened_and_hinted(void) {
+  iox2ps_domain_t domain;
+  iox2ps_config_t config;
+  iox2ps_publisher_t publisher;
+  iox2ps_subscriber_t subscriber;
+  iox2ps_sample_t sample;
+  size_t connection = 99, len;
+  uint8_t byte = 0;
+  uint32_t answer = 9;
+  iox2ps_config_defaults(&config, 1, 1, 1);
+  config.max_subscribers = 1;
+  config.subscriber_max_buffer_size = config.subscriber_max_borrowed_samples = 1;
+  config.enable_safe_overflow = 0;
+  config.backpressure_strategy = IOX2PS_DISCARD_DATA;
+  create(&domain, &config);
+  IS(iox2ps_subscriber_create(&domain, &subscriber), IOX2PS_OK);
+  IS(iox2ps_publisher_create(&domain, &publisher), IOX2PS_OK);
+  IS(iox2ps_subscriber_set_channel_state(&domain, &subscriber, 0, 9, &answer), IOX2PS_OK);
+  CHECK(answer == 1);
+  IS(iox2ps_subscriber_at_least_one_channel_has_state(&domain, &subscriber, 0, 0, &answer), IOX2PS_OK);
+  CHECK(answer == 0);
+  IS(iox2ps_subscriber_update_connections(&domain, &subscriber), IOX2PS_OK);
+  IS(iox2ps_publisher_get_connection_id_of(&domain, &publisher, &subscriber.id, &connection), IOX2PS_OK);
+  CHECK(connection == 0);
+
+  /* A closed channel takes no message until it is opened. */
+  IS(iox2ps_subscriber_close_channel(&domain, &subscriber, 0, 5), IOX2PS_OK);
+  IS(iox2ps_publisher_has_channel_state(&domain, &publisher, 0, 0, IOX2PS_CHANNEL_STATE_OPEN, &answer), IOX2PS_OK);
+  CHECK(answer == 1);
+  IS(iox2ps_subscriber_close_channel(&domain, &subscriber, 0, IOX2PS_CHANNEL_STATE_OPEN), IOX2PS_OK);
+  IS(iox2ps_publisher_has_channel_state(&domain, &publisher, 0, 0, IOX2PS_CHANNEL_STATE_CLOSED, &answer), IOX2PS_OK);
+  CHECK(answer == 1 && taken_by(&domain, &publisher, 1) == 0);
+  IS(iox2ps_subscriber_receive_copy(&domain, &subscriber, &byte, 1, &len, &sample), IOX2PS_NO_SAMPLE);
+  IS(iox2ps_subscriber_set_channel_state(&domain, &subscriber, 0, 7, &answer), IOX2PS_OK);
+  CHECK(answer == 1 && taken_by(&domain, &publisher, 2) == 1);
+
+  /* A hint is set in one state alone, and goes with it. */
+  IS(iox2ps_subscriber_set_disconnect_hint(&domain, &subscriber, 0, IOX2PS_CHANNEL_STATE_OPEN), IOX2PS_OK);
+  IS(iox2ps_publisher_has_disconnect_hint(&domain, &publisher, 0, 0, 7, &answer), IOX2PS_OK);
+  CHECK(answer == 0);
+  IS(iox2ps_subscriber_set_disconnect_hint(&domain, &subscriber, 0, 7), IOX2PS_OK);
+  IS(iox2ps_publisher_has_disconnect_hint(&domain, &publisher, 0, 0, 7, &answer), IOX2PS_OK);
+  CHECK(answer == 1);
+  IS(iox2ps_subscriber_set_channel_state(&domain, &subscriber, 0, 3, &answer), IOX2PS_OK);
+  CHECK(answer == 0);
+  IS(iox2ps_publisher_close_channel(&domain, &publisher, 0, 1, 7), IOX2PS_OK);
+  IS(iox2ps_publisher_has_disconnect_hint(&domain, &publisher, 0, 0, 7, &answer), IOX2PS_OK);
+  CHECK(answer == 1);
+  IS(iox2ps_publisher_close_channel(&domain, &publisher, 0, 0, 7), IOX2PS_OK);
+  IS(iox2ps_publisher_has_disconnect_hint(&domain, &publisher, 0, 0, IOX2PS_CHANNEL_STATE_CLOSED, &answer), IOX2PS_OK);
+  CHECK(answer == 0 && taken_by(&domain, &publisher, 3) == 0);
+  IS(iox2ps_subscriber_receive_copy(&domain, &subscriber, &byte, 1, &len, &sample), IOX2PS_OK);
+  CHECK(byte == 2);
+  IS(iox2ps_subscriber_receive_copy(&domain, &subscriber, &byte, 1, &len, &sample), IOX2PS_NO_SAMPLE);
+  IS(iox2ps_domain_destroy(&domain), IOX2PS_OK);
+}
+
+/* A send that waits for a channel goes past it when it is closed, and a subscriber that closed it gets no history. */
+static void closed_channels_end_waits_and_get_no_history(void) {
+  iox2ps_domain_t domain;
+  iox2ps_config_t config;
+  iox2ps_publisher_t publisher;
+  iox2ps_subscriber_t full, late;
+  iox2ps_blocked_t blocked;
+  uint8_t byte = 2;
+  size_t receivers = 99;
+  uint32_t answer;
+  iox2ps_config_defaults(&config, 1, 1, 1);
+  config.history_size = config.subscriber_max_buffer_size = 1;
+  config.enable_safe_overflow = 0;
+  create(&domain, &config);
+  IS(iox2ps_publisher_create(&domain, &publisher), IOX2PS_OK);
+  IS(iox2ps_subscriber_create(&domain, &full), IOX2PS_OK);
+  CHECK(taken_by(&domain, &publisher, 1) == 1);
+  IS(iox2ps_publisher_send_copy(&domain, &publisher, &byte, 1, &receivers, &blocked), IOX2PS_BLOCKED);
+  IS(iox2ps_publisher_close_channel(&domain, &publisher, 0, 0, IOX2PS_CHANNEL_STATE_OPEN), IOX2PS_OK);
+  IS(iox2ps_blocked_retry(&domain, &blocked, 0, &receivers), IOX2PS_OK);
+  CHECK(receivers == 0);
+  IS(iox2ps_subscriber_create(&domain, &late), IOX2PS_OK);
+  IS(iox2ps_subscriber_close_channel(&domain, &late, 0, IOX2PS_CHANNEL_STATE_OPEN), IOX2PS_OK);
+  IS(iox2ps_publisher_update_connections(&domain, &publisher), IOX2PS_OK);
+  IS(iox2ps_subscriber_has_samples(&domain, &late, &answer), IOX2PS_OK);
+  CHECK(answer == 0);
+  IS(iox2ps_domain_destroy(&domain), IOX2PS_OK);
+}
+
+/* For a change of a channel there is no command: what follows is no run of the commands before. */
+static void a_recording_ends_before_a_channel_changes(void) {
+  iox2ps_domain_t domain = IOX2PS_DOMAIN_INIT;
+  iox2ps_config_t config;
+  iox2ps_subscriber_t subscriber;
+  char text[200];
+  size_t len;
+  uint64_t missed;
+  uint32_t answer;
+  iox2ps_config_defaults(&config, 7, 1, 1);
+  for (int change = 0; change < 2; change++) {
+    IS(iox2ps_domain_create_recorded(&domain, &config, 10, 0), IOX2PS_OK);
+    IS(iox2ps_subscriber_create(&domain, &subscriber), IOX2PS_OK);
+    IS(iox2ps_subscriber_at_least_one_channel_has_state(&domain, &subscriber, 0, 0, &answer), IOX2PS_OK);
+    IS(iox2ps_subscriber_close_channel(&domain, &subscriber, 1, 0), IOX2PS_NO_SUCH_CHANNEL);
+    if (change) IS(iox2ps_subscriber_close_channel(&domain, &subscriber, 0, 0), IOX2PS_OK);
+    IS(iox2ps_subscriber_update_connections(&domain, &subscriber), IOX2PS_OK);
+    IS(iox2ps_domain_recording(&domain, text, sizeof text - 1, &len, &missed), IOX2PS_OK);
+    text[len] = 0;
+    CHECK(missed == (change ? 2u : 0u) && strstr(text, change ? "\nend 1 " : "\nend 2 ") != NULL);
+    IS(iox2ps_domain_destroy(&domain), IOX2PS_OK);
+  }
+}
+
 /* All codes, and the kinds of warnings. */
 static const uint32_t codes[] = {
     IOX2PS_OK, IOX2PS_NO_DOMAIN, IOX2PS_NOT_LIVE, IOX2PS_NO_SAMPLE, IOX2PS_OUT_OF_MEMORY, IOX2PS_HAS_DOMAIN, IOX2PS_BLOCKED,
@@ -569,7 +728,8 @@ static const uint32_t codes[] = {
     IOX2PS_SUBSCRIBER_CREATE_ERROR_EXCEEDS_MAX_SUPPORTED_SUBSCRIBERS,
     IOX2PS_SUBSCRIBER_CREATE_ERROR_BUFFER_SIZE_EXCEEDS_MAX,
     IOX2PS_SUBSCRIBER_CREATE_ERROR_FAILED_TO_DEPLOY_THREADSAFETY_POLICY,
-    IOX2PS_SUBSCRIBER_CREATE_ERROR_UNABLE_TO_CREATE_PORT_TAG, IOX2PS_WARNING_EXPIRED_BUFFER_RAISED,
+    IOX2PS_SUBSCRIBER_CREATE_ERROR_UNABLE_TO_CREATE_PORT_TAG, IOX2PS_NO_SUCH_CHANNEL, IOX2PS_NO_CONNECTION,
+    IOX2PS_WARNING_EXPIRED_BUFFER_RAISED,
     IOX2PS_WARNING_PUBLISHER_PARTLY_CONNECTED, IOX2PS_WARNING_SUBSCRIBER_PARTLY_CONNECTED,
     IOX2PS_WARNING_CONNECTION_NOT_MADE, IOX2PS_WARNING_EXPIRED_DATA_DISCARDED};
 
@@ -630,6 +790,10 @@ int main(void) {
   a_publisher_grows();
   a_late_subscriber_gets_the_history();
   warnings_are_read();
+  channels_are_asked_about();
+  channels_are_closed_opened_and_hinted();
+  closed_channels_end_waits_and_get_no_history();
+  a_recording_ends_before_a_channel_changes();
   texts_are_iceoryx2s();
   each_code_has_a_text_that_no_other_has();
   slots_are_counted();

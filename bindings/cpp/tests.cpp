@@ -462,6 +462,70 @@ static void connections_and_books_are_counted() {
   CHECK(domain.connection_count() == 0 && domain.book_count() == 0 && domain.refused_connections() == 0);
 }
 
+/* A port has its connections after its own update alone, which its creation makes too. */
+static void channels_are_asked_about() {
+  constexpr auto open = iox2ps::channel_state_open, closed = iox2ps::channel_state_closed;
+  auto domain = made(Config<int>(23));
+  auto publisher = domain.publisher().expect("a publisher");
+  auto subscriber = domain.subscriber().expect("a subscriber");
+  CHECK(*subscriber.at_least_one_channel_has_state(0, open) && !*subscriber.at_least_one_channel_has_state(0, closed));
+  CHECK(!*publisher.get_connection_id_of(subscriber.id()) && !*publisher.has_channel_state(0, 0, open));
+  CHECK(publisher.update_connections().has_value());
+  CHECK(*publisher.get_connection_id_of(subscriber.id()) == std::size_t(0));
+  CHECK(!*publisher.get_connection_id_of(Id{subscriber.id().low, 1}));
+  CHECK(*publisher.has_channel_state(0, 0, open) && !*publisher.has_channel_state(0, 0, 3) && !*publisher.has_channel_state(0, 1, open));
+  CHECK(!*publisher.has_disconnect_hint(0, 0, open));
+  CHECK(publisher.has_channel_state(1, 0, open).error() == Error::NoSuchChannel);
+  CHECK(publisher.has_disconnect_hint(SIZE_MAX, 0, open).error() == Error::NoSuchChannel);
+  CHECK(subscriber.at_least_one_channel_has_state(1, open).error() == Error::NoSuchChannel);
+  auto moved = std::move(publisher);
+  CHECK(publisher.get_connection_id_of(subscriber.id()).error() == Error::NotLive);
+  CHECK(publisher.has_channel_state(0, 0, open).error() == Error::NotLive && *moved.has_channel_state(0, 0, open));
+}
+
+static void channels_are_closed_opened_and_hinted() {
+  constexpr auto open = iox2ps::channel_state_open, closed = iox2ps::channel_state_closed;
+  auto domain = made(Config<int>(24));
+  auto first = domain.subscriber().expect("a subscriber"), second = domain.subscriber().expect("a subscriber");
+  auto publisher = domain.publisher().expect("a publisher");
+  CHECK(first.close_channel(0, open).has_value()); // it has no connection yet
+  CHECK(publisher.send_copy(1)->delivered() == std::size_t(2));
+  CHECK(first.update_connections().has_value() && first.close_channel(0, 5).has_value());
+  CHECK(*publisher.has_channel_state(0, 0, open));
+  CHECK(first.close_channel(0, open).has_value());
+  CHECK(*publisher.has_channel_state(0, 0, closed) && *publisher.has_channel_state(0, 1, open));
+  CHECK(publisher.send_copy(2)->delivered() == std::size_t(1));
+  CHECK(**first.receive().expect("a receive") == 1 && !first.receive().expect("a receive"));
+  CHECK(*first.set_channel_state(0, 7) && publisher.send_copy(3)->delivered() == std::size_t(2));
+  CHECK(**first.receive().expect("a receive") == 3);
+
+  CHECK(first.set_disconnect_hint(0, open).has_value() && !*publisher.has_disconnect_hint(0, 0, 7));
+  CHECK(first.set_disconnect_hint(0, 7).has_value() && *publisher.has_disconnect_hint(0, 0, 7));
+  CHECK(!*first.set_channel_state(0, 8) && *publisher.has_disconnect_hint(0, 0, 7));
+  CHECK(publisher.close_channel(0, 0, open).has_value() && publisher.close_channel(0, 2, 7).has_value());
+  CHECK(*publisher.has_channel_state(0, 0, 7));
+  CHECK(publisher.close_channel(0, 0, 7).has_value() && !*publisher.has_disconnect_hint(0, 0, closed));
+  CHECK(publisher.send_copy(4)->delivered() == std::size_t(1));
+
+  CHECK(publisher.close_channel(1, 0, open).error() == Error::NoSuchChannel);
+  CHECK(first.set_channel_state(1, open).error() == Error::NoSuchChannel);
+  CHECK(first.close_channel(1, open).error() == Error::NoSuchChannel);
+  CHECK(first.set_disconnect_hint(1, open).error() == Error::NoSuchChannel);
+  auto moved = std::move(first);
+  CHECK(first.set_channel_state(0, open).error() == Error::NotLive && first.close_channel(0, open).error() == Error::NotLive);
+  CHECK(first.set_disconnect_hint(0, open).error() == Error::NotLive && *moved.set_channel_state(0, open));
+}
+
+static void a_blocked_send_goes_past_a_closed_channel() {
+  auto domain = made(keeping(25));
+  auto subscriber = domain.subscriber().expect("a subscriber");
+  auto publisher = domain.publisher().expect("a publisher");
+  CHECK(publisher.send_copy(1)->delivered() == std::size_t(1));
+  auto blocked = *std::move(publisher.send_copy(2)->blocked());
+  CHECK(publisher.close_channel(0, 0, iox2ps::channel_state_open).has_value());
+  CHECK(*blocked.retry() == std::size_t(0) && **subscriber.receive().expect("a receive") == 1);
+}
+
 static void settings_say_how_many_slots_a_publisher_has() {
   Config<int> config(15);
   config.max_subscribers(2);
@@ -503,6 +567,9 @@ int main() {
   a_late_subscriber_gets_the_history();
   a_header_says_where_a_message_comes_from();
   connections_and_books_are_counted();
+  channels_are_asked_about();
+  channels_are_closed_opened_and_hinted();
+  a_blocked_send_goes_past_a_closed_channel();
   settings_say_how_many_slots_a_publisher_has();
   errors_have_texts();
   std::printf("%d passed, %d failed\n", passed, failed);

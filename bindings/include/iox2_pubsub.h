@@ -23,9 +23,9 @@
  *
  * Threads. Nothing here starts a thread, takes a lock, waits, or keeps state outside of a domain. So threads may call
  * different domains at a time, and a domain may go from one thread to another. Threads that share one have a lock for it:
- *  - each call that takes the domain is made with the lock, also one that only asks: it takes the domain out of its
- *    iox2ps_domain_t and puts it back. For the same reason no call takes a const domain: to a C compiler const would
- *    say that nothing is written there;
+ *  - each call that takes the domain is made with the lock, also one that only asks: each has the domain for itself, and
+ *    some write into its iox2ps_domain_t meanwhile. For the same reason no call takes a const domain: to a C compiler
+ *    const would say that nothing is written there;
  *  - payloads need no lock. The bytes of a loan are its holder's from the call that lends it to the call that sends or
  *    discards it; those of a sample are read by whoever likes, by several threads at a time, from the call that receives
  *    it to the call that releases it. No other call touches them, but that one which copies a message reads it. A thread
@@ -36,7 +36,7 @@
  *    try again once another thread has made such a call:
  *     - for a message: a send, a retry or a giving up, also one that returned IOX2PS_BLOCKED, an update of a publisher's
  *       connections, or a publisher made or closed;
- *     - for room: a receive, or a subscriber closed. A release makes no room in a buffer;
+ *     - for room: a receive, or a subscriber or a channel closed. A release makes no room in a buffer;
  *     - for an earlier send: a retry or a giving up;
  *     - for a loan: a send, a discard, a release, a receive that copies, a retry, a giving up, or an update of the publisher's
  *       connections, which alone takes back what waited for a subscriber that was closed;
@@ -136,7 +136,9 @@ typedef enum iox2ps_status_e {
   IOX2PS_SUBSCRIBER_CREATE_ERROR_EXCEEDS_MAX_SUPPORTED_SUBSCRIBERS = 60,
   IOX2PS_SUBSCRIBER_CREATE_ERROR_BUFFER_SIZE_EXCEEDS_MAX = 61, /**< a larger buffer than the domain allows */
   IOX2PS_SUBSCRIBER_CREATE_ERROR_FAILED_TO_DEPLOY_THREADSAFETY_POLICY = 62, /**< memory was refused */
-  IOX2PS_SUBSCRIBER_CREATE_ERROR_UNABLE_TO_CREATE_PORT_TAG = 63 /**< no id is left for a port */
+  IOX2PS_SUBSCRIBER_CREATE_ERROR_UNABLE_TO_CREATE_PORT_TAG = 63, /**< no id is left for a port */
+  IOX2PS_NO_SUCH_CHANNEL = 70, /**< a connection has no channel with this number */
+  IOX2PS_NO_CONNECTION = 71 /**< the publisher has no connection to that subscriber */
 } iox2ps_status_e;
 
 /** What a publisher does where a subscriber's buffer is full and the domain doesn't overflow. */
@@ -357,9 +359,10 @@ IOX2PS_NODISCARD iox2ps_status_t iox2ps_domain_create_recorded(iox2ps_domain_t *
                                                                size_t commands, size_t bytes);
 
 /** Writes the recording as text, which tools/replay runs again and tools/draw draws: docs/RECORDINGS.md says what is in
- * it. missed says how many commands had no room: the recording ends before the first of these. len says how long the text
- * is, also with IOX2PS_TOO_SMALL, where it has more than room bytes and nothing is written; it has no zero byte. The
- * recording stays, and goes on. That of a domain that isn't recorded is empty. IOX2PS_OUT_OF_MEMORY. */
+ * it. missed says how many commands had no room, with the calls for which there is no command, as those that change a
+ * channel: the recording ends before the first of these. len says how long the text is, also with IOX2PS_TOO_SMALL, where
+ * it has more than room bytes and nothing is written; it has no zero byte. The recording stays, and goes on. That of a
+ * domain that isn't recorded is empty. IOX2PS_OUT_OF_MEMORY. */
 IOX2PS_NODISCARD iox2ps_status_t iox2ps_domain_recording(iox2ps_domain_t *domain, void *bytes, size_t room, size_t *len,
                                                          uint64_t *missed);
 
@@ -524,6 +527,79 @@ IOX2PS_NODISCARD iox2ps_status_t iox2ps_sample_header(iox2ps_domain_t *domain, c
 
 /** Gives a message back. IOX2PS_NOT_LIVE. */
 IOX2PS_NODISCARD iox2ps_status_t iox2ps_sample_release(iox2ps_domain_t *domain, const iox2ps_sample_t *sample);
+
+/** @}
+ * @name Channels
+ * A publisher and a subscriber that are connected have a channel, number 0, which carries their messages. It is in a state,
+ * which is a number. A closed channel takes no message and no history, as a closed subscriber does: a send goes past it and
+ * doesn't count it. What waits there is received all the same. Each other state is open, and the program says what it
+ * means. A channel may also have a hint that its subscriber is about to disconnect, which goes with each change of the
+ * state. State and hint are the connection's, and go with it.
+ *
+ * A subscriber's calls go over all connections that it has, also those with closed publishers of which it has messages; a
+ * publisher's are about one, which iox2ps_publisher_get_connection_id_of() names. A port has a connection once it was made
+ * by an update of its own. A publisher may make these calls while a send of it waits; one that waits for a closed channel
+ * goes past it when it is tried again. IOX2PS_NO_SUCH_CHANNEL comes for each channel but 0.
+ *
+ * Calls that only ask aren't recorded, and nothing recorded depends on them. For calls that change a channel there is no
+ * command, so that a recording ends before the first of them: it and what follows are counted as missed.
+ * @{ */
+
+#define IOX2PS_CHANNEL_STATE_OPEN UINT64_C(0)  /**< the state of a new channel */
+#define IOX2PS_CHANNEL_STATE_CLOSED UINT64_MAX /**< the state of a channel that takes no message */
+
+/** Brings a channel into this state at each connection of the subscriber where it is closed, so that it takes messages
+ * again, and says whether it was closed at all of them: 1 or 0. It says 1 where the subscriber has none. Where the channel
+ * isn't closed it stays as it is. IOX2PS_NOT_LIVE, IOX2PS_NO_SUCH_CHANNEL. */
+IOX2PS_NODISCARD iox2ps_status_t iox2ps_subscriber_set_channel_state(iox2ps_domain_t *domain,
+                                                                     const iox2ps_subscriber_t *subscriber, size_t channel,
+                                                                     uint64_t state, uint32_t *were_closed);
+
+/** Closes a channel at each connection of the subscriber where it is in the expected state. IOX2PS_NOT_LIVE,
+ * IOX2PS_NO_SUCH_CHANNEL. */
+IOX2PS_NODISCARD iox2ps_status_t iox2ps_subscriber_close_channel(iox2ps_domain_t *domain,
+                                                                 const iox2ps_subscriber_t *subscriber, size_t channel,
+                                                                 uint64_t expected);
+
+/** Hints that the subscriber is about to disconnect, at each connection where the channel is in the expected state.
+ * IOX2PS_NOT_LIVE, IOX2PS_NO_SUCH_CHANNEL. */
+IOX2PS_NODISCARD iox2ps_status_t iox2ps_subscriber_set_disconnect_hint(iox2ps_domain_t *domain,
+                                                                       const iox2ps_subscriber_t *subscriber,
+                                                                       size_t channel, uint64_t expected);
+
+/** Whether a channel is in this state at some connection of the subscriber: 1 or 0. It isn't where the subscriber has
+ * none. IOX2PS_NOT_LIVE, IOX2PS_NO_SUCH_CHANNEL. */
+IOX2PS_NODISCARD iox2ps_status_t iox2ps_subscriber_at_least_one_channel_has_state(iox2ps_domain_t *domain,
+                                                                                  const iox2ps_subscriber_t *subscriber,
+                                                                                  size_t channel, uint64_t state,
+                                                                                  uint32_t *has_state);
+
+/** Names the publisher's connection to the subscriber with this id, which an update or a send has made, by a number for
+ * the calls below. IOX2PS_NO_CONNECTION where it has none. IOX2PS_NOT_LIVE. */
+IOX2PS_NODISCARD iox2ps_status_t iox2ps_publisher_get_connection_id_of(iox2ps_domain_t *domain,
+                                                                       const iox2ps_publisher_t *publisher,
+                                                                       const iox2ps_wide_t *receiver_port_id,
+                                                                       size_t *connection);
+
+/** Whether a channel is in this state at one connection of the publisher: 1 or 0. It isn't where there is no such
+ * connection. IOX2PS_NOT_LIVE, IOX2PS_NO_SUCH_CHANNEL. */
+IOX2PS_NODISCARD iox2ps_status_t iox2ps_publisher_has_channel_state(iox2ps_domain_t *domain,
+                                                                    const iox2ps_publisher_t *publisher, size_t channel,
+                                                                    size_t connection, uint64_t state,
+                                                                    uint32_t *has_state);
+
+/** Whether a channel is in this state at one connection of the publisher and has a hint: 1 or 0. It isn't where there is
+ * no such connection. IOX2PS_NOT_LIVE, IOX2PS_NO_SUCH_CHANNEL. */
+IOX2PS_NODISCARD iox2ps_status_t iox2ps_publisher_has_disconnect_hint(iox2ps_domain_t *domain,
+                                                                      const iox2ps_publisher_t *publisher, size_t channel,
+                                                                      size_t connection, uint64_t state,
+                                                                      uint32_t *has_hint);
+
+/** Closes a channel at one connection of the publisher, if it is in the expected state there. Where there is no such
+ * connection nothing is done. IOX2PS_NOT_LIVE, IOX2PS_NO_SUCH_CHANNEL. */
+IOX2PS_NODISCARD iox2ps_status_t iox2ps_publisher_close_channel(iox2ps_domain_t *domain,
+                                                                const iox2ps_publisher_t *publisher, size_t channel,
+                                                                size_t connection, uint64_t expected);
 
 /** @} */
 

@@ -59,6 +59,9 @@ constexpr Brings operator|(Waits one, Waits other) { return static_cast<Brings>(
 constexpr Brings operator|(Brings some, Waits other) { return some | static_cast<Brings>(other); }                   /**< all of them */
 constexpr Brings only(Waits one) { return static_cast<Brings>(one); }                                                /**< one */
 
+inline constexpr std::uint64_t channel_state_open = IOX2PS_CHANNEL_STATE_OPEN;     /**< the state of a new channel */
+inline constexpr std::uint64_t channel_state_closed = IOX2PS_CHANNEL_STATE_CLOSED; /**< that of one which takes no message */
+
 /** Until when a call waits, or for good. */
 using Until = std::optional<std::chrono::steady_clock::time_point>;
 
@@ -151,6 +154,15 @@ public:
 
   /* The same of calls that bring nothing to anybody. */
   template <typename Call> iox2ps_status_t ask(Call &&make) const { return call(0, std::forward<Call>(make)); }
+
+  /* What a call of a port answers by 1 or 0, which brings nothing to anybody. */
+  template <typename Question> Result<bool> told(Question &&question) const {
+    if (!shared_) return Error::NotLive;
+    std::uint32_t answer = 0;
+    iox2ps_status_t code = ask([&](iox2ps_domain_t *domain) { return question(domain, &answer); });
+    if (code != IOX2PS_OK) return error_of(code);
+    return answer != 0;
+  }
 
   /* Makes them again as long as their code says that the port still waits, each time when something came that may help. */
   template <typename Call>
@@ -601,6 +613,46 @@ public:
     }));
   }
 
+  /** Names its connection to the subscriber with this id by a number for the two calls below, or is none where it has no
+   * such connection. An update or a send makes them. */
+  Result<std::optional<std::size_t>> get_connection_id_of(Id receiver_port_id) const {
+    if (!hold_) return Error::NotLive;
+    iox2ps_wide_t receiver = {receiver_port_id.low, receiver_port_id.high};
+    std::size_t connection = 0;
+    iox2ps_status_t code = hold_.ask([&](iox2ps_domain_t *domain) {
+      return iox2ps_publisher_get_connection_id_of(domain, &port_, &receiver, &connection);
+    });
+    if (code == IOX2PS_NO_CONNECTION) return std::optional<std::size_t>();
+    if (code != IOX2PS_OK) return detail::error_of(code);
+    return std::optional<std::size_t>(connection);
+  }
+
+  /** Whether a channel is in this state at one of its connections; it isn't where there is no such connection. A connection
+   * has one channel, number 0: Error::NoSuchChannel for another. */
+  Result<bool> has_channel_state(std::size_t channel, std::size_t connection, std::uint64_t state) const {
+    return hold_.told([&](iox2ps_domain_t *domain, std::uint32_t *answer) {
+      return iox2ps_publisher_has_channel_state(domain, &port_, channel, connection, state, answer);
+    });
+  }
+
+  /** Whether a channel is in this state at one of its connections, and a disconnect was hinted there. Answers as
+   * has_channel_state. */
+  Result<bool> has_disconnect_hint(std::size_t channel, std::size_t connection, std::uint64_t state) const {
+    return hold_.told([&](iox2ps_domain_t *domain, std::uint32_t *answer) {
+      return iox2ps_publisher_has_disconnect_hint(domain, &port_, channel, connection, state, answer);
+    });
+  }
+
+  /** Closes a channel at one of its connections, if it is in the expected state there, so that it takes no message. A send
+   * that waits for it goes past it when it is tried again. Where there is no such connection nothing is done.
+   * Error::NoSuchChannel. */
+  Done close_channel(std::size_t channel, std::size_t connection, std::uint64_t expected) {
+    if (!hold_) return Error::NotLive;
+    return detail::done(hold_.call(only(Waits::Room), [&](iox2ps_domain_t *domain) {
+      return iox2ps_publisher_close_channel(domain, &port_, channel, connection, expected);
+    }));
+  }
+
   /** Closes it, or lets it close when a send of it that waits has ended. */
   void close() {
     if (!hold_) return;
@@ -774,13 +826,9 @@ public:
 
   /** Whether a message waits, also one that can't be received yet. */
   Result<bool> has_samples() {
-    if (!hold_) return Error::NotLive;
-    std::uint32_t waits = 0;
-    iox2ps_status_t code = hold_.ask([&](iox2ps_domain_t *domain) {
-      return iox2ps_subscriber_has_samples(domain, &port_, &waits);
+    return hold_.told([&](iox2ps_domain_t *domain, std::uint32_t *waits) {
+      return iox2ps_subscriber_has_samples(domain, &port_, waits);
     });
-    if (code != IOX2PS_OK) return detail::error_of(code);
-    return waits != 0;
   }
 
   /** Makes the connections with publishers that came, as each receive does first. */
@@ -788,6 +836,41 @@ public:
     if (!hold_) return Error::NotLive;
     return detail::done(hold_.ask([&](iox2ps_domain_t *domain) {
       return iox2ps_subscriber_update_connections(domain, &port_);
+    }));
+  }
+
+  /** Whether a channel is in this state at some connection of it; it isn't where it has none. A connection has one channel,
+   * number 0: Error::NoSuchChannel for another. */
+  Result<bool> at_least_one_channel_has_state(std::size_t channel, std::uint64_t state) const {
+    return hold_.told([&](iox2ps_domain_t *domain, std::uint32_t *answer) {
+      return iox2ps_subscriber_at_least_one_channel_has_state(domain, &port_, channel, state, answer);
+    });
+  }
+
+  /** Brings a channel into this state at each connection of it where it is closed, so that it takes messages again. Whether
+   * it was closed at all of them, and so true where there is none. Where it isn't closed it stays as it is.
+   * Error::NoSuchChannel. */
+  Result<bool> set_channel_state(std::size_t channel, std::uint64_t state) {
+    return hold_.told([&](iox2ps_domain_t *domain, std::uint32_t *were_closed) {
+      return iox2ps_subscriber_set_channel_state(domain, &port_, channel, state, were_closed);
+    });
+  }
+
+  /** Closes a channel at each connection of it where it is in the expected state: it takes no message there, and what
+   * waits is received all the same. Error::NoSuchChannel. */
+  Done close_channel(std::size_t channel, std::uint64_t expected) {
+    if (!hold_) return Error::NotLive;
+    return detail::done(hold_.call(only(Waits::Room), [&](iox2ps_domain_t *domain) {
+      return iox2ps_subscriber_close_channel(domain, &port_, channel, expected);
+    }));
+  }
+
+  /** Hints at each connection of it, where a channel is in the expected state, that it is about to disconnect. The hint goes
+   * with the next change of the state. Error::NoSuchChannel. */
+  Done set_disconnect_hint(std::size_t channel, std::uint64_t expected) {
+    if (!hold_) return Error::NotLive;
+    return detail::done(hold_.ask([&](iox2ps_domain_t *domain) {
+      return iox2ps_subscriber_set_disconnect_hint(domain, &port_, channel, expected);
     }));
   }
 

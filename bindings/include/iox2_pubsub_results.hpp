@@ -75,6 +75,8 @@ enum class Error : std::uint32_t {
   /** No id is left for a port. */
   SubscriberUnableToCreatePortTag = IOX2PS_SUBSCRIBER_CREATE_ERROR_UNABLE_TO_CREATE_PORT_TAG,
 
+  NoSuchChannel = IOX2PS_NO_SUCH_CHANNEL, /**< a connection has no channel with this number */
+
   /** The system has no file descriptor left. */
   NoDescriptor = 0xfffffffeu,
   /** The program is linked to the archive of another version than that of these headers. */

@@ -153,7 +153,8 @@ inline bool waits_on(Waits what, iox2ps_status_t code) {
 
 /* Whether a call that returned this may have changed something. */
 inline bool may_change(iox2ps_status_t code) {
-  return code != IOX2PS_NOT_LIVE && code != IOX2PS_NO_SAMPLE && code != IOX2PS_PUBLISHER_IS_BLOCKED;
+  return code != IOX2PS_NOT_LIVE && code != IOX2PS_NO_SAMPLE && code != IOX2PS_PUBLISHER_IS_BLOCKED
+      && code != IOX2PS_NO_SUCH_CHANNEL;
 }
 
 template <typename Lock, typename = void> constexpr bool wakes_all = false;

@@ -2,6 +2,7 @@
 import importlib.machinery
 import importlib.util
 import re
+import resource
 import shutil
 import sys
 import tarfile
@@ -17,7 +18,7 @@ from .steps import Failed, said
 CRATE = "iox2_pubsub"
 PARTS = ("src", "specs", "proofs")
 EXAMPLE = "thermometer"
-# Within how many seconds a user's crate has to be proved over what is packed. From nothing it takes a quarter of an hour.
+# Within how many seconds of a processor a user's crate has to be proved over what is packed. From nothing it takes 34 minutes of it.
 MOST_SECONDS = 120
 
 READ_ME = """\
@@ -121,6 +122,12 @@ def stamps(top):
     return {name: (top / "crates" / name / "out/rlib/stamp").stat().st_mtime_ns for name in crates_below(CRATE)}
 
 
+def processor_seconds():
+    """What the commands that have ended took of a processor: other programs on the machine make it no longer."""
+    used = resource.getrusage(resource.RUSAGE_CHILDREN)
+    return used.ru_utime + used.ru_stime
+
+
 def is_taken_over(work, packed):
     """A user's crate is proved over it in a new repository, and no crate of the library is."""
     top = work / "user"
@@ -131,13 +138,13 @@ def is_taken_over(work, packed):
     (top / "crates.txt").write_text((top / "iox2_pubsub/lines.txt").read_text() + f"{EXAMPLE}: {CRATE}\n")
     (top / ".git").mkdir()
     said("sha256sum", "--check", "--quiet", f"iox2_pubsub/{SUMS}", cwd=top)
-    before, started = stamps(top), time.monotonic()
+    before, started, used = stamps(top), time.monotonic(), processor_seconds()
     written = said("rt", "check", cwd=top / "crates" / EXAMPLE)
-    seconds = time.monotonic() - started
+    seconds, used = time.monotonic() - started, processor_seconds() - used
     if not re.search(r"^logic=proved ", written, re.M):
         raise Failed(written[-3000:])
     if stamps(top) != before:
         raise Failed(f"a crate of the library was built anew:\n{written[-3000:]}")
-    if seconds > MOST_SECONDS:
-        raise Failed(f"it took {seconds:.0f} seconds, more than {MOST_SECONDS}")
-    return f"{EXAMPLE} is proved over it in {seconds:.0f} s"
+    if used > MOST_SECONDS:
+        raise Failed(f"it took {used:.0f} seconds of a processor, more than {MOST_SECONDS}")
+    return f"{EXAMPLE} is proved over it in {seconds:.0f} s, {used:.0f} s of a processor; no crate of the library is"

@@ -1,4 +1,4 @@
-"""100,000 random calls beside `run`, and pointers that lead elsewhere, which the tests have to see."""
+"""100,000 random calls beside `run`, as many on channels beside a model, and pointers that lead elsewhere, which the tests have to see."""
 import subprocess
 
 from .places import BINDINGS, is_here
@@ -43,6 +43,16 @@ def run_random_calls(steps, work, script_of_run):
         grind = compile_program("gcc", "c/random_calls.c", "c11", work / "grind", "-O1", "-g")
         files = (work / "script", work / "replies")
         steps.run("c/random_calls.c, valgrind", said, *GRIND, *NOTHING_LEFT, grind, 11, 2000, *files)
+
+
+def run_random_channels(steps, work):
+    """The program that has a model of its own, in the same way. Half of its calls are on channels."""
+    program = compile_program("gcc", "c/random_channels.c", "c11", work / "random_channels", "-O1", *SANITIZERS)
+    for seed in SEEDS:
+        steps.run(f"c/random_channels.c, sanitizers, seed {seed}", said, program, seed, 20000)
+    if is_here("valgrind"):
+        grind = compile_program("gcc", "c/random_channels.c", "c11", work / "grind", "-O1", "-g")
+        steps.run("c/random_channels.c, valgrind", said, *GRIND, *NOTHING_LEFT, grind, 11, 2000)
 
 
 def with_fault(work, name, fault):

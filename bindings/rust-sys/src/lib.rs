@@ -63,11 +63,16 @@ pub const SUBSCRIBER_CREATE_ERROR_EXCEEDS_MAX_SUPPORTED_SUBSCRIBERS: u32 = 60;
 pub const SUBSCRIBER_CREATE_ERROR_BUFFER_SIZE_EXCEEDS_MAX: u32 = 61;
 pub const SUBSCRIBER_CREATE_ERROR_FAILED_TO_DEPLOY_THREADSAFETY_POLICY: u32 = 62;
 pub const SUBSCRIBER_CREATE_ERROR_UNABLE_TO_CREATE_PORT_TAG: u32 = 63;
+pub const NO_SUCH_CHANNEL: u32 = 70;
+pub const NO_CONNECTION: u32 = 71;
 pub const WARNING_EXPIRED_BUFFER_RAISED: u32 = 100;
 pub const WARNING_PUBLISHER_PARTLY_CONNECTED: u32 = 101;
 pub const WARNING_SUBSCRIBER_PARTLY_CONNECTED: u32 = 102;
 pub const WARNING_CONNECTION_NOT_MADE: u32 = 103;
 pub const WARNING_EXPIRED_DATA_DISCARDED: u32 = 104;
+
+pub const CHANNEL_STATE_OPEN: u64 = 0;
+pub const CHANNEL_STATE_CLOSED: u64 = u64::MAX;
 
 #[repr(C)]
 pub struct Domain {
@@ -335,4 +340,59 @@ extern "C" {
         header: *mut Header,
     ) -> u32;
     pub fn iox2ps_sample_release(domain: *mut Domain, sample: *const Sample) -> u32;
+    pub fn iox2ps_subscriber_at_least_one_channel_has_state(
+        domain: *mut Domain,
+        subscriber: *const Subscriber,
+        channel: usize,
+        state: u64,
+        has_state: *mut u32,
+    ) -> u32;
+    pub fn iox2ps_publisher_get_connection_id_of(
+        domain: *mut Domain,
+        publisher: *const Publisher,
+        receiver_port_id: *const Wide,
+        connection: *mut usize,
+    ) -> u32;
+    pub fn iox2ps_publisher_has_channel_state(
+        domain: *mut Domain,
+        publisher: *const Publisher,
+        channel: usize,
+        connection: usize,
+        state: u64,
+        has_state: *mut u32,
+    ) -> u32;
+    pub fn iox2ps_publisher_has_disconnect_hint(
+        domain: *mut Domain,
+        publisher: *const Publisher,
+        channel: usize,
+        connection: usize,
+        state: u64,
+        has_hint: *mut u32,
+    ) -> u32;
+    pub fn iox2ps_publisher_close_channel(
+        domain: *mut Domain,
+        publisher: *const Publisher,
+        channel: usize,
+        connection: usize,
+        expected: u64,
+    ) -> u32;
+    pub fn iox2ps_subscriber_set_channel_state(
+        domain: *mut Domain,
+        subscriber: *const Subscriber,
+        channel: usize,
+        state: u64,
+        were_closed: *mut u32,
+    ) -> u32;
+    pub fn iox2ps_subscriber_close_channel(
+        domain: *mut Domain,
+        subscriber: *const Subscriber,
+        channel: usize,
+        expected: u64,
+    ) -> u32;
+    pub fn iox2ps_subscriber_set_disconnect_hint(
+        domain: *mut Domain,
+        subscriber: *const Subscriber,
+        channel: usize,
+        expected: u64,
+    ) -> u32;
 }

@@ -163,6 +163,14 @@ errors! {
     }
 }
 
+errors! {
+    /// Why nothing was asked of a channel. This library's own.
+    ChannelError {
+        /// A connection has no channel with this number.
+        NoSuchChannel = NO_SUCH_CHANNEL,
+    }
+}
+
 /// Why a message wasn't sent, or not to everybody.
 #[non_exhaustive]
 #[derive(Clone, Copy, Debug, PartialEq, Eq, Hash)]

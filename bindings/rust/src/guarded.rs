@@ -288,9 +288,10 @@ fn brought_by(brings: Brings, code: u32) -> Brings {
         sys::BLOCKED => brings.only(Brings::MESSAGE),
         // An update may have been made for it.
         sys::LOAN_ERROR_OUT_OF_MEMORY => brings.only(Brings::MESSAGE),
-        sys::LOAN_ERROR_EXCEEDS_MAX_LOANS | sys::NOT_LIVE | sys::PUBLISHER_IS_BLOCKED => {
-            Brings::NOTHING
-        }
+        sys::LOAN_ERROR_EXCEEDS_MAX_LOANS
+        | sys::NOT_LIVE
+        | sys::NO_SUCH_CHANNEL
+        | sys::PUBLISHER_IS_BLOCKED => Brings::NOTHING,
         _ => brings,
     }
 }

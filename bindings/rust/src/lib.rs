@@ -77,6 +77,7 @@
 //!   be a panic of this crate.
 #![deny(missing_docs, missing_debug_implementations)]
 
+mod channels;
 #[cfg(feature = "dds")]
 pub mod dds;
 mod desk;
@@ -108,10 +109,11 @@ mod writer;
 
 pub(crate) use iox2_pubsub_sys as sys;
 
+pub use channels::{CHANNEL_STATE_CLOSED, CHANNEL_STATE_OPEN};
 pub use domain::{Domain, DomainBuilder, SharedDomain};
 pub use errors::{
-    ConnectionFailure, DomainCreateError, LoanError, PublisherCreateError, ReceiveError, SendError,
-    SubscriberCreateError,
+    ChannelError, ConnectionFailure, DomainCreateError, LoanError, PublisherCreateError,
+    ReceiveError, SendError, SubscriberCreateError,
 };
 pub use events::Receive;
 pub use header::Header;

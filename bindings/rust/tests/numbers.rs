@@ -515,6 +515,7 @@ fn each_code_has_a_text_that_no_other_has() {
         .chain(44..=47)
         .chain(50..=53)
         .chain(60..=63)
+        .chain(70..=71)
         .chain(100..=104);
     let codes: HashSet<u32> = codes.collect();
     let no_code = text(u32::MAX);

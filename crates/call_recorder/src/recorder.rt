@@ -53,8 +53,9 @@ impl Recorder {
         }
     }
 
-    // One command more isn't kept.
-    fn miss(&mut self)
+    /// One command more isn't kept, and none after it: what is kept would be no run without it. A call is
+    /// missed so for which there is no command.
+    pub fn miss(&mut self)
         ensures missed { self.new.missed ≢ 0 }
         ensures commands { self.new.commands.items ≡ self.old.commands.items }
         ensures replies { self.new.replies.items ≡ self.old.replies.items }

@@ -3,4 +3,5 @@ mod DomainBoxSteps
 mod BecomesSteps
 mod CreationSteps
 mod LoanSteps
+mod ChannelSteps
 mod TextsOfErrors

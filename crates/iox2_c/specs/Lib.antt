@@ -1,5 +1,6 @@
 pub mod Serving
 pub mod Holding
+pub mod Lending
 pub mod Boxed
 pub mod Numbers
 pub mod Codes
@@ -9,3 +10,4 @@ pub mod Calls
 pub mod Warnings
 pub mod Steps
 pub mod Returns
+pub mod Channels

@@ -88,6 +88,12 @@ subscriber_text n =
     (cond (nat_eq n 62) (subscriber_create_error_text subscriber.FailedToDeployThreadsafetyPolicy)
     (cond (nat_eq n 63) (subscriber_create_error_text subscriber.UnableToCreatePortTag) unknown_text)))
 
+-- A call on a channel.
+abbrev pub channel_text : ℕ → List ℕ
+channel_text n =
+    cond (nat_eq n 70) (codes "a connection has no channel with this number")
+    (cond (nat_eq n 71) (codes "the publisher has no connection to that subscriber") unknown_text)
+
 -- A warning's kind.
 abbrev pub warning_text : ℕ → List ℕ
 warning_text n =
@@ -106,7 +112,8 @@ text_numbered n =
     (cond (nat_eq (n / 10) 3) (receive_text n)
     (cond (nat_eq (n / 10) 4) (failure_text n)
     (cond (nat_eq (n / 10) 5) (publisher_text n)
-    (cond (nat_eq (n / 10) 6) (subscriber_text n) (warning_text n)))))))
+    (cond (nat_eq (n / 10) 6) (subscriber_text n)
+    (cond (nat_eq (n / 10) 7) (channel_text n) (warning_text n))))))))
 
 -- A text with the zero byte that ends it for C.
 abbrev pub ended : List ℕ → List ℕ

@@ -1,6 +1,8 @@
 //! The calls on a domain, by numbers: each tests what the numbers name, and changes nothing where
 //! that isn't live.
 
+pub mod channel_changes;
+pub mod channels;
 pub mod loans;
 pub mod publishers;
 pub mod questions;

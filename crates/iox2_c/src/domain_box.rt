@@ -31,6 +31,9 @@ impl Model for DomainBox {
 }
 
 impl DomainBox {
+    ghost use Rattle.std.specs.Borrow.{sem};
+    ghost use Rattle.iox2_c.specs.Lending.{LendsService};
+
     fn empty(alloc: Global) -> DomainBox
         ensures { result.service ≡ None }
     {
@@ -61,6 +64,19 @@ impl DomainBox {
                 at: at as *mut Service,
                 alloc,
             })
+        }
+    }
+
+    /// The domain in the box, where there is one, to be called there.
+    pub fn service(&mut self) -> Option<&mut Service>
+        ensures* lends { sem 𝓛 (LendsService self.entry result) }
+        ensures value { MatchOption result (self.old.service ≡ None) (λ service. self.old.service ≡ Some service.now) }
+    {
+        let at = self.at;
+        if at.is_null() {
+            None
+        } else {
+            Some(unsafe { &mut *(at as *mut Service) })
         }
     }
 

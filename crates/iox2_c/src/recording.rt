@@ -49,6 +49,13 @@ impl Recording {
         }
     }
 
+    /// A call was made for which there is no command: the recording ends before it.
+    pub fn end(&mut self) {
+        if let Some(recorder) = &mut self.recorder {
+            recorder.miss();
+        }
+    }
+
     /// The text of the recording, of a domain with these settings: nothing where nothing is recorded.
     ///
     /// `AllocError` where there is no memory for it.

@@ -27,6 +27,10 @@ pub const PUBLISHER_IS_BLOCKED: u32 = 7;
 pub const INVALID_SETTINGS: u32 = 8;
 /// The message is longer than the room for it.
 pub const TOO_SMALL: u32 = 9;
+/// A connection has no channel with this number.
+pub const NO_SUCH_CHANNEL: u32 = 70;
+/// The publisher has no connection to that subscriber.
+pub const NO_CONNECTION: u32 = 71;
 
 /// The code of a refused loan.
 pub fn loan_status(error: LoanError) -> u32

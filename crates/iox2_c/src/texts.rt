@@ -1,6 +1,6 @@
 //! The texts of codes. Each ends in a zero byte, as C's do.
 ghost use Rattle.std.specs.Prelude.{◌≡◌};
-ghost use Rattle.iox2_c.specs.Texts.{IsTextOfErrors, call_text, ended, failure_text, loan_text, publisher_text, receive_text, send_text, subscriber_text, text_numbered, warning_text};
+ghost use Rattle.iox2_c.specs.Texts.{IsTextOfErrors, call_text, channel_text, ended, failure_text, loan_text, publisher_text, receive_text, send_text, subscriber_text, text_numbered, warning_text};
 
 /// The text of a code, or of the kind of a warning.
 #[tactic(auto, using(crate::proofs::TextsOfErrors::texts_of_errors))]
@@ -16,6 +16,7 @@ pub fn text_of(code: u32) -> &'static [u8]
         4 => text_of_failure(code),
         5 => text_of_publisher(code),
         6 => text_of_subscriber(code),
+        7 => text_of_channel(code),
         _ => text_of_warning(code),
     }
 }
@@ -121,6 +122,16 @@ fn text_of_subscriber(code: u32) -> &'static [u8]
         61 => b"SubscriberCreateError::BufferSizeExceedsMaxSupportedBufferSizeOfService\0",
         62 => b"SubscriberCreateError::FailedToDeployThreadsafetyPolicy\0",
         63 => b"SubscriberCreateError::UnableToCreatePortTag\0",
+        _ => UNKNOWN,
+    }
+}
+
+fn text_of_channel(code: u32) -> &'static [u8]
+    ensures { result.now ≡ ended (channel_text code) }
+{
+    match code {
+        70 => b"a connection has no channel with this number\0",
+        71 => b"the publisher has no connection to that subscriber\0",
         _ => UNKNOWN,
     }
 }

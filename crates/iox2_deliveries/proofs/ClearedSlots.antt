@@ -1,5 +1,5 @@
 -- The slots of a book that nobody holds are cleared, and more slots stand behind them.
-use Rattle.std.proofs.Common.{◌≡◌, ℕ, ◌+◌, ◌-◌, ◌<◌, List, length, Bool, true, false, get_or, refl, ap, sym, subst, ◌∙◌, inl, inr, arith}
+use Rattle.std.proofs.Common.{◌≡◌, ℕ, ◌+◌, ◌-◌, ◌<◌, List, length, Bool, true, false, get_or, ap, sym, subst, ◌∙◌, inl, inr, arith}
 use Rattle.std.proofs.lemmas.Bool.{cases_eq}
 use Rattle.std.proofs.lemmas.List.{length-append, length-set}
 use Rattle.std.proofs.lemmas.List.Elements.{All-append, All-set}
@@ -14,10 +14,6 @@ use Rattle.iox2_domain.specs.Growth.{ClearsUnused, GrowsContents}
 use Rattle.iox2_domain.proofs.lemmas.slots.Messages.{in_use_within}
 
 module _ {T U : Type 0} (b : Book) (end : ℕ) where
-  -- nothing is cleared yet
-  pub clears-none : (contents : List (ContentState T U)) → ClearsUnused b end contents contents
-  clears-none contents = record { count = refl; kept = λ slot either. refl; forms = λ all. all; cells = λ all. all }
-
   -- one slot more is cleared
   pub clears-next : (old mid new : List (ContentState T U)) (slot : ℕ) → ClearsUnused b end old mid → holders_at b slot ≡ 0 → slot < end → ClearsSlot mid new slot → ClearsUnused b end old new
   clears-next old mid new slot before unused low clears = record {

@@ -1,6 +1,7 @@
 mod StaticPass
 mod LoanPass
 mod ClearedSlots
+mod FilledSlots
 mod CountedPass
 mod ReadyPass
 mod GrowthPass

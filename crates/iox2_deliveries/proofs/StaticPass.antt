@@ -40,14 +40,6 @@ reclaims-nothing p hs slab = record {
   shrinks = λ slot. omega arith;
 }
 
--- the publisher that stands there is static
-pub its-static : {T U : Type 0} (before f : Fields T U) → f ≡ before → (i : ℕ) (x : PublisherFields) → get_or f.publishers i None ≡ Some x
-    → ((y : PublisherFields) × (get_or before.publishers i None ≡ Some y) × (is_static y.allocation ≡ true)) → is_static x.allocation ≡ true
-its-static {T} {U} before f same i x at given =
-    let found : Some given.0 ≡ Some x = sym given.1 ∙ ap (λ (h : Fields T U). get_or h.publishers i None) (sym same) ∙ at in
-    let is : given.0 ≡ x = cc in
-    subst (λ (y : PublisherFields). is_static y.allocation ≡ true) is given.2
-
 module _ {T U : Type 0} (before f : Fields T U) (same : f ≡ before) (agrees : IsDomain before) (i : ℕ) (x : PublisherFields) (at : get_or f.publishers i None ≡ Some x)
     (b book : Book) (its : get f.books x.book ≡ Some b) (links : Slab Link) (is : book ≡ with_counters b book.holders)
     (z : PublisherFields) (view : x ≡ z) (r : Reclaims z.id b.holders f.connections book.holders links) (checks : Bool) (len : ℕ) (static : is_static x.allocation ≡ true) where

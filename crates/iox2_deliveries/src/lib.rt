@@ -9,6 +9,7 @@ mod blocked_sends;
 mod contents;
 mod deliveries;
 mod discards;
+mod fills;
 mod growing_loans;
 mod growth;
 mod loan_calls;
@@ -21,6 +22,7 @@ pub use blocked_sends::{give_up_send, has_blocked_send, is_waiting, retry_send};
 pub use contents::{cell_at_mut, cells_at_mut, user_header_at_mut, value_at_mut, values_at_mut};
 pub use deliveries::{has_handler_at, send_ready, send_unasked};
 pub use discards::discard_loan;
+pub use fills::{fill_from_fn, fill_unspecified};
 pub use loan_calls::{
     assume_loan, loan_cell, loan_cells, loan_header, loan_user_header, loan_value, loan_values,
     write_loan, write_loan_from_fn, write_loan_from_slice, write_loan_unspecified,

@@ -73,9 +73,13 @@ module _ {T U : Type 0} where
   abbrev pub messages_in : Book → List (ContentState T U) → List (Option (KeptMessage T U))
   messages_in book contents = map_from (λ slot holders. message_in book contents slot) 0 book.holders
 
+  -- The contents of a book, or none where it has none.
+  abbrev pub contents_in : Option (List (ContentState T U)) → List (ContentState T U)
+  contents_in o = elim o [ None ↦ [] | Some cs ↦ cs ]
+
   -- The contents at a book's key, or none.
   abbrev pub contents_at : List (Option (List (ContentState T U))) → (key : ℕ) → List (ContentState T U)
-  contents_at contents key = elim (slice_index_or contents key None) [ None ↦ [] | Some cs ↦ cs ]
+  contents_at contents key = contents_in (slice_index_or contents key None)
 
   -- What is kept of the book at a key.
   abbrev pub kept_book : List (Option (List (ContentState T U))) → (key : ℕ) → Option Book → Option (KeptBook T U)

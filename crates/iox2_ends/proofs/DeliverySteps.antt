@@ -21,7 +21,7 @@ use Rattle.iox2_ends.specs.declared.sender.Delivery.{Delivery}
 use Rattle.iox2_ends.specs.declared.sender.Reception.{Reception}
 use Rattle.iox2_ends.specs.declared.sender.DeliveryOutcome.{DeliveryOutcome}
 use Rattle.iox2_ends.specs.LookUp.{look_up, IsOnly}
-use Rattle.iox2_ends.specs.Mailboxes.{mailbox_of, mailboxes_of, channels_of, channels_in, subscriber_of_key, sender_ends}
+use Rattle.iox2_ends.specs.Mailboxes.{mailbox_of, mailboxes_of, subscriber_of_key, sender_ends}
 use Rattle.iox2_ends.specs.Homes.{IsApart, SameHomes, KeepsOthers, IsSenders, IsSenderLinked, fixed_of}
 use Rattle.iox2_ends.specs.Receivers.{has_id, buffer_if_open, buffers_of, taking_buffers, is_open_one, is_open_at, takes_at, KnowsReceivers, IsReadyToDeliver}
 use Rattle.iox2_ends.specs.Handlers.{marks_of}

@@ -1,11 +1,11 @@
 -- A publisher that leaves lets go of its slots, one after the other.
-use Rattle.std.proofs.Common.{◌≡◌, ℕ, ◌+◌, ◌<◌, ◌≤◌, List, ◌∷◌, length, drop, get_or, ap, ◌∙◌, arith, add-one, drop-cons, suc}
+use Rattle.std.proofs.Common.{◌≡◌, ℕ, ◌+◌, ◌<◌, ◌≤◌, List, length, drop, get_or, ◌∙◌, arith}
 use Rattle.std.proofs.lemmas.List.{length-set}
-use Rattle.std.proofs.lemmas.Option.{slice_get_within, get_or_from_slice_get}
 use Rattle.std.specs.Prelude.{slice_get}
 use Rattle.std.specs.declared.option.Option.TheVariants.{Some}
 use Rattle.iox2_ends.specs.Counters.{times, one_holder_less}
-use Rattle.iox2_ends.proofs.Counts.{one_if, one_if_same, times-cons, get_or-one_holder_less}
+use Rattle.iox2_ends.proofs.Counts.{one_if_same, get_or-one_holder_less}
+use Rattle.iox2_ends.proofs.SplitLists.{times-split}
 
 -- ---- a history is given up
 
@@ -16,19 +16,13 @@ pub record GivesUpTo (slots holders : List ℕ) (index : ℕ) (holders' : List �
 
 module _ (slots holders : List ℕ) (index slot : ℕ) (holders' : List ℕ) (h : GivesUpTo slots holders index holders') (at : slice_get slots index ≡ Some slot)
     (covered : (s : ℕ) → times s slots ≤ get_or holders s 0) where
-  split : drop index slots ≡ slot ∷ drop (index + 1) slots
-  split = rw add-one (drop-cons slots index 0 (slice_get_within slots index slot at) ∙ ap (λ x. x ∷ drop (suc index) slots) (get_or_from_slice_get slots index slot 0 at))
-
-  more : (s : ℕ) → times s (drop index slots) ≡ one_if s slot + times s (drop (index + 1) slots)
-  more s = ap (times s) split ∙ times-cons s slot (drop (index + 1) slots)
-
   -- the next slot has a holder
   pub next-held : 0 < get_or holders' slot 0
-  next-held = omega (arith, h.counters slot, more slot, one_if_same slot, covered slot)
+  next-held = omega (arith, h.counters slot, times-split slots index slot at slot, one_if_same slot, covered slot)
 
   -- it is given up
   pub next-given : GivesUpTo slots holders (index + 1) (one_holder_less slot holders')
   next-given = record {
-    counters = λ s. omega (arith, h.counters s, more s, get_or-one_holder_less holders' slot s next-held);
+    counters = λ s. omega (arith, h.counters s, times-split slots index slot at s, get_or-one_holder_less holders' slot s next-held);
     kept = length-set holders' slot _ ∙ h.kept;
   }

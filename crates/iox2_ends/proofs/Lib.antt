@@ -1,6 +1,7 @@
 pub mod LookUps
 pub mod MailboxChanges
 pub mod Counts
+pub mod SplitLists
 pub mod DeliverySteps
 pub mod Releases
 pub mod TakeSteps

@@ -7,14 +7,14 @@ use Rattle.std.proofs.lemmas.List.{drop_all, drop_more, get_or_read}
 use Rattle.std.proofs.lemmas.List.Folds.{list_any-append}
 use Rattle.slab.specs.Slab.{Slab, get}
 use Rattle.iox2_slots.specs.Link.{Link}
-use Rattle.iox2_store.specs.machine.Channel.{Channel, is_in_state, is_hinted}
-use Rattle.iox2_store.specs.machine.ChannelCalls.{connection_place, has_channel_state, has_disconnect_hint, place_from, some_channel_has_state}
+use Rattle.iox2_store.specs.machine.Channel.{Channel, is_in_state}
+use Rattle.iox2_store.specs.machine.ChannelCalls.{connection_place, place_from, some_channel_has_state}
 use Rattle.iox2_store.specs.machine.Places.{is_port, occupant, occupants}
 use Rattle.iox2_store.specs.machine.Records.{Publisher, Subscriber}
 use Rattle.iox2_store.specs.machine.State.{connected_publishers}
 use Rattle.iox2_ends.specs.Finds.{IsReceivers, IsReceiverLinked}
-use Rattle.iox2_ends.specs.Homes.{IsApart, IsSenders, IsSenderLinked}
-use Rattle.iox2_ends.specs.Mailboxes.{channels_in, channels_of, receiver_ends, sender_ends, subscriber_of_key}
+use Rattle.iox2_ends.specs.Homes.{IsApart, IsSenders}
+use Rattle.iox2_ends.specs.Mailboxes.{channels_in, receiver_ends, sender_ends, subscriber_of_key}
 use Rattle.iox2_ends.proofs.MailboxChanges.{channels-there, within_if_some}
 use Rattle.iox2_domain.specs.Fields.{Fields, kept_of}
 use Rattle.iox2_domain.specs.Invariant.{IsDomain}
@@ -24,7 +24,7 @@ use Rattle.iox2_domain.specs.Updates.{sender_key}
 use Rattle.iox2_domain.proofs.lemmas.fields.ConnectionEnds.{occupant-sender_ends, publisher-stands, subscriber-stands}
 use Rattle.iox2_domain.proofs.lemmas.fields.KeptChannels.{channels-are}
 use Rattle.iox2_domain.proofs.lemmas.receives.ReceiptSteps.{HasKeys, same-one}
-use Rattle.iox2_messages.specs.KeyChannels.{key_in_state, key_hinted, some_in_state}
+use Rattle.iox2_messages.specs.KeyChannels.{key_in_state, some_in_state}
 
 -- ---- walks over keys
 

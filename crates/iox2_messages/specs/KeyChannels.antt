@@ -1,6 +1,6 @@
 -- How the channel of a connection stands to which a key leads.
-use Rattle.std.specs.Prelude.{ℕ, Bool, false, List}
-use Rattle.std.specs.List.{list_any}
+use Rattle.std.specs.Prelude.{ℕ, Bool, true, false, List}
+use Rattle.std.specs.List.{list_all, list_any}
 use Rattle.std.specs.Option.{option_and_then, option_map_or}
 use Rattle.std.specs.declared.option.Option.{Option}
 use Rattle.slab.specs.Slab.{Slab, get}
@@ -18,3 +18,11 @@ key_hinted connections state key = option_map_or (λ (c : Link). is_hinted state
 -- One of the keys leads to such a connection.
 abbrev pub some_in_state : Slab Link → (state : ℕ) → List (Option ℕ) → Bool
 some_in_state connections state keys = list_any (key_in_state connections state) keys
+
+-- The key leads to no connection whose channel is in another state.
+abbrev pub key_in_no_other : Slab Link → (state : ℕ) → Option ℕ → Bool
+key_in_no_other connections state key = option_map_or (λ (c : Link). is_in_state state c.channel) (option_and_then (get connections) key) true
+
+-- None of the keys leads to one whose channel is in another state.
+abbrev pub all_in_state : Slab Link → (state : ℕ) → List (Option ℕ) → Bool
+all_in_state connections state keys = list_all (key_in_no_other connections state) keys

@@ -1,2 +1,3 @@
--- Words of sends, receives and questions.
+-- Words of sends, receives and questions, and of what ports ask about channels and change of them.
+pub mod ChannelChanges
 pub mod KeyChannels

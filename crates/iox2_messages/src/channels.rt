@@ -1,13 +1,15 @@
 //! What ports are told of the channels of their connections. Nothing changes by it.
 ghost use Rattle.std.specs.Prelude.{◌≡◌, None, Some, map, slice_index_or};
-ghost use Rattle.iox2_store.specs.machine.ChannelCalls.{connection_place, has_channel_state, has_disconnect_hint, place_from, some_channel_has_state};
+ghost use Rattle.std.specs.List.{list_all};
+ghost use Rattle.iox2_store.specs.machine.Channel.{is_in_state as is_channel_in};
+ghost use Rattle.iox2_store.specs.machine.ChannelCalls.{connection_place, has_channel_state, has_disconnect_hint, place_from, senders_of, some_channel_has_state};
 ghost use Rattle.iox2_store.specs.machine.Places.{is_port};
 ghost use Rattle.iox2_ends.specs.Mailboxes.{sender_ends, subscriber_of_key};
 ghost use Rattle.iox2_domain.specs.Fields.{kept_of};
 ghost use Rattle.iox2_domain.specs.Invariant.{IsDomain};
 ghost use Rattle.iox2_domain.specs.Kept.{state_of};
 ghost use Rattle.iox2_domain.specs.Ports.{PublisherFields, SubscriberFields};
-ghost use Rattle.iox2_messages.specs.KeyChannels.{key_in_state, key_hinted, some_in_state};
+ghost use Rattle.iox2_messages.specs.KeyChannels.{all_in_state, key_hinted, key_in_no_other, key_in_state, some_in_state};
 
 use iox2_domain::{DomainState, key_at};
 use iox2_slots::Connection;
@@ -39,6 +41,19 @@ fn is_hinted(connections: &Slab<Connection>, key: Option<usize>, state: u64) -> 
     }
 }
 
+// Whether a key leads to no connection whose channel is in another state.
+fn is_in_no_other(connections: &Slab<Connection>, key: Option<usize>, state: u64) -> bool
+    ensures { result ≡ key_in_no_other connections.now state key }
+{
+    let Some(key) = key else {
+        return true;
+    };
+    let Some(connection) = connections.get(key) else {
+        return true;
+    };
+    connection.channel_state() == state
+}
+
 // Whether one of these keys leads to a connection whose channel is in that state.
 fn some_at_places(connections: &Slab<Connection>, keys: &[Option<usize>], state: u64) -> bool
     ensures { result ≡ some_in_state connections.now state keys.now }
@@ -63,6 +78,30 @@ fn some_expired(connections: &Slab<Connection>, keys: &[usize], state: u64) -> b
     false
 }
 
+// Whether none of these keys leads to a connection whose channel is in another state.
+fn all_at_places(connections: &Slab<Connection>, keys: &[Option<usize>], state: u64) -> bool
+    ensures { result ≡ all_in_state connections.now state keys.now }
+{
+    for place in 0..keys.len() {
+        if !is_in_no_other(connections, keys[place], state) {
+            return false;
+        }
+    }
+    true
+}
+
+// The same, for keys of which each leads to a connection.
+fn all_expired(connections: &Slab<Connection>, keys: &[usize], state: u64) -> bool
+    ensures { result ≡ all_in_state connections.now state (map Some keys.now) }
+{
+    for index in 0..keys.len() {
+        if !is_in_no_other(connections, Some(keys[index]), state) {
+            return false;
+        }
+    }
+    true
+}
+
 /// Whether channel 0 of some connection of the subscriber at a place is in that state.
 ///
 /// iceoryx2's `Receiver::at_least_one_channel_has_state` (`src/port/details/receiver.rs`).
@@ -81,6 +120,27 @@ pub fn some_received_in<T: Drop, U: Default + Drop>(
     };
     some_expired(&state.connections, &subscriber.expired, channel_state)
         || some_at_places(&state.connections, &subscriber.keys, channel_state)
+}
+
+/// Whether channel 0 of each connection of the subscriber at a place is in that state. So it is where
+/// the subscriber has none.
+///
+/// What iceoryx2's `Receiver::set_channel_state` (`src/port/details/receiver.rs`) returns.
+pub fn all_received_in<T: Drop, U: Default + Drop>(
+    state: &DomainState<T, U>,
+    place: usize,
+    channel_state: u64,
+) -> bool
+    requires agrees { IsDomain state.now }
+    requires stands { (y : SubscriberFields) × (slice_index_or state.now.subscribers place None ≡ Some y) }
+    ensures { (y : SubscriberFields) → slice_index_or state.now.subscribers place None ≡ Some y
+        → result ≡ list_all (λ p. is_channel_in channel_state ((state_of (kept_of state.now)).channels p y.id 0)) (senders_of (state_of (kept_of state.now)) y.id) }
+{
+    let Some(subscriber) = &state.subscribers[place] else {
+        unreachable!()
+    };
+    all_expired(&state.connections, &subscriber.expired, channel_state)
+        && all_at_places(&state.connections, &subscriber.keys, channel_state)
 }
 
 // Whether a key leads to a connection with that subscriber.

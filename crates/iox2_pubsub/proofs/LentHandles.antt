@@ -3,23 +3,24 @@ use Rattle.std.proofs.Common.{◌≡◌, ℕ, ◌<◌, List, [], ◌∷◌, map,
 use Rattle.std.proofs.lemmas.List.{length-map}
 use Rattle.std.specs.List.{refill}
 use Rattle.std.specs.declared.option.Option.{Option}
-use Rattle.std.specs.declared.option.Option.TheVariants.{None, Some}
+use Rattle.std.specs.declared.option.Option.TheVariants.{Some}
 use Rattle.iox2_store.specs.declared.header.Header.{Header}
 use Rattle.iox2_store.specs.declared.key.Key.{Key}
 use Rattle.iox2_store.specs.SingleValues.{is_single_valued}
-use Rattle.iox2_contents.specs.SlotContents.{ContentState, with_first_cell, with_first_value, with_user_header as with_header_in, with_cells as with_cells_in, with_values as with_values_in, first_cell_at, first_value_at, cells_at, values_at, user_header_at}
+use Rattle.iox2_contents.specs.SlotContents.{with_first_cell, with_first_value, with_user_header as with_header_in, with_cells as with_cells_in, with_values as with_values_in, first_cell_at, first_value_at, cells_at, values_at, user_header_at}
 use Rattle.iox2_store.specs.machine.Records.{Loan}
 use Rattle.iox2_store.specs.machine.SingleCalls.{HoldsLoan}
 use Rattle.iox2_store.specs.machine.State.{State, Messages, with_loan}
 use Rattle.iox2_domain.specs.Kept.{Kept, state_of, with_loan_changed}
 use Rattle.iox2_domain.specs.Boxes.{DomainBoxes}
-use Rattle.iox2_domain.specs.Fields.{Fields, kept_of, contents_at, keeping}
+use Rattle.iox2_domain.specs.Fields.{Fields, kept_of, contents_at, contents_in, keeping}
 use Rattle.iox2_domain.specs.Invariant.{IsDomain}
 use Rattle.iox2_domain.specs.LoanCalls.{HoldsUnwritten, HoldsWritten, HasCells, HasCell, HasLoanUserHeader, HasContents, HasContentIn, with_content, first_cell_changed, cells_changed, user_header_changed}
 use Rattle.iox2_domain.specs.LoanSlots.{LiesInSlot}
 use Rattle.iox2_domain.specs.Shows.{Shows}
 use Rattle.iox2_domain.proofs.lemmas.loans.LentLoans.{IsLent, header-lent, cell-lent, cells-lent, value-lent, values-lent}
-use Rattle.iox2_domain.proofs.lemmas.loans.LoanCalls.{contents-there, some-at, is-unwritten, is-written, user_header-read, in-lists, cells-listed, cell-some, cell-read, cells-read, value-some, value-read, values-read}
+use Rattle.iox2_domain.proofs.lemmas.slots.BookContents.{contents-there}
+use Rattle.iox2_domain.proofs.lemmas.loans.LoanCalls.{some-at, is-unwritten, is-written, user_header-read, in-lists, cells-listed, cell-some, cell-read, cells-read, value-some, value-read, values-read}
 use Rattle.iox2_pubsub.specs.ChangedLoans.{with_cell, with_cells, with_payload, with_payloads, with_user_header}
 use Rattle.iox2_pubsub.specs.Live.{IsUnwritten, IsWritten, LoanHasHeader, LoanHasUserHeader, A_loan, StaysBut, UpToDateStay, WaitingStays}
 use Rattle.iox2_pubsub.specs.Slices.{HasUnwrittenCells, HasValues}
@@ -188,11 +189,8 @@ values-left s n l out read values has same = cells-left s n l out (map Some read
 -- ---- what lies in a loan's slot may be lent
 
 module _ {T U : Type 0} (f : Fields T U) (sound : IsDomain f) (p n key slot : ℕ) (at : LiesInSlot f p n key slot) where
-  abbrev contents_of : Option (List (ContentState T U)) → List (ContentState T U)
-  contents_of o = elim o [ None ↦ [] | Some zs ↦ zs ]
-
   has : HasContents f key
-  has = contents-there f sound key at.book at.stands
+  has = contents-there f sound.parts key at.book at.stands
 
   -- its user header
   pub header-there : HasContentIn f key slot (λ content. content ≡ content)
@@ -203,7 +201,7 @@ module _ {T U : Type 0} (f : Fields T U) (sound : IsDomain f) (p n key slot : �
 
   pub header-known : (user_header : U) → user_header_at (contents_at f.contents key) slot ≡ Some user_header → HasLoanUserHeader (state_of (kept_of f)) n user_header
   header-known user_header known =
-      user_header-read f sound p n key slot at has.0 has.1 user_header (sym (ap (λ o. user_header_at (contents_of o) slot) has.1) ∙ known)
+      user_header-read f sound p n key slot at has.0 has.1 user_header (sym (ap (λ o. user_header_at (contents_in o) slot) has.1) ∙ known)
 
   -- the value of a written loan
   module _ (out : HoldsWritten (state_of (kept_of f)) p n) where
@@ -219,7 +217,7 @@ module _ {T U : Type 0} (f : Fields T U) (sound : IsDomain f) (p n key slot : �
 
     pub values-known : (values : List T) → values_at (contents_at f.contents key) slot ≡ Some values → HasCells (state_of (kept_of f)) n (map Some values)
     values-known values known =
-        values-read f sound p n key slot at has.0 has.1 (is-written f sound p n key slot at out) values (sym (ap (λ o. values_at (contents_of o) slot) has.1) ∙ known)
+        values-read f sound p n key slot at has.0 has.1 (is-written f sound p n key slot at out) values (sym (ap (λ o. values_at (contents_in o) slot) has.1) ∙ known)
 
     module _ (one : length (at.loan).cells ≡ 1) where
       pub value-there : HasContentIn f key slot (λ content. 0 < length content.values)
@@ -227,7 +225,7 @@ module _ {T U : Type 0} (f : Fields T U) (sound : IsDomain f) (p n key slot : �
 
       pub value-known : (value : T) → first_value_at (contents_at f.contents key) slot ≡ Some value → HasCell (state_of (kept_of f)) n (Some value)
       value-known value known =
-          value-read f sound p n key slot at has.0 has.1 (is-written f sound p n key slot at out) one value (sym (ap (λ o. first_value_at (contents_of o) slot) has.1) ∙ known)
+          value-read f sound p n key slot at has.0 has.1 (is-written f sound p n key slot at out) one value (sym (ap (λ o. first_value_at (contents_in o) slot) has.1) ∙ known)
 
   -- the cell of an unwritten loan
   module _ (out : HoldsUnwritten (state_of (kept_of f)) p n) where
@@ -244,7 +242,7 @@ module _ {T U : Type 0} (f : Fields T U) (sound : IsDomain f) (p n key slot : �
 
     pub cells-known : (cells : List (Option T)) → cells_at (contents_at f.contents key) slot ≡ Some cells → HasCells (state_of (kept_of f)) n cells
     cells-known cells known =
-        cells-read f sound p n key slot at has.0 has.1 (is-unwritten f sound p n key slot at out) cells (sym (ap (λ o. cells_at (contents_of o) slot) has.1) ∙ known)
+        cells-read f sound p n key slot at has.0 has.1 (is-unwritten f sound p n key slot at out) cells (sym (ap (λ o. cells_at (contents_in o) slot) has.1) ∙ known)
 
     module _ (one : length (at.loan).cells ≡ 1) where
       pub cell-there : HasContentIn f key slot (λ content. 0 < length content.cells)
@@ -252,4 +250,4 @@ module _ {T U : Type 0} (f : Fields T U) (sound : IsDomain f) (p n key slot : �
 
       pub cell-known : (cell : Option T) → first_cell_at (contents_at f.contents key) slot ≡ Some cell → HasCell (state_of (kept_of f)) n cell
       cell-known cell known =
-          cell-read f sound p n key slot at has.0 has.1 (is-unwritten f sound p n key slot at out) one cell (sym (ap (λ o. first_cell_at (contents_of o) slot) has.1) ∙ known)
+          cell-read f sound p n key slot at has.0 has.1 (is-unwritten f sound p n key slot at out) one cell (sym (ap (λ o. first_cell_at (contents_in o) slot) has.1) ∙ known)

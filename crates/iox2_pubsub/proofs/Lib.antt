@@ -13,7 +13,6 @@ pub mod DefaultSlices
 pub mod SliceParts
 pub mod FilledLengths
 pub mod FilledLoans
-mod FilledSlots
 mod LocatedLoans
 pub mod SentMessages
 pub mod OverflowSends
@@ -38,6 +37,8 @@ pub mod OldestFirst
 pub mod OpenChannels
 pub mod NextPorts
 pub mod ChannelsShown
+mod ClosedChannels
+mod ChangedChannels
 pub mod ConnectedSends
 pub mod SendsServe
 pub mod ConnectionsStay
@@ -58,6 +59,7 @@ pub mod ConnectionsShown
 pub mod ClosesWait
 pub mod DepartedShown
 pub mod LoansLeftShown
+mod AtOnce
 pub mod SureLoans
 pub mod KeptCounts
 pub mod BlockedShown

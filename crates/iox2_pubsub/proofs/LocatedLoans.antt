@@ -1,34 +1,42 @@
 -- A loan that is granted and filled in one call, seen from outside.
-use Rattle.std.proofs.Common.{◌≡◌, ℕ, List, true, false, refl, ap, subst, sym, ◌∙◌, get_or, Result, Ok, Err, Option, None, Some}
+use Rattle.std.proofs.Common.{◌≡◌, ℕ, ◌+◌, ◌*◌, ◌≤◌, List, length, replicate, true, false, refl, ap, subst, sym, ◌∙◌, arith, get_or, Result, Ok, Err, Option, None, Some}
+use Rattle.std.proofs.lemmas.List.{length-replicate}
 use Rattle.std.specs.List.{All}
 use Rattle.std.specs.Prelude.{IsSomeAnd}
 use Rattle.iox2_store.specs.SingleValues.{is_single_valued}
 use Rattle.iox2_store.specs.declared.errors.LoanError.{LoanError}
 use Rattle.iox2_store.specs.declared.service_config.ServiceConfig.{ServiceConfig}
-use Rattle.iox2_store.specs.declared.service_config.TypeVariant.TheVariants.{Dynamic}
+use Rattle.iox2_store.specs.declared.service_config.TypeVariant.TheVariants.{Dynamic, FixedSize}
 use Rattle.iox2_store.specs.machine.State.{State, Messages}
 use Rattle.iox2_domain.specs.Boxes.{DomainBoxes}
 use Rattle.iox2_domain.specs.Fields.{Fields, kept_of, keeping}
 use Rattle.iox2_domain.specs.Invariant.{IsDomain}
 use Rattle.iox2_domain.specs.Kept.{Kept, state_of}
-use Rattle.iox2_domain.specs.Lending.{IsNamed, LoanReaches}
+use Rattle.iox2_domain.specs.Lending.{IsNamed, LoanCall, LoanReaches}
 use Rattle.iox2_domain.specs.LoanCalls.{HoldsUnwritten, WritesLoan}
 use Rattle.iox2_domain.specs.Ports.{PublisherFields}
 use Rattle.iox2_domain.specs.Shows.{Shows}
 use Rattle.iox2_domain.specs.declared.loan_slots.LoanAt.{LoanAt}
 use Rattle.iox2_domain.proofs.lemmas.fields.SingleSettings.{dynamic-several}
-use Rattle.iox2_pubsub.specs.Live.{A_loan, IsNewIn, IsReadyPublisher, IsUnwritten, IsWritten, Stays}
+use Rattle.iox2_pubsub.specs.Live.{A_loan, HasLender, IsNewIn, IsPublisherKey, IsReadyPublisher, IsUnblocked, IsUnwritten, IsWritten, IsWrittenLoan, NeverWaits, Stays, UpToDateStay, WaitingStays, lender_key, publisher_key, written_key}
+use Rattle.iox2_pubsub.specs.LoansLeft.{HasLoansLeft, HasNumbersLeft, LoansLeftStay, TakesOneLeft}
+use Rattle.iox2_pubsub.specs.Slices.{HasUnwrittenCells, HasValues}
 use Rattle.iox2_pubsub.specs.WrittenLoans.{DefaultSliceCall}
 use Rattle.iox2_pubsub.specs.declared.publisher.Publisher.{Publisher}
 use Rattle.iox2_pubsub.specs.declared.sample_mut.SampleMut.{SampleMut}
 use Rattle.iox2_pubsub.specs.declared.sample_mut_uninit.SampleMutUninit.{SampleMutUninit}
 use Rattle.iox2_pubsub.proofs.CallsStay.{always-shown, loan-is-new, loan-stays}
-use Rattle.iox2_pubsub.proofs.FilledLoans.{filled-live, filled-shown, filled-stays}
-use Rattle.iox2_pubsub.proofs.LiveParts.{publisher-parts}
+use Rattle.iox2_pubsub.proofs.FilledLengths.{filled-lengths}
+use Rattle.iox2_pubsub.proofs.FilledLoans.{filled-leaves, filled-left, filled-live, filled-shown, filled-stays, filled-values, filled-waits}
+use Rattle.iox2_pubsub.proofs.LiveParts.{never-waits-alike, publisher-parts, unblocked-alike}
 use Rattle.iox2_pubsub.proofs.LoanHandles.{unwritten-out}
+use Rattle.iox2_pubsub.proofs.LoansLeftShown.{loan-takes, refused-left}
 use Rattle.iox2_pubsub.proofs.PlacedHandles.{publisher-at-place}
 use Rattle.iox2_pubsub.proofs.StaysBut.{same-boxes, stays-on}
-use Rattle.iox2_pubsub.proofs.UninitLoans.{err-shown, ok-live, ok-number, ok-publisher, ok-shown}
+use Rattle.iox2_pubsub.proofs.SureLoans.{sure-granted, sure-of-loan}
+use Rattle.iox2_pubsub.proofs.UninitLoans.{err-shown, ok-cells, ok-live, ok-number, ok-publisher, ok-shown}
+use Rattle.iox2_pubsub.proofs.UpToDateShown.{loan-leaves}
+use Rattle.iox2_pubsub.proofs.WaitingShown.{loan-waits}
 use Rattle.iox2_pubsub.proofs.WrittenLoanCalls.{default-grants, default-refused}
 
 module _ {T U F G : Type 0} {boxes : DomainBoxes F G} (is_default : U → Type 0) (len : ℕ) (f mid : Fields T U) (sound : IsDomain f) (kept : Kept T U F G) (view : keeping boxes f ≡ kept)
@@ -44,11 +52,47 @@ module _ {T U F G : Type 0} {boxes : DomainBoxes F G} (is_default : U → Type 0
       let lends = err-shown is_default true len f mid sound publisher.place publisher.id answer stands reaches A e is (Err e) refl kept view m s shown in
       (lends.0, lends.1, ((lends.2).0, default-refused s lends.0 publisher.id e IsValue len (lends.2).1))
 
-  pub refused-stays : (e : LoanError) → answer ≡ Err e → Stays kept (keeping boxes mid)
-  refused-stays e is =
-      let it = always-shown f kept sound view in
-      let step = err-shown is_default true len f mid sound publisher.place publisher.id answer stands reaches LoanAt e is (Err e) refl kept view it.0 it.1 it.2 in
-      loan-stays kept (keeping boxes mid) it.0 it.1 it.2 {A = LoanAt} is_default true len publisher.id (Err e) step.0 step.1 step.2 (same-boxes f mid kept view)
+  module _ (e : LoanError) (is : answer ≡ Err e) where
+    refused-step : (m : Messages T U) (s : State T U) → Shows kept m s → (s' : State T U) × Shows (kept_of mid) m s' × LoanCall {A = LoanAt} is_default true len s publisher.id (Err e) s'
+    refused-step m s shown = err-shown is_default true len f mid sound publisher.place publisher.id answer stands reaches LoanAt e is (Err e) refl kept view m s shown
+
+    pub refused-stays : Stays kept (keeping boxes mid)
+    refused-stays =
+        let it = always-shown f kept sound view in
+        let step = refused-step it.0 it.1 it.2 in
+        loan-stays kept (keeping boxes mid) it.0 it.1 it.2 {A = LoanAt} is_default true len publisher.id (Err e) step.0 step.1 step.2 (same-boxes f mid kept view)
+
+    pub refused-waits : WaitingStays kept (keeping boxes mid)
+    refused-waits =
+        let it = always-shown f kept sound view in
+        let step = refused-step it.0 it.1 it.2 in
+        loan-waits kept (keeping boxes mid) it.0 it.0 it.1 step.0 it.2 step.1 (λ n entry at. at) {A = LoanAt} is_default true len publisher.id (Err e) step.2
+
+    pub refused-updated : UpToDateStay kept (keeping boxes mid)
+    refused-updated =
+        let it = always-shown f kept sound view in
+        let step = refused-step it.0 it.1 it.2 in
+        loan-leaves kept (keeping boxes mid) it.0 it.0 it.1 step.0 it.2 step.1 {A = LoanAt} is_default true len publisher.id (Err e) step.2
+
+    pub refused-takes : TakesOneLeft publisher kept (keeping boxes mid)
+    refused-takes =
+        let it = always-shown f kept sound view in
+        let step = refused-step it.0 it.1 it.2 in
+        loan-takes kept (keeping boxes mid) it.0 it.0 it.1 step.0 it.2 step.1 {A = LoanAt} is_default true len publisher (Err e) step.2
+
+    pub refused-leaves : LoansLeftStay kept (keeping boxes mid)
+    refused-leaves =
+        let it = always-shown f kept sound view in
+        let step = refused-step it.0 it.1 it.2 in
+        refused-left kept (keeping boxes mid) it.0 it.0 it.1 step.0 it.2 step.1 {A = LoanAt} is_default true len publisher.id (Err e) step.2
+
+    -- none that isn't too long, where the publisher has one left
+    pub refused-none : (kept.config).variant ≡ Dynamic → (loans numbers : ℕ) → HasLoansLeft kept publisher (loans + 1) → HasNumbersLeft kept (numbers + 1) → len ≤ publisher.initial_max_slice_len → ⊥
+    refused-none dynamic loans numbers left numbered short =
+        sure-granted is_default true len f mid sound publisher.place publisher (λ _. short) (λ no. absurd (let clash : true ≡ false = no in cc)) (λ fixed.
+        let clash : Dynamic ≡ FixedSize = sym dynamic ∙ sym (ap (λ (k : Kept T U F G). (k.config).variant) view) ∙ fixed in
+        absurd cc)
+        stands answer reaches e is kept view (sure-of-loan kept publisher loans numbers left numbered)
 
   module _ (loan : LoanAt) (is : answer ≡ Ok loan) (named : IsSomeAnd (get_or f.publishers publisher.place None) (λ x. IsNamed f x loan)) where
     abbrev unwritten : SampleMutUninit
@@ -57,12 +101,33 @@ module _ {T U F G : Type 0} {boxes : DomainBoxes F G} (is_default : U → Type 0
     live : IsUnwritten (keeping boxes mid) unwritten
     live = ok-live is_default true len f mid sound publisher.place publisher.id answer stands reaches unwritten is named kept view (publisher-parts kept _ ready.there).1
 
+    granted-step : (m : Messages T U) (s : State T U) → Shows kept m s → (s' : State T U) × Shows (kept_of mid) m s' × LoanCall {A = LoanAt} is_default true len s publisher.id (Ok loan) s'
+    granted-step m s shown = ok-shown is_default true len f mid sound publisher.place publisher.id answer stands reaches LoanAt loan loan is kept view m s shown
+
     -- what was there before stays
     granted-stays : Stays kept (keeping boxes mid)
     granted-stays =
         let it = always-shown f kept sound view in
-        let step = ok-shown is_default true len f mid sound publisher.place publisher.id answer stands reaches LoanAt loan loan is kept view it.0 it.1 it.2 in
+        let step = granted-step it.0 it.1 it.2 in
         loan-stays kept (keeping boxes mid) it.0 it.1 it.2 {A = LoanAt} is_default true len publisher.id (Ok loan) step.0 step.1 step.2 (same-boxes f mid kept view)
+
+    granted-waits : WaitingStays kept (keeping boxes mid)
+    granted-waits =
+        let it = always-shown f kept sound view in
+        let step = granted-step it.0 it.1 it.2 in
+        loan-waits kept (keeping boxes mid) it.0 it.0 it.1 step.0 it.2 step.1 (λ n entry at. at) {A = LoanAt} is_default true len publisher.id (Ok loan) step.2
+
+    granted-updated : UpToDateStay kept (keeping boxes mid)
+    granted-updated =
+        let it = always-shown f kept sound view in
+        let step = granted-step it.0 it.1 it.2 in
+        loan-leaves kept (keeping boxes mid) it.0 it.0 it.1 step.0 it.2 step.1 {A = LoanAt} is_default true len publisher.id (Ok loan) step.2
+
+    granted-takes : TakesOneLeft publisher kept (keeping boxes mid)
+    granted-takes =
+        let it = always-shown f kept sound view in
+        let step = granted-step it.0 it.1 it.2 in
+        loan-takes kept (keeping boxes mid) it.0 it.0 it.1 step.0 it.2 step.1 {A = LoanAt} is_default true len publisher (Ok loan) step.2
 
     -- it agrees with the fields, and is out
     pub granted-sound : IsDomain mid
@@ -101,12 +166,75 @@ module _ {T U F G : Type 0} {boxes : DomainBoxes F G} (is_default : U → Type 0
             (values, (lends.2).0, (lends.2).1, default-grants s lends.0 wrote.2 publisher.id loan.number at wrote.0 wrote.1 IsValue values all (lends.2).0 len (lends.2).2 wrote.3),
           )
 
-      pub filled-out : (handle : SampleMut) → handle ≡ record { service_id = publisher.service_id; loan = loan } → IsWritten (keeping boxes new) handle
-      filled-out handle same =
-          filled-live mid new granted-sound (keeping boxes mid) refl loan.number values writes unwritten handle refl
-          (ap (λ (it : SampleMut). it.service_id) same) (ap (λ (it : SampleMut). (it.loan).publisher) same) (ap (λ (it : SampleMut). (it.loan).number) same) live
-
       pub filled-since : Stays kept (keeping boxes new)
       filled-since =
           stays-on kept (keeping boxes mid) granted-stays (A_loan loan.number) (keeping boxes new) granted-new
           (filled-stays mid new granted-sound (keeping boxes mid) refl loan.number values writes)
+
+      pub filled-waiting : WaitingStays kept (keeping boxes new)
+      filled-waiting =
+          let later : WaitingStays (keeping boxes mid) (keeping boxes new) = filled-waits mid new granted-sound (keeping boxes mid) refl loan.number values writes in
+          record { all = later.all ∙ granted-waits.all; from = later.from ∙ granted-waits.from }
+
+      pub filled-updated : UpToDateStay kept (keeping boxes new)
+      filled-updated =
+          let later : UpToDateStay (keeping boxes mid) (keeping boxes new) = filled-leaves mid new granted-sound (keeping boxes mid) refl loan.number values writes in record {
+            subscribers = λ subscriber is. later.subscribers subscriber (granted-updated.subscribers subscriber is);
+            connections = λ id subscriber is. later.connections id subscriber (granted-updated.connections id subscriber is);
+            room = λ subscriber closes has. later.room subscriber closes (granted-updated.room subscriber closes has);
+          }
+
+      pub filled-takes : TakesOneLeft publisher kept (keeping boxes new)
+      filled-takes =
+          let later : LoansLeftStay (keeping boxes mid) (keeping boxes new) = filled-left mid new granted-sound (keeping boxes mid) refl loan.number values writes in record {
+            loans = λ n left. later.loans publisher n (granted-takes.loans n left);
+            others = λ other n away left. later.loans other n (granted-takes.others other n away left);
+            numbers = λ n left. later.numbers n (granted-takes.numbers n left);
+          }
+
+      -- its handle
+      module _ (handle : SampleMut) (same : handle ≡ record { service_id = publisher.service_id; loan = loan }) where
+        pub filled-out : IsWritten (keeping boxes new) handle
+        filled-out =
+            filled-live mid new granted-sound (keeping boxes mid) refl loan.number values writes unwritten handle refl
+            (ap (λ (it : SampleMut). it.service_id) same) (ap (λ (it : SampleMut). (it.loan).publisher) same) (ap (λ (it : SampleMut). (it.loan).number) same) live
+
+        pub filled-new : IsNewIn kept (A_loan (handle.loan).number)
+        filled-new = subst (λ (it : SampleMut). IsNewIn kept (A_loan (it.loan).number)) (sym same) granted-new
+
+        pub filled-number : (handle.loan).number ≡ kept.next_message
+        filled-number = ap (λ (it : SampleMut). (it.loan).number) same ∙ next
+
+        pub filled-publisher : (handle.loan).publisher ≡ publisher.id
+        filled-publisher = ap (λ (it : SampleMut). (it.loan).publisher) same ∙ granted-publisher
+
+        pub filled-lender : lender_key (written_key handle) ≡ publisher_key publisher
+        filled-lender =
+            ap (λ (it : SampleMut). lender_key (written_key it)) same
+            ∙ ap (λ (p : ℕ). record { service_id = publisher.service_id; port = p; message = 0 }) granted-publisher
+
+        pub filled-lent : HasLender (keeping boxes new) (written_key handle)
+        filled-lent = subst (IsPublisherKey (keeping boxes new)) (sym filled-lender) (filled-since.publishers (publisher_key publisher) ready.there tt)
+
+        pub filled-unblocked : IsUnblocked (keeping boxes new) (written_key handle)
+        filled-unblocked = unblocked-alike (keeping boxes new) (publisher_key publisher) (written_key handle) filled-publisher (filled-since.unblocked (publisher_key publisher) ready.unblocked tt)
+
+        pub filled-never : NeverWaits kept (publisher_key publisher) → IsWrittenLoan (keeping boxes new) handle
+        filled-never never = record {
+          out = filled-out;
+          never_waits = never-waits-alike (keeping boxes new) (publisher_key publisher) (written_key handle) filled-publisher (filled-since.never_wait (publisher_key publisher) never);
+        }
+
+        pub filled-reads : HasValues (keeping boxes new) (handle.loan).number values
+        filled-reads = filled-values mid new granted-sound (keeping boxes mid) refl loan.number values writes (handle.loan).number (ap (λ (it : SampleMut). (it.loan).number) same)
+
+        pub filled-length : (kept.config).units_per_element ≡ 1 → length values ≡ len
+        filled-length one =
+            let cells : HasUnwrittenCells (keeping boxes mid) loan.number (replicate (len * (f.config).units_per_element) None) =
+            ok-cells is_default true len f mid sound publisher.place publisher.id answer stands reaches boxes loan is named in
+            let units : (f.config).units_per_element ≡ 1 = ap (λ (k : Kept T U F G). (k.config).units_per_element) view ∙ one in
+            filled-lengths {boxes = boxes} mid new (keeping boxes mid) refl loan.number values writes (replicate (len * (f.config).units_per_element) None) cells
+            (handle.loan).number (ap (λ (it : SampleMut). (it.loan).number) same) values filled-reads
+            ∙ length-replicate {A = Option T} (len * (f.config).units_per_element) None
+            ∙ ap (λ (n : ℕ). len * n) units
+            ∙ omega arith

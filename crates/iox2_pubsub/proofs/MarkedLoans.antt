@@ -13,6 +13,7 @@ use Rattle.iox2_domain.specs.Fields.{Fields, kept_of, contents_at, message_of}
 use Rattle.iox2_domain.specs.LoanCalls.{HoldsUnwritten, HoldsWritten}
 use Rattle.iox2_domain.specs.LoanSlots.{LiesInSlot}
 use Rattle.iox2_domain.proofs.lemmas.slots.Messages.{LiesIn, message_in-parts}
+use Rattle.iox2_domain.proofs.lemmas.loans.LoanCalls.{same-loan}
 use Rattle.iox2_domain.proofs.lemmas.loans.LoansOut.{found-out}
 use Rattle.iox2_pubsub.specs.Parts.{IsMarkOf, written_mark}
 
@@ -26,10 +27,6 @@ module _ {T U : Type 0} where
     -- the loan is the publisher's
     is_its : HoldsLoan (state_of (kept_of f)) p n
     is_its = (found-out f p n (Some (record { book = key; slot = slot })) at true refl).0 refl
-
-    -- the loan in the slot is that of the state
-    same-loan : (l : Loan T U) → (state_of (kept_of f)).loans n ≡ Some l → l ≡ at.loan
-    same-loan l found = let both : Some l ≡ Some at.loan = sym found ∙ at.is_out in cc
 
     module _ (b : Book) (here : get f.books key ≡ Some b) (mark : SlotMark) (read : slice_get b.marks slot ≡ Some mark) where
       lies : LiesIn at.book (contents_at f.contents key) slot (Lent_message n at.loan)
@@ -53,14 +50,14 @@ module _ {T U : Type 0} where
 
       written-tells : (written_mark mark ≡ true) ↔ HoldsWritten (state_of (kept_of f)) p n
       written-tells = (
-        λ yes. (at.loan, at.is_out, ap (λ (l : Loan T U). l.publisher) (sym (same-loan is_its.0 is_its.1)) ∙ is_its.2, mark-tells ∙ yes),
-        λ has. sym mark-tells ∙ ap (λ (l : Loan T U). l.is_written) (sym (same-loan has.0 has.1)) ∙ has.3,
+        λ yes. (at.loan, at.is_out, ap (λ (l : Loan T U). l.publisher) (sym (same-loan f p n key slot at is_its.0 is_its.1)) ∙ is_its.2, mark-tells ∙ yes),
+        λ has. sym mark-tells ∙ ap (λ (l : Loan T U). l.is_written) (sym (same-loan f p n key slot at has.0 has.1)) ∙ has.3,
       )
 
       unwritten-tells : (written_mark mark ≡ false) ↔ HoldsUnwritten (state_of (kept_of f)) p n
       unwritten-tells = (
-        λ no. (at.loan, at.is_out, ap (λ (l : Loan T U). l.publisher) (sym (same-loan is_its.0 is_its.1)) ∙ is_its.2, mark-tells ∙ no),
-        λ has. sym mark-tells ∙ ap (λ (l : Loan T U). l.is_written) (sym (same-loan has.0 has.1)) ∙ has.3,
+        λ no. (at.loan, at.is_out, ap (λ (l : Loan T U). l.publisher) (sym (same-loan f p n key slot at is_its.0 is_its.1)) ∙ is_its.2, mark-tells ∙ no),
+        λ has. sym mark-tells ∙ ap (λ (l : Loan T U). l.is_written) (sym (same-loan f p n key slot at has.0 has.1)) ∙ has.3,
       )
 
       pub marks-loan : IsMarkOf f p n mark

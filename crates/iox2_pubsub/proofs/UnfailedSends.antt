@@ -5,22 +5,20 @@ use Rattle.std.specs.Option.{option_map}
 use Rattle.std.specs.declared.time.Duration.{Duration}
 use Rattle.iox2_store.specs.machine.Mailbox.{Mailbox, has_room}
 use Rattle.iox2_store.specs.machine.Numbers.{without}
-use Rattle.iox2_store.specs.machine.Records.{BlockedSend, Environment, Handler, Fixed, Custom, Loan, Publisher}
+use Rattle.iox2_store.specs.machine.Records.{BlockedSend, Environment, Handler, Loan, Publisher}
 use Rattle.iox2_store.specs.machine.State.{State, channel_buffer}
-use Rattle.iox2_store.specs.machine.Delivery.{Deliver, DeliveryEnd, Complete, Suspended, Decides, PutResult, Put, PutAtEnd, accepted_count, by_action, by_strategy, is_blocking, is_failed, no_time}
+use Rattle.iox2_store.specs.machine.Delivery.{Deliver, DeliveryEnd, Complete, Suspended, PutResult, Put, PutAtEnd, accepted_count, is_blocking, is_failed, no_time}
 use Rattle.iox2_store.specs.machine.Sends.{Send, Retry, GiveUp, SendResult, Delivered_to, Blocked_send, Send_error, ConcludeSend, DeliverAndConclude, more_retries, with_mailboxes, published}
 use Rattle.iox2_store.specs.declared.backpressure.BackpressureAction.{BackpressureAction}
 use Rattle.iox2_store.specs.declared.backpressure.BackpressureAction.TheVariants as actions
-use Rattle.iox2_store.specs.declared.backpressure.BackpressureInfo.{BackpressureInfo}
 use Rattle.iox2_store.specs.declared.backpressure.BackpressureStrategy.{BackpressureStrategy}
-use Rattle.iox2_store.specs.declared.backpressure.BackpressureStrategy.TheVariants.{RetryUntilDelivered, DiscardData}
 use Rattle.iox2_store.specs.declared.errors.SendError.TheVariants.{ConnectionBrokenSinceSenderNoLongerExists, ConnectionError, UnableToDeliver}
 use Rattle.iox2_store.specs.declared.service_config.ServiceConfig.{ServiceConfig}
 use Rattle.iox2_laws.proofs.Cases.{by_option, by_bool}
 use Rattle.iox2_laws.proofs.PortsStay.{update_publisher_stays}
 use Rattle.iox2_laws.proofs.Puts.{put_at-same}
 use Rattle.iox2_laws.proofs.Waits.{waits_trans, update_publisher_waits, published_waits}
-use Rattle.iox2_domain.specs.Handlers.{is_failing, may_fail}
+use Rattle.iox2_domain.specs.Handlers.{may_fail}
 use Rattle.iox2_pubsub.proofs.OverflowSends.{end-passes}
 use Rattle.iox2_steps.proofs.sends.DeliverySteps.{decides-passes}
 

@@ -17,7 +17,7 @@ use Rattle.iox2_domain.specs.Handlers.{may_fail, may_fail_update}
 use Rattle.iox2_domain.specs.Kept.{Kept, state_of, entries_of}
 use Rattle.iox2_domain.specs.LoanCalls.{HasLoanHeader, HasLoanUserHeader}
 use Rattle.iox2_pubsub.specs.ConnectedPorts.{Awaits, Connects}
-use Rattle.iox2_pubsub.specs.DepartedPorts.{HasRoom, departed_at}
+use Rattle.iox2_pubsub.specs.DepartedPorts.{HasRoom}
 use Rattle.iox2_pubsub.specs.Handlers.{may_wait}
 use Rattle.iox2_pubsub.specs.Payloads.{payload_of, payloads_for}
 use Rattle.iox2_pubsub.specs.Slices.{HoldsSlices, IsSliced, HasUnwrittenCells, HasValues, SampleHasValues}
@@ -263,7 +263,7 @@ module _ {T U F G : Type 0} (domain : Kept T U F G) where
   KeepsAll subscriber = IsUpToDate subscriber ⊎ HasRoomFor subscriber 0
 
   -- The publisher with this id has its connection with the subscriber, which is open, and has it too or makes its end in its next
-  -- update. So what the publisher sends waits for the subscriber.
+  -- update. Their channel isn't closed. So what the publisher sends waits for the subscriber.
   unfoldable pub IsConnected : (publisher : ℕ) → Subscriber → Type 0
   IsConnected publisher subscriber = Connects (state_of domain) publisher subscriber.id
 

@@ -1,6 +1,5 @@
 //! Messages that are slices: the same ports, loans and samples, with other calls to lend, and another
 //! view of their payload.
-mod fills;
 mod port_factory;
 mod publisher;
 mod sample;

@@ -1,7 +1,9 @@
-ghost use Rattle.std.specs.Prelude.{◌≡◌, IfErr, IfOk, vec_len};
+ghost use Rattle.std.specs.Prelude.{◌≡◌, Err, IfErr, IfOk, false, true, vec_len};
 ghost use Rattle.iox2_runs.specs.Carries.{defaults_of};
+ghost use Rattle.iox2_recorded.specs.declared.create_error.RecordedCreateError.TheVariants.{NoCells, OutOfMemory};
 ghost use Rattle.iox2_recorded.specs.Recorded.{IsCarriedOut, IsRecorded, Keeps, SameRecording, WasRun, has_room};
 
+use crate::create_error::RecordedCreateError;
 use iox2_pubsub::{Domain, ServiceConfig};
 use iox2_runs::{Command, Made, Reply, carry_out, disown_all};
 use iox2_store::{BackpressureFn, DegradationFn};
@@ -37,19 +39,25 @@ impl<
 > Recorded<T, U, F, G> {
     /// A new domain with these settings, which keeps its first calls, up to so many.
     ///
-    /// `AllocError` where there is no room for the domain or for the calls, or, by the settings
-    /// (`lists_cells`), none for cells, as commands read and write them.
-    pub fn new(alloc: Global, config: ServiceConfig, room: usize) -> Result<Self, AllocError>
+    /// `NoCells` where the settings have no cells handed out (`lists_cells`), as commands read and write
+    /// them; else `OutOfMemory` where there is no room for the domain or for the calls.
+    pub fn new(
+        alloc: Global,
+        config: ServiceConfig,
+        room: usize,
+    ) -> Result<Self, RecordedCreateError>
         ensures recorded { IfOk result (λ r. IsRecorded (defaults_of T.is_default U.is_default) r) }
         ensures empty { IfOk result (λ r. (r.config ≡ config) × (vec_len r.commands ≡ 0) × (r.missed ≡ 0)) }
+        ensures no_cells { config.lists_cells ≡ false → result ≡ Err NoCells }
+        ensures out_of_memory { config.lists_cells ≡ true → IfErr result (λ error. error ≡ OutOfMemory) }
     {
         if !config.lists_cells {
-            return Err(AllocError);
+            return Err(RecordedCreateError::NoCells);
         }
         let commands = Vec::with_capacity(alloc, room)?;
         let replies = Vec::with_capacity(alloc, room)?;
         let Ok(domain) = Domain::with_handlers(alloc, config) else {
-            return Err(AllocError);
+            return Err(RecordedCreateError::OutOfMemory);
         };
         Ok(Recorded {
             config,

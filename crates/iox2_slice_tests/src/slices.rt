@@ -345,6 +345,51 @@ fn ports_of_slices_are_told_of_their_channels(rt: HostRuntime) {
     assert!(rt; told == [true, true, false]);
 }
 
+// Whether the publisher's first channel is in the state, and whether it has a hint too.
+fn is_first(
+    rt: &impl Abort,
+    domain: &Domain<Tag, Tag>,
+    publisher: &Publisher,
+    state: u64,
+) -> [bool; 2] {
+    assert_ready(rt, domain, publisher);
+    [
+        publisher.has_channel_state(domain, 0, 0, state),
+        publisher.has_disconnect_hint(domain, 0, 0, state),
+    ]
+}
+
+#[test]
+fn ports_of_slices_change_their_channels(rt: HostRuntime) {
+    let mut domain: Domain<Tag, Tag> = Domain::new(rt.alloc(), slices()).expect(&rt, "a domain");
+    let subscriber = slice_subscriber(&rt, &mut domain);
+    let publisher = slice_publisher(&rt, &mut domain, 1);
+    let is_updated = update_both(&rt, &mut domain, &publisher, &subscriber);
+    assert_live(&rt, &domain, &subscriber);
+    subscriber.close_channel(&mut domain, 0, 0);
+    let closed = is_first(&rt, &domain, &publisher, u64::MAX);
+    let loan = lend_defaults(&rt, &mut domain, &publisher, 1);
+    let passed = send_slice(&rt, &mut domain, loan);
+    assert_live(&rt, &domain, &subscriber);
+    let was_closed = subscriber.set_channel_state(&mut domain, 0, 7);
+    subscriber.set_disconnect_hint(&mut domain, 0, 7);
+    let hinted = is_first(&rt, &domain, &publisher, 7);
+    let loan = lend_defaults(&rt, &mut domain, &publisher, 1);
+    let taken = send_slice(&rt, &mut domain, loan);
+    assert_ready(&rt, &domain, &publisher);
+    publisher.close_channel(&mut domain, 0, 0, 7);
+    let closed_again = is_first(&rt, &domain, &publisher, u64::MAX);
+    publisher.disown();
+    subscriber.disown();
+    drop(domain);
+    assert!(rt; is_updated == [true, true]);
+    assert!(rt; closed == [true, false]);
+    assert!(rt; [passed, taken] == [0, 1]);
+    assert!(rt; was_closed);
+    assert!(rt; hinted == [true, true]);
+    assert!(rt; closed_again == [true, false]);
+}
+
 // The number in one of the cells, where there is one.
 fn written_number(cells: &[Option<Tag>], index: usize) -> Option<u64> {
     cells.get(index)?.as_ref().map(|tag| tag.0)

@@ -53,22 +53,12 @@ fn a_publisher_is_had_again_until_it_is_closed(rt: HostRuntime) {
         has_publisher(&domain, &unknown),
         has_publisher(&other, &parts),
     ];
-    let placed = [
-        domain.is_publisher_at_hint(&parts),
-        domain.is_publisher_at_hint(&astray),
-        domain.is_publisher_at_hint(&unknown),
-        other.is_publisher_at_hint(&parts),
-    ];
     close_publisher(&rt, &mut domain, &astray);
-    let after = [
-        has_publisher(&domain, &parts),
-        domain.is_publisher_at_hint(&parts),
-    ];
+    let after = has_publisher(&domain, &parts);
     drop(other);
     drop(domain);
     assert!(rt; before == [true, true, false, false]);
-    assert!(rt; placed == [true, false, false, false]);
-    assert!(rt; after == [false, false]);
+    assert!(rt; !after);
 }
 
 // Whether a subscriber with the numbers stands in the domain.
@@ -215,11 +205,6 @@ fn a_sample_is_had_again_until_it_is_released(rt: HostRuntime) {
         has_sample(&domain, &astray),
         has_sample(&domain, &SampleParts { number: 9, ..later }),
     ];
-    let last = [
-        domain.is_sample_at_hint(&earlier),
-        domain.is_sample_at_hint(&later),
-        domain.is_sample_at_hint(&astray),
-    ];
     let had = [
         has_sample_at_hint(&mut domain, &earlier),
         has_sample_at_hint(&mut domain, &later),
@@ -231,39 +216,9 @@ fn a_sample_is_had_again_until_it_is_released(rt: HostRuntime) {
     let after = [has_sample(&domain, &earlier), has_sample(&domain, &later)];
     drop(domain);
     assert!(rt; before == [true, true, true, false]);
-    assert!(rt; last == [false, true, false]);
     assert!(rt; had == [false, true, false]);
     assert!(rt; celsius == 21);
     assert!(rt; after == [true, false]);
-}
-
-#[test]
-fn numbers_are_tested_without_a_search(rt: HostRuntime) {
-    let mut domain = domain(&rt, rt.alloc());
-    let subscriber = subscriber_of(&rt, &mut domain).into_parts();
-    let loan = lent(&rt, &mut domain);
-    let elsewhere = SubscriberParts {
-        place: 1,
-        ..subscriber
-    };
-    let unknown = SubscriberParts {
-        id: 9,
-        ..subscriber
-    };
-    let subscribers = [
-        domain.is_subscriber_at_hint(&subscriber),
-        domain.is_subscriber_at_hint(&elsewhere),
-        domain.is_subscriber_at_hint(&unknown),
-    ];
-    let loans = [
-        domain.is_loan_at_hint(&loan),
-        domain.is_loan_at_hint(&LoanParts { place: 1, ..loan }),
-        domain.is_loan_at_hint(&LoanParts { slot: 1, ..loan }),
-        domain.is_loan_at_hint(&LoanParts { number: 9, ..loan }),
-    ];
-    drop(domain);
-    assert!(rt; subscribers == [true, false, false]);
-    assert!(rt; loans == [true, false, false, false]);
 }
 
 #[test]
@@ -289,16 +244,24 @@ fn numbers_say_whether_a_publisher_lends_at_once(rt: HostRuntime) {
 fn numbers_say_whether_a_loan_is_sent_at_once(rt: HostRuntime) {
     let mut domain = domain(&rt, rt.alloc());
     let unwritten = lent(&rt, &mut domain);
-    let is_unwritten = !domain.sends_at_once(&unwritten);
+    let is_unwritten = domain.sends_at_once(&unwritten).is_none();
     let loan = write(&rt, &mut domain, &unwritten);
     let sends = [
-        domain.sends_at_once(&loan),
-        domain.sends_at_once(&LoanParts { place: 1, ..loan }),
-        domain.sends_at_once(&LoanParts { slot: 1, ..loan }),
-        domain.sends_at_once(&LoanParts { number: 9, ..loan }),
+        domain
+            .sends_at_once(&LoanParts { book: 9, ..loan })
+            .is_some(),
+        domain
+            .sends_at_once(&LoanParts { place: 1, ..loan })
+            .is_some(),
+        domain
+            .sends_at_once(&LoanParts { slot: 1, ..loan })
+            .is_some(),
+        domain
+            .sends_at_once(&LoanParts { number: 9, ..loan })
+            .is_some(),
     ];
     subscriber_of(&rt, &mut domain).disown();
-    let is_due = !domain.sends_at_once(&loan);
+    let is_due = domain.sends_at_once(&loan).is_none();
     drop(domain);
     assert!(rt; is_unwritten);
     assert!(rt; sends == [true, false, false, false]);

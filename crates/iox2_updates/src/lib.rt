@@ -12,6 +12,6 @@ mod retirements;
 mod updates;
 
 pub use departures::{forget_if_empty, free_book_if_unused, leave_if_unused};
-pub use marks::{unmark_publisher, unmark_subscriber};
+pub use marks::{mark_end, unmark_publisher, unmark_subscriber};
 pub use receiver_updates::update_subscriber;
 pub use updates::update_publisher;

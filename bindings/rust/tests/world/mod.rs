@@ -55,6 +55,23 @@ pub fn publisher_is_refused(domain: &mut Domain, publisher: &Publisher, code: u3
         refused(code, |outs| {
             iox2ps_publisher_is_blocked(domain, publisher, &mut outs.answer)
         });
+        refused(code, |outs| {
+            let (receiver, out) = (Wide::default(), &mut outs.count);
+            iox2ps_publisher_get_connection_id_of(domain, publisher, &receiver, out)
+        });
+        for channel in [0, 1] {
+            refused(code, |outs| {
+                let out = &mut outs.answer;
+                iox2ps_publisher_has_channel_state(domain, publisher, channel, 0, 0, out)
+            });
+            refused(code, |outs| {
+                let out = &mut outs.answer;
+                iox2ps_publisher_has_disconnect_hint(domain, publisher, channel, 0, 0, out)
+            });
+            refused(code, |_| {
+                iox2ps_publisher_close_channel(domain, publisher, channel, 0, 0)
+            });
+        }
         refused(code, |_| {
             iox2ps_publisher_update_connections(domain, publisher)
         });
@@ -76,6 +93,24 @@ pub fn subscriber_is_refused(domain: &mut Domain, subscriber: &Subscriber, code:
         refused(code, |outs| {
             iox2ps_subscriber_has_samples(domain, subscriber, &mut outs.answer)
         });
+        for channel in [0, 1] {
+            refused(code, |outs| {
+                let out = &mut outs.answer;
+                iox2ps_subscriber_at_least_one_channel_has_state(
+                    domain, subscriber, channel, 0, out,
+                )
+            });
+            refused(code, |outs| {
+                let out = &mut outs.answer;
+                iox2ps_subscriber_set_channel_state(domain, subscriber, channel, 0, out)
+            });
+            refused(code, |_| {
+                iox2ps_subscriber_close_channel(domain, subscriber, channel, 0)
+            });
+            refused(code, |_| {
+                iox2ps_subscriber_set_disconnect_hint(domain, subscriber, channel, 0)
+            });
+        }
         refused(code, |_| {
             iox2ps_subscriber_update_connections(domain, subscriber)
         });

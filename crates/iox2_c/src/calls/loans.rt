@@ -12,6 +12,7 @@ use crate::numbers::LoanNumbers;
 use crate::service::{BytesDomain, Service};
 use crate::starts::start_to_write;
 use crate::status::{NOT_LIVE, OK};
+use iox2_pubsub::LoanParts;
 use iox2_pubsub::slice::SampleMut;
 
 /// A handle of a loan that is out.
@@ -22,7 +23,26 @@ pub fn written_loan(domain: &BytesDomain, numbers: &LoanNumbers) -> Option<Sampl
     ensures number { IfSome result (λ it. written_number (as_written it) ≡ wide (numbers.now).number) }
     ensures none { IfNone result (IsOut domain.now (named_loan numbers.now) → ⊥) }
 {
-    let handle = domain.written_of(&numbers.parts())?;
+    written_loan_in(domain, numbers, numbers.book)
+}
+
+/// The same, which is looked for in this book first.
+#[inline(always)]
+pub fn written_loan_in(
+    domain: &BytesDomain,
+    numbers: &LoanNumbers,
+    book: usize,
+) -> Option<SampleMut>
+    ensures out { IfSome result (λ it. IsWritten domain.now (as_written it)) }
+    ensures named { IfSome result (λ it. written_key (as_written it) ≡ named_loan numbers.now) }
+    ensures number { IfSome result (λ it. written_number (as_written it) ≡ wide (numbers.now).number) }
+    ensures none { IfNone result (IsOut domain.now (named_loan numbers.now) → ⊥) }
+{
+    let parts = LoanParts {
+        book,
+        ..numbers.parts()
+    };
+    let handle = domain.written_of(&parts)?;
     Some(SampleMut::new(handle))
 }
 

@@ -113,8 +113,8 @@ fn tell_answer(answer: Result<bool, ConnectionFailure>, waits: &mut u32) -> u32
     }
 }
 
-// 1 for what is so, and else 0.
-fn number_of(is_so: bool) -> u32
+/// 1 for what is so, and else 0.
+pub fn number_of(is_so: bool) -> u32
     ensures { result ≡ cond is_so 1 0 }
 {
     if is_so { 1 } else { 0 }

@@ -13,7 +13,7 @@ ghost use Rattle.iox2_c.specs.Returns.{SendReturns, TellsSent};
 ghost use Rattle.iox2_c.specs.Serving.{IsOfBytes, ServesBut};
 ghost use Rattle.iox2_c.specs.Steps.{GivesUp, Retries, SendsCopy};
 
-use crate::calls::loans::written_loan;
+use crate::calls::loans::{written_loan, written_loan_in};
 use crate::calls::publishers::ready_publisher;
 use crate::numbers::{LoanNumbers, PublisherNumbers};
 use crate::recording::error_of;
@@ -82,26 +82,26 @@ pub fn send(
     if service.recording.is_on() {
         return send_recorded(service, numbers, receivers, blocked);
     }
-    if service.domain.sends_at_once(&numbers.parts()) {
-        send_named(service, numbers, receivers, blocked, &mut None)
-    } else {
-        send_elsewhere(service, numbers, receivers, blocked, &mut None)
+    match service.domain.sends_at_once(&numbers.parts()) {
+        Some(book) => send_named(service, numbers, book, receivers, blocked, None),
+        None => send_elsewhere(service, numbers, receivers, blocked, None),
     }
 }
 
-// The same, and why it failed, if it did. What was found before of the loan, and of its publisher, isn't
-// tested again here.
+// The same, and why it failed, where that is asked. The loan is looked for in this book first. What was
+// found before of the loan, and of its publisher, isn't tested again here.
 #[inline(always)]
 fn send_named(
     service: &mut Service,
     numbers: &LoanNumbers,
+    book: usize,
     receivers: &mut usize,
     blocked: &mut LoanNumbers,
-    failed: &mut Option<SendError>,
+    failed: Option<&mut Option<SendError>>,
 ) -> u32
     ensures { SendReturns numbers.now service.old service.new receivers.old receivers.new blocked.old blocked.new result }
 {
-    let Some(loan) = written_loan(&service.domain, numbers) else {
+    let Some(loan) = written_loan_in(&service.domain, numbers, book) else {
         return NOT_LIVE;
     };
     if loan.is_blocked(&service.domain) {
@@ -109,7 +109,9 @@ fn send_named(
         return PUBLISHER_IS_BLOCKED;
     }
     let sent = loan.send(&mut service.domain);
-    *failed = error_of(&sent);
+    if let Some(failed) = failed {
+        *failed = error_of(&sent);
+    }
     tell_of(sent, numbers, receivers, blocked)
 }
 
@@ -121,11 +123,11 @@ fn send_elsewhere(
     numbers: &LoanNumbers,
     receivers: &mut usize,
     blocked: &mut LoanNumbers,
-    failed: &mut Option<SendError>,
+    failed: Option<&mut Option<SendError>>,
 ) -> u32
     ensures { SendReturns numbers.now service.old service.new receivers.old receivers.new blocked.old blocked.new result }
 {
-    send_named(service, numbers, receivers, blocked, failed)
+    send_named(service, numbers, numbers.book, receivers, blocked, failed)
 }
 
 // The same, and it is recorded with its bytes, which C wrote before.
@@ -141,7 +143,7 @@ fn send_recorded(
 {
     record_bytes(service, numbers);
     let mut failed = None;
-    let code = send_elsewhere(service, numbers, receivers, blocked, &mut failed);
+    let code = send_elsewhere(service, numbers, receivers, blocked, Some(&mut failed));
     service.recording.sent(numbers, code, *receivers, failed);
     code
 }

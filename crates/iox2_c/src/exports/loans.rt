@@ -11,15 +11,10 @@ use crate::calls::loans;
 use crate::domain_box::DomainBox;
 use crate::numbers::LoanNumbers;
 use crate::status::NO_DOMAIN;
-use std::alloc::Global;
 
 /// Gives a loan back unsent.
 #[unsafe(no_mangle)]
-pub extern "C" fn iox2ps_loan_discard(
-    alloc: Global,
-    domain: &mut DomainBox,
-    loan: &LoanNumbers,
-) -> u32
+pub extern "C" fn iox2ps_loan_discard(domain: &mut DomainBox, loan: &LoanNumbers) -> u32
     ensures no_domain { (result ≡ 1) ↔ (domain.old.service ≡ None) }
     ensures out { result ≡ 0 → Knows (λ kept. IsOut kept (named_loan loan.now)) domain.old.service }
     ensures discards { result ≡ 0 → Becomes (λ old new. Discards old new (wide (loan.now).number)) domain.old.service domain.new.service }
@@ -28,18 +23,15 @@ pub extern "C" fn iox2ps_loan_discard(
     ensures refused { 0 < result → domain.new.service ≡ domain.old.service }
     ensures stays { HoldsOn (A_loan (wide (loan.now).number)) domain.old.service domain.new.service }
 {
-    let Some(mut boxed) = domain.take(alloc) else {
-        return NO_DOMAIN;
-    };
-    let code = loans::discard(&mut boxed, loan);
-    domain.put(boxed);
-    code
+    match domain.service() {
+        Some(service) => loans::discard(service, loan),
+        None => NO_DOMAIN,
+    }
 }
 
 /// Where the bytes of a loan lie, until it is sent or given back.
 #[unsafe(no_mangle)]
 pub extern "C" fn iox2ps_loan_payload(
-    alloc: Global,
     domain: &mut DomainBox,
     loan: &LoanNumbers,
     payload: &mut *mut u8,
@@ -52,10 +44,8 @@ pub extern "C" fn iox2ps_loan_payload(
     ensures same { 0 < result → len.new ≡ len.old }
     ensures unchanged { domain.new.service ≡ domain.old.service }
 {
-    let Some(boxed) = domain.take(alloc) else {
-        return NO_DOMAIN;
-    };
-    let code = loans::payload(&boxed, loan, payload, len);
-    domain.put(boxed);
-    code
+    match domain.service() {
+        Some(service) => loans::payload(service, loan, payload, len),
+        None => NO_DOMAIN,
+    }
 }

@@ -15,12 +15,10 @@ use crate::domain_box::DomainBox;
 use crate::numbers::{LoanNumbers, PublisherNumbers};
 use crate::options::PublisherOptions;
 use crate::status::NO_DOMAIN;
-use std::alloc::Global;
 
 /// Makes a publisher, as the settings say.
 #[unsafe(no_mangle)]
 pub extern "C" fn iox2ps_publisher_create(
-    alloc: Global,
     domain: &mut DomainBox,
     publisher: &mut PublisherNumbers,
 ) -> u32
@@ -32,18 +30,15 @@ pub extern "C" fn iox2ps_publisher_create(
     ensures same { 0 < result → publisher.new ≡ publisher.old }
     ensures stays { HoldsOn No_item domain.old.service domain.new.service }
 {
-    let Some(mut boxed) = domain.take(alloc) else {
-        return NO_DOMAIN;
-    };
-    let code = publishers::create(&mut boxed, publisher);
-    domain.put(boxed);
-    code
+    match domain.service() {
+        Some(service) => publishers::create(service, publisher),
+        None => NO_DOMAIN,
+    }
 }
 
 /// Makes a publisher with these options.
 #[unsafe(no_mangle)]
 pub extern "C" fn iox2ps_publisher_create_with(
-    alloc: Global,
     domain: &mut DomainBox,
     options: &PublisherOptions,
     publisher: &mut PublisherNumbers,
@@ -60,18 +55,15 @@ pub extern "C" fn iox2ps_publisher_create_with(
     ensures same { 0 < result → publisher.new ≡ publisher.old }
     ensures stays { HoldsOn No_item domain.old.service domain.new.service }
 {
-    let Some(mut boxed) = domain.take(alloc) else {
-        return NO_DOMAIN;
-    };
-    let code = publishers::create_with(&mut boxed, options, publisher);
-    domain.put(boxed);
-    code
+    match domain.service() {
+        Some(service) => publishers::create_with(service, options, publisher),
+        None => NO_DOMAIN,
+    }
 }
 
 /// Closes a publisher.
 #[unsafe(no_mangle)]
 pub extern "C" fn iox2ps_publisher_close(
-    alloc: Global,
     domain: &mut DomainBox,
     publisher: &PublisherNumbers,
 ) -> u32
@@ -83,18 +75,15 @@ pub extern "C" fn iox2ps_publisher_close(
     ensures refused { 0 < result → domain.new.service ≡ domain.old.service }
     ensures stays { HoldsOn (A_publisher (wide (publisher.now).id)) domain.old.service domain.new.service }
 {
-    let Some(mut boxed) = domain.take(alloc) else {
-        return NO_DOMAIN;
-    };
-    let code = publishers::close(&mut boxed, publisher);
-    domain.put(boxed);
-    code
+    match domain.service() {
+        Some(service) => publishers::close(service, publisher),
+        None => NO_DOMAIN,
+    }
 }
 
 /// Lends a message of so many bytes, each of which is 0, and says where they lie.
 #[unsafe(no_mangle)]
 pub extern "C" fn iox2ps_publisher_loan(
-    alloc: Global,
     domain: &mut DomainBox,
     publisher: &PublisherNumbers,
     len: usize,
@@ -111,19 +100,16 @@ pub extern "C" fn iox2ps_publisher_loan(
     ensures same { 0 < result → loan.new ≡ loan.old }
     ensures stays { HoldsOn No_item domain.old.service domain.new.service }
 {
-    let Some(mut boxed) = domain.take(alloc) else {
-        return NO_DOMAIN;
-    };
-    let code = publishers::loan(&mut boxed, publisher, len, loan, payload);
-    domain.put(boxed);
-    code
+    match domain.service() {
+        Some(service) => publishers::loan(service, publisher, len, loan, payload),
+        None => NO_DOMAIN,
+    }
 }
 
 /// Lends a message of so many bytes, whatever they are, and says where they lie. It costs the same for
 /// any length that lay in the slot before.
 #[unsafe(no_mangle)]
 pub extern "C" fn iox2ps_publisher_loan_uninit(
-    alloc: Global,
     domain: &mut DomainBox,
     publisher: &PublisherNumbers,
     len: usize,
@@ -140,10 +126,8 @@ pub extern "C" fn iox2ps_publisher_loan_uninit(
     ensures same { 0 < result → loan.new ≡ loan.old }
     ensures stays { HoldsOn No_item domain.old.service domain.new.service }
 {
-    let Some(mut boxed) = domain.take(alloc) else {
-        return NO_DOMAIN;
-    };
-    let code = uninit_loans::loan_uninit(&mut boxed, publisher, len, loan, payload);
-    domain.put(boxed);
-    code
+    match domain.service() {
+        Some(service) => uninit_loans::loan_uninit(service, publisher, len, loan, payload),
+        None => NO_DOMAIN,
+    }
 }

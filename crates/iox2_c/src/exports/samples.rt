@@ -11,12 +11,10 @@ use crate::calls::samples;
 use crate::domain_box::DomainBox;
 use crate::numbers::{HeaderNumbers, SampleNumbers};
 use crate::status::NO_DOMAIN;
-use std::alloc::Global;
 
 /// Where the bytes of a message lie, until it is given back.
 #[unsafe(no_mangle)]
 pub extern "C" fn iox2ps_sample_payload(
-    alloc: Global,
     domain: &mut DomainBox,
     sample: &SampleNumbers,
     payload: &mut *const u8,
@@ -30,18 +28,15 @@ pub extern "C" fn iox2ps_sample_payload(
     ensures same { 0 < result → len.new ≡ len.old }
     ensures unchanged { domain.new.service ≡ domain.old.service }
 {
-    let Some(boxed) = domain.take(alloc) else {
-        return NO_DOMAIN;
-    };
-    let code = samples::payload(&boxed, sample, payload, len);
-    domain.put(boxed);
-    code
+    match domain.service() {
+        Some(service) => samples::payload(service, sample, payload, len),
+        None => NO_DOMAIN,
+    }
 }
 
 /// Copies the bytes of a message.
 #[unsafe(no_mangle)]
 pub extern "C" fn iox2ps_sample_copy(
-    alloc: Global,
     domain: &mut DomainBox,
     sample: &SampleNumbers,
     bytes: &mut [u8],
@@ -60,18 +55,15 @@ pub extern "C" fn iox2ps_sample_copy(
     ensures same_length { (result ≡ 1) ⊎ (result ≡ 2) → len.new ≡ len.old }
     ensures unchanged { domain.new.service ≡ domain.old.service }
 {
-    let Some(boxed) = domain.take(alloc) else {
-        return NO_DOMAIN;
-    };
-    let code = samples::copy(&boxed, sample, bytes, len);
-    domain.put(boxed);
-    code
+    match domain.service() {
+        Some(service) => samples::copy(service, sample, bytes, len),
+        None => NO_DOMAIN,
+    }
 }
 
 /// Where a message comes from.
 #[unsafe(no_mangle)]
 pub extern "C" fn iox2ps_sample_header(
-    alloc: Global,
     domain: &mut DomainBox,
     sample: &SampleNumbers,
     header: &mut HeaderNumbers,
@@ -84,21 +76,15 @@ pub extern "C" fn iox2ps_sample_header(
     ensures same { 0 < result → header.new ≡ header.old }
     ensures unchanged { domain.new.service ≡ domain.old.service }
 {
-    let Some(boxed) = domain.take(alloc) else {
-        return NO_DOMAIN;
-    };
-    let code = samples::header(&boxed, sample, header);
-    domain.put(boxed);
-    code
+    match domain.service() {
+        Some(service) => samples::header(service, sample, header),
+        None => NO_DOMAIN,
+    }
 }
 
 /// Gives a message back.
 #[unsafe(no_mangle)]
-pub extern "C" fn iox2ps_sample_release(
-    alloc: Global,
-    domain: &mut DomainBox,
-    sample: &SampleNumbers,
-) -> u32
+pub extern "C" fn iox2ps_sample_release(domain: &mut DomainBox, sample: &SampleNumbers) -> u32
     ensures no_domain { (result ≡ 1) ↔ (domain.old.service ≡ None) }
     ensures code { result < 3 }
     ensures not_live { result ≡ 2 → KnowsNo (λ kept. IsSampleKey kept (named_sample sample.now)) domain.old.service }
@@ -108,10 +94,8 @@ pub extern "C" fn iox2ps_sample_release(
     ensures refused { 0 < result → domain.new.service ≡ domain.old.service }
     ensures stays { HoldsOn (A_sample (wide (sample.now).subscriber) (wide (sample.now).number)) domain.old.service domain.new.service }
 {
-    let Some(mut boxed) = domain.take(alloc) else {
-        return NO_DOMAIN;
-    };
-    let code = samples::release(&mut boxed, sample);
-    domain.put(boxed);
-    code
+    match domain.service() {
+        Some(service) => samples::release(service, sample),
+        None => NO_DOMAIN,
+    }
 }

@@ -14,12 +14,10 @@ use crate::calls::sends;
 use crate::domain_box::DomainBox;
 use crate::numbers::{LoanNumbers, PublisherNumbers};
 use crate::status::NO_DOMAIN;
-use std::alloc::Global;
 
 /// Sends a message, and says how many subscribers took it or which send waits.
 #[unsafe(no_mangle)]
 pub extern "C" fn iox2ps_loan_send(
-    alloc: Global,
     domain: &mut DomainBox,
     loan: &LoanNumbers,
     receivers: &mut usize,
@@ -37,18 +35,15 @@ pub extern "C" fn iox2ps_loan_send(
     ensures same_count { (result ≡ 1) ⊎ (result ≡ 2) ⊎ (result ≡ 7) → receivers.new ≡ receivers.old }
     ensures stays { HoldsOn (A_sent_loan (wide (loan.now).number) (wide (loan.now).publisher) (nat_eq result 6)) domain.old.service domain.new.service }
 {
-    let Some(mut boxed) = domain.take(alloc) else {
-        return NO_DOMAIN;
-    };
-    let code = sends::send(&mut boxed, loan, receivers, blocked);
-    domain.put(boxed);
-    code
+    match domain.service() {
+        Some(service) => sends::send(service, loan, receivers, blocked),
+        None => NO_DOMAIN,
+    }
 }
 
 /// Sends a copy of the bytes, and says how many subscribers took it or which send waits.
 #[unsafe(no_mangle)]
 pub extern "C" fn iox2ps_publisher_send_copy(
-    alloc: Global,
     domain: &mut DomainBox,
     publisher: &PublisherNumbers,
     bytes: &[u8],
@@ -65,18 +60,15 @@ pub extern "C" fn iox2ps_publisher_send_copy(
     ensures same_count { (result ≡ 1) ⊎ (result ≡ 2) ⊎ (result ≡ 7) → receivers.new ≡ receivers.old }
     ensures stays { HoldsOn (A_sent_copy (wide (publisher.now).id) (nat_eq result 6)) domain.old.service domain.new.service }
 {
-    let Some(mut boxed) = domain.take(alloc) else {
-        return NO_DOMAIN;
-    };
-    let code = sends::send_copy(&mut boxed, publisher, bytes, receivers, blocked);
-    domain.put(boxed);
-    code
+    match domain.service() {
+        Some(service) => sends::send_copy(service, publisher, bytes, receivers, blocked),
+        None => NO_DOMAIN,
+    }
 }
 
 /// Tries a send again that waits.
 #[unsafe(no_mangle)]
 pub extern "C" fn iox2ps_blocked_retry(
-    alloc: Global,
     domain: &mut DomainBox,
     blocked: &LoanNumbers,
     elapsed: u64,
@@ -90,18 +82,15 @@ pub extern "C" fn iox2ps_blocked_retry(
     ensures same_count { (result ≡ 1) ⊎ (result ≡ 2) → receivers.new ≡ receivers.old }
     ensures stays { HoldsOn (A_blocked_send (wide (blocked.now).publisher)) domain.old.service domain.new.service }
 {
-    let Some(mut boxed) = domain.take(alloc) else {
-        return NO_DOMAIN;
-    };
-    let code = sends::retry(&mut boxed, blocked, elapsed, receivers);
-    domain.put(boxed);
-    code
+    match domain.service() {
+        Some(service) => sends::retry(service, blocked, elapsed, receivers),
+        None => NO_DOMAIN,
+    }
 }
 
 /// Gives up the subscriber for which a send waits.
 #[unsafe(no_mangle)]
 pub extern "C" fn iox2ps_blocked_give_up(
-    alloc: Global,
     domain: &mut DomainBox,
     blocked: &LoanNumbers,
     receivers: &mut usize,
@@ -114,10 +103,8 @@ pub extern "C" fn iox2ps_blocked_give_up(
     ensures same_count { (result ≡ 1) ⊎ (result ≡ 2) → receivers.new ≡ receivers.old }
     ensures stays { HoldsOn (A_blocked_send (wide (blocked.now).publisher)) domain.old.service domain.new.service }
 {
-    let Some(mut boxed) = domain.take(alloc) else {
-        return NO_DOMAIN;
-    };
-    let code = sends::give_up(&mut boxed, blocked, receivers);
-    domain.put(boxed);
-    code
+    match domain.service() {
+        Some(service) => sends::give_up(service, blocked, receivers),
+        None => NO_DOMAIN,
+    }
 }

@@ -17,12 +17,10 @@ use crate::domain_box::DomainBox;
 use crate::numbers::{SampleNumbers, SubscriberNumbers};
 use crate::options::SubscriberOptions;
 use crate::status::NO_DOMAIN;
-use std::alloc::Global;
 
 /// Makes a subscriber, as the settings say.
 #[unsafe(no_mangle)]
 pub extern "C" fn iox2ps_subscriber_create(
-    alloc: Global,
     domain: &mut DomainBox,
     subscriber: &mut SubscriberNumbers,
 ) -> u32
@@ -34,18 +32,15 @@ pub extern "C" fn iox2ps_subscriber_create(
     ensures same { 0 < result → subscriber.new ≡ subscriber.old }
     ensures stays { HoldsOn No_item domain.old.service domain.new.service }
 {
-    let Some(mut boxed) = domain.take(alloc) else {
-        return NO_DOMAIN;
-    };
-    let code = subscribers::create(&mut boxed, subscriber);
-    domain.put(boxed);
-    code
+    match domain.service() {
+        Some(service) => subscribers::create(service, subscriber),
+        None => NO_DOMAIN,
+    }
 }
 
 /// Makes a subscriber with these options.
 #[unsafe(no_mangle)]
 pub extern "C" fn iox2ps_subscriber_create_with(
-    alloc: Global,
     domain: &mut DomainBox,
     options: &SubscriberOptions,
     subscriber: &mut SubscriberNumbers,
@@ -61,18 +56,15 @@ pub extern "C" fn iox2ps_subscriber_create_with(
     ensures same { 0 < result → subscriber.new ≡ subscriber.old }
     ensures stays { HoldsOn No_item domain.old.service domain.new.service }
 {
-    let Some(mut boxed) = domain.take(alloc) else {
-        return NO_DOMAIN;
-    };
-    let code = subscribers::create_with(&mut boxed, options, subscriber);
-    domain.put(boxed);
-    code
+    match domain.service() {
+        Some(service) => subscribers::create_with(service, options, subscriber),
+        None => NO_DOMAIN,
+    }
 }
 
 /// Closes a subscriber.
 #[unsafe(no_mangle)]
 pub extern "C" fn iox2ps_subscriber_close(
-    alloc: Global,
     domain: &mut DomainBox,
     subscriber: &SubscriberNumbers,
 ) -> u32
@@ -83,18 +75,15 @@ pub extern "C" fn iox2ps_subscriber_close(
     ensures refused { 0 < result → domain.new.service ≡ domain.old.service }
     ensures stays { HoldsOn (A_subscriber (wide (subscriber.now).id)) domain.old.service domain.new.service }
 {
-    let Some(mut boxed) = domain.take(alloc) else {
-        return NO_DOMAIN;
-    };
-    let code = subscribers::close(&mut boxed, subscriber);
-    domain.put(boxed);
-    code
+    match domain.service() {
+        Some(service) => subscribers::close(service, subscriber),
+        None => NO_DOMAIN,
+    }
 }
 
 /// Receives a message, and says where its bytes lie.
 #[unsafe(no_mangle)]
 pub extern "C" fn iox2ps_subscriber_receive(
-    alloc: Global,
     domain: &mut DomainBox,
     subscriber: &SubscriberNumbers,
     sample: &mut SampleNumbers,
@@ -114,18 +103,15 @@ pub extern "C" fn iox2ps_subscriber_receive(
     ensures same_length { 0 < result → len.new ≡ len.old }
     ensures stays { HoldsOn No_item domain.old.service domain.new.service }
 {
-    let Some(mut boxed) = domain.take(alloc) else {
-        return NO_DOMAIN;
-    };
-    let code = subscribers::receive(&mut boxed, subscriber, sample, payload, len);
-    domain.put(boxed);
-    code
+    match domain.service() {
+        Some(service) => subscribers::receive(service, subscriber, sample, payload, len),
+        None => NO_DOMAIN,
+    }
 }
 
 /// Receives a message, copies its bytes and gives it back. One for which there is no room stays borrowed.
 #[unsafe(no_mangle)]
 pub extern "C" fn iox2ps_subscriber_receive_copy(
-    alloc: Global,
     domain: &mut DomainBox,
     subscriber: &SubscriberNumbers,
     bytes: &mut [u8],
@@ -149,10 +135,8 @@ pub extern "C" fn iox2ps_subscriber_receive_copy(
     ensures same_length { 0 < result → result ≢ 9 → len.new ≡ len.old }
     ensures stays { HoldsOn No_item domain.old.service domain.new.service }
 {
-    let Some(mut boxed) = domain.take(alloc) else {
-        return NO_DOMAIN;
-    };
-    let code = subscribers::receive_copy(&mut boxed, subscriber, bytes, len, sample);
-    domain.put(boxed);
-    code
+    match domain.service() {
+        Some(service) => subscribers::receive_copy(service, subscriber, bytes, len, sample),
+        None => NO_DOMAIN,
+    }
 }

@@ -4,6 +4,7 @@ pub mod Messages
 pub mod HeldMessages
 pub mod MessageLists
 pub mod BookChanges
+pub mod BookContents
 pub mod GrownBooks
 pub mod BookGone
 pub mod HolderGone

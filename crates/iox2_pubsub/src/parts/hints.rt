@@ -1,6 +1,8 @@
 //! What a handle made of numbers names is looked for first where the numbers say.
-ghost use Rattle.std.specs.Prelude.{◌≡◌, ◌↔◌, true, false, slice_index_or, IfSome, IsTrue, MatchOption, None, Some};
+ghost use Rattle.std.specs.Prelude.{◌≡◌, ◌↔◌, ◌<◌, ◌≤◌, [], true, false, length, slice_get, slice_index_or, is_some, IfSome, IsTrue, MatchOption, None, Some};
 ghost use Rattle.iox2_store.specs.SingleValues.{is_single_valued};
+ghost use Rattle.iox2_store.specs.declared.allocation.AllocationStrategy.TheVariants.{Static};
+ghost use Rattle.iox2_store.specs.machine.Limits.{last_number};
 ghost use Rattle.iox2_store.specs.machine.Records.{Entry};
 ghost use Rattle.iox2_store.specs.machine.SingleCalls.{HoldsLoan, HoldsPublisher, HoldsSample, HoldsSubscriber};
 ghost use Rattle.iox2_domain.specs.Kept.{state_of, entries_of};
@@ -9,6 +11,7 @@ ghost use Rattle.iox2_domain.specs.Invariant.{IsDomain};
 ghost use Rattle.iox2_domain.specs.LoanCalls.{HoldsUnwritten, HoldsWritten};
 ghost use Rattle.iox2_domain.specs.Ports.{PublisherFields, SubscriberFields};
 ghost use Rattle.iox2_domain.specs.LoanSlots.{IsLoanSlot, LiesInSlot};
+ghost use Rattle.iox2_slots.specs.declared.slots.mark.SlotMark.{SlotMark};
 ghost use Rattle.iox2_pubsub.specs.Parts.{IsMarkOf, written_mark};
 
 use iox2_domain::{DomainState, LoanAt, SampleAt, is_loan_slot};
@@ -57,16 +60,13 @@ pub(crate) fn find_open_subscriber<T: Drop, U: Default + Drop>(
     let Some(place) = state.find_subscriber(id, place) else {
         return None;
     };
-    match &state.subscribers[place] {
-        Some(subscriber) => {
-            if subscriber.is_open {
-                Some(place)
-            } else {
-                None
-            }
-        }
-        None => None,
+    let Some(subscriber) = &state.subscribers[place] else {
+        return None;
+    };
+    if !subscriber.is_open {
+        return None;
     }
+    Some(place)
 }
 
 // The publisher with this id stands at the place, and has the book at the key.
@@ -105,7 +105,10 @@ pub(crate) fn is_lent_at_hint<T: Drop, U: Default + Drop>(
 
 /// Whether the publisher at the place may send at once: it is due for no update, has no handler for
 /// full buffers, and no send of it waits. It returns at each test that fails, as `is_ready` does.
-pub(crate) fn sends_at_once<T, U>(state: &DomainState<T, U>, place: usize) -> bool {
+pub(crate) fn sends_at_once<T, U>(state: &DomainState<T, U>, place: usize) -> bool
+    ensures { IsTrue result → (x : PublisherFields) → slice_index_or state.now.publishers place None ≡ Some x
+        → (is_some x.blocked ≡ false) × (x.is_due ≡ false) × (is_some x.backpressure_handler ≡ false) }
+{
     let Some(Some(publisher)) = state.publishers.get(place) else {
         return false;
     };
@@ -123,7 +126,11 @@ pub(crate) fn sends_at_once<T, U>(state: &DomainState<T, U>, place: usize) -> bo
 
 /// Whether the publisher at the place may lend so many elements at once, if it has a free slot: its memory
 /// doesn't grow, no send of it waits, and neither its loans nor the domain's numbers are used up.
-pub(crate) fn lends_at_once<T, U>(state: &DomainState<T, U>, place: usize, len: usize) -> bool {
+pub(crate) fn lends_at_once<T, U>(state: &DomainState<T, U>, place: usize, len: usize) -> bool
+    ensures publisher { IsTrue result → (x : PublisherFields) → slice_index_or state.now.publishers place None ≡ Some x
+        → (is_some x.blocked ≡ false) × (x.allocation ≡ Static) × (len ≤ x.initial_max_slice_len) × (length x.loans < x.max_loaned_samples) }
+    ensures numbers { IsTrue result → state.now.next_message < last_number }
+{
     let Some(Some(publisher)) = state.publishers.get(place) else {
         return false;
     };
@@ -143,7 +150,9 @@ pub(crate) fn lends_at_once<T, U>(state: &DomainState<T, U>, place: usize, len: 
 }
 
 /// Whether the subscriber at the place receives without an update, and from no publisher that is gone.
-pub(crate) fn receives_at_once<T, U>(state: &DomainState<T, U>, place: usize) -> bool {
+pub(crate) fn receives_at_once<T, U>(state: &DomainState<T, U>, place: usize) -> bool
+    ensures { IsTrue result → (y : SubscriberFields) → slice_index_or state.now.subscribers place None ≡ Some y → (y.is_due ≡ false) × (y.expired ≡ []) }
+{
     let Some(Some(subscriber)) = state.subscribers.get(place) else {
         return false;
     };
@@ -155,7 +164,8 @@ pub(crate) fn receives_at_once<T, U>(state: &DomainState<T, U>, place: usize) ->
 
 // Whether a written loan with this number lies in the slot.
 fn is_written_slot(book: &SlotBook, slot: usize, number: u128) -> bool
-    ensures { IsTrue result → IsLoanSlot book.now slot number }
+    ensures loan { IsTrue result → IsLoanSlot book.now slot number }
+    ensures written { IsTrue result → (mark : SlotMark) × (slice_get book.now.marks slot ≡ Some mark) × (written_mark mark ≡ true) }
 {
     if slot >= book.len() {
         return false;
@@ -166,22 +176,41 @@ fn is_written_slot(book: &SlotBook, slot: usize, number: u128) -> bool
     is_loan_slot(book, slot, number)
 }
 
-/// Whether the publisher's loan is out and written, and lies in the slot that is named, in the book of
-/// the publisher that stands at its place.
-pub(crate) fn is_written_at_hint<T: Drop, U: Default + Drop>(
+// The key of the book of the publisher with this id, where it stands at the place.
+fn book_of<T: Drop, U: Default + Drop>(
+    state: &DomainState<T, U>,
+    place: usize,
+    id: UniquePublisherId,
+) -> Option<usize>
+    ensures { IfSome result (λ key. (x : PublisherFields) × (slice_index_or state.now.publishers place None ≡ Some x) × (x.id ≡ id) × (x.book ≡ key)) }
+{
+    let Some(Some(publisher)) = state.publishers.get(place) else {
+        return None;
+    };
+    if publisher.id.value() != id.value() {
+        return None;
+    }
+    Some(publisher.book)
+}
+
+/// The key of the book in which the publisher's loan lies, where the loan is out and written and lies in
+/// the slot that is named, and the publisher stands at its place. The book that is named isn't looked
+/// at: a publisher that stands has one, so that it needs no test whether it is there.
+pub(crate) fn written_at_hint<T: Drop, U: Default + Drop>(
     state: &DomainState<T, U>,
     loan: &LoanAt,
-) -> bool
+) -> Option<usize>
     requires { IsDomain state.now }
-    ensures { IsTrue result → HoldsLoan (state_of (kept_of state.now)) loan.now.publisher loan.now.number }
+    ensures written { IfSome result (λ _. HoldsWritten (state_of (kept_of state.now)) loan.now.publisher loan.now.number) }
+    ensures placed { IfSome result (λ _. (x : PublisherFields) × (slice_index_or state.now.publishers loan.now.place None ≡ Some x) × (x.id ≡ loan.now.publisher)) }
 {
-    if has_book(state, loan.place, loan.publisher, loan.book) {
-        match state.books.get(loan.book) {
-            Some(book) => is_written_slot(book, loan.slot, loan.number),
-            None => false,
-        }
+    let Some(key) = book_of(state, loan.place, loan.publisher) else {
+        return None;
+    };
+    if is_written_slot(&state.books[key], loan.slot, loan.number) {
+        Some(key)
     } else {
-        false
+        None
     }
 }
 

@@ -1,16 +1,19 @@
-//! A publisher asks about the channels of its connections.
-ghost use Rattle.std.specs.Prelude.{◌≡◌, ◌<◌};
+//! A publisher asks about the channels of its connections, and closes them.
+ghost use Rattle.std.specs.Prelude.{◌≡◌, ◌≢◌, ◌⊎◌, ◌<◌, ℕ};
 
 use crate::domain::Domain;
 use crate::publisher::Publisher;
-use iox2_messages::{is_sent_hinted, is_sent_in, place_of_receiver};
+use iox2_messages::{close_sent, is_sent_hinted, is_sent_in, place_of_receiver};
 use iox2_store::{BackpressureFn, DegradationFn};
 
 impl Publisher {
-    ghost use Rattle.iox2_store.specs.machine.ChannelCalls.{connection_place, has_channel_state, has_disconnect_hint};
+    ghost use Rattle.std.specs.Prelude.{Some};
+    ghost use Rattle.iox2_store.specs.machine.ChannelCalls.{connection_place, has_channel_state, has_disconnect_hint, sent_closed};
     ghost use Rattle.iox2_store.specs.machine.State.{State, Messages};
-    ghost use Rattle.iox2_pubsub.specs.Live.{IsPlacedPublisher, IsPublisherKey, publisher_key};
-    ghost use Rattle.iox2_pubsub.specs.Handles.{publisher_id};
+    ghost use Rattle.iox2_pubsub.specs.Live.{IsConnected, IsPlacedPublisher, IsPublisherKey, IsUpToDate, RoomStays, Stays, WaitingStays, publisher_key};
+    ghost use Rattle.iox2_pubsub.specs.LoansLeft.{LoansLeftStay};
+    ghost use Rattle.iox2_pubsub.specs.declared.subscriber.Subscriber.{Subscriber};
+    ghost use Rattle.iox2_pubsub.specs.Handles.{publisher_id, subscriber_id};
     ghost use Rattle.iox2_domain.specs.Shows.{Shows};
 
     /// Names the publisher's connection to a subscriber, where it has one: by the subscriber's
@@ -45,7 +48,8 @@ impl Publisher {
         requires channel { channel < 1 }
         ensures { (m : Messages T U) (s : State T U) → Shows domain.now m s → result ≡ has_channel_state s (publisher_id self.now) channel connection state }
     {
-        let _number = channel;
+        // A connection has one channel, so its number leaves nothing to choose.
+        let _ = channel;
         is_sent_in(&domain.state, self.place, connection, state)
     }
 
@@ -65,7 +69,40 @@ impl Publisher {
         requires channel { channel < 1 }
         ensures { (m : Messages T U) (s : State T U) → Shows domain.now m s → result ≡ has_disconnect_hint s (publisher_id self.now) channel connection state }
     {
-        let _number = channel;
+        // A connection has one channel, so its number leaves nothing to choose.
+        let _ = channel;
         is_sent_hinted(&domain.state, self.place, connection, state)
+    }
+
+    /// Closes a channel at a connection, where it is in the state `expected`. A closed channel takes
+    /// no message and gets no history, no handler is asked of it, and its subscriber isn't counted;
+    /// what waits there can be received as before. Where the channel is in another state, or there is
+    /// no such connection, nothing changes. `channel` is its number: a connection has one channel,
+    /// number 0. Takes no memory.
+    ///
+    /// iceoryx2's `Sender::close_channel` (`src/port/details/sender.rs`), which is internal.
+    pub fn close_channel<T: Drop, U: Default + Drop, F: BackpressureFn, G: DegradationFn>(
+        &self,
+        domain: &mut Domain<T, U, F, G>,
+        channel: usize,
+        connection: usize,
+        expected: u64,
+    )
+        requires there { IsPublisherKey domain.old (publisher_key self.now) }
+        requires placed { IsPlacedPublisher domain.old self.now }
+        requires channel { channel < 1 }
+        ensures closed { (m : Messages T U) (s : State T U) → Shows domain.old m s → Shows domain.new m (sent_closed s (publisher_id self.now) channel connection expected) }
+        ensures waits { WaitingStays domain.old domain.new }
+        ensures up_to_date { (subscriber : Subscriber) → IsUpToDate domain.old subscriber → IsUpToDate domain.new subscriber }
+        ensures connections { (m : Messages T U) (s : State T U) (publisher : ℕ) (subscriber : Subscriber) → Shows domain.old m s
+            → (publisher ≢ publisher_id self.now) ⊎ (connection_place s publisher (subscriber_id subscriber) ≢ Some connection)
+            → IsConnected domain.old publisher subscriber → IsConnected domain.new publisher subscriber }
+        ensures room { RoomStays domain.old domain.new }
+        ensures loans_left { LoansLeftStay domain.old domain.new }
+        ensures stays { Stays domain.old domain.new }
+    {
+        // A connection has one channel, so its number leaves nothing to choose.
+        let _ = channel;
+        close_sent(&mut domain.state, self.place, connection, expected);
     }
 }

@@ -59,10 +59,7 @@ impl Sample {
         ensures reads { IfSome result (λ values. SampleHasValues domain.now (sample_key (as_sample self.now)) values.now) }
         ensures same { IfSome result (λ found. (values : List T) → SampleHasValues domain.now (sample_key (as_sample self.now)) values → found.now ≡ values) }
     {
-        match sample_values_at_hint(&domain.state, &self.sample.sample) {
-            Some(values) => Some(values),
-            None => None,
-        }
+        sample_values_at_hint(&domain.state, &self.sample.sample)
     }
 
     /// Gives the message back.

@@ -1,15 +1,19 @@
-//! A subscriber asks about the channels of its connections.
-ghost use Rattle.std.specs.Prelude.{◌≡◌, ◌<◌};
+//! A subscriber asks about the channels of its connections, and changes them.
+ghost use Rattle.std.specs.Prelude.{◌≡◌, ◌≢◌, ◌<◌, ℕ};
 
 use crate::domain::Domain;
 use crate::subscriber::Subscriber;
-use iox2_messages::some_received_in;
+use iox2_messages::{ChannelChange, all_received_in, change_received, some_received_in};
+use iox2_slots::CHANNEL_STATE_CLOSED;
 use iox2_store::{BackpressureFn, DegradationFn};
 
 impl Subscriber {
-    ghost use Rattle.iox2_store.specs.machine.ChannelCalls.{some_channel_has_state};
+    ghost use Rattle.iox2_store.specs.machine.ChannelCalls.{SetChannelState, received_closed, received_hinted, some_channel_has_state};
     ghost use Rattle.iox2_store.specs.machine.State.{State, Messages};
-    ghost use Rattle.iox2_pubsub.specs.Live.{IsLiveSubscriber};
+    ghost use Rattle.iox2_pubsub.specs.Leaves.{Leaves};
+    ghost use Rattle.iox2_pubsub.specs.Live.{IsConnected, IsLiveSubscriber, IsUpToDate, RoomStays, Stays, WaitingStays};
+    ghost use Rattle.iox2_pubsub.specs.LoansLeft.{LoansLeftStay};
+    ghost use Rattle.iox2_pubsub.specs.declared.subscriber.Subscriber.{Subscriber as Handle};
     ghost use Rattle.iox2_pubsub.specs.Handles.{subscriber_id};
     ghost use Rattle.iox2_domain.specs.Shows.{Shows};
 
@@ -29,7 +33,95 @@ impl Subscriber {
         requires channel { channel < 1 }
         ensures { (m : Messages T U) (s : State T U) → Shows domain.now m s → result ≡ some_channel_has_state s (subscriber_id self.now) channel state }
     {
-        let _number = channel;
+        // A connection has one channel, so its number leaves nothing to choose.
+        let _ = channel;
         some_received_in(&domain.state, self.place, state)
+    }
+
+    /// Brings a channel from the closed state into another one, at each connection of the subscriber
+    /// where it is closed: it takes messages then, unless the state is the closed one, `u64::MAX`,
+    /// again. A new channel is in the state 0; any other is the caller's. Where the channel isn't
+    /// closed it stays as it is. `channel` is its number: a connection has one channel, number 0.
+    /// Returns whether it was closed at every connection, and so `true` where there is none: that
+    /// with a new publisher comes with the subscriber's next update, receive or question. Takes no
+    /// memory.
+    ///
+    /// iceoryx2's `Receiver::set_channel_state` (`src/port/details/receiver.rs`), which is internal.
+    pub fn set_channel_state<T: Drop, U: Default + Drop, F: BackpressureFn, G: DegradationFn>(
+        &self,
+        domain: &mut Domain<T, U, F, G>,
+        channel: usize,
+        state: u64,
+    ) -> bool
+        requires live { IsLiveSubscriber domain.old self.now }
+        requires channel { channel < 1 }
+        ensures sets { (m : Messages T U) (s : State T U) → Shows domain.old m s
+            → (s' : State T U) × Shows domain.new m s' × SetChannelState s (subscriber_id self.now) channel state s' result }
+        ensures leaves { Leaves domain.old domain.new }
+    {
+        // A connection has one channel, so its number leaves nothing to choose.
+        let _ = channel;
+        let were_closed = all_received_in(&domain.state, self.place, CHANNEL_STATE_CLOSED);
+        let change = ChannelChange::SetState(state);
+        change_received(&mut domain.state, self.place, CHANNEL_STATE_CLOSED, change);
+        were_closed
+    }
+
+    /// Closes a channel at each connection of the subscriber where it is in the state `expected`. A
+    /// closed channel takes no message and gets no history, no handler is asked of it, and its
+    /// subscriber isn't counted; what waits there can be received as before. Where the channel is in
+    /// another state nothing changes. A connection with a publisher that comes later is open.
+    /// `channel` is its number: a connection has one channel, number 0. Takes no memory.
+    ///
+    /// iceoryx2's `Receiver::close_channel` (`src/port/details/receiver.rs`), which is internal.
+    pub fn close_channel<T: Drop, U: Default + Drop, F: BackpressureFn, G: DegradationFn>(
+        &self,
+        domain: &mut Domain<T, U, F, G>,
+        channel: usize,
+        expected: u64,
+    )
+        requires live { IsLiveSubscriber domain.old self.now }
+        requires channel { channel < 1 }
+        ensures closed { (m : Messages T U) (s : State T U) → Shows domain.old m s → Shows domain.new m (received_closed s (subscriber_id self.now) channel expected) }
+        ensures waits { WaitingStays domain.old domain.new }
+        ensures up_to_date { (subscriber : Handle) → IsUpToDate domain.old subscriber → IsUpToDate domain.new subscriber }
+        ensures connections { (publisher : ℕ) (other : Handle) → subscriber_id other ≢ subscriber_id self.now → IsConnected domain.old publisher other → IsConnected domain.new publisher other }
+        ensures room { RoomStays domain.old domain.new }
+        ensures loans_left { LoansLeftStay domain.old domain.new }
+        ensures stays { Stays domain.old domain.new }
+    {
+        // A connection has one channel, so its number leaves nothing to choose.
+        let _ = channel;
+        let change = ChannelChange::SetState(CHANNEL_STATE_CLOSED);
+        change_received(&mut domain.state, self.place, expected, change);
+    }
+
+    /// Hints at each connection of the subscriber, where a channel is in the state `expected`, that
+    /// the subscriber is about to disconnect. The publisher sees it by
+    /// `Publisher::has_disconnect_hint`; the hint goes with the channel's next change of state. Where
+    /// the channel is in another state nothing changes. `channel` is its number: a connection has one
+    /// channel, number 0. Takes no memory.
+    ///
+    /// iceoryx2's `Receiver::set_disconnect_hint` (`src/port/details/receiver.rs`), which is
+    /// internal.
+    pub fn set_disconnect_hint<T: Drop, U: Default + Drop, F: BackpressureFn, G: DegradationFn>(
+        &self,
+        domain: &mut Domain<T, U, F, G>,
+        channel: usize,
+        expected: u64,
+    )
+        requires live { IsLiveSubscriber domain.old self.now }
+        requires channel { channel < 1 }
+        ensures hinted { (m : Messages T U) (s : State T U) → Shows domain.old m s → Shows domain.new m (received_hinted s (subscriber_id self.now) channel expected) }
+        ensures leaves { Leaves domain.old domain.new }
+    {
+        // A connection has one channel, so its number leaves nothing to choose.
+        let _ = channel;
+        change_received(
+            &mut domain.state,
+            self.place,
+            expected,
+            ChannelChange::SetHint,
+        );
     }
 }

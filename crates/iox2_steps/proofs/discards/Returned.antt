@@ -66,9 +66,6 @@ module _ {T U : Type 0} (f : Fields T U) (sound : IsDomain f) (i : ℕ) (x : Pub
   same-slots : KeepsSlots b given
   same-slots = keeps_slots f parts x.book b at slot n l lies alone
 
-  fewer : (s : ℕ) → holders_at given s + one_if s slot ≡ holders_at b s
-  fewer = fewer-holders f parts x.book b at slot n l lies alone
-
   -- ---- the state
 
   abbrev without_loan : Publisher → Publisher
@@ -96,7 +93,7 @@ module _ {T U : Type 0} (f : Fields T U) (sound : IsDomain f) (i : ℕ) (x : Pub
   -- the fields agree with one another
   returned-parts : HasParts returned
   returned-parts =
-      own-parts f parts i x here b at mine (with_loan_out slot x) keeps given same-slots (λ s. omega (arith, fewer s, fewer-loans s)) refl lends
+      own-parts f parts i x here b at mine (with_loan_out slot x) keeps given same-slots (λ s. omega (arith, fewer-holders f parts x.book b at slot n l lies alone s, fewer-loans s)) refl lends
       (given-aligned f parts x.book b at slot n l lies alone) (left-numbered f parts x.book b at slot n l lies alone)
       (record { at = (left-shapes f parts x.book b at slot n l lies alone).at })
     where

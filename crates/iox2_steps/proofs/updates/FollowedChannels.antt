@@ -1,5 +1,5 @@
 -- Channels follow their connections: step by step, and in the end as a port's step leaves them.
-use Rattle.std.proofs.Common.{◌≡◌, ℕ, zero, suc, Bool, true, false, cond, ◌&&◌, List, eqb, refl, ap, sym, subst, ◌∙◌, inl, inr, ◌⊎◌, Option, None, Some, get_or}
+use Rattle.std.proofs.Common.{◌≡◌, ℕ, Bool, true, false, cond, eqb, refl, ap, sym, subst, ◌∙◌, inl, inr, ◌⊎◌, Option, None, Some, get_or}
 use Rattle.std.proofs.lemmas.Bool.{eqb-true}
 use Rattle.std.specs.Option.{option_map}
 use Rattle.slab.specs.Slab.{Slab, get}
@@ -10,7 +10,7 @@ use Rattle.iox2_ends.specs.Homes.{IsApart, SameHomes, fixed_of}
 use Rattle.iox2_ends.specs.LookUp.{look_up}
 use Rattle.iox2_ends.specs.Mailboxes.{is_between, channels_of, channels_if_any, channels_in}
 use Rattle.iox2_ends.proofs.LookUps.{look_up-nothing, look_up-there, look_up-none}
-use Rattle.iox2_ends.proofs.MailboxChanges.{was, is_between-own, both-true, channels-there}
+use Rattle.iox2_ends.proofs.MailboxChanges.{is_between-own, both-true, channels-there}
 use Rattle.iox2_domain.specs.KeptLinks.{HasLink, SameChannels, NoLink, IsMade, ChannelsFollow}
 use Rattle.iox2_domain.proofs.lemmas.containers.Extensions.{Extends}
 use mathlib.Core.Path.{fun_ext}

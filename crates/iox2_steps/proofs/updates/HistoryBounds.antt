@@ -26,9 +26,10 @@ use Rattle.iox2_domain.specs.Kept.{state_of}
 use Rattle.iox2_domain.specs.Fields.{Fields, kept_of, publisher_of, numbers_of}
 use Rattle.iox2_domain.specs.Invariant.{IsDomain}
 use Rattle.iox2_domain.proofs.lemmas.fields.ConnectionEnds.{publisher-stands, occupant-sender_ends}
-use Rattle.iox2_domain.proofs.lemmas.fields.Standing.{one-publisher, some_is}
+use Rattle.iox2_domain.proofs.lemmas.fields.Standing.{some_is}
 use Rattle.iox2_domain.proofs.lemmas.fields.Views.{mailboxes-are}
 use Rattle.iox2_domain.proofs.lemmas.slots.PublisherBooks.{book-counts}
+use Rattle.iox2_domain.proofs.lemmas.slots.SlotsInUse.{none_returned}
 use Rattle.iox2_steps.proofs.sends.LoanAlone.{once-times}
 
 module _ {T U : Type 0} (f : Fields T U) (sound : IsDomain f) (i : ℕ) (x : PublisherFields) (here : get_or f.publishers i None ≡ Some x)
@@ -53,20 +54,10 @@ module _ {T U : Type 0} (f : Fields T U) (sound : IsDomain f) (i : ℕ) (x : Pub
   box-is key c there its = mailboxes-are f x.id c.home.subscriber ∙ mailbox-there (numbers_of f.books) f.connections key x.id c.home.subscriber c sound.parts.apart there its refl
 
   module _ (reclaimed : HasReclaimed f.connections x.keys) where
-    nothing-returned : (key : ℕ) (c : Link) → get f.connections key ≡ Some c → c.home.publisher ≡ x.id → c.returned ≡ []
-    nothing-returned key c there its = elim (sound.parts.linked.returned key c there) [
-      | inr none ↦ none
-      | inl has ↦
-          let place : c.home.publisher_place ≡ i = one-publisher f sound.parts c.home.publisher_place i has.publisher x has.stands here (has.is_its ∙ its) in
-          let both : Some has.publisher ≡ Some x = sym has.stands ∙ ap (λ (n : ℕ). get_or f.publishers n None) place ∙ here in
-          let is : has.publisher ≡ x = cc in
-          reclaimed.at c.home.subscriber_place key c (ap (λ (z : PublisherFields). get_or z.keys c.home.subscriber_place None) (sym is) ∙ has.has) there
-    ]
-
     stands-once : (slot key : ℕ) (c : Link) → get f.connections key ≡ Some c → c.home.publisher ≡ x.id → (times slot (c.waiting ++ c.borrowed) ≡ stands_in slot c) × (stands_in slot c ≤ 1)
     stands-once slot key c there its =
         let all : times slot (c.waiting ++ c.borrowed) ≡ times slot c.waiting + times slot c.borrowed = times-append slot c.waiting c.borrowed in
-        let none : times slot c.returned ≡ 0 = ap (times slot) (nothing-returned key c there its) in
+        let none : times slot c.returned ≡ 0 = ap (times slot) (none_returned f sound i x here reclaimed key c there its) in
         let numbers : numbers_in (s.mailboxes x.id c.home.subscriber) ≡ map (numbers_of f.books x.id) (c.waiting ++ c.borrowed) =
         ap numbers_in (box-is key c there its) ∙ sym (map-append (numbers_of f.books x.id) c.waiting c.borrowed) in
         let once : times slot (c.waiting ++ c.borrowed) ≤ 1 = once-times (numbers_of f.books x.id) slot (c.waiting ++ c.borrowed) (subst IsOnce numbers (sound.well_formed.mailboxes x.id c.home.subscriber).within.once) in

@@ -1,5 +1,5 @@
 -- The channels that the machine resets are those of connections that are gone.
-use Rattle.std.proofs.Common.{◌≡◌, ◌≢◌, ℕ, zero, suc, Bool, true, false, cond, ◌&&◌, ◌||◌, List, [], ◌∷◌, eqb, map, refl, ap, sym, subst, ◌∙◌, inl, inr, ◌⊎◌, Option, None, Some, get_or}
+use Rattle.std.proofs.Common.{◌≡◌, ℕ, zero, suc, Bool, true, false, cond, List, [], ◌∷◌, eqb, map, refl, ap, sym, subst, ◌∙◌, inl, inr, ◌⊎◌, Option, None, Some, get_or}
 use Rattle.std.proofs.lemmas.Bool.{cases_eq, eqb-true, eq-eqb, ne_eqb, or_cases, or_left, or_right}
 use Rattle.std.specs.Option.{option_map, option_map_or}
 use Rattle.slab.specs.Slab.{Slab, get}
@@ -14,7 +14,7 @@ use Rattle.iox2_store.specs.machine.WellFormed.{LeadsTo}
 use Rattle.iox2_ends.specs.Finds.{IsReceivers}
 use Rattle.iox2_ends.specs.Homes.{IsSenders}
 use Rattle.iox2_ends.specs.LookUp.{look_up}
-use Rattle.iox2_ends.specs.Mailboxes.{is_between, channels_if_any, channels_in, subscriber_of_key, publisher_of_key, sender_ends, receiver_ends}
+use Rattle.iox2_ends.specs.Mailboxes.{is_between, channels_in, subscriber_of_key, publisher_of_key, sender_ends, receiver_ends}
 use Rattle.iox2_ends.proofs.LookUps.{look_up-none, look_up-there}
 use Rattle.iox2_ends.proofs.MailboxChanges.{is_between-own, both-true}
 use Rattle.iox2_laws.proofs.NumberLemmas.{contains_left, contains_right, contains_in_append}
@@ -22,12 +22,12 @@ use Rattle.iox2_laws.proofs.PlaceLemmas.{contains-occupants, leads_to}
 use Rattle.iox2_domain.specs.Fields.{Fields, kept_of, publisher_of, subscriber_of}
 use Rattle.iox2_domain.specs.Invariant.{HasParts, SenderHas, ReceiverHas, is_publisher, is_subscriber}
 use Rattle.iox2_domain.specs.Kept.{Named, state_of, is_named}
-use Rattle.iox2_domain.specs.KeptLinks.{HasLink, NoLink, ChannelsFollow}
+use Rattle.iox2_domain.specs.KeptLinks.{NoLink, ChannelsFollow}
 use Rattle.iox2_domain.specs.Midway.{with_channels_of}
 use Rattle.iox2_domain.specs.Ports.{PublisherFields, SubscriberFields}
 use Rattle.iox2_domain.proofs.lemmas.containers.LookUps.{look_up-map}
 use Rattle.iox2_domain.proofs.lemmas.fields.ConnectionEnds.{publisher-stands, subscriber-stands, occupant-sender_ends}
-use Rattle.iox2_domain.proofs.lemmas.fields.KeptChannels.{channels-are, whole-state}
+use Rattle.iox2_domain.proofs.lemmas.fields.KeptChannels.{channels-are}
 use Rattle.iox2_domain.proofs.lemmas.fields.OwnKeys.{known, receiver-leads}
 use Rattle.iox2_domain.specs.Departures.{KnowsKey}
 use Rattle.iox2_domain.proofs.lemmas.fields.Standing.{some_is}

@@ -1,8 +1,9 @@
-use Rattle.iox2_domain.proofs.lemmas.loans.LoanCalls.{contents-there, assume-allowed, assume-refused, assume-done}
+use Rattle.iox2_domain.proofs.lemmas.slots.BookContents.{contents-there}
+use Rattle.iox2_domain.proofs.lemmas.loans.LoanCalls.{assume-allowed, assume-refused, assume-done}
 use Rattle.iox2_deliveries.proofs.loan_calls.assume_loan.Goals as goal
 
 pub contents_mut-requires : goal.contents_mut-requires
-contents_mut-requires g c = contents-there {T = g.row.T.Denot} {U = g.row.U.Denot} c.args.state.now c.requires.agrees c.find_live_loan-at.result.book (c.find_live_loan-at.ensures).book (c.find_live_loan-at.ensures).stands
+contents_mut-requires g c = contents-there {T = g.row.T.Denot} {U = g.row.U.Denot} c.args.state.now (c.requires.agrees).parts c.find_live_loan-at.result.book (c.find_live_loan-at.ensures).book (c.find_live_loan-at.ensures).stands
 
 pub assume_init-requires : goal.assume_init-requires
 assume_init-requires g c = assume-allowed {T = g.row.T.Denot} {U = g.row.U.Denot} c.args.state.now c.requires.agrees c.args.loan.now.publisher c.args.loan.now.number c.find_live_loan-at.result.book c.find_live_loan-at.result.slot c.find_live_loan-at.ensures c.contents_mut.result.now c.contents_mut.ensures.value c.requires.live

@@ -1,17 +1,15 @@
 -- Channels of connections change, and which connections are marked as open.
-use Rattle.std.proofs.Common.{◌≡◌, ℕ, ◌+◌, ◌≤◌, Bool, true, false, map, refl, ap, sym, subst, ◌∙◌, inl, inr, ◌⊎◌, Option, None, Some, []}
+use Rattle.std.proofs.Common.{◌≡◌, ℕ, ◌+◌, ◌≤◌, true, false, map, refl, ap, sym, subst, ◌∙◌, inl, inr, ◌⊎◌, Option, None, Some, []}
 use Rattle.std.specs.Option.{option_map}
 use Rattle.slab.specs.Slab.{Slab, get}
 use Rattle.iox2_slots.specs.Link.{Link}
-use Rattle.iox2_slots.specs.declared.connection.Home.{Home}
 use Rattle.iox2_store.specs.machine.Channel.{new_channel}
-use Rattle.iox2_store.specs.machine.Mailbox.{Mailbox, empty_mailbox}
 use Rattle.iox2_store.specs.machine.State.{State}
 use Rattle.iox2_store.specs.machine.WellFormed.{IsWellFormed}
 use Rattle.iox2_ends.specs.Counters.{stands}
 use Rattle.iox2_ends.specs.Homes.{IsApart}
 use Rattle.iox2_ends.specs.LookUp.{look_up}
-use Rattle.iox2_ends.specs.Mailboxes.{is_between, mailbox_of, mailbox_if_any, mailboxes_of, channels_in}
+use Rattle.iox2_ends.specs.Mailboxes.{is_between, mailbox_if_any, mailboxes_of, channels_in}
 use Rattle.iox2_domain.specs.Fields.{Fields, kept_of, numbers_of}
 use Rattle.iox2_domain.specs.Invariant.{IsDomain, HasBooks, HasParts, HasExpiredRoom, IsBetweenOpen, IsBookOf, IsCounted, NamesBooks, SenderHas, one_if_receivers, own_holders}
 use Rattle.iox2_domain.specs.Kept.{state_of, port_named, ids}

@@ -1,5 +1,5 @@
 -- What lies in the slot of a loan that is out is changed.
-use Rattle.std.proofs.Common.{◌≡◌, ◌≢◌, ℕ, ◌*◌, List, [], map, length, Bool, true, false, cond, get_or, refl, ap, sym, subst, ◌∙◌, inl, inr}
+use Rattle.std.proofs.Common.{◌≡◌, ◌≢◌, ℕ, ◌*◌, List, map, length, Bool, true, false, cond, get_or, refl, ap, sym, subst, ◌∙◌, inl, inr}
 use Rattle.std.proofs.lemmas.Bool.{cases_eq, eq-eqb, ne_eqb, true≢false, false_from_ne_true}
 use Rattle.std.specs.Prelude.{slice_index}
 use Rattle.std.specs.declared.option.Option.{Option}
@@ -18,7 +18,7 @@ use Rattle.iox2_slots.specs.declared.slots.mark.SlotMark.{SlotMark}
 use Rattle.iox2_slots.specs.declared.slots.mark.SlotMark.TheVariants.{Unwritten, Written, Sent}
 use Rattle.iox2_laws.proofs.LoanLaws.{with_loan_keeps}
 use Rattle.iox2_domain.specs.Kept.{KeptMessage, Lent_message, Sent_message, header_of, state_of, entries_of, is_numbered, loan_in, entry_in, message_numbered, loan_changed}
-use Rattle.iox2_domain.specs.Fields.{Fields, kept_of, message_of, message_in}
+use Rattle.iox2_domain.specs.Fields.{Fields, kept_of, message_of, message_in, contents_in}
 use Rattle.iox2_domain.specs.Invariant.{IsDomain, HasShape, HasShapes, is_lent}
 use Rattle.iox2_domain.specs.LoanSlots.{LiesInSlot}
 use Rattle.iox2_domain.specs.Reaches.{Reaches}
@@ -127,12 +127,9 @@ module _ {T U : Type 0} (f : Fields T U) (sound : IsDomain f) (p n key slot : �
       shape.length ∙ ap (λ k. k * (f.config).units_per_element) (shape.single variant) ∙ ap (λ k. 1 * k) units
 
   module _ (cs : List (ContentState T U)) (at_c : get_or f.contents key None ≡ Some cs) where
-    abbrev contents_of : Option (List (ContentState T U)) → List (ContentState T U)
-    contents_of o = elim o [ None ↦ [] | Some zs ↦ zs ]
-
     -- what lies in its slot
     pub loan-parts : LiesIn at.book cs slot (Lent_message n at.loan)
-    loan-parts = message_in-parts at.book cs slot (Lent_message n at.loan) (sym (ap (λ o. message_in at.book (contents_of o) slot) at_c) ∙ at.lies)
+    loan-parts = message_in-parts at.book cs slot (Lent_message n at.loan) (sym (ap (λ o. message_in at.book (contents_in o) slot) at_c) ∙ at.lies)
 
     module _ (mark : SlotMark) (g : ContentState T U → ContentState T U) (changed : Loan T U)
         (change : ChangesTo (at.book).publisher n loan-parts.header loan-parts.content at.loan mark g changed) where

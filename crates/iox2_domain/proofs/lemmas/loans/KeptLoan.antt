@@ -14,7 +14,7 @@ use Rattle.iox2_contents.specs.SlotContents.{ContentState, with_changed}
 use Rattle.iox2_slots.specs.declared.slots.mark.SlotMark.{SlotMark}
 use Rattle.iox2_contents.proofs.SlotReads.{set_same}
 use Rattle.iox2_domain.specs.Kept.{KeptBook, KeptMessage, state_of, loan_changed, with_loan_changed}
-use Rattle.iox2_domain.specs.Fields.{Fields, kept_of, map_from, message_in, contents_at, kept_book}
+use Rattle.iox2_domain.specs.Fields.{Fields, kept_of, map_from, message_in, contents_at, contents_in, kept_book}
 use Rattle.iox2_domain.specs.Invariant.{IsDomain}
 use Rattle.iox2_domain.specs.LoanCalls.{with_content}
 use Rattle.iox2_domain.specs.LoanSlots.{LiesInSlot}
@@ -48,9 +48,6 @@ same-books books key slot b mark at marks =
 
 module _ {T U : Type 0} (f : Fields T U) (sound : IsDomain f) (p n key slot : ℕ) (at : LiesInSlot f p n key slot)
     (cs : List (ContentState T U)) (at_c : get_or f.contents key None ≡ Some cs) where
-  abbrev contents_of : Option (List (ContentState T U)) → List (ContentState T U)
-  contents_of o = elim o [ None ↦ [] | Some zs ↦ zs ]
-
   module _ (mark : SlotMark) (marks : slice_get (at.book).marks slot ≡ Some mark) (g : ContentState T U → ContentState T U) (changed : Loan T U)
       (change : ChangesTo (at.book).publisher n (loan-parts f sound p n key slot at cs at_c).header (loan-parts f sound p n key slot at cs at_c).content at.loan mark g changed) where
     abbrev after : Fields T U
@@ -60,7 +57,7 @@ module _ {T U : Type 0} (f : Fields T U) (sound : IsDomain f) (p n key slot : �
     pub content-is : after ≡ with_content f key slot g
     content-is = λ t. record f {
       books = same-books f.books key slot at.book mark at.stands marks t;
-      contents = slice_set f.contents key (Some (with_changed (contents_of (sym at_c t)) slot g));
+      contents = slice_set f.contents key (Some (with_changed (contents_in (sym at_c t)) slot g));
     }
 
     pub content-agrees : IsDomain (with_content f key slot g)

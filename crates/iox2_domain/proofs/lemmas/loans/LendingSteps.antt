@@ -1,7 +1,6 @@
 -- What the steps of a loan need and come to.
-use Rattle.std.proofs.Common.{◌≡◌, Bool, true, false, ◌&&◌, nat_lt, ℕ, ◌+◌, ◌*◌, ◌^◌, ◌<◌, ◌≤◌, List, length, get_or, slice_set, refl, ap, sym, subst, ◌∙◌, arith}
-use Rattle.std.proofs.Math.Nat.{mul-le-mul_right, le-max_left, le-max_right}
-use Rattle.std.proofs.lemmas.Bool.{ltb-false}
+use Rattle.std.proofs.Common.{◌≡◌, ℕ, ◌+◌, ◌*◌, ◌^◌, ◌<◌, ◌≤◌, List, length, get_or, slice_set, refl, ap, sym, subst, ◌∙◌, arith}
+use Rattle.std.proofs.Math.Nat.{mul-le-mul_right}
 use Rattle.std.specs.declared.option.Option.{Option}
 use Rattle.std.specs.declared.option.Option.TheVariants.{None, Some}
 use Rattle.std.specs.Option.{option_map}
@@ -10,14 +9,11 @@ use Rattle.circular_buffer.proofs.Places.{slice_get-some}
 use Rattle.slab.specs.Slab.{get, with_value}
 use Rattle.iox2_slots.specs.SlotBook.{Book, TakesFreeSlot, header_in}
 use Rattle.iox2_contents.specs.SlotContents.{ContentState, SomeAt}
-use Rattle.iox2_store.specs.machine.Loans.{is_static}
-use Rattle.iox2_store.specs.declared.service_config.TypeVariant.TheVariants.{FixedSize}
 use Rattle.iox2_ends.proofs.MailboxChanges.{within_if_some}
 use Rattle.iox2_domain.specs.Ports.{PublisherFields, slot_length}
 use Rattle.iox2_domain.specs.Fields.{Fields}
 use Rattle.iox2_domain.specs.Invariant.{IsDomain, IsBook, HasBook, HasRoomFrom}
-use Rattle.iox2_domain.specs.Lending.{header_for, with_taken_slot, lending, Starts, CanGrant, IsNamed, Lends}
-use Rattle.iox2_domain.specs.declared.loan_slots.LoanAt.{LoanAt}
+use Rattle.iox2_domain.specs.Lending.{header_for, with_taken_slot, lending, Starts, Lends}
 use Rattle.iox2_domain.proofs.lemmas.slots.PublisherBooks.{read-there}
 use Rattle.iox2_domain.proofs.lemmas.slots.SlotRoom.{several-fit}
 
@@ -58,38 +54,6 @@ module _ {T U : Type 0} (f : Fields T U) (sound : IsDomain f) (i : ℕ) (x : Pub
   lent-fits len few short several =
       let some : 0 < x.slots = (sound.parts.plain i x at).segment.some (omega (arith, few)) in
       several-fit f.config x.slots x.segment_length len (sound.parts.publisher_room i x at).size some short several
-
-  module _ (checks : Bool) (len : ℕ) (can : CanGrant f checks len i) where
-    is-lender : can.publisher ≡ x
-    is-lender = let found : Some can.publisher ≡ Some x = sym can.stands ∙ at in cc
-
-    -- a loan that may be lent is no longer than its slots: one whose length doesn't count has one element
-    pub lent-short : (checks ≡ false → (f.config).variant ≡ FixedSize) → ((f.config).variant ≡ FixedSize → len ≡ 1) → len ≤ slot_length x.segment_length
-    lent-short unchecked one = by checks refl where
-      by : (b : Bool) → checks ≡ b → len ≤ slot_length x.segment_length
-      by true e =
-          let short : (checks && is_static x.allocation && nat_lt x.initial_max_slice_len len) ≡ false =
-          subst (λ (z : PublisherFields). (checks && is_static z.allocation && nat_lt z.initial_max_slice_len len) ≡ false) is-lender can.short in
-          let static : is_static x.allocation ≡ true = subst (λ (z : PublisherFields). is_static z.allocation ≡ true) is-lender can.static in
-          let no : nat_lt x.initial_max_slice_len len ≡ false =
-          sym (ap (λ (b : Bool). b && is_static x.allocation && nat_lt x.initial_max_slice_len len) e ∙ ap (λ (b : Bool). b && nat_lt x.initial_max_slice_len len) static) ∙ short in
-          let low : len ≤ x.initial_max_slice_len = ltb-false x.initial_max_slice_len len no in
-          let first : x.initial_max_slice_len ≤ x.segment_length = (sound.parts.plain i x at).segment.first in
-          let longest : x.segment_length ≤ slot_length x.segment_length = le-max_right 1 x.segment_length in
-          omega (arith, low, first, longest)
-      by false e =
-          let its : len ≡ 1 = one (unchecked e) in
-          let some : 1 ≤ slot_length x.segment_length = le-max_left 1 x.segment_length in
-          omega (arith, its, some)
-
-  -- it has room for a loan more
-  pub loan-fits : (checks : Bool) (len : ℕ) → CanGrant f checks len i → length x.loans < x.loan_room
-  loan-fits checks len can =
-      let found : Some can.publisher ≡ Some x = sym can.stands ∙ at in
-      let same : can.publisher ≡ x = cc in
-      let few : length x.loans < x.max_loaned_samples = subst (λ (z : PublisherFields). length z.loans < z.max_loaned_samples) same can.few in
-      let room = (sound.parts.publisher_room i x at).loans in
-      omega arith
 
   -- the steps together are a loan
   pub lends-from : (len segments : ℕ) (is_default : U → Type 0) (b b' : Book) (slot : ℕ) → get f.books x.book ≡ Some b → TakesFreeSlot b b' slot f.next_message (header_in b len)
@@ -133,17 +97,3 @@ module _ {T U : Type 0} (f : Fields T U) (sound : IsDomain f) (i : ℕ) (x : Pub
 
       lender : y' ≡ Some (lending len slot segments x)
       lender = lent ∙ ap (option_map (lending len slot segments)) (sym (read-there f.publishers i x y at read_y) ∙ at)
-
--- the loan is the publisher's, seen from the fields before
-pub named-seen : {T U : Type 0} (f old : Fields T U) (i : ℕ) (x : PublisherFields) (loan : LoanAt) → f ≡ old → get_or f.publishers i None ≡ Some x
-    → IsNamed f x loan → IsSomeAnd (get_or old.publishers i None) (λ z. IsNamed old z loan)
-named-seen {T} {U} f old i x loan view at named =
-    subst (λ (g : Fields T U). IsSomeAnd (get_or g.publishers i None) (λ z. IsNamed g z loan)) view
-    (subst (λ (o : Option PublisherFields). IsSomeAnd o (λ z. IsNamed f z loan)) (sym at) named)
-
--- seen from the fields before
-pub lends-seen : {T U : Type 0} (is_default : U → Type 0) (f old new : Fields T U) (i slot len segments : ℕ) (x : PublisherFields) → f ≡ old → get_or f.publishers i None ≡ Some x
-    → Lends is_default f i x slot len segments new → IsSomeAnd (get_or old.publishers i None) (λ z. Lends is_default old i z slot len segments new)
-lends-seen {T} {U} is_default f old new i slot len segments x view at lends =
-    subst (λ (g : Fields T U). IsSomeAnd (get_or g.publishers i None) (λ z. Lends is_default g i z slot len segments new)) view
-    (subst (λ (o : Option PublisherFields). IsSomeAnd o (λ z. Lends is_default f i z slot len segments new)) (sym at) lends)

@@ -25,6 +25,7 @@ use Rattle.iox2_domain.specs.Invariant.{IsDomain}
 use Rattle.iox2_domain.specs.LoanSlots.{LiesInSlot}
 use Rattle.iox2_domain.specs.LoanCalls.{HoldsUnwritten, HoldsWritten, HasCells, HasCell, HasLoanHeader, HasLoanUserHeader, HasContents, with_mark, with_values_written, WritesLoan, AssumesLoan}
 use Rattle.iox2_domain.proofs.lemmas.fields.SingleSettings.{single-settings}
+use Rattle.iox2_domain.proofs.lemmas.slots.BookContents.{contents-there}
 use Rattle.iox2_domain.proofs.lemmas.slots.Messages.{LiesIn, message_in-parts}
 use Rattle.iox2_domain.proofs.lemmas.loans.ChangedLoan.{one-cell, unwritten-parts, written-parts, loan-header, loan-user_header, loan-parts, with_change, change-reaches}
 use Rattle.iox2_domain.proofs.lemmas.loans.LoanChanges.{values-written}
@@ -36,27 +37,19 @@ one-element (y ∷ []) x one at = let same : Some y ≡ Some x = at in cc
 one-element (y ∷ z ∷ xs) x one at = absurd (omega arith)
 
 module _ {T U : Type 0} (f : Fields T U) (sound : IsDomain f) (key : ℕ) (b : Book) (at_b : get f.books key ≡ Some b) where
-  -- a book has contents
-  pub contents-there : (cs : List (ContentState T U)) × (get_or f.contents key None ≡ Some cs)
-  contents-there = by (get_or f.contents key None) refl (sound.parts.books.books key b at_b).shaped where
-    by : (o : Option (List (ContentState T U))) → get_or f.contents key None ≡ o → IsSomeAnd o (λ cs. length cs ≡ length b.holders)
-        → (cs : List (ContentState T U)) × (get_or f.contents key None ≡ Some cs)
-    by None e has = absurd has
-    by (Some cs) e has = (cs, e)
-
   -- the contents that are read at a book's key are there
   pub contents-read : (v : Fields T U) → v ≡ f → (o : Option (List (ContentState T U))) → o ≡ get_or v.contents key o → (cs : List (ContentState T U)) → o ≡ Some cs
       → get_or f.contents key None ≡ Some cs
   contents-read v view o read cs is =
-      get_or_default f.contents key None o (within_if_some f.contents key contents-there.0 contents-there.1)
+      get_or_default f.contents key None o (let there = contents-there f sound.parts key b at_b in within_if_some f.contents key there.0 there.1)
       ∙ sym (ap (λ (g : Fields T U). get_or g.contents key o) view)
       ∙ sym read ∙ is
 
-module _ {T U : Type 0} (f : Fields T U) (sound : IsDomain f) (p n key slot : ℕ) (at : LiesInSlot f p n key slot) where
-  -- the loan in the slot is that of the state
-  pub same-loan : (l : Loan T U) → (state_of (kept_of f)).loans n ≡ Some l → l ≡ at.loan
-  same-loan l found = let both : Some l ≡ Some at.loan = sym found ∙ at.is_out in cc
+-- the loan in the slot is that of the state
+pub same-loan : {T U : Type 0} (f : Fields T U) (p n key slot : ℕ) (at : LiesInSlot f p n key slot) (l : Loan T U) → (state_of (kept_of f)).loans n ≡ Some l → l ≡ at.loan
+same-loan {T} {U} f p n key slot at l found = let both : Some l ≡ Some at.loan = sym found ∙ at.is_out in cc
 
+module _ {T U : Type 0} (f : Fields T U) (sound : IsDomain f) (p n key slot : ℕ) (at : LiesInSlot f p n key slot) where
   -- the header of its slot
   pub header-read : (b : Book) → get f.books key ≡ Some b → (header : Header) → slice_get b.headers slot ≡ Some header → HasLoanHeader (state_of (kept_of f)) n header
   header-read b at_b header there =
@@ -175,17 +168,17 @@ module _ {T U : Type 0} (f : Fields T U) (sound : IsDomain f) (p n key slot : �
 
   -- whether the loan in the slot is written
   pub is-unwritten : HoldsUnwritten (state_of (kept_of f)) p n → (at.loan).is_written ≡ false
-  is-unwritten live = ap (λ (l : Loan T U). l.is_written) (sym (same-loan live.0 live.1)) ∙ live.3
+  is-unwritten live = ap (λ (l : Loan T U). l.is_written) (sym (same-loan f p n key slot at live.0 live.1)) ∙ live.3
 
   pub is-written : HoldsWritten (state_of (kept_of f)) p n → (at.loan).is_written ≡ true
-  is-written live = ap (λ (l : Loan T U). l.is_written) (sym (same-loan live.0 live.1)) ∙ live.3
+  is-written live = ap (λ (l : Loan T U). l.is_written) (sym (same-loan f p n key slot at live.0 live.1)) ∙ live.3
 
 -- ---- what is written at the key
 
 module _ {T U : Type 0} (f : Fields T U) (sound : IsDomain f) (p n key slot : ℕ) (at : LiesInSlot f p n key slot) (mid : Fields T U) (marked : mid ≡ with_mark f key slot at.book Written) where
   -- the contents are there still
   pub contents-still : HasContents mid key
-  contents-still = let has = contents-there f sound key at.book at.stands in (has.0, ap (λ (v : Fields T U). get_or v.contents key None) marked ∙ has.1)
+  contents-still = let has = contents-there f sound.parts key at.book at.stands in (has.0, ap (λ (v : Fields T U). get_or v.contents key None) marked ∙ has.1)
 
   module _ (there : List (ContentState T U)) (has : get_or mid.contents key None ≡ Some there) (live : HoldsUnwritten (state_of (kept_of f)) p n) where
     pub was-there : get_or f.contents key None ≡ Some there

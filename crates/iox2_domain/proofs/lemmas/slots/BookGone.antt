@@ -1,8 +1,7 @@
 -- A book goes whose publisher is gone and of which no slot has a holder.
-use Rattle.std.proofs.Common.{◌≡◌, ◌≢◌, ◌⊎◌, ℕ, ◌+◌, List, [], map, length, cond, eqb, get_or, refl, ap, sym, subst, ◌∙◌, inl, inr, arith}
+use Rattle.std.proofs.Common.{◌≡◌, ◌≢◌, ◌⊎◌, ℕ, ◌+◌, List, [], map, cond, eqb, get_or, refl, ap, sym, subst, ◌∙◌, inl, inr, arith}
 use Rattle.std.proofs.lemmas.Bool.{cases_eq, eq-eqb, ne_eqb}
 use Rattle.std.proofs.lemmas.List.{get_or-set_same, get_or-set_other}
-use Rattle.std.specs.Prelude.{IsSomeAnd}
 use Rattle.std.specs.declared.option.Option.{Option}
 use Rattle.std.specs.declared.option.Option.TheVariants.{None, Some}
 use Rattle.std.specs.Option.{option_map, option_map_or, option_and_then}
@@ -22,6 +21,7 @@ use Rattle.iox2_domain.specs.Fields.{Fields, kept_of, kept_book, map_from, is_bo
 use Rattle.iox2_domain.specs.Invariant.{HasLoneLoans, HasNumber, HasBook, HasBooks, IsBook, NamesBooks, IsNumbered, IsCounted, HasShapes, HasForms, IsOwned, IsLeft, KeepsBooks, holders_of, own_holders, is_publisher, is_loan_in, HasParts}
 use Rattle.iox2_domain.specs.LeftBooks.{with_book_gone}
 use Rattle.iox2_domain.proofs.lemmas.containers.LookUps.{look_up-removed, IsOnly-removed}
+use Rattle.iox2_domain.proofs.lemmas.slots.BookContents.{contents-there}
 use Rattle.iox2_domain.proofs.lemmas.slots.MessageLists.{look_up-nothing_there, found_in, numbered-same}
 use Rattle.iox2_domain.proofs.lemmas.slots.Messages.{map_from_zero-at}
 use Rattle.iox2_domain.proofs.lemmas.slots.Renumbered.{map-alike}
@@ -58,15 +58,8 @@ module _ {T U : Type 0} (f : Fields T U) (parts : HasParts f) (key : ℕ) (b : B
       let is : c ≡ b = cc in
       other (ap (λ (d : Book). d.publisher) is)
 
-  -- its contents
-  contents-there : (cs : List (ContentState T U)) × (get_or f.contents key None ≡ Some cs)
-  contents-there = by (get_or f.contents key None) refl (parts.books.books key b at).shaped where
-    by : (o : Option (List (ContentState T U))) → get_or f.contents key None ≡ o → IsSomeAnd o (λ cs. length cs ≡ length b.holders) → (cs : List (ContentState T U)) × (get_or f.contents key None ≡ Some cs)
-    by None e h = absurd h
-    by (Some cs) e h = (cs, e)
-
   contents-here : get_or after.contents key None ≡ None
-  contents-here = get_or-set_same f.contents key None None (within_if_some f.contents key contents-there.0 contents-there.1)
+  contents-here = get_or-set_same f.contents key None None (let there = contents-there f parts key b at in within_if_some f.contents key there.0 there.1)
 
   contents-others : (k : ℕ) → k ≢ key → get_or after.contents k None ≡ get_or f.contents k None
   contents-others k away = get_or-set_other f.contents key k None None away

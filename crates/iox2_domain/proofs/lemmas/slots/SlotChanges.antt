@@ -1,5 +1,5 @@
 -- What lies in one slot changes: its mark and its content.
-use Rattle.std.proofs.Common.{◌≡◌, ◌≢◌, ℕ, ◌+◌, ◌*◌, ◌<◌, ◌&&◌, List, [], length, Bool, true, false, cond, eqb, get_or, slice_set, refl, ap, sym, subst, ◌∙◌, inl, inr}
+use Rattle.std.proofs.Common.{◌≡◌, ◌≢◌, ℕ, ◌+◌, ◌*◌, ◌<◌, ◌&&◌, List, length, Bool, true, false, cond, eqb, get_or, slice_set, refl, ap, sym, subst, ◌∙◌, inl, inr}
 use Rattle.std.proofs.lemmas.Bool.{cases_eq, eq-eqb, eqb-true}
 use Rattle.std.proofs.lemmas.List.{get_or-set_same, get_or-set_other, length-set}
 use Rattle.std.proofs.lemmas.Option.{slice_get_within, get_or_from_slice_get}
@@ -19,7 +19,7 @@ use Rattle.iox2_ends.specs.Counters.{times, stands}
 use Rattle.iox2_ends.proofs.LookUps.{look_up-found}
 use Rattle.iox2_domain.specs.Ports.{PublisherFields, slot_length}
 use Rattle.iox2_domain.specs.Kept.{KeptMessage, state_of, message_numbered}
-use Rattle.iox2_domain.specs.Fields.{Fields, kept_of, is_book_of, message_of, message_in, contents_at}
+use Rattle.iox2_domain.specs.Fields.{Fields, kept_of, is_book_of, message_of, message_in, contents_at, contents_in}
 use Rattle.iox2_domain.specs.Invariant.{IsDomain, IsBook, HasBooks, HasForms, HasRoomFrom, HasNumber, IsNumbered, IsCounted, is_publisher, holders_of, own_holders, is_lent, is_loan_in}
 use Rattle.iox2_domain.proofs.lemmas.containers.SetRecords.{set-here, set-others}
 use Rattle.iox2_domain.proofs.lemmas.loans.Taken.{room-with_changed, with_changed-here, with_changed-others, length-with_changed}
@@ -210,9 +210,6 @@ module _ {T U : Type 0} (f : Fields T U) (sound : IsDomain f) (key slot : ℕ) (
 
   -- ---- messages
 
-  abbrev contents_of : Option (List (ContentState T U)) → List (ContentState T U)
-  contents_of o = elim o [ None ↦ [] | Some zs ↦ zs ]
-
   -- in the other slots lies what lay there
   pub others-lie : (k s : ℕ) → ((k ≡ key) × (s ≡ slot) → ⊥) → lies_at with_slot k s ≡ lies_at f k s
   others-lie k s away = elim (cases_eq k key) [
@@ -220,7 +217,7 @@ module _ {T U : Type 0} (f : Fields T U) (sound : IsDomain f) (key slot : ℕ) (
       | inl same ↦ absurd (away (here, same))
       | inr other ↦ ap (λ (j : ℕ). lies_at with_slot j s) here ∙ in_book other ∙ sym (ap (λ (j : ℕ). lies_at f j s) here)
     ]
-    | inr other ↦ λ t. option_and_then (λ e. message_in e (contents_of (rewritten-others k other t)) s) (book-others f key b marked at_b marked-keeps k other t)
+    | inr other ↦ λ t. option_and_then (λ e. message_in e (contents_in (rewritten-others k other t)) s) (book-others f key b marked at_b marked-keeps k other t)
   ]
     where
       in_slot : s ≢ slot → message_in marked rewritten_contents s ≡ message_in b cs s
@@ -231,18 +228,18 @@ module _ {T U : Type 0} (f : Fields T U) (sound : IsDomain f) (key slot : ℕ) (
       in_book : s ≢ slot → lies_at with_slot key s ≡ lies_at f key s
       in_book other =
           ap (λ o. option_and_then (λ e. message_in e (contents_at (slice_set f.contents key (Some rewritten_contents)) key) s) o) (book-here f key b marked at_b marked-keeps)
-          ∙ ap (λ o. message_in marked (contents_of o) s) rewritten-here
+          ∙ ap (λ o. message_in marked (contents_in o) s) rewritten-here
           ∙ in_slot other
-          ∙ sym (ap (λ o. message_in b (contents_of o) s) at_c)
+          ∙ sym (ap (λ o. message_in b (contents_in o) s) at_c)
           ∙ sym (ap (λ o. option_and_then (λ e. message_in e (contents_at f.contents key) s) o) at_b)
 
   -- what lay in the slot, part by part
   slot-lay : (m : KeptMessage T U) → lies_at f key slot ≡ Some m → LiesIn b cs slot m
-  slot-lay m lies = message_in-parts b cs slot m (sym (ap (λ o. message_in b (contents_of o) slot) at_c) ∙ sym (message_at-slot f.contents f.books key slot b at_b) ∙ lies)
+  slot-lay m lies = message_in-parts b cs slot m (sym (ap (λ o. message_in b (contents_in o) slot) at_c) ∙ sym (message_at-slot f.contents f.books key slot b at_b) ∙ lies)
 
   -- what lies in it now, part by part
   slot-parts : (m : KeptMessage T U) → lies_at with_slot key slot ≡ Some m → LiesIn marked rewritten_contents slot m
-  slot-parts m lies = message_in-parts marked rewritten_contents slot m (sym (ap (λ o. message_in marked (contents_of o) slot) rewritten-here)
+  slot-parts m lies = message_in-parts marked rewritten_contents slot m (sym (ap (λ o. message_in marked (contents_in o) slot) rewritten-here)
       ∙ sym (message_at-slot (slice_set f.contents key (Some rewritten_contents)) (with_value f.books key marked) key slot marked (book-here f key b marked at_b marked-keeps)) ∙ lies)
 
   -- the message with the new mark and content
@@ -253,7 +250,7 @@ module _ {T U : Type 0} (f : Fields T U) (sound : IsDomain f) (key slot : ℕ) (
   pub slot-lies : (m : KeptMessage T U) (lies : LiesIn b cs slot m) → lies_at with_slot key slot ≡ Some (renewed m lies)
   slot-lies m lies =
       message_at-slot (slice_set f.contents key (Some rewritten_contents)) (with_value f.books key marked) key slot marked (book-here f key b marked at_b marked-keeps)
-      ∙ ap (λ o. message_in marked (contents_of o) slot) rewritten-here
+      ∙ ap (λ o. message_in marked (contents_in o) slot) rewritten-here
       ∙ message_in-from marked rewritten_contents slot (renewed m lies) (record {
         header = lies.header;
         content = g lies.content;

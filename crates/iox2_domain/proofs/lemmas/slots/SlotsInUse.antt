@@ -136,7 +136,7 @@ module _ {T U : Type 0} (f : Fields T U) (sound : IsDomain f) where
 
     module _ (reclaimed : HasReclaimed f.connections x.keys) where
       -- no slot of it that was given back isn't reclaimed
-      none_returned : (key : ℕ) (c : Link) → get f.connections key ≡ Some c → c.home.publisher ≡ x.id → c.returned ≡ []
+      pub none_returned : (key : ℕ) (c : Link) → get f.connections key ≡ Some c → c.home.publisher ≡ x.id → c.returned ≡ []
       none_returned key c at_c its = elim (sound.parts.linked.returned key c at_c) [
         | inl has ↦
             let same_id : is_publisher x.id has.publisher ≡ true = eq-eqb (has.publisher).id x.id (has.is_its ∙ its) in

@@ -18,9 +18,7 @@ use crate::domain::Domain;
 use crate::port_factory::preallocation::PreallocatedSamplesOverride;
 use crate::port_factory::publisher::{PortFactoryPublisher, create_plain};
 use crate::publisher::Publisher;
-use iox2_store::{
-    AllocationStrategy, BackpressureFn, BackpressureStrategy, DegradationFn, PublisherCreateError,
-};
+use iox2_store::{BackpressureFn, BackpressureStrategy, DegradationFn, PublisherCreateError};
 
 impl<F: BackpressureFn, G: DegradationFn, P: Fn(usize) -> usize + Drop> PortFactoryPublisher<
     F,

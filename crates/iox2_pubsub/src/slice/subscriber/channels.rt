@@ -1,14 +1,17 @@
-//! A subscriber of slices asks about the channels of its connections.
-ghost use Rattle.std.specs.Prelude.{◌≡◌, ◌<◌};
+//! A subscriber of slices asks about the channels of its connections, and changes them.
+ghost use Rattle.std.specs.Prelude.{◌≡◌, ◌≢◌, ◌<◌, ℕ};
 
 use crate::domain::Domain;
 use crate::slice::Subscriber;
 use iox2_store::{BackpressureFn, DegradationFn};
 
 impl Subscriber {
-    ghost use Rattle.iox2_store.specs.machine.ChannelCalls.{some_channel_has_state};
+    ghost use Rattle.iox2_store.specs.machine.ChannelCalls.{SetChannelState, received_closed, received_hinted, some_channel_has_state};
     ghost use Rattle.iox2_store.specs.machine.State.{State, Messages};
-    ghost use Rattle.iox2_pubsub.specs.Live.{IsLiveSubscriber};
+    ghost use Rattle.iox2_pubsub.specs.Leaves.{Leaves};
+    ghost use Rattle.iox2_pubsub.specs.Live.{IsConnected, IsLiveSubscriber, IsUpToDate, RoomStays, Stays, WaitingStays};
+    ghost use Rattle.iox2_pubsub.specs.LoansLeft.{LoansLeftStay};
+    ghost use Rattle.iox2_pubsub.specs.declared.subscriber.Subscriber.{Subscriber as Handle};
     ghost use Rattle.iox2_pubsub.specs.Handles.{as_subscriber, subscriber_id};
     ghost use Rattle.iox2_domain.specs.Shows.{Shows};
 
@@ -30,5 +33,71 @@ impl Subscriber {
     {
         self.subscriber
             .at_least_one_channel_has_state(domain, channel, state)
+    }
+
+    /// Brings a channel from the closed state into another one, at each connection of the subscriber
+    /// where it is closed, as a subscriber of single values does. `channel` is its number: a
+    /// connection has one channel, number 0. Returns whether it was closed at every connection, and so
+    /// `true` where there is none. Takes no memory.
+    ///
+    /// iceoryx2's `Receiver::set_channel_state` (`src/port/details/receiver.rs`), which is internal.
+    pub fn set_channel_state<T: Drop, U: Default + Drop, F: BackpressureFn, G: DegradationFn>(
+        &self,
+        domain: &mut Domain<T, U, F, G>,
+        channel: usize,
+        state: u64,
+    ) -> bool
+        requires live { IsLiveSubscriber domain.old (as_subscriber self.now) }
+        requires channel { channel < 1 }
+        ensures sets { (m : Messages T U) (s : State T U) → Shows domain.old m s
+            → (s' : State T U) × Shows domain.new m s' × SetChannelState s (subscriber_id (as_subscriber self.now)) channel state s' result }
+        ensures leaves { Leaves domain.old domain.new }
+    {
+        self.subscriber.set_channel_state(domain, channel, state)
+    }
+
+    /// Closes a channel at each connection of the subscriber where it is in the state `expected`, as a
+    /// subscriber of single values does. `channel` is its number: a connection has one channel,
+    /// number 0. Takes no memory.
+    ///
+    /// iceoryx2's `Receiver::close_channel` (`src/port/details/receiver.rs`), which is internal.
+    pub fn close_channel<T: Drop, U: Default + Drop, F: BackpressureFn, G: DegradationFn>(
+        &self,
+        domain: &mut Domain<T, U, F, G>,
+        channel: usize,
+        expected: u64,
+    )
+        requires live { IsLiveSubscriber domain.old (as_subscriber self.now) }
+        requires channel { channel < 1 }
+        ensures closed { (m : Messages T U) (s : State T U) → Shows domain.old m s → Shows domain.new m (received_closed s (subscriber_id (as_subscriber self.now)) channel expected) }
+        ensures waits { WaitingStays domain.old domain.new }
+        ensures up_to_date { (subscriber : Handle) → IsUpToDate domain.old subscriber → IsUpToDate domain.new subscriber }
+        ensures connections { (publisher : ℕ) (other : Handle) → subscriber_id other ≢ subscriber_id (as_subscriber self.now) → IsConnected domain.old publisher other → IsConnected domain.new publisher other }
+        ensures room { RoomStays domain.old domain.new }
+        ensures loans_left { LoansLeftStay domain.old domain.new }
+        ensures stays { Stays domain.old domain.new }
+    {
+        self.subscriber.close_channel(domain, channel, expected);
+    }
+
+    /// Hints at each connection of the subscriber, where a channel is in the state `expected`, that
+    /// the subscriber is about to disconnect, as one of single values does. `channel` is its number: a
+    /// connection has one channel, number 0. Takes no memory.
+    ///
+    /// iceoryx2's `Receiver::set_disconnect_hint` (`src/port/details/receiver.rs`), which is
+    /// internal.
+    pub fn set_disconnect_hint<T: Drop, U: Default + Drop, F: BackpressureFn, G: DegradationFn>(
+        &self,
+        domain: &mut Domain<T, U, F, G>,
+        channel: usize,
+        expected: u64,
+    )
+        requires live { IsLiveSubscriber domain.old (as_subscriber self.now) }
+        requires channel { channel < 1 }
+        ensures hinted { (m : Messages T U) (s : State T U) → Shows domain.old m s → Shows domain.new m (received_hinted s (subscriber_id (as_subscriber self.now)) channel expected) }
+        ensures leaves { Leaves domain.old domain.new }
+    {
+        self.subscriber
+            .set_disconnect_hint(domain, channel, expected);
     }
 }

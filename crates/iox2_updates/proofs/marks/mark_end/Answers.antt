@@ -3,7 +3,7 @@ use Rattle.std.proofs.lemmas.Option.{same_Some}
 use Rattle.std.specs.Prelude.{IsSomeAnd}
 use Rattle.std.specs.declared.option.Option.{Option}
 use Rattle.slab.specs.Slab.{ContainsKey, get, with_value}
-use Rattle.iox2_slots.specs.Link.{Link, with_mark}
+use Rattle.iox2_slots.specs.Link.{with_mark}
 use Rattle.iox2_slots.specs.declared.connection.Home.{Home}
 use Rattle.iox2_domain.specs.Fields.{Fields}
 use Rattle.iox2_domain.specs.OpenMarks.{ChangesMarks}

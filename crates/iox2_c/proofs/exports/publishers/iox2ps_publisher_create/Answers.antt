@@ -1,11 +1,9 @@
-use Rattle.std.proofs.Common.{ap, sym, ◌∙◌, arith}
-use Rattle.std.specs.declared.option.Option.TheVariants.{Some}
-use Rattle.iox2_c.specs.Serving.{Serving}
+use Rattle.std.proofs.Common.{refl, arith}
 use Rattle.iox2_c.proofs.BecomesSteps.{turns}
 use Rattle.iox2_c.proofs.exports.publishers.iox2ps_publisher_create.Goals as goal
 
-pub returns-clause-creates : goal.returns-clause-creates
-returns-clause-creates c = λ ok. turns _ _ _ c.deref_mut.result.now c.create-code.new.service (c.in-Some.ensures.taken ∙ sym (ap {A = Serving} Some c.deref_mut.ensures.value)) c.put.ensures (c.create-code.ensures.creates ok, c.create-code.ensures.reads ok)
+pub returns-in-Some-clause-creates : goal.returns-in-Some-clause-creates
+returns-in-Some-clause-creates c = λ ok. turns _ _ _ c.in-Some.service.now c.create.new.service c.in-Some.ensures.value refl (c.create.ensures.creates ok, c.create.ensures.reads ok)
 
-pub returns-clause-errors : goal.returns-clause-errors
-returns-clause-errors c = λ some. let failed = c.create-code.ensures.errors (omega (arith, some)) in (failed.0, failed.1, turns _ _ _ c.deref_mut.result.now c.create-code.new.service (c.in-Some.ensures.taken ∙ sym (ap {A = Serving} Some c.deref_mut.ensures.value)) c.put.ensures failed.2)
+pub returns-in-Some-clause-errors : goal.returns-in-Some-clause-errors
+returns-in-Some-clause-errors c = λ some. let failed = c.create.ensures.errors (omega (arith, some)) in (failed.0, failed.1, turns _ _ _ c.in-Some.service.now c.create.new.service c.in-Some.ensures.value refl failed.2)

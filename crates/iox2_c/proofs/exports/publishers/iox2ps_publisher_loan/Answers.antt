@@ -1,11 +1,9 @@
-use Rattle.std.proofs.Common.{ap, sym, ◌∙◌}
-use Rattle.std.specs.declared.option.Option.TheVariants.{Some}
-use Rattle.iox2_c.specs.Serving.{Serving}
+use Rattle.std.proofs.Common.{refl}
 use Rattle.iox2_c.proofs.BecomesSteps.{becomes}
 use Rattle.iox2_c.proofs.exports.publishers.iox2ps_publisher_loan.Goals as goal
 
-pub returns-clause-lends : goal.returns-clause-lends
-returns-clause-lends c = λ ok. becomes _ _ _ c.deref_mut.result.now c.loan-code.new.service (c.in-Some.ensures.taken ∙ sym (ap {A = Serving} Some c.deref_mut.ensures.value)) c.put.ensures (c.loan-code.ensures.lends ok)
+pub returns-in-Some-clause-lends : goal.returns-in-Some-clause-lends
+returns-in-Some-clause-lends c = λ ok. becomes _ _ _ c.in-Some.service.now c.loan.new.service c.in-Some.ensures.value refl (c.loan.ensures.lends ok)
 
-pub returns-clause-errors : goal.returns-clause-errors
-returns-clause-errors c = λ high. let failed = c.loan-code.ensures.errors high in (failed.0, failed.1, becomes _ _ _ c.deref_mut.result.now c.loan-code.new.service (c.in-Some.ensures.taken ∙ sym (ap {A = Serving} Some c.deref_mut.ensures.value)) c.put.ensures failed.2)
+pub returns-in-Some-clause-errors : goal.returns-in-Some-clause-errors
+returns-in-Some-clause-errors c = λ high. let failed = c.loan.ensures.errors high in (failed.0, failed.1, becomes _ _ _ c.in-Some.service.now c.loan.new.service c.in-Some.ensures.value refl failed.2)

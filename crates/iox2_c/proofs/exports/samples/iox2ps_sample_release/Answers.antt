@@ -1,8 +1,6 @@
-use Rattle.std.proofs.Common.{ap, sym, ◌∙◌}
-use Rattle.std.specs.declared.option.Option.TheVariants.{Some}
-use Rattle.iox2_c.specs.Serving.{Serving}
+use Rattle.std.proofs.Common.{refl}
 use Rattle.iox2_c.proofs.BecomesSteps.{becomes}
 use Rattle.iox2_c.proofs.exports.samples.iox2ps_sample_release.Goals as goal
 
-pub returns-clause-releases : goal.returns-clause-releases
-returns-clause-releases c = λ ok. becomes _ _ _ c.deref_mut.result.now c.release-code.new.service (c.in-Some.ensures.taken ∙ sym (ap {A = Serving} Some c.deref_mut.ensures.value)) c.put.ensures (c.release-code.ensures.releases ok)
+pub returns-in-Some-clause-releases : goal.returns-in-Some-clause-releases
+returns-in-Some-clause-releases c = λ ok. becomes _ _ _ c.in-Some.service.now c.release.new.service c.in-Some.ensures.value refl (c.release.ensures.releases ok)

@@ -1,8 +1,6 @@
-use Rattle.std.proofs.Common.{ap, sym, ◌∙◌}
-use Rattle.std.specs.declared.option.Option.TheVariants.{Some}
-use Rattle.iox2_c.specs.Serving.{Serving}
+use Rattle.std.proofs.Common.{refl}
 use Rattle.iox2_c.proofs.BecomesSteps.{becomes}
 use Rattle.iox2_c.proofs.exports.subscribers.iox2ps_subscriber_close.Goals as goal
 
-pub returns-clause-closed : goal.returns-clause-closed
-returns-clause-closed c = λ ok. becomes _ _ _ c.deref_mut.result.now c.close-code.new.service (c.in-Some.ensures.taken ∙ sym (ap {A = Serving} Some c.deref_mut.ensures.value)) c.put.ensures (c.close-code.ensures.closed ok)
+pub returns-in-Some-clause-closed : goal.returns-in-Some-clause-closed
+returns-in-Some-clause-closed c = λ ok. becomes _ _ _ c.in-Some.service.now c.close.new.service c.in-Some.ensures.value refl (c.close.ensures.closed ok)

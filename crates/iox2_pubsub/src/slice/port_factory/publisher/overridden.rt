@@ -19,9 +19,7 @@ use crate::port_factory::preallocation::PreallocatedSamplesOverride;
 use crate::port_factory::publisher::create_plain;
 use crate::slice::Publisher;
 use crate::slice::port_factory::publisher::PortFactoryPublisher;
-use iox2_store::{
-    AllocationStrategy, BackpressureFn, BackpressureStrategy, DegradationFn, PublisherCreateError,
-};
+use iox2_store::{BackpressureFn, BackpressureStrategy, DegradationFn, PublisherCreateError};
 
 impl<F: BackpressureFn, G: DegradationFn, P: Fn(usize) -> usize + Drop> PortFactoryPublisher<
     F,

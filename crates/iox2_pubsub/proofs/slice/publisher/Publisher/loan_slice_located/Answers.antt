@@ -1,11 +1,10 @@
-use Rattle.std.proofs.Common.{◌≡◌, ℕ, rules, ap, subst, sym, ◌∙◌}
+use Rattle.std.proofs.Common.{◌≡◌, ◌<◌, ℕ, subst, rules, ap, sym, ◌∙◌}
+use Rattle.std.specs.Prelude.{◌↔◌, IsSome}
 use Rattle.iox2_store.specs.declared.service_config.TypeVariant.TheVariants.{Dynamic, FixedSize}
 use Rattle.iox2_domain.specs.Kept.{Kept}
-use Rattle.iox2_pubsub.specs.Live.{A_loan, IsNewIn, lender_key, written_key}
-use Rattle.iox2_pubsub.specs.declared.sample_mut.SampleMut.{SampleMut}
 use Rattle.iox2_pubsub.specs.declared.slice.publisher.loan_located.LocatedLoan.{LocatedLoan}
 use Rattle.iox2_pubsub.proofs.DefaultSlices.{all-answers}
-use Rattle.iox2_pubsub.proofs.LocatedLoans.{filled-lends, filled-out, filled-since, granted-new, granted-out, granted-publisher, granted-several, granted-sound, refused-lends, refused-stays}
+use Rattle.iox2_pubsub.proofs.LocatedLoans.{filled-lender, filled-length, filled-lends, filled-lent, filled-never, filled-new, filled-number, filled-out, filled-publisher, filled-reads, filled-since, filled-takes, filled-unblocked, filled-updated, filled-waiting, granted-out, granted-several, granted-sound, refused-leaves, refused-lends, refused-none, refused-stays, refused-takes, refused-updated, refused-waits}
 use Rattle.iox2_pubsub.proofs.PlacedHandles.{publisher-at-place}
 use Rattle.iox2_pubsub.proofs.slice.publisher.Publisher.loan_slice_located.Goals as goal
 
@@ -32,23 +31,71 @@ pub returns-in-Ok-clause-lends : goal.returns-in-Ok-clause-lends
 returns-in-Ok-clause-lends g c = filled-lends {T = g.row.T.Denot} {U = g.row.U.Denot} g.U.Default.is_default c.args.slice_len c.domain.inside.state c.loan.new.state c.domain.invariant c.args.domain.now c.domain.view_is c.args.self.now.publisher c.requires.ready c.loan.result c.loan.ensures.reaches c.in-Ok.loan c.in-Ok.is c.in-Ok.ensures.named c.fill_from_fn-start.new.state c.fill_from_fn-start.ensures.0 c.fill_from_fn-start.ensures.2 (LocatedLoan g.row.T.Denot) c.located.result g.T.Default.is_default (all-answers _ g.T.Default.is_default (λ f i value h stepped. search rules) _ c.fill_from_fn-start.ensures.0 c.fill_from_fn-start.ensures.1)
 
 pub returns-in-Ok-clause-out : goal.returns-in-Ok-clause-out
-returns-in-Ok-clause-out g c = filled-out {T = g.row.T.Denot} {U = g.row.U.Denot} g.U.Default.is_default c.args.slice_len c.domain.inside.state c.loan.new.state c.domain.invariant c.args.domain.now c.domain.view_is c.args.self.now.publisher c.requires.ready c.loan.result c.loan.ensures.reaches c.in-Ok.loan c.in-Ok.is c.in-Ok.ensures.named c.fill_from_fn-start.new.state c.fill_from_fn-start.ensures.0 c.fill_from_fn-start.ensures.2 _ c.located.ensures
+returns-in-Ok-clause-out g c = filled-out {T = g.row.T.Denot} {U = g.row.U.Denot} g.U.Default.is_default c.args.slice_len c.domain.inside.state c.loan.new.state c.domain.invariant c.args.domain.now c.domain.view_is c.args.self.now.publisher c.requires.ready c.loan.result c.loan.ensures.reaches c.in-Ok.loan c.in-Ok.is c.in-Ok.ensures.named c.fill_from_fn-start.new.state c.fill_from_fn-start.ensures.0 c.fill_from_fn-start.ensures.2 _ c.located.ensures.handle
+
+pub returns-in-Ok-clause-live : goal.returns-in-Ok-clause-live
+returns-in-Ok-clause-live g c = filled-never {T = g.row.T.Denot} {U = g.row.U.Denot} g.U.Default.is_default c.args.slice_len c.domain.inside.state c.loan.new.state c.domain.invariant c.args.domain.now c.domain.view_is c.args.self.now.publisher c.requires.ready c.loan.result c.loan.ensures.reaches c.in-Ok.loan c.in-Ok.is c.in-Ok.ensures.named c.fill_from_fn-start.new.state c.fill_from_fn-start.ensures.0 c.fill_from_fn-start.ensures.2 _ c.located.ensures.handle
+
+pub returns-in-Ok-clause-unblocked : goal.returns-in-Ok-clause-unblocked
+returns-in-Ok-clause-unblocked g c = filled-unblocked {T = g.row.T.Denot} {U = g.row.U.Denot} g.U.Default.is_default c.args.slice_len c.domain.inside.state c.loan.new.state c.domain.invariant c.args.domain.now c.domain.view_is c.args.self.now.publisher c.requires.ready c.loan.result c.loan.ensures.reaches c.in-Ok.loan c.in-Ok.is c.in-Ok.ensures.named c.fill_from_fn-start.new.state c.fill_from_fn-start.ensures.0 c.fill_from_fn-start.ensures.2 _ c.located.ensures.handle
+
+pub returns-in-Ok-clause-reads : goal.returns-in-Ok-clause-reads
+returns-in-Ok-clause-reads g c = (
+  c.fill_from_fn-start.ensures.0,
+  all-answers _ g.T.Default.is_default (λ f i value h stepped. search rules) _ c.fill_from_fn-start.ensures.0 c.fill_from_fn-start.ensures.1,
+  filled-length {T = g.row.T.Denot} {U = g.row.U.Denot} g.U.Default.is_default c.args.slice_len c.domain.inside.state c.loan.new.state c.domain.invariant c.args.domain.now c.domain.view_is c.args.self.now.publisher c.requires.ready c.loan.result c.loan.ensures.reaches c.in-Ok.loan c.in-Ok.is c.in-Ok.ensures.named c.fill_from_fn-start.new.state c.fill_from_fn-start.ensures.0 c.fill_from_fn-start.ensures.2 _ c.located.ensures.handle c.requires.one_unit,
+  filled-reads {T = g.row.T.Denot} {U = g.row.U.Denot} g.U.Default.is_default c.args.slice_len c.domain.inside.state c.loan.new.state c.domain.invariant c.args.domain.now c.domain.view_is c.args.self.now.publisher c.requires.ready c.loan.result c.loan.ensures.reaches c.in-Ok.loan c.in-Ok.is c.in-Ok.ensures.named c.fill_from_fn-start.new.state c.fill_from_fn-start.ensures.0 c.fill_from_fn-start.ensures.2 _ c.located.ensures.handle,
+)
+
+pub returns-in-Ok-clause-start : goal.returns-in-Ok-clause-start
+returns-in-Ok-clause-start g c =
+    let fills = subst (λ (len : ℕ). IsSome c.fill_from_fn-start.result ↔ 0 < len) (filled-length {T = g.row.T.Denot} {U = g.row.U.Denot} g.U.Default.is_default c.args.slice_len c.domain.inside.state c.loan.new.state c.domain.invariant c.args.domain.now c.domain.view_is c.args.self.now.publisher c.requires.ready c.loan.result c.loan.ensures.reaches c.in-Ok.loan c.in-Ok.is c.in-Ok.ensures.named c.fill_from_fn-start.new.state c.fill_from_fn-start.ensures.0 c.fill_from_fn-start.ensures.2 _ c.located.ensures.handle c.requires.one_unit) c.fill_from_fn-start.ensures.3 in
+    (λ some. fills.0 (c.located.ensures.start.0 some), λ long. c.located.ensures.start.1 (fills.1 long))
 
 pub returns-in-Ok-clause-new : goal.returns-in-Ok-clause-new
-returns-in-Ok-clause-new g c =
-    subst (λ (it : SampleMut). IsNewIn c.args.domain.now (A_loan (it.loan).number)) (sym c.located.ensures)
-    (granted-new {T = g.row.T.Denot} {U = g.row.U.Denot} g.U.Default.is_default c.args.slice_len c.domain.inside.state c.loan.new.state c.domain.invariant c.args.domain.now c.domain.view_is c.args.self.now.publisher c.requires.ready c.loan.result c.loan.ensures.reaches c.in-Ok.loan c.in-Ok.is c.in-Ok.ensures.named)
+returns-in-Ok-clause-new g c = filled-new {T = g.row.T.Denot} {U = g.row.U.Denot} g.U.Default.is_default c.args.slice_len c.domain.inside.state c.loan.new.state c.domain.invariant c.args.domain.now c.domain.view_is c.args.self.now.publisher c.requires.ready c.loan.result c.loan.ensures.reaches c.in-Ok.loan c.in-Ok.is c.in-Ok.ensures.named c.fill_from_fn-start.new.state c.fill_from_fn-start.ensures.0 c.fill_from_fn-start.ensures.2 _ c.located.ensures.handle
+
+pub returns-in-Ok-clause-number : goal.returns-in-Ok-clause-number
+returns-in-Ok-clause-number g c = filled-number {T = g.row.T.Denot} {U = g.row.U.Denot} g.U.Default.is_default c.args.slice_len c.domain.inside.state c.loan.new.state c.domain.invariant c.args.domain.now c.domain.view_is c.args.self.now.publisher c.requires.ready c.loan.result c.loan.ensures.reaches c.in-Ok.loan c.in-Ok.is c.in-Ok.ensures.named c.fill_from_fn-start.new.state c.fill_from_fn-start.ensures.0 c.fill_from_fn-start.ensures.2 _ c.located.ensures.handle
+
+pub returns-in-Ok-clause-publisher : goal.returns-in-Ok-clause-publisher
+returns-in-Ok-clause-publisher g c = filled-publisher {T = g.row.T.Denot} {U = g.row.U.Denot} g.U.Default.is_default c.args.slice_len c.domain.inside.state c.loan.new.state c.domain.invariant c.args.domain.now c.domain.view_is c.args.self.now.publisher c.requires.ready c.loan.result c.loan.ensures.reaches c.in-Ok.loan c.in-Ok.is c.in-Ok.ensures.named c.fill_from_fn-start.new.state c.fill_from_fn-start.ensures.0 c.fill_from_fn-start.ensures.2 _ c.located.ensures.handle
 
 pub returns-in-Ok-clause-lender : goal.returns-in-Ok-clause-lender
-returns-in-Ok-clause-lender g c =
-    ap (λ (it : SampleMut). lender_key (written_key it)) c.located.ensures
-    ∙ ap (λ (p : ℕ). record { service_id = c.args.self.now.publisher.service_id; port = p; message = 0 }) (granted-publisher {T = g.row.T.Denot} {U = g.row.U.Denot} g.U.Default.is_default c.args.slice_len c.domain.inside.state c.loan.new.state c.domain.invariant c.args.domain.now c.domain.view_is c.args.self.now.publisher c.requires.ready c.loan.result c.loan.ensures.reaches c.in-Ok.loan c.in-Ok.is c.in-Ok.ensures.named)
+returns-in-Ok-clause-lender g c = filled-lender {T = g.row.T.Denot} {U = g.row.U.Denot} g.U.Default.is_default c.args.slice_len c.domain.inside.state c.loan.new.state c.domain.invariant c.args.domain.now c.domain.view_is c.args.self.now.publisher c.requires.ready c.loan.result c.loan.ensures.reaches c.in-Ok.loan c.in-Ok.is c.in-Ok.ensures.named c.fill_from_fn-start.new.state c.fill_from_fn-start.ensures.0 c.fill_from_fn-start.ensures.2 _ c.located.ensures.handle
+
+pub returns-in-Ok-clause-lent : goal.returns-in-Ok-clause-lent
+returns-in-Ok-clause-lent g c = filled-lent {T = g.row.T.Denot} {U = g.row.U.Denot} g.U.Default.is_default c.args.slice_len c.domain.inside.state c.loan.new.state c.domain.invariant c.args.domain.now c.domain.view_is c.args.self.now.publisher c.requires.ready c.loan.result c.loan.ensures.reaches c.in-Ok.loan c.in-Ok.is c.in-Ok.ensures.named c.fill_from_fn-start.new.state c.fill_from_fn-start.ensures.0 c.fill_from_fn-start.ensures.2 _ c.located.ensures.handle
+
+pub returns-in-Ok-clause-waits : goal.returns-in-Ok-clause-waits
+returns-in-Ok-clause-waits g c = filled-waiting {T = g.row.T.Denot} {U = g.row.U.Denot} g.U.Default.is_default c.args.slice_len c.domain.inside.state c.loan.new.state c.domain.invariant c.args.domain.now c.domain.view_is c.args.self.now.publisher c.requires.ready c.loan.result c.loan.ensures.reaches c.in-Ok.loan c.in-Ok.is c.in-Ok.ensures.named c.fill_from_fn-start.new.state c.fill_from_fn-start.ensures.0 c.fill_from_fn-start.ensures.2
+
+pub returns-in-Ok-clause-up_to_date : goal.returns-in-Ok-clause-up_to_date
+returns-in-Ok-clause-up_to_date g c = filled-updated {T = g.row.T.Denot} {U = g.row.U.Denot} g.U.Default.is_default c.args.slice_len c.domain.inside.state c.loan.new.state c.domain.invariant c.args.domain.now c.domain.view_is c.args.self.now.publisher c.requires.ready c.loan.result c.loan.ensures.reaches c.in-Ok.loan c.in-Ok.is c.in-Ok.ensures.named c.fill_from_fn-start.new.state c.fill_from_fn-start.ensures.0 c.fill_from_fn-start.ensures.2
+
+pub returns-in-Ok-clause-loans_left : goal.returns-in-Ok-clause-loans_left
+returns-in-Ok-clause-loans_left g c = filled-takes {T = g.row.T.Denot} {U = g.row.U.Denot} g.U.Default.is_default c.args.slice_len c.domain.inside.state c.loan.new.state c.domain.invariant c.args.domain.now c.domain.view_is c.args.self.now.publisher c.requires.ready c.loan.result c.loan.ensures.reaches c.in-Ok.loan c.in-Ok.is c.in-Ok.ensures.named c.fill_from_fn-start.new.state c.fill_from_fn-start.ensures.0 c.fill_from_fn-start.ensures.2
 
 pub returns-in-Ok-clause-stays : goal.returns-in-Ok-clause-stays
 returns-in-Ok-clause-stays g c = filled-since {T = g.row.T.Denot} {U = g.row.U.Denot} g.U.Default.is_default c.args.slice_len c.domain.inside.state c.loan.new.state c.domain.invariant c.args.domain.now c.domain.view_is c.args.self.now.publisher c.requires.ready c.loan.result c.loan.ensures.reaches c.in-Ok.loan c.in-Ok.is c.in-Ok.ensures.named c.fill_from_fn-start.new.state c.fill_from_fn-start.ensures.0 c.fill_from_fn-start.ensures.2
 
 pub returns-in-Err-clause-lends : goal.returns-in-Err-clause-lends
 returns-in-Err-clause-lends g c = refused-lends {T = g.row.T.Denot} {U = g.row.U.Denot} g.U.Default.is_default c.args.slice_len c.domain.inside.state c.loan.new.state c.domain.invariant c.args.domain.now c.domain.view_is c.args.self.now.publisher c.requires.ready c.loan.result c.loan.ensures.reaches (LocatedLoan g.row.T.Denot) c.in-Err.error c.in-Err.is g.T.Default.is_default
+
+pub returns-in-Err-clause-granted : goal.returns-in-Err-clause-granted
+returns-in-Err-clause-granted g c = λ loans numbers left numbered short. absurd (refused-none {T = g.row.T.Denot} {U = g.row.U.Denot} g.U.Default.is_default c.args.slice_len c.domain.inside.state c.loan.new.state c.domain.invariant c.args.domain.now c.domain.view_is c.args.self.now.publisher c.requires.ready c.loan.result c.loan.ensures.reaches c.in-Err.error c.in-Err.is c.requires.dynamic loans numbers left numbered short)
+
+pub returns-in-Err-clause-waits : goal.returns-in-Err-clause-waits
+returns-in-Err-clause-waits g c = refused-waits {T = g.row.T.Denot} {U = g.row.U.Denot} g.U.Default.is_default c.args.slice_len c.domain.inside.state c.loan.new.state c.domain.invariant c.args.domain.now c.domain.view_is c.args.self.now.publisher c.requires.ready c.loan.result c.loan.ensures.reaches c.in-Err.error c.in-Err.is
+
+pub returns-in-Err-clause-up_to_date : goal.returns-in-Err-clause-up_to_date
+returns-in-Err-clause-up_to_date g c = refused-updated {T = g.row.T.Denot} {U = g.row.U.Denot} g.U.Default.is_default c.args.slice_len c.domain.inside.state c.loan.new.state c.domain.invariant c.args.domain.now c.domain.view_is c.args.self.now.publisher c.requires.ready c.loan.result c.loan.ensures.reaches c.in-Err.error c.in-Err.is
+
+pub returns-in-Err-clause-loans_left : goal.returns-in-Err-clause-loans_left
+returns-in-Err-clause-loans_left g c = refused-takes {T = g.row.T.Denot} {U = g.row.U.Denot} g.U.Default.is_default c.args.slice_len c.domain.inside.state c.loan.new.state c.domain.invariant c.args.domain.now c.domain.view_is c.args.self.now.publisher c.requires.ready c.loan.result c.loan.ensures.reaches c.in-Err.error c.in-Err.is
+
+pub returns-in-Err-clause-refused : goal.returns-in-Err-clause-refused
+returns-in-Err-clause-refused g c = refused-leaves {T = g.row.T.Denot} {U = g.row.U.Denot} g.U.Default.is_default c.args.slice_len c.domain.inside.state c.loan.new.state c.domain.invariant c.args.domain.now c.domain.view_is c.args.self.now.publisher c.requires.ready c.loan.result c.loan.ensures.reaches c.in-Err.error c.in-Err.is
 
 pub returns-in-Err-clause-stays : goal.returns-in-Err-clause-stays
 returns-in-Err-clause-stays g c = refused-stays {T = g.row.T.Denot} {U = g.row.U.Denot} g.U.Default.is_default c.args.slice_len c.domain.inside.state c.loan.new.state c.domain.invariant c.args.domain.now c.domain.view_is c.args.self.now.publisher c.requires.ready c.loan.result c.loan.ensures.reaches c.in-Err.error c.in-Err.is

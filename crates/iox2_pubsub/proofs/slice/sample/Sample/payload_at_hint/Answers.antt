@@ -1,4 +1,5 @@
 use Rattle.std.proofs.Common.{◌≡◌, false, ap, sym, subst, ◌∙◌}
+use Rattle.std.proofs.lemmas.Option.{IfSome_then}
 use Rattle.iox2_store.specs.SingleValues.{is_single_valued}
 use Rattle.iox2_store.specs.machine.SingleCalls.{HoldsSample}
 use Rattle.iox2_domain.specs.Kept.{Kept, entries_of, state_of}
@@ -15,11 +16,11 @@ pub sample_values_at_hint-requires-clause-several : goal.sample_values_at_hint-r
 sample_values_at_hint-requires-clause-several g c =
     subst (λ (k : Kept g.row.T.Denot g.row.U.Denot g.row.F.Denot g.row.G.Denot). is_single_valued k.config ≡ false) (sym c.domain.view_is) (holds-parts c.args.domain.now c.requires.sliced)
 
-pub returns-in-Some-clause-reads : goal.returns-in-Some-clause-reads
-returns-in-Some-clause-reads g c =
-    let read = c.in-Some.ensures in
-    sample-values c.args.domain.now (sample_key c.args.self.now.sample) c.in-Some.values.now
-    (read.0, ap (λ (k : Kept g.row.T.Denot g.row.U.Denot g.row.F.Denot g.row.G.Denot). entries_of k c.args.self.now.sample.sample.number) (sym c.domain.view_is) ∙ read.1, read.2)
+pub returns-clause-reads : goal.returns-clause-reads
+returns-clause-reads g c =
+    IfSome_then c.sample_values_at_hint.result c.sample_values_at_hint.ensures (λ values read. sample-values c.args.domain.now (sample_key c.args.self.now.sample) values.now
+    (read.0, ap (λ (k : Kept g.row.T.Denot g.row.U.Denot g.row.F.Denot g.row.G.Denot). entries_of k c.args.self.now.sample.sample.number) (sym c.domain.view_is) ∙ read.1, read.2))
 
-pub returns-in-Some-clause-same : goal.returns-in-Some-clause-same
-returns-in-Some-clause-same g c = λ values has. sample-values-one c.args.domain.now (sample_key c.args.self.now.sample) c.in-Some.values.now values (returns-in-Some-clause-reads g c) has
+pub returns-clause-same : goal.returns-clause-same
+returns-clause-same g c =
+    IfSome_then c.sample_values_at_hint.result (returns-clause-reads g c) (λ found read values has. sample-values-one c.args.domain.now (sample_key c.args.self.now.sample) found.now values read has)

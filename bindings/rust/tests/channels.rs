@@ -1,0 +1,157 @@
+//! Calls on the channels of connections, by handles of one thread and of many, that count or borrow.
+
+use iox2_pubsub::{
+    ChannelError, Domain, Subscriber, Threads, CHANNEL_STATE_CLOSED, CHANNEL_STATE_OPEN,
+};
+use std::thread;
+
+macro_rules! by_each_kind {
+    ($test:ident) => {{
+        let of_one = Domain::<u64>::builder(1).create().unwrap();
+        $test(&of_one);
+        $test(&of_one.borrowed());
+        let of_many = Domain::<u64>::builder(1).create_shared().unwrap();
+        $test(&of_many);
+        $test(&of_many.borrowed());
+    }};
+}
+
+// A port has its connections after its own update alone, which its creation makes too.
+fn a_connection_is_named_by_the_place<M: Threads>(domain: &Domain<u64, M>) {
+    let publisher = domain.publisher().unwrap();
+    let subscribers = [domain.subscriber().unwrap(), domain.subscriber().unwrap()];
+    for subscriber in &subscribers {
+        assert_eq!(publisher.get_connection_id_of(subscriber.id()), None);
+    }
+    publisher.update_connections().unwrap();
+    for (place, subscriber) in subscribers.iter().enumerate() {
+        assert_eq!(publisher.get_connection_id_of(subscriber.id()), Some(place));
+    }
+    for nobody in [0, publisher.id(), u128::MAX] {
+        assert_eq!(publisher.get_connection_id_of(nobody), None);
+    }
+}
+
+#[test]
+fn connections_are_named_by_places() {
+    by_each_kind!(a_connection_is_named_by_the_place);
+}
+
+fn a_new_channel_has_no_hint<M: Threads>(domain: &Domain<u64, M>) {
+    let subscriber = domain.subscriber().unwrap();
+    let some_is = |state| subscriber.at_least_one_channel_has_state(0, state).unwrap();
+    assert!(!some_is(CHANNEL_STATE_OPEN));
+    let publisher = domain.publisher().unwrap();
+    assert!(!some_is(CHANNEL_STATE_OPEN));
+    assert!(!subscriber.has_samples().unwrap());
+    assert!(some_is(CHANNEL_STATE_OPEN) && !some_is(CHANNEL_STATE_CLOSED) && !some_is(5));
+
+    let is = |at, state| publisher.has_channel_state(0, at, state).unwrap();
+    assert!(is(0, CHANNEL_STATE_OPEN) && !is(0, CHANNEL_STATE_CLOSED) && !is(0, 5));
+    assert!(!is(1, CHANNEL_STATE_OPEN) && !is(usize::MAX, CHANNEL_STATE_OPEN));
+    let has_hint = publisher.has_disconnect_hint(0, 0, CHANNEL_STATE_OPEN);
+    assert_eq!(has_hint, Ok(false));
+}
+
+#[test]
+fn a_new_channel_is_open_and_has_no_hint() {
+    by_each_kind!(a_new_channel_has_no_hint);
+}
+
+fn a_closed_channel_takes_no_message<M: Threads>(domain: &Domain<u64, M>) {
+    let subscribers = [domain.subscriber().unwrap(), domain.subscriber().unwrap()];
+    let publisher = domain.publisher().unwrap();
+    let sent = |value| publisher.send_copy(value).unwrap().delivered();
+    let [first, second] = &subscribers;
+    assert_eq!(sent(1), Some(2));
+    first.update_connections().unwrap();
+    first.close_channel(0, 5).unwrap();
+    assert_eq!(sent(2), Some(2));
+    first.close_channel(0, CHANNEL_STATE_OPEN).unwrap();
+    assert_eq!(sent(3), Some(1));
+    publisher.close_channel(0, 2, CHANNEL_STATE_OPEN).unwrap();
+    publisher.close_channel(0, 1, CHANNEL_STATE_CLOSED).unwrap();
+    publisher.close_channel(0, 1, CHANNEL_STATE_OPEN).unwrap();
+    assert_eq!(sent(4), Some(0));
+    // What waits is received all the same.
+    let rest = |of: &Subscriber<u64, M>| -> Vec<u64> { of.iter().map(|it| *it.unwrap()).collect() };
+    assert_eq!((rest(first), rest(second)), (vec![1, 2], vec![2, 3]));
+    assert_eq!(first.set_channel_state(0, 7), Ok(true));
+    assert_eq!(first.set_channel_state(0, 8), Ok(false));
+    assert!(publisher.has_channel_state(0, 0, 7).unwrap());
+    assert_eq!(sent(5), Some(1));
+    assert_eq!(rest(first), [5]);
+}
+
+#[test]
+fn a_closed_channel_takes_no_message_until_it_is_opened() {
+    by_each_kind!(a_closed_channel_takes_no_message);
+}
+
+fn a_hint_goes_with_its_state<M: Threads>(domain: &Domain<u64, M>) {
+    let publisher = domain.publisher().unwrap();
+    let subscriber = domain.subscriber().unwrap();
+    publisher.update_connections().unwrap();
+    let has_hint = |state| publisher.has_disconnect_hint(0, 0, state).unwrap();
+    subscriber.set_disconnect_hint(0, 3).unwrap();
+    assert!(!has_hint(CHANNEL_STATE_OPEN));
+    subscriber
+        .set_disconnect_hint(0, CHANNEL_STATE_OPEN)
+        .unwrap();
+    assert!(has_hint(CHANNEL_STATE_OPEN) && !has_hint(3));
+    subscriber.close_channel(0, CHANNEL_STATE_OPEN).unwrap();
+    assert!(!has_hint(CHANNEL_STATE_CLOSED));
+}
+
+#[test]
+fn a_hint_goes_with_the_state_in_which_it_was_set() {
+    by_each_kind!(a_hint_goes_with_its_state);
+}
+
+// A send that waits for room is woken when the channel is closed, and goes past it.
+#[test]
+fn a_send_waits_no_longer_for_a_closed_channel() {
+    let domain = Domain::<u64>::builder(1)
+        .enable_safe_overflow(false)
+        .subscriber_max_buffer_size(1)
+        .create_shared()
+        .unwrap();
+    let subscriber = domain.subscriber().unwrap();
+    let publisher = domain.publisher().unwrap();
+    subscriber.update_connections().unwrap();
+    publisher.send_copy(1).unwrap().delivered();
+    thread::scope(|scope| {
+        let waits = scope.spawn(|| publisher.blocking_send_copy(2).unwrap().delivered());
+        while !publisher.is_blocked() {
+            thread::yield_now();
+        }
+        subscriber.close_channel(0, CHANNEL_STATE_OPEN).unwrap();
+        assert_eq!(waits.join().unwrap(), Some(0));
+    });
+    assert_eq!(subscriber.receive_copy().unwrap(), Some(1));
+}
+
+fn channels_are_numbered<M: Threads>(domain: &Domain<u64, M>) {
+    let (publisher, subscriber) = (domain.publisher().unwrap(), domain.subscriber().unwrap());
+    let refused = Err(ChannelError::NoSuchChannel);
+    for channel in [1, 2, usize::MAX] {
+        assert_eq!(publisher.has_channel_state(channel, 0, 0), refused);
+        assert_eq!(publisher.has_disconnect_hint(channel, 0, 0), refused);
+        assert_eq!(
+            subscriber.at_least_one_channel_has_state(channel, 0),
+            refused
+        );
+        assert_eq!(subscriber.set_channel_state(channel, 0), refused);
+        let refused = Err(ChannelError::NoSuchChannel);
+        assert_eq!(publisher.close_channel(channel, 0, 0), refused);
+        assert_eq!(subscriber.close_channel(channel, 0), refused);
+        assert_eq!(subscriber.set_disconnect_hint(channel, 0), refused);
+    }
+    let text = ChannelError::NoSuchChannel.to_string();
+    assert_eq!(text, "a connection has no channel with this number");
+}
+
+#[test]
+fn a_connection_has_channel_0_alone() {
+    by_each_kind!(channels_are_numbered);
+}

@@ -1,0 +1,73 @@
+-- Calls on the channels of connections: why they are refused, what they answer, and which step of the machine they made.
+use Rattle.std.specs.Prelude.{ℕ, Bool, cond, ◌≡◌, ◌≤◌, ◌⊎◌}
+use Rattle.std.specs.declared.option.Option.{Option}
+use Rattle.iox2_store.specs.declared.key.Key.{Key}
+use Rattle.iox2_store.specs.machine.ChannelCalls.{SetChannelState, connection_place, has_channel_state, has_disconnect_hint, received_closed, received_hinted, sent_closed, some_channel_has_state}
+use Rattle.iox2_store.specs.machine.State.{Messages}
+use Rattle.iox2_domain.specs.Shows.{Shows}
+use Rattle.iox2_pubsub.specs.Live.{IsPublisherKey, IsSubscriberKey}
+use Rattle.iox2_c.specs.Serving.{KeptBytes}
+use Rattle.iox2_c.specs.Steps.{BytesState, StepsTo}
+
+-- ---- refusals, which change nothing: 2 where no live port is named, and 70 where the number is no channel's, of which there is one
+
+module _ (domain : KeptBytes) (key : Key) (channel : ℕ) where
+  -- Why a publisher's call on a channel is refused with this code.
+  abbrev pub RefusesPublisherChannel : (code : ℕ) → Type 0
+  RefusesPublisherChannel code = ((code ≡ 2) × (IsPublisherKey domain key → ⊥)) ⊎ ((code ≡ 70) × IsPublisherKey domain key × (1 ≤ channel))
+
+  -- Why a subscriber's is.
+  abbrev pub RefusesSubscriberChannel : (code : ℕ) → Type 0
+  RefusesSubscriberChannel code = ((code ≡ 2) × (IsSubscriberKey domain key → ⊥)) ⊎ ((code ≡ 70) × IsSubscriberKey domain key × (1 ≤ channel))
+
+-- ---- answers
+
+-- 1 where it is so, and else 0.
+abbrev pub as_number : Bool → ℕ
+as_number is_so = cond is_so 1 0
+
+module _ (domain : KeptBytes) where
+  -- This is so of each state that the domain shows.
+  abbrev pub InEachState : (BytesState → Type 0) → Type 0
+  InEachState IsSo = (m : Messages ℕ (Unit {0})) (s : BytesState) → Shows domain m s → IsSo s
+
+  -- The answer says whether the channel is in the state at some connection of the subscriber with this id.
+  abbrev pub TellsSomeState : (subscriber channel state answer : ℕ) → Type 0
+  TellsSomeState subscriber channel state answer = InEachState (λ s. answer ≡ as_number (some_channel_has_state s subscriber channel state))
+
+  -- This is where the publisher with this id has its connection to the receiver, if it has one.
+  abbrev pub TellsConnection : (publisher receiver : ℕ) → Option ℕ → Type 0
+  TellsConnection publisher receiver place = InEachState (λ s. connection_place s publisher receiver ≡ place)
+
+  -- The answer says whether the channel is in the state at that connection of the publisher with this id.
+  abbrev pub TellsState : (publisher channel place state answer : ℕ) → Type 0
+  TellsState publisher channel place state answer = InEachState (λ s. answer ≡ as_number (has_channel_state s publisher channel place state))
+
+  -- The answer says whether it is in the state there, and has a hint.
+  abbrev pub TellsHint : (publisher channel place state answer : ℕ) → Type 0
+  TellsHint publisher channel place state answer = InEachState (λ s. answer ≡ as_number (has_disconnect_hint s publisher channel place state))
+
+-- ---- changes
+
+module _ (old new : KeptBytes) where
+  -- From each state that the domain showed it came to this one.
+  abbrev pub ComesTo : (BytesState → BytesState) → Type 0
+  ComesTo change = (m : Messages ℕ (Unit {0})) (s : BytesState) → Shows old m s → Shows new m (change s)
+
+  -- The subscriber with this id brought the channel into the state wherever it was closed; the answer says whether it was at each
+  -- connection.
+  abbrev pub SetsState : (subscriber channel state answer : ℕ) → Type 0
+  SetsState subscriber channel state answer =
+      (were_closed : Bool) × (answer ≡ as_number were_closed) × StepsTo old new (λ s s'. SetChannelState s subscriber channel state s' were_closed)
+
+  -- The subscriber with this id closed the channel wherever it was in the state `expected`.
+  abbrev pub ClosesReceived : (subscriber channel expected : ℕ) → Type 0
+  ClosesReceived subscriber channel expected = ComesTo (λ s. received_closed s subscriber channel expected)
+
+  -- The subscriber with this id hinted that it disconnects wherever the channel was in the state `expected`.
+  abbrev pub HintsReceived : (subscriber channel expected : ℕ) → Type 0
+  HintsReceived subscriber channel expected = ComesTo (λ s. received_hinted s subscriber channel expected)
+
+  -- The publisher with this id closed the channel at that connection, if it was in the state `expected`.
+  abbrev pub ClosesSent : (publisher channel place expected : ℕ) → Type 0
+  ClosesSent publisher channel place expected = ComesTo (λ s. sent_closed s publisher channel place expected)

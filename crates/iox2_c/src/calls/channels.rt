@@ -1,0 +1,172 @@
+//! What ports ask about the channels of their connections. No reply of a recorded domain's other calls
+//! depends on it, so that nothing of it is recorded.
+ghost use Rattle.std.specs.Prelude.{◌≡◌, ◌<◌, ◌⊎◌, IfErr, IfNone, IfOk, IfSome, None, Some};
+ghost use Rattle.iox2_pubsub.specs.Handles.{as_subscriber, publisher_id, subscriber_id};
+ghost use Rattle.iox2_pubsub.specs.Live.{IsLiveSubscriber, IsPlacedPublisher, IsPublisherKey, IsSubscriberKey, publisher_key, subscriber_key};
+ghost use Rattle.iox2_c.specs.Channels.{RefusesPublisherChannel, RefusesSubscriberChannel, TellsConnection, TellsHint, TellsSomeState, TellsState};
+ghost use Rattle.iox2_c.specs.Numbers.{named_publisher, named_subscriber, wide};
+
+use crate::calls::questions::number_of;
+use crate::calls::subscribers::live_subscriber;
+use crate::numbers::{PublisherNumbers, SubscriberNumbers, Wide};
+use crate::service::{BytesDomain, Service};
+use crate::status::{NO_CONNECTION, NO_SUCH_CHANNEL, NOT_LIVE, OK};
+use iox2_pubsub::{Publisher, slice};
+
+// How many channels a connection has.
+const CHANNELS: usize = 1;
+
+/// A handle of the subscriber with these numbers, whose connections have this channel, or the code that says
+/// why there is none.
+pub fn subscriber_with_channel(
+    domain: &BytesDomain,
+    numbers: &SubscriberNumbers,
+    channel: usize,
+) -> Result<slice::Subscriber, u32>
+    ensures live { IfOk result (λ it. IsLiveSubscriber domain.now (as_subscriber it)) }
+    ensures named { IfOk result (λ it. subscriber_key (as_subscriber it) ≡ named_subscriber numbers.now) }
+    ensures id { IfOk result (λ it. subscriber_id (as_subscriber it) ≡ wide (numbers.now).id) }
+    ensures channel { IfOk result (λ it. channel < 1) }
+    ensures refused { IfErr result (RefusesSubscriberChannel domain.now (named_subscriber numbers.now) channel) }
+{
+    let Some(subscriber) = live_subscriber(domain, numbers) else {
+        return Err(NOT_LIVE);
+    };
+    if channel < CHANNELS {
+        return Ok(subscriber);
+    }
+    subscriber.disown();
+    Err(NO_SUCH_CHANNEL)
+}
+
+// A handle of the publisher with these numbers, also where a send of it waits.
+fn live_publisher(domain: &BytesDomain, numbers: &PublisherNumbers) -> Option<Publisher>
+    ensures live { IfSome result (λ it. IsPublisherKey domain.now (publisher_key it)) }
+    ensures placed { IfSome result (λ it. IsPlacedPublisher domain.now it) }
+    ensures named { IfSome result (λ it. publisher_key it ≡ named_publisher numbers.now) }
+    ensures id { IfSome result (λ it. publisher_id it ≡ wide (numbers.now).id) }
+    ensures none { IfNone result (IsPublisherKey domain.now (named_publisher numbers.now) → ⊥) }
+{
+    domain.publisher_of(&numbers.parts())
+}
+
+/// The same of a publisher, also where a send of it waits.
+pub fn publisher_with_channel(
+    domain: &BytesDomain,
+    numbers: &PublisherNumbers,
+    channel: usize,
+) -> Result<Publisher, u32>
+    ensures live { IfOk result (λ it. IsPublisherKey domain.now (publisher_key it)) }
+    ensures placed { IfOk result (λ it. IsPlacedPublisher domain.now it) }
+    ensures named { IfOk result (λ it. publisher_key it ≡ named_publisher numbers.now) }
+    ensures id { IfOk result (λ it. publisher_id it ≡ wide (numbers.now).id) }
+    ensures channel { IfOk result (λ it. channel < 1) }
+    ensures refused { IfErr result (RefusesPublisherChannel domain.now (named_publisher numbers.now) channel) }
+{
+    let Some(publisher) = live_publisher(domain, numbers) else {
+        return Err(NOT_LIVE);
+    };
+    if channel < CHANNELS {
+        return Ok(publisher);
+    }
+    publisher.disown();
+    Err(NO_SUCH_CHANNEL)
+}
+
+/// Whether a channel is in a state at some connection of a subscriber.
+pub fn some_has_state(
+    service: &Service,
+    numbers: &SubscriberNumbers,
+    channel: usize,
+    state: u64,
+    out: &mut u32,
+) -> u32
+    ensures code { (result ≡ 0) ⊎ RefusesSubscriberChannel service.now.domain (named_subscriber numbers.now) channel result }
+    ensures live { result ≡ 0 → IsSubscriberKey service.now.domain (named_subscriber numbers.now) }
+    ensures tells { result ≡ 0 → TellsSomeState service.now.domain (wide (numbers.now).id) channel state out.new }
+    ensures same { 0 < result → out.new ≡ out.old }
+{
+    let subscriber = match subscriber_with_channel(&service.domain, numbers, channel) {
+        Ok(subscriber) => subscriber,
+        Err(code) => return code,
+    };
+    let is_so = subscriber.at_least_one_channel_has_state(&service.domain, channel, state);
+    subscriber.disown();
+    *out = number_of(is_so);
+    OK
+}
+
+/// Where a publisher has its connection to the subscriber with this id.
+pub fn connection_of(
+    service: &Service,
+    numbers: &PublisherNumbers,
+    receiver: &Wide,
+    out: &mut usize,
+) -> u32
+    ensures code { (result ≡ 0) ⊎ ((result ≡ 2) × (IsPublisherKey service.now.domain (named_publisher numbers.now) → ⊥)) ⊎ (result ≡ 71) }
+    ensures live { (result ≡ 2 → ⊥) → IsPublisherKey service.now.domain (named_publisher numbers.now) }
+    ensures tells { result ≡ 0 → TellsConnection service.now.domain (wide (numbers.now).id) (wide receiver.now) (Some out.new) }
+    ensures none { result ≡ 71 → TellsConnection service.now.domain (wide (numbers.now).id) (wide receiver.now) None }
+    ensures same { 0 < result → out.new ≡ out.old }
+{
+    let Some(publisher) = live_publisher(&service.domain, numbers) else {
+        return NOT_LIVE;
+    };
+    let place = publisher.get_connection_id_of(&service.domain, receiver.get());
+    publisher.disown();
+    match place {
+        Some(place) => {
+            *out = place;
+            OK
+        }
+        None => NO_CONNECTION,
+    }
+}
+
+/// Whether a channel is in a state at one connection of a publisher.
+pub fn has_state(
+    service: &Service,
+    numbers: &PublisherNumbers,
+    channel: usize,
+    connection: usize,
+    state: u64,
+    out: &mut u32,
+) -> u32
+    ensures code { (result ≡ 0) ⊎ RefusesPublisherChannel service.now.domain (named_publisher numbers.now) channel result }
+    ensures live { result ≡ 0 → IsPublisherKey service.now.domain (named_publisher numbers.now) }
+    ensures tells { result ≡ 0 → TellsState service.now.domain (wide (numbers.now).id) channel connection state out.new }
+    ensures same { 0 < result → out.new ≡ out.old }
+{
+    let publisher = match publisher_with_channel(&service.domain, numbers, channel) {
+        Ok(publisher) => publisher,
+        Err(code) => return code,
+    };
+    let is_so = publisher.has_channel_state(&service.domain, channel, connection, state);
+    publisher.disown();
+    *out = number_of(is_so);
+    OK
+}
+
+/// Whether a channel is in a state at one connection of a publisher, and has a hint.
+pub fn has_hint(
+    service: &Service,
+    numbers: &PublisherNumbers,
+    channel: usize,
+    connection: usize,
+    state: u64,
+    out: &mut u32,
+) -> u32
+    ensures code { (result ≡ 0) ⊎ RefusesPublisherChannel service.now.domain (named_publisher numbers.now) channel result }
+    ensures live { result ≡ 0 → IsPublisherKey service.now.domain (named_publisher numbers.now) }
+    ensures tells { result ≡ 0 → TellsHint service.now.domain (wide (numbers.now).id) channel connection state out.new }
+    ensures same { 0 < result → out.new ≡ out.old }
+{
+    let publisher = match publisher_with_channel(&service.domain, numbers, channel) {
+        Ok(publisher) => publisher,
+        Err(code) => return code,
+    };
+    let is_so = publisher.has_disconnect_hint(&service.domain, channel, connection, state);
+    publisher.disown();
+    *out = number_of(is_so);
+    OK
+}

@@ -1,0 +1,171 @@
+-- Connections whose channels are changed, one after the other.
+use Rattle.std.proofs.Common.{◌≡◌, ℕ, ◌+◌, ◌≤◌, Bool, true, false, cond, not, ◌&&◌, eqb, List, length, ◌⊎◌, inl, inr, Option, None, Some, is_some, get_or, refl, ap, sym, ◌∙◌, arith}
+use Rattle.std.proofs.lemmas.Bool.{cases_eq, eqb-true, eq-eqb}
+use Rattle.std.specs.Option.{option_map}
+use Rattle.slab.specs.Slab.{Slab, Updates, ContainsKey, get, with_value}
+use Rattle.iox2_slots.specs.Link.{Link, with_channel_state, state_changed, hint_set}
+use Rattle.iox2_store.specs.machine.Channel.{Channel, closed_state, is_in_state, with_state, with_hint}
+use Rattle.iox2_ends.specs.Finds.{HasConnections}
+use Rattle.iox2_ends.proofs.MailboxChanges.{Updates-with_value, both-true}
+use Rattle.iox2_domain.specs.ChannelChanges.{ChangesLinks}
+use Rattle.iox2_domain.specs.Departures.{HasKey}
+use Rattle.iox2_domain.proofs.lemmas.containers.KeyWalks.{HasKeyBelow, next-key, all-keys}
+use Rattle.iox2_domain.proofs.lemmas.fields.Rechanneled.{plain_link}
+use Rattle.iox2_messages.specs.ChannelChanges.{changed_link}
+use Rattle.iox2_messages.specs.declared.changed_channels.ChannelChange.{ChannelChange}
+use Rattle.iox2_messages.specs.declared.changed_channels.ChannelChange.TheVariants.{SetState, SetHint}
+
+-- ---- one change
+
+either-is : {A : Type 0} (b : Bool) (x y : A) → x ≡ y → cond b x y ≡ y
+either-is true x y same = same
+either-is false x y same = refl
+
+and-twice : (a b : Bool) → ((a && b) && b) ≡ (a && b)
+and-twice true true = refl
+and-twice true false = refl
+and-twice false b = refl
+
+-- a channel in that state
+abbrev in_state : ℕ → Channel
+in_state state = record { state = state; has_hint = false }
+
+into-state : (state : ℕ) (channel : Channel) → (with_state state channel).state ≡ state
+into-state state channel = by (eqb channel.state state) refl where
+  by : (b : Bool) → eqb channel.state state ≡ b → (cond b channel (in_state state)).state ≡ state
+  by true e = eqb-true channel.state state e
+  by false e = refl
+
+-- a channel comes into a state once
+into-state-twice : (state : ℕ) (channel : Channel) → with_state state (with_state state channel) ≡ with_state state channel
+into-state-twice state channel = ap (λ (b : Bool). cond b (with_state state channel) (in_state state)) (eq-eqb (with_state state channel).state state (into-state state channel))
+
+link-twice : (state : ℕ) (c : Link) → with_channel_state state (with_channel_state state c) ≡ with_channel_state state c
+link-twice state c = λ i. record c { is_open = and-twice c.is_open (not (eqb state closed_state)) i; channel = into-state-twice state c.channel i }
+
+-- a connection with a hint
+abbrev hinted : Link → Link
+hinted c = record c { channel = with_hint c.channel }
+
+-- a change that is made again changes nothing more
+pub changed-twice : (change : ChannelChange) (expected : ℕ) (c : Link) → changed_link change expected (changed_link change expected c) ≡ changed_link change expected c
+changed-twice (SetState state) expected c = by (is_in_state expected c.channel) refl where
+  by : (b : Bool) → is_in_state expected c.channel ≡ b → state_changed expected state (cond b (with_channel_state state c) c) ≡ cond b (with_channel_state state c) c
+  by true e = either-is (is_in_state expected (with_channel_state state c).channel) _ (with_channel_state state c) (link-twice state c)
+  by false e = ap (λ (b : Bool). cond b (with_channel_state state c) c) e
+changed-twice SetHint expected c = by (is_in_state expected c.channel) refl where
+  by : (b : Bool) → is_in_state expected c.channel ≡ b → hint_set expected (cond b (hinted c) c) ≡ cond b (hinted c) c
+  by true e = either-is (is_in_state expected (hinted c).channel) _ (hinted c) refl
+  by false e = ap (λ (b : Bool). cond b (hinted c) c) e
+
+-- nothing but the channel changes, and the mark
+pub changed-plain : (change : ChannelChange) (expected : ℕ) (c : Link) → plain_link (changed_link change expected c) ≡ plain_link c
+changed-plain (SetState state) expected c = by (is_in_state expected c.channel) where
+  by : (b : Bool) → plain_link (cond b (with_channel_state state c) c) ≡ plain_link c
+  by true = refl
+  by false = refl
+changed-plain SetHint expected c = by (is_in_state expected c.channel) where
+  by : (b : Bool) → plain_link (cond b (record c { channel = with_hint c.channel }) c) ≡ plain_link c
+  by true = refl
+  by false = refl
+
+-- no connection is marked newly
+pub changed-mark : (change : ChannelChange) (expected : ℕ) (c : Link) → (changed_link change expected c).is_open ≡ true → c.is_open ≡ true
+changed-mark (SetState state) expected c = by (is_in_state expected c.channel) where
+  by : (b : Bool) → (cond b (with_channel_state state c) c).is_open ≡ true → c.is_open ≡ true
+  by true is = (both-true c.is_open (not (eqb state closed_state)) is).0
+  by false is = is
+changed-mark SetHint expected c = by (is_in_state expected c.channel) where
+  by : (b : Bool) → (cond b (record c { channel = with_hint c.channel }) c).is_open ≡ true → c.is_open ≡ true
+  by true is = is
+  by false is = is
+
+-- ---- changes at keys
+
+module _ (change : ChannelChange) (expected : ℕ) where
+  abbrev changed : Link → Link
+  changed = changed_link change expected
+
+  -- at no key
+  pub none-changed : (keys : ℕ → Type 0) (slab : Slab Link) → ((k : ℕ) → keys k → ⊥) → ChangesLinks changed keys slab slab
+  none-changed keys slab none = record { at = λ k has. absurd (none k has); others = λ k. inl refl; only = λ k away. refl }
+
+  -- at one
+  pub one-changed : (slab : Slab Link) (key : ℕ) (c : Link) → get slab key ≡ Some c → ChangesLinks changed (λ k. Some key ≡ Some k) slab (with_value slab key (changed c))
+  one-changed slab key c at = record {
+    at = λ k is. here k (let same : key ≡ k = cc in same);
+    others = λ k. elim (cases_eq k key) [ inl same ↦ inr (here k (sym same)) | inr away ↦ inl (updates.others k away) ];
+    only = λ k away. updates.others k (λ same. away (ap Some (sym same)));
+  } where
+    updates : Updates slab (with_value slab key (changed c)) key (Some (changed c))
+    updates = Updates-with_value slab key c (changed c) at
+
+    here : (k : ℕ) → key ≡ k → get (with_value slab key (changed c)) k ≡ option_map changed (get slab k)
+    here k same = ap (get (with_value slab key (changed c))) (sym same) ∙ updates.changed ∙ sym (ap (option_map changed) (ap (get slab) (sym same) ∙ at))
+
+  once : (o : Option Link) → option_map changed (option_map changed o) ≡ option_map changed o
+  once None = refl
+  once (Some c) = ap Some (changed-twice change expected c)
+
+  -- first at some keys, and then at others
+  pub both-changed : (first second keys : ℕ → Type 0) (old now new : Slab Link) → ChangesLinks changed first old now → ChangesLinks changed second now new
+      → ((k : ℕ) → keys k → first k ⊎ second k) → ((k : ℕ) → first k → keys k) → ((k : ℕ) → second k → keys k) → ChangesLinks changed keys old new
+  both-changed first second keys old now new a b either one other = record {
+    at = λ k has. elim (either k has) [ inl is ↦ at_first k is | inr is ↦ at_second k is ];
+    others = λ k. elim (a.others k) [
+      | inl still ↦ elim (b.others k) [
+        | inl still_too ↦ inl (still_too ∙ still)
+        | inr is ↦ inr (is ∙ ap (option_map changed) still)
+      ]
+      | inr is ↦ inr (later k is)
+    ];
+    only = λ k away. b.only k (λ is. away (other k is)) ∙ a.only k (λ is. away (one k is));
+  } where
+    later : (k : ℕ) → get now k ≡ option_map changed (get old k) → get new k ≡ option_map changed (get old k)
+    later k is = elim (b.others k) [
+      | inl still ↦ still ∙ is
+      | inr again ↦ again ∙ ap (option_map changed) is ∙ once (get old k)
+    ]
+
+    at_first : (k : ℕ) → first k → get new k ≡ option_map changed (get old k)
+    at_first k is = later k (a.at k is)
+
+    at_second : (k : ℕ) → second k → get new k ≡ option_map changed (get old k)
+    at_second k is = elim (a.others k) [
+      | inl still ↦ b.at k is ∙ ap (option_map changed) still
+      | inr was ↦ later k was
+    ]
+
+  -- the same keys, said otherwise
+  pub same-changed : (first keys : ℕ → Type 0) (old new : Slab Link) → ChangesLinks changed first old new → ((k : ℕ) → keys k → first k) → ((k : ℕ) → first k → keys k) → ChangesLinks changed keys old new
+  same-changed first keys old new a into back = record { at = λ k has. a.at k (into k has); others = a.others; only = λ k away. a.only k (λ is. away (back k is)) }
+
+  -- connections stay where they are
+  pub still-connected : (keys : ℕ → Type 0) (old new : Slab Link) → ChangesLinks changed keys old new → (ends : List (Option ℕ)) → HasConnections old ends → HasConnections new ends
+  still-connected keys old new a ends has = record { at = λ i key at. still key (has.at i key at) } where
+    through : (o : Option Link) → is_some (option_map changed o) ≡ is_some o
+    through None = refl
+    through (Some c) = refl
+
+    still : (key : ℕ) → ContainsKey old key → ContainsKey new key
+    still key there = elim (a.others key) [
+      | inl same ↦ ap is_some same ∙ there
+      | inr is ↦ ap is_some is ∙ through (get old key) ∙ there
+    ]
+
+  -- ---- walks over keys
+
+  -- no key is below the first place
+  pub walk-begins : (keys : List (Option ℕ)) (slab : Slab Link) → ChangesLinks changed (HasKeyBelow keys 0) slab slab
+  walk-begins keys slab = none-changed (HasKeyBelow keys 0) slab (λ k has. omega (arith, has.1))
+
+  -- the next key
+  pub walk-goes : (keys : List (Option ℕ)) (place : ℕ) (old now new : Slab Link) → ChangesLinks changed (HasKeyBelow keys place) old now → ChangesLinks changed (λ k. get_or keys place None ≡ Some k) now new
+      → ChangesLinks changed (HasKeyBelow keys (place + 1)) old new
+  walk-goes keys place old now new so_far one =
+      both-changed (HasKeyBelow keys place) (λ k. get_or keys place None ≡ Some k) (HasKeyBelow keys (place + 1)) old now new so_far one
+      (next-key keys place) (λ k has. (has.0, omega (arith, has.1), has.2)) (λ k is. (place, omega arith, is))
+
+  -- all keys
+  pub walk-ends : (keys : List (Option ℕ)) (place : ℕ) (old new : Slab Link) → ChangesLinks changed (HasKeyBelow keys place) old new → length keys ≤ place → ChangesLinks changed (HasKey keys) old new
+  walk-ends keys place old new so_far all = same-changed (HasKeyBelow keys place) (HasKey keys) old new so_far (λ k has. all-keys keys place k all has) (λ k has. (has.0, has.2))

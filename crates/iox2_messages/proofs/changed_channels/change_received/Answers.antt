@@ -1,0 +1,47 @@
+use Rattle.std.proofs.Common.{◌≡◌, ◌∙◌, ap, sym, refl, None, Some, slice_index_or, rules, length, vec_len}
+use Rattle.iox2_ends.proofs.MailboxChanges.{within_if_some}
+use Rattle.iox2_domain.specs.Fields.{Fields}
+use Rattle.iox2_domain.proofs.lemmas.receives.ReceiptSteps.{has-keys, connected-places, connected-expired}
+use Rattle.iox2_domain.proofs.lemmas.slots.PublisherBooks.{read-there}
+use Rattle.iox2_messages.proofs.ReceivedChannels.{reaches-then-marks, received-from}
+use Rattle.iox2_messages.proofs.changed_channels.change_received.Goals as goal
+
+pub change_known-requires-clause-places : goal.change_known-requires-clause-places
+change_known-requires-clause-places g c =
+    connected-places _ c.args.state.now c.args.place c.in-Some.subscriber _ _
+    (has-keys _ c.args.state.now c.args.place c.index.result.now c.in-Some.subscriber c.in-Some.subscriber _ _ c.requires.agrees c.state.view_is c.requires.stands
+    c.index.ensures c.in-Some.is refl refl refl)
+
+pub change_known-requires-clause-expired : goal.change_known-requires-clause-expired
+change_known-requires-clause-expired g c =
+    connected-expired _ c.args.state.now c.args.place c.in-Some.subscriber _ _
+    (has-keys _ c.args.state.now c.args.place c.index.result.now c.in-Some.subscriber c.in-Some.subscriber _ _ c.requires.agrees c.state.view_is c.requires.stands
+    c.index.ensures c.in-Some.is refl refl refl)
+
+pub mark_received-requires : goal.mark_received-requires
+mark_received-requires g c =
+    let has =
+    has-keys _ c.args.state.now c.args.place c.index.result.now c.in-Some.subscriber c.in-Some.subscriber _ _ c.requires.agrees c.state.view_is c.requires.stands
+    c.index.ensures c.in-Some.is refl refl refl in
+    (received-from _ c.args.state.now c.state.view_is c.requires.agrees c.args.place c.in-Some.subscriber has.stands c.args.change c.args.expected c.change_known.new.connections c.change_known.ensures
+    c.in-Some.subscriber has.stands).agrees
+
+pub returns : goal.returns
+returns g c = λ y at.
+    let has =
+    has-keys _ c.args.state.now c.args.place c.index.result.now c.in-Some.subscriber c.in-Some.subscriber _ _ c.requires.agrees c.state.view_is c.requires.stands
+    c.index.ensures c.in-Some.is refl refl refl in
+    reaches-then-marks _ _ c.mark_received.new.state _
+    (received-from _ c.args.state.now c.state.view_is c.requires.agrees c.args.place c.in-Some.subscriber has.stands c.args.change c.args.expected c.change_known.new.connections c.change_known.ensures y at)
+    c.mark_received.ensures
+
+pub index-requires : goal.index-requires
+index-requires g c =
+    let there : slice_index_or c.state.inside.subscribers.items c.args.place None ≡ Some c.requires.stands.0 = ap (λ (f : Fields g.row.T.Denot g.row.U.Denot). slice_index_or f.subscribers c.args.place None) c.state.view_is ∙ c.requires.stands.1 in
+    let long : vec_len c.state.inside.subscribers ≡ length c.state.inside.subscribers.items = search rules in
+    rw long (within_if_some c.state.inside.subscribers.items c.args.place c.requires.stands.0 there)
+
+pub unreachable-requires : goal.unreachable-requires
+unreachable-requires g c =
+    let there : slice_index_or c.state.inside.subscribers.items c.args.place None ≡ Some c.requires.stands.0 = ap (λ (f : Fields g.row.T.Denot g.row.U.Denot). slice_index_or f.subscribers c.args.place None) c.state.view_is ∙ c.requires.stands.1 in
+    c.in_default.not-Some c.requires.stands.0 (sym (read-there _ c.args.place _ _ there c.index.ensures) ∙ there)

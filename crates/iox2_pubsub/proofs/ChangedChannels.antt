@@ -1,0 +1,121 @@
+-- What a call that changes channels leaves, seen from outside.
+use Rattle.std.proofs.Common.{◌≡◌, ℕ, false, refl, sym, ap, subst, ◌∙◌}
+use Rattle.iox2_store.specs.machine.Channel.{is_closed}
+use Rattle.iox2_store.specs.machine.Mailbox.{is_borrowed}
+use Rattle.iox2_store.specs.machine.State.{State, Messages}
+use Rattle.iox2_store.specs.machine.Waiting.{waiting_from}
+use Rattle.iox2_laws.proofs.LoansLeft.{LoansKept, kept_itself}
+use Rattle.iox2_laws.proofs.PortsStay.{Remain}
+use Rattle.iox2_laws.proofs.UpToDate.{same_subscribers}
+use Rattle.iox2_laws.proofs.Waits.{Waits, waits_itself}
+use Rattle.iox2_domain.specs.Boxes.{DomainBoxes}
+use Rattle.iox2_domain.specs.Fields.{Fields, kept_of, keeping}
+use Rattle.iox2_domain.specs.Invariant.{IsDomain}
+use Rattle.iox2_domain.specs.Kept.{Kept, state_of}
+use Rattle.iox2_domain.specs.Reaches.{Reaches}
+use Rattle.iox2_domain.specs.Shows.{Shows}
+use Rattle.iox2_domain.proofs.lemmas.fields.ReachesShows.{reaches-shows-same}
+use Rattle.iox2_pubsub.specs.DepartedPorts.{HasRoom}
+use Rattle.iox2_pubsub.specs.Leaves.{Leaves}
+use Rattle.iox2_pubsub.specs.Live.{IsConnected, IsUpToDate, No_item, RoomStays, Stays, WaitingStays}
+use Rattle.iox2_pubsub.specs.LoansLeft.{LoansLeftStay}
+use Rattle.iox2_pubsub.specs.declared.subscriber.Subscriber.{Subscriber}
+use Rattle.iox2_pubsub.proofs.CallsStay.{always-shown}
+use Rattle.iox2_pubsub.proofs.LoansLeftShown.{all-left}
+use Rattle.iox2_pubsub.proofs.StaysBut.{BoxesStayBut, IsSpared, none-spared, ports-remain, stays-between}
+use Rattle.iox2_pubsub.proofs.UpToDateShown.{connected, connected-in, rooms-stay, up-to-date, up-to-date-in}
+use Rattle.iox2_pubsub.proofs.WaitingShown.{payloads-stay}
+
+-- The change is one of channels alone.
+abbrev pub ChangesChannels : {T U : Type 0} → (State T U → State T U) → Type 0
+ChangesChannels {T} {U} change = (s : State T U) → change s ≡ record s { channels = (change s).channels }
+
+-- The domain shows the changed state of each that it showed.
+abbrev pub ShowsChanged : {T U F G : Type 0} → (old new : Kept T U F G) → (State T U → State T U) → Type 0
+ShowsChanged {T} {U} old new change = (m : Messages T U) (s : State T U) → Shows old m s → Shows new m (change s)
+
+module _ {T U F G : Type 0} {boxes : DomainBoxes F G} (f : Fields T U) (old : Kept T U F G) (view : keeping boxes f ≡ old) (change : State T U → State T U) (only : ChangesChannels change) where
+  -- what the fields come to is shown
+  pub changed-shows : (g : Fields T U) → Reaches f g (change (state_of (kept_of f))) → ShowsChanged old (keeping boxes g) change
+  changed-shows g reached m s shown =
+      let here : Shows (kept_of f) m s = subst (λ (k : Kept T U F G). Shows k m s) (sym view) shown in
+      let state : s ≡ state_of (kept_of f) = here.state in
+      reaches-shows-same f g m s (change s) here (subst (λ (t : State T U). Reaches f g (change t)) (sym state) reached)
+      (ap (λ (t : State T U). t.next_message) (only s)) (ap (λ (t : State T U). t.loans) (only s))
+
+  module _ (sound : IsDomain f) (new : Kept T U F G) (shows : ShowsChanged old new change) where
+    -- a state that the domain shows
+    abbrev m : Messages T U
+    m = (always-shown f old sound view).0
+
+    abbrev s : State T U
+    s = (always-shown f old sound view).1
+
+    abbrev shown : Shows old m s
+    shown = (always-shown f old sound view).2
+
+    abbrev now : Shows new m (change s)
+    now = shows m s shown
+
+    -- what was live is
+    pub changed-stays : BoxesStayBut No_item old new → Stays old new
+    changed-stays boxed =
+        let waits = waits_itself (IsSpared No_item) s in
+        stays-between No_item old new m m s (change s) shown now (λ n entry at. at)
+        (ports-remain No_item s (change s) (subst (Remain s) (sym (only s)) (record { config = refl; publishers = λ p x at. (x, at, λ free. free); subscribers = λ q y at opened. (y, at, opened) })))
+        (λ n loan at _. ap (λ (t : State T U). t.loans n) (only s) ∙ at)
+        (λ p q n at _. ap (λ (t : State T U). is_borrowed n (t.mailboxes p q)) (only s) ∙ at)
+        (subst (Waits (IsSpared No_item) s) (sym (only s)) (record { next_port = waits.next_port; publishers = waits.publishers; subscribers = waits.subscribers }))
+        (none-spared No_item old s (change s) (λ _. tt)) boxed
+
+    -- the same messages wait
+    pub changed-waits : WaitingStays old new
+    changed-waits = payloads-stay old new m m s (change s) shown now (λ n entry at. at) (record {
+      ports = ap (λ (t : State T U). t.next_port) (only s);
+      from = λ p q. ap (λ (t : State T U). waiting_from t p q) (only s);
+    })
+
+    -- who was up to date is
+    pub changed-updated : (subscriber : Subscriber) → IsUpToDate old subscriber → IsUpToDate new subscriber
+    changed-updated subscriber is =
+        up-to-date new m (change s) now subscriber
+        (same_subscribers s (change s) (ap (λ (t : State T U). t.subscribers) (only s)) subscriber.id (up-to-date-in old m s shown subscriber is))
+
+    -- each subscriber has the room that it had
+    pub changed-room : RoomStays old new
+    changed-room = rooms-stay old new m m s (change s) shown now (λ q closes has. subst (λ (t : State T U). HasRoom t q closes) (sym (only s)) has)
+
+    -- as many loans and numbers are left
+    pub changed-left : LoansLeftStay old new
+    changed-left =
+        let kept = kept_itself s in
+        all-left old new m m s (change s) shown now (subst (LoansKept s) (sym (only s)) (record { config = refl; numbers = refl; publishers = kept.publishers }))
+
+    -- who was connected is, where their channel stays open
+    pub changed-connected : (m : Messages T U) (s : State T U) (shown : Shows old m s) (p : ℕ) (subscriber : Subscriber)
+        → (is_closed (s.channels p subscriber.id 0) ≡ false → is_closed ((change s).channels p subscriber.id 0) ≡ false) → IsConnected old p subscriber → IsConnected new p subscriber
+    changed-connected m s shown p subscriber takes is =
+        let was = connected-in old m s shown p subscriber is in
+        connected new m (change s) (shows m s shown) p subscriber (record {
+          publisher = was.publisher;
+          stands = ap (λ (t : State T U). t.publishers p) (only s) ∙ was.stands;
+          sends = was.sends;
+          subscriber = was.subscriber;
+          there = ap (λ (t : State T U). t.subscribers subscriber.id) (only s) ∙ was.there;
+          receives = was.receives;
+          takes = takes was.takes;
+        })
+
+    -- all is left, where no channel is closed
+    pub changed-leaves : BoxesStayBut No_item old new
+        → ((s : State T U) (p q : ℕ) → is_closed (s.channels p q 0) ≡ false → is_closed ((change s).channels p q 0) ≡ false) → Leaves old new
+    changed-leaves boxed takes = record {
+      stays = changed-stays boxed;
+      waits = changed-waits;
+      up_to_date = record {
+        subscribers = changed-updated;
+        connections = λ p subscriber. changed-connected m s shown p subscriber (takes s p subscriber.id);
+        room = changed-room;
+      };
+      loans_left = changed-left;
+    }

@@ -1,0 +1,67 @@
+use Rattle.std.proofs.Common.{ℕ, ap, subst, ◌∙◌}
+use Rattle.iox2_store.specs.machine.Channel.{Channel, is_closed}
+use Rattle.iox2_store.specs.machine.ChannelCalls.{sent_closed}
+use Rattle.iox2_store.specs.machine.State.{State}
+use Rattle.iox2_domain.specs.Fields.{kept_of, keeping}
+use Rattle.iox2_domain.specs.Kept.{state_of}
+use Rattle.iox2_domain.specs.Reaches.{Reaches}
+use Rattle.iox2_messages.proofs.SentChannels.{sent-closed-is}
+use Rattle.iox2_pubsub.proofs.ChangedChannels.{changed-shows, changed-waits, changed-updated, changed-connected, changed-room, changed-left, changed-stays}
+use Rattle.iox2_pubsub.proofs.ChannelsShown.{only-channel}
+use Rattle.iox2_pubsub.proofs.ClosedChannels.{sent-others}
+use Rattle.iox2_pubsub.proofs.PlacedHandles.{publisher-there}
+use Rattle.iox2_pubsub.proofs.StaysBut.{same-boxes}
+use Rattle.iox2_pubsub.proofs.publisher.Publisher.close_channel.Goals as goal
+
+pub invariant_of-domain : goal.invariant_of-domain
+invariant_of-domain g c =
+    let at = publisher-there {T = g.row.T.Denot} {U = g.row.U.Denot} c.domain.inside.state c.domain.invariant c.args.domain.now c.domain.view_is c.args.self.now c.requires.there c.requires.placed in
+    (c.close_sent.ensures at.0 at.1).agrees
+
+pub returns-clause-closed : goal.returns-clause-closed
+returns-clause-closed g c =
+    let at = publisher-there {T = g.row.T.Denot} {U = g.row.U.Denot} c.domain.inside.state c.domain.invariant c.args.domain.now c.domain.view_is c.args.self.now c.requires.there c.requires.placed in
+    changed-shows {T = g.row.T.Denot} {U = g.row.U.Denot} c.domain.inside.state c.args.domain.now c.domain.view_is
+    (λ s. sent_closed s c.args.self.now.id c.args.channel c.args.connection c.args.expected) (λ s. sent-closed-is s c.args.self.now.id c.args.channel c.args.connection c.args.expected) c.close_sent.new.state
+    (subst (Reaches c.domain.inside.state c.close_sent.new.state)
+    (ap (λ (p : ℕ). sent_closed (state_of (kept_of c.domain.inside.state)) p 0 c.args.connection c.args.expected) at.2
+    ∙ only-channel (λ (number : ℕ). sent_closed (state_of (kept_of c.domain.inside.state)) c.args.self.now.id number c.args.connection c.args.expected) c.args.channel c.requires.channel)
+    (c.close_sent.ensures at.0 at.1))
+
+pub returns-clause-waits : goal.returns-clause-waits
+returns-clause-waits g c =
+    changed-waits {T = g.row.T.Denot} {U = g.row.U.Denot} c.domain.inside.state c.args.domain.now c.domain.view_is
+    (λ s. sent_closed s c.args.self.now.id c.args.channel c.args.connection c.args.expected) (λ s. sent-closed-is s c.args.self.now.id c.args.channel c.args.connection c.args.expected)
+    c.domain.invariant (keeping _ c.close_sent.new.state) (returns-clause-closed g c)
+
+pub returns-clause-up_to_date : goal.returns-clause-up_to_date
+returns-clause-up_to_date g c =
+    changed-updated {T = g.row.T.Denot} {U = g.row.U.Denot} c.domain.inside.state c.args.domain.now c.domain.view_is
+    (λ s. sent_closed s c.args.self.now.id c.args.channel c.args.connection c.args.expected) (λ s. sent-closed-is s c.args.self.now.id c.args.channel c.args.connection c.args.expected)
+    c.domain.invariant (keeping _ c.close_sent.new.state) (returns-clause-closed g c)
+
+pub returns-clause-connections : goal.returns-clause-connections
+returns-clause-connections g c = λ m s publisher subscriber shown other.
+    changed-connected {T = g.row.T.Denot} {U = g.row.U.Denot} c.domain.inside.state c.args.domain.now c.domain.view_is
+    (λ s. sent_closed s c.args.self.now.id c.args.channel c.args.connection c.args.expected) (λ s. sent-closed-is s c.args.self.now.id c.args.channel c.args.connection c.args.expected)
+    c.domain.invariant (keeping _ c.close_sent.new.state) (returns-clause-closed g c) m s shown publisher subscriber
+    (λ takes. ap (λ (channels : ℕ → Channel). is_closed (channels 0)) (sent-others s shown.well_formed c.args.self.now.id c.args.channel c.args.connection c.args.expected publisher subscriber.id other) ∙ takes)
+
+pub returns-clause-room : goal.returns-clause-room
+returns-clause-room g c =
+    changed-room {T = g.row.T.Denot} {U = g.row.U.Denot} c.domain.inside.state c.args.domain.now c.domain.view_is
+    (λ s. sent_closed s c.args.self.now.id c.args.channel c.args.connection c.args.expected) (λ s. sent-closed-is s c.args.self.now.id c.args.channel c.args.connection c.args.expected)
+    c.domain.invariant (keeping _ c.close_sent.new.state) (returns-clause-closed g c)
+
+pub returns-clause-loans_left : goal.returns-clause-loans_left
+returns-clause-loans_left g c =
+    changed-left {T = g.row.T.Denot} {U = g.row.U.Denot} c.domain.inside.state c.args.domain.now c.domain.view_is
+    (λ s. sent_closed s c.args.self.now.id c.args.channel c.args.connection c.args.expected) (λ s. sent-closed-is s c.args.self.now.id c.args.channel c.args.connection c.args.expected)
+    c.domain.invariant (keeping _ c.close_sent.new.state) (returns-clause-closed g c)
+
+pub returns-clause-stays : goal.returns-clause-stays
+returns-clause-stays g c =
+    changed-stays {T = g.row.T.Denot} {U = g.row.U.Denot} c.domain.inside.state c.args.domain.now c.domain.view_is
+    (λ s. sent_closed s c.args.self.now.id c.args.channel c.args.connection c.args.expected) (λ s. sent-closed-is s c.args.self.now.id c.args.channel c.args.connection c.args.expected)
+    c.domain.invariant (keeping _ c.close_sent.new.state) (returns-clause-closed g c)
+    (same-boxes c.domain.inside.state c.close_sent.new.state c.args.domain.now c.domain.view_is)
