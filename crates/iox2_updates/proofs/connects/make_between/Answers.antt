@@ -49,7 +49,7 @@ returns-clause-receiver_room g c =
 pub returns-clause-made : goal.returns-clause-made
 returns-clause-made g c =
     subst (λ (f : Fields g.row.T.Denot g.row.U.Denot).
-    IfOk c.make_connection.result (λ key. MakesConnection f.connections c.args.home c.args.buffer f.config.subscriber_max_borrowed_samples key c.make_connection.new.connections))
+    IfOk c.make_connection.result (λ key. MakesConnection f.connections c.args.home c.args.buffer f.config.subscriber_max_borrowed_samples (channel_count f.config) key c.make_connection.new.connections))
     c.state.view_is c.make_connection.ensures.made
 
 pub returns-clause-expired_room : goal.returns-clause-expired_room
