@@ -57,7 +57,7 @@ impl Config {
 
     /// The settings of a domain for messages of so many bytes.
     pub fn of(config: &ServiceConfig, payload_size: usize, payload_alignment: usize) -> Config
-        ensures settings { settings_of result ≡ record (config.now) { variant = Dynamic; units_per_element = 1; lists_cells = false; publisher_allocation_strategy = Static } }
+        ensures settings { settings_of result ≡ record (config.now) { variant = Dynamic; units_per_element = 1; lists_cells = false; number_of_channels = 1; publisher_allocation_strategy = Static } }
         ensures size { result.payload_size ≡ payload_size }
         ensures alignment { result.payload_alignment ≡ payload_alignment }
     {
@@ -93,6 +93,7 @@ impl Config {
             subscriber_max_buffer_size: self.subscriber_max_buffer_size,
             subscriber_max_borrowed_samples: self.subscriber_max_borrowed_samples,
             history_size: self.history_size,
+            number_of_channels: 1,
             enable_safe_overflow: self.enable_safe_overflow != 0,
             subscriber_expired_connection_buffer: self.subscriber_expired_connection_buffer,
             publisher_max_loaned_samples: self.publisher_max_loaned_samples,
