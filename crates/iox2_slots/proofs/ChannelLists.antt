@@ -1,5 +1,5 @@
 -- Lists of channels, by number.
-use Rattle.std.proofs.Common.{◌≡◌, ◌≢◌, ℕ, zero, suc, ◌-◌, ◌<◌, Bool, true, false, cond, not, ◌&&◌, List, [], ◌∷◌, length, replicate, get_or, set, refl, ap, sym, ◌∙◌, inl, inr, ne_eqb, arith}
+use Rattle.std.proofs.Common.{◌≡◌, ◌≢◌, ℕ, zero, suc, ◌-◌, ◌<◌, Bool, true, false, cond, not, ◌&&◌, List, [], ◌∷◌, length, replicate, refl, ap, sym, ◌∙◌, inl, inr, ne_eqb, arith}
 use Rattle.std.proofs.lemmas.Bool.{cases_eq, eq-eqb}
 use Rattle.std.proofs.lemmas.List.{get_or-set_same, get_or-set_other, length-set}
 use Rattle.iox2_store.specs.machine.Channel.{Channel, new_channel, is_in_state, is_closed, changed_if}
@@ -16,7 +16,7 @@ all-new (suc count) (suc number) = all-new count number
 -- channel 0 and those behind it
 pub one-more : (count : ℕ) → 0 < count → (new_channel ∷ replicate (count - 1) new_channel) ≡ replicate count new_channel
 one-more zero some = absurd (omega (arith, some))
-one-more (suc count) some = refl
+one-more (suc count) some = ap (λ (n : ℕ). new_channel ∷ replicate n new_channel) (let less : suc count - 1 ≡ count = omega arith in less)
 
 -- a mark that an open channel allows stays
 mark-stays : (is_open shut : Bool) → (is_open ≡ true → shut ≡ false) → (is_open && not shut) ≡ is_open
@@ -29,7 +29,10 @@ pub further-changed : (c : Link) (first : Channel) (rest : List Channel) (number
 further-changed c first rest zero expected change is marked some = absurd (some refl)
 further-changed c first rest (suc number) expected change is marked some =
     ap (λ (channels : List Channel). having_channels (channels_changed (suc number) expected change channels) c) is
-    ∙ (λ i. record c { is_open = mark-stays c.is_open (is_closed first) marked i; channels = first ∷ channels_changed number expected change rest })
+    ∙ (λ i. record c { is_open = mark-stays c.is_open (is_closed first) marked i; channels = first ∷ channels_changed (less i) expected change rest })
+  where
+    less : number ≡ suc number - 1
+    less = omega arith
 
 -- a number behind the last channel changes nothing
 pub none-further : (number expected : ℕ) (change : Channel → Channel) (channels : List Channel) → (number < length channels → ⊥) → channels_changed number expected change channels ≡ channels

@@ -1,11 +1,11 @@
 -- Channels follow their connections: step by step, and in the end as a port's step leaves them.
-use Rattle.std.proofs.Common.{◌≡◌, ℕ, List, Bool, true, false, cond, eqb, refl, ap, sym, subst, ◌∙◌, inl, inr, ◌⊎◌, Option, None, Some, get_or}
+use Rattle.std.proofs.Common.{◌≡◌, ℕ, List, Bool, true, false, refl, ap, sym, subst, ◌∙◌, inl, inr, ◌⊎◌, Option, None, Some, get_or}
 use Rattle.std.proofs.lemmas.Bool.{eqb-true}
 use Rattle.std.specs.Option.{option_map}
 use Rattle.slab.specs.Slab.{Slab, get}
 use Rattle.iox2_slots.specs.Link.{Link}
 use Rattle.iox2_slots.specs.declared.connection.Home.{Home}
-use Rattle.iox2_store.specs.machine.Channel.{Channel, new_channel, new_channels}
+use Rattle.iox2_store.specs.machine.Channel.{Channel, new_channels}
 use Rattle.iox2_ends.specs.Homes.{IsApart, SameHomes, fixed_of}
 use Rattle.iox2_ends.specs.LookUp.{look_up}
 use Rattle.iox2_ends.specs.Mailboxes.{is_between, channels_if_any, channels_in}
@@ -13,7 +13,6 @@ use Rattle.iox2_ends.proofs.LookUps.{look_up-nothing, look_up-there, look_up-non
 use Rattle.iox2_ends.proofs.MailboxChanges.{is_between-own, both-true, channels-there}
 use Rattle.iox2_domain.specs.KeptLinks.{HasLink, SameChannels, NoLink, IsMade, ChannelsFollow}
 use Rattle.iox2_domain.proofs.lemmas.containers.Extensions.{Extends}
-use mathlib.Core.Path.{fun_ext}
 
 -- a connection that stands is there
 pub has-link : (connections : Slab Link) (key : ℕ) (c : Link) → get connections key ≡ Some c → HasLink connections c
@@ -147,6 +146,7 @@ module _ (Own : Home → Type 0) (Gone : ℕ → ℕ → Type 0) where
         ∙ sym (channels-there old has.key d.home.publisher d.home.subscriber has.link apart has.stands (ap (λ (h : Home). h.publisher) has.home) (ap (λ (h : Home). h.subscriber) has.home))
     | inr made ↦ made.is_new ∙ sym (none-new old d.home.publisher d.home.subscriber made.none)
   ]
+
   -- between ports of which none is gone channels are what they were
   pub follow-present : (old new : Slab Link) → IsApart old → IsApart new → ChannelsFollow Own Gone old new → (p q : ℕ) → (Gone p q → ⊥) → channels_in new p q ≡ channels_in old p q
   follow-present old new apart apart' x p q present = by (look_up (is_between p q) new.slots) refl where

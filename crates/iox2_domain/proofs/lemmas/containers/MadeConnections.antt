@@ -1,5 +1,5 @@
 -- A connection is made, where there was none between its ports.
-use Rattle.std.proofs.Common.{◌≡◌, ◌≢◌, ℕ, ◌+◌, zero, suc, List, [], ◌∷◌, true, false, Bool, cond, eqb, ◌&&◌, get_or, refl, ap, sym, ◌∙◌, ◌⊎◌, inl, inr, arith, replicate}
+use Rattle.std.proofs.Common.{◌≡◌, ◌≢◌, ℕ, ◌+◌, zero, suc, List, [], ◌∷◌, true, false, Bool, cond, ◌&&◌, get_or, refl, ap, sym, ◌∙◌, ◌⊎◌, inl, inr, arith, replicate}
 use Rattle.std.proofs.lemmas.Bool.{cases_eq, eqb-true}
 use Rattle.std.proofs.lemmas.List.Sums.{sum_by-cons}
 use Rattle.std.specs.List.{sum_by}

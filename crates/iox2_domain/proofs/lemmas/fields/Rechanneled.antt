@@ -112,7 +112,7 @@ module _ {T U : Type 0} (f : Fields T U) (sound : IsDomain f) (new : Slab Link) 
   counts k d at_d =
       let c = plain-was f.connections new same k d at_d in
       let both : Some (length d.channels) ≡ Some (length c.0.channels) =
-          sym (ap (option_map (λ (e : Link). length e.channels)) at_d) ∙ same.counts k ∙ ap (option_map (λ (e : Link). length e.channels)) c.1 in
+      sym (ap (option_map (λ (e : Link). length e.channels)) at_d) ∙ same.counts k ∙ ap (option_map (λ (e : Link). length e.channels)) c.1 in
       let alike : length d.channels ≡ length c.0.channels = cc in
       alike ∙ sound.parts.linked.channel_counts k c.0 c.1
 
