@@ -92,7 +92,7 @@ impl Publisher {
         ensures waits { WaitingStays domain.old domain.new }
         ensures up_to_date { (subscriber : Subscriber) → IsUpToDate domain.old subscriber → IsUpToDate domain.new subscriber }
         ensures connections { (m : Messages T U) (s : State T U) (publisher : ℕ) (subscriber : Subscriber) → Shows domain.old m s
-            → (publisher ≢ publisher_id (as_publisher self.now)) ⊎ (connection_place s publisher (subscriber_id subscriber) ≢ Some connection)
+            → (publisher ≢ publisher_id (as_publisher self.now)) ⊎ (connection_place s publisher (subscriber_id subscriber) ≢ Some connection) ⊎ (channel ≢ 0)
             → IsConnected domain.old publisher subscriber → IsConnected domain.new publisher subscriber }
         ensures room { RoomStays domain.old domain.new }
         ensures loans_left { LoansLeftStay domain.old domain.new }

@@ -1,5 +1,5 @@
 //! A subscriber of slices asks about the channels of its connections, and changes them.
-ghost use Rattle.std.specs.Prelude.{◌≡◌, ◌≢◌, ◌<◌, ℕ};
+ghost use Rattle.std.specs.Prelude.{◌≡◌, ◌≢◌, ◌⊎◌, ◌<◌, ℕ};
 
 use crate::domain::Domain;
 use crate::slice::Subscriber;
@@ -73,7 +73,7 @@ impl Subscriber {
         ensures closed { (m : Messages T U) (s : State T U) → Shows domain.old m s → Shows domain.new m (received_closed s (subscriber_id (as_subscriber self.now)) channel expected) }
         ensures waits { WaitingStays domain.old domain.new }
         ensures up_to_date { (subscriber : Handle) → IsUpToDate domain.old subscriber → IsUpToDate domain.new subscriber }
-        ensures connections { (publisher : ℕ) (other : Handle) → subscriber_id other ≢ subscriber_id (as_subscriber self.now) → IsConnected domain.old publisher other → IsConnected domain.new publisher other }
+        ensures connections { (publisher : ℕ) (other : Handle) → (subscriber_id other ≢ subscriber_id (as_subscriber self.now)) ⊎ (channel ≢ 0) → IsConnected domain.old publisher other → IsConnected domain.new publisher other }
         ensures room { RoomStays domain.old domain.new }
         ensures loans_left { LoansLeftStay domain.old domain.new }
         ensures stays { Stays domain.old domain.new }
