@@ -487,7 +487,7 @@ static void channels_are_asked_about() {
 static void further_channels_have_states_of_their_own() {
   constexpr auto open = iox2ps::channel_state_open, closed = iox2ps::channel_state_closed;
   auto domain = made(Config<int>(25).number_of_channels(3));
-  CHECK(domain.config().number_of_channels() == 3);
+  CHECK(domain.config()->number_of_channels() == 3);
   auto subscriber = domain.subscriber().expect("a subscriber");
   auto publisher = domain.publisher().expect("a publisher");
   CHECK(subscriber.update_connections().has_value() && subscriber.close_channel(2, open).has_value());
