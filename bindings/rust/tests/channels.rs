@@ -155,3 +155,38 @@ fn channels_are_numbered<M: Threads>(domain: &Domain<u64, M>) {
 fn a_connection_has_channel_0_alone() {
     by_each_kind!(channels_are_numbered);
 }
+
+// Messages go to channel 0 alone, and no call on one channel changes another.
+fn a_further_channel_has_its_own_state<M: Threads>(domain: &Domain<u64, M>) {
+    let subscriber = domain.subscriber().unwrap();
+    let publisher = domain.publisher().unwrap();
+    subscriber.update_connections().unwrap();
+    let is = |channel, state| publisher.has_channel_state(channel, 0, state).unwrap();
+    subscriber.close_channel(2, CHANNEL_STATE_OPEN).unwrap();
+    assert!(is(0, CHANNEL_STATE_OPEN) && is(1, CHANNEL_STATE_OPEN) && is(2, CHANNEL_STATE_CLOSED));
+    assert_eq!(publisher.send_copy(1).unwrap().delivered(), Some(1));
+
+    subscriber.set_disconnect_hint(1, CHANNEL_STATE_OPEN).unwrap();
+    let is_hinted = |channel| publisher.has_disconnect_hint(channel, 0, CHANNEL_STATE_OPEN);
+    assert_eq!([is_hinted(0), is_hinted(1)], [Ok(false), Ok(true)]);
+    publisher.close_channel(1, 0, CHANNEL_STATE_OPEN).unwrap();
+    assert!(is(0, CHANNEL_STATE_OPEN) && is(1, CHANNEL_STATE_CLOSED));
+    assert_eq!(subscriber.set_channel_state(2, 5), Ok(true));
+    assert_eq!(subscriber.set_channel_state(0, 5), Ok(false));
+    assert_eq!(
+        subscriber.close_channel(3, 0),
+        Err(ChannelError::NoSuchChannel)
+    );
+
+    subscriber.close_channel(0, CHANNEL_STATE_OPEN).unwrap();
+    assert_eq!(publisher.send_copy(2).unwrap().delivered(), Some(0));
+}
+
+#[test]
+fn further_channels_have_states_of_their_own() {
+    let builder = || Domain::<u64>::builder(1).number_of_channels(3);
+    let of_one = builder().create().unwrap();
+    a_further_channel_has_its_own_state(&of_one);
+    let of_many = builder().create_shared().unwrap();
+    a_further_channel_has_its_own_state(&of_many.borrowed());
+}

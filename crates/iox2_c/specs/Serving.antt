@@ -16,12 +16,11 @@ pub record Serving : Type 0 where
   pub payload_size : ℕ
   pub payload_alignment : ℕ
 
--- Each message is a slice of bytes, whose cells aren't handed out, and connections have one channel.
+-- Each message is a slice of bytes, whose cells aren't handed out.
 pub record IsOfBytes (domain : KeptBytes) : Type 0 where
   pub dynamic : (domain.config).variant ≡ Dynamic
   pub one_unit : (domain.config).units_per_element ≡ 1
   pub lists_no_cells : (domain.config).lists_cells ≡ false
-  pub one_channel : (domain.config).number_of_channels ≡ 1
   pub sliced : HoldsSlices domain
 
 -- All that was live stays but for the item, and the lengths and alignments stay.

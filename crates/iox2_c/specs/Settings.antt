@@ -23,7 +23,7 @@ pub record AreValid (config : Config) : Type 0 where
   pub whole : config.payload_size % config.payload_alignment ≡ 0
   pub strategy : config.backpressure_strategy < 2
 
--- The settings of the domain: of slices of bytes, whose cells aren't handed out, and of connections with one channel.
+-- The settings of the domain: of slices of bytes, whose cells aren't handed out.
 abbrev pub settings_of : Config → ServiceConfig
 settings_of it = record {
   service_id = wide it.service_id;
@@ -36,7 +36,7 @@ settings_of it = record {
   subscriber_max_buffer_size = it.subscriber_max_buffer_size;
   subscriber_max_borrowed_samples = it.subscriber_max_borrowed_samples;
   history_size = it.history_size;
-  number_of_channels = 1;
+  number_of_channels = it.number_of_channels;
   enable_safe_overflow = not (nat_eq it.enable_safe_overflow 0);
   subscriber_expired_connection_buffer = it.subscriber_expired_connection_buffer;
   publisher_max_loaned_samples = it.publisher_max_loaned_samples;
