@@ -183,10 +183,7 @@ fn unwritten_cells<T: Drop>(
     ensures unwritten { IfOk result (λ cells. cells.items ≡ replicate (length cells.items) None) }
     ensures enough { IfOk result (λ cells. room ≤ cell_room → (room ≡ 1 → in_lists ≡ true) → length cells.items ≡ room) }
 {
-    if cell_room < room {
-        return Ok(Vec::new(alloc));
-    }
-    if room == 1 && !in_lists {
+    if cell_room < room || room == 1 && !in_lists {
         return Ok(Vec::new(alloc));
     }
     let mut cells = Vec::with_capacity(alloc, room)?;
