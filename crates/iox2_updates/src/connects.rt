@@ -19,7 +19,7 @@ use iox2_domain::{
 };
 use iox2_ends::sender::{deliver_history, drop_all, reclaim_all, remove_connection};
 use iox2_slots::{Connection, Home};
-use iox2_store::{BackpressureFn, ConnectionFailure, DegradationFn};
+use iox2_store::{BackpressureFn, ConnectionFailure, DegradationFn, ServiceConfig};
 use slab::Slab;
 use std::alloc::{AllocError, Global};
 
@@ -83,6 +83,14 @@ fn ports_at<T: Drop, U: Default + Drop>(
     )
 }
 
+// How many channels each connection has.
+fn channel_count(config: &ServiceConfig) -> usize
+    ensures count { result ≡ channel_count config.now }
+    ensures some { 0 < result }
+{
+    config.number_of_channels.max(1)
+}
+
 // How many connections the subscriber has.
 fn connection_count(connections: &Slab<Connection>, subscriber: u128) -> usize
     ensures { result ≡ connection_count connections.now subscriber }
@@ -134,7 +142,7 @@ pub(crate) fn make_between<T: Drop, U: Default + Drop>(
         others,
     )?;
     let limit = state.config.subscriber_max_borrowed_samples;
-    let channels = state.config.number_of_channels.max(1);
+    let channels = channel_count(&state.config);
     make_connection(
         state.alloc,
         &mut state.connections,

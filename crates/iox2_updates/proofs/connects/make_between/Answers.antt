@@ -51,7 +51,10 @@ pub returns-clause-made : goal.returns-clause-made
 returns-clause-made g c =
     subst (λ (f : Fields g.row.T.Denot g.row.U.Denot).
     IfOk c.make_connection.result (λ key. MakesConnection f.connections c.args.home c.args.buffer f.config.subscriber_max_borrowed_samples (channel_count f.config) key c.make_connection.new.connections))
-    c.state.view_is c.make_connection.ensures.made
+    c.state.view_is
+    (subst (λ (count : ℕ).
+    IfOk c.make_connection.result (λ key. MakesConnection c.state.inside.connections c.args.home c.args.buffer (c.state.inside.config).subscriber_max_borrowed_samples count key c.make_connection.new.connections))
+    c.channel_count-channels.ensures.count c.make_connection.ensures.made)
 
 pub returns-clause-expired_room : goal.returns-clause-expired_room
 returns-clause-expired_room g c =
