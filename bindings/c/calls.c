@@ -624,6 +624,8 @@ static void channels_are_closed_opened_and_hinted(void) {
   IS(iox2ps_subscriber_update_connections(&domain, &subscriber), IOX2PS_OK);
   IS(iox2ps_publisher_get_connection_id_of(&domain, &publisher, &subscriber.id, &connection), IOX2PS_OK);
   CHECK(connection == 0);
+  IS(iox2ps_subscriber_at_least_one_channel_has_state(&domain, &subscriber, 1, 0, &answer), IOX2PS_OK);
+  CHECK(answer == 1);
 
   /* A closed channel takes no message until it is opened. */
   IS(iox2ps_subscriber_close_channel(&domain, &subscriber, 0, 5), IOX2PS_OK);

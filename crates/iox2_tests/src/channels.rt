@@ -176,6 +176,9 @@ fn a_closed_channel_takes_no_message(rt: HostRuntime) {
     ];
     assert_live(&rt, &domain, &subscriber);
     let updated = subscriber.update_connections(&mut domain).is_ok();
+    assert_live(&rt, &domain, &subscriber);
+    assert_has_channel(&rt, &domain, 1);
+    let further = subscriber.at_least_one_channel_has_state(&domain, 1, 0);
     close(&rt, &mut domain, &subscriber, 5);
     let is_open = is_any(&rt, &domain, &subscriber, 0);
     close(&rt, &mut domain, &subscriber, 0);
@@ -200,7 +203,7 @@ fn a_closed_channel_takes_no_message(rt: HostRuntime) {
     drop(domain);
     assert!(rt; places == [Some(0), None]);
     assert!(rt; unconnected == [true, false]);
-    assert!(rt; updated && is_open);
+    assert!(rt; updated && further && is_open);
     assert!(rt; closed == [true, false]);
     assert!(rt; [passed, taken] == [0, 1]);
     assert!(rt; [was_closed, was_open] == [true, false]);
