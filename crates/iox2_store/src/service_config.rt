@@ -52,8 +52,8 @@ pub struct ServiceConfig {
     pub subscriber_max_borrowed_samples: usize,
     /// How many of its last messages a publisher keeps for subscribers that connect later.
     pub history_size: usize,
-    /// How many channels each connection has, numbered from 0. Here 0 counts as 1. So far only channel
-    /// 0 is there for messages and calls: each further one takes slots, and nothing else.
+    /// How many channels each connection has, numbered from 0. Here 0 counts as 1. Each has a state and
+    /// a hint of its own. So far messages go through channel 0 alone.
     pub number_of_channels: usize,
     /// Whether a message that finds a full buffer pushes the oldest waiting one out. If not, the
     /// publisher's handler or strategy decides.
