@@ -6,7 +6,8 @@ import subprocess
 import tarfile
 from pathlib import Path
 
-from .packages import cargo
+from . import registry
+from .packages import STREAMS_NEED, cargo
 from .places import CRATES, OUT, is_here
 from .steps import Failed, said
 
@@ -40,14 +41,19 @@ def compiler_of(version):
     return None
 
 
-def by_oldest(work, compiler, *words):
-    """What this compiler takes of the crate without a warning."""
+def by_oldest(work, compiler, *words, crate="rust"):
+    """What this compiler takes of a crate without a warning."""
     beside = Path(compiler).with_name("cargo")
     program = str(beside) if beside.exists() else "cargo"
     places = {"RUSTC": compiler, "CARGO_TARGET_DIR": str(work / "target_oldest"), "RUSTFLAGS": "-D warnings"}
-    written = said(program, *words, "--offline", "--quiet", cwd=OUT / "rust", env={**os.environ, **places})
+    written = said(program, *words, "--offline", "--quiet", cwd=OUT / crate, env={**os.environ, **places})
     tested = re.findall(r"^test result: .* (\d+) passed; 0 failed", written, re.M)
     return f"{sum(map(int, tested))} passed" if tested else "without a warning"
+
+
+def streams_by_oldest(work, compiler):
+    """The same of the crate of streams, over Debian's crates."""
+    return by_oldest(work, compiler, "check", "--all-targets", *registry.words(), crate="rust-stream")
 
 
 def run_oldest(steps, work):
@@ -57,8 +63,12 @@ def run_oldest(steps, work):
     if compiler is None:
         steps.skip(f"rust, by Rust {version}", f"Rust {version} (Debian's rustc, or rustup toolchain install {version})")
         return
-    steps.run(f"rust, cargo check by Rust {version}", by_oldest, work, compiler, "check", "--all-targets")
+    for features in ((), ("--features", "dds")):
+        words = " ".join(("cargo check", *features))
+        steps.run(f"rust, {words} by Rust {version}", by_oldest, work, compiler, "check", "--all-targets", *features)
     steps.run(f"rust, cargo test --test {TESTS} by Rust {version}", by_oldest, work, compiler, "test", "--test", TESTS)
+    if registry.has_crate(STREAMS_NEED):
+        steps.run(f"rust-stream, cargo check by Rust {version}", streams_by_oldest, work, compiler)
 
 
 # ---- packages
