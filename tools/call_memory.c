@@ -31,6 +31,27 @@ static void ask(iox2ps_domain_t *domain, const iox2ps_publisher_t *publisher, co
   OK(iox2ps_subscriber_has_samples(domain, subscriber, &answer));
 }
 
+/* Ports with settings of their own are refused at a limit, before anything is made for them. */
+static void are_refused(iox2ps_domain_t *domain, const iox2ps_config_t *config) {
+  iox2ps_publisher_options_t publishing;
+  iox2ps_subscriber_options_t subscribing;
+  iox2ps_publisher_t publisher;
+  iox2ps_subscriber_t subscriber;
+  iox2ps_publisher_options_of(config, &publishing);
+  publishing.max_loaned_samples = 3;
+  publishing.initial_max_slice_len = 16;
+  publishing.preallocated_samples = 2;
+  publishing.backpressure_strategy = IOX2PS_DISCARD_DATA;
+  publishing.backpressure_handler = IOX2PS_BACKPRESSURE_RETRY;
+  publishing.degradation = IOX2PS_DEGRADATION_FAIL;
+  publishing.allocation_strategy = IOX2PS_ALLOCATION_BEST_FIT;
+  IS(iox2ps_publisher_create_with(domain, &publishing, &publisher), IOX2PS_PUBLISHER_CREATE_ERROR_EXCEEDS_MAX_SUPPORTED_PUBLISHERS);
+  iox2ps_subscriber_options_of(config, &subscribing);
+  subscribing.degradation = IOX2PS_DEGRADATION_FAIL;
+  IS(iox2ps_subscriber_create_with(domain, &subscribing, &subscriber),
+     IOX2PS_SUBSCRIBER_CREATE_ERROR_EXCEEDS_MAX_SUPPORTED_SUBSCRIBERS);
+}
+
 /* A sample is received, read and released. */
 static void receive(iox2ps_domain_t *domain, const iox2ps_subscriber_t *subscriber) {
   iox2ps_sample_t sample;
@@ -77,13 +98,17 @@ int main(int argc, char **argv) {
   iox2ps_subscriber_t subscriber;
   iox2ps_config_defaults(&config, 7, 8, 8);
   config.subscriber_max_buffer_size = 1;
+  config.max_publishers = config.max_subscribers = 1;
   config.enable_safe_overflow = 0;
   OK(iox2ps_domain_create(&domain, &config));
   OK(iox2ps_subscriber_create(&domain, &subscriber));
   OK(iox2ps_publisher_create(&domain, &publisher));
   /* The subscriber learns of the publisher. */
   OK(iox2ps_subscriber_update_connections(&domain, &subscriber));
-  for (int i = 0; i < rounds; i++) round_of_calls(&domain, &publisher, &subscriber);
+  for (int i = 0; i < rounds; i++) {
+    round_of_calls(&domain, &publisher, &subscriber);
+    are_refused(&domain, &config);
+  }
   if (rounds >= 0) {
     OK(iox2ps_publisher_close(&domain, &publisher));
     OK(iox2ps_subscriber_close(&domain, &subscriber));

@@ -6,6 +6,7 @@
 #include <cstdlib>
 #include <functional>
 #include <mutex>
+#include <pthread.h>
 #include <thread>
 #include <vector>
 #ifdef __linux__
@@ -521,6 +522,60 @@ void a_lock_is_brought() {
   CHECK(before > 0 && Counting::taken == before + 5);
 }
 
+/* One that lends its holder the priority of whoever waits for it, as robots need. */
+class Inheriting {
+public:
+  static constexpr bool wakes_all = true;
+  static constexpr unsigned looks = 0;
+  Inheriting() {
+    pthread_mutexattr_t attributes;
+    int protocol = 0;
+    CHECK(pthread_mutexattr_init(&attributes) == 0);
+    CHECK(pthread_mutexattr_setprotocol(&attributes, PTHREAD_PRIO_INHERIT) == 0);
+    CHECK(pthread_mutexattr_getprotocol(&attributes, &protocol) == 0 && protocol == PTHREAD_PRIO_INHERIT);
+    CHECK(pthread_mutex_init(&mutex_, &attributes) == 0);
+    CHECK(pthread_mutexattr_destroy(&attributes) == 0);
+  }
+  Inheriting(const Inheriting &) = delete;
+  Inheriting &operator=(const Inheriting &) = delete;
+  ~Inheriting() { CHECK(pthread_mutex_destroy(&mutex_) == 0); }
+  void lock() { CHECK(pthread_mutex_lock(&mutex_) == 0); }
+  void unlock() { CHECK(pthread_mutex_unlock(&mutex_) == 0); }
+
+private:
+  pthread_mutex_t mutex_;
+};
+
+/* Two threads send to two others, each of which gets all. */
+void a_lock_with_inheritance_is_brought() {
+  constexpr std::uint64_t messages = 500;
+  iox2ps::Config<Message> config(1);
+  config.enable_safe_overflow(false);
+  auto domain = iox2ps::SharedDomain<Message, Inheriting>::create(config).expect("a domain");
+  std::vector<iox2ps::Subscriber<Message, iox2ps::ManyThreadsWith<Inheriting>>> subscribers;
+  std::vector<iox2ps::Publisher<Message, iox2ps::ManyThreadsWith<Inheriting>>> publishers;
+  for (int i = 0; i < 2; i++) {
+    subscribers.push_back(domain.subscriber().expect("a subscriber"));
+    publishers.push_back(domain.publisher().expect("a publisher"));
+  }
+  std::vector<std::thread> threads;
+  for (auto &subscriber : subscribers) {
+    threads.emplace_back([&] {
+      std::uint64_t sum = 0;
+      for (std::uint64_t i = 0; i < 2 * messages; i++) sum += (**subscriber.blocking_receive_copy())[0];
+      CHECK(sum == messages * (messages - 1));
+    });
+  }
+  for (auto &publisher : publishers) {
+    threads.emplace_back([&] {
+      for (std::uint64_t number = 0; number < messages; number++) {
+        CHECK(publisher.blocking_send_copy(message(number)).expect("a send").delivered() == 2u);
+      }
+    });
+  }
+  for (auto &thread : threads) thread.join();
+}
+
 } // namespace
 
 int main() {
@@ -547,6 +602,7 @@ int main() {
       an_event_loop_misses_nothing,
 #endif
       a_lock_is_brought,
+      a_lock_with_inheritance_is_brought,
   };
   std::size_t passed = 0;
   for (auto &test : tests) {

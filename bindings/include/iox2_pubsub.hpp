@@ -7,8 +7,9 @@
  * not copied, but for a Domain; one that was moved from, or whose loan was sent, is empty: its calls return
  * Error::NotLive, and it isn't read.
  *
- * Nothing is thrown but std::bad_alloc by Domain::warnings(), which fills a vector, and what the default constructor of
- * a message's own type throws; then the loan is given back. No destructor throws. It compiles without exceptions.
+ * Nothing is thrown but std::bad_alloc by Domain::warnings() and Domain::recording(), which fill a vector and a string, and
+ * what the default constructor of a message's own type throws; then the loan is given back. No destructor throws. It compiles
+ * without exceptions.
  *
  * What a Domain<P> makes is for one thread at a time. iox2_pubsub_shared.hpp has domains for several threads. */
 #ifndef IOX2_PUBSUB_HPP
@@ -1066,22 +1067,6 @@ public:
     return recording;
   }
 
-  /** Makes calls of iox2_pubsub.h on the domain with no other between them, and returns the code that make returns: for
-   * what goes between domains, and has no handles. brings says what they may have brought to those who wait. No function
-   * of a handle is called by make. */
-  template <typename Call> iox2ps_status_t call(Brings brings, Call &&make) const {
-    if (!hold_) return IOX2PS_NOT_LIVE;
-    return hold_.call(brings, std::forward<Call>(make));
-  }
-
-  /** For several threads alone: makes them again as long as their code says that this port still waits, each time when
-   * something came that may help; or, where a time is given, until that has passed, or until waits are stopped. */
-  template <typename Call>
-  iox2ps_status_t wait(Waits what, Id port, Brings brings, Until until, Call &&make) const {
-    if (!hold_) return IOX2PS_NOT_LIVE;
-    return hold_.wait(what, {port.low, port.high}, brings, until, std::forward<Call>(make));
-  }
-
   /** For several threads alone: lets no call wait any longer: each tries once, and returns what it found. So a program
    * ends its threads. With false calls wait again. */
   void stop_waits(bool stopped = true) {
@@ -1089,7 +1074,24 @@ public:
   }
 
 private:
+  friend struct detail::Raw;
+
   explicit Domain(detail::Hold<M> hold) : hold_(std::move(hold)) {}
+
+  /* Makes calls of iox2_pubsub.h on the domain with no other between them, and returns the code that make returns: for what goes
+   * between domains, and has no handles. brings says what they may have brought to those who wait. No function of a handle is
+   * called by make. */
+  template <typename Call> iox2ps_status_t call(Brings brings, Call &&make) const {
+    if (!hold_) return IOX2PS_NOT_LIVE;
+    return hold_.call(brings, std::forward<Call>(make));
+  }
+
+  /* For several threads alone: makes them again as long as their code says that this port still waits, each time when something
+   * came that may help; or, where a time is given, until that has passed, or until waits are stopped. */
+  template <typename Call> iox2ps_status_t wait(Waits what, Id port, Brings brings, Until until, Call &&make) const {
+    if (!hold_) return IOX2PS_NOT_LIVE;
+    return hold_.wait(what, {port.low, port.high}, brings, until, std::forward<Call>(make));
+  }
 
   template <typename Question> iox2ps_status_t ask(Question &&question) const {
     if (!hold_) return IOX2PS_NOT_LIVE;

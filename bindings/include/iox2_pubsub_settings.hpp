@@ -77,11 +77,17 @@ template <typename T> constexpr std::size_t bytes_of(std::size_t values) {
 
 inline Id id_of(iox2ps_wide_t wide) { return Id{wide.low, wide.high}; }
 
-/* The structs of C behind settings, for the calls alone. */
+/* What C has behind settings and domains, for the headers and the gateway alone. */
 struct Raw {
   template <typename S> static auto &of(S &settings) { return settings.raw_; }
   template <typename O> static auto options(const O &options, const iox2ps_config_t &config) { return options.raw(config); }
   template <typename C> static auto create(const C &config, iox2ps_domain_t *domain) { return config.create(domain); }
+  template <typename D, typename... Words> static auto call(const D &domain, Words &&...words) {
+    return domain.call(std::forward<Words>(words)...);
+  }
+  template <typename D, typename... Words> static auto wait(const D &domain, Words &&...words) {
+    return domain.wait(std::forward<Words>(words)...);
+  }
 };
 
 } // namespace detail

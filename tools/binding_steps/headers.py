@@ -38,10 +38,13 @@ def same_versions():
 
 
 def header_alone(compiler_of):
-    """Each header by itself, as each standard reads it."""
+    """Each header by itself, as each standard reads it, those of C++ without exceptions too."""
     for header, language, standards in ALONE:
         for standard in standards:
-            said(compiler_of[language], "-x", language, f"-std={standard}", *WARNINGS, "-Wno-unused-function", "-fsyntax-only", INCLUDE / header)
+            words = [compiler_of[language], "-x", language, f"-std={standard}", *WARNINGS, "-Wno-unused-function", "-fsyntax-only", INCLUDE / header]
+            said(*words)
+            if language == "c++":
+                said(*words, "-fno-exceptions", "-fno-rtti")
     return f"{len(ALONE)} headers and languages, in {sum(len(row[2]) for row in ALONE)} standards"
 
 
@@ -75,6 +78,7 @@ REFUSED = (
     ("c++17", CPP, "PublisherOptions<int>().degradation_handler(1);", ""),
     ("c++17", CPP, "Publisher<int> publisher;", ""),
     ("c++17", CPP, "Sent<int> sent(1);", "private"),
+    ("c++17", CPP, "domain.call(0u, [](iox2ps_domain_t *) { return IOX2PS_OK; });", "private"),
     ("c++17", CPP, "auto copy = *domain.publisher(); auto again = copy;", "deleted"),
     ("c++14", '#include "iox2_pubsub.hpp"\n{}', "int x;", "iox2_pubsub.hpp is for C++17"),
 )

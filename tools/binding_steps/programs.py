@@ -63,6 +63,7 @@ ROWS = (
     ("cpp/tests.cpp", "c++20", False),
     ("c/threads.c", "c11", True),
     ("cpp/threads.cpp", "c++17", True),
+    ("cpp/threads.cpp", "c++20", False),
 )
 
 
@@ -76,8 +77,9 @@ def run_pair(steps, work, c, cpp):
             steps.run(f"{name}, sanitizers", compile_and_run, work, compiler, source, standard, "-O1", *SANITIZERS)
     steps.run(f"c/refused_memory.c, {c} c11", compile_and_run, work, c, "c/refused_memory.c", "c11", "-O2", *REFUSES)
     steps.run(f"c/refused_memory.c, {c} c11, sanitizers", compile_and_run, work, c, "c/refused_memory.c", "c11", "-O1", *REFUSES, *SANITIZERS)
-    for standard in ("c++17", "c++20"):
-        steps.run(f"cpp/tests.cpp, {cpp} {standard}, no exceptions", compile_and_run, work, cpp, "cpp/tests.cpp", standard, *NO_EXCEPTIONS)
+    for source in ("cpp/tests.cpp", "cpp/threads.cpp"):
+        for standard in ("c++17", "c++20"):
+            steps.run(f"{source}, {cpp} {standard}, no exceptions", compile_and_run, work, cpp, source, standard, *NO_EXCEPTIONS)
     steps.run(f"cpp/version.cpp, {cpp} c++17", compile_and_run, work, cpp, "cpp/version.cpp", "c++17", *OTHER_VERSION)
     steps.run(f"c/threads.c, {c} c11, thread sanitizer", compile_and_run, work, c, "c/threads.c", "c11", *RACES)
     steps.run(f"cpp/threads.cpp, {cpp} c++17, thread sanitizer", compile_and_run, work, cpp, "cpp/threads.cpp", "c++17", *RACES)

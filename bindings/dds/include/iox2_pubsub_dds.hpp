@@ -84,13 +84,14 @@ inline std::uint64_t nanoseconds(std::chrono::nanoseconds timeout) {
 template <typename P, typename M> struct Lock {
   static std::uint32_t call(void *domain, iox2ps_domain_t *, std::uint32_t brings, iox2ps_dds_make_t make, void *what) {
     auto made = [&](iox2ps_domain_t *its) { return make(its, what); };
-    return static_cast<Domain<P, M> *>(domain)->call(brings, made);
+    return iox2ps::detail::Raw::call(*static_cast<Domain<P, M> *>(domain), brings, made);
   }
   static std::uint32_t wait(void *domain, iox2ps_domain_t *, std::uint32_t waits, iox2ps_wide_t port, std::uint32_t brings,
                             std::uint64_t timeout, iox2ps_dds_make_t make, void *what) {
     auto made = [&](iox2ps_domain_t *its) { return make(its, what); };
     Until until = std::chrono::steady_clock::now() + std::chrono::nanoseconds(timeout);
-    return static_cast<Domain<P, M> *>(domain)->wait(static_cast<Waits>(waits), Id{port.low, port.high}, brings, until, made);
+    auto &shared = *static_cast<Domain<P, M> *>(domain);
+    return iox2ps::detail::Raw::wait(shared, static_cast<Waits>(waits), Id{port.low, port.high}, brings, until, made);
   }
 };
 

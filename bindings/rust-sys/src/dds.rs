@@ -19,11 +19,13 @@ pub const FREE: u32 = 4;
 pub const LOAN: u32 = 8;
 
 #[repr(C)]
+#[derive(Debug)]
 pub struct Gateways {
     _private: [u8; 0],
 }
 
 #[repr(C)]
+#[derive(Debug)]
 pub struct Gateway {
     _private: [u8; 0],
 }
@@ -34,7 +36,7 @@ pub type Wait =
     unsafe extern "C" fn(*mut c_void, *mut Domain, u32, Wide, u32, u64, Make, *mut c_void) -> u32;
 
 #[repr(C)]
-#[derive(Clone, Copy)]
+#[derive(Clone, Copy, Debug)]
 pub struct Lock {
     pub call: Option<Call>,
     pub wait: Option<Wait>,
@@ -42,7 +44,7 @@ pub struct Lock {
 }
 
 #[repr(C)]
-#[derive(Clone, Copy)]
+#[derive(Clone, Copy, Debug)]
 pub struct Settings {
     pub topic: *const c_char,
     pub type_name: *const c_char,
@@ -86,7 +88,7 @@ pub struct Counts {
 }
 
 #[repr(C)]
-#[derive(Clone, Copy)]
+#[derive(Clone, Copy, Debug)]
 pub struct Peers {
     pub readers: u32,
     pub writers: u32,

@@ -1,6 +1,7 @@
 //! The declarations of the C header `iox2_pubsub.h`, with bytes where it has `void` and `char`. The header says what each is,
 //! what each call returns, and what its caller owes.
 #![allow(missing_docs)]
+#![deny(missing_debug_implementations)]
 
 use std::ffi::c_void;
 
@@ -75,6 +76,7 @@ pub const CHANNEL_STATE_OPEN: u64 = 0;
 pub const CHANNEL_STATE_CLOSED: u64 = u64::MAX;
 
 #[repr(C)]
+#[derive(Debug)]
 pub struct Domain {
     pub domain: *mut c_void,
 }

@@ -13,7 +13,21 @@ use std::mem::{forget, ManuallyDrop, MaybeUninit};
 use std::ptr;
 use std::time::{Duration, Instant};
 
-/// What came of a message that was sent.
+/// What came of a message that was sent. A compiler warns where it is dropped, since a send that is blocked
+/// is given up there:
+///
+/// ```compile_fail
+/// #![deny(unused_must_use)]
+/// let domain = iox2_pubsub::Domain::<u8>::builder(1).create().unwrap();
+/// domain.publisher().unwrap().send_copy(7).unwrap();
+/// ```
+///
+/// ```
+/// #![deny(unused_must_use)]
+/// let domain = iox2_pubsub::Domain::<u8>::builder(1).create().unwrap();
+/// let sent = domain.publisher().unwrap().send_copy(7).unwrap();
+/// assert_eq!(sent.delivered(), Some(0));
+/// ```
 #[must_use = "a send that is blocked is given up where it is dropped"]
 pub enum SendOutcome<P: Payload + ?Sized, M: Threads = OneThread> {
     /// So many subscribers took it.

@@ -103,8 +103,9 @@ fn polled(topic: &str) {
         }
         gateway.wait(Duration::from_millis(1));
         while let Some(sample) = subscriber.receive().unwrap() {
-            let Some(origin) = gateway.origin(&sample) else {
-                continue;
+            let origin = match gateway.origin(&sample) {
+                Some(origin) => origin,
+                None => continue,
             };
             got += 1;
             assert_eq!(*sample, reading(got));
@@ -230,8 +231,9 @@ fn a_wait_is_ended_by_another_thread() {
 // The struct of C++ that bindings/dds/tests/cases.cpp has, and one of the same size with another name.
 #[test]
 fn a_struct_of_cpp_comes_and_another_does_not() {
-    let Some(cases) = env::var_os("IOX2PS_DDS_CASES") else {
-        return;
+    let cases = match env::var_os("IOX2PS_DDS_CASES") {
+        Some(cases) => cases,
+        None => return,
     };
     use_loopback();
     for (role, expected) in [("values", 50), ("voltages", 0)] {
