@@ -10,7 +10,7 @@
 
 /* No struct has room between its fields; the Rust crate's tests have the same numbers. */
 SAME_SIZE(iox2ps_domain_t, 8);
-SAME_SIZE(iox2ps_config_t, 112);
+SAME_SIZE(iox2ps_config_t, 120);
 SAME_SIZE(iox2ps_publisher_options_t, 40);
 SAME_SIZE(iox2ps_subscriber_options_t, 16);
 SAME_SIZE(iox2ps_publisher_t, 56);
@@ -44,9 +44,10 @@ static void settings_are_read_back(void) {
   CHECK(config.payload_size == 24 && config.payload_alignment == 8);
   CHECK(config.max_publishers == 2 && config.publisher_max_loaned_samples == 2 && config.max_subscribers == 8);
   CHECK(config.subscriber_max_buffer_size == 2 && config.subscriber_max_borrowed_samples == 2);
-  CHECK(config.history_size == 0 && config.enable_safe_overflow);
+  CHECK(config.history_size == 0 && config.number_of_channels == 1 && config.enable_safe_overflow);
   config.service_id.high = 9;
   config.node_id.high = 3;
+  config.number_of_channels = 3;
   create(&domain, &config);
   memset(&read, 0xff, sizeof read);
   IS(iox2ps_domain_config(&domain, &read), IOX2PS_OK);
@@ -610,6 +611,7 @@ static void channels_are_closed_opened_and_hinted(void) {
   iox2ps_config_defaults(&config, 1, 1, 1);
   config.max_subscribers = 1;
   config.subscriber_max_buffer_size = config.subscriber_max_borrowed_samples = 1;
+  config.number_of_channels = 2;
   config.enable_safe_overflow = 0;
   config.backpressure_strategy = IOX2PS_DISCARD_DATA;
   create(&domain, &config);
@@ -622,6 +624,8 @@ static void channels_are_closed_opened_and_hinted(void) {
   IS(iox2ps_subscriber_update_connections(&domain, &subscriber), IOX2PS_OK);
   IS(iox2ps_publisher_get_connection_id_of(&domain, &publisher, &subscriber.id, &connection), IOX2PS_OK);
   CHECK(connection == 0);
+  IS(iox2ps_subscriber_at_least_one_channel_has_state(&domain, &subscriber, 1, 0, &answer), IOX2PS_OK);
+  CHECK(answer == 1);
 
   /* A closed channel takes no message until it is opened. */
   IS(iox2ps_subscriber_close_channel(&domain, &subscriber, 0, 5), IOX2PS_OK);
@@ -652,6 +656,44 @@ static void channels_are_closed_opened_and_hinted(void) {
   IS(iox2ps_subscriber_receive_copy(&domain, &subscriber, &byte, 1, &len, &sample), IOX2PS_OK);
   CHECK(byte == 2);
   IS(iox2ps_subscriber_receive_copy(&domain, &subscriber, &byte, 1, &len, &sample), IOX2PS_NO_SAMPLE);
+  IS(iox2ps_domain_destroy(&domain), IOX2PS_OK);
+}
+
+/* Messages go to channel 0 alone, and no call on one channel changes another. */
+static void further_channels_have_states_of_their_own(void) {
+  const uint64_t open = IOX2PS_CHANNEL_STATE_OPEN, closed = IOX2PS_CHANNEL_STATE_CLOSED;
+  iox2ps_domain_t domain;
+  iox2ps_config_t config;
+  iox2ps_publisher_t publisher;
+  iox2ps_subscriber_t subscriber;
+  uint32_t answer = 9;
+  iox2ps_config_defaults(&config, 1, 1, 1);
+  config.number_of_channels = 3;
+  create(&domain, &config);
+  IS(iox2ps_subscriber_create(&domain, &subscriber), IOX2PS_OK);
+  IS(iox2ps_publisher_create(&domain, &publisher), IOX2PS_OK);
+  IS(iox2ps_subscriber_update_connections(&domain, &subscriber), IOX2PS_OK);
+  IS(iox2ps_subscriber_close_channel(&domain, &subscriber, 2, open), IOX2PS_OK);
+  for (size_t channel = 0; channel < 3; channel++) {
+    IS(iox2ps_publisher_has_channel_state(&domain, &publisher, channel, 0, channel == 2 ? closed : open, &answer), IOX2PS_OK);
+    CHECK(answer == 1);
+  }
+  CHECK(taken_by(&domain, &publisher, 1) == 1);
+  IS(iox2ps_subscriber_set_disconnect_hint(&domain, &subscriber, 1, open), IOX2PS_OK);
+  for (size_t channel = 0; channel < 2; channel++) {
+    IS(iox2ps_publisher_has_disconnect_hint(&domain, &publisher, channel, 0, open, &answer), IOX2PS_OK);
+    CHECK(answer == channel);
+  }
+  IS(iox2ps_publisher_close_channel(&domain, &publisher, 1, 0, open), IOX2PS_OK);
+  IS(iox2ps_subscriber_at_least_one_channel_has_state(&domain, &subscriber, 0, closed, &answer), IOX2PS_OK);
+  CHECK(answer == 0 && taken_by(&domain, &publisher, 2) == 1);
+  IS(iox2ps_subscriber_set_channel_state(&domain, &subscriber, 2, 5, &answer), IOX2PS_OK);
+  CHECK(answer == 1);
+  IS(iox2ps_subscriber_set_channel_state(&domain, &subscriber, 0, 5, &answer), IOX2PS_OK);
+  CHECK(answer == 0);
+  IS(iox2ps_subscriber_at_least_one_channel_has_state(&domain, &subscriber, 3, open, &answer), IOX2PS_NO_SUCH_CHANNEL);
+  IS(iox2ps_subscriber_close_channel(&domain, &subscriber, 0, open), IOX2PS_OK);
+  CHECK(taken_by(&domain, &publisher, 3) == 0);
   IS(iox2ps_domain_destroy(&domain), IOX2PS_OK);
 }
 
@@ -792,6 +834,7 @@ int main(void) {
   warnings_are_read();
   channels_are_asked_about();
   channels_are_closed_opened_and_hinted();
+  further_channels_have_states_of_their_own();
   closed_channels_end_waits_and_get_no_history();
   a_recording_ends_before_a_channel_changes();
   texts_are_iceoryx2s();

@@ -1,6 +1,6 @@
 /* Makes random calls, most of them on channels, and holds each to a small model: `random_channels SEED CALLS`.
  *
- * The model knows of each connection what waits and is borrowed there, and how its channel stands. It says what each call
+ * The model knows of each connection what waits and is borrowed there, and how its one to three channels stand. It says what each call
  * has to return; after each call all channels are read and compared with it. The handle of a port that was closed stays
  * where it was, so that many calls are made by numbers that name nothing, which has to be answered by IOX2PS_NOT_LIVE.
  * Memory is never refused here. Each message has eight bytes, which are a number that no other message has. */
@@ -33,7 +33,7 @@ static int one_in(size_t count) { return below(count) == 0; }
 
 /* ---- the model: ports by their places, and what two ports share */
 
-enum { PLACES = 4, NOWHERE = 99, CONNECTIONS = 64, SAMPLES = 256, MESSAGES = 8 };
+enum { PLACES = 4, NOWHERE = 99, CHANNELS = 3, CONNECTIONS = 64, SAMPLES = 256, MESSAGES = 8 };
 
 /* Messages by their values, oldest first. */
 typedef struct queue_t {
@@ -60,6 +60,11 @@ typedef struct subscriber_t {
 
 enum end { NO_END, AT_PLACE, EXPIRED };
 
+typedef struct channel_t {
+  uint64_t state;
+  int has_hint;
+} channel_t;
+
 /* A publisher has its end at the subscriber's place, and a subscriber at the publisher's, or among the expired ones. */
 typedef struct connection_t {
   uint64_t publisher, subscriber;
@@ -68,8 +73,7 @@ typedef struct connection_t {
   size_t entry; /* among the expired ones */
   queue_t waiting;
   size_t borrowed;
-  uint64_t state;
-  int has_hint;
+  channel_t channels[CHANNELS]; /* messages go to the first */
 } connection_t;
 
 typedef struct sample_t {
@@ -138,7 +142,7 @@ static connection_t *receiver_end(const subscriber_t *q, size_t place) {
   return NULL;
 }
 
-/* The connection of the two, which is made where it isn't there: its channel is open and has no hint. */
+/* The connection of the two, which is made where it isn't there: its channels are open and have no hint. */
 static connection_t *connection(const publisher_t *p, const subscriber_t *q) {
   uint64_t publisher = p->port.id.low, subscriber = q->port.id.low;
   for (size_t at = 0; at < connection_count; at++) {
@@ -153,7 +157,7 @@ static connection_t *connection(const publisher_t *p, const subscriber_t *q) {
   return made;
 }
 
-/* A connection at which no port has an end is gone, with its channel. */
+/* A connection at which no port has an end is gone, with its channels. */
 static void forget_connections(void) {
   size_t kept = 0;
   for (size_t at = 0; at < connection_count; at++) {
@@ -162,11 +166,14 @@ static void forget_connections(void) {
   connection_count = kept;
 }
 
-static void change_state(connection_t *c, uint64_t state) {
+static void change_state(channel_t *c, uint64_t state) {
   if (c->state == state) return;
   c->state = state;
   c->has_hint = 0;
 }
+
+/* Whether the connection takes messages. */
+static int is_closed(const connection_t *c) { return c->channels[0].state == IOX2PS_CHANNEL_STATE_CLOSED; }
 
 /* ---- the model: updates */
 
@@ -175,7 +182,7 @@ static size_t buffer_of(const subscriber_t *q) { return q->port.buffer_size ? q-
 static void connect_sender(const publisher_t *p, const subscriber_t *q, size_t place) {
   connection_t *c = connection(p, q);
   c->sender_place = place;
-  if (c->state == IOX2PS_CHANNEL_STATE_CLOSED) {
+  if (is_closed(c)) {
     histories_kept_back += p->history.count > 0;
     return;
   }
@@ -378,7 +385,7 @@ static iox2ps_status_t deliver(publisher_t *p, size_t place) {
     connection_t *c = sender_end(p, place);
     const subscriber_t *q = c ? subscriber_of(c->subscriber) : NULL;
     if (!q || !q->is_open) continue;
-    if (c->state == IOX2PS_CHANNEL_STATE_CLOSED) {
+    if (is_closed(c)) {
       passed_over++;
       continue;
     }
@@ -424,7 +431,7 @@ static void end_blocked(iox2ps_domain_t *domain) {
     return;
   }
   const connection_t *c = sender_end(p, was);
-  waits_ended += !gives_up && c && c->state == IOX2PS_CHANNEL_STATE_CLOSED;
+  waits_ended += !gives_up && c && is_closed(c);
   is_code(code, deliver(p, was + (gives_up ? 1 : 0)));
   if (code == IOX2PS_OK) is_so(receivers == p->count, "a message has another number of receivers");
 }
@@ -516,20 +523,21 @@ static void update(iox2ps_domain_t *domain) {
 
 /* ---- calls on channels */
 
-static size_t any_channel(void) { return one_in(20) ? (one_in(2) ? 1 : (size_t)next()) : 0; }
+static size_t channel_count(void) { return config.number_of_channels ? config.number_of_channels : 1; }
+static size_t any_channel(void) { return one_in(20) ? (one_in(2) ? channel_count() : (size_t)next()) : below(channel_count()); }
 static size_t any_place(void) { return one_in(20) ? (size_t)next() : below(config.max_subscribers + 1); }
 
 /* A state that a channel has, more often than not. */
 static uint64_t any_state(void) {
   const uint64_t some[] = {IOX2PS_CHANNEL_STATE_OPEN, IOX2PS_CHANNEL_STATE_CLOSED, 1, 2, IOX2PS_CHANNEL_STATE_CLOSED - 1};
-  if (connection_count && one_in(2)) return connections[below(connection_count)].state;
+  if (connection_count && one_in(2)) return connections[below(connection_count)].channels[below(channel_count())].state;
   return one_in(20) ? next() : some[below(5)];
 }
 
 /* Whether the model has an answer to a call on a channel of a port, which has to be of that opinion. */
 static int is_answered(iox2ps_status_t code, int is_live, size_t channel) {
   channel_calls++;
-  is_code(code, !is_live ? IOX2PS_NOT_LIVE : channel ? IOX2PS_NO_SUCH_CHANNEL : IOX2PS_OK);
+  is_code(code, !is_live ? IOX2PS_NOT_LIVE : channel < channel_count() ? IOX2PS_OK : IOX2PS_NO_SUCH_CHANNEL);
   return code == IOX2PS_OK;
 }
 
@@ -541,7 +549,7 @@ static void set_channel_state(iox2ps_domain_t *domain) {
   iox2ps_status_t code = iox2ps_subscriber_set_channel_state(domain, &q->port, channel, state, &answer);
   if (!is_answered(code, q->is_open, channel)) return;
   for (EACH_OF(q, c)) {
-    if (c->state == IOX2PS_CHANNEL_STATE_CLOSED) change_state(c, state);
+    if (c->channels[channel].state == IOX2PS_CHANNEL_STATE_CLOSED) change_state(&c->channels[channel], state);
     else were_closed = 0;
   }
   is_so(answer == were_closed, "another answer whether all channels were closed");
@@ -554,7 +562,7 @@ static void close_channels(iox2ps_domain_t *domain) {
   iox2ps_status_t code = iox2ps_subscriber_close_channel(domain, &q->port, channel, expected);
   if (!is_answered(code, q->is_open, channel)) return;
   for (EACH_OF(q, c)) {
-    if (c->state == expected) change_state(c, IOX2PS_CHANNEL_STATE_CLOSED);
+    if (c->channels[channel].state == expected) change_state(&c->channels[channel], IOX2PS_CHANNEL_STATE_CLOSED);
   }
 }
 
@@ -565,7 +573,7 @@ static void set_hints(iox2ps_domain_t *domain) {
   iox2ps_status_t code = iox2ps_subscriber_set_disconnect_hint(domain, &q->port, channel, expected);
   if (!is_answered(code, q->is_open, channel)) return;
   for (EACH_OF(q, c)) {
-    if (c->state == expected) c->has_hint = 1;
+    if (c->channels[channel].state == expected) c->channels[channel].has_hint = 1;
   }
 }
 
@@ -576,14 +584,14 @@ static void close_channel(iox2ps_domain_t *domain) {
   iox2ps_status_t code = iox2ps_publisher_close_channel(domain, &p->port, channel, place, expected);
   if (!is_answered(code, p->is_open, channel)) return;
   connection_t *c = place < config.max_subscribers ? sender_end(p, place) : NULL;
-  if (c && c->state == expected) change_state(c, IOX2PS_CHANNEL_STATE_CLOSED);
+  if (c && c->channels[channel].state == expected) change_state(&c->channels[channel], IOX2PS_CHANNEL_STATE_CLOSED);
 }
 
 static void some_has_state(iox2ps_domain_t *domain, const subscriber_t *q, size_t channel, uint64_t state) {
   uint32_t answer = 0, wanted = 0;
   iox2ps_status_t code = iox2ps_subscriber_at_least_one_channel_has_state(domain, &q->port, channel, state, &answer);
   if (!is_answered(code, q->is_open, channel)) return;
-  for (EACH_OF(q, c)) wanted |= c->state == state;
+  for (EACH_OF(q, c)) wanted |= c->channels[channel].state == state;
   is_so(answer == wanted, "another answer whether some channel is in a state");
 }
 
@@ -592,10 +600,10 @@ static void has_state(iox2ps_domain_t *domain, const publisher_t *p, size_t chan
   const connection_t *c = place < config.max_subscribers ? sender_end(p, place) : NULL;
   iox2ps_status_t code = iox2ps_publisher_has_channel_state(domain, &p->port, channel, place, state, &is_in);
   if (!is_answered(code, p->is_open, channel)) return;
-  is_so(is_in == (c && c->state == state), "another answer whether a channel is in a state");
+  is_so(is_in == (c && c->channels[channel].state == state), "another answer whether a channel is in a state");
   code = iox2ps_publisher_has_disconnect_hint(domain, &p->port, channel, place, state, &is_hinted);
   is_answered(code, p->is_open, channel);
-  is_so(is_hinted == (is_in && c->has_hint), "another answer whether a channel has a hint");
+  is_so(is_hinted == (is_in && c->channels[channel].has_hint), "another answer whether a channel has a hint");
 }
 
 static void connection_of(iox2ps_domain_t *domain, const publisher_t *p, const subscriber_t *q) {
@@ -615,12 +623,18 @@ static void look_at_all_channels(iox2ps_domain_t *domain) {
   for (size_t of = 0; of < config.max_publishers; of++) {
     for (size_t place = 0; place < config.max_subscribers; place++) {
       const connection_t *c = sender_end(&publishers[of], place);
-      has_state(domain, &publishers[of], 0, place, c ? c->state : IOX2PS_CHANNEL_STATE_OPEN);
+      for (size_t channel = 0; channel < channel_count(); channel++) {
+        has_state(domain, &publishers[of], channel, place, c ? c->channels[channel].state : IOX2PS_CHANNEL_STATE_OPEN);
+      }
       connection_of(domain, &publishers[of], &subscribers[place]);
     }
   }
   for (size_t of = 0; of < config.max_subscribers; of++) {
-    for (EACH_OF(&subscribers[of], c)) some_has_state(domain, &subscribers[of], 0, c->state);
+    for (EACH_OF(&subscribers[of], c)) {
+      for (size_t channel = 0; channel < channel_count(); channel++) {
+        some_has_state(domain, &subscribers[of], channel, c->channels[channel].state);
+      }
+    }
   }
 }
 
@@ -651,6 +665,7 @@ static void choose_settings(void) {
   config.subscriber_max_buffer_size = below(4);
   config.subscriber_max_borrowed_samples = 1 + below(3);
   config.history_size = below(4);
+  config.number_of_channels = below(CHANNELS + 1);
   config.subscriber_expired_connection_buffer = below(4);
   config.enable_safe_overflow = (uint32_t)below(2);
 }

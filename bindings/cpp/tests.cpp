@@ -483,6 +483,46 @@ static void channels_are_asked_about() {
   CHECK(publisher.has_channel_state(0, 0, open).error() == Error::NotLive && *moved.has_channel_state(0, 0, open));
 }
 
+static void closed_channels_take_no_messages() {
+  constexpr auto open = iox2ps::channel_state_open, closed = iox2ps::channel_state_closed;
+  Config<int> config(26);
+  config.max_subscribers(1).subscriber_max_buffer_size(1).subscriber_max_borrowed_samples(1).number_of_channels(2);
+  config.enable_safe_overflow(false).backpressure_strategy(iox2ps::BackpressureStrategy::DiscardData);
+  auto domain = made(config);
+  auto subscriber = domain.subscriber().expect("a subscriber");
+  auto publisher = domain.publisher().expect("a publisher");
+  CHECK(*subscriber.set_channel_state(0, 9) && !*subscriber.at_least_one_channel_has_state(0, open));
+  CHECK(subscriber.update_connections().has_value() && *publisher.get_connection_id_of(subscriber.id()) == std::size_t(0));
+  CHECK(!*publisher.get_connection_id_of(Id{7, 0}) && *subscriber.at_least_one_channel_has_state(1, open));
+  CHECK(subscriber.close_channel(0, 5).has_value() && *publisher.has_channel_state(0, 0, open));
+  CHECK(subscriber.close_channel(0, open).has_value() && *publisher.has_channel_state(0, 0, closed));
+  CHECK(publisher.send_copy(1)->delivered() == std::size_t(0) && !subscriber.receive().expect("a receive"));
+  CHECK(*subscriber.set_channel_state(0, 7) && publisher.send_copy(2)->delivered() == std::size_t(1));
+  CHECK(subscriber.set_disconnect_hint(0, open).has_value() && !*publisher.has_disconnect_hint(0, 0, 7));
+  CHECK(subscriber.set_disconnect_hint(0, 7).has_value() && *publisher.has_disconnect_hint(0, 0, 7));
+  CHECK(!*subscriber.set_channel_state(0, 3) && *publisher.has_channel_state(0, 0, 7) && *publisher.has_disconnect_hint(0, 0, 7));
+  CHECK(publisher.close_channel(0, 0, 7).has_value() && !*publisher.has_disconnect_hint(0, 0, closed));
+  CHECK(**subscriber.receive().expect("a receive") == 2);
+}
+
+/* Messages go to channel 0 alone, and no call on one channel changes another. */
+static void further_channels_have_states_of_their_own() {
+  constexpr auto open = iox2ps::channel_state_open, closed = iox2ps::channel_state_closed;
+  auto domain = made(Config<int>(25).number_of_channels(3));
+  CHECK(domain.config()->number_of_channels() == 3);
+  auto subscriber = domain.subscriber().expect("a subscriber");
+  auto publisher = domain.publisher().expect("a publisher");
+  CHECK(subscriber.update_connections().has_value() && subscriber.close_channel(2, open).has_value());
+  CHECK(*publisher.has_channel_state(0, 0, open) && *publisher.has_channel_state(1, 0, open));
+  CHECK(*publisher.has_channel_state(2, 0, closed) && publisher.send_copy(1)->delivered() == std::size_t(1));
+  CHECK(subscriber.set_disconnect_hint(1, open).has_value());
+  CHECK(*publisher.has_disconnect_hint(1, 0, open) && !*publisher.has_disconnect_hint(0, 0, open));
+  CHECK(publisher.close_channel(1, 0, open).has_value() && !*subscriber.at_least_one_channel_has_state(0, closed));
+  CHECK(*subscriber.set_channel_state(2, 5) && !*subscriber.set_channel_state(0, 5));
+  CHECK(subscriber.at_least_one_channel_has_state(3, open).error() == Error::NoSuchChannel);
+  CHECK(subscriber.close_channel(0, open).has_value() && publisher.send_copy(2)->delivered() == std::size_t(0));
+}
+
 static void channels_are_closed_opened_and_hinted() {
   constexpr auto open = iox2ps::channel_state_open, closed = iox2ps::channel_state_closed;
   auto domain = made(Config<int>(24));
@@ -569,6 +609,8 @@ int main() {
   connections_and_books_are_counted();
   channels_are_asked_about();
   channels_are_closed_opened_and_hinted();
+  closed_channels_take_no_messages();
+  further_channels_have_states_of_their_own();
   a_blocked_send_goes_past_a_closed_channel();
   settings_say_how_many_slots_a_publisher_has();
   errors_have_texts();

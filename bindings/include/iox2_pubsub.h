@@ -199,9 +199,10 @@ typedef struct iox2ps_wide_t {
 /** The settings of a domain. A publisher takes its memory when it is made, as many slots of payload_size bytes as
  * iox2ps_worst_case_slots() says:
  *
- *     max_subscribers * (subscriber_max_buffer_size + subscriber_max_borrowed_samples) + history_size + its loans
+ *     max_subscribers * number_of_channels * (subscriber_max_buffer_size + subscriber_max_borrowed_samples) + history_size
+ *         + its loans
  *
- * so that no loan is ever refused for want of a slot. By default these are 8 * (2 + 2) + 0 + 2 = 34. */
+ * so that no loan is ever refused for want of a slot. By default these are 8 * 1 * (2 + 2) + 0 + 2 = 34. */
 typedef struct iox2ps_config_t {
   iox2ps_wide_t service_id; /**< names the domain */
   iox2ps_wide_t node_id;    /**< what the header of each message names */
@@ -214,6 +215,7 @@ typedef struct iox2ps_config_t {
   size_t subscriber_max_buffer_size;           /**< messages of one publisher that may wait; 0 counts as 1; 2 by default */
   size_t subscriber_max_borrowed_samples;      /**< samples of one publisher that a subscriber may hold; 2 by default */
   size_t history_size;                         /**< messages that a publisher keeps for later subscribers; 0 by default */
+  size_t number_of_channels;                   /**< channels of each connection; 0 counts as 1; 1 by default */
   size_t subscriber_expired_connection_buffer; /**< connections to closed publishers that are kept */
   size_t publisher_max_loaned_samples;         /**< loans of a publisher that may be out at a time; 2 by default */
   uint32_t enable_safe_overflow;  /**< not 0, as by default: a full buffer lets its oldest message go */
@@ -530,7 +532,7 @@ IOX2PS_NODISCARD iox2ps_status_t iox2ps_sample_release(iox2ps_domain_t *domain, 
 
 /** @}
  * @name Channels
- * A publisher and a subscriber that are connected have a channel, number 0, which carries their messages. It is in a state,
+ * A publisher and a subscriber that are connected have number_of_channels channels. Messages go to channel 0. A channel is in a state,
  * which is a number. A closed channel takes no message and no history, as a closed subscriber does: a send goes past it and
  * doesn't count it. What waits there is received all the same. Each other state is open, and the program says what it
  * means. A channel may also have a hint that its subscriber is about to disconnect, which goes with each change of the
@@ -539,7 +541,7 @@ IOX2PS_NODISCARD iox2ps_status_t iox2ps_sample_release(iox2ps_domain_t *domain, 
  * A subscriber's calls go over all connections that it has, also those with closed publishers of which it has messages; a
  * publisher's are about one, which iox2ps_publisher_get_connection_id_of() names. A port has a connection once it was made
  * by an update of its own. A publisher may make these calls while a send of it waits; one that waits for a closed channel
- * goes past it when it is tried again. IOX2PS_NO_SUCH_CHANNEL comes for each channel but 0.
+ * goes past it when it is tried again. IOX2PS_NO_SUCH_CHANNEL comes for each channel from number_of_channels on.
  *
  * Calls that only ask aren't recorded, and nothing recorded depends on them. For calls that change a channel there is no
  * command, so that a recording ends before the first of them: it and what follows are counted as missed.

@@ -628,8 +628,8 @@ public:
     return std::optional<std::size_t>(connection);
   }
 
-  /** Whether a channel is in this state at one of its connections; it isn't where there is no such connection. A connection
-   * has one channel, number 0: Error::NoSuchChannel for another. */
+  /** Whether a channel is in this state at one of its connections; it isn't where there is no such connection.
+   * Error::NoSuchChannel from the domain's number_of_channels on. */
   Result<bool> has_channel_state(std::size_t channel, std::size_t connection, std::uint64_t state) const {
     return hold_.told([&](iox2ps_domain_t *domain, std::uint32_t *answer) {
       return iox2ps_publisher_has_channel_state(domain, &port_, channel, connection, state, answer);
@@ -840,8 +840,8 @@ public:
     }));
   }
 
-  /** Whether a channel is in this state at some connection of it; it isn't where it has none. A connection has one channel,
-   * number 0: Error::NoSuchChannel for another. */
+  /** Whether a channel is in this state at some connection of it; it isn't where it has none.
+   * Error::NoSuchChannel from the domain's number_of_channels on. */
   Result<bool> at_least_one_channel_has_state(std::size_t channel, std::uint64_t state) const {
     return hold_.told([&](iox2ps_domain_t *domain, std::uint32_t *answer) {
       return iox2ps_subscriber_at_least_one_channel_has_state(domain, &port_, channel, state, answer);

@@ -108,6 +108,8 @@ public:
   std::size_t subscriber_max_borrowed_samples() const { return raw_.subscriber_max_borrowed_samples; }
   /** How many messages a publisher keeps for later subscribers. */
   std::size_t history_size() const { return raw_.history_size; }
+  /** How many channels each connection has; 0 counts as 1. */
+  std::size_t number_of_channels() const { return raw_.number_of_channels; }
   /** How many connections to closed publishers are kept. */
   std::size_t subscriber_expired_connection_buffer() const { return raw_.subscriber_expired_connection_buffer; }
   /** How many loans of a publisher may be out at a time. */
@@ -156,6 +158,7 @@ public:
   using ServiceConfig::max_publishers;
   using ServiceConfig::max_subscribers;
   using ServiceConfig::node_id;
+  using ServiceConfig::number_of_channels;
   using ServiceConfig::publisher_max_loaned_samples;
   using ServiceConfig::service_id;
   using ServiceConfig::subscriber_expired_connection_buffer;
@@ -176,6 +179,8 @@ public:
   Config &subscriber_max_borrowed_samples(std::size_t value) { return set(raw_.subscriber_max_borrowed_samples, value); }
   /** How many messages a publisher keeps for later subscribers. */
   Config &history_size(std::size_t value) { return set(raw_.history_size, value); }
+  /** How many channels each connection has; 0 counts as 1. Each takes slots in the memory of each publisher. */
+  Config &number_of_channels(std::size_t value) { return set(raw_.number_of_channels, value); }
   /** How many connections to closed publishers are kept. */
   Config &subscriber_expired_connection_buffer(std::size_t value) {
     return set(raw_.subscriber_expired_connection_buffer, value);

@@ -17,7 +17,7 @@ from .steps import Failed, said
 
 CRATE = "iox2_pubsub"
 PARTS = ("src", "specs", "proofs")
-EXAMPLE = "thermometer"
+EXAMPLE = "first_message"
 # Within how many seconds of a processor a user's crate has to be proved over what is packed. From nothing it takes 34 minutes of it.
 MOST_SECONDS = 120
 

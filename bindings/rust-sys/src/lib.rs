@@ -100,6 +100,7 @@ pub struct Config {
     pub subscriber_max_buffer_size: usize,
     pub subscriber_max_borrowed_samples: usize,
     pub history_size: usize,
+    pub number_of_channels: usize,
     pub subscriber_expired_connection_buffer: usize,
     pub publisher_max_loaned_samples: usize,
     pub enable_safe_overflow: u32,

@@ -37,8 +37,8 @@ fn done(code: u32) -> Result<(), ChannelError> {
 
 /// # Channels
 ///
-/// A publisher and a subscriber that are connected have a channel, number 0, which carries their messages. It is
-/// in a state, which is a number. A closed channel takes no message and no history: a send goes past it and
+/// A publisher and a subscriber that are connected have as many channels as their domain says. Messages go to
+/// channel 0. A channel is in a state, which is a number. A closed channel takes no message and no history: a send goes past it and
 /// doesn't count it, and what waits there is received all the same. Each other state is open, and the program
 /// says what it means.
 impl<P: Payload + ?Sized, M: Threads> Publisher<P, M> {
@@ -77,11 +77,11 @@ impl<P: Payload + ?Sized, M: Threads> Publisher<P, M> {
     }
 
     /// Whether a channel is in this state at one of the connections. It isn't where there is no such
-    /// connection. A connection has one channel, number 0.
+    /// connection.
     ///
     /// # Errors
     ///
-    /// [`ChannelError::NoSuchChannel`] for another number.
+    /// [`ChannelError::NoSuchChannel`] for a number that isn't below the domain's number of channels.
     pub fn has_channel_state(
         &self,
         channel: usize,
@@ -100,7 +100,7 @@ impl<P: Payload + ?Sized, M: Threads> Publisher<P, M> {
     ///
     /// # Errors
     ///
-    /// [`ChannelError::NoSuchChannel`] for another number than 0.
+    /// [`ChannelError::NoSuchChannel`] for a number that isn't below the domain's number of channels.
     pub fn has_disconnect_hint(
         &self,
         channel: usize,
@@ -133,7 +133,7 @@ impl<P: Payload + ?Sized, M: Threads> Publisher<P, M> {
     ///
     /// # Errors
     ///
-    /// [`ChannelError::NoSuchChannel`] for another number than 0.
+    /// [`ChannelError::NoSuchChannel`] for a number that isn't below the domain's number of channels.
     pub fn close_channel(
         &self,
         channel: usize,
@@ -149,8 +149,7 @@ impl<P: Payload + ?Sized, M: Threads> Publisher<P, M> {
 }
 
 impl<P: Payload + ?Sized, M: Threads> Subscriber<P, M> {
-    /// Whether a channel is in this state at some connection. It isn't where the subscriber has none. A
-    /// connection has one channel, number 0.
+    /// Whether a channel is in this state at some connection. It isn't where the subscriber has none.
     ///
     /// ```
     /// use iox2_pubsub::{Domain, CHANNEL_STATE_OPEN};
@@ -170,7 +169,7 @@ impl<P: Payload + ?Sized, M: Threads> Subscriber<P, M> {
     ///
     /// # Errors
     ///
-    /// [`ChannelError::NoSuchChannel`] for another number than 0.
+    /// [`ChannelError::NoSuchChannel`] for a number that isn't below the domain's number of channels.
     pub fn at_least_one_channel_has_state(
         &self,
         channel: usize,
@@ -206,7 +205,7 @@ impl<P: Payload + ?Sized, M: Threads> Subscriber<P, M> {
     ///
     /// # Errors
     ///
-    /// [`ChannelError::NoSuchChannel`] for another number than 0.
+    /// [`ChannelError::NoSuchChannel`] for a number that isn't below the domain's number of channels.
     pub fn close_channel(&self, channel: usize, expected: u64) -> Result<(), ChannelError> {
         // SAFETY: see `Shared::at`. A send may wait for it.
         done(self.hold.call(Brings::ROOM, |shared| unsafe {
@@ -220,7 +219,7 @@ impl<P: Payload + ?Sized, M: Threads> Subscriber<P, M> {
     ///
     /// # Errors
     ///
-    /// [`ChannelError::NoSuchChannel`] for another number than 0.
+    /// [`ChannelError::NoSuchChannel`] for a number that isn't below the domain's number of channels.
     pub fn set_channel_state(&self, channel: usize, state: u64) -> Result<bool, ChannelError> {
         // SAFETY: see `Shared::at`.
         told(&*self.hold, |shared, answer| unsafe {
@@ -249,7 +248,7 @@ impl<P: Payload + ?Sized, M: Threads> Subscriber<P, M> {
     ///
     /// # Errors
     ///
-    /// [`ChannelError::NoSuchChannel`] for another number than 0.
+    /// [`ChannelError::NoSuchChannel`] for a number that isn't below the domain's number of channels.
     pub fn set_disconnect_hint(&self, channel: usize, expected: u64) -> Result<(), ChannelError> {
         // SAFETY: see `Shared::at`.
         done(self.hold.call(Brings::NOTHING, |shared| unsafe {

@@ -273,6 +273,13 @@ impl<P: Payload + ?Sized> DomainBuilder<P> {
         self
     }
 
+    /// How many channels each connection has; 0 counts as 1. Each takes slots in the memory of each
+    /// publisher.
+    pub fn number_of_channels(mut self, value: usize) -> Self {
+        self.config.number_of_channels = value;
+        self
+    }
+
     /// For how many closed publishers, of which it has samples, a subscriber has room.
     pub fn subscriber_expired_connection_buffer(mut self, value: usize) -> Self {
         self.config.subscriber_expired_connection_buffer = value;

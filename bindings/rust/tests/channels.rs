@@ -1,7 +1,8 @@
 //! Calls on the channels of connections, by handles of one thread and of many, that count or borrow.
 
 use iox2_pubsub::{
-    ChannelError, Domain, Subscriber, Threads, CHANNEL_STATE_CLOSED, CHANNEL_STATE_OPEN,
+    BackpressureStrategy, ChannelError, Domain, Subscriber, Threads, CHANNEL_STATE_CLOSED,
+    CHANNEL_STATE_OPEN,
 };
 use std::thread;
 
@@ -154,4 +155,90 @@ fn channels_are_numbered<M: Threads>(domain: &Domain<u64, M>) {
 #[test]
 fn a_connection_has_channel_0_alone() {
     by_each_kind!(channels_are_numbered);
+}
+
+fn a_closed_channel_passes_messages_by<M: Threads>(domain: &Domain<u64, M>) {
+    let subscriber = domain.subscriber().unwrap();
+    let publisher = domain.publisher().unwrap();
+    assert_eq!(subscriber.set_channel_state(0, 9), Ok(true));
+    let some_is = |channel| subscriber.at_least_one_channel_has_state(channel, CHANNEL_STATE_OPEN);
+    assert_eq!(some_is(0), Ok(false));
+    subscriber.update_connections().unwrap();
+    assert_eq!(publisher.get_connection_id_of(subscriber.id()), Some(0));
+    assert_eq!(publisher.get_connection_id_of(7), None);
+    assert_eq!(some_is(1), Ok(true));
+    let is = |state| publisher.has_channel_state(0, 0, state).unwrap();
+    let is_hinted = |state| publisher.has_disconnect_hint(0, 0, state).unwrap();
+    let sent = |value| publisher.send_copy(value).unwrap().delivered();
+
+    subscriber.close_channel(0, 5).unwrap();
+    assert!(is(CHANNEL_STATE_OPEN));
+    subscriber.close_channel(0, CHANNEL_STATE_OPEN).unwrap();
+    assert!(is(CHANNEL_STATE_CLOSED));
+    assert_eq!(sent(1), Some(0));
+    assert_eq!(subscriber.receive_copy().unwrap(), None);
+    assert_eq!(subscriber.set_channel_state(0, 7), Ok(true));
+    assert_eq!(sent(2), Some(1));
+
+    subscriber
+        .set_disconnect_hint(0, CHANNEL_STATE_OPEN)
+        .unwrap();
+    assert!(!is_hinted(7));
+    subscriber.set_disconnect_hint(0, 7).unwrap();
+    assert!(is_hinted(7));
+    assert_eq!(subscriber.set_channel_state(0, 3), Ok(false));
+    assert!(is(7) && is_hinted(7));
+    publisher.close_channel(0, 0, 7).unwrap();
+    assert!(!is_hinted(CHANNEL_STATE_CLOSED));
+    assert_eq!(subscriber.receive_copy().unwrap(), Some(2));
+}
+
+#[test]
+fn closed_channels_pass_messages_by() {
+    let builder = || {
+        Domain::<u64>::builder(1)
+            .max_subscribers(1)
+            .subscriber_max_buffer_size(1)
+            .subscriber_max_borrowed_samples(1)
+            .number_of_channels(2)
+            .enable_safe_overflow(false)
+            .backpressure_strategy(BackpressureStrategy::DiscardData)
+    };
+    a_closed_channel_passes_messages_by(&builder().create().unwrap());
+    a_closed_channel_passes_messages_by(&builder().create_shared().unwrap());
+}
+
+// Messages go to channel 0 alone, and no call on one channel changes another.
+fn a_further_channel_has_its_own_state<M: Threads>(domain: &Domain<u64, M>) {
+    let subscriber = domain.subscriber().unwrap();
+    let publisher = domain.publisher().unwrap();
+    subscriber.update_connections().unwrap();
+    let is = |channel, state| publisher.has_channel_state(channel, 0, state).unwrap();
+    subscriber.close_channel(2, CHANNEL_STATE_OPEN).unwrap();
+    assert!(is(0, CHANNEL_STATE_OPEN) && is(1, CHANNEL_STATE_OPEN) && is(2, CHANNEL_STATE_CLOSED));
+    assert_eq!(publisher.send_copy(1).unwrap().delivered(), Some(1));
+
+    subscriber.set_disconnect_hint(1, CHANNEL_STATE_OPEN).unwrap();
+    let is_hinted = |channel| publisher.has_disconnect_hint(channel, 0, CHANNEL_STATE_OPEN);
+    assert_eq!([is_hinted(0), is_hinted(1)], [Ok(false), Ok(true)]);
+    publisher.close_channel(1, 0, CHANNEL_STATE_OPEN).unwrap();
+    assert!(is(0, CHANNEL_STATE_OPEN) && is(1, CHANNEL_STATE_CLOSED));
+    assert_eq!(subscriber.set_channel_state(2, 5), Ok(true));
+    assert_eq!(subscriber.set_channel_state(0, 5), Ok(false));
+    assert_eq!(
+        subscriber.close_channel(3, 0),
+        Err(ChannelError::NoSuchChannel)
+    );
+
+    subscriber.close_channel(0, CHANNEL_STATE_OPEN).unwrap();
+    assert_eq!(publisher.send_copy(2).unwrap().delivered(), Some(0));
+}
+
+#[test]
+fn further_channels_have_states_of_their_own() {
+    let builder = || Domain::<u64>::builder(1).number_of_channels(3);
+    let of_one = builder().create().unwrap();
+    a_further_channel_has_its_own_state(&of_one);
+    let of_many = builder().create_shared().unwrap();
+    a_further_channel_has_its_own_state(&of_many.borrowed());
 }

@@ -532,7 +532,7 @@ fn each_code_has_a_text_that_no_other_has() {
 #[test]
 fn the_structs_are_as_large_as_the_headers() {
     assert_eq!(size_of::<Domain>(), 8);
-    assert_eq!(size_of::<Config>(), 112);
+    assert_eq!(size_of::<Config>(), 120);
     assert_eq!(size_of::<PublisherOptions>(), 40);
     assert_eq!(size_of::<SubscriberOptions>(), 16);
     assert_eq!(size_of::<Publisher>(), 56);

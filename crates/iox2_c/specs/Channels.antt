@@ -3,22 +3,23 @@ use Rattle.std.specs.Prelude.{ℕ, Bool, cond, ◌≡◌, ◌≤◌, ◌⊎◌}
 use Rattle.std.specs.declared.option.Option.{Option}
 use Rattle.iox2_store.specs.declared.key.Key.{Key}
 use Rattle.iox2_store.specs.machine.ChannelCalls.{SetChannelState, connection_place, has_channel_state, has_disconnect_hint, received_closed, received_hinted, sent_closed, some_channel_has_state}
+use Rattle.iox2_store.specs.machine.Limits.{channel_count}
 use Rattle.iox2_store.specs.machine.State.{Messages}
 use Rattle.iox2_domain.specs.Shows.{Shows}
 use Rattle.iox2_pubsub.specs.Live.{IsPublisherKey, IsSubscriberKey}
 use Rattle.iox2_c.specs.Serving.{KeptBytes}
 use Rattle.iox2_c.specs.Steps.{BytesState, StepsTo}
 
--- ---- refusals, which change nothing: 2 where no live port is named, and 70 where the number is no channel's, of which there is one
+-- ---- refusals, which change nothing: 2 where no live port is named, and 70 where there is no channel with the number
 
 module _ (domain : KeptBytes) (key : Key) (channel : ℕ) where
   -- Why a publisher's call on a channel is refused with this code.
   abbrev pub RefusesPublisherChannel : (code : ℕ) → Type 0
-  RefusesPublisherChannel code = ((code ≡ 2) × (IsPublisherKey domain key → ⊥)) ⊎ ((code ≡ 70) × IsPublisherKey domain key × (1 ≤ channel))
+  RefusesPublisherChannel code = ((code ≡ 2) × (IsPublisherKey domain key → ⊥)) ⊎ ((code ≡ 70) × IsPublisherKey domain key × (channel_count domain.config ≤ channel))
 
   -- Why a subscriber's is.
   abbrev pub RefusesSubscriberChannel : (code : ℕ) → Type 0
-  RefusesSubscriberChannel code = ((code ≡ 2) × (IsSubscriberKey domain key → ⊥)) ⊎ ((code ≡ 70) × IsSubscriberKey domain key × (1 ≤ channel))
+  RefusesSubscriberChannel code = ((code ≡ 2) × (IsSubscriberKey domain key → ⊥)) ⊎ ((code ≡ 70) × IsSubscriberKey domain key × (channel_count domain.config ≤ channel))
 
 -- ---- answers
 

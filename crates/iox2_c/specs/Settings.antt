@@ -36,6 +36,7 @@ settings_of it = record {
   subscriber_max_buffer_size = it.subscriber_max_buffer_size;
   subscriber_max_borrowed_samples = it.subscriber_max_borrowed_samples;
   history_size = it.history_size;
+  number_of_channels = it.number_of_channels;
   enable_safe_overflow = not (nat_eq it.enable_safe_overflow 0);
   subscriber_expired_connection_buffer = it.subscriber_expired_connection_buffer;
   publisher_max_loaned_samples = it.publisher_max_loaned_samples;

@@ -31,6 +31,8 @@ pub struct Config {
     pub subscriber_max_borrowed_samples: usize,
     /// How many of its last messages a publisher keeps for later subscribers.
     pub history_size: usize,
+    /// How many channels each connection has; 0 counts as 1.
+    pub number_of_channels: usize,
     /// How many connections to closed publishers a subscriber keeps.
     pub subscriber_expired_connection_buffer: usize,
     /// How many loans of a publisher may be out at a time.
@@ -71,6 +73,7 @@ impl Config {
             subscriber_max_buffer_size: config.subscriber_max_buffer_size,
             subscriber_max_borrowed_samples: config.subscriber_max_borrowed_samples,
             history_size: config.history_size,
+            number_of_channels: config.number_of_channels,
             subscriber_expired_connection_buffer: config.subscriber_expired_connection_buffer,
             publisher_max_loaned_samples: config.publisher_max_loaned_samples,
             enable_safe_overflow: config.enable_safe_overflow as u32,
@@ -93,6 +96,7 @@ impl Config {
             subscriber_max_buffer_size: self.subscriber_max_buffer_size,
             subscriber_max_borrowed_samples: self.subscriber_max_borrowed_samples,
             history_size: self.history_size,
+            number_of_channels: self.number_of_channels,
             enable_safe_overflow: self.enable_safe_overflow != 0,
             subscriber_expired_connection_buffer: self.subscriber_expired_connection_buffer,
             publisher_max_loaned_samples: self.publisher_max_loaned_samples,

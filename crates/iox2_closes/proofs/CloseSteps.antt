@@ -251,7 +251,7 @@ module _ {T U : Type 0} (f : Fields T U) (parts : HasOwnedParts f) where
               state = frees.passes.state ∙ ap (with_channels_of f') forgot-state;
               channels = λ k d at_d.
                   let was = frees.passes.channels k d at_d in
-                  record { key = was.key; link = was.link; stands = (left-before was.key was.link was.stands).1; home = was.home; channel = was.channel };
+                  record { key = was.key; link = was.link; stands = (left-before was.key was.link was.stands).1; home = was.home; channels = was.channels };
               messages = keeps-trans f forgot f' (record { back = λ k slot m e. e; forth = λ k slot n m has e. e; number = λ k slot n has. has }) frees.passes.messages;
             };
             publishers = frees.publishers;

@@ -227,7 +227,7 @@ module _ {T U : Type 0} (f : Fields T U) (sound : IsDomain f) (place : ℕ) (y :
         channels = λ k d at_d.
             let mid = forgets.passes.channels k d at_d in
             let early = loses.passes.channels mid.key mid.link mid.stands in
-            link-through f.connections early.link d (early.home ∙ mid.home) (early.channel ∙ mid.channel) (so_far.channels early.key early.link early.stands);
+            link-through f.connections early.link d (early.home ∙ mid.home) (early.channels ∙ mid.channels) (so_far.channels early.key early.link early.stands);
         publishers = forgets.publishers ∙ loses.publishers ∙ so_far.publishers;
         next_port = forgets.next_port ∙ loses.next_port ∙ so_far.next_port;
         subscriber = (

@@ -3,7 +3,7 @@ use Rattle.std.proofs.Common.{◌≡◌, ℕ, ◌+◌, ◌*◌, ◌≤◌, ◌<�
 use Rattle.std.specs.Prelude.{nat_lt, nat_le, max, replicate}
 use Rattle.std.proofs.lemmas.Bool.{ne_eqb, leb-false, true≢false}
 use Rattle.std.proofs.lemmas.Option.{none-some}
-use Rattle.iox2_store.specs.machine.Limits.{buffer_limit, worst_case, last_number}
+use Rattle.iox2_store.specs.machine.Limits.{buffer_limit, channel_count, worst_case, last_number}
 use Rattle.iox2_store.specs.machine.Numbers.{put_at, size}
 use Rattle.iox2_store.specs.machine.Records.{Publisher}
 use Rattle.iox2_store.specs.machine.State.{State, held}
@@ -21,7 +21,7 @@ use Rattle.iox2_commands.proofs.AlikeViews.{View, view_of}
 
 -- fewer loans have a smaller worst case
 worst_case_less : (c : ServiceConfig) (k most : ℕ) → k < most → worst_case c k < worst_case c most
-worst_case_less c k most h = grow (c.max_subscribers * (buffer_limit c + c.subscriber_max_borrowed_samples) + c.history_size) k most h
+worst_case_less c k most h = grow (c.max_subscribers * channel_count c * (buffer_limit c + c.subscriber_max_borrowed_samples) + c.history_size) k most h
   where
     grow : (d k most : ℕ) → k < most → d + k < d + most
     grow d k most h = omega arith

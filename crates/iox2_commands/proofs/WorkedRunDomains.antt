@@ -18,6 +18,7 @@ domain publishers subscribers buffer borrows history expired overflow = record {
   subscriber_max_buffer_size = buffer;
   subscriber_max_borrowed_samples = borrows;
   history_size = history;
+  number_of_channels = 1;
   enable_safe_overflow = overflow;
   subscriber_expired_connection_buffer = expired;
   publisher_max_loaned_samples = 1;

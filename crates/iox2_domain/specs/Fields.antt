@@ -140,7 +140,7 @@ module _ (books : Slab Book) (connections : Slab Link) where
 
   -- What lies in a connection.
   abbrev pub between_of : Link → Between
-  between_of c = record { publisher = c.home.publisher; subscriber = c.home.subscriber; box = mailbox_of (numbers_of books c.home.publisher) c; channel = c.channel }
+  between_of c = record { publisher = c.home.publisher; subscriber = c.home.subscriber; box = mailbox_of (numbers_of books c.home.publisher) c; channels = c.channels }
 
 -- What the fields keep, beside these boxes.
 abbrev pub keeping : {T U F G : Type 0} → DomainBoxes F G → Fields T U → Kept T U F G

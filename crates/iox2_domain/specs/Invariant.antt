@@ -5,7 +5,7 @@ use Rattle.std.specs.declared.option.Option.{Option}
 use Rattle.std.specs.declared.option.Option.TheVariants.{None, Some}
 use Rattle.std.specs.Option.{option_map, option_map_or}
 use Rattle.slab.specs.Slab.{Slab, get}
-use Rattle.iox2_store.specs.machine.Limits.{warning_limit, segment_fits}
+use Rattle.iox2_store.specs.machine.Limits.{channel_count, warning_limit, segment_fits}
 use Rattle.iox2_slots.specs.Link.{Link}
 use Rattle.iox2_store.specs.SingleValues.{is_single_valued}
 use Rattle.iox2_slots.specs.SlotBook.{Book, IsAligned, holders_at}
@@ -99,6 +99,8 @@ pub record IsLinked {T U : Type 0} (f : Fields T U) : Type 0 where
       → y.id ≡ c.home.subscriber → c.home.publisher_place < y.key_room
   -- So many messages may be borrowed in each connection.
   pub limits : (key : ℕ) (c : Link) → get f.connections key ≡ Some c → c.limit ≡ (f.config).subscriber_max_borrowed_samples
+  -- Each connection has as many channels as the settings say.
+  pub channel_counts : (key : ℕ) (c : Link) → get f.connections key ≡ Some c → length c.channels ≡ channel_count f.config
   -- Slots that were given back lie where their publisher reclaims them.
   pub returned : (key : ℕ) (c : Link) → get f.connections key ≡ Some c → SenderHas f.publishers key c ⊎ (c.returned ≡ [])
   -- A connection that is marked as open is one between open ports.

@@ -4,13 +4,13 @@ use Rattle.std.specs.declared.option.Option.{Option}
 use Rattle.std.specs.declared.option.Option.TheVariants.{None, Some}
 use Rattle.std.specs.Option.{option_map, option_and_then}
 use Rattle.iox2_store.specs.machine.Channel.{Channel, new_channels}
+use Rattle.iox2_slots.specs.Link.{channel_at}
 use Rattle.iox2_store.specs.machine.Mailbox.{Mailbox, empty_mailbox}
 use Rattle.iox2_store.specs.machine.Records.{Entry, Loan, Publisher, Subscriber}
 use Rattle.iox2_store.specs.machine.State.{State, Warnings, Messages}
 use Rattle.iox2_store.specs.declared.header.Header.{Header}
 use Rattle.iox2_store.specs.declared.service_config.ServiceConfig.{ServiceConfig}
 use Rattle.iox2_ends.specs.LookUp.{look_up}
-use Rattle.iox2_ends.specs.Mailboxes.{channels_of}
 use Rattle.iox2_domain.specs.Boxes.{DomainBoxes}
 
 -- A port and its id.
@@ -23,7 +23,7 @@ pub record Between : Type 0 where
   pub publisher : ℕ
   pub subscriber : ℕ
   pub box : Mailbox
-  pub channel : Channel
+  pub channels : List Channel  -- by number
 
 -- What lies in a slot, with its number: a loan, or a message that was sent.
 pub data KeptMessage (T U : Type 0) : Type 0 where
@@ -73,7 +73,7 @@ box_if_any (Some c) = c.box
 -- The channels, or new ones.
 abbrev pub channels_if_between : Option Between → ℕ → Channel
 channels_if_between None = new_channels
-channels_if_between (Some c) = channels_of c.channel
+channels_if_between (Some c) = channel_at c.channels
 
 -- ---- messages
 

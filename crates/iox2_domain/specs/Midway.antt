@@ -18,7 +18,7 @@ module _ {T U : Type 0} where
 
   -- The fields agree with one another, but for what they keep, and but for the book at the key, which may be kept for nobody.
   -- They keep this state, but for channels, and no entry that they didn't keep before. Each connection was there before, with
-  -- the same channel.
+  -- the same channels.
   pub record IsMidway (old new : Fields T U) (s : State T U) (key : ℕ) : Type 0 where
     pub consistent : HasParts new
     pub lone : HasLoneLoans new.books

@@ -91,10 +91,10 @@ is_open_subscriber subscribers place = option_map_or (λ (y : SubscriberFields).
 abbrev pub key_from : Slab Link → (p : ℕ) → Option ℕ → Option ℕ
 key_from connections p key = cond (is_port (publisher_of_key connections key) p) key None
 
--- A connection in which no slot stands was made at a key that was free.
-pub record MakesConnection (old : Slab Link) (home : Home) (buffer limit key : ℕ) (new : Slab Link) : Type 0 where
+-- A connection in which no slot stands, with so many new channels, was made at a key that was free.
+pub record MakesConnection (old : Slab Link) (home : Home) (buffer limit count key : ℕ) (new : Slab Link) : Type 0 where
   pub was_free : get old key ≡ None
-  pub made : Updates old new key (Some (empty_link home buffer limit))
+  pub made : Updates old new key (Some (empty_link home buffer limit count))
 
 -- Where the connection stands of the publisher x at the place i and the subscriber y at the place j.
 abbrev pub home_of : (i j : ℕ) → PublisherFields → SubscriberFields → Home

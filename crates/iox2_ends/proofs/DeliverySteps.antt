@@ -128,7 +128,7 @@ put-fixed c slot overflow Full d h = ap fixed_of h.2
 
 -- a put leaves the connection where it stands
 pub put-home : (c : Link) (slot : ℕ) (overflow : Bool) (o : PutOutcome) (d : Link) → IsPut c slot overflow o d → d.home ≡ c.home
-put-home c slot overflow o d h = ap (λ (t : Home × ℕ × ℕ × Bool × Channel). t.0) (put-fixed c slot overflow o d h)
+put-home c slot overflow o d h = ap (λ (t : Home × ℕ × ℕ × Bool × List Channel). t.0) (put-fixed c slot overflow o d h)
 
 -- a put leaves what was given back
 pub put-returned : (c : Link) (slot : ℕ) (overflow : Bool) (o : PutOutcome) (d : Link) → IsPut c slot overflow o d → d.returned ≡ c.returned
@@ -162,7 +162,7 @@ module _ {p : ℕ} {slab : Slab Link} {keys : List (Option ℕ)} {receivers : Li
         mailbox_of (number p) d,
         goes,
         fun_ext (λ q. row-changed number slab (with_value slab key d) key p c d ready.apart (IsApart-same slab (with_value slab key d) ready.apart (put-homes v.slot config.enable_safe_overflow o c d was_c put)) was_c
-            (home-of c was_c).publisher (ap (λ (t : Home × ℕ × ℕ × Bool × Channel). t.0) (put-fixed c v.slot config.enable_safe_overflow o d put)) (Updates-with_value slab key c d was_c) q),
+            (home-of c was_c).publisher (ap (λ (t : Home × ℕ × ℕ × Bool × List Channel). t.0) (put-fixed c v.slot config.enable_safe_overflow o d put)) (Updates-with_value slab key c d was_c) q),
       )
     where
       takes : taking_buffers slab p receivers c.home.subscriber ≡ Some c.buffer
@@ -200,7 +200,7 @@ IsSenderLinked-same p old new keys linked same = record { at = λ i key e. by i 
   by i key c (Some d) e =
       let c' = was old new key d same e in
       let f : c'.0 ≡ c.0 = same_link old key c'.0 c.0 c'.1 c.1 in
-      let home : c.0.home ≡ d.home = sym (ap (λ (x : Link). x.home) f) ∙ ap (λ (t : Home × ℕ × ℕ × Bool × Channel). t.0) c'.2 in
+      let home : c.0.home ≡ d.home = sym (ap (λ (x : Link). x.home) f) ∙ ap (λ (t : Home × ℕ × ℕ × Bool × List Channel). t.0) c'.2 in
       record { publisher = sym (ap (λ (h : Home). h.publisher) home) ∙ c.2.publisher; place = sym (ap (λ (h : Home). h.subscriber_place) home) ∙ c.2.place }
 
 -- what a delivery needs is there after each of its puts
@@ -211,13 +211,13 @@ IsReadyToDeliver-same p old new keys receivers ready same = record {
   knows = record {
     at = λ key i c y at_c at_y e.
         let c' = was old new key c same at_c in
-        let know = ready.knows.at key i c'.0 y c'.1 at_y (e ∙ sym (ap (λ (t : Home × ℕ × ℕ × Bool × Channel). t.0.subscriber) c'.2)) in
-        (know.0 ∙ ap (λ (t : Home × ℕ × ℕ × Bool × Channel). t.0.subscriber_place) c'.2, sym (ap (λ (t : Home × ℕ × ℕ × Bool × Channel). t.1) c'.2) ∙ know.1);
+        let know = ready.knows.at key i c'.0 y c'.1 at_y (e ∙ sym (ap (λ (t : Home × ℕ × ℕ × Bool × List Channel). t.0.subscriber) c'.2)) in
+        (know.0 ∙ ap (λ (t : Home × ℕ × ℕ × Bool × List Channel). t.0.subscriber_place) c'.2, sym (ap (λ (t : Home × ℕ × ℕ × Bool × List Channel). t.1) c'.2) ∙ know.1);
   };
   marked = λ key c at_c is_marked.
       let c' = was old new key c same at_c in
-      ap (λ (t : Home × ℕ × ℕ × Bool × Channel). is_open_at receivers t.0.subscriber_place t.0.subscriber) (sym c'.2)
-      ∙ ready.marked key c'.0 c'.1 (ap (λ (t : Home × ℕ × ℕ × Bool × Channel). t.3) c'.2 ∙ is_marked);
+      ap (λ (t : Home × ℕ × ℕ × Bool × List Channel). is_open_at receivers t.0.subscriber_place t.0.subscriber) (sym c'.2)
+      ∙ ready.marked key c'.0 c'.1 (ap (λ (t : Home × ℕ × ℕ × Bool × List Channel). t.3) c'.2 ∙ is_marked);
   one_id = ready.one_id;
 }
 
@@ -240,7 +240,7 @@ subscriber_of_key-same old new same (Some key) = by (get old key) (get new key) 
   by None None e f h = rw (e, f) refl
   by None (Some d) e f h = absurd (let h' : option_map fixed_of (Some d) ≡ option_map fixed_of None = rw (e, f) at h in cc)
   by (Some c) None e f h = absurd (let h' : option_map fixed_of None ≡ option_map fixed_of (Some c) = rw (e, f) at h in cc)
-  by (Some c) (Some d) e f h = rw (e, f) (let h' : Some (fixed_of d) ≡ Some (fixed_of c) = rw (e, f) at h in let g : fixed_of d ≡ fixed_of c = cc in ap (λ (t : Home × ℕ × ℕ × Bool × Channel). Some t.0.subscriber) g)
+  by (Some c) (Some d) e f h = rw (e, f) (let h' : Some (fixed_of d) ≡ Some (fixed_of c) = rw (e, f) at h in let g : fixed_of d ≡ fixed_of c = cc in ap (λ (t : Home × ℕ × ℕ × Bool × List Channel). Some t.0.subscriber) g)
 
 pub ends-at : (old now : Slab Link) (keys : List (Option ℕ)) (i : ℕ) → SameHomes old now → subscriber_of_key now (get_or keys i None) ≡ get_or (sender_ends old keys) i None
 ends-at old now keys i same = subscriber_of_key-same old now same (get_or keys i None) ∙ sym (get_or-map (subscriber_of_key old) keys i None)

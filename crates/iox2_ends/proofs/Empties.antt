@@ -29,7 +29,7 @@ alike c d fixed none_c none_d = λ t. record {
   buffer = (fixed t).1;
   limit = (fixed t).2;
   is_open = (fixed t).3;
-  channel = (fixed t).4;
+  channels = (fixed t).4;
   waiting = (nothing d.waiting (omega (arith, none_d)) ∙ sym (nothing c.waiting (omega (arith, none_c)))) t;
   borrowed = (nothing d.borrowed (omega (arith, none_d)) ∙ sym (nothing c.borrowed (omega (arith, none_c)))) t;
   returned = (nothing d.returned (omega (arith, none_d)) ∙ sym (nothing c.returned (omega (arith, none_c)))) t;
@@ -44,7 +44,7 @@ still-empty p holders holders' old new apart r key c at none = by (get new key) 
   by (Some d) e same =
       let both : Some (fixed_of d) ≡ Some (fixed_of c) = sym (ap (option_map fixed_of) e) ∙ same in
       let fixed : fixed_of d ≡ fixed_of c = cc in
-      let home : d.home ≡ c.home = ap (λ (t : Home × ℕ × ℕ × Bool × Channel). t.0) fixed in
+      let home : d.home ≡ c.home = ap (λ (t : Home × ℕ × ℕ × Bool × List Channel). t.0) fixed in
       let there : mailbox_of (λ s. s) d ≡ mailbox_of (λ s. s) c =
       sym (mailbox-there (λ q s. s) new key c.home.publisher c.home.subscriber d (IsApart-same old new apart r.recounts.homes) e (ap (λ (h : Home). h.publisher) home) (ap (λ (h : Home). h.subscriber) home))
       ∙ ap (λ (boxes : ℕ → ℕ → Mailbox). boxes c.home.publisher c.home.subscriber) (r.mailboxes (λ q s. s))

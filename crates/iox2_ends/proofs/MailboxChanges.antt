@@ -4,12 +4,12 @@ use Rattle.std.proofs.lemmas.Bool.{cases_eq, cases_lt, eqb-true, ne_eqb, eq-eqb}
 use Rattle.std.proofs.lemmas.List.{get_or-set_same, get_or-set_other, get_or_past}
 use Rattle.std.specs.Option.{option_map}
 use Rattle.slab.specs.Slab.{Slab, get, Updates, with_value}
-use Rattle.iox2_slots.specs.Link.{Link}
+use Rattle.iox2_slots.specs.Link.{Link, channel_at}
 use Rattle.iox2_store.specs.machine.Channel.{Channel}
 use Rattle.iox2_store.specs.machine.Numbers.{put_at}
 use Rattle.iox2_slots.specs.declared.connection.Home.{Home}
 use Rattle.iox2_ends.specs.LookUp.{look_up}
-use Rattle.iox2_ends.specs.Mailboxes.{is_between, mailbox_of, mailbox_if_any, mailboxes_of, channels_of, channels_if_any, channels_in, with_box}
+use Rattle.iox2_ends.specs.Mailboxes.{is_between, mailbox_of, mailbox_if_any, mailboxes_of, channels_if_any, channels_in, with_box}
 use Rattle.iox2_ends.specs.Homes.{IsApart, SameHomes, KeepsOthers, fixed_of}
 use Rattle.iox2_ends.proofs.LookUps.{look_up-changed, look_up-there, look_up-found, look_up-none, look_up-nothing}
 use mathlib.Core.Path.{fun_ext}
@@ -62,8 +62,8 @@ IsApart-same old new apart same = record {
         let x' = was old new i x same at_i in
         let y' = was old new j y same at_j in
         (apart.one p q).one i j x'.0 y'.0 x'.1 y'.1
-        (ap (λ (t : Home × ℕ × ℕ × Bool × Channel). eqb t.0.publisher p && eqb t.0.subscriber q) x'.2 ∙ is_x)
-        (ap (λ (t : Home × ℕ × ℕ × Bool × Channel). eqb t.0.publisher p && eqb t.0.subscriber q) y'.2 ∙ is_y);
+        (ap (λ (t : Home × ℕ × ℕ × Bool × List Channel). eqb t.0.publisher p && eqb t.0.subscriber q) x'.2 ∙ is_x)
+        (ap (λ (t : Home × ℕ × ℕ × Bool × List Channel). eqb t.0.publisher p && eqb t.0.subscriber q) y'.2 ∙ is_y);
   };
 }
 
@@ -83,7 +83,7 @@ mailbox-there number slab key p q c apart at mine yours =
     ap (mailbox_if_any (number p)) (look_up-found (is_between p q) slab.slots key c (apart.one p q) at (is_between-own p q c mine yours))
 
 -- the channels of a connection that stands in the slab
-pub channels-there : (slab : Slab Link) (key p q : ℕ) (c : Link) → IsApart slab → get slab key ≡ Some c → c.home.publisher ≡ p → c.home.subscriber ≡ q → channels_in slab p q ≡ channels_of c.channel
+pub channels-there : (slab : Slab Link) (key p q : ℕ) (c : Link) → IsApart slab → get slab key ≡ Some c → c.home.publisher ≡ p → c.home.subscriber ≡ q → channels_in slab p q ≡ channel_at c.channels
 channels-there slab key p q c apart at mine yours =
     ap channels_if_any (look_up-found (is_between p q) slab.slots key c (apart.one p q) at (is_between-own p q c mine yours))
 
@@ -94,7 +94,7 @@ channels-same old new apart same = fun_ext (λ p. fun_ext (λ q. by p q (look_up
   by p q None e =
       let none : look_up (is_between p q) new.slots ≡ None = look_up-nothing (is_between p q) new.slots (λ i d at.
       let c = was old new i d same at in
-      ap (λ (t : Home × ℕ × ℕ × Bool × Channel). eqb t.0.publisher p && eqb t.0.subscriber q) (sym c.2) ∙ look_up-none (is_between p q) old.slots e i c.0 c.1) in
+      ap (λ (t : Home × ℕ × ℕ × Bool × List Channel). eqb t.0.publisher p && eqb t.0.subscriber q) (sym c.2) ∙ look_up-none (is_between p q) old.slots e i c.0 c.1) in
       ap channels_if_any (none ∙ sym e)
   by p q (Some c) e =
       let found = look_up-there (is_between p q) old.slots c e in
@@ -107,9 +107,9 @@ channels-same old new apart same = fun_ext (λ p. fun_ext (λ q. by p q (look_up
           let found = look_up-there (is_between p q) old.slots c e in
           let both : Some (fixed_of d) ≡ Some (fixed_of c) = sym (ap (option_map fixed_of) g) ∙ h in
           let fixed : fixed_of d ≡ fixed_of c = cc in
-          let its : is_between p q d ≡ true = ap (λ (t : Home × ℕ × ℕ × Bool × Channel). eqb t.0.publisher p && eqb t.0.subscriber q) fixed ∙ found.2 in
+          let its : is_between p q d ≡ true = ap (λ (t : Home × ℕ × ℕ × Bool × List Channel). eqb t.0.publisher p && eqb t.0.subscriber q) fixed ∙ found.2 in
           ap channels_if_any (look_up-found (is_between p q) new.slots found.0 d ((IsApart-same old new apart same).one p q) g its)
-          ∙ ap (λ (t : Home × ℕ × ℕ × Bool × Channel). channels_of t.4) fixed
+          ∙ ap (λ (t : Home × ℕ × ℕ × Bool × List Channel). channel_at t.4) fixed
           ∙ sym (ap channels_if_any e)
 
 -- one changed connection is one changed mailbox in its publisher's row
@@ -136,7 +136,7 @@ others-stay number old new p r q apart same kept differs = ap (mailbox_if_any (n
   by None e = look_up-nothing (is_between r q) new.slots (λ i d at.
       let c = was old new i d same at in
       let no : is_between r q c.0 ≡ false = look_up-none (is_between r q) old.slots e i c.0 c.1 in
-      ap (λ (t : Home × ℕ × ℕ × Bool × Channel). eqb t.0.publisher r && eqb t.0.subscriber q) (sym c.2) ∙ no)
+      ap (λ (t : Home × ℕ × ℕ × Bool × List Channel). eqb t.0.publisher r && eqb t.0.subscriber q) (sym c.2) ∙ no)
   by (Some c) e =
       let found = look_up-there (is_between r q) old.slots c e in
       look_up-found (is_between r q) new.slots found.0 c ((IsApart-same old new apart same).one r q)
@@ -152,7 +152,7 @@ mailboxes-changed number slab new key c d apart at fixed u = fun_ext (λ r. fun_
   by : (r q : ℕ) → mailboxes_of number new r q ≡ with_box (mailboxes_of number slab) c.home.publisher c.home.subscriber (mailbox_of (number c.home.publisher) d) r q
   by r q = elim (cases_eq r c.home.publisher) [
     | inl here ↦ rw (here, eq-eqb c.home.publisher c.home.publisher refl)
-        (row-changed number slab new key c.home.publisher c d apart (IsApart-same slab new apart same) at refl (ap (λ (t : Home × ℕ × ℕ × Bool × Channel). t.0) fixed) u q)
+        (row-changed number slab new key c.home.publisher c d apart (IsApart-same slab new apart same) at refl (ap (λ (t : Home × ℕ × ℕ × Bool × List Channel). t.0) fixed) u q)
     | inr away ↦ rw (ne_eqb r c.home.publisher away) (others-stay number slab new c.home.publisher r q apart same (KeepsOthers-updated c.home.publisher slab new key c (Some d) at refl u) away)
   ]
 

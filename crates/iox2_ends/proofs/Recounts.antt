@@ -31,7 +31,7 @@ pub Recounts-one : (p : ℕ) (hs hs' : List ℕ) (slab : Slab Link) (key : ℕ) 
 Recounts-one p hs hs' slab key c d at mine fixed counters slots in_use fewer = record {
   homes = SameHomes-updated slab (with_value slab key d) key c d at fixed u;
   others = KeepsOthers-updated p slab (with_value slab key d) key c (Some d) at mine u;
-  counters = CountersFollow-changed p hs hs' slab.slots key c d at mine (ap (λ (t : Home × ℕ × ℕ × Bool × Channel). t.0.publisher) fixed ∙ mine) counters;
+  counters = CountersFollow-changed p hs hs' slab.slots key c d at mine (ap (λ (t : Home × ℕ × ℕ × Bool × List Channel). t.0.publisher) fixed ∙ mine) counters;
   slots = slots;
   in_use = in_use;
   fewer = returned-updated slab (with_value slab key d) key c d at fewer u;

@@ -15,9 +15,9 @@ pub record IsApart (connections : Slab Link) : Type 0 where
   pub one : (p q : ℕ) → IsOnly (is_between p q) connections.slots
 
 -- What no work on messages changes of a connection: where it stands, how many slots may wait, how many may be borrowed,
--- whether it is marked as open, and its channel.
-abbrev pub fixed_of : Link → Home × ℕ × ℕ × Bool × Channel
-fixed_of c = (c.home, c.buffer, c.limit, c.is_open, c.channel)
+-- whether it is marked as open, and its channels.
+abbrev pub fixed_of : Link → Home × ℕ × ℕ × Bool × List Channel
+fixed_of c = (c.home, c.buffer, c.limit, c.is_open, c.channels)
 
 -- No connection is made, none goes, and none moves.
 pub record SameHomes (old new : Slab Link) : Type 0 where

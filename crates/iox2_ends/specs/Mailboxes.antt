@@ -4,7 +4,7 @@ use Rattle.std.specs.declared.option.Option.{Option}
 use Rattle.std.specs.declared.option.Option.TheVariants.{None, Some}
 use Rattle.std.specs.Option.{option_map, option_and_then}
 use Rattle.slab.specs.Slab.{Slab, get}
-use Rattle.iox2_slots.specs.Link.{Link}
+use Rattle.iox2_slots.specs.Link.{Link, channel_at}
 use Rattle.iox2_store.specs.machine.Channel.{Channel, new_channels}
 use Rattle.iox2_store.specs.machine.Mailbox.{Mailbox, empty_mailbox}
 use Rattle.iox2_store.specs.machine.Numbers.{put_at}
@@ -27,14 +27,10 @@ mailbox_if_any number (Some c) = mailbox_of number c
 abbrev pub mailboxes_of : (number : ℕ → ℕ → ℕ) → Slab Link → ℕ → ℕ → Mailbox
 mailboxes_of number connections p q = mailbox_if_any (number p) (look_up (is_between p q) connections.slots)
 
--- The channels of a connection that has this channel 0; all others are new.
-abbrev pub channels_of : Channel → ℕ → Channel
-channels_of channel = put_at new_channels 0 channel
-
--- The channels of a connection, or new ones.
+-- The channels of a connection, or new ones. One that isn't there counts as new.
 abbrev pub channels_if_any : Option Link → ℕ → Channel
 channels_if_any None = new_channels
-channels_if_any (Some c) = channels_of c.channel
+channels_if_any (Some c) = channel_at c.channels
 
 -- The channels by the publisher's id, then the subscriber's.
 abbrev pub channels_in : Slab Link → ℕ → ℕ → ℕ → Channel

@@ -23,7 +23,7 @@ buffer_if_open y = cond y.is_open (Some y.buffer_size) None
 abbrev pub buffers_of : List (Option ReceiverDetails) → ℕ → Option ℕ
 buffers_of receivers q = option_and_then buffer_if_open (look_up (has_id q) receivers)
 
--- The buffers of the receivers that take messages of the publisher p, by id: they are open, and so is their channel.
+-- The buffers of the receivers that take messages of the publisher p, by id: they are open, and so is their channel 0.
 abbrev pub taking_buffers : Slab Link → (p : ℕ) → List (Option ReceiverDetails) → ℕ → Option ℕ
 taking_buffers connections p receivers q = cond (is_closed (channels_in connections p q 0)) None (buffers_of receivers q)
 
@@ -36,7 +36,7 @@ is_open_one q (Some y) = (y.port_id == q) && y.is_open
 abbrev pub is_open_at : List (Option ReceiverDetails) → (place q : ℕ) → Bool
 is_open_at receivers place q = is_open_one q (slice_index_or receivers place None)
 
--- The connection takes messages: its receiver stands at the place and is open, and its channel isn't closed.
+-- The connection takes messages: its receiver stands at the place and is open, and its channel 0 isn't closed.
 abbrev pub takes_at : List (Option ReceiverDetails) → (place : ℕ) → Link → Bool
 takes_at receivers place c = is_open_at receivers place c.home.subscriber && not (is_shut c)
 

@@ -26,7 +26,7 @@ fn a_message_goes_there_and_back(rt: HostRuntime) -> Result<(), Fail> {
         backpressure_strategy: BackpressureStrategy::DiscardData,
         ..ServiceConfig::new(1)
     };
-    let connection = Connection::new(rt.alloc(), HOME, 2, 1)?;
+    let connection = Connection::new(rt.alloc(), HOME, 2, 1, 1)?;
     let node = UniqueNodeId::new(1);
     let mut book = SlotBook::new(rt.alloc(), node, UniquePublisherId::new(1), 1)?;
     let mut connections = Slab::new(rt.alloc());

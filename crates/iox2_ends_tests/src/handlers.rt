@@ -44,9 +44,9 @@ impl BackpressureFn for Patience {
 // The connection, in which the slot waits.
 fn connection_with(alloc: Global, buffer_size: usize, slot: usize) -> Result<Connection, AllocError>
     requires { 0 < buffer_size }
-    ensures { IfOk result (λ c. c ≡ record (empty_link HOME buffer_size 1) { waiting = slot ∷ [] }) }
+    ensures { IfOk result (λ c. c ≡ record (empty_link HOME buffer_size 1 1) { waiting = slot ∷ [] }) }
 {
-    let mut connection = Connection::new(alloc, HOME, buffer_size, 1)?;
+    let mut connection = Connection::new(alloc, HOME, buffer_size, 1, 1)?;
     connection.put(slot, false);
     Ok(connection)
 }

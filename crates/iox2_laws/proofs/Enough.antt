@@ -1,10 +1,10 @@
 -- A new domain's state is well-formed, and in a well-formed state no publisher holds more than the worst case.
-use Rattle.std.proofs.Common.{ℕ, ◌+◌, ◌*◌, ◌≤◌, [], ◌++◌, length, sym, arith, None}
+use Rattle.std.proofs.Common.{ℕ, ◌+◌, ◌*◌, ◌≤◌, ◌<◌, [], ◌++◌, length, sym, arith, None}
 use Rattle.std.specs.List.{flat_map}
 use Rattle.std.proofs.lemmas.Bool.{true≢false}
 use Rattle.std.proofs.lemmas.List.{length-append}
 use Rattle.std.proofs.lemmas.Option.{none-some}
-use Rattle.iox2_store.specs.machine.Limits.{buffer_limit}
+use Rattle.iox2_store.specs.machine.Limits.{buffer_limit, channel_count}
 use Rattle.iox2_store.specs.machine.Places.{occupants}
 use Rattle.iox2_store.specs.machine.Mailbox.{numbers_in}
 use Rattle.iox2_store.specs.machine.State.{State, fresh, held}
@@ -52,6 +52,10 @@ fresh_is_well_formed {T} {U} c = record {
 more_times : (a b c : ℕ) → a ≤ b → a * c ≤ b * c
 more_times a b c h = grind arith
 
+-- and so does a further factor
+times_more : (a n : ℕ) → 0 < n → a ≤ a * n
+times_more a n h = grind arith
+
 module _ {T U : Type 0} (s : State T U) (w : IsWellFormed s) where
   -- a mailbox has no more numbers than wait and are borrowed at most
   pub length-mailbox_le : (p q : ℕ) → length (numbers_in (s.mailboxes p q)) ≤ buffer_limit s.config + (s.config).subscriber_max_borrowed_samples
@@ -67,7 +71,8 @@ module _ {T U : Type 0} (s : State T U) (w : IsWellFormed s) where
       let boxes : length (flat_map (λ q. numbers_in (s.mailboxes p q)) (occupants x.ends)) ≤ length (occupants x.ends) * most =
       length-flat_map (λ q. numbers_in (s.mailboxes p q)) most (length-mailbox_le p) (occupants x.ends) in
       let ends : length (occupants x.ends) ≤ (s.config).max_subscribers = omega (arith, length-occupants_le x.ends, b.ends_bound) in
-      let times : length (occupants x.ends) * most ≤ (s.config).max_subscribers * most = more_times _ _ _ ends in
+      let channels : (s.config).max_subscribers ≤ (s.config).max_subscribers * channel_count s.config = times_more _ _ (omega arith) in
+      let times : length (occupants x.ends) * most ≤ (s.config).max_subscribers * channel_count s.config * most = more_times _ _ _ (omega arith) in
       omega (
         arith,
         size_le_length (held s p x),

@@ -4,7 +4,7 @@ use Rattle.std.specs.Prelude.{nat_lt, nat_le, cond, max, ◌==◌, ◌&&◌, Mat
 use Rattle.std.specs.Bool.{MatchBool}
 use Rattle.std.proofs.lemmas.Bool.{true≢false, ne_eqb, le-ltb, lt-leb}
 use Rattle.std.proofs.lemmas.Option.{none-some}
-use Rattle.iox2_store.specs.machine.Limits.{buffer_limit, worst_case, last_number}
+use Rattle.iox2_store.specs.machine.Limits.{buffer_limit, channel_count, worst_case, last_number}
 use Rattle.iox2_store.specs.machine.Numbers.{size}
 use Rattle.iox2_store.specs.machine.Records.{Publisher, Environment}
 use Rattle.iox2_store.specs.machine.State.{State, held}
@@ -115,7 +115,7 @@ module _ {T U : Type 0} where
       → (s' : State T U) (refusal : Option LoanError) → GrantLoan environment default_header checks_length len s p s' refusal → refusal ≡ None
   worst_case_of_slots_refuses_none environment default_header s p x checks_length len w present slots some below fits short =
       let few : size (held s p x) < x.slots =
-      fewer (size (held s p x)) ((s.config).max_subscribers * (buffer_limit s.config + (s.config).subscriber_max_borrowed_samples) + (s.config).history_size)
+      fewer (size (held s p x)) ((s.config).max_subscribers * channel_count s.config * (buffer_limit s.config + (s.config).subscriber_max_borrowed_samples) + (s.config).history_size)
       (length x.loans) x.max_loaned_samples x.slots (holds_at_most_worst_case s w p x present) slots some in
       loan_unrefused environment default_header checks_length len s p x few present some below fits short
 
@@ -127,7 +127,7 @@ module _ {T U : Type 0} where
       × ((s' : State T U) (refusal : Option LoanError) → GrantLoan environment default_header checks_length len s p s' refusal → refusal ≡ None)
   worst_case_of_slots_grants environment default_header s p x checks_length len w present static slots some below fits =
       let few : size (held s p x) < x.slots =
-      fewer (size (held s p x)) ((s.config).max_subscribers * (buffer_limit s.config + (s.config).subscriber_max_borrowed_samples) + (s.config).history_size)
+      fewer (size (held s p x)) ((s.config).max_subscribers * channel_count s.config * (buffer_limit s.config + (s.config).subscriber_max_borrowed_samples) + (s.config).history_size)
       (length x.loans) x.max_loaned_samples x.slots (holds_at_most_worst_case s w p x present) slots some in (
         static_loan_granted environment default_header checks_length len s p x few present static some below fits,
         static_loan_unrefused environment default_header checks_length len s p x few present static some below fits,

@@ -1,4 +1,4 @@
--- Whether all channels of a subscriber are in one state is what the machine says.
+-- Whether a channel is in one state at all connections of a subscriber is what the machine says.
 use Rattle.std.proofs.Common.{◌≡◌, ℕ, zero, suc, ◌+◌, ◌<◌, ◌≤◌, Bool, true, false, ◌&&◌, List, [], ◌∷◌, ◌++◌, length, map, drop, Option, None, Some, get_or, refl, sym, ap, ◌∙◌}
 use Rattle.std.specs.List.{list_all}
 use Rattle.std.specs.Option.{option_map, option_map_or}
@@ -6,7 +6,7 @@ use Rattle.std.specs.Prelude.{IsSomeAnd}
 use Rattle.std.proofs.lemmas.List.{drop_all, drop_more}
 use Rattle.std.proofs.lemmas.List.Folds.{list_all-append}
 use Rattle.slab.specs.Slab.{Slab, get}
-use Rattle.iox2_slots.specs.Link.{Link}
+use Rattle.iox2_slots.specs.Link.{Link, channel_at}
 use Rattle.iox2_store.specs.machine.Channel.{Channel, is_in_state}
 use Rattle.iox2_store.specs.machine.ChannelCalls.{senders_of}
 use Rattle.iox2_store.specs.machine.Places.{occupants}
@@ -27,22 +27,22 @@ use Rattle.iox2_messages.specs.KeyChannels.{all_in_state, key_in_no_other}
 
 -- ---- walks over keys
 
-module _ (connections : Slab Link) (state : ℕ) where
+module _ (connections : Slab Link) (number state : ℕ) where
   -- a key that is so says nothing of the others
-  pub all-behind : (keys : List (Option ℕ)) (i : ℕ) (b : Bool) → i < length keys → b ≡ key_in_no_other connections state (get_or keys i None) → b ≡ true
-      → all_in_state connections state (drop i keys) ≡ all_in_state connections state (drop (i + 1) keys)
+  pub all-behind : (keys : List (Option ℕ)) (i : ℕ) (b : Bool) → i < length keys → b ≡ key_in_no_other connections number state (get_or keys i None) → b ≡ true
+      → all_in_state connections number state (drop i keys) ≡ all_in_state connections number state (drop (i + 1) keys)
   all-behind keys i b below is holds =
-      ap (all_in_state connections state) (drop_more keys i None below) ∙ ap (λ (c : Bool). c && all_in_state connections state (drop (i + 1) keys)) (sym is ∙ holds)
+      ap (all_in_state connections number state) (drop_more keys i None below) ∙ ap (λ (c : Bool). c && all_in_state connections number state (drop (i + 1) keys)) (sym is ∙ holds)
 
   -- one that isn't tells all
-  pub not-here : (keys : List (Option ℕ)) (i : ℕ) (b : Bool) → i < length keys → b ≡ key_in_no_other connections state (get_or keys i None) → b ≡ false
-      → all_in_state connections state (drop i keys) ≡ false
+  pub not-here : (keys : List (Option ℕ)) (i : ℕ) (b : Bool) → i < length keys → b ≡ key_in_no_other connections number state (get_or keys i None) → b ≡ false
+      → all_in_state connections number state (drop i keys) ≡ false
   not-here keys i b below is fails =
-      ap (all_in_state connections state) (drop_more keys i None below) ∙ ap (λ (c : Bool). c && all_in_state connections state (drop (i + 1) keys)) (sym is ∙ fails)
+      ap (all_in_state connections number state) (drop_more keys i None below) ∙ ap (λ (c : Bool). c && all_in_state connections number state (drop (i + 1) keys)) (sym is ∙ fails)
 
   -- behind the last all are
-  pub all-ended : (keys : List (Option ℕ)) (i : ℕ) → length keys ≤ i → all_in_state connections state (drop i keys) ≡ true
-  all-ended keys i past = ap (all_in_state connections state) (drop_all i keys past)
+  pub all-ended : (keys : List (Option ℕ)) (i : ℕ) → length keys ≤ i → all_in_state connections number state (drop i keys) ≡ true
+  all-ended keys i past = ap (all_in_state connections number state) (drop_all i keys past)
 
 -- ---- one answer after another
 
@@ -56,28 +56,28 @@ untold-later told later a b is holds later_is = later_is ∙ ap (λ (c : Bool). 
 
 -- ---- a subscriber's connections
 
-module _ (q most state : ℕ) (connections : Slab Link) (apart : IsApart connections) where
+module _ (q most number state : ℕ) (connections : Slab Link) (apart : IsApart connections) where
   -- of the publishers to which keys lead, all have a channel in the state where none of the keys leads to one in another
   among : (keys : List (Option ℕ)) → IsReceiverLinked q most connections keys
-      → list_all (λ p. is_in_state state (channels_in connections p q 0)) (occupants (receiver_ends connections keys)) ≡ all_in_state connections state keys
+      → list_all (λ p. is_in_state state (channels_in connections p q number)) (occupants (receiver_ends connections keys)) ≡ all_in_state connections number state keys
   among [] linked = refl
   among (None ∷ keys) linked = among keys (record { at = λ i k e. linked.at (suc i) k e })
   among (Some key ∷ keys) linked = by (get connections key) refl (linked.at zero key refl) (among keys (record { at = λ i k e. linked.at (suc i) k e })) where
     by : (o : Option Link) → get connections key ≡ o → IsSomeAnd o (IsReceivers q most)
-        → list_all (λ p. is_in_state state (channels_in connections p q 0)) (occupants (receiver_ends connections keys)) ≡ all_in_state connections state keys
-        → list_all (λ p. is_in_state state (channels_in connections p q 0)) (occupants (option_map (λ (c : Link). c.home.publisher) o ∷ receiver_ends connections keys))
-        ≡ (option_map_or (λ (c : Link). is_in_state state c.channel) o true && all_in_state connections state keys)
+        → list_all (λ p. is_in_state state (channels_in connections p q number)) (occupants (receiver_ends connections keys)) ≡ all_in_state connections number state keys
+        → list_all (λ p. is_in_state state (channels_in connections p q number)) (occupants (option_map (λ (c : Link). c.home.publisher) o ∷ receiver_ends connections keys))
+        ≡ (option_map_or (λ (c : Link). is_in_state state (channel_at c.channels number)) o true && all_in_state connections number state keys)
     by None e h rest = absurd h
     by (Some c) e h rest =
-        ap (λ (channels : ℕ → Channel). is_in_state state (channels 0) && list_all (λ p. is_in_state state (channels_in connections p q 0)) (occupants (receiver_ends connections keys)))
+        ap (λ (channels : ℕ → Channel). is_in_state state (channels number) && list_all (λ p. is_in_state state (channels_in connections p q number)) (occupants (receiver_ends connections keys)))
         (channels-there connections key c.home.publisher q c apart e refl h.subscriber)
-        ∙ ap (λ (b : Bool). is_in_state state c.channel && b) rest
+        ∙ ap (λ (b : Bool). is_in_state state (channel_at c.channels number) && b) rest
 
 -- the machine's answer: at each connection the channel is in the state
-abbrev all_have_state : {T U : Type 0} → State T U → (q state : ℕ) → Bool
-all_have_state s q state = list_all (λ p. is_in_state state (s.channels p q 0)) (senders_of s q)
+abbrev all_have_state : {T U : Type 0} → State T U → (q number state : ℕ) → Bool
+all_have_state s q number state = list_all (λ p. is_in_state state (s.channels p q number)) (senders_of s q)
 
-module _ {T U : Type 0} (f : Fields T U) (sound : IsDomain f) (i : ℕ) (y : SubscriberFields) (at : get_or f.subscribers i None ≡ Some y) (state : ℕ) where
+module _ {T U : Type 0} (f : Fields T U) (sound : IsDomain f) (i : ℕ) (y : SubscriberFields) (at : get_or f.subscribers i None ≡ Some y) (number state : ℕ) where
   abbrev expired : List ℕ
   expired = occupants (receiver_ends f.connections (map Some y.expired))
 
@@ -85,23 +85,23 @@ module _ {T U : Type 0} (f : Fields T U) (sound : IsDomain f) (i : ℕ) (y : Sub
   ends = occupants (receiver_ends f.connections y.keys)
 
   -- what a subscriber's keys tell
-  received-all : (all_in_state f.connections state (map Some y.expired) && all_in_state f.connections state y.keys) ≡ all_have_state (state_of (kept_of f)) y.id state
+  received-all : (all_in_state f.connections number state (map Some y.expired) && all_in_state f.connections number state y.keys) ≡ all_have_state (state_of (kept_of f)) y.id number state
   received-all = sym (
-      ap (λ (o : Option Subscriber). list_all (λ p. is_in_state state ((state_of (kept_of f)).channels p y.id 0)) (option_map_or (λ (z : Subscriber). connected_publishers z) o [])) (subscriber-stands f sound.parts i y at)
-      ∙ ap (λ (channels : ℕ → ℕ → ℕ → Channel). list_all (λ p. is_in_state state (channels p y.id 0)) (expired ++ ends)) (channels-are f)
-      ∙ list_all-append (λ p. is_in_state state (channels_in f.connections p y.id 0)) expired ends
-      ∙ ap (λ (b : Bool). b && list_all (λ p. is_in_state state (channels_in f.connections p y.id 0)) ends)
-      (among y.id (f.config).subscriber_max_borrowed_samples state f.connections sound.parts.apart (map Some y.expired) (sound.parts.linked.expired i y at))
-      ∙ ap (λ (b : Bool). all_in_state f.connections state (map Some y.expired) && b)
-      (among y.id (f.config).subscriber_max_borrowed_samples state f.connections sound.parts.apart y.keys (sound.parts.linked.receivers i y at)))
+      ap (λ (o : Option Subscriber). list_all (λ p. is_in_state state ((state_of (kept_of f)).channels p y.id number)) (option_map_or (λ (z : Subscriber). connected_publishers z) o [])) (subscriber-stands f sound.parts i y at)
+      ∙ ap (λ (channels : ℕ → ℕ → ℕ → Channel). list_all (λ p. is_in_state state (channels p y.id number)) (expired ++ ends)) (channels-are f)
+      ∙ list_all-append (λ p. is_in_state state (channels_in f.connections p y.id number)) expired ends
+      ∙ ap (λ (b : Bool). b && list_all (λ p. is_in_state state (channels_in f.connections p y.id number)) ends)
+      (among y.id (f.config).subscriber_max_borrowed_samples number state f.connections sound.parts.apart (map Some y.expired) (sound.parts.linked.expired i y at))
+      ∙ ap (λ (b : Bool). all_in_state f.connections number state (map Some y.expired) && b)
+      (among y.id (f.config).subscriber_max_borrowed_samples number state f.connections sound.parts.apart y.keys (sound.parts.linked.receivers i y at)))
 
-module _ {T U : Type 0} (f now : Fields T U) (place : ℕ) (z : SubscriberFields) (keys : List ℕ) (places : List (Option ℕ)) (has : HasKeys f now place z keys places) (state : ℕ) where
+module _ {T U : Type 0} (f now : Fields T U) (place : ℕ) (z : SubscriberFields) (keys : List ℕ) (places : List (Option ℕ)) (has : HasKeys f now place z keys places) (number state : ℕ) where
   -- the same as the code reads it
   pub asked-all : (y : SubscriberFields) → get_or now.subscribers place None ≡ Some y
-      → (all_in_state f.connections state (map Some keys) && all_in_state f.connections state places) ≡ list_all (λ p. is_in_state state ((state_of (kept_of now)).channels p y.id 0)) (senders_of (state_of (kept_of now)) y.id)
+      → (all_in_state f.connections number state (map Some keys) && all_in_state f.connections number state places) ≡ list_all (λ p. is_in_state state ((state_of (kept_of now)).channels p y.id number)) (senders_of (state_of (kept_of now)) y.id)
   asked-all y at =
-      ap (λ (xs : List ℕ). all_in_state f.connections state (map Some xs) && all_in_state f.connections state places) has.expired_is
-      ∙ ap (λ (xs : List (Option ℕ)). all_in_state f.connections state (map Some z.expired) && all_in_state f.connections state xs) has.places_is
-      ∙ ap (λ (h : Fields T U). all_in_state h.connections state (map Some z.expired) && all_in_state h.connections state z.keys) has.same
-      ∙ received-all now has.sound place z has.stands state
-      ∙ ap (λ (w : SubscriberFields). all_have_state (state_of (kept_of now)) w.id state) (same-one f now place z keys places has y at)
+      ap (λ (xs : List ℕ). all_in_state f.connections number state (map Some xs) && all_in_state f.connections number state places) has.expired_is
+      ∙ ap (λ (xs : List (Option ℕ)). all_in_state f.connections number state (map Some z.expired) && all_in_state f.connections number state xs) has.places_is
+      ∙ ap (λ (h : Fields T U). all_in_state h.connections number state (map Some z.expired) && all_in_state h.connections number state z.keys) has.same
+      ∙ received-all now has.sound place z has.stands number state
+      ∙ ap (λ (w : SubscriberFields). all_have_state (state_of (kept_of now)) w.id number state) (same-one f now place z keys places has y at)

@@ -6,7 +6,7 @@ use Rattle.std.specs.Prelude.{IsSomeAnd}
 use Rattle.std.proofs.lemmas.List.{drop_all, drop_more, get_or_read}
 use Rattle.std.proofs.lemmas.List.Folds.{list_any-append}
 use Rattle.slab.specs.Slab.{Slab, get}
-use Rattle.iox2_slots.specs.Link.{Link}
+use Rattle.iox2_slots.specs.Link.{Link, channel_at}
 use Rattle.iox2_store.specs.machine.Channel.{Channel, is_in_state}
 use Rattle.iox2_store.specs.machine.ChannelCalls.{connection_place, place_from, some_channel_has_state}
 use Rattle.iox2_store.specs.machine.Places.{is_port, occupant, occupants}
@@ -28,22 +28,22 @@ use Rattle.iox2_messages.specs.KeyChannels.{key_in_state, some_in_state}
 
 -- ---- walks over keys
 
-module _ (connections : Slab Link) (state : ℕ) where
+module _ (connections : Slab Link) (number state : ℕ) where
   -- a key that isn't in the state says nothing of the others
-  pub some-behind : (keys : List (Option ℕ)) (i : ℕ) (b : Bool) → i < length keys → b ≡ key_in_state connections state (get_or keys i None) → b ≡ false
-      → some_in_state connections state (drop i keys) ≡ some_in_state connections state (drop (i + 1) keys)
+  pub some-behind : (keys : List (Option ℕ)) (i : ℕ) (b : Bool) → i < length keys → b ≡ key_in_state connections number state (get_or keys i None) → b ≡ false
+      → some_in_state connections number state (drop i keys) ≡ some_in_state connections number state (drop (i + 1) keys)
   some-behind keys i b below is fails =
-      ap (some_in_state connections state) (drop_more keys i None below) ∙ ap (λ (c : Bool). c || some_in_state connections state (drop (i + 1) keys)) (sym is ∙ fails)
+      ap (some_in_state connections number state) (drop_more keys i None below) ∙ ap (λ (c : Bool). c || some_in_state connections number state (drop (i + 1) keys)) (sym is ∙ fails)
 
   -- one that is tells all
-  pub some-here : (keys : List (Option ℕ)) (i : ℕ) (b : Bool) → i < length keys → b ≡ key_in_state connections state (get_or keys i None) → b ≡ true
-      → some_in_state connections state (drop i keys) ≡ true
+  pub some-here : (keys : List (Option ℕ)) (i : ℕ) (b : Bool) → i < length keys → b ≡ key_in_state connections number state (get_or keys i None) → b ≡ true
+      → some_in_state connections number state (drop i keys) ≡ true
   some-here keys i b below is holds =
-      ap (some_in_state connections state) (drop_more keys i None below) ∙ ap (λ (c : Bool). c || some_in_state connections state (drop (i + 1) keys)) (sym is ∙ holds)
+      ap (some_in_state connections number state) (drop_more keys i None below) ∙ ap (λ (c : Bool). c || some_in_state connections number state (drop (i + 1) keys)) (sym is ∙ holds)
 
   -- behind the last there is none
-  pub some-ended : (keys : List (Option ℕ)) (i : ℕ) → length keys ≤ i → some_in_state connections state (drop i keys) ≡ false
-  some-ended keys i past = ap (some_in_state connections state) (drop_all i keys past)
+  pub some-ended : (keys : List (Option ℕ)) (i : ℕ) → length keys ≤ i → some_in_state connections number state (drop i keys) ≡ false
+  some-ended keys i past = ap (some_in_state connections number state) (drop_all i keys past)
 
 module _ (connections : Slab Link) (q : ℕ) where
   -- the place is further on
@@ -77,24 +77,24 @@ told-later told later a b is fails later_is = later_is ∙ ap (λ (c : Bool). c 
 
 -- ---- a subscriber's connections
 
-module _ (q most state : ℕ) (connections : Slab Link) (apart : IsApart connections) where
+module _ (q most number state : ℕ) (connections : Slab Link) (apart : IsApart connections) where
   -- of the publishers to which keys lead, one has a channel in the state where one of the keys leads to it
   among : (keys : List (Option ℕ)) → IsReceiverLinked q most connections keys
-      → list_any (λ p. is_in_state state (channels_in connections p q 0)) (occupants (receiver_ends connections keys)) ≡ some_in_state connections state keys
+      → list_any (λ p. is_in_state state (channels_in connections p q number)) (occupants (receiver_ends connections keys)) ≡ some_in_state connections number state keys
   among [] linked = refl
   among (None ∷ keys) linked = among keys (record { at = λ i k e. linked.at (suc i) k e })
   among (Some key ∷ keys) linked = by (get connections key) refl (linked.at zero key refl) (among keys (record { at = λ i k e. linked.at (suc i) k e })) where
     by : (o : Option Link) → get connections key ≡ o → IsSomeAnd o (IsReceivers q most)
-        → list_any (λ p. is_in_state state (channels_in connections p q 0)) (occupants (receiver_ends connections keys)) ≡ some_in_state connections state keys
-        → list_any (λ p. is_in_state state (channels_in connections p q 0)) (occupants (option_map (λ (c : Link). c.home.publisher) o ∷ receiver_ends connections keys))
-        ≡ (option_map_or (λ (c : Link). is_in_state state c.channel) o false || some_in_state connections state keys)
+        → list_any (λ p. is_in_state state (channels_in connections p q number)) (occupants (receiver_ends connections keys)) ≡ some_in_state connections number state keys
+        → list_any (λ p. is_in_state state (channels_in connections p q number)) (occupants (option_map (λ (c : Link). c.home.publisher) o ∷ receiver_ends connections keys))
+        ≡ (option_map_or (λ (c : Link). is_in_state state (channel_at c.channels number)) o false || some_in_state connections number state keys)
     by None e h rest = absurd h
     by (Some c) e h rest =
-        ap (λ (channels : ℕ → Channel). is_in_state state (channels 0) || list_any (λ p. is_in_state state (channels_in connections p q 0)) (occupants (receiver_ends connections keys)))
+        ap (λ (channels : ℕ → Channel). is_in_state state (channels number) || list_any (λ p. is_in_state state (channels_in connections p q number)) (occupants (receiver_ends connections keys)))
         (channels-there connections key c.home.publisher q c apart e refl h.subscriber)
-        ∙ ap (λ (b : Bool). is_in_state state c.channel || b) rest
+        ∙ ap (λ (b : Bool). is_in_state state (channel_at c.channels number) || b) rest
 
-module _ {T U : Type 0} (f : Fields T U) (sound : IsDomain f) (i : ℕ) (y : SubscriberFields) (at : get_or f.subscribers i None ≡ Some y) (state : ℕ) where
+module _ {T U : Type 0} (f : Fields T U) (sound : IsDomain f) (i : ℕ) (y : SubscriberFields) (at : get_or f.subscribers i None ≡ Some y) (number state : ℕ) where
   abbrev expired : List ℕ
   expired = occupants (receiver_ends f.connections (map Some y.expired))
 
@@ -102,26 +102,26 @@ module _ {T U : Type 0} (f : Fields T U) (sound : IsDomain f) (i : ℕ) (y : Sub
   ends = occupants (receiver_ends f.connections y.keys)
 
   -- what a subscriber's keys tell
-  received-in : (some_in_state f.connections state (map Some y.expired) || some_in_state f.connections state y.keys) ≡ some_channel_has_state (state_of (kept_of f)) y.id 0 state
+  received-in : (some_in_state f.connections number state (map Some y.expired) || some_in_state f.connections number state y.keys) ≡ some_channel_has_state (state_of (kept_of f)) y.id number state
   received-in = sym (
-      ap (λ (o : Option Subscriber). list_any (λ p. is_in_state state ((state_of (kept_of f)).channels p y.id 0)) (option_map_or (λ (z : Subscriber). connected_publishers z) o [])) (subscriber-stands f sound.parts i y at)
-      ∙ ap (λ (channels : ℕ → ℕ → ℕ → Channel). list_any (λ p. is_in_state state (channels p y.id 0)) (expired ++ ends)) (channels-are f)
-      ∙ list_any-append (λ p. is_in_state state (channels_in f.connections p y.id 0)) expired ends
-      ∙ ap (λ (b : Bool). b || list_any (λ p. is_in_state state (channels_in f.connections p y.id 0)) ends)
-      (among y.id (f.config).subscriber_max_borrowed_samples state f.connections sound.parts.apart (map Some y.expired) (sound.parts.linked.expired i y at))
-      ∙ ap (λ (b : Bool). some_in_state f.connections state (map Some y.expired) || b)
-      (among y.id (f.config).subscriber_max_borrowed_samples state f.connections sound.parts.apart y.keys (sound.parts.linked.receivers i y at)))
+      ap (λ (o : Option Subscriber). list_any (λ p. is_in_state state ((state_of (kept_of f)).channels p y.id number)) (option_map_or (λ (z : Subscriber). connected_publishers z) o [])) (subscriber-stands f sound.parts i y at)
+      ∙ ap (λ (channels : ℕ → ℕ → ℕ → Channel). list_any (λ p. is_in_state state (channels p y.id number)) (expired ++ ends)) (channels-are f)
+      ∙ list_any-append (λ p. is_in_state state (channels_in f.connections p y.id number)) expired ends
+      ∙ ap (λ (b : Bool). b || list_any (λ p. is_in_state state (channels_in f.connections p y.id number)) ends)
+      (among y.id (f.config).subscriber_max_borrowed_samples number state f.connections sound.parts.apart (map Some y.expired) (sound.parts.linked.expired i y at))
+      ∙ ap (λ (b : Bool). some_in_state f.connections number state (map Some y.expired) || b)
+      (among y.id (f.config).subscriber_max_borrowed_samples number state f.connections sound.parts.apart y.keys (sound.parts.linked.receivers i y at)))
 
-module _ {T U : Type 0} (f now : Fields T U) (place : ℕ) (z : SubscriberFields) (keys : List ℕ) (places : List (Option ℕ)) (has : HasKeys f now place z keys places) (state : ℕ) where
+module _ {T U : Type 0} (f now : Fields T U) (place : ℕ) (z : SubscriberFields) (keys : List ℕ) (places : List (Option ℕ)) (has : HasKeys f now place z keys places) (number state : ℕ) where
   -- the same as the code reads it
   pub asked-received : (y : SubscriberFields) → get_or now.subscribers place None ≡ Some y
-      → (some_in_state f.connections state (map Some keys) || some_in_state f.connections state places) ≡ some_channel_has_state (state_of (kept_of now)) y.id 0 state
+      → (some_in_state f.connections number state (map Some keys) || some_in_state f.connections number state places) ≡ some_channel_has_state (state_of (kept_of now)) y.id number state
   asked-received y at =
-      ap (λ (xs : List ℕ). some_in_state f.connections state (map Some xs) || some_in_state f.connections state places) has.expired_is
-      ∙ ap (λ (xs : List (Option ℕ)). some_in_state f.connections state (map Some z.expired) || some_in_state f.connections state xs) has.places_is
-      ∙ ap (λ (h : Fields T U). some_in_state h.connections state (map Some z.expired) || some_in_state h.connections state z.keys) has.same
-      ∙ received-in now has.sound place z has.stands state
-      ∙ ap (λ (w : SubscriberFields). some_channel_has_state (state_of (kept_of now)) w.id 0 state) (same-one f now place z keys places has y at)
+      ap (λ (xs : List ℕ). some_in_state f.connections number state (map Some xs) || some_in_state f.connections number state places) has.expired_is
+      ∙ ap (λ (xs : List (Option ℕ)). some_in_state f.connections number state (map Some z.expired) || some_in_state f.connections number state xs) has.places_is
+      ∙ ap (λ (h : Fields T U). some_in_state h.connections number state (map Some z.expired) || some_in_state h.connections number state z.keys) has.same
+      ∙ received-in now has.sound place z has.stands number state
+      ∙ ap (λ (w : SubscriberFields). some_channel_has_state (state_of (kept_of now)) w.id number state) (same-one f now place z keys places has y at)
 
 -- ---- a publisher's connections
 
@@ -130,36 +130,36 @@ module _ {T U : Type 0} (f : Fields T U) (sound : IsDomain f) (i : ℕ) (x : Pub
   pub placed : (q : ℕ) → place_from 0 (sender_ends f.connections x.keys) q ≡ connection_place (state_of (kept_of f)) x.id q
   placed q = sym (ap (option_and_then (λ (z : Publisher). place_from 0 z.ends q)) (publisher-stands f sound.parts i x at))
 
-  module _ (test : Channel → Bool) where
+  module _ (number : ℕ) (test : Channel → Bool) where
     -- what a test says of the channel to which the key leads
     abbrev tested : Option ℕ → Bool
-    tested key = option_map_or (λ (c : Link). test c.channel) (option_and_then (get f.connections) key) false
+    tested key = option_map_or (λ (c : Link). test (channel_at c.channels number)) (option_and_then (get f.connections) key) false
 
     to-place : (other : ℕ) → tested (get_or x.keys other None)
-        ≡ option_map_or (λ q. test ((state_of (kept_of f)).channels x.id q 0)) (occupant (sender_ends f.connections x.keys) other) false
+        ≡ option_map_or (λ q. test ((state_of (kept_of f)).channels x.id q number)) (occupant (sender_ends f.connections x.keys) other) false
     to-place other =
         by (get_or x.keys other None) refl
-        ∙ ap (λ (o : Option ℕ). option_map_or (λ q. test (channels_in f.connections x.id q 0)) o false) (sym (occupant-sender_ends f.connections x.keys other))
-        ∙ ap (λ (channels : ℕ → ℕ → ℕ → Channel). option_map_or (λ q. test (channels x.id q 0)) (occupant (sender_ends f.connections x.keys) other) false) (sym (channels-are f))
+        ∙ ap (λ (o : Option ℕ). option_map_or (λ q. test (channels_in f.connections x.id q number)) o false) (sym (occupant-sender_ends f.connections x.keys other))
+        ∙ ap (λ (channels : ℕ → ℕ → ℕ → Channel). option_map_or (λ q. test (channels x.id q number)) (occupant (sender_ends f.connections x.keys) other) false) (sym (channels-are f))
       where
         at_link : (key : ℕ) (o : Option Link) → get f.connections key ≡ o → IsSomeAnd o (IsSenders x.id other)
-            → option_map_or (λ (c : Link). test c.channel) o false
-            ≡ option_map_or (λ q. test (channels_in f.connections x.id q 0)) (option_map (λ (c : Link). c.home.subscriber) o) false
+            → option_map_or (λ (c : Link). test (channel_at c.channels number)) o false
+            ≡ option_map_or (λ q. test (channels_in f.connections x.id q number)) (option_map (λ (c : Link). c.home.subscriber) o) false
         at_link key None e h = refl
-        at_link key (Some c) e h = ap (λ (channels : ℕ → Channel). test (channels 0)) (sym (channels-there f.connections key x.id c.home.subscriber c sound.parts.apart e h.publisher refl))
+        at_link key (Some c) e h = ap (λ (channels : ℕ → Channel). test (channels number)) (sym (channels-there f.connections key x.id c.home.subscriber c sound.parts.apart e h.publisher refl))
 
         by : (o : Option ℕ) → get_or x.keys other None ≡ o
-            → tested o ≡ option_map_or (λ q. test (channels_in f.connections x.id q 0)) (subscriber_of_key f.connections o) false
+            → tested o ≡ option_map_or (λ q. test (channels_in f.connections x.id q number)) (subscriber_of_key f.connections o) false
         by None e = refl
         by (Some key) e = at_link key (get f.connections key) refl ((sound.parts.linked.senders i x at).at other key e)
 
     -- so it says of the machine's, where the publisher's key at a place is read
     pub sent : (other : ℕ) → tested (sender_key f.publishers i other)
-        ≡ option_map_or (λ q. test ((state_of (kept_of f)).channels x.id q 0)) (option_and_then (λ (z : Publisher). occupant z.ends other) ((state_of (kept_of f)).publishers x.id)) false
+        ≡ option_map_or (λ q. test ((state_of (kept_of f)).channels x.id q number)) (option_and_then (λ (z : Publisher). occupant z.ends other) ((state_of (kept_of f)).publishers x.id)) false
     sent other =
         ap (λ (o : Option PublisherFields). tested (option_and_then (λ (z : PublisherFields). get_or z.keys other None) o)) at
         ∙ to-place other
-        ∙ ap (λ (o : Option Publisher). option_map_or (λ q. test ((state_of (kept_of f)).channels x.id q 0)) (option_and_then (λ (z : Publisher). occupant z.ends other) o) false) (sym (publisher-stands f sound.parts i x at))
+        ∙ ap (λ (o : Option Publisher). option_map_or (λ q. test ((state_of (kept_of f)).channels x.id q number)) (option_and_then (λ (z : Publisher). occupant z.ends other) o) false) (sym (publisher-stands f sound.parts i x at))
 
 module _ {T U : Type 0} (f now : Fields T U) (same : f ≡ now) (sound : IsDomain now) (i : ℕ) where
   -- the same of a publisher that was read, by its keys
@@ -175,11 +175,11 @@ module _ {T U : Type 0} (f now : Fields T U) (same : f ≡ now) (sound : IsDomai
       ∙ placed now sound i y at q
 
   -- and of its key at a place
-  pub asked-sent : (test : Channel → Bool) (other : ℕ) (publishers : List (Option PublisherFields)) (key : Option ℕ) → publishers ≡ f.publishers → key ≡ sender_key publishers i other
+  pub asked-sent : (number : ℕ) (test : Channel → Bool) (other : ℕ) (publishers : List (Option PublisherFields)) (key : Option ℕ) → publishers ≡ f.publishers → key ≡ sender_key publishers i other
       → (x : PublisherFields) → get_or now.publishers i None ≡ Some x
-      → option_map_or (λ (c : Link). test c.channel) (option_and_then (get f.connections) key) false
-      ≡ option_map_or (λ q. test ((state_of (kept_of now)).channels x.id q 0)) (option_and_then (λ (z : Publisher). occupant z.ends other) ((state_of (kept_of now)).publishers x.id)) false
-  asked-sent test other publishers key read is x at =
-      ap (λ (k : Option ℕ). option_map_or (λ (c : Link). test c.channel) (option_and_then (get f.connections) k) false) (is ∙ ap (λ (xs : List (Option PublisherFields)). sender_key xs i other) read)
-      ∙ ap (λ (h : Fields T U). option_map_or (λ (c : Link). test c.channel) (option_and_then (get h.connections) (sender_key h.publishers i other)) false) same
-      ∙ sent now sound i x at test other
+      → option_map_or (λ (c : Link). test (channel_at c.channels number)) (option_and_then (get f.connections) key) false
+      ≡ option_map_or (λ q. test ((state_of (kept_of now)).channels x.id q number)) (option_and_then (λ (z : Publisher). occupant z.ends other) ((state_of (kept_of now)).publishers x.id)) false
+  asked-sent number test other publishers key read is x at =
+      ap (λ (k : Option ℕ). option_map_or (λ (c : Link). test (channel_at c.channels number)) (option_and_then (get f.connections) k) false) (is ∙ ap (λ (xs : List (Option PublisherFields)). sender_key xs i other) read)
+      ∙ ap (λ (h : Fields T U). option_map_or (λ (c : Link). test (channel_at c.channels number)) (option_and_then (get h.connections) (sender_key h.publishers i other)) false) same
+      ∙ sent now sound i x at number test other

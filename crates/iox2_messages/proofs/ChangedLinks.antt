@@ -3,23 +3,20 @@ use Rattle.std.proofs.Common.{◌≡◌, ℕ, ◌+◌, ◌≤◌, Bool, true, fa
 use Rattle.std.proofs.lemmas.Bool.{cases_eq, eqb-true, eq-eqb}
 use Rattle.std.specs.Option.{option_map}
 use Rattle.slab.specs.Slab.{Slab, Updates, ContainsKey, get, with_value}
-use Rattle.iox2_slots.specs.Link.{Link, with_channel_state, state_changed, hint_set}
-use Rattle.iox2_store.specs.machine.Channel.{Channel, closed_state, is_in_state, with_state, with_hint}
+use Rattle.iox2_slots.specs.Link.{Link, channel_at, channels_changed, having_channels}
+use Rattle.iox2_slots.proofs.ChannelLists.{changed-length, channels-twice}
+use Rattle.iox2_store.specs.machine.Channel.{Channel, is_closed, with_state}
 use Rattle.iox2_ends.specs.Finds.{HasConnections}
 use Rattle.iox2_ends.proofs.MailboxChanges.{Updates-with_value, both-true}
 use Rattle.iox2_domain.specs.ChannelChanges.{ChangesLinks}
 use Rattle.iox2_domain.specs.Departures.{HasKey}
 use Rattle.iox2_domain.proofs.lemmas.containers.KeyWalks.{HasKeyBelow, next-key, all-keys}
 use Rattle.iox2_domain.proofs.lemmas.fields.Rechanneled.{plain_link}
-use Rattle.iox2_messages.specs.ChannelChanges.{changed_link}
+use Rattle.iox2_messages.specs.ChannelChanges.{changed_channel, changed_link}
 use Rattle.iox2_messages.specs.declared.changed_channels.ChannelChange.{ChannelChange}
 use Rattle.iox2_messages.specs.declared.changed_channels.ChannelChange.TheVariants.{SetState, SetHint}
 
 -- ---- one change
-
-either-is : {A : Type 0} (b : Bool) (x y : A) → x ≡ y → cond b x y ≡ y
-either-is true x y same = same
-either-is false x y same = refl
 
 and-twice : (a b : Bool) → ((a && b) && b) ≡ (a && b)
 and-twice true true = refl
@@ -36,55 +33,37 @@ into-state state channel = by (eqb channel.state state) refl where
   by true e = eqb-true channel.state state e
   by false e = refl
 
--- a channel comes into a state once
-into-state-twice : (state : ℕ) (channel : Channel) → with_state state (with_state state channel) ≡ with_state state channel
-into-state-twice state channel = ap (λ (b : Bool). cond b (with_state state channel) (in_state state)) (eq-eqb (with_state state channel).state state (into-state state channel))
-
-link-twice : (state : ℕ) (c : Link) → with_channel_state state (with_channel_state state c) ≡ with_channel_state state c
-link-twice state c = λ i. record c { is_open = and-twice c.is_open (not (eqb state closed_state)) i; channel = into-state-twice state c.channel i }
-
--- a connection with a hint
-abbrev hinted : Link → Link
-hinted c = record c { channel = with_hint c.channel }
+-- a channel that is changed so is changed
+change-once : (change : ChannelChange) (channel : Channel) → changed_channel change (changed_channel change channel) ≡ changed_channel change channel
+change-once (SetState state) channel = ap (λ (b : Bool). cond b (with_state state channel) (in_state state)) (eq-eqb (with_state state channel).state state (into-state state channel))
+change-once SetHint channel = refl
 
 -- a change that is made again changes nothing more
-pub changed-twice : (change : ChannelChange) (expected : ℕ) (c : Link) → changed_link change expected (changed_link change expected c) ≡ changed_link change expected c
-changed-twice (SetState state) expected c = by (is_in_state expected c.channel) refl where
-  by : (b : Bool) → is_in_state expected c.channel ≡ b → state_changed expected state (cond b (with_channel_state state c) c) ≡ cond b (with_channel_state state c) c
-  by true e = either-is (is_in_state expected (with_channel_state state c).channel) _ (with_channel_state state c) (link-twice state c)
-  by false e = ap (λ (b : Bool). cond b (with_channel_state state c) c) e
-changed-twice SetHint expected c = by (is_in_state expected c.channel) refl where
-  by : (b : Bool) → is_in_state expected c.channel ≡ b → hint_set expected (cond b (hinted c) c) ≡ cond b (hinted c) c
-  by true e = either-is (is_in_state expected (hinted c).channel) _ (hinted c) refl
-  by false e = ap (λ (b : Bool). cond b (hinted c) c) e
+pub changed-twice : (change : ChannelChange) (number expected : ℕ) (c : Link) → changed_link change number expected (changed_link change number expected c) ≡ changed_link change number expected c
+changed-twice change number expected c =
+    ap (λ (channels : List Channel). having_channels channels (having_channels changed c)) (channels-twice expected (changed_channel change) (change-once change) number c.channels)
+    ∙ (λ i. record c { is_open = and-twice c.is_open (not (is_closed (channel_at changed 0))) i; channels = changed })
+  where
+    changed : List Channel
+    changed = channels_changed number expected (changed_channel change) c.channels
 
--- nothing but the channel changes, and the mark
-pub changed-plain : (change : ChannelChange) (expected : ℕ) (c : Link) → plain_link (changed_link change expected c) ≡ plain_link c
-changed-plain (SetState state) expected c = by (is_in_state expected c.channel) where
-  by : (b : Bool) → plain_link (cond b (with_channel_state state c) c) ≡ plain_link c
-  by true = refl
-  by false = refl
-changed-plain SetHint expected c = by (is_in_state expected c.channel) where
-  by : (b : Bool) → plain_link (cond b (record c { channel = with_hint c.channel }) c) ≡ plain_link c
-  by true = refl
-  by false = refl
+-- nothing but channels changes, and the mark
+pub changed-plain : (change : ChannelChange) (number expected : ℕ) (c : Link) → plain_link (changed_link change number expected c) ≡ plain_link c
+changed-plain change number expected c = refl
+
+-- no channel comes or goes
+pub changed-count : (change : ChannelChange) (number expected : ℕ) (c : Link) → length (changed_link change number expected c).channels ≡ length c.channels
+changed-count change number expected c = changed-length expected (changed_channel change) number c.channels
 
 -- no connection is marked newly
-pub changed-mark : (change : ChannelChange) (expected : ℕ) (c : Link) → (changed_link change expected c).is_open ≡ true → c.is_open ≡ true
-changed-mark (SetState state) expected c = by (is_in_state expected c.channel) where
-  by : (b : Bool) → (cond b (with_channel_state state c) c).is_open ≡ true → c.is_open ≡ true
-  by true is = (both-true c.is_open (not (eqb state closed_state)) is).0
-  by false is = is
-changed-mark SetHint expected c = by (is_in_state expected c.channel) where
-  by : (b : Bool) → (cond b (record c { channel = with_hint c.channel }) c).is_open ≡ true → c.is_open ≡ true
-  by true is = is
-  by false is = is
+pub changed-mark : (change : ChannelChange) (number expected : ℕ) (c : Link) → (changed_link change number expected c).is_open ≡ true → c.is_open ≡ true
+changed-mark change number expected c is = (both-true c.is_open (not (is_closed (channel_at (channels_changed number expected (changed_channel change) c.channels) 0))) is).0
 
 -- ---- changes at keys
 
-module _ (change : ChannelChange) (expected : ℕ) where
+module _ (change : ChannelChange) (number expected : ℕ) where
   abbrev changed : Link → Link
-  changed = changed_link change expected
+  changed = changed_link change number expected
 
   -- at no key
   pub none-changed : (keys : ℕ → Type 0) (slab : Slab Link) → ((k : ℕ) → keys k → ⊥) → ChangesLinks changed keys slab slab
@@ -105,7 +84,7 @@ module _ (change : ChannelChange) (expected : ℕ) where
 
   once : (o : Option Link) → option_map changed (option_map changed o) ≡ option_map changed o
   once None = refl
-  once (Some c) = ap Some (changed-twice change expected c)
+  once (Some c) = ap Some (changed-twice change number expected c)
 
   -- first at some keys, and then at others
   pub both-changed : (first second keys : ℕ → Type 0) (old now new : Slab Link) → ChangesLinks changed first old now → ChangesLinks changed second now new

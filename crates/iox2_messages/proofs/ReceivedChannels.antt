@@ -1,5 +1,5 @@
 -- What a subscriber changes of its channels is what the machine makes of them.
-use Rattle.std.proofs.Common.{◌≡◌, ℕ, Bool, true, false, cond, ◌&&◌, eqb, List, map, ◌++◌, inl, inr, Option, None, Some, [], get_or, refl, ap, sym, subst, ◌∙◌}
+use Rattle.std.proofs.Common.{◌≡◌, ◌<◌, ℕ, Bool, true, false, cond, ◌&&◌, eqb, List, map, ◌++◌, inl, inr, Option, None, Some, [], get_or, refl, ap, sym, subst, ◌∙◌}
 use Rattle.std.proofs.lemmas.Bool.{eqb-true, eq-eqb, true≢false}
 use Rattle.std.proofs.lemmas.Option.{same_Some}
 use Rattle.std.specs.Option.{option_map, option_map_or}
@@ -7,6 +7,7 @@ use Rattle.slab.specs.Slab.{Slab, get}
 use Rattle.iox2_slots.specs.Link.{Link}
 use Rattle.iox2_store.specs.machine.Channel.{Channel, changed_if}
 use Rattle.iox2_store.specs.machine.ChannelCalls.{senders_of, received_changed}
+use Rattle.iox2_store.specs.machine.Limits.{channel_count}
 use Rattle.iox2_store.specs.machine.Numbers.{contains, put_at}
 use Rattle.iox2_store.specs.machine.Places.{occupants}
 use Rattle.iox2_store.specs.machine.Records.{Subscriber}
@@ -30,7 +31,7 @@ use Rattle.iox2_domain.proofs.lemmas.fields.OwnKeys.{receiver-leads}
 use Rattle.iox2_domain.proofs.lemmas.fields.Standing.{occupant-receiver_ends, some_is}
 use Rattle.iox2_messages.specs.ChannelChanges.{changed_channel, changed_link}
 use Rattle.iox2_messages.specs.declared.changed_channels.ChannelChange.{ChannelChange}
-use Rattle.iox2_messages.proofs.ChangedChannels.{apart-still, channels-changed, reaches-changed}
+use Rattle.iox2_messages.proofs.ChangedChannels.{apart-still, channel-there, channels-changed, reaches-changed}
 
 module _ {T U : Type 0} (f : Fields T U) (sound : IsDomain f) (i : ℕ) (y : SubscriberFields) (at : get_or f.subscribers i None ≡ Some y) where
   abbrev expired_ends : List (Option ℕ)
@@ -79,17 +80,17 @@ module _ {T U : Type 0} (f : Fields T U) (sound : IsDomain f) (i : ℕ) (y : Sub
         (through.0, through.1, inl (to.0, through.2), through.3, through.4, its y.keys (sound.parts.linked.receivers i y at) to.0 through.0 through.1 through.2 through.3)
   ]
 
-  module _ (change : ChannelChange) (expected : ℕ) (new : Slab Link) (changes : ChangesLinks (changed_link change expected) (KnowsKey y) f.connections new) where
+  module _ (change : ChannelChange) (number expected : ℕ) (new : Slab Link) (below : number < channel_count f.config) (changes : ChangesLinks (changed_link change number expected) (KnowsKey y) f.connections new) where
     abbrev old_channels : ℕ → ℕ → ℕ → Channel
     old_channels = channels_in f.connections
 
     abbrev changed_at : (p q : ℕ) → ℕ → Channel
-    changed_at p q = changed_if 0 expected (changed_channel change) (old_channels p q)
+    changed_at p q = changed_if number expected (changed_channel change) (old_channels p q)
 
     -- the channels of the subscriber's connections are changed, and no others
     received-at : (p q : ℕ) → channels_in new p q ≡ put_at (old_channels p) y.id (cond (contains senders p) (changed_at p y.id) (old_channels p y.id)) q
     received-at p q =
-        channels-changed change expected (KnowsKey y) f.connections new changes sound.parts.apart (apart-still f sound change expected (KnowsKey y) new changes) p q (eqb q y.id && contains senders p) found missed
+        channels-changed change number expected (KnowsKey y) f.connections new changes sound.parts.apart (apart-still f sound change number expected (KnowsKey y) new changes) (channel-there f sound change number expected (KnowsKey y) new changes below) p q (eqb q y.id && contains senders p) found missed
         ∙ same (eqb q y.id) refl
       where
         found : (eqb q y.id && contains senders p) ≡ true → (k : ℕ) × (c : Link) × KnowsKey y k × (get f.connections k ≡ Some c) × (c.home.publisher ≡ p) × (c.home.subscriber ≡ q)
@@ -110,20 +111,20 @@ module _ {T U : Type 0} (f : Fields T U) (sound : IsDomain f) (i : ℕ) (y : Sub
         same false e = refl
 
     -- that is what the machine does
-    pub received-reaches : Reaches f (record f { connections = new }) (received_changed (state_of (kept_of f)) y.id 0 expected (changed_channel change))
-    received-reaches = reaches-changed f sound change expected (KnowsKey y) new changes _ (λ p q.
+    pub received-reaches : Reaches f (record f { connections = new }) (received_changed (state_of (kept_of f)) y.id number expected (changed_channel change))
+    received-reaches = reaches-changed f sound change number expected (KnowsKey y) new changes _ (λ p q.
         received-at p q
-        ∙ ap (λ (channels : ℕ → ℕ → ℕ → Channel). put_at (channels p) y.id (cond (contains senders p) (changed_if 0 expected (changed_channel change) (channels p y.id)) (channels p y.id)) q) (sym (channels-are f))
-        ∙ ap (λ (ps : List ℕ). put_at ((state_of (kept_of f)).channels p) y.id (cond (contains ps p) (changed_if 0 expected (changed_channel change) ((state_of (kept_of f)).channels p y.id)) ((state_of (kept_of f)).channels p y.id)) q) (sym senders-are))
+        ∙ ap (λ (channels : ℕ → ℕ → ℕ → Channel). put_at (channels p) y.id (cond (contains senders p) (changed_if number expected (changed_channel change) (channels p y.id)) (channels p y.id)) q) (sym (channels-are f))
+        ∙ ap (λ (ps : List ℕ). put_at ((state_of (kept_of f)).channels p) y.id (cond (contains ps p) (changed_if number expected (changed_channel change) ((state_of (kept_of f)).channels p y.id)) ((state_of (kept_of f)).channels p y.id)) q) (sym senders-are))
 
 module _ {T U : Type 0} (f now : Fields T U) (same : f ≡ now) (sound : IsDomain now) (i : ℕ) where
   -- the same as the code does it
-  pub received-from : (z : SubscriberFields) → get_or now.subscribers i None ≡ Some z → (change : ChannelChange) (expected : ℕ) (new : Slab Link) → ChangesLinks (changed_link change expected) (KnowsKey z) f.connections new
-      → (y : SubscriberFields) → get_or now.subscribers i None ≡ Some y → Reaches now (record f { connections = new }) (received_changed (state_of (kept_of now)) y.id 0 expected (changed_channel change))
-  received-from z stands change expected new changes y at =
-      subst (λ (w : SubscriberFields). Reaches now (record f { connections = new }) (received_changed (state_of (kept_of now)) w.id 0 expected (changed_channel change))) (same_Some z y (sym stands ∙ at))
-      (subst (λ (h : Fields T U). Reaches now (record h { connections = new }) (received_changed (state_of (kept_of now)) z.id 0 expected (changed_channel change))) (sym same)
-      (received-reaches now sound i z stands change expected new (subst (λ (h : Fields T U). ChangesLinks (changed_link change expected) (KnowsKey z) h.connections new) same changes)))
+  pub received-from : (z : SubscriberFields) → get_or now.subscribers i None ≡ Some z → (change : ChannelChange) (number expected : ℕ) → number < channel_count now.config → (new : Slab Link) → ChangesLinks (changed_link change number expected) (KnowsKey z) f.connections new
+      → (y : SubscriberFields) → get_or now.subscribers i None ≡ Some y → Reaches now (record f { connections = new }) (received_changed (state_of (kept_of now)) y.id number expected (changed_channel change))
+  received-from z stands change number expected below new changes y at =
+      subst (λ (w : SubscriberFields). Reaches now (record f { connections = new }) (received_changed (state_of (kept_of now)) w.id number expected (changed_channel change))) (same_Some z y (sym stands ∙ at))
+      (subst (λ (h : Fields T U). Reaches now (record h { connections = new }) (received_changed (state_of (kept_of now)) z.id number expected (changed_channel change))) (sym same)
+      (received-reaches now sound i z stands change number expected new below (subst (λ (h : Fields T U). ChangesLinks (changed_link change number expected) (KnowsKey z) h.connections new) same changes)))
 
 -- a step after which marks change comes to the same
 pub reaches-then-marks : {T U : Type 0} (f g h : Fields T U) (s : State T U) → Reaches f g s → ChangesMarks g h → Reaches f h s

@@ -1,5 +1,5 @@
 -- What a publisher closes of its channels is what the machine makes of it.
-use Rattle.std.proofs.Common.{◌≡◌, ℕ, Bool, true, false, cond, ◌&&◌, eqb, List, Option, None, Some, get_or, refl, ap, sym, subst, ◌∙◌}
+use Rattle.std.proofs.Common.{◌≡◌, ◌<◌, ℕ, Bool, true, false, cond, ◌&&◌, eqb, List, Option, None, Some, get_or, refl, ap, sym, subst, ◌∙◌}
 use Rattle.std.proofs.lemmas.Bool.{eqb-true, eq-eqb, true≢false}
 use Rattle.std.proofs.lemmas.Option.{same_Some}
 use Rattle.std.specs.Option.{option_map, option_map_or, option_and_then}
@@ -7,6 +7,7 @@ use Rattle.slab.specs.Slab.{Slab, ContainsKey, get}
 use Rattle.iox2_slots.specs.Link.{Link}
 use Rattle.iox2_store.specs.machine.Channel.{Channel, closed_state, with_state, changed_if}
 use Rattle.iox2_store.specs.machine.ChannelCalls.{receiver_at, sent_closed}
+use Rattle.iox2_store.specs.machine.Limits.{channel_count}
 use Rattle.iox2_store.specs.machine.Numbers.{put_at}
 use Rattle.iox2_store.specs.machine.Places.{occupant}
 use Rattle.iox2_store.specs.machine.Records.{Publisher}
@@ -28,7 +29,7 @@ use Rattle.iox2_steps.proofs.updates.MarkedEnds.{end-there}
 use Rattle.iox2_messages.specs.ChannelChanges.{changed_link}
 use Rattle.iox2_messages.specs.declared.changed_channels.ChannelChange.{ChannelChange}
 use Rattle.iox2_messages.specs.declared.changed_channels.ChannelChange.TheVariants.{SetState}
-use Rattle.iox2_messages.proofs.ChangedChannels.{apart-still, channels-changed, reaches-changed}
+use Rattle.iox2_messages.proofs.ChangedChannels.{apart-still, channel-there, channels-changed, reaches-changed}
 
 -- a value at two arguments
 put-within : {X : Type 0} (f : ℕ → ℕ → X) (i j : ℕ) (x : X) (p q : ℕ) → put_at f i (put_at (f i) j x) p q ≡ cond (eqb p i && eqb q j) x (f p q)
@@ -55,12 +56,12 @@ module _ {T U : Type 0} (f : Fields T U) (sound : IsDomain f) (i : ℕ) (x : Pub
   key-is : sender_key f.publishers i place ≡ get_or x.keys place None
   key-is = ap (option_and_then (λ (z : PublisherFields). get_or z.keys place None)) at
 
-  module _ (expected : ℕ) (new : Slab Link) where
+  module _ (number expected : ℕ) (new : Slab Link) (below : number < channel_count f.config) where
     abbrev closing : ChannelChange
     closing = SetState closed_state
 
     abbrev closed_if : (ℕ → Channel) → ℕ → Channel
-    closed_if channels = changed_if 0 expected (with_state closed_state) channels
+    closed_if channels = changed_if number expected (with_state closed_state) channels
 
     abbrev links : ℕ → ℕ → ℕ → Channel
     links = channels_in f.connections
@@ -70,14 +71,14 @@ module _ {T U : Type 0} (f : Fields T U) (sound : IsDomain f) (i : ℕ) (x : Pub
     closed_to channels o = option_map_or (λ q. put_at channels x.id (put_at (channels x.id) q (closed_if (channels x.id q)))) o channels
 
     abbrev ClosesSent : Type 0
-    ClosesSent = Reaches f (record f { connections = new }) (sent_closed (state_of (kept_of f)) x.id 0 place expected)
+    ClosesSent = Reaches f (record f { connections = new }) (sent_closed (state_of (kept_of f)) x.id number place expected)
 
     -- the channels are what the machine makes of them
-    closes-as : (key : Option ℕ) → ChangesLinks (changed_link closing expected) (λ k. key ≡ Some k) f.connections new → (o : Option ℕ) → receiver_at (state_of (kept_of f)) x.id place ≡ o
+    closes-as : (key : Option ℕ) → ChangesLinks (changed_link closing number expected) (λ k. key ≡ Some k) f.connections new → (o : Option ℕ) → receiver_at (state_of (kept_of f)) x.id place ≡ o
         → ((p q : ℕ) → channels_in new p q ≡ closed_to links o p q) → ClosesSent
     closes-as key changes o is are =
         subst (Reaches f (record f { connections = new })) (sent-to o ∙ ap (closed_state_to) (sym is))
-        (reaches-changed f sound closing expected (λ k. key ≡ Some k) new changes (closed_to (state_of (kept_of f)).channels o) (λ p q.
+        (reaches-changed f sound closing number expected (λ k. key ≡ Some k) new changes (closed_to (state_of (kept_of f)).channels o) (λ p q.
         are p q ∙ ap (λ (channels : ℕ → ℕ → ℕ → Channel). closed_to channels o p q) (sym (channels-are f))))
       where
         closed_state_to : Option ℕ → State T U
@@ -88,18 +89,18 @@ module _ {T U : Type 0} (f : Fields T U) (sound : IsDomain f) (i : ℕ) (x : Pub
         sent-to (Some q) = refl
 
     -- there is none at the place
-    none-sent : (key : Option ℕ) → ChangesLinks (changed_link closing expected) (λ k. key ≡ Some k) f.connections new → key ≡ None → get_or x.keys place None ≡ None → ClosesSent
+    none-sent : (key : Option ℕ) → ChangesLinks (changed_link closing number expected) (λ k. key ≡ Some k) f.connections new → key ≡ None → get_or x.keys place None ≡ None → ClosesSent
     none-sent key changes nowhere none =
         closes-as key changes None (receiver-is ∙ ap (subscriber_of_key f.connections) none) (λ p q.
-        channels-changed closing expected (λ k. key ≡ Some k) f.connections new changes sound.parts.apart (apart-still f sound closing expected (λ k. key ≡ Some k) new changes) p q false
+        channels-changed closing number expected (λ k. key ≡ Some k) f.connections new changes sound.parts.apart (apart-still f sound closing number expected (λ k. key ≡ Some k) new changes) (channel-there f sound closing number expected (λ k. key ≡ Some k) new changes below) p q false
         (λ wrong. absurd (true≢false (sym wrong)))
         (λ _ k c is there mine yours. let wrong : None ≡ Some k = sym nowhere ∙ is in absurd cc))
 
     -- the one at the place is closed, and no other
-    one-sent : (key : ℕ) → ChangesLinks (changed_link closing expected) (λ k. Some key ≡ Some k) f.connections new → get_or x.keys place None ≡ Some key → (d : Link) → get f.connections key ≡ Some d → IsSenders x.id place d → ClosesSent
+    one-sent : (key : ℕ) → ChangesLinks (changed_link closing number expected) (λ k. Some key ≡ Some k) f.connections new → get_or x.keys place None ≡ Some key → (d : Link) → get f.connections key ≡ Some d → IsSenders x.id place d → ClosesSent
     one-sent key changes has d there own =
         closes-as (Some key) changes (Some d.home.subscriber) (receiver-is ∙ ap (subscriber_of_key f.connections) has ∙ ap (option_map (λ (l : Link). l.home.subscriber)) there) (λ p q.
-        channels-changed closing expected (λ k. Some key ≡ Some k) f.connections new changes sound.parts.apart (apart-still f sound closing expected (λ k. Some key ≡ Some k) new changes) p q (hits p q) (found p q) (missed p q)
+        channels-changed closing number expected (λ k. Some key ≡ Some k) f.connections new changes sound.parts.apart (apart-still f sound closing number expected (λ k. Some key ≡ Some k) new changes) (channel-there f sound closing number expected (λ k. Some key ≡ Some k) new changes below) p q (hits p q) (found p q) (missed p q)
         ∙ same p q (hits p q) refl
         ∙ sym (put-within links x.id d.home.subscriber (closed_if (links x.id d.home.subscriber)) p q))
       where
@@ -125,7 +126,7 @@ module _ {T U : Type 0} (f : Fields T U) (sound : IsDomain f) (i : ℕ) (x : Pub
         same p q false e = refl
 
     -- that is what the machine does
-    pub closed-reaches : (key : Option ℕ) → key ≡ sender_key f.publishers i place → ChangesLinks (changed_link closing expected) (λ k. key ≡ Some k) f.connections new → ClosesSent
+    pub closed-reaches : (key : Option ℕ) → key ≡ sender_key f.publishers i place → ChangesLinks (changed_link closing number expected) (λ k. key ≡ Some k) f.connections new → ClosesSent
     closed-reaches None is changes = none-sent None changes refl (sym key-is ∙ sym is)
     closed-reaches (Some key) is changes =
         let has : get_or x.keys place None ≡ Some key = sym key-is ∙ sym is in
@@ -142,9 +143,9 @@ module _ {T U : Type 0} (f now : Fields T U) (same : f ≡ now) (sound : IsDomai
   connected-from k has = subst (λ (h : Fields T U). ContainsKey h.connections k) (sym same) (end-there now sound i place k (sym key-now ∙ has))
 
   -- what the code does there is what the machine does
-  pub closed-from : (expected : ℕ) (new : Slab Link) → ChangesLinks (changed_link (SetState closed_state) expected) (λ k. key ≡ Some k) f.connections new
-      → (x : PublisherFields) → get_or now.publishers i None ≡ Some x → Reaches now (record f { connections = new }) (sent_closed (state_of (kept_of now)) x.id 0 place expected)
-  closed-from expected new changes x at =
-      subst (λ (h : Fields T U). Reaches now (record h { connections = new }) (sent_closed (state_of (kept_of now)) x.id 0 place expected)) (sym same)
-      (closed-reaches now sound i x at place expected new key key-now
-      (subst (λ (h : Fields T U). ChangesLinks (changed_link (SetState closed_state) expected) (λ k. key ≡ Some k) h.connections new) same changes))
+  pub closed-from : (number : ℕ) → number < channel_count now.config → (expected : ℕ) (new : Slab Link) → ChangesLinks (changed_link (SetState closed_state) number expected) (λ k. key ≡ Some k) f.connections new
+      → (x : PublisherFields) → get_or now.publishers i None ≡ Some x → Reaches now (record f { connections = new }) (sent_closed (state_of (kept_of now)) x.id number place expected)
+  closed-from number below expected new changes x at =
+      subst (λ (h : Fields T U). Reaches now (record h { connections = new }) (sent_closed (state_of (kept_of now)) x.id number place expected)) (sym same)
+      (closed-reaches now sound i x at place number expected new below key key-now
+      (subst (λ (h : Fields T U). ChangesLinks (changed_link (SetState closed_state) number expected) (λ k. key ≡ Some k) h.connections new) same changes))

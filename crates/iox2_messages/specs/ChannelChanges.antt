@@ -1,6 +1,6 @@
 -- What ports make of the channels of their connections.
 use Rattle.std.specs.Prelude.{ℕ}
-use Rattle.iox2_slots.specs.Link.{Link, state_changed, hint_set}
+use Rattle.iox2_slots.specs.Link.{Link, channels_changed, having_channels}
 use Rattle.iox2_store.specs.machine.Channel.{Channel, with_state, with_hint}
 use Rattle.iox2_messages.specs.declared.changed_channels.ChannelChange.{ChannelChange}
 use Rattle.iox2_messages.specs.declared.changed_channels.ChannelChange.TheVariants.{SetState, SetHint}
@@ -10,7 +10,6 @@ abbrev pub changed_channel : ChannelChange → Channel → Channel
 changed_channel (SetState state) channel = with_state state channel
 changed_channel SetHint channel = with_hint channel
 
--- The connection, whose channel is changed so where it is in the state `expected`.
-abbrev pub changed_link : ChannelChange → (expected : ℕ) → Link → Link
-changed_link (SetState state) expected c = state_changed expected state c
-changed_link SetHint expected c = hint_set expected c
+-- The connection, whose channel with that number, where it is in the state `expected`, is changed so.
+abbrev pub changed_link : ChannelChange → (number expected : ℕ) → Link → Link
+changed_link change number expected c = having_channels (channels_changed number expected (changed_channel change) c.channels) c

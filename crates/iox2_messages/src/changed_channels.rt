@@ -1,8 +1,9 @@
 //! How ports change the channels of their connections. No message moves by it, and no memory is
 //! taken.
-ghost use Rattle.std.specs.Prelude.{◌≡◌, ℕ, None, Some, map, slice_index_or};
+ghost use Rattle.std.specs.Prelude.{◌≡◌, ◌<◌, ℕ, None, Some, map, slice_index_or};
 ghost use Rattle.slab.specs.Slab.{ContainsKey};
 ghost use Rattle.iox2_store.specs.machine.ChannelCalls.{received_changed, sent_closed};
+ghost use Rattle.iox2_store.specs.machine.Limits.{channel_count};
 ghost use Rattle.iox2_slots.specs.Link.{IsBounded};
 ghost use Rattle.iox2_ends.specs.Finds.{HasConnections};
 ghost use Rattle.iox2_domain.specs.ChannelChanges.{ChangesLinks};
@@ -29,14 +30,14 @@ pub enum ChannelChange {
     SetHint,
 }
 
-// The channel of a connection is changed, where it is in the state `expected`.
-fn change_channel(connection: &mut Connection, expected: u64, change: ChannelChange)
-    ensures changed { connection.new ≡ changed_link change expected connection.old }
+// A channel of a connection is changed, where it is in the state `expected`.
+fn change_channel(connection: &mut Connection, channel: usize, expected: u64, change: ChannelChange)
+    ensures changed { connection.new ≡ changed_link change channel expected connection.old }
     ensures bounded { IsBounded connection.new }
 {
     match change {
-        ChannelChange::SetState(state) => connection.change_state(expected, state),
-        ChannelChange::SetHint => connection.set_disconnect_hint(expected),
+        ChannelChange::SetState(state) => connection.change_state(channel, expected, state),
+        ChannelChange::SetHint => connection.set_disconnect_hint(channel, expected),
     }
 }
 
@@ -44,14 +45,15 @@ fn change_channel(connection: &mut Connection, expected: u64, change: ChannelCha
 fn change_at(
     connections: &mut Slab<Connection>,
     key: Option<usize>,
+    channel: usize,
     expected: u64,
     change: ChannelChange,
 )
     requires { (k : ℕ) → key ≡ Some k → ContainsKey connections.old k }
-    ensures { ChangesLinks (changed_link change expected) (λ k. key ≡ Some k) connections.old connections.new }
+    ensures { ChangesLinks (changed_link change channel expected) (λ k. key ≡ Some k) connections.old connections.new }
 {
     if let Some(key) = key {
-        change_channel(&mut connections[key], expected, change);
+        change_channel(&mut connections[key], channel, expected, change);
     }
 }
 
@@ -59,14 +61,15 @@ fn change_at(
 fn change_at_places(
     connections: &mut Slab<Connection>,
     keys: &[Option<usize>],
+    channel: usize,
     expected: u64,
     change: ChannelChange,
 )
     requires { HasConnections connections.old keys.now }
-    ensures { ChangesLinks (changed_link change expected) (HasKey keys.now) connections.old connections.new }
+    ensures { ChangesLinks (changed_link change channel expected) (HasKey keys.now) connections.old connections.new }
 {
     for place in 0..keys.len() {
-        change_at(connections, keys[place], expected, change);
+        change_at(connections, keys[place], channel, expected, change);
     }
 }
 
@@ -74,14 +77,15 @@ fn change_at_places(
 fn change_expired(
     connections: &mut Slab<Connection>,
     keys: &[usize],
+    channel: usize,
     expected: u64,
     change: ChannelChange,
 )
     requires { HasConnections connections.old (map Some keys.now) }
-    ensures { ChangesLinks (changed_link change expected) (HasKey (map Some keys.now)) connections.old connections.new }
+    ensures { ChangesLinks (changed_link change channel expected) (HasKey (map Some keys.now)) connections.old connections.new }
 {
     for index in 0..keys.len() {
-        change_at(connections, Some(keys[index]), expected, change);
+        change_at(connections, Some(keys[index]), channel, expected, change);
     }
 }
 
@@ -89,15 +93,16 @@ fn change_expired(
 fn change_known(
     connections: &mut Slab<Connection>,
     subscriber: &SubscriberState,
+    channel: usize,
     expected: u64,
     change: ChannelChange,
 )
     requires places { HasConnections connections.old subscriber.now.keys }
     requires expired { HasConnections connections.old (map Some subscriber.now.expired) }
-    ensures { ChangesLinks (changed_link change expected) (KnowsKey subscriber.now) connections.old connections.new }
+    ensures { ChangesLinks (changed_link change channel expected) (KnowsKey subscriber.now) connections.old connections.new }
 {
-    change_at_places(connections, &subscriber.keys, expected, change);
-    change_expired(connections, &subscriber.expired, expected, change);
+    change_at_places(connections, &subscriber.keys, channel, expected, change);
+    change_expired(connections, &subscriber.expired, channel, expected, change);
 }
 
 // The connections of the subscriber at a place are marked as open where they are, as those are whose
@@ -111,7 +116,7 @@ fn mark_received<T: Drop, U: Default + Drop>(state: &mut DomainState<T, U>, plac
     }
 }
 
-/// Channel 0 of each connection of the subscriber at a place is changed, where it is in the state
+/// A channel of each connection of the subscriber at a place is changed, where it is in the state
 /// `expected`.
 ///
 /// iceoryx2's `Receiver::set_channel_state`, `close_channel` and `set_disconnect_hint`
@@ -119,36 +124,46 @@ fn mark_received<T: Drop, U: Default + Drop>(state: &mut DomainState<T, U>, plac
 pub fn change_received<T: Drop, U: Default + Drop>(
     state: &mut DomainState<T, U>,
     place: usize,
+    channel: usize,
     expected: u64,
     change: ChannelChange,
 )
     requires agrees { IsDomain state.old }
+    requires channel { channel < channel_count (state.old).config }
     requires stands { (y : SubscriberFields) × (slice_index_or state.old.subscribers place None ≡ Some y) }
     ensures { (y : SubscriberFields) → slice_index_or state.old.subscribers place None ≡ Some y
-        → Reaches state.old state.new (received_changed (state_of (kept_of state.old)) y.id 0 expected (changed_channel change)) }
+        → Reaches state.old state.new (received_changed (state_of (kept_of state.old)) y.id channel expected (changed_channel change)) }
 {
     let Some(subscriber) = &state.subscribers[place] else {
         unreachable!()
     };
-    change_known(&mut state.connections, subscriber, expected, change);
+    change_known(
+        &mut state.connections,
+        subscriber,
+        channel,
+        expected,
+        change,
+    );
     mark_received(state, place);
 }
 
-/// Channel 0 of the connection that the publisher at a place has at another, if there is one, is
+/// A channel of the connection that the publisher at a place has at another, if there is one, is
 /// closed, where it is in the state `expected`.
 ///
 /// iceoryx2's `Sender::close_channel` (`src/port/details/sender.rs`).
 pub fn close_sent<T: Drop, U: Default + Drop>(
     state: &mut DomainState<T, U>,
     place: usize,
+    channel: usize,
     connection: usize,
     expected: u64,
 )
     requires agrees { IsDomain state.old }
+    requires channel { channel < channel_count (state.old).config }
     ensures { (x : PublisherFields) → slice_index_or state.old.publishers place None ≡ Some x
-        → Reaches state.old state.new (sent_closed (state_of (kept_of state.old)) x.id 0 connection expected) }
+        → Reaches state.old state.new (sent_closed (state_of (kept_of state.old)) x.id channel connection expected) }
 {
     let key = key_at(&state.publishers, place, connection);
     let change = ChannelChange::SetState(CHANNEL_STATE_CLOSED);
-    change_at(&mut state.connections, key, expected, change);
+    change_at(&mut state.connections, key, channel, expected, change);
 }

@@ -15,35 +15,46 @@ use iox2_domain::{DomainState, key_at};
 use iox2_slots::Connection;
 use slab::Slab;
 
-// Whether a key leads to a connection whose channel is in that state.
-fn is_in_state(connections: &Slab<Connection>, key: Option<usize>, state: u64) -> bool
-    ensures { result ≡ key_in_state connections.now state key }
+// Whether a key leads to a connection whose channel with that number is in that state.
+fn is_in_state(
+    connections: &Slab<Connection>,
+    key: Option<usize>,
+    channel: usize,
+    state: u64,
+) -> bool
+    ensures { result ≡ key_in_state connections.now channel state key }
 {
     let Some(key) = key else {
         return false;
     };
     match connections.get(key) {
-        Some(connection) => connection.channel_state() == state,
+        Some(connection) => connection.channel_state(channel) == state,
         None => false,
     }
 }
 
 // The same, and a disconnect was hinted there.
-fn is_hinted(connections: &Slab<Connection>, key: Option<usize>, state: u64) -> bool
-    ensures { result ≡ key_hinted connections.now state key }
+fn is_hinted(connections: &Slab<Connection>, key: Option<usize>, channel: usize, state: u64) -> bool
+    ensures { result ≡ key_hinted connections.now channel state key }
 {
     let Some(key) = key else {
         return false;
     };
     match connections.get(key) {
-        Some(connection) => connection.channel_state() == state && connection.has_disconnect_hint(),
+        Some(connection) => connection.channel_state(channel) == state
+            && connection.has_disconnect_hint(channel),
         None => false,
     }
 }
 
-// Whether a key leads to no connection whose channel is in another state.
-fn is_in_no_other(connections: &Slab<Connection>, key: Option<usize>, state: u64) -> bool
-    ensures { result ≡ key_in_no_other connections.now state key }
+// Whether a key leads to no connection whose channel with that number is in another state.
+fn is_in_no_other(
+    connections: &Slab<Connection>,
+    key: Option<usize>,
+    channel: usize,
+    state: u64,
+) -> bool
+    ensures { result ≡ key_in_no_other connections.now channel state key }
 {
     let Some(key) = key else {
         return true;
@@ -51,15 +62,20 @@ fn is_in_no_other(connections: &Slab<Connection>, key: Option<usize>, state: u64
     let Some(connection) = connections.get(key) else {
         return true;
     };
-    connection.channel_state() == state
+    connection.channel_state(channel) == state
 }
 
-// Whether one of these keys leads to a connection whose channel is in that state.
-fn some_at_places(connections: &Slab<Connection>, keys: &[Option<usize>], state: u64) -> bool
-    ensures { result ≡ some_in_state connections.now state keys.now }
+// Whether one of these keys leads to a connection whose channel with that number is in that state.
+fn some_at_places(
+    connections: &Slab<Connection>,
+    keys: &[Option<usize>],
+    channel: usize,
+    state: u64,
+) -> bool
+    ensures { result ≡ some_in_state connections.now channel state keys.now }
 {
     for place in 0..keys.len() {
-        if is_in_state(connections, keys[place], state) {
+        if is_in_state(connections, keys[place], channel, state) {
             return true;
         }
     }
@@ -67,23 +83,28 @@ fn some_at_places(connections: &Slab<Connection>, keys: &[Option<usize>], state:
 }
 
 // The same, for keys of which each leads to a connection.
-fn some_expired(connections: &Slab<Connection>, keys: &[usize], state: u64) -> bool
-    ensures { result ≡ some_in_state connections.now state (map Some keys.now) }
+fn some_expired(connections: &Slab<Connection>, keys: &[usize], channel: usize, state: u64) -> bool
+    ensures { result ≡ some_in_state connections.now channel state (map Some keys.now) }
 {
     for index in 0..keys.len() {
-        if is_in_state(connections, Some(keys[index]), state) {
+        if is_in_state(connections, Some(keys[index]), channel, state) {
             return true;
         }
     }
     false
 }
 
-// Whether none of these keys leads to a connection whose channel is in another state.
-fn all_at_places(connections: &Slab<Connection>, keys: &[Option<usize>], state: u64) -> bool
-    ensures { result ≡ all_in_state connections.now state keys.now }
+// Whether none of these keys leads to a connection whose channel with that number is in another state.
+fn all_at_places(
+    connections: &Slab<Connection>,
+    keys: &[Option<usize>],
+    channel: usize,
+    state: u64,
+) -> bool
+    ensures { result ≡ all_in_state connections.now channel state keys.now }
 {
     for place in 0..keys.len() {
-        if !is_in_no_other(connections, keys[place], state) {
+        if !is_in_no_other(connections, keys[place], channel, state) {
             return false;
         }
     }
@@ -91,56 +112,66 @@ fn all_at_places(connections: &Slab<Connection>, keys: &[Option<usize>], state: 
 }
 
 // The same, for keys of which each leads to a connection.
-fn all_expired(connections: &Slab<Connection>, keys: &[usize], state: u64) -> bool
-    ensures { result ≡ all_in_state connections.now state (map Some keys.now) }
+fn all_expired(connections: &Slab<Connection>, keys: &[usize], channel: usize, state: u64) -> bool
+    ensures { result ≡ all_in_state connections.now channel state (map Some keys.now) }
 {
     for index in 0..keys.len() {
-        if !is_in_no_other(connections, Some(keys[index]), state) {
+        if !is_in_no_other(connections, Some(keys[index]), channel, state) {
             return false;
         }
     }
     true
 }
 
-/// Whether channel 0 of some connection of the subscriber at a place is in that state.
+/// Whether a channel of some connection of the subscriber at a place is in that state.
 ///
 /// iceoryx2's `Receiver::at_least_one_channel_has_state` (`src/port/details/receiver.rs`).
 pub fn some_received_in<T: Drop, U: Default + Drop>(
     state: &DomainState<T, U>,
     place: usize,
+    channel: usize,
     channel_state: u64,
 ) -> bool
     requires agrees { IsDomain state.now }
     requires stands { (y : SubscriberFields) × (slice_index_or state.now.subscribers place None ≡ Some y) }
     ensures { (y : SubscriberFields) → slice_index_or state.now.subscribers place None ≡ Some y
-        → result ≡ some_channel_has_state (state_of (kept_of state.now)) y.id 0 channel_state }
+        → result ≡ some_channel_has_state (state_of (kept_of state.now)) y.id channel channel_state }
 {
     let Some(subscriber) = &state.subscribers[place] else {
         unreachable!()
     };
-    some_expired(&state.connections, &subscriber.expired, channel_state)
-        || some_at_places(&state.connections, &subscriber.keys, channel_state)
+    some_expired(
+        &state.connections,
+        &subscriber.expired,
+        channel,
+        channel_state,
+    ) || some_at_places(&state.connections, &subscriber.keys, channel, channel_state)
 }
 
-/// Whether channel 0 of each connection of the subscriber at a place is in that state. So it is where
+/// Whether a channel of each connection of the subscriber at a place is in that state. So it is where
 /// the subscriber has none.
 ///
 /// What iceoryx2's `Receiver::set_channel_state` (`src/port/details/receiver.rs`) returns.
 pub fn all_received_in<T: Drop, U: Default + Drop>(
     state: &DomainState<T, U>,
     place: usize,
+    channel: usize,
     channel_state: u64,
 ) -> bool
     requires agrees { IsDomain state.now }
     requires stands { (y : SubscriberFields) × (slice_index_or state.now.subscribers place None ≡ Some y) }
     ensures { (y : SubscriberFields) → slice_index_or state.now.subscribers place None ≡ Some y
-        → result ≡ list_all (λ p. is_channel_in channel_state ((state_of (kept_of state.now)).channels p y.id 0)) (senders_of (state_of (kept_of state.now)) y.id) }
+        → result ≡ list_all (λ p. is_channel_in channel_state ((state_of (kept_of state.now)).channels p y.id channel)) (senders_of (state_of (kept_of state.now)) y.id) }
 {
     let Some(subscriber) = &state.subscribers[place] else {
         unreachable!()
     };
-    all_expired(&state.connections, &subscriber.expired, channel_state)
-        && all_at_places(&state.connections, &subscriber.keys, channel_state)
+    all_expired(
+        &state.connections,
+        &subscriber.expired,
+        channel,
+        channel_state,
+    ) && all_at_places(&state.connections, &subscriber.keys, channel, channel_state)
 }
 
 // Whether a key leads to a connection with that subscriber.
@@ -191,21 +222,22 @@ pub fn place_of_receiver<T: Drop, U: Default + Drop>(
     place_in(&state.connections, &publisher.keys, subscriber)
 }
 
-/// Whether the publisher at a place has a connection at another, whose channel 0 is in that state.
+/// Whether the publisher at a place has a connection at another, at which a channel is in that state.
 ///
 /// iceoryx2's `Sender::has_channel_state` (`src/port/details/sender.rs`).
 pub fn is_sent_in<T: Drop, U: Default + Drop>(
     state: &DomainState<T, U>,
     place: usize,
+    channel: usize,
     connection: usize,
     channel_state: u64,
 ) -> bool
     requires agrees { IsDomain state.now }
     ensures { (x : PublisherFields) → slice_index_or state.now.publishers place None ≡ Some x
-        → result ≡ has_channel_state (state_of (kept_of state.now)) x.id 0 connection channel_state }
+        → result ≡ has_channel_state (state_of (kept_of state.now)) x.id channel connection channel_state }
 {
     let key = key_at(&state.publishers, place, connection);
-    is_in_state(&state.connections, key, channel_state)
+    is_in_state(&state.connections, key, channel, channel_state)
 }
 
 /// The same, and a disconnect was hinted there.
@@ -214,13 +246,14 @@ pub fn is_sent_in<T: Drop, U: Default + Drop>(
 pub fn is_sent_hinted<T: Drop, U: Default + Drop>(
     state: &DomainState<T, U>,
     place: usize,
+    channel: usize,
     connection: usize,
     channel_state: u64,
 ) -> bool
     requires agrees { IsDomain state.now }
     ensures { (x : PublisherFields) → slice_index_or state.now.publishers place None ≡ Some x
-        → result ≡ has_disconnect_hint (state_of (kept_of state.now)) x.id 0 connection channel_state }
+        → result ≡ has_disconnect_hint (state_of (kept_of state.now)) x.id channel connection channel_state }
 {
     let key = key_at(&state.publishers, place, connection);
-    is_hinted(&state.connections, key, channel_state)
+    is_hinted(&state.connections, key, channel, channel_state)
 }

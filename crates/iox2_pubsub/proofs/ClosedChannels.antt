@@ -34,6 +34,13 @@ changed-takes number expected change none channels k takes = by (is_in_state exp
   by true e = at_each channels number (change (channels number)) (λ i c. is_closed (channels i) ≡ false → is_closed c ≡ false) k (λ here t. none (channels number) e t) (λ apart t. t) takes
   by false e = takes
 
+-- a change of another channel leaves channel 0
+further-changed : (number expected : ℕ) (change : Channel → Channel) → number ≢ 0 → (channels : ℕ → Channel) → changed_if number expected change channels 0 ≡ channels 0
+further-changed number expected change away channels = by (is_in_state expected (channels number)) where
+  by : (b : Bool) → cond b (put_at channels number (change (channels number))) channels 0 ≡ channels 0
+  by true = put_at-other channels number (change (channels number)) 0 (ne_eqb 0 number (λ same. away (sym same)))
+  by false = refl
+
 -- ---- a subscriber's connections
 
 module _ {T U : Type 0} (s : State T U) (q number expected : ℕ) (change : Channel → Channel) where
@@ -46,6 +53,15 @@ module _ {T U : Type 0} (s : State T U) (q number expected : ℕ) (change : Chan
       by : (b : Bool) → is_closed (s.channels p q 0) ≡ false → is_closed (cond b (changed_if number expected change (s.channels p q)) (s.channels p q) 0) ≡ false
       by true t = changed-takes number expected change none (s.channels p q) 0 t
       by false t = t
+
+  -- a change of another channel leaves channel 0 of each connection
+  pub received-further : number ≢ 0 → (p j : ℕ) → (received_changed s q number expected change).channels p j 0 ≡ s.channels p j 0
+  received-further away p j =
+      at_each (s.channels p) q _ (λ i (channels : ℕ → Channel). channels 0 ≡ s.channels p i 0) j (λ here. by (contains (senders_of s q) p)) (λ apart. refl)
+    where
+      by : (b : Bool) → cond b (changed_if number expected change (s.channels p q)) (s.channels p q) 0 ≡ s.channels p q 0
+      by true = further-changed number expected change away (s.channels p q)
+      by false = refl
 
   -- other subscribers' channels stay
   pub received-others : (p j : ℕ) → j ≢ q → (received_changed s q number expected change).channels p j ≡ s.channels p j
@@ -100,3 +116,16 @@ module _ {T U : Type 0} (s : State T U) where
           ∙ ap (λ k. s.channels k j) (sym here)
       | inr away ↦ ap (λ (row : ℕ → ℕ → Channel). row j) (put_at-other s.channels p (put_at (s.channels p) q (changed q)) i (ne_eqb i p away))
     ]
+
+  -- a close of another channel leaves channel 0 of each connection
+  pub sent-further : (p number place expected : ℕ) → number ≢ 0 → (i j : ℕ) → (sent_closed s p number place expected).channels i j 0 ≡ s.channels i j 0
+  sent-further p number place expected away i j = by (receiver_at s p place) where
+    changed : ℕ → ℕ → Channel
+    changed q = changed_if number expected (with_state closed_state) (s.channels p q)
+
+    by : (o : Option ℕ) → (option_map_or (λ q. with_channels s p q (changed q)) o s).channels i j 0 ≡ s.channels i j 0
+    by None = refl
+    by (Some q) =
+        at_each s.channels p _ (λ k (row : ℕ → ℕ → Channel). row j 0 ≡ s.channels k j 0) i
+        (λ here. at_each (s.channels p) q _ (λ k (channels : ℕ → Channel). channels 0 ≡ s.channels p k 0) j (λ there. further-changed number expected (with_state closed_state) away (s.channels p q)) (λ apart. refl))
+        (λ apart. refl)

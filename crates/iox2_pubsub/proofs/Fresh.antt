@@ -71,6 +71,7 @@ module _ {T U : Type 0} (config : ServiceConfig) (v c v' c' : ℕ) where
     sender_rooms = λ key i d x at _ _. absurd (nothing_at key d at);
     receiver_rooms = λ key i d y at _ _. absurd (nothing_at key d at);
     limits = λ key d at. absurd (nothing_at key d at);
+    channel_counts = λ key d at. absurd (nothing_at key d at);
     returned = λ key d at. absurd (nothing_at key d at);
     marked = λ key d at is. absurd (nothing_at key d at);
   }

@@ -5,7 +5,7 @@ use Rattle.std.specs.declared.option.Option.{Option}
 use Rattle.std.specs.declared.option.Option.TheVariants.{None, Some}
 use Rattle.std.specs.Prelude.{IsSomeAnd, false}
 use Rattle.iox2_contents.specs.SlotContents.{ContentState}
-use Rattle.iox2_store.specs.machine.Limits.{buffer_limit, worst_case, last_number}
+use Rattle.iox2_store.specs.machine.Limits.{buffer_limit, channel_count, worst_case, last_number}
 use Rattle.iox2_store.specs.machine.Loans.{GrantLoan, is_static}
 use Rattle.iox2_store.specs.machine.LoansLeft.{CanLend, LendsValues}
 use Rattle.iox2_store.specs.machine.Records.{Publisher}
@@ -91,7 +91,7 @@ module _ {T U : Type 0} where
         let same : (publisher_of f.books f.connections x).port ≡ sure.port = same_Some _ _ (sym (publisher-stands f sound.parts i x at) ∙ stands) in
         let slots : x.slots ≡ (sure.port).slots = ap (λ (y : Publisher). y.slots) same in
         let some : 0 < (sure.port).slots =
-        some_slot ((f.config).max_subscribers * (buffer_limit f.config + (f.config).subscriber_max_borrowed_samples) + (f.config).history_size)
+        some_slot ((f.config).max_subscribers * channel_count f.config * (buffer_limit f.config + (f.config).subscriber_max_borrowed_samples) + (f.config).history_size)
         (length (sure.port).loans) (sure.port).max_loaned_samples (sure.port).slots sure.slots sure.few in
         let user_header : U = some_header (omega (arith, some, slots)) in
         let fits : checks ≡ true → len ≤ (sure.port).initial_max_slice_len = λ is. subst (λ (longest : ℕ). len ≤ longest) (sym sure.longest) (short is) in

@@ -84,6 +84,10 @@ fn there_is_no_list_that_fills_nothing(rt: HostRuntime) {
         units_per_element: 2,
         ..smallest()
     };
+    let of_two_channels = ServiceConfig {
+        number_of_channels: 2,
+        ..smallest()
+    };
     let of_too_many_slots = ServiceConfig {
         history_size: usize::MAX,
         ..smallest()
@@ -101,6 +105,7 @@ fn there_is_no_list_that_fills_nothing(rt: HostRuntime) {
         without_publishers,
         without_subscribers,
         of_two_units,
+        of_two_channels,
         of_too_many_slots,
         too_long,
         too_large,

@@ -5,6 +5,8 @@
 #[cfg(test)]
 mod allocations;
 #[cfg(test)]
+mod channels;
+#[cfg(test)]
 mod custom_payloads;
 #[cfg(test)]
 mod drops;

@@ -1,3 +1,4 @@
+pub mod ChannelLists
 pub mod EachOnce
 pub mod FreeSlots
 pub mod LaterSlots

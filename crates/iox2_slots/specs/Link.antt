@@ -1,9 +1,9 @@
 -- What a contract sees of a connection: the slots between one publisher and one subscriber.
-use Rattle.std.specs.Prelude.{◌≡◌, ℕ, ◌+◌, ◌<◌, ◌≤◌, ◌^◌, Bool, true, false, not, ◌&&◌, List, [], ◌∷◌, ◌++◌, length, cond, ◌==◌, nat_lt}
+use Rattle.std.specs.Prelude.{◌≡◌, ℕ, ◌+◌, ◌<◌, ◌≤◌, ◌^◌, Bool, true, false, not, ◌&&◌, List, [], ◌∷◌, ◌++◌, length, cond, nat_lt, replicate, slice_index_or, slice_set}
 use Rattle.std.specs.declared.option.Option.{Option}
 use Rattle.std.specs.declared.option.Option.TheVariants.{None, Some}
 use Rattle.iox2_store.specs.machine.Numbers.{is_nil, without}
-use Rattle.iox2_store.specs.machine.Channel.{Channel, new_channel, closed_state, is_in_state, is_closed, with_state, with_hint}
+use Rattle.iox2_store.specs.machine.Channel.{Channel, new_channel, is_in_state, is_closed, with_state, with_hint}
 use Rattle.iox2_slots.specs.declared.connection.Home.{Home}
 use Rattle.iox2_slots.specs.declared.connection.PutOutcome.{PutOutcome}
 use Rattle.iox2_slots.specs.declared.connection.PutOutcome.TheVariants.{Taken, Overwrote, Full}
@@ -14,14 +14,14 @@ pub record Link : Type 0 where
   pub buffer : ℕ  -- how many slots may wait
   pub limit : ℕ  -- how many slots may be borrowed
   pub is_open : Bool  -- whether it is marked as open
-  pub channel : Channel  -- its state and its hint
+  pub channels : List Channel  -- the state and the hint of each, by number
   pub waiting : List ℕ  -- delivered and not yet received, oldest first
   pub borrowed : List ℕ  -- received and not yet released, in the order of receipt
   pub returned : List ℕ  -- released and not yet reclaimed, oldest first
 
--- A new connection: no slot stands in it, its channel is open, and it isn't marked as open.
-abbrev pub empty_link : Home → (buffer limit : ℕ) → Link
-empty_link home buffer limit = record { home = home; buffer = buffer; limit = limit; is_open = false; channel = new_channel; waiting = []; borrowed = []; returned = [] }
+-- A new connection with so many channels: no slot stands in it, its channels are open, and it isn't marked as open.
+abbrev pub empty_link : Home → (buffer limit count : ℕ) → Link
+empty_link home buffer limit count = record { home = home; buffer = buffer; limit = limit; is_open = false; channels = replicate count new_channel; waiting = []; borrowed = []; returned = [] }
 
 -- ---- reading
 
@@ -45,9 +45,13 @@ has_returned_slots c = not (is_nil c.returned)
 abbrev pub can_borrow : Link → Bool
 can_borrow c = has_slots c && nat_lt (length c.borrowed) c.limit
 
--- The channel is closed: it takes no slot.
+-- The channel with that number, or a new one where there is none.
+abbrev pub channel_at : List Channel → (number : ℕ) → Channel
+channel_at channels number = slice_index_or channels number new_channel
+
+-- Channel 0, to which messages go, is closed: it takes no slot.
 abbrev pub is_shut : Link → Bool
-is_shut c = is_closed c.channel
+is_shut c = is_closed (channel_at c.channels 0)
 
 -- ---- changing
 
@@ -89,26 +93,34 @@ IsReclaimed old None new = (old.returned ≡ []) × (new ≡ old)
 IsReclaimed old (Some slot) new =
     (rest : List ℕ) × (old.returned ≡ slot ∷ rest) × (new ≡ record old { returned = rest })
 
--- The connection is marked as open, where its channel isn't closed, or as open no more.
+-- The connection is marked as open, where its channel 0 isn't closed, or as open no more.
 abbrev pub with_mark : (is_open : Bool) → Link → Link
 with_mark is_open c = record c { is_open = is_open && not (is_shut c) }
 
--- The channel comes into this state. One that closes isn't marked as open any more.
-abbrev pub with_channel_state : (state : ℕ) → Link → Link
-with_channel_state state c = record c { is_open = c.is_open && not (state == closed_state); channel = with_state state c.channel }
+-- A channel, where it is in the state `expected`, is changed so.
+abbrev pub changed_in : (expected : ℕ) → (Channel → Channel) → Channel → Channel
+changed_in expected change channel = cond (is_in_state expected channel) (change channel) channel
 
--- The channel, where it is in the state `expected`, comes into this one.
-abbrev pub state_changed : (expected state : ℕ) → Link → Link
-state_changed expected state c = cond (is_in_state expected c.channel) (with_channel_state state c) c
+-- The channel with that number, where it is there and in the state `expected`, is changed so.
+abbrev pub channels_changed : (number expected : ℕ) → (Channel → Channel) → List Channel → List Channel
+channels_changed number expected change channels = slice_set channels number (changed_in expected change (channel_at channels number))
 
--- The channel, where it is in the state `expected`, has a hint.
-abbrev pub hint_set : (expected : ℕ) → Link → Link
-hint_set expected c = cond (is_in_state expected c.channel) (record c { channel = with_hint c.channel }) c
+-- The connection has these channels. Where channel 0 is closed it isn't marked as open any more.
+abbrev pub having_channels : List Channel → Link → Link
+having_channels channels c = record c { is_open = c.is_open && not (is_closed (channel_at channels 0)); channels = channels }
+
+-- The channel with that number, where it is in the state `expected`, comes into this one.
+abbrev pub state_changed : (number expected state : ℕ) → Link → Link
+state_changed number expected state c = having_channels (channels_changed number expected (with_state state) c.channels) c
+
+-- The channel with that number, where it is in the state `expected`, has a hint.
+abbrev pub hint_set : (number expected : ℕ) → Link → Link
+hint_set number expected c = having_channels (channels_changed number expected with_hint c.channels) c
 
 -- ---- bounds
 
 -- Waiting and borrowed slots are within their limits, and all slots together within the two: what is given back takes no more than what was borrowed left.
--- A connection whose channel is closed isn't marked as open.
+-- A connection whose channel 0 is closed isn't marked as open.
 pub record IsBounded (c : Link) : Type 0 where
   pub some_room : 0 < c.buffer
   pub waiting : length c.waiting ≤ c.buffer

@@ -1,5 +1,5 @@
 -- What the fields of a connection keep.
-use Rattle.std.specs.Prelude.{◌≡◌, ◌+◌}
+use Rattle.std.specs.Prelude.{◌≡◌, ◌+◌, ◌∷◌}
 use Rattle.std.specs.Vec.{vec_capacity}
 use Rattle.iox2_slots.specs.Link.{Link, IsBounded}
 use Rattle.iox2_slots.specs.declared.connection.Connection.TheInside.{Inside}
@@ -17,7 +17,7 @@ link_of a = record {
   buffer = a.waiting.capacity;
   limit = vec_capacity a.borrowed;
   is_open = a.is_open;
-  channel = record { state = a.state; has_hint = a.has_hint };
+  channels = a.status ∷ a.further.items;
   waiting = a.waiting.items;
   borrowed = a.borrowed.items;
   returned = a.returned.items;

@@ -1,8 +1,9 @@
 //! What lies between one publisher and one subscriber: numbers of the publisher's slots.
 ghost use Rattle.std.specs.Prelude.{◌≡◌, ◌+◌, ◌<◌, ◌↔◌, length, Contains, IfOk, IsTrue};
-ghost use Rattle.iox2_slots.specs.Link.{load, empty_link, has_slots, has_borrowed_slots, has_returned_slots, can_borrow, is_shut, with_mark, state_changed, hint_set, with_returned, without_borrowed, IsBounded};
+ghost use Rattle.iox2_slots.specs.Link.{load, empty_link, channel_at, has_slots, has_borrowed_slots, has_returned_slots, can_borrow, is_shut, with_mark, state_changed, hint_set, with_returned, without_borrowed, IsBounded};
 ghost use Rattle.iox2_store.specs.machine.Numbers.{IsOnce};
 
+use crate::channel_status::ChannelStatus;
 use crate::place::take_slot;
 use circular_buffer::HeapCircularBuffer;
 use std::alloc::{AllocError, Global};
@@ -24,16 +25,6 @@ pub struct Home {
     pub book: usize,
 }
 
-/// The state of a new channel.
-///
-/// iceoryx2's constant of this name, of `zero_copy_connection`.
-pub const CHANNEL_STATE_OPEN: u64 = 0;
-
-/// The state of a channel that takes no messages.
-///
-/// iceoryx2's constant of this name, of `zero_copy_connection`.
-pub const CHANNEL_STATE_CLOSED: u64 = u64::MAX;
-
 /// What `Connection::put` came to.
 #[derive(Debug, Clone, Copy, PartialEq, Eq)]
 pub enum PutOutcome {
@@ -54,18 +45,19 @@ pub enum PutOutcome {
 #[derive(Drop)]
 pub struct Connection {
     waiting: HeapCircularBuffer<usize>,
-    // Its capacity is how many may be borrowed (docs/decisions/cost.md, "A connection takes 160 bytes").
+    // Its capacity is how many may be borrowed (docs/decisions/cost.md, "A connection takes 192 bytes").
     borrowed: Vec<usize>,
     returned: HeapCircularBuffer<usize>,
-    // Of the channel.
-    state: u64,
+    // Of the channels behind channel 0, by number.
+    further: Vec<ChannelStatus>,
+    // Of channel 0.
+    status: ChannelStatus,
     // The fields of its `Home`, one by one: the mark behind them then needs no room of its own.
     publisher: u128,
     subscriber: u128,
     publisher_place: usize,
     subscriber_place: usize,
     book: usize,
-    has_hint: bool,
     is_open: bool,
 }
 
@@ -84,8 +76,8 @@ impl Model for Connection {
 impl Connection {
     ghost use Rattle.iox2_slots.specs.Link.{IsPut, IsTaken, IsDropped, IsReclaimed};
 
-    /// A connection in which no slot stands, whose channel is open, and which isn't marked as open.
-    /// At most `buffer` slots wait there and at most `limit` are borrowed.
+    /// A connection with so many channels, all of them open, in which no slot stands and which isn't
+    /// marked as open. At most `buffer` slots wait there and at most `limit` are borrowed.
     ///
     /// Returns `AllocError` where memory is refused, and where `buffer + limit + 1`, the room for
     /// slots that are given back, isn't a `usize`.
@@ -94,9 +86,11 @@ impl Connection {
         home: Home,
         buffer: usize,
         limit: usize,
+        channels: usize,
     ) -> Result<Connection, AllocError>
-        requires { 0 < buffer }
-        ensures { IfOk result (λ c. c ≡ empty_link home buffer limit) }
+        requires room { 0 < buffer }
+        requires channel { 0 < channels }
+        ensures { IfOk result (λ c. c ≡ empty_link home buffer limit channels) }
     {
         let Some(room) = buffer.checked_add(limit).and_then(|sum| sum.checked_add(1)) else {
             return Err(AllocError);
@@ -104,17 +98,19 @@ impl Connection {
         let waiting = HeapCircularBuffer::with_capacity(alloc, buffer)?;
         let borrowed = Vec::with_capacity(alloc, limit)?;
         let returned = HeapCircularBuffer::with_capacity(alloc, room)?;
+        let status = ChannelStatus::new();
+        let further = vec![in alloc; status; channels - 1]?;
         Ok(Connection {
             waiting,
             borrowed,
             returned,
-            state: CHANNEL_STATE_OPEN,
+            further,
+            status,
             publisher: home.publisher,
             subscriber: home.subscriber,
             publisher_place: home.publisher_place,
             subscriber_place: home.subscriber_place,
             book: home.book,
-            has_hint: false,
             is_open: false,
         })
     }
@@ -141,55 +137,72 @@ impl Connection {
         self.is_open
     }
 
-    /// Marks the connection as open, where its channel isn't closed, or as open no more.
+    /// Marks the connection as open, where its channel 0 isn't closed, or as open no more.
     pub fn set_open(&mut self, is_open: bool)
         ensures marked { self.new ≡ with_mark is_open self.old }
         ensures bounded { IsBounded self.new }
     {
-        self.is_open = is_open && self.state != CHANNEL_STATE_CLOSED;
+        self.is_open = is_open && !self.status.is_closed();
     }
 
-    /// The state of the channel.
-    pub fn channel_state(&self) -> u64
-        ensures { result ≡ self.now.channel.state }
+    // How the channel stands, or a new one where there is none with that number.
+    fn status_of(&self, channel: usize) -> ChannelStatus
+        ensures { result ≡ channel_at self.now.channels channel }
     {
-        self.state
-    }
-
-    /// Whether the channel is closed, and so takes no slots.
-    pub fn is_closed(&self) -> bool
-        ensures { result ≡ is_shut self.now }
-    {
-        self.state == CHANNEL_STATE_CLOSED
-    }
-
-    /// Whether a disconnect was hinted since the channel came into its state.
-    pub fn has_disconnect_hint(&self) -> bool
-        ensures { result ≡ self.now.channel.has_hint }
-    {
-        self.has_hint
-    }
-
-    /// Brings the channel from the state `expected` into another, which takes its hint away. In any
-    /// other state nothing changes. A channel that closes isn't marked as open any more.
-    pub fn change_state(&mut self, expected: u64, state: u64)
-        ensures changed { self.new ≡ state_changed expected state self.old }
-        ensures bounded { IsBounded self.new }
-    {
-        if self.state == expected {
-            self.has_hint = self.has_hint && state == expected;
-            self.is_open = self.is_open && state != CHANNEL_STATE_CLOSED;
-            self.state = state;
+        if channel == 0 {
+            return self.status;
+        }
+        match self.further.get(channel - 1) {
+            Some(status) => *status,
+            None => ChannelStatus::new(),
         }
     }
 
-    /// Hints a disconnect, where the channel is in the state `expected`.
-    pub fn set_disconnect_hint(&mut self, expected: u64)
-        ensures hinted { self.new ≡ hint_set expected self.old }
+    /// The state of a channel. One that isn't there counts as new.
+    pub fn channel_state(&self, channel: usize) -> u64
+        ensures { result ≡ (channel_at self.now.channels channel).state }
+    {
+        self.status_of(channel).state()
+    }
+
+    /// Whether channel 0, to which messages go, is closed, and so takes no slots.
+    pub fn is_closed(&self) -> bool
+        ensures { result ≡ is_shut self.now }
+    {
+        self.status.is_closed()
+    }
+
+    /// Whether a disconnect was hinted since the channel came into its state.
+    pub fn has_disconnect_hint(&self, channel: usize) -> bool
+        ensures { result ≡ (channel_at self.now.channels channel).has_hint }
+    {
+        self.status_of(channel).has_hint()
+    }
+
+    /// Brings a channel from the state `expected` into another, which takes its hint away. In any
+    /// other state nothing changes, nor where there is no such channel. Where channel 0 closes, the
+    /// connection isn't marked as open any more.
+    pub fn change_state(&mut self, channel: usize, expected: u64, state: u64)
+        ensures changed { self.new ≡ state_changed channel expected state self.old }
         ensures bounded { IsBounded self.new }
     {
-        if self.state == expected {
-            self.has_hint = true;
+        if channel == 0 {
+            self.status.change_state(expected, state);
+            self.is_open = self.is_open && !self.status.is_closed();
+        } else if channel - 1 < self.further.len() {
+            self.further[channel - 1].change_state(expected, state);
+        }
+    }
+
+    /// Hints a disconnect, where there is such a channel and it is in the state `expected`.
+    pub fn set_disconnect_hint(&mut self, channel: usize, expected: u64)
+        ensures hinted { self.new ≡ hint_set channel expected self.old }
+        ensures bounded { IsBounded self.new }
+    {
+        if channel == 0 {
+            self.status.set_hint(expected);
+        } else if channel - 1 < self.further.len() {
+            self.further[channel - 1].set_hint(expected);
         }
     }
 

@@ -1,10 +1,12 @@
 //! The book of a publisher's slots, and the connections of ports.
 #![tactic(auto)]
 
+mod channel_status;
 mod connection;
 mod place;
 mod slots;
 
-pub use connection::{CHANNEL_STATE_CLOSED, CHANNEL_STATE_OPEN, Connection, Home, PutOutcome};
+pub use channel_status::{CHANNEL_STATE_CLOSED, CHANNEL_STATE_OPEN};
+pub use connection::{Connection, Home, PutOutcome};
 pub use place::take_slot;
 pub use slots::{SlotBook, SlotMark};

@@ -52,6 +52,9 @@ pub struct ServiceConfig {
     pub subscriber_max_borrowed_samples: usize,
     /// How many of its last messages a publisher keeps for subscribers that connect later.
     pub history_size: usize,
+    /// How many channels each connection has, numbered from 0. Here 0 counts as 1. Each has a state and
+    /// a hint of its own. So far messages go through channel 0 alone.
+    pub number_of_channels: usize,
     /// Whether a message that finds a full buffer pushes the oldest waiting one out. If not, the
     /// publisher's handler or strategy decides.
     pub enable_safe_overflow: bool,
@@ -69,8 +72,8 @@ pub struct ServiceConfig {
 impl ServiceConfig {
     /// The defaults of a service with this id: single values, of node 0; up to 2 publishers with 2
     /// loans each, and up to 8 subscribers with a buffer of 2, 2 borrowed samples and room for 128
-    /// departed publishers; no history; overflow. Where there is none a publisher retries until its
-    /// message is delivered. Its memory is static, and cells are handed out.
+    /// departed publishers; no history; one channel; overflow. Where there is none a publisher retries
+    /// until its message is delivered. Its memory is static, and cells are handed out.
     ///
     /// They follow iceoryx2's configuration where nothing else is set; `docs/DECISIONS.md` says which
     /// of them were read there.
@@ -88,6 +91,7 @@ impl ServiceConfig {
             subscriber_max_buffer_size: 2,
             subscriber_max_borrowed_samples: 2,
             history_size: 0,
+            number_of_channels: 1,
             enable_safe_overflow: true,
             subscriber_expired_connection_buffer: 128,
             publisher_max_loaned_samples: 2,

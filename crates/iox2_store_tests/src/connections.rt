@@ -1,7 +1,7 @@
 ghost use Rattle.std.specs.Prelude.{◌≡◌};
 ghost use Rattle.iox2_slots.specs.Link.{empty_link};
 
-use iox2_slots::{Connection, Home, PutOutcome};
+use iox2_slots::{CHANNEL_STATE_CLOSED, CHANNEL_STATE_OPEN, Connection, Home, PutOutcome};
 use std::alloc::Global;
 use std::process::Abort;
 
@@ -15,9 +15,9 @@ const HOME: Home = Home {
 
 // A connection in which two slots may wait and one may be borrowed.
 pub(super) fn connection(rt: &impl Abort, alloc: Global) -> Connection
-    ensures { result ≡ empty_link result.home 2 1 }
+    ensures { result ≡ empty_link result.home 2 1 1 }
 {
-    Connection::new(alloc, HOME, 2, 1).expect(rt, "a connection")
+    Connection::new(alloc, HOME, 2, 1, 1).expect(rt, "a connection")
 }
 
 #[test]
@@ -121,6 +121,35 @@ fn a_full_connection_overwrites_or_refuses(rt: HostRuntime) {
 #[test]
 fn too_much_room_is_refused(rt: HostRuntime) {
     for (buffer, limit) in [(usize::MAX, 1), (1, usize::MAX - 1)] {
-        assert!(rt; Connection::new(rt.alloc(), HOME, buffer, limit).is_err());
+        assert!(rt; Connection::new(rt.alloc(), HOME, buffer, limit, 1).is_err());
     }
+}
+
+#[test]
+fn each_channel_has_a_state_of_its_own(rt: HostRuntime) {
+    let mut connection = Connection::new(rt.alloc(), HOME, 2, 1, 3).expect(&rt, "a connection");
+    connection.set_open(true);
+    connection.change_state(2, 5, 6);
+    connection.change_state(2, CHANNEL_STATE_OPEN, CHANNEL_STATE_CLOSED);
+    connection.set_disconnect_hint(1, CHANNEL_STATE_OPEN);
+    connection.set_disconnect_hint(3, CHANNEL_STATE_OPEN);
+    let states = [
+        connection.channel_state(0),
+        connection.channel_state(1),
+        connection.channel_state(2),
+        connection.channel_state(3),
+    ];
+    let hints = [
+        connection.has_disconnect_hint(0),
+        connection.has_disconnect_hint(1),
+        connection.has_disconnect_hint(2),
+        connection.has_disconnect_hint(3),
+    ];
+    let marked = connection.is_open() && !connection.is_closed();
+    connection.change_state(0, CHANNEL_STATE_OPEN, CHANNEL_STATE_CLOSED);
+    let unmarked = !connection.is_open() && connection.is_closed();
+    drop(connection);
+    assert!(rt; states == [0, 0, u64::MAX, 0]);
+    assert!(rt; hints == [false, true, false, false]);
+    assert!(rt; marked && unmarked);
 }

@@ -13,6 +13,7 @@ fn settings_start_with_the_defaults(rt: HostRuntime) {
         subscriber_max_buffer_size: 2,
         subscriber_max_borrowed_samples: 2,
         history_size: 0,
+        number_of_channels: 1,
         enable_safe_overflow: true,
         subscriber_expired_connection_buffer: 128,
         publisher_max_loaned_samples: 2,
@@ -24,7 +25,7 @@ fn settings_start_with_the_defaults(rt: HostRuntime) {
 }
 
 // The defaults with one field changed, of which there are so many.
-const FIELDS: usize = 15;
+const FIELDS: usize = 16;
 
 fn changed_at(field: usize) -> ServiceConfig {
     let mut settings = ServiceConfig::new(7);
@@ -44,6 +45,7 @@ fn changed_at(field: usize) -> ServiceConfig {
         12 => settings.backpressure_strategy = BackpressureStrategy::DiscardData,
         13 => settings.publisher_allocation_strategy = AllocationStrategy::BestFit,
         14 => settings.lists_cells = false,
+        15 => settings.number_of_channels = 2,
         _ => {}
     }
     settings

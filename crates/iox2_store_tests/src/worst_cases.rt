@@ -26,6 +26,28 @@ fn slots_are_counted_for_subscribers_history_and_loans(rt: HostRuntime) {
     assert!(rt; worst_case_slots(&limits(0, 0, 0, 0), 0) == Some(0));
 }
 
+// The same, with so many channels in a connection.
+fn with_channels(config: ServiceConfig, channels: usize) -> ServiceConfig {
+    ServiceConfig {
+        number_of_channels: channels,
+        ..config
+    }
+}
+
+#[test]
+fn slots_are_counted_for_each_channel(rt: HostRuntime) {
+    let one = limits(2, 3, 2, 1);
+    assert!(rt; worst_case_slots(&with_channels(one, 0), 2) == Some(13));
+    assert!(rt; worst_case_slots(&with_channels(one, 1), 2) == Some(13));
+    assert!(rt; worst_case_slots(&with_channels(one, 2), 2) == Some(23));
+    assert!(rt; worst_case_slots(&with_channels(one, 3), 2) == Some(33));
+    let most = usize::MAX;
+    assert!(rt; worst_case_slots(&with_channels(one, most), 2) == None);
+    assert!(rt; worst_case_slots(&with_channels(limits(0, most, most, 5), most), 2) == Some(7));
+    assert!(rt; worst_case_slots(&with_channels(limits(1, 0, 0, 0), most), 0) == Some(most));
+    assert!(rt; worst_case_slots(&with_channels(limits(1, 0, 0, 0), most), 1) == None);
+}
+
 #[test]
 fn only_the_whole_sum_has_to_fit(rt: HostRuntime) {
     let most = usize::MAX;

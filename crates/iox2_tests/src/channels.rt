@@ -1,5 +1,7 @@
 //! What ports are told of the channels of their connections, and how they change them.
 
+ghost use Rattle.std.specs.Prelude.{◌<◌};
+ghost use Rattle.iox2_store.specs.machine.Limits.{channel_count};
 ghost use Rattle.iox2_pubsub.specs.Live.{IsLivePublisher};
 
 use crate::fixtures::{
@@ -155,6 +157,7 @@ fn a_closed_channel_takes_no_message(rt: HostRuntime) {
         subscriber_max_buffer_size: 1,
         subscriber_max_borrowed_samples: 1,
         history_size: 0,
+        number_of_channels: 2,
         publisher_max_loaned_samples: 2,
         ..settings()
     };
@@ -173,6 +176,9 @@ fn a_closed_channel_takes_no_message(rt: HostRuntime) {
     ];
     assert_live(&rt, &domain, &subscriber);
     let updated = subscriber.update_connections(&mut domain).is_ok();
+    assert_live(&rt, &domain, &subscriber);
+    assert_has_channel(&rt, &domain, 1);
+    let further = subscriber.at_least_one_channel_has_state(&domain, 1, 0);
     close(&rt, &mut domain, &subscriber, 5);
     let is_open = is_any(&rt, &domain, &subscriber, 0);
     close(&rt, &mut domain, &subscriber, 0);
@@ -197,7 +203,7 @@ fn a_closed_channel_takes_no_message(rt: HostRuntime) {
     drop(domain);
     assert!(rt; places == [Some(0), None]);
     assert!(rt; unconnected == [true, false]);
-    assert!(rt; updated && is_open);
+    assert!(rt; updated && further && is_open);
     assert!(rt; closed == [true, false]);
     assert!(rt; [passed, taken] == [0, 1]);
     assert!(rt; [was_closed, was_open] == [true, false]);
@@ -206,6 +212,96 @@ fn a_closed_channel_takes_no_message(rt: HostRuntime) {
     assert!(rt; closed_again == [true, false]);
     assert!(rt; [nothing, second] == [None, Some(2)]);
     assert!(rt; !more);
+}
+
+// Asserts that the connections of the domain have the channel.
+fn assert_has_channel(rt: &impl Abort, domain: &Domain<Reading, Station>, channel: usize)
+    ensures { channel < channel_count domain.now.config }
+{
+    assert!(rt; channel < domain.config().number_of_channels.max(1));
+}
+
+// The number of each of three channels that is in the state at the publisher's first connection.
+fn all_first(
+    rt: &impl Abort,
+    domain: &Domain<Reading, Station>,
+    publisher: &Publisher,
+    state: u64,
+) -> [bool; 3] {
+    assert_ready(rt, domain, publisher);
+    assert_has_channel(rt, domain, 2);
+    [
+        publisher.has_channel_state(domain, 0, 0, state),
+        publisher.has_channel_state(domain, 1, 0, state),
+        publisher.has_channel_state(domain, 2, 0, state),
+    ]
+}
+
+// Closes a channel at the subscriber's connections that are in the state there.
+fn close_further(
+    rt: &impl Abort,
+    domain: &mut Domain<Reading, Station>,
+    subscriber: &Subscriber,
+    channel: usize,
+    expected: u64,
+) {
+    assert_live(rt, domain, subscriber);
+    assert_has_channel(rt, domain, channel);
+    subscriber.close_channel(domain, channel, expected);
+}
+
+// A closed channel behind channel 0 lets messages pass, and no call on one changes another.
+#[test]
+fn a_further_channel_has_a_state_of_its_own(rt: HostRuntime) {
+    let config = ServiceConfig {
+        number_of_channels: 3,
+        ..settings()
+    };
+    let mut domain: Domain<Reading, Station> = Domain::new(rt.alloc(), config).expect(
+        &rt, "a domain",
+    );
+    let subscriber = subscriber_of(&rt, &mut domain);
+    let publisher = publisher_of(&rt, &mut domain);
+    assert_live(&rt, &domain, &subscriber);
+    let updated = subscriber.update_connections(&mut domain).is_ok();
+    let open = all_first(&rt, &domain, &publisher, 0);
+    close_further(&rt, &mut domain, &subscriber, 1, 5);
+    close_further(&rt, &mut domain, &subscriber, 2, 0);
+    let closed = all_first(&rt, &domain, &publisher, u64::MAX);
+    let taken = copied(&rt, &mut domain, &publisher, 1);
+    assert_live(&rt, &domain, &subscriber);
+    assert_has_channel(&rt, &domain, 2);
+    let were_closed = [
+        subscriber.set_channel_state(&mut domain, 2, 7),
+        set(&rt, &mut domain, &subscriber, 8),
+    ];
+    assert_live(&rt, &domain, &subscriber);
+    assert_has_channel(&rt, &domain, 2);
+    subscriber.set_disconnect_hint(&mut domain, 2, 7);
+    assert_ready(&rt, &domain, &publisher);
+    assert_has_channel(&rt, &domain, 2);
+    let hinted = [
+        publisher.has_disconnect_hint(&domain, 0, 0, 0),
+        publisher.has_disconnect_hint(&domain, 2, 0, 7),
+    ];
+    publisher.close_channel(&mut domain, 2, 0, 7);
+    let closed_again = all_first(&rt, &domain, &publisher, u64::MAX);
+    close(&rt, &mut domain, &subscriber, 0);
+    let both = all_first(&rt, &domain, &publisher, u64::MAX);
+    let passed = copied(&rt, &mut domain, &publisher, 2);
+    let first = next_reading(&rt, &mut domain, &subscriber);
+    publisher.disown();
+    subscriber.disown();
+    drop(domain);
+    assert!(rt; updated);
+    assert!(rt; open == [true, true, true]);
+    assert!(rt; closed == [false, false, true]);
+    assert!(rt; [taken, passed] == [1, 0]);
+    assert!(rt; were_closed == [true, false]);
+    assert!(rt; hinted == [false, true]);
+    assert!(rt; closed_again == [false, false, true]);
+    assert!(rt; both == [true, false, true]);
+    assert!(rt; first == Some(1));
 }
 
 // What waits in a closed channel can be received, and other subscribers get what it doesn't take.

@@ -1,6 +1,7 @@
 //! Ports get their connections, one place after the other.
 ghost use Rattle.std.specs.Prelude.{◌≡◌, ℕ, ◌<◌, cond, true, false, Some, None, length, slice_index_or, [], IsSomeAnd, IfOk, OnOk, OnErr, MatchResult};
 ghost use Rattle.slab.specs.Slab.{get};
+ghost use Rattle.iox2_store.specs.machine.Limits.{channel_count};
 ghost use Rattle.iox2_slots.specs.Link.{Link};
 ghost use Rattle.iox2_domain.specs.Boxes.{answers_of};
 ghost use Rattle.iox2_domain.specs.Ports.{PublisherFields, SubscriberFields};
@@ -18,7 +19,7 @@ use iox2_domain::{
 };
 use iox2_ends::sender::{deliver_history, drop_all, reclaim_all, remove_connection};
 use iox2_slots::{Connection, Home};
-use iox2_store::{BackpressureFn, ConnectionFailure, DegradationFn};
+use iox2_store::{BackpressureFn, ConnectionFailure, DegradationFn, ServiceConfig};
 use slab::Slab;
 use std::alloc::{AllocError, Global};
 
@@ -39,19 +40,21 @@ pub(crate) fn home_of(
     }
 }
 
-// Makes a connection in which no slot stands, and returns its key.
+// Makes a connection with so many channels, in which no slot stands, and returns its key.
 fn make_connection(
     alloc: Global,
     connections: &mut Slab<Connection>,
     home: Home,
     buffer: usize,
     limit: usize,
+    channels: usize,
 ) -> Result<usize, AllocError>
-    requires { 0 < buffer }
-    ensures made { IfOk result (λ key. MakesConnection connections.old home buffer limit key connections.new) }
+    requires buffer { 0 < buffer }
+    requires channels { 0 < channels }
+    ensures made { IfOk result (λ key. MakesConnection connections.old home buffer limit channels key connections.new) }
     ensures refused { OnErr result (connections.new ≡ record connections.old { capacity = connections.new.capacity }) }
 {
-    let connection = Connection::new(alloc, home, buffer, limit)?;
+    let connection = Connection::new(alloc, home, buffer, limit, channels)?;
     match connections.insert(connection) {
         Ok(key) => Ok(key),
         Err(_) => Err(AllocError),
@@ -78,6 +81,14 @@ fn ports_at<T: Drop, U: Default + Drop>(
         home_of(publisher_place, subscriber_place, publisher, subscriber),
         subscriber.buffer,
     )
+}
+
+// How many channels each connection has.
+fn channel_count(config: &ServiceConfig) -> usize
+    ensures count { result ≡ channel_count config.now }
+    ensures some { 0 < result }
+{
+    config.number_of_channels.max(1)
 }
 
 // How many connections the subscriber has.
@@ -119,7 +130,7 @@ pub(crate) fn make_between<T: Drop, U: Default + Drop>(
     ensures sender_room { OnOk result ((x : PublisherFields) → slice_index_or state.new.publishers publisher_place None ≡ Some x → subscriber_place < x.key_room) }
     ensures receiver_room { OnOk result ((y : SubscriberFields) → slice_index_or state.new.subscribers subscriber_place None ≡ Some y → publisher_place < y.key_room) }
     ensures expired_room { OnOk result ((y : SubscriberFields) → slice_index_or state.new.subscribers subscriber_place None ≡ Some y → connection_count (state.old).connections home.subscriber < y.expired_room) }
-    ensures made { IfOk result (λ key. MakesConnection (state.old).connections home buffer (state.old).config.subscriber_max_borrowed_samples key (state.new).connections) }
+    ensures made { IfOk result (λ key. MakesConnection (state.old).connections home buffer (state.old).config.subscriber_max_borrowed_samples (channel_count (state.old).config) key (state.new).connections) }
     ensures refused { OnErr result ((state.new).connections ≡ record (state.old).connections { capacity = (state.new).connections.capacity }) }
 {
     let others = connection_count(&state.connections, home.subscriber);
@@ -131,7 +142,15 @@ pub(crate) fn make_between<T: Drop, U: Default + Drop>(
         others,
     )?;
     let limit = state.config.subscriber_max_borrowed_samples;
-    make_connection(state.alloc, &mut state.connections, home, buffer, limit)
+    let channels = channel_count(&state.config);
+    make_connection(
+        state.alloc,
+        &mut state.connections,
+        home,
+        buffer,
+        limit,
+        channels,
+    )
 }
 
 // The key, where it leads to a connection of the publisher.

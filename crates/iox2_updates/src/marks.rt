@@ -6,7 +6,7 @@ ghost use Rattle.iox2_domain.specs.OpenMarks.{ChangesMarks, ClearsEnd, ClearsMar
 use iox2_domain::{DomainState, is_open_at, key_at, stands_at};
 
 /// The connection that the publisher at a place has at a subscriber's place is marked as open, where
-/// that subscriber stands there and is open, and the channel isn't closed.
+/// that subscriber stands there and is open, and channel 0 isn't closed.
 pub fn mark_end<T: Drop, U: Default + Drop>(
     state: &mut DomainState<T, U>,
     publisher_place: usize,

@@ -4,7 +4,7 @@ use Rattle.std.proofs.Common.{◌≡◌, ℕ, zero, suc, ◌+◌, ◌*◌, ◌-�
 use Rattle.std.specs.Prelude.{slice_get}
 use Rattle.std.specs.List.{flat_map}
 use Rattle.std.proofs.lemmas.List.{length-append}
-use Rattle.iox2_store.specs.machine.Limits.{buffer_limit, worst_case, last_number}
+use Rattle.iox2_store.specs.machine.Limits.{buffer_limit, channel_count, worst_case, last_number}
 use Rattle.iox2_store.specs.machine.Numbers.{put_at, contains, last_n, size, IsOnce}
 use Rattle.iox2_store.specs.machine.Places.{occupants}
 use Rattle.iox2_store.specs.machine.Mailbox.{Mailbox, numbers_in, has_numbers, with_waiting}
@@ -32,6 +32,14 @@ use Rattle.iox2_worst_case.proofs.FillingSteps.{IsFull, IsServing, full_sends, s
 -- how many messages are sent for one subscriber
 abbrev pub sends_each : ServiceConfig → ℕ
 sends_each c = c.subscriber_max_borrowed_samples + buffer_limit c + c.history_size
+
+-- the worst case of connections with one channel
+pub one_channel : (c : ServiceConfig) (n : ℕ) → channel_count c ≡ 1
+    → c.max_subscribers * (buffer_limit c + c.subscriber_max_borrowed_samples) + c.history_size + n ≡ worst_case c n
+one_channel c n single =
+    let most : ℕ = buffer_limit c + c.subscriber_max_borrowed_samples in
+    let once : c.max_subscribers ≡ c.max_subscribers * 1 = omega arith in
+    ap (λ k. k * most + c.history_size + n) once ∙ ap (λ k. c.max_subscribers * k * most + c.history_size + n) (sym single)
 
 -- ---- all that the publisher holds
 
@@ -264,10 +272,10 @@ module _ {T U : Type 0} (c : ServiceConfig) (most available : ℕ) (value : T) (
   -- ---- what is held at the end
 
   -- with all loans out the publisher holds the worst case
-  pub holds_worst_case : (sent out : ℕ) (s : State T U) (handles : List Handle) → 0 < c.max_subscribers → (f : IsLent sent c.max_subscribers out s handles)
+  pub holds_worst_case : (sent out : ℕ) (s : State T U) (handles : List Handle) → 0 < c.max_subscribers → channel_count c ≡ 1 → (f : IsLent sent c.max_subscribers out s handles)
       → size (held s 1 (filler most available (f.filling).longest (numbers_from (suc sent) out) (recent c.history_size sent) (ports_from 2 c.max_subscribers)
       false)) ≡ worst_case c out
-  holds_worst_case sent out s handles several f =
+  holds_worst_case sent out s handles several single f =
       ap (λ (b : ℕ → Mailbox). size ((numbers_from (suc sent) out ++ recent c.history_size sent) ++ flat_map (λ q. numbers_in (b q))
       (occupants (ports_from 2 c.max_subscribers)))) (f.filling).mailboxes
       ∙ ap (λ (qs : List ℕ). size ((numbers_from (suc sent) out ++ recent c.history_size sent) ++ flat_map (λ q. numbers_in (f.boxes q)) qs))
@@ -275,3 +283,4 @@ module _ {T U : Type 0} (c : ServiceConfig) (most available : ℕ) (value : T) (
       ∙ size_is (all_numbers c f.boxes c.max_subscribers sent out) (all_numbers c f.boxes c.max_subscribers sent out)
       (IsOnce-all_numbers c f.boxes c.max_subscribers f.bound sent out f.full f.apart) (λ n. refl)
       ∙ length-all_numbers c f.boxes c.max_subscribers f.bound sent out f.full (f.enough several)
+      ∙ one_channel c out single

@@ -23,7 +23,7 @@ use Rattle.iox2_worst_case.proofs.FillingRuns.{IsRefusedLoan, Leads, leads_appen
 use Rattle.iox2_worst_case.proofs.FillingShape.{filler, IsFilling}
 use Rattle.iox2_worst_case.proofs.FillingPorts.{IsBegun, publisher_step, filler_settings, length_one}
 use Rattle.iox2_worst_case.proofs.FillingBoxes.{none_full}
-use Rattle.iox2_worst_case.proofs.FillingAll.{sends_each, IsRested, AllRested, subscribers_lead, IsLent, loans_lead, holds_worst_case}
+use Rattle.iox2_worst_case.proofs.FillingAll.{sends_each, IsRested, AllRested, subscribers_lead, IsLent, loans_lead, holds_worst_case, one_channel}
 
 -- ---- sums
 
@@ -44,9 +44,12 @@ module _ (c : ServiceConfig) (most : ℕ) (able : IsFillable c most) where
   some_subscribers : c.max_subscribers ≤ c.max_subscribers * (buffer_limit c + c.subscriber_max_borrowed_samples)
   some_subscribers = positive_times c.max_subscribers (buffer_limit c + c.subscriber_max_borrowed_samples) (omega arith)
 
+  plain_sum : c.max_subscribers * (buffer_limit c + c.subscriber_max_borrowed_samples) + c.history_size + most < 2 ^ 64
+  plain_sum = subst (λ n. n < 2 ^ 64) (sym (one_channel c most able.channels)) able.sum
+
   few_subscribers : 2 + c.max_subscribers < last_number
   few_subscribers =
-      let sum : worst_case c most < 2 ^ 64 = able.sum in
+      let sum : c.max_subscribers * (buffer_limit c + c.subscriber_max_borrowed_samples) + c.history_size + most < 2 ^ 64 = plain_sum in
       let total : ℕ = c.max_subscribers * (buffer_limit c + c.subscriber_max_borrowed_samples) in
       let low : total < 2 ^ 64 = omega (arith, sum) in
       omega (arith, some_subscribers, low)
@@ -56,7 +59,7 @@ module _ (c : ServiceConfig) (most : ℕ) (able : IsFillable c most) where
       let subscribers : ℕ = c.max_subscribers in
       let past : ℕ = c.history_size in
       let total : ℕ = subscribers * (buffer_limit c + c.subscriber_max_borrowed_samples) in
-      let sum : total + past + most < 2 ^ 64 = able.sum in
+      let sum : total + past + most < 2 ^ 64 = plain_sum in
       let bound : ℕ = 2 ^ 64 - 1 in
       let product : subscribers * past ≤ bound * bound = fewer_times subscribers bound past bound (omega (arith, sum, some_subscribers)) (omega (arith, sum)) in
       let split : subscribers * sends_each c ≡ total + subscribers * past = split_times subscribers c.subscriber_max_borrowed_samples (buffer_limit c) past in
@@ -156,7 +159,7 @@ module _ {T U : Type 0} (c : ServiceConfig) (most : ℕ) (value : T) (slots : Op
       let x : Publisher = filler most available f.longest (numbers_from (suc sent) most) (recent c.history_size sent) (ports_from 2 c.max_subscribers) false in (
         x,
         f.publisher,
-        holds_worst_case c most available value able.some_loans able.units able.overflow sent most s grants.1 able.subscribers grants.2,
+        holds_worst_case c most available value able.some_loans able.units able.overflow sent most s grants.1 able.subscribers able.channels grants.2,
         ((f.well_formed).publishers 1 x f.publisher).slots_bound refl,
       )
 
@@ -202,5 +205,5 @@ module _ {T U : Type 0} where
       (λ (grants : Grants c loans value fewer able replies s).
       let full : (x : Publisher) × (s.publishers 1 ≡ Some x) × (size (held s 1 x) ≡ worst_case c loans) × (size (held s 1 x) ≤ given_slots c loans fewer) =
       publisher_full c loans value fewer able replies s grants in
-      absurd (omega (arith, below, full.2, full.3, able.some_loans, some_subscribers c loans able, able.subscribers)))
+      absurd (omega (arith, below, full.2, full.3, able.some_loans, some_subscribers c loans able, able.subscribers, one_channel c loans able.channels)))
       (runs_so c loans value fewer able replies events m s run)

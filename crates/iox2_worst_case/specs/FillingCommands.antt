@@ -2,7 +2,7 @@
 use Rattle.std.specs.Prelude.{ℕ, zero, suc, List, [], ◌∷◌, ◌++◌, length, take, drop, replicate, ◌≡◌, false, ◌+◌, ◌*◌, ◌^◌, ◌<◌, slice_get}
 use Rattle.std.specs.declared.option.Option.{Option}
 use Rattle.std.specs.declared.option.Option.TheVariants.{None, Some}
-use Rattle.iox2_store.specs.machine.Limits.{buffer_limit, worst_case}
+use Rattle.iox2_store.specs.machine.Limits.{buffer_limit, channel_count, worst_case}
 use Rattle.iox2_store.specs.machine.Records.{Publisher}
 use Rattle.iox2_store.specs.machine.State.{State, Messages, fresh, no_messages}
 use Rattle.iox2_store.specs.declared.service_config.ServiceConfig.{ServiceConfig}
@@ -70,14 +70,15 @@ filling_commands c loans value slots =
     ∷ subscribers_filled c value 1 c.max_subscribers
     ++ replicate loans (loan_command c.variant)
 
--- The service doesn't overwrite messages, allows a publisher and a subscriber and has elements of one unit; the limit of
--- loans is positive, and the worst case is smaller than 2 ^ 64.
+-- The service doesn't overwrite messages, allows a publisher and a subscriber and has elements of one unit and connections
+-- of one channel; the limit of loans is positive, and the worst case is smaller than 2 ^ 64.
 pub record IsFillable (c : ServiceConfig) (loans : ℕ) : Type 0 where
   pub overflow : c.enable_safe_overflow ≡ false
   pub publishers : 0 < c.max_publishers
   pub subscribers : 0 < c.max_subscribers
   pub some_loans : 0 < loans
   pub units : c.units_per_element ≡ 1
+  pub channels : channel_count c ≡ 1
   pub sum : worst_case c loans < 2 ^ 64
 
 -- In every run of the list on a new domain, with ample memory, a loan from the publisher that the first command made is

@@ -24,9 +24,10 @@ use std::alloc::Global;
 /// an override of fewer than `worst_case_slots`, one of its loans is refused with
 /// `LoanError::OutOfMemory` while fewer than `loans` are out.
 ///
-/// `None` where the service overwrites messages, may have no publisher or no subscriber, or has
-/// elements of more than one unit; where `loans` is 0; where the worst case or the length of the
-/// list doesn't fit `usize`; and where memory for the list is refused.
+/// `None` where the service overwrites messages, may have no publisher or no subscriber, has
+/// elements of more than one unit or connections of more than one channel; where `loans` is 0; where
+/// the worst case or the length of the list doesn't fit `usize`; and where memory for the list is
+/// refused.
 pub fn worst_case_commands<T: Copy + Drop, U: Drop>(
     alloc: Global,
     config: &ServiceConfig,
@@ -61,6 +62,7 @@ fn is_fillable(config: &ServiceConfig, loans: usize) -> bool
         && config.max_subscribers > 0
         && loans > 0
         && config.units_per_element == 1
+        && config.number_of_channels <= 1
         && worst_case_slots(config, loans).is_some()
 }
 

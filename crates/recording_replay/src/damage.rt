@@ -75,6 +75,13 @@ fn try_other_texts(rt: &HostRuntime) -> Result<(), Failure> {
         1,
     )?;
     expect(rt, "domain 1 1 1 1 0 0 keep\n", "", Fault::NoRecording, 1)?;
+    for channels in ["", "x", "-1", "2 2"] {
+        let mut title = String::new(rt.alloc());
+        title.push_str("recording 1\nservice 1 1 1 1 discard static ")?;
+        title.push_str(channels)?;
+        title.push('\n')?;
+        expect(rt, title.as_str(), "", Fault::BadService, 2)?;
+    }
     expect(
         rt,
         "recording 1\n",

@@ -3,6 +3,7 @@ use crate::failure::Failure;
 use crate::record::recorded;
 use crate::replay::first_difference;
 use crate::shortest::shortest;
+use iox2_store::ServiceConfig;
 use random_commands::draw_script;
 use recordings::{Recording, load, save};
 
@@ -18,14 +19,18 @@ pub(crate) fn print_list(rt: &HostRuntime, number: u64, seed: u64) -> Result<(),
     Ok(())
 }
 
-/// Draws so many lists of a seed. Each is recorded, saved and loaded, and is the same then; its replay
+/// Draws so many lists of a seed, of services with up to three channels a connection. Each is recorded, saved and loaded, and is the same then; its replay
 /// has the recorded replies; and where one recorded reply is made another one, the replay differs there
 /// alone, and so does the shortest list.
 pub(crate) fn try_random_lists(rt: &HostRuntime, count: u64, seed: u64) -> Result<(), Failure> {
     let mut commands = 0usize;
     for number in 0..count {
         let script = draw_script(rt.alloc(), seed, number, MOST_COMMANDS)?;
-        let recording = recorded(rt.alloc(), script.config, script.commands.as_slice())?;
+        let config = ServiceConfig {
+            number_of_channels: (number % 4) as usize,
+            ..script.config
+        };
+        let recording = recorded(rt.alloc(), config, script.commands.as_slice())?;
         commands = commands.saturating_add(recording.commands.len());
         try_list(rt, &recording, number)?;
         if number % 1000 == 0 {

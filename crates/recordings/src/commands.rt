@@ -41,7 +41,11 @@ pub(crate) fn push_service(text: &mut String, config: &ServiceConfig) -> Result<
     write!(
         text,
         "service {service} {node} {units} {loans} {strategy} {allocation}"
-    )
+    )?;
+    match config.number_of_channels {
+        1 => Ok(()),
+        channels => write!(text, " {channels}"),
+    }
 }
 
 /// Adds the line of a script that asks for the command, without its end: the shortest one.

@@ -134,7 +134,8 @@ fn check_title(line: &str) -> Result<(), Fault> {
     }
 }
 
-// Settings for which a script has no words: `service ID NODE UNITS LOANS STRATEGY MEMORY`.
+// Settings for which a script has no words: `service ID NODE UNITS LOANS STRATEGY MEMORY`, and how many
+// channels a connection has, where that isn't 1.
 fn service_of(line: &str) -> Option<ServiceConfig> {
     let mut words = line.split(' ');
     if words.next()? != "service" {
@@ -155,6 +156,10 @@ fn service_of(line: &str) -> Option<ServiceConfig> {
         "poweroftwo" => AllocationStrategy::PowerOfTwo,
         _ => return None,
     };
+    let number_of_channels = match words.next() {
+        Some(word) => word.parse::<usize>().ok()?,
+        None => 1,
+    };
     if words.next().is_some() {
         return None;
     }
@@ -164,6 +169,7 @@ fn service_of(line: &str) -> Option<ServiceConfig> {
         publisher_max_loaned_samples,
         backpressure_strategy,
         publisher_allocation_strategy,
+        number_of_channels,
         ..ServiceConfig::new(service_id)
     })
 }
@@ -177,6 +183,7 @@ fn with_domain(service: ServiceConfig, domain: ServiceConfig) -> ServiceConfig {
         publisher_max_loaned_samples: service.publisher_max_loaned_samples,
         backpressure_strategy: service.backpressure_strategy,
         publisher_allocation_strategy: service.publisher_allocation_strategy,
+        number_of_channels: service.number_of_channels,
         ..domain
     }
 }

@@ -93,16 +93,13 @@ fn push_command(
         "command"
     };
     let x = x.saturating_add(3);
-    write!(
-        svg,
-        "<text class=\"{class}\" transform=\"translate({x} {y}) rotate(-90)\" text-anchor=\"end\">"
-    )?;
+    write!(svg, "<text class=\"{class}\"")?;
+    write!(svg, " transform=\"translate({x} {y}) rotate(-90)\"")?;
+    svg.push_str(" text-anchor=\"end\">")?;
     push_escaped(svg, command.as_str())?;
     let number = at.saturating_add(1);
-    write!(
-        svg,
-        "<tspan dx=\"6\" font-weight=\"bold\">{number}</tspan><title>"
-    )?;
+    svg.push_str("<tspan dx=\"6\" font-weight=\"bold\">")?;
+    write!(svg, "{number}</tspan><title>")?;
     push_escaped(svg, reply.as_str())?;
     svg.push_str("</title></text>\n")?;
     Ok(())

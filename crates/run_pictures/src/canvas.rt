@@ -25,6 +25,18 @@ pub(crate) fn push_escaped(svg: &mut String, text: &str) -> Result<(), Failure> 
     Ok(())
 }
 
+// What a shape is said to be: ` name="value"`. Each is written by itself, since a short text is proved in seconds and a long one in minutes.
+fn push_word(svg: &mut String, name: &str, value: &str) -> Result<(), Failure> {
+    write!(svg, " {name}=\"{value}\"")?;
+    Ok(())
+}
+
+// The same of a number.
+fn push_number(svg: &mut String, name: &str, value: usize) -> Result<(), Failure> {
+    write!(svg, " {name}=\"{value}\"")?;
+    Ok(())
+}
+
 /// A rectangle of a class and a color, which says something when it is pointed at.
 pub(crate) fn rect(
     svg: &mut String,
@@ -33,16 +45,13 @@ pub(crate) fn rect(
     color: &str,
     said: &str,
 ) -> Result<(), Failure> {
-    let Place {
-        x,
-        y,
-        width,
-        height,
-    } = place;
-    write!(
-        svg,
-        "<rect class=\"{class}\" x=\"{x}\" y=\"{y}\" width=\"{width}\" height=\"{height}\" fill=\"{color}\""
-    )?;
+    svg.push_str("<rect")?;
+    push_word(svg, "class", class)?;
+    push_number(svg, "x", place.x)?;
+    push_number(svg, "y", place.y)?;
+    push_number(svg, "width", place.width)?;
+    push_number(svg, "height", place.height)?;
+    push_word(svg, "fill", color)?;
     if said.is_empty() {
         svg.push_str("/>\n")?;
         return Ok(());
@@ -62,10 +71,14 @@ pub(crate) fn line(
     color: &str,
 ) -> Result<(), Failure> {
     let ((x1, y1), (x2, y2)) = (from, to);
-    write!(
-        svg,
-        "<line class=\"{class}\" x1=\"{x1}\" y1=\"{y1}\" x2=\"{x2}\" y2=\"{y2}\" stroke=\"{color}\"/>\n"
-    )?;
+    svg.push_str("<line")?;
+    push_word(svg, "class", class)?;
+    push_number(svg, "x1", x1)?;
+    push_number(svg, "y1", y1)?;
+    push_number(svg, "x2", x2)?;
+    push_number(svg, "y2", y2)?;
+    push_word(svg, "stroke", color)?;
+    svg.push_str("/>\n")?;
     Ok(())
 }
 
@@ -77,7 +90,11 @@ pub(crate) fn label(
     class: &str,
     text: &str,
 ) -> Result<(), Failure> {
-    write!(svg, "<text class=\"{class}\" x=\"{x}\" y=\"{y}\">")?;
+    svg.push_str("<text")?;
+    push_word(svg, "class", class)?;
+    push_number(svg, "x", x)?;
+    push_number(svg, "y", y)?;
+    svg.push_str(">")?;
     push_escaped(svg, text)?;
     svg.push_str("</text>\n")?;
     Ok(())
@@ -96,17 +113,22 @@ pub(crate) fn color_of(publisher: usize) -> &'static str {
 
 /// What all pictures begin with.
 pub(crate) fn push_head(svg: &mut String, width: usize, height: usize) -> Result<(), Failure> {
-    write!(
-        svg,
-        "<svg xmlns=\"http://www.w3.org/2000/svg\" width=\"{width}\" height=\"{height}\" viewBox=\"0 0 {width} {height}\" font-family=\"'DejaVu Sans', Verdana, sans-serif\">\n"
-    )?;
+    svg.push_str(NAMESPACE)?;
+    push_number(svg, "width", width)?;
+    push_number(svg, "height", height)?;
+    write!(svg, " viewBox=\"0 0 {width} {height}\"")?;
+    svg.push_str(FONTS)?;
     svg.push_str(STYLE)?;
-    write!(
-        svg,
-        "<rect width=\"{width}\" height=\"{height}\" fill=\"#ffffff\"/>\n"
-    )?;
+    svg.push_str("<rect")?;
+    push_number(svg, "width", width)?;
+    push_number(svg, "height", height)?;
+    svg.push_str(" fill=\"#ffffff\"/>\n")?;
     Ok(())
 }
+
+const NAMESPACE: &str = "<svg xmlns=\"http://www.w3.org/2000/svg\"";
+
+const FONTS: &str = " font-family=\"'DejaVu Sans', Verdana, sans-serif\">\n";
 
 const STYLE: &str = "<style>\n\
 text { font-size: 10px; fill: #000 }\n\

@@ -259,10 +259,10 @@ fn push_title(svg: &mut String, story: &Story, folded: &Folded) -> Result<(), Fa
     let commands = story.commands.len();
     let ports = story.ports.len();
     let group = folded.group;
-    write!(
-        svg,
-        "<text class=\"title\" x=\"6\" y=\"16\">{commands} commands, {group} in each column; {ports} ports, one after another in a lane</text>\n"
-    )?;
+    svg.push_str("<text class=\"title\" x=\"6\" y=\"16\">")?;
+    write!(svg, "{commands} commands, {group} in each column; ")?;
+    write!(svg, "{ports} ports")?;
+    svg.push_str(", one after another in a lane</text>\n")?;
     Ok(())
 }
 
@@ -270,10 +270,10 @@ fn push_title(svg: &mut String, story: &Story, folded: &Folded) -> Result<(), Fa
 fn push_keys(svg: &mut String, alloc: Global, folded: &Folded) -> Result<(), Failure> {
     let mut bars = String::new(alloc);
     let (lent, there) = (folded.most(true), folded.most(false));
-    write!(
-        bars,
-        "height of a bar: messages that are lent by a publisher, at most {lent}, or that wait for a subscriber or are received, at most {there}"
-    )?;
+    bars.push_str("height of a bar: messages that are lent by a publisher")?;
+    write!(bars, ", at most {lent}")?;
+    bars.push_str(", or that wait for a subscriber or are received")?;
+    write!(bars, ", at most {there}")?;
     push_key(svg, 10, 24, "#0072B2")?;
     label(svg, 26, 32, "note", bars.as_str())?;
     let y = 50;

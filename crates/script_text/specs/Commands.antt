@@ -33,6 +33,7 @@ script_config variant publishers subscribers buffer borrowed history expired ove
   subscriber_max_buffer_size = buffer;
   subscriber_max_borrowed_samples = borrowed;
   history_size = history;
+  number_of_channels = 1;
   enable_safe_overflow = overflow;
   subscriber_expired_connection_buffer = expired;
   publisher_max_loaned_samples = 1;

@@ -1,6 +1,7 @@
 //! What ports ask about the channels of their connections. No reply of a recorded domain's other calls
 //! depends on it, so that nothing of it is recorded.
-ghost use Rattle.std.specs.Prelude.{◌≡◌, ◌<◌, ◌⊎◌, IfErr, IfNone, IfOk, IfSome, None, Some};
+ghost use Rattle.std.specs.Prelude.{◌≡◌, ◌<◌, ◌↔◌, ◌⊎◌, IfErr, IfNone, IfOk, IfSome, IsTrue, None, Some};
+ghost use Rattle.iox2_store.specs.machine.Limits.{channel_count};
 ghost use Rattle.iox2_pubsub.specs.Handles.{as_subscriber, publisher_id, subscriber_id};
 ghost use Rattle.iox2_pubsub.specs.Live.{IsLiveSubscriber, IsPlacedPublisher, IsPublisherKey, IsSubscriberKey, publisher_key, subscriber_key};
 ghost use Rattle.iox2_c.specs.Channels.{RefusesPublisherChannel, RefusesSubscriberChannel, TellsConnection, TellsHint, TellsSomeState, TellsState};
@@ -13,8 +14,12 @@ use crate::service::{BytesDomain, Service};
 use crate::status::{NO_CONNECTION, NO_SUCH_CHANNEL, NOT_LIVE, OK};
 use iox2_pubsub::{Publisher, slice};
 
-// How many channels a connection has.
-const CHANNELS: usize = 1;
+// Whether connections of the domain have a channel with this number.
+fn has_channel(domain: &BytesDomain, channel: usize) -> bool
+    ensures { IsTrue result ↔ (channel < channel_count domain.now.config) }
+{
+    channel < domain.config().number_of_channels.max(1)
+}
 
 /// A handle of the subscriber with these numbers, whose connections have this channel, or the code that says
 /// why there is none.
@@ -26,13 +31,13 @@ pub fn subscriber_with_channel(
     ensures live { IfOk result (λ it. IsLiveSubscriber domain.now (as_subscriber it)) }
     ensures named { IfOk result (λ it. subscriber_key (as_subscriber it) ≡ named_subscriber numbers.now) }
     ensures id { IfOk result (λ it. subscriber_id (as_subscriber it) ≡ wide (numbers.now).id) }
-    ensures channel { IfOk result (λ it. channel < 1) }
+    ensures channel { IfOk result (λ it. channel < channel_count domain.now.config) }
     ensures refused { IfErr result (RefusesSubscriberChannel domain.now (named_subscriber numbers.now) channel) }
 {
     let Some(subscriber) = live_subscriber(domain, numbers) else {
         return Err(NOT_LIVE);
     };
-    if channel < CHANNELS {
+    if has_channel(domain, channel) {
         return Ok(subscriber);
     }
     subscriber.disown();
@@ -60,13 +65,13 @@ pub fn publisher_with_channel(
     ensures placed { IfOk result (λ it. IsPlacedPublisher domain.now it) }
     ensures named { IfOk result (λ it. publisher_key it ≡ named_publisher numbers.now) }
     ensures id { IfOk result (λ it. publisher_id it ≡ wide (numbers.now).id) }
-    ensures channel { IfOk result (λ it. channel < 1) }
+    ensures channel { IfOk result (λ it. channel < channel_count domain.now.config) }
     ensures refused { IfErr result (RefusesPublisherChannel domain.now (named_publisher numbers.now) channel) }
 {
     let Some(publisher) = live_publisher(domain, numbers) else {
         return Err(NOT_LIVE);
     };
-    if channel < CHANNELS {
+    if has_channel(domain, channel) {
         return Ok(publisher);
     }
     publisher.disown();

@@ -9,6 +9,7 @@ use iox2_store::{BackpressureFn, DegradationFn};
 impl Publisher {
     ghost use Rattle.std.specs.Prelude.{Some};
     ghost use Rattle.iox2_store.specs.machine.ChannelCalls.{connection_place, has_channel_state, has_disconnect_hint, sent_closed};
+    ghost use Rattle.iox2_store.specs.machine.Limits.{channel_count};
     ghost use Rattle.iox2_store.specs.machine.State.{State, Messages};
     ghost use Rattle.iox2_pubsub.specs.Live.{IsConnected, IsPlacedPublisher, IsPublisherKey, IsUpToDate, RoomStays, Stays, WaitingStays, publisher_key};
     ghost use Rattle.iox2_pubsub.specs.LoansLeft.{LoansLeftStay};
@@ -32,8 +33,8 @@ impl Publisher {
         place_of_receiver(&domain.state, self.place, receiver_port_id)
     }
 
-    /// Whether a channel is in a state at a connection. `channel` is its number: a connection has
-    /// one channel, number 0. It isn't, where there is no such connection.
+    /// Whether a channel is in a state at a connection. `channel` is its number, below
+    /// `number_of_channels` of the settings. It isn't, where there is no such connection.
     ///
     /// iceoryx2's `Sender::has_channel_state` (`src/port/details/sender.rs`), which is internal.
     pub fn has_channel_state<T: Drop, U: Default + Drop, F: BackpressureFn, G: DegradationFn>(
@@ -45,12 +46,10 @@ impl Publisher {
     ) -> bool
         requires there { IsPublisherKey domain.now (publisher_key self.now) }
         requires placed { IsPlacedPublisher domain.now self.now }
-        requires channel { channel < 1 }
+        requires channel { channel < channel_count domain.now.config }
         ensures { (m : Messages T U) (s : State T U) → Shows domain.now m s → result ≡ has_channel_state s (publisher_id self.now) channel connection state }
     {
-        // A connection has one channel, so its number leaves nothing to choose.
-        let _ = channel;
-        is_sent_in(&domain.state, self.place, connection, state)
+        is_sent_in(&domain.state, self.place, channel, connection, state)
     }
 
     /// Whether a channel is in a state at a connection, and a disconnect was hinted since it came
@@ -66,19 +65,17 @@ impl Publisher {
     ) -> bool
         requires there { IsPublisherKey domain.now (publisher_key self.now) }
         requires placed { IsPlacedPublisher domain.now self.now }
-        requires channel { channel < 1 }
+        requires channel { channel < channel_count domain.now.config }
         ensures { (m : Messages T U) (s : State T U) → Shows domain.now m s → result ≡ has_disconnect_hint s (publisher_id self.now) channel connection state }
     {
-        // A connection has one channel, so its number leaves nothing to choose.
-        let _ = channel;
-        is_sent_hinted(&domain.state, self.place, connection, state)
+        is_sent_hinted(&domain.state, self.place, channel, connection, state)
     }
 
     /// Closes a channel at a connection, where it is in the state `expected`. A closed channel takes
     /// no message and gets no history, no handler is asked of it, and its subscriber isn't counted;
     /// what waits there can be received as before. Where the channel is in another state, or there is
-    /// no such connection, nothing changes. `channel` is its number: a connection has one channel,
-    /// number 0. Takes no memory.
+    /// no such connection, nothing changes. `channel` is its number, below `number_of_channels` of the
+    /// settings; other channels stay as they are. Messages go to channel 0. Takes no memory.
     ///
     /// iceoryx2's `Sender::close_channel` (`src/port/details/sender.rs`), which is internal.
     pub fn close_channel<T: Drop, U: Default + Drop, F: BackpressureFn, G: DegradationFn>(
@@ -90,19 +87,17 @@ impl Publisher {
     )
         requires there { IsPublisherKey domain.old (publisher_key self.now) }
         requires placed { IsPlacedPublisher domain.old self.now }
-        requires channel { channel < 1 }
+        requires channel { channel < channel_count domain.old.config }
         ensures closed { (m : Messages T U) (s : State T U) → Shows domain.old m s → Shows domain.new m (sent_closed s (publisher_id self.now) channel connection expected) }
         ensures waits { WaitingStays domain.old domain.new }
         ensures up_to_date { (subscriber : Subscriber) → IsUpToDate domain.old subscriber → IsUpToDate domain.new subscriber }
         ensures connections { (m : Messages T U) (s : State T U) (publisher : ℕ) (subscriber : Subscriber) → Shows domain.old m s
-            → (publisher ≢ publisher_id self.now) ⊎ (connection_place s publisher (subscriber_id subscriber) ≢ Some connection)
+            → (publisher ≢ publisher_id self.now) ⊎ (connection_place s publisher (subscriber_id subscriber) ≢ Some connection) ⊎ (channel ≢ 0)
             → IsConnected domain.old publisher subscriber → IsConnected domain.new publisher subscriber }
         ensures room { RoomStays domain.old domain.new }
         ensures loans_left { LoansLeftStay domain.old domain.new }
         ensures stays { Stays domain.old domain.new }
     {
-        // A connection has one channel, so its number leaves nothing to choose.
-        let _ = channel;
-        close_sent(&mut domain.state, self.place, connection, expected);
+        close_sent(&mut domain.state, self.place, channel, connection, expected);
     }
 }

@@ -1,5 +1,5 @@
 //! A subscriber asks about the channels of its connections, and changes them.
-ghost use Rattle.std.specs.Prelude.{◌≡◌, ◌≢◌, ◌<◌, ℕ};
+ghost use Rattle.std.specs.Prelude.{◌≡◌, ◌≢◌, ◌⊎◌, ◌<◌, ℕ};
 
 use crate::domain::Domain;
 use crate::subscriber::Subscriber;
@@ -9,6 +9,7 @@ use iox2_store::{BackpressureFn, DegradationFn};
 
 impl Subscriber {
     ghost use Rattle.iox2_store.specs.machine.ChannelCalls.{SetChannelState, received_closed, received_hinted, some_channel_has_state};
+    ghost use Rattle.iox2_store.specs.machine.Limits.{channel_count};
     ghost use Rattle.iox2_store.specs.machine.State.{State, Messages};
     ghost use Rattle.iox2_pubsub.specs.Leaves.{Leaves};
     ghost use Rattle.iox2_pubsub.specs.Live.{IsConnected, IsLiveSubscriber, IsUpToDate, RoomStays, Stays, WaitingStays};
@@ -18,7 +19,7 @@ impl Subscriber {
     ghost use Rattle.iox2_domain.specs.Shows.{Shows};
 
     /// Whether a channel is in a state at some connection of the subscriber. `channel` is its
-    /// number: a connection has one channel, number 0. It isn't, where the subscriber has no
+    /// number, below `number_of_channels` of the settings. It isn't, where the subscriber has no
     /// connection.
     ///
     /// iceoryx2's `Receiver::at_least_one_channel_has_state` (`src/port/details/receiver.rs`), which
@@ -30,18 +31,16 @@ impl Subscriber {
         G: DegradationFn,
     >(&self, domain: &Domain<T, U, F, G>, channel: usize, state: u64) -> bool
         requires live { IsLiveSubscriber domain.now self.now }
-        requires channel { channel < 1 }
+        requires channel { channel < channel_count domain.now.config }
         ensures { (m : Messages T U) (s : State T U) → Shows domain.now m s → result ≡ some_channel_has_state s (subscriber_id self.now) channel state }
     {
-        // A connection has one channel, so its number leaves nothing to choose.
-        let _ = channel;
-        some_received_in(&domain.state, self.place, state)
+        some_received_in(&domain.state, self.place, channel, state)
     }
 
     /// Brings a channel from the closed state into another one, at each connection of the subscriber
     /// where it is closed: it takes messages then, unless the state is the closed one, `u64::MAX`,
     /// again. A new channel is in the state 0; any other is the caller's. Where the channel isn't
-    /// closed it stays as it is. `channel` is its number: a connection has one channel, number 0.
+    /// closed it stays as it is. `channel` is its number, below `number_of_channels` of the settings.
     /// Returns whether it was closed at every connection, and so `true` where there is none: that
     /// with a new publisher comes with the subscriber's next update, receive or question. Takes no
     /// memory.
@@ -54,16 +53,20 @@ impl Subscriber {
         state: u64,
     ) -> bool
         requires live { IsLiveSubscriber domain.old self.now }
-        requires channel { channel < 1 }
+        requires channel { channel < channel_count domain.old.config }
         ensures sets { (m : Messages T U) (s : State T U) → Shows domain.old m s
             → (s' : State T U) × Shows domain.new m s' × SetChannelState s (subscriber_id self.now) channel state s' result }
         ensures leaves { Leaves domain.old domain.new }
     {
-        // A connection has one channel, so its number leaves nothing to choose.
-        let _ = channel;
-        let were_closed = all_received_in(&domain.state, self.place, CHANNEL_STATE_CLOSED);
+        let were_closed = all_received_in(&domain.state, self.place, channel, CHANNEL_STATE_CLOSED);
         let change = ChannelChange::SetState(state);
-        change_received(&mut domain.state, self.place, CHANNEL_STATE_CLOSED, change);
+        change_received(
+            &mut domain.state,
+            self.place,
+            channel,
+            CHANNEL_STATE_CLOSED,
+            change,
+        );
         were_closed
     }
 
@@ -71,7 +74,8 @@ impl Subscriber {
     /// closed channel takes no message and gets no history, no handler is asked of it, and its
     /// subscriber isn't counted; what waits there can be received as before. Where the channel is in
     /// another state nothing changes. A connection with a publisher that comes later is open.
-    /// `channel` is its number: a connection has one channel, number 0. Takes no memory.
+    /// `channel` is its number, below `number_of_channels` of the settings; other channels stay as
+    /// they are. Messages go to channel 0. Takes no memory.
     ///
     /// iceoryx2's `Receiver::close_channel` (`src/port/details/receiver.rs`), which is internal.
     pub fn close_channel<T: Drop, U: Default + Drop, F: BackpressureFn, G: DegradationFn>(
@@ -81,26 +85,24 @@ impl Subscriber {
         expected: u64,
     )
         requires live { IsLiveSubscriber domain.old self.now }
-        requires channel { channel < 1 }
+        requires channel { channel < channel_count domain.old.config }
         ensures closed { (m : Messages T U) (s : State T U) → Shows domain.old m s → Shows domain.new m (received_closed s (subscriber_id self.now) channel expected) }
         ensures waits { WaitingStays domain.old domain.new }
         ensures up_to_date { (subscriber : Handle) → IsUpToDate domain.old subscriber → IsUpToDate domain.new subscriber }
-        ensures connections { (publisher : ℕ) (other : Handle) → subscriber_id other ≢ subscriber_id self.now → IsConnected domain.old publisher other → IsConnected domain.new publisher other }
+        ensures connections { (publisher : ℕ) (other : Handle) → (subscriber_id other ≢ subscriber_id self.now) ⊎ (channel ≢ 0) → IsConnected domain.old publisher other → IsConnected domain.new publisher other }
         ensures room { RoomStays domain.old domain.new }
         ensures loans_left { LoansLeftStay domain.old domain.new }
         ensures stays { Stays domain.old domain.new }
     {
-        // A connection has one channel, so its number leaves nothing to choose.
-        let _ = channel;
         let change = ChannelChange::SetState(CHANNEL_STATE_CLOSED);
-        change_received(&mut domain.state, self.place, expected, change);
+        change_received(&mut domain.state, self.place, channel, expected, change);
     }
 
     /// Hints at each connection of the subscriber, where a channel is in the state `expected`, that
     /// the subscriber is about to disconnect. The publisher sees it by
     /// `Publisher::has_disconnect_hint`; the hint goes with the channel's next change of state. Where
-    /// the channel is in another state nothing changes. `channel` is its number: a connection has one
-    /// channel, number 0. Takes no memory.
+    /// the channel is in another state nothing changes. `channel` is its number, below
+    /// `number_of_channels` of the settings. Takes no memory.
     ///
     /// iceoryx2's `Receiver::set_disconnect_hint` (`src/port/details/receiver.rs`), which is
     /// internal.
@@ -111,15 +113,14 @@ impl Subscriber {
         expected: u64,
     )
         requires live { IsLiveSubscriber domain.old self.now }
-        requires channel { channel < 1 }
+        requires channel { channel < channel_count domain.old.config }
         ensures hinted { (m : Messages T U) (s : State T U) → Shows domain.old m s → Shows domain.new m (received_hinted s (subscriber_id self.now) channel expected) }
         ensures leaves { Leaves domain.old domain.new }
     {
-        // A connection has one channel, so its number leaves nothing to choose.
-        let _ = channel;
         change_received(
             &mut domain.state,
             self.place,
+            channel,
             expected,
             ChannelChange::SetHint,
         );

@@ -102,8 +102,8 @@ module _ (p : ℕ) (subscribers : List (Option SubscriberFields)) (old new : Sla
         key = key;
         link = was.0;
         stands = was.1;
-        home = ap (λ (t : Home × ℕ × ℕ × Bool × Channel). t.0) was.2;
-        channel = ap (λ (t : Home × ℕ × ℕ × Bool × Channel). t.4) was.2;
+        home = ap (λ (t : Home × ℕ × ℕ × Bool × List Channel). t.0) was.2;
+        channels = ap (λ (t : Home × ℕ × ℕ × Bool × List Channel). t.4) was.2;
       }
 
   -- other publishers' connections keep their channels
@@ -112,7 +112,7 @@ module _ (p : ℕ) (subscribers : List (Option SubscriberFields)) (old new : Sla
     kept = λ key d at. inl (left-had key d at);
     lost = λ key c at. elim (cases_eq c.home.publisher p) [
       | inl mine ↦ inr (mine, tt)
-      | inr away ↦ inl (record { key = key; link = c; stands = left-others key c at away; home = refl; channel = refl })
+      | inr away ↦ inl (record { key = key; link = c; stands = left-others key c at away; home = refl; channels = refl })
     ];
   }
 
@@ -120,7 +120,7 @@ module _ (p : ℕ) (subscribers : List (Option SubscriberFields)) (old new : Sla
   pub left-apart : IsApart old → IsApart new
   left-apart apart = record {
     one = λ r q. only-fewer (is_between r q) old.slots new.slots
-        (λ key d at. let was = left-before key d at in (was.0, was.1, ap (λ (t : Home × ℕ × ℕ × Bool × Channel). eqb t.0.publisher r && eqb t.0.subscriber q) was.2)) (apart.one r q);
+        (λ key d at. let was = left-before key d at in (was.0, was.1, ap (λ (t : Home × ℕ × ℕ × Bool × List Channel). eqb t.0.publisher r && eqb t.0.subscriber q) was.2)) (apart.one r q);
   }
 
   -- nothing is left where nothing stood
@@ -141,7 +141,7 @@ module _ (p : ℕ) (subscribers : List (Option SubscriberFields)) (old new : Sla
           other (get new key) (λ d at. let was = left-before key d at in
           let is : Some was.0 ≡ Some c = sym was.1 ∙ e in
           let same : was.0 ≡ c = cc in
-          sym (ap (λ (t : Home × ℕ × ℕ × Bool × Channel). t.0.publisher) was.2) ∙ ap (λ (b : Link). b.home.publisher) same ∙ mine)
+          sym (ap (λ (t : Home × ℕ × ℕ × Bool × List Channel). t.0.publisher) was.2) ∙ ap (λ (b : Link). b.home.publisher) same ∙ mine)
           ∙ sym (other (get old key) (λ d at. let is : Some d ≡ Some c = sym at ∙ e in let same : d ≡ c = cc in ap (λ (b : Link). b.home.publisher) same ∙ mine))
       | inr differs ↦ ap (stands r slot) (left-others key c e differs ∙ sym e)
     ]
@@ -175,7 +175,7 @@ module _ (p : ℕ) (subscribers : List (Option SubscriberFields)) (old new : Sla
     by key (Some d) e =
         let was = left-before key d e in
         let same : one_if_receivers q (get new key) ≡ one_if_receivers q (get old key) =
-        ap (one_if_receivers q) e ∙ ap (λ (t : Home × ℕ × ℕ × Bool × Channel). one_if_receivers q (Some (record d { home = t.0 }))) (sym was.2) ∙ sym (ap (one_if_receivers q) was.1) in
+        ap (one_if_receivers q) e ∙ ap (λ (t : Home × ℕ × ℕ × Bool × List Channel). one_if_receivers q (Some (record d { home = t.0 }))) (sym was.2) ∙ sym (ap (one_if_receivers q) was.1) in
         omega (arith, same)
 
   -- ---- the mailboxes
@@ -187,7 +187,7 @@ module _ (p : ℕ) (subscribers : List (Option SubscriberFields)) (old new : Sla
       by : (o : Option Link) → look_up (is_between r q) old.slots ≡ o → look_up (is_between r q) new.slots ≡ o
       by None e = look_up-nothing (is_between r q) new.slots (λ key d at.
           let was = left-before key d at in
-          ap (λ (t : Home × ℕ × ℕ × Bool × Channel). eqb t.0.publisher r && eqb t.0.subscriber q) (sym was.2) ∙ look_up-none (is_between r q) old.slots e key was.0 was.1)
+          ap (λ (t : Home × ℕ × ℕ × Bool × List Channel). eqb t.0.publisher r && eqb t.0.subscriber q) (sym was.2) ∙ look_up-none (is_between r q) old.slots e key was.0 was.1)
       by (Some c) e =
           let found = look_up-there (is_between r q) old.slots c e in
           look_up-found (is_between r q) new.slots found.0 c ((left-apart apart).one r q)
@@ -197,7 +197,7 @@ module _ (p : ℕ) (subscribers : List (Option SubscriberFields)) (old new : Sla
     pub left-boxes_none : (q : ℕ) → look_up (is_between p q) old.slots ≡ None → mailboxes_of number new p q ≡ empty_mailbox
     left-boxes_none q none = ap (mailbox_if_any (number p)) (look_up-nothing (is_between p q) new.slots (λ key d at.
         let was = left-before key d at in
-        ap (λ (t : Home × ℕ × ℕ × Bool × Channel). eqb t.0.publisher p && eqb t.0.subscriber q) (sym was.2) ∙ look_up-none (is_between p q) old.slots none key was.0 was.1))
+        ap (λ (t : Home × ℕ × ℕ × Bool × List Channel). eqb t.0.publisher p && eqb t.0.subscriber q) (sym was.2) ∙ look_up-none (is_between p q) old.slots none key was.0 was.1))
 
     -- one that the publisher left has what waits for somebody, and what is borrowed
     pub left-boxes : (key : ℕ) (c : Link) → get old key ≡ Some c → c.home.publisher ≡ p → mailboxes_of number new p c.home.subscriber ≡ mailbox_of (number p) (left_at key c)
@@ -214,7 +214,7 @@ module _ (p : ℕ) (subscribers : List (Option SubscriberFields)) (old new : Sla
         by_test k d at_d true e =
             let was = left-before k d at_d in
             let same : k ≡ key = (apart.one p c.home.subscriber).one k key was.0 c was.1 at
-            (ap (λ (t : Home × ℕ × ℕ × Bool × Channel). eqb t.0.publisher p && eqb t.0.subscriber c.home.subscriber) was.2 ∙ e) (is_between-own p c.home.subscriber c mine refl) in
+            (ap (λ (t : Home × ℕ × ℕ × Bool × List Channel). eqb t.0.publisher p && eqb t.0.subscriber c.home.subscriber) was.2 ∙ e) (is_between-own p c.home.subscriber c mine refl) in
             absurd (let no : None ≡ Some d = sym none ∙ sym (ap (get new) same) ∙ at_d in cc)
 
       by : (b : Bool) → holds_slots (left_at key c) ≡ b → mailboxes_of number new p c.home.subscriber ≡ mailbox_of (number p) (left_at key c)

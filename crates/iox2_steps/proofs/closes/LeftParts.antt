@@ -1,5 +1,5 @@
 -- The fields after a publisher left: what holds of them.
-use Rattle.std.proofs.Common.{◌≡◌, ◌≢◌, ℕ, Bool, ◌+◌, ◌<◌, ◌≤◌, true, cond, List, [], map, get_or, refl, ap, sym, subst, ◌∙◌, inl, inr, ◌⊎◌, arith}
+use Rattle.std.proofs.Common.{◌≡◌, ◌≢◌, ℕ, Bool, ◌+◌, ◌<◌, ◌≤◌, true, cond, List, [], length, map, get_or, refl, ap, sym, subst, ◌∙◌, inl, inr, ◌⊎◌, arith}
 use Rattle.std.proofs.lemmas.Bool.{cases_eq, eq-eqb, ne_eqb}
 use Rattle.std.proofs.lemmas.List.{get_or-set_other}
 use Rattle.std.specs.Prelude.{IsSomeAnd, Contains}
@@ -109,8 +109,8 @@ module _ {T U : Type 0} (f : Fields T U) (sound : IsDomain f) (i : ℕ) (x : Pub
       let was = before key d at_d in
       let own : IsReceivers q (f.config).subscriber_max_borrowed_samples was.0 = subst (λ o. IsSomeAnd o (IsReceivers q (f.config).subscriber_max_borrowed_samples)) was.1 h in
       subst (λ o. IsSomeAnd o (IsReceivers q (f.config).subscriber_max_borrowed_samples)) (sym at_d) (record {
-        subscriber = sym (ap (λ (t : Home × ℕ × ℕ × Bool × Channel). t.0.subscriber) was.2) ∙ own.subscriber;
-        limit = sym (ap (λ (t : Home × ℕ × ℕ × Bool × Channel). t.2) was.2) ∙ own.limit;
+        subscriber = sym (ap (λ (t : Home × ℕ × ℕ × Bool × List Channel). t.0.subscriber) was.2) ∙ own.subscriber;
+        limit = sym (ap (λ (t : Home × ℕ × ℕ × Bool × List Channel). t.2) was.2) ∙ own.limit;
       })
 
   -- another publisher that has a connection has it still
@@ -125,7 +125,7 @@ module _ {T U : Type 0} (f : Fields T U) (sound : IsDomain f) (i : ℕ) (x : Pub
   -- a subscriber that has a connection that is left has it still
   receiver-still : (key : ℕ) (c d : Link) → get new key ≡ Some d → fixed_of c ≡ fixed_of d → ReceiverHas f.subscribers key c → ReceiverHas after.subscribers key d
   receiver-still key c d at_d fixed has =
-      let home : c.home ≡ d.home = ap (λ (t : Home × ℕ × ℕ × Bool × Channel). t.0) fixed in
+      let home : c.home ≡ d.home = ap (λ (t : Home × ℕ × ℕ × Bool × List Channel). t.0) fixed in
       subst (λ (h : Home). ReceiverHas after.subscribers key (record d { home = h })) home (record {
         subscriber = left_subscriber new i has.subscriber;
         stands = subscriber-still c.home.subscriber_place has.subscriber has.stands;
@@ -155,28 +155,29 @@ module _ {T U : Type 0} (f : Fields T U) (sound : IsDomain f) (i : ℕ) (x : Pub
         let was = subscriber-was k y at_y in
         let then = before key d at_d in
         let had : get_or (was.0).keys place None ≡ Some key = keys_left-was new i (was.0).keys place key (ap (λ (z : SubscriberFields). get_or z.keys place None) (sym was.2) ∙ at_key) in
-        sym (ap (λ (t : Home × ℕ × ℕ × Bool × Channel). t.0.publisher_place) then.2) ∙ sound.parts.linked.receiver_places k place key was.0 then.0 was.1 had then.1;
+        sym (ap (λ (t : Home × ℕ × ℕ × Bool × List Channel). t.0.publisher_place) then.2) ∙ sound.parts.linked.receiver_places k place key was.0 then.0 was.1 had then.1;
     knows = record { at = λ key k d r at_d at_r same. knows-of key k d r at_d (viewed details_of after.subscribers k r at_r) same };
     knows_publishers = λ key k d y at_d at_y same.
         let then = before key d at_d in
-        sound.parts.linked.knows_publishers key k then.0 y then.1 (publisher-was k y at_y).1 (same ∙ sym (ap (λ (t : Home × ℕ × ℕ × Bool × Channel). t.0.publisher) then.2))
-        ∙ ap (λ (t : Home × ℕ × ℕ × Bool × Channel). t.0.publisher_place) then.2;
+        sound.parts.linked.knows_publishers key k then.0 y then.1 (publisher-was k y at_y).1 (same ∙ sym (ap (λ (t : Home × ℕ × ℕ × Bool × List Channel). t.0.publisher) then.2))
+        ∙ ap (λ (t : Home × ℕ × ℕ × Bool × List Channel). t.0.publisher_place) then.2;
     sender_rooms = λ key k d y at_d at_y same.
         let then = before key d at_d in
-        subst (λ (n : ℕ). n < y.key_room) (ap (λ (t : Home × ℕ × ℕ × Bool × Channel). t.0.subscriber_place) then.2)
-        (sound.parts.linked.sender_rooms key k then.0 y then.1 (publisher-was k y at_y).1 (same ∙ sym (ap (λ (t : Home × ℕ × ℕ × Bool × Channel). t.0.publisher) then.2)));
+        subst (λ (n : ℕ). n < y.key_room) (ap (λ (t : Home × ℕ × ℕ × Bool × List Channel). t.0.subscriber_place) then.2)
+        (sound.parts.linked.sender_rooms key k then.0 y then.1 (publisher-was k y at_y).1 (same ∙ sym (ap (λ (t : Home × ℕ × ℕ × Bool × List Channel). t.0.publisher) then.2)));
     receiver_rooms = λ key k d y at_d at_y same.
         let then = before key d at_d in
         let was = subscriber-was k y at_y in
         subst (λ (z : SubscriberFields). d.home.publisher_place < z.key_room) (sym was.2)
-        (subst (λ (n : ℕ). n < (was.0).key_room) (ap (λ (t : Home × ℕ × ℕ × Bool × Channel). t.0.publisher_place) then.2)
+        (subst (λ (n : ℕ). n < (was.0).key_room) (ap (λ (t : Home × ℕ × ℕ × Bool × List Channel). t.0.publisher_place) then.2)
         (sound.parts.linked.receiver_rooms key k then.0 was.0 then.1 was.1
-        (sym (ap (λ (z : SubscriberFields). z.id) was.2) ∙ same ∙ sym (ap (λ (t : Home × ℕ × ℕ × Bool × Channel). t.0.subscriber) then.2))));
-    limits = λ key d at_d. let then = before key d at_d in sym (ap (λ (t : Home × ℕ × ℕ × Bool × Channel). t.2) then.2) ∙ sound.parts.linked.limits key then.0 then.1;
+        (sym (ap (λ (z : SubscriberFields). z.id) was.2) ∙ same ∙ sym (ap (λ (t : Home × ℕ × ℕ × Bool × List Channel). t.0.subscriber) then.2))));
+    limits = λ key d at_d. let then = before key d at_d in sym (ap (λ (t : Home × ℕ × ℕ × Bool × List Channel). t.2) then.2) ∙ sound.parts.linked.limits key then.0 then.1;
+    channel_counts = λ key d at_d. let then = before key d at_d in sym (ap (λ (t : Home × ℕ × ℕ × Bool × List Channel). length t.4) then.2) ∙ sound.parts.linked.channel_counts key then.0 then.1;
     returned = λ key d at_d. returned-of key d (left-was x.id f.subscribers f.connections new left key d at_d);
     marked = λ key d at_d is. let then = before key d at_d in
-        let both = sound.parts.linked.marked key then.0 then.1 (ap (λ (t : Home × ℕ × ℕ × Bool × Channel). t.3) then.2 ∙ is) in
-        marked-of key d at_d then.0 then.1 then.2 both (unmarked.at key then.0 then.1 (ap (λ (t : Home × ℕ × ℕ × Bool × Channel). t.3) then.2 ∙ is));
+        let both = sound.parts.linked.marked key then.0 then.1 (ap (λ (t : Home × ℕ × ℕ × Bool × List Channel). t.3) then.2 ∙ is) in
+        marked-of key d at_d then.0 then.1 then.2 both (unmarked.at key then.0 then.1 (ap (λ (t : Home × ℕ × ℕ × Bool × List Channel). t.3) then.2 ∙ is));
   } where
     receivers-of : (k : ℕ) (z : SubscriberFields) → get_or f.subscribers k None ≡ Some z
         → IsReceiverLinked z.id (f.config).subscriber_max_borrowed_samples new (left_subscriber new i z).keys
@@ -214,14 +215,14 @@ module _ {T U : Type 0} (f : Fields T U) (sound : IsDomain f) (i : ℕ) (x : Pub
         let was = subscriber-was k there.0 there.1 in
         let known = sound.parts.linked.knows.at key k then.0 r then.1
         (map-at details_of f.subscribers k ∙ ap (option_map details_of) was.1 ∙ ap Some (sym (there.2 ∙ ap details_of was.2)))
-        (same ∙ sym (ap (λ (t : Home × ℕ × ℕ × Bool × Channel). t.0.subscriber) then.2)) in
-        (known.0 ∙ ap (λ (t : Home × ℕ × ℕ × Bool × Channel). t.0.subscriber_place) then.2, sym (ap (λ (t : Home × ℕ × ℕ × Bool × Channel). t.1) then.2) ∙ known.1)
+        (same ∙ sym (ap (λ (t : Home × ℕ × ℕ × Bool × List Channel). t.0.subscriber) then.2)) in
+        (known.0 ∙ ap (λ (t : Home × ℕ × ℕ × Bool × List Channel). t.0.subscriber_place) then.2, sym (ap (λ (t : Home × ℕ × ℕ × Bool × List Channel). t.1) then.2) ∙ known.1)
 
     -- a connection at another publisher's place is as open as it was
     marked-of : (key : ℕ) (d : Link) → get new key ≡ Some d → (c : Link) → get f.connections key ≡ Some c → fixed_of c ≡ fixed_of d → IsBetweenOpen f.publishers f.subscribers key c
         → c.home.publisher_place ≢ i → IsBetweenOpen after.publishers after.subscribers key d
     marked-of key d at_d c at_c fixed both away =
-        let home : c.home ≡ d.home = ap (λ (t : Home × ℕ × ℕ × Bool × Channel). t.0) fixed in
+        let home : c.home ≡ d.home = ap (λ (t : Home × ℕ × ℕ × Bool × List Channel). t.0) fixed in
         subst (λ (h : Home). IsBetweenOpen after.publishers after.subscribers key (record d { home = h })) home (record {
           sender = record {
             publisher = both.sender.publisher;
@@ -289,7 +290,7 @@ module _ {T U : Type 0} (f : Fields T U) (sound : IsDomain f) (i : ℕ) (x : Pub
   names = names-books f.books _ new (book-after between x.book b counted_book at keeps_slots) (record {
     at = λ key d at_d.
         let then = before key d at_d in
-        subst (λ (h : Home). IsBookOf f.books h.publisher h.book) (ap (λ (t : Home × ℕ × ℕ × Bool × Channel). t.0) then.2) (sound.parts.names.at key then.0 then.1);
+        subst (λ (h : Home). IsBookOf f.books h.publisher h.book) (ap (λ (t : Home × ℕ × ℕ × Bool × List Channel). t.0) then.2) (sound.parts.names.at key then.0 then.1);
   })
 
   fewer : (slot : ℕ) → holders_at counted_book slot ≤ holders_at b slot

@@ -101,6 +101,7 @@ module _ {T U : Type 0} (f : Fields T U) (place : ℕ) (given : PublisherSetting
     ];
     receiver_rooms = enters.sound.parts.linked.receiver_rooms;
     limits = enters.sound.parts.linked.limits;
+    channel_counts = enters.sound.parts.linked.channel_counts;
     returned = λ k c at. reclaims k c (enters.sound.parts.linked.returned k c at);
     marked = λ k c at is. let both = enters.sound.parts.linked.marked k c at is in record { sender = sender k c both.sender; receiver = both.receiver };
   } where

@@ -86,6 +86,7 @@ module _ {T U : Type 0} (f : Fields T U) where
       sender_rooms = l.sender_rooms;
       receiver_rooms = l.receiver_rooms;
       limits = l.limits;
+      channel_counts = l.channel_counts;
       returned = l.returned;
       marked = l.marked;
     }

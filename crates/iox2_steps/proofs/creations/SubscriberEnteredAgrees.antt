@@ -59,6 +59,7 @@ module _ {T U : Type 0} (f : Fields T U) (sound : IsDomain f) (warnings : Warnin
       | inr old ↦ sound.parts.linked.receiver_rooms key i c y at_c old same
     ];
     limits = sound.parts.linked.limits;
+    channel_counts = sound.parts.linked.channel_counts;
     returned = sound.parts.linked.returned;
     marked = λ key c at is. let both = sound.parts.linked.marked key c at is in record {
       sender = both.sender;

@@ -160,6 +160,7 @@ module _ {T U : Type 0} (f : Fields T U) (sound : IsDomain f) (j : ℕ) (y : Sub
     ];
     receiver_rooms = λ key k c z at_c at_z same. receiver_room key k c z at_z same (fits.news key c at_c) (stood k z at_z);
     limits = λ key c at_c. elim (fits.news key c at_c) [ inl old ↦ sound.parts.linked.limits key c old | inr new ↦ new.limit ];
+    channel_counts = λ key c at_c. elim (fits.news key c at_c) [ inl old ↦ sound.parts.linked.channel_counts key c old | inr new ↦ new.channels ];
     returned = λ key c at_c. elim (fits.news key c at_c) [ inl old ↦ sound.parts.linked.returned key c old | inr new ↦ inr new.returned ];
     marked = λ key c at_c is. elim (fits.news key c at_c) [
       | inl old ↦ let both = sound.parts.linked.marked key c old is in record { sender = both.sender; receiver = open-changed f.subscribers j y changed at refl refl c both.receiver }

@@ -1,6 +1,6 @@
 -- A subscriber gets its end to a publisher, at whose place it has none.
 use Rattle.std.proofs.Common.{◌<◌, le_refl, ◌≡◌, ◌≢◌, ℕ, List, get_or, slice_set, refl, ap, sym, subst, ◌∙◌, inl, inr}
-use Rattle.std.proofs.lemmas.List.{set-get_or}
+use Rattle.std.proofs.lemmas.List.{set-get_or, length-replicate}
 use Rattle.std.proofs.lemmas.Bool.{ne_eqb}
 use Rattle.std.specs.Prelude.{false}
 use Rattle.std.specs.declared.option.Option.{Option}
@@ -8,7 +8,8 @@ use Rattle.std.specs.declared.option.Option.TheVariants.{None, Some}
 use Rattle.std.specs.Option.{option_map, option_map_or}
 use Rattle.slab.specs.Slab.{Slab, get}
 use Rattle.iox2_store.specs.machine.Connections.{DegradationAnswers, failure_of, warnings_after}
-use Rattle.iox2_store.specs.machine.Limits.{warning_limit, expired_limit}
+use Rattle.iox2_store.specs.machine.Channel.{new_channel}
+use Rattle.iox2_store.specs.machine.Limits.{channel_count, warning_limit, expired_limit}
 use Rattle.iox2_slots.specs.Link.{Link, empty_link}
 use Rattle.iox2_store.specs.machine.Numbers.{put_at}
 use Rattle.iox2_store.specs.machine.Places.{occupant, set_place, is_port}
@@ -54,6 +55,9 @@ module _ {T U : Type 0} (environment : Environment) (f : Fields T U) (sound : Is
 
   abbrev parts : HasParts f
   parts = sound.parts
+
+  abbrev channels : ℕ
+  channels = channel_count f.config
 
   abbrev most : ℕ
   most = (f.config).subscriber_max_borrowed_samples
@@ -171,13 +175,13 @@ module _ {T U : Type 0} (environment : Environment) (f : Fields T U) (sound : Is
 
   module _ (none_x : (key : ℕ) (c : Link) → get_or x.keys j None ≡ Some key → get f.connections key ≡ Some c → c.home.subscriber ≢ y.id) where
     abbrev link : Link
-    link = empty_link (home_of i j x y) y.buffer most
+    link = empty_link (home_of i j x y) y.buffer most channels
 
     nobody : look_up (is_between x.id y.id) f.connections.slots ≡ None
     nobody = no-connection f sound.parts i j x y at_x at_y sound.well_formed none_x (λ key c has _ _. let no : None ≡ Some key = sym none ∙ has in absurd cc)
 
-    extends-made : (key : ℕ) (new : Slab Link) → MakesConnection f.connections (home_of i j x y) y.buffer most key new → Extends f.connections new
-    extends-made key new made = made-extends f.connections new (home_of i j x y) y.buffer most key sound.parts.apart nobody made
+    extends-made : (key : ℕ) (new : Slab Link) → MakesConnection f.connections (home_of i j x y) y.buffer most channels key new → Extends f.connections new
+    extends-made key new made = made-extends f.connections new (home_of i j x y) y.buffer most channels key sound.parts.apart nobody made
 
     -- no other subscriber has the id
     room-here : connection_count f.connections y.id < y.expired_room → (k : ℕ) (z : SubscriberFields) → get_or f.subscribers k None ≡ Some z → z.id ≡ y.id → connection_count f.connections z.id < z.expired_room
@@ -189,7 +193,7 @@ module _ {T U : Type 0} (environment : Environment) (f : Fields T U) (sound : Is
 
     -- a connection is made
     pub makes-connection : j < x.key_room → i < y.key_room → connection_count f.connections y.id < y.expired_room → (key : ℕ) (new : Slab Link)
-        → MakesConnection f.connections (home_of i j x y) y.buffer (f.config).subscriber_max_borrowed_samples key new
+        → MakesConnection f.connections (home_of i j x y) y.buffer (f.config).subscriber_max_borrowed_samples (channel_count f.config) key new
         → ConnectsEnd environment f j i y x.id (joined_fields (set_place y.keys i (Some key)) new f.warnings) None
     makes-connection room_x room room_expired key new made =
         steps-join (keys_with key) new f.warnings None (record {
@@ -200,7 +204,7 @@ module _ {T U : Type 0} (environment : Environment) (f : Fields T U) (sound : Is
           linked = linked-with new key link (receiver_linked f.connections new (extends-made key new made) y.id most y.keys (sound.parts.linked.receivers j y at_y)) made.made.changed refl refl;
           places = places-with new key link (extends-made key new made) made.made.changed refl;
           keeps = set_place-keeps y.keys i key none;
-          news = λ k c at. elim (made-news f.connections new (home_of i j x y) y.buffer most key sound.parts.apart nobody made k c at) [
+          news = λ k c at. elim (made-news f.connections new (home_of i j x y) y.buffer most channels key sound.parts.apart nobody made k c at) [
             | inl old ↦ inl old
             | inr is ↦ inr (rw (is.0, is.1) (record {
               subscriber = refl;
@@ -208,6 +212,7 @@ module _ {T U : Type 0} (environment : Environment) (f : Fields T U) (sound : Is
               has = set_place-here y.keys i (Some key);
               room = room;
               limit = refl;
+              channels = length-replicate channels new_channel;
               unmarked = refl;
               buffer = refl;
               returned = refl;

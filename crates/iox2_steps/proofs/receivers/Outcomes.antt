@@ -5,7 +5,7 @@ use Rattle.std.specs.Option.{option_map, option_map_or}
 use Rattle.slab.specs.Slab.{get}
 use Rattle.iox2_slots.specs.Link.{Link}
 use Rattle.iox2_store.specs.machine.Connections.{DegradationAnswers, failure_of, warnings_after}
-use Rattle.iox2_store.specs.machine.Limits.{warning_limit}
+use Rattle.iox2_store.specs.machine.Limits.{channel_count, warning_limit}
 use Rattle.iox2_store.specs.machine.Records.{Environment, Handler}
 use Rattle.iox2_slots.specs.declared.connection.Home.{Home}
 use Rattle.iox2_store.specs.declared.degradation.DegradationAction.{DegradationAction}
@@ -74,7 +74,7 @@ module _ {T U : Type 0} (environment : Environment) (f : Fields T U) (sound : Is
     pub makes-as : ((z : PublisherFields) → get_or mid.publishers i None ≡ Some z → j < z.key_room)
         → ((z : SubscriberFields) → get_or mid.subscribers j None ≡ Some z → i < z.key_room)
         → ((z : SubscriberFields) → get_or mid.subscribers j None ≡ Some z → connection_count f.connections home.subscriber < z.expired_room)
-        → (key : ℕ) → MakesConnection f.connections home size (f.config).subscriber_max_borrowed_samples key mid.connections
+        → (key : ℕ) → MakesConnection f.connections home size (f.config).subscriber_max_borrowed_samples (channel_count f.config) key mid.connections
         → (f' : Fields T U) → f' ≡ record mid { subscribers = changed_at (with_receiver_key i key) mid.subscribers j } → ConnectsEnd environment f j i y x.id f' None
     makes-as room_x room_y room_expired key made f' is =
         end-from-grown f sound i j x y n m e at_x at_y more_x more_y more_e environment f' None
@@ -84,8 +84,8 @@ module _ {T U : Type 0} (environment : Environment) (f : Fields T U) (sound : Is
         (room_y (with_receiver_rooms m e y) (ap (λ (h : Fields T U). get_or h.subscribers j None) mid-is ∙ here_y))
         (subst (λ (h : Home). connection_count f.connections h.subscriber < e) home-is (room_expired (with_receiver_rooms m e y) (ap (λ (h : Fields T U). get_or h.subscribers j None) mid-is ∙ here_y)))
         key mid.connections
-        (subst (λ (h : Home). MakesConnection f.connections h y.buffer (f.config).subscriber_max_borrowed_samples key mid.connections) home-is
-        (subst (λ k. MakesConnection f.connections home k (f.config).subscriber_max_borrowed_samples key mid.connections) size-is made))))
+        (subst (λ (h : Home). MakesConnection f.connections h y.buffer (f.config).subscriber_max_borrowed_samples (channel_count f.config) key mid.connections) home-is
+        (subst (λ k. MakesConnection f.connections home k (f.config).subscriber_max_borrowed_samples (channel_count f.config) key mid.connections) size-is made))))
       where
         after : f' ≡ record g { subscribers = slice_set g.subscribers j (Some (with_receiver_key i key (with_receiver_rooms m e y))); connections = mid.connections }
         after = is

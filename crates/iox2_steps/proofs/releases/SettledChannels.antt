@@ -108,7 +108,7 @@ module _ {T U : Type 0} (f f' : Fields T U) (parts : HasParts f) (parts' : HasPa
           (is_between-own c.home.publisher c.home.subscriber c refl refl) in
           let both : Some was.link ≡ Some c = sym was.stands ∙ ap (get f.connections) here ∙ at in
           let is : was.link ≡ c = cc in
-          record { key = k; link = d; stands = at_d; home = sym was.home ∙ ap (λ (l : Link). l.home) is; channel = sym was.channel ∙ ap (λ (l : Link). l.channel) is }
+          record { key = k; link = d; stands = at_d; home = sym was.home ∙ ap (λ (l : Link). l.home) is; channels = sym was.channels ∙ ap (λ (l : Link). l.channels) is }
 
   loses-follow : ChannelsFollow (λ home. home.subscriber ≡ id) (λ _ _. Unit {0}) f.connections f'.connections
   loses-follow = record {

@@ -1,27 +1,26 @@
 -- Channels follow their connections: step by step, and in the end as a port's step leaves them.
-use Rattle.std.proofs.Common.{◌≡◌, ℕ, Bool, true, false, cond, eqb, refl, ap, sym, subst, ◌∙◌, inl, inr, ◌⊎◌, Option, None, Some, get_or}
+use Rattle.std.proofs.Common.{◌≡◌, ℕ, List, Bool, true, false, refl, ap, sym, subst, ◌∙◌, inl, inr, ◌⊎◌, Option, None, Some, get_or}
 use Rattle.std.proofs.lemmas.Bool.{eqb-true}
 use Rattle.std.specs.Option.{option_map}
 use Rattle.slab.specs.Slab.{Slab, get}
-use Rattle.iox2_slots.specs.Link.{Link}
+use Rattle.iox2_slots.specs.Link.{Link, channel_at}
 use Rattle.iox2_slots.specs.declared.connection.Home.{Home}
-use Rattle.iox2_store.specs.machine.Channel.{Channel, new_channel, new_channels}
+use Rattle.iox2_store.specs.machine.Channel.{Channel, new_channels}
 use Rattle.iox2_ends.specs.Homes.{IsApart, SameHomes, fixed_of}
 use Rattle.iox2_ends.specs.LookUp.{look_up}
-use Rattle.iox2_ends.specs.Mailboxes.{is_between, channels_of, channels_if_any, channels_in}
+use Rattle.iox2_ends.specs.Mailboxes.{is_between, channels_if_any, channels_in}
 use Rattle.iox2_ends.proofs.LookUps.{look_up-nothing, look_up-there, look_up-none}
 use Rattle.iox2_ends.proofs.MailboxChanges.{is_between-own, both-true, channels-there}
 use Rattle.iox2_domain.specs.KeptLinks.{HasLink, SameChannels, NoLink, IsMade, ChannelsFollow}
 use Rattle.iox2_domain.proofs.lemmas.containers.Extensions.{Extends}
-use mathlib.Core.Path.{fun_ext}
 
 -- a connection that stands is there
 pub has-link : (connections : Slab Link) (key : ℕ) (c : Link) → get connections key ≡ Some c → HasLink connections c
-has-link connections key c at = record { key = key; link = c; stands = at; home = refl; channel = refl }
+has-link connections key c at = record { key = key; link = c; stands = at; home = refl; channels = refl }
 
 -- the same of a connection that has become another
-pub link-through : (connections : Slab Link) (c d : Link) → c.home ≡ d.home → c.channel ≡ d.channel → HasLink connections c → HasLink connections d
-link-through connections c d home channel has = record { key = has.key; link = has.link; stands = has.stands; home = has.home ∙ home; channel = has.channel ∙ channel }
+pub link-through : (connections : Slab Link) (c d : Link) → c.home ≡ d.home → c.channels ≡ d.channels → HasLink connections c → HasLink connections d
+link-through connections c d home channel has = record { key = has.key; link = has.link; stands = has.stands; home = has.home ∙ home; channels = has.channels ∙ channel }
 
 -- where none stands, channels are new
 pub none-new : (connections : Slab Link) (p q : ℕ) → NoLink connections p q → channels_in connections p q ≡ new_channels
@@ -33,21 +32,21 @@ none-new connections p q none = ap channels_if_any (look_up-nothing (is_between 
   by false i c e at = refl
 
 -- a connection that has the same home and channel stood there
-pub stood : (a b : Slab Link) (key : ℕ) → option_map {U = Home × Channel} (λ (c : Link). (c.home, c.channel)) (get b key) ≡ option_map (λ (c : Link). (c.home, c.channel)) (get a key)
+pub stood : (a b : Slab Link) (key : ℕ) → option_map {U = Home × List Channel} (λ (c : Link). (c.home, c.channels)) (get b key) ≡ option_map (λ (c : Link). (c.home, c.channels)) (get a key)
     → (d : Link) → get b key ≡ Some d → HasLink a d
-stood a b key e d at = by (get a key) refl (sym e ∙ ap (option_map (λ (c : Link). (c.home, c.channel))) at) where
-  by : (o : Option Link) → get a key ≡ o → option_map {U = Home × Channel} (λ (c : Link). (c.home, c.channel)) o ≡ Some (d.home, d.channel) → HasLink a d
+stood a b key e d at = by (get a key) refl (sym e ∙ ap (option_map (λ (c : Link). (c.home, c.channels))) at) where
+  by : (o : Option Link) → get a key ≡ o → option_map {U = Home × List Channel} (λ (c : Link). (c.home, c.channels)) o ≡ Some (d.home, d.channels) → HasLink a d
   by None there h = absurd cc
   by (Some c) there h =
-      let both : (c.home, c.channel) ≡ (d.home, d.channel) = cc in
-      record { key = key; link = c; stands = there; home = ap (λ (t : Home × Channel). t.0) both; channel = ap (λ (t : Home × Channel). t.1) both }
+      let both : (c.home, c.channels) ≡ (d.home, d.channels) = cc in
+      record { key = key; link = c; stands = there; home = ap (λ (t : Home × List Channel). t.0) both; channels = ap (λ (t : Home × List Channel). t.1) both }
 
 -- where connections stay what they are, so do their channels
 pub same-channels : (old new : Slab Link) → SameHomes old new → SameChannels old new
 same-channels old new same = record {
-  same = λ key. through (get new key) ∙ ap (option_map (λ (t : Home × ℕ × ℕ × Bool × Channel). (t.0, t.4))) (same.same key) ∙ sym (through (get old key));
+  same = λ key. through (get new key) ∙ ap (option_map (λ (t : Home × ℕ × ℕ × Bool × List Channel). (t.0, t.4))) (same.same key) ∙ sym (through (get old key));
 } where
-  through : (o : Option Link) → option_map {U = Home × Channel} (λ (c : Link). (c.home, c.channel)) o ≡ option_map (λ (t : Home × ℕ × ℕ × Bool × Channel). (t.0, t.4)) (option_map fixed_of o)
+  through : (o : Option Link) → option_map {U = Home × List Channel} (λ (c : Link). (c.home, c.channels)) o ≡ option_map (λ (t : Home × ℕ × ℕ × Bool × List Channel). (t.0, t.4)) (option_map fixed_of o)
   through None = refl
   through (Some c) = refl
 
@@ -94,10 +93,9 @@ module _ (Own : Home → Type 0) (Gone : ℕ → ℕ → Type 0) where
       by : (key : ℕ) (d : Link) → get new key ≡ Some d → Own d.home × (Gone d.home.publisher d.home.subscriber → ⊥) → (o : Option Link) → get old key ≡ o → HasLink old d ⊎ IsMade Own Gone old d
       by key d at made None free = inr (record {
         own = made.0;
-        is_new = ap (λ (channels : ℕ → Channel). channels 0)
-            (sym (channels-there new key d.home.publisher d.home.subscriber d e.apart at refl refl)
+        is_new = sym (channels-there new key d.home.publisher d.home.subscriber d e.apart at refl refl)
             ∙ e.channels d.home.publisher d.home.subscriber
-            ∙ none-new old d.home.publisher d.home.subscriber (none key d at free));
+            ∙ none-new old d.home.publisher d.home.subscriber (none key d at free);
         none = none key d at free;
         present = made.1;
       })
@@ -112,10 +110,10 @@ module _ (Own : Home → Type 0) (Gone : ℕ → ℕ → Type 0) where
     kept : (key : ℕ) (d : Link) → get c key ≡ Some d → HasLink a d ⊎ IsMade Own Gone a d
     kept key d at = elim (y.kept key d at) [
       | inl has ↦ elim (x.kept has.key has.link has.stands) [
-        | inl before ↦ inl (link-through a has.link d has.home has.channel before)
+        | inl before ↦ inl (link-through a has.link d has.home has.channels before)
         | inr made ↦ inr (record {
           own = subst Own has.home made.own;
-          is_new = sym has.channel ∙ made.is_new;
+          is_new = ap channel_at (sym has.channels) ∙ made.is_new;
           none = subst (λ (h : Home). NoLink a h.publisher h.subscriber) has.home made.none;
           present = subst (λ (h : Home). Gone h.publisher h.subscriber → ⊥) has.home made.present;
         })
@@ -134,7 +132,7 @@ module _ (Own : Home → Type 0) (Gone : ℕ → ℕ → Type 0) where
     lost : (key : ℕ) (l : Link) → get a key ≡ Some l → HasLink c l ⊎ (Own l.home × Gone l.home.publisher l.home.subscriber)
     lost key l at = elim (x.lost key l at) [
       | inl still ↦ elim (y.lost still.key still.link still.stands) [
-        | inl there ↦ inl (link-through c still.link l still.home still.channel there)
+        | inl there ↦ inl (link-through c still.link l still.home still.channels there)
         | inr gone ↦ inr (subst Own still.home gone.0, subst (λ (h : Home). Gone h.publisher h.subscriber) still.home gone.1)
       ]
       | inr gone ↦ inr gone
@@ -144,19 +142,10 @@ module _ (Own : Home → Type 0) (Gone : ℕ → ℕ → Type 0) where
   pub follow-there : (old new : Slab Link) → IsApart old → IsApart new → ChannelsFollow Own Gone old new → (key : ℕ) (d : Link) → get new key ≡ Some d
       → channels_in new d.home.publisher d.home.subscriber ≡ channels_in old d.home.publisher d.home.subscriber
   follow-there old new apart apart' x key d at = channels-there new key d.home.publisher d.home.subscriber d apart' at refl refl ∙ elim (x.kept key d at) [
-    | inl has ↦ ap channels_of (sym has.channel)
+    | inl has ↦ ap channel_at (sym has.channels)
         ∙ sym (channels-there old has.key d.home.publisher d.home.subscriber has.link apart has.stands (ap (λ (h : Home). h.publisher) has.home) (ap (λ (h : Home). h.subscriber) has.home))
-    | inr made ↦ ap channels_of made.is_new ∙ fresh ∙ sym (none-new old d.home.publisher d.home.subscriber made.none)
+    | inr made ↦ made.is_new ∙ sym (none-new old d.home.publisher d.home.subscriber made.none)
   ]
-    where
-      fresh : channels_of new_channel ≡ new_channels
-      fresh = fun_ext new_is where
-        alike : (b : Bool) → cond b new_channel new_channel ≡ new_channel
-        alike true = refl
-        alike false = refl
-
-        new_is : (i : ℕ) → channels_of new_channel i ≡ new_channel
-        new_is i = alike (eqb i 0)
 
   -- between ports of which none is gone channels are what they were
   pub follow-present : (old new : Slab Link) → IsApart old → IsApart new → ChannelsFollow Own Gone old new → (p q : ℕ) → (Gone p q → ⊥) → channels_in new p q ≡ channels_in old p q

@@ -10,7 +10,7 @@ use Rattle.iox2_domain.proofs.lemmas.fields.KeptChannels.{but-channels, channels
 use Rattle.iox2_steps.proofs.updates.FollowedChannels.{follow-both, follow-same}
 use Rattle.iox2_domain.specs.Updates.{subscriber_but_room}
 use Rattle.slab.specs.Slab.{Slab, get, with_value, ContainsKey}
-use Rattle.iox2_slots.specs.Link.{is_shut, Link, load}
+use Rattle.iox2_slots.specs.Link.{channel_at, is_shut, Link, load}
 use Rattle.iox2_slots.specs.SlotBook.{Book, holders_at}
 use Rattle.iox2_store.specs.machine.Mailbox.{Mailbox, with_waiting}
 use Rattle.iox2_store.specs.machine.Numbers.{put_at, last_n}
@@ -234,7 +234,7 @@ module _ {T U : Type 0} (environment : Environment) (f : Fields T U) (sound : Is
   -- ---- the channel
 
   -- it has the same as before
-  channel-is : s.channels x.id q 0 ≡ (made.link).channel
+  channel-is : s.channels x.id q 0 ≡ channel_at (made.link).channels 0
   channel-is =
       ap (λ (t : State T U). t.channels x.id q 0) (sym made.state)
       ∙ ap (λ (channels : ℕ → ℕ → ℕ → Channel). channels x.id q 0) (channels-are f1)

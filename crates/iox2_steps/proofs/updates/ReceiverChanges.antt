@@ -1,9 +1,10 @@
 -- A subscriber gets keys of its connections, one of which may be new.
-use Rattle.std.proofs.Common.{◌≡◌, ◌<◌, ◌≤◌, ℕ, Bool, false, List, [], get_or, slice_set, ◌⊎◌}
+use Rattle.std.proofs.Common.{◌≡◌, ◌<◌, ◌≤◌, ℕ, Bool, false, List, [], length, get_or, slice_set, ◌⊎◌}
 use Rattle.std.specs.declared.option.Option.{Option}
 use Rattle.std.specs.declared.option.Option.TheVariants.{None, Some}
 use Rattle.slab.specs.Slab.{Slab, get}
 use Rattle.iox2_slots.specs.Link.{Link}
+use Rattle.iox2_store.specs.machine.Limits.{channel_count}
 use Rattle.iox2_ends.specs.Finds.{IsReceiverLinked}
 use Rattle.iox2_domain.specs.WarningRing.{WarningRing}
 use Rattle.iox2_domain.specs.Ports.{PublisherFields, SubscriberFields}
@@ -27,6 +28,7 @@ pub record IsNewOfReceiver {T U : Type 0} (f : Fields T U) (j : ℕ) (y : Subscr
   pub has : get_or keys c.home.publisher_place None ≡ Some key
   pub room : c.home.publisher_place < key_room
   pub limit : c.limit ≡ (f.config).subscriber_max_borrowed_samples
+  pub channels : length c.channels ≡ channel_count f.config
   pub unmarked : c.is_open ≡ false
   pub buffer : c.buffer ≡ y.buffer
   pub returned : c.returned ≡ []

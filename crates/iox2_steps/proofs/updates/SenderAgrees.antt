@@ -121,6 +121,7 @@ module _ {T U : Type 0} (f : Fields T U) (sound : IsDomain f) (i : ℕ) (x : Pub
           rw is new.subscriber_room
     ];
     limits = λ key c at_c. elim (fits.news key c at_c) [ inl old ↦ sound.parts.linked.limits key c old | inr new ↦ new.limit ];
+    channel_counts = λ key c at_c. elim (fits.news key c at_c) [ inl old ↦ sound.parts.linked.channel_counts key c old | inr new ↦ new.channels ];
     returned = λ key c at_c. elim (fits.news key c at_c) [
       | inl old ↦ elim (sound.parts.linked.returned key c old) [ inl has ↦ inl (has-still key c has) | inr none ↦ inr none ]
       | inr new ↦ inl (has-new key c new)

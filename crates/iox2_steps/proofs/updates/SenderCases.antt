@@ -3,14 +3,15 @@ use Rattle.std.proofs.lemmas.Bool.{eq-eqb, and_from}
 use Rattle.iox2_domain.proofs.lemmas.containers.LookUps.{map-at}
 use Rattle.iox2_domain.proofs.lemmas.fields.Views.{mailboxes-are, nothing-blocked}
 use Rattle.std.proofs.Common.{◌≡◌, ◌<◌, ℕ, le_refl, true, false, Bool, cond, List, [], ◌∷◌, length, map, arith, get_or, slice_set, refl, ap, sym, subst, ◌∙◌, inl, inr}
-use Rattle.std.proofs.lemmas.List.{set-get_or}
+use Rattle.std.proofs.lemmas.List.{set-get_or, length-replicate}
 use Rattle.std.proofs.lemmas.Option.{none-some}
 use Rattle.std.specs.declared.option.Option.{Option}
 use Rattle.std.specs.declared.option.Option.TheVariants.{None, Some}
 use Rattle.std.specs.Option.{option_map, option_map_or}
 use Rattle.slab.specs.Slab.{Slab, get}
 use Rattle.iox2_store.specs.machine.Connections.{DegradationAnswers, failure_of, warnings_after}
-use Rattle.iox2_store.specs.machine.Limits.{warning_limit}
+use Rattle.iox2_store.specs.machine.Channel.{new_channel}
+use Rattle.iox2_store.specs.machine.Limits.{channel_count, warning_limit}
 use Rattle.iox2_slots.specs.Link.{Link, empty_link, load}
 use Rattle.iox2_store.specs.machine.Mailbox.{Mailbox}
 use Rattle.iox2_store.specs.machine.Places.{occupant, set_place, is_port}
@@ -137,19 +138,22 @@ module _ {T U : Type 0} (environment : Environment) (f : Fields T U) (sound : Is
       abbrev most : ℕ
       most = (f.config).subscriber_max_borrowed_samples
 
+      abbrev channels : ℕ
+      channels = channel_count f.config
+
       abbrev link : Link
-      link = empty_link (home_of i j x y) y.buffer most
+      link = empty_link (home_of i j x y) y.buffer most channels
 
       nobody : look_up (is_between x.id y.id) f.connections.slots ≡ None
       nobody = no-connection f sound.parts i j x y at_x at_y sound.well_formed
           (λ key c has at its. none-some key (sym none ∙ has))
           (λ key c has at its. none-some key (sym none_y ∙ ap (key_from f.connections x.id) has ∙ key-from f.connections x.id key c at its))
 
-      extends : (key : ℕ) (new : Slab Link) → MakesConnection f.connections (home_of i j x y) y.buffer most key new → Extends f.connections new
-      extends key new made = made-extends f.connections new (home_of i j x y) y.buffer most key sound.parts.apart nobody made
+      extends : (key : ℕ) (new : Slab Link) → MakesConnection f.connections (home_of i j x y) y.buffer most channels key new → Extends f.connections new
+      extends key new made = made-extends f.connections new (home_of i j x y) y.buffer most channels key sound.parts.apart nobody made
 
       -- a connection is made
-      pub makes-connection : j < x.key_room → i < y.key_room → connection_count f.connections y.id < y.expired_room → (key : ℕ) (new : Slab Link) → MakesConnection f.connections (home_of i j x y) y.buffer (f.config).subscriber_max_borrowed_samples key new
+      pub makes-connection : j < x.key_room → i < y.key_room → connection_count f.connections y.id < y.expired_room → (key : ℕ) (new : Slab Link) → MakesConnection f.connections (home_of i j x y) y.buffer (f.config).subscriber_max_borrowed_samples (channel_count f.config) key new
           → MakesSenderEnd environment f i j x key (connected_sender f i x (set_place x.keys j (Some key)) new f.warnings)
       makes-connection room room_y room_expired key new made =
           makes-empty environment f sound i j x y at_x at_y due free opened none (keys_with key) new (record {
@@ -158,7 +162,7 @@ module _ {T U : Type 0} (environment : Environment) (f : Fields T U) (sound : Is
             rooms = room-made f.subscribers f.connections new key link made.was_free made.made (room-here f sound j y at_y room_expired) sound.parts.expired_room;
             linked = linked-with new key link (sender_linked f.connections new (extends key new made) x.id x.keys (sound.parts.linked.senders i x at_x)) made.made.changed refl refl;
             keeps = set_place-keeps x.keys j key none;
-            news = λ k c at. elim (made-news f.connections new (home_of i j x y) y.buffer most key sound.parts.apart nobody made k c at) [
+            news = λ k c at. elim (made-news f.connections new (home_of i j x y) y.buffer most channels key sound.parts.apart nobody made k c at) [
               | inl old ↦ inl old
               | inr is ↦ inr (rw (is.0, is.1) (record {
                 publisher = refl;
@@ -167,6 +171,7 @@ module _ {T U : Type 0} (environment : Environment) (f : Fields T U) (sound : Is
                 has = set_place-here x.keys j (Some key);
                 room = room;
                 limit = refl;
+                channels = length-replicate channels new_channel;
                 unmarked = refl;
                 subscriber = y;
                 stands = at_y;

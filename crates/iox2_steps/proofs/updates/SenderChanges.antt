@@ -1,11 +1,12 @@
 -- A publisher gets keys of its connections, one of which may be new.
-use Rattle.std.proofs.Common.{◌≡◌, ◌<◌, ◌≤◌, le_refl, ℕ, Bool, false, List, map, get_or, slice_set, refl, ap, sym, ◌∙◌, ◌⊎◌, inl, inr}
+use Rattle.std.proofs.Common.{◌≡◌, ◌<◌, ◌≤◌, le_refl, ℕ, Bool, false, List, length, map, get_or, slice_set, refl, ap, sym, ◌∙◌, ◌⊎◌, inl, inr}
 use Rattle.std.proofs.lemmas.List.{map-set}
 use Rattle.std.specs.declared.option.Option.{Option}
 use Rattle.std.specs.declared.option.Option.TheVariants.{None, Some}
 use Rattle.std.specs.Option.{option_map}
 use Rattle.slab.specs.Slab.{Slab, get}
 use Rattle.iox2_slots.specs.Link.{Link}
+use Rattle.iox2_store.specs.machine.Limits.{channel_count}
 use Rattle.iox2_store.specs.machine.Numbers.{put_at}
 use Rattle.iox2_store.specs.machine.Records.{Publisher}
 use Rattle.iox2_ends.specs.Homes.{IsSenderLinked}
@@ -43,6 +44,7 @@ pub record IsNewOfSender {T U : Type 0} (f : Fields T U) (i : ℕ) (x : Publishe
   pub has : get_or keys c.home.subscriber_place None ≡ Some key
   pub room : c.home.subscriber_place < key_room
   pub limit : c.limit ≡ (f.config).subscriber_max_borrowed_samples
+  pub channels : length c.channels ≡ channel_count f.config
   pub unmarked : c.is_open ≡ false
   pub subscriber : SubscriberFields
   pub stands : get_or f.subscribers c.home.subscriber_place None ≡ Some subscriber

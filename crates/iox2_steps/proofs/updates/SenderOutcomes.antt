@@ -9,7 +9,7 @@ use Rattle.std.proofs.lemmas.Option.{same_Some}
 use Rattle.iox2_slots.specs.Link.{Link}
 use Rattle.iox2_store.specs.machine.Places.{is_port}
 use Rattle.iox2_store.specs.machine.Connections.{DegradationAnswers, failure_of, warnings_after}
-use Rattle.iox2_store.specs.machine.Limits.{warning_limit}
+use Rattle.iox2_store.specs.machine.Limits.{channel_count, warning_limit}
 use Rattle.iox2_store.specs.machine.Records.{Environment, Handler}
 use Rattle.iox2_slots.specs.declared.connection.Home.{Home}
 use Rattle.iox2_store.specs.declared.degradation.DegradationAction.{DegradationAction}
@@ -125,7 +125,7 @@ module _ {T U : Type 0} (environment : Environment) (f : Fields T U) (sound : Is
         pub makes-as : ((z : PublisherFields) → get_or mid.publishers i None ≡ Some z → j < z.key_room)
             → ((z : SubscriberFields) → get_or mid.subscribers j None ≡ Some z → i < z.key_room)
             → ((z : SubscriberFields) → get_or mid.subscribers j None ≡ Some z → connection_count f.connections home.subscriber < z.expired_room)
-            → (key : ℕ) → MakesConnection f.connections home size (f.config).subscriber_max_borrowed_samples key mid.connections
+            → (key : ℕ) → MakesConnection f.connections home size (f.config).subscriber_max_borrowed_samples (channel_count f.config) key mid.connections
             → (f' : Fields T U) → f' ≡ record mid { publishers = changed_at (with_sender_key j key) mid.publishers i } → MakesSenderEnd environment f i j x key f'
         makes-as room_x room_y room_expired key made f' is =
             end-from f i j x y n m e sound at_x apart.subscriber_stands more_x more_y more_e environment key f'
@@ -135,8 +135,8 @@ module _ {T U : Type 0} (environment : Environment) (f : Fields T U) (sound : Is
             (room_y (with_receiver_rooms m e y) (ap (λ (h : Fields T U). get_or h.subscribers j None) mid-is ∙ here_y))
             (subst (λ (h : Home). connection_count f.connections h.subscriber < e) (home-is f sound i j x at_x home size apart) (room_expired (with_receiver_rooms m e y) (ap (λ (h : Fields T U). get_or h.subscribers j None) mid-is ∙ here_y)))
             key mid.connections
-            (subst (λ (h : Home). MakesConnection f.connections h y.buffer (f.config).subscriber_max_borrowed_samples key mid.connections) (home-is f sound i j x at_x home size apart)
-            (subst (λ k. MakesConnection f.connections home k (f.config).subscriber_max_borrowed_samples key mid.connections) apart.buffer_is made))))
+            (subst (λ (h : Home). MakesConnection f.connections h y.buffer (f.config).subscriber_max_borrowed_samples (channel_count f.config) key mid.connections) (home-is f sound i j x at_x home size apart)
+            (subst (λ k. MakesConnection f.connections home k (f.config).subscriber_max_borrowed_samples (channel_count f.config) key mid.connections) apart.buffer_is made))))
           where
             after : f' ≡ record g { publishers = slice_set g.publishers i (Some (with_sender_key j key (with_sender_room n x))); connections = mid.connections }
             after = is

@@ -12,9 +12,13 @@ buffer_limit c = max 1 c.subscriber_max_buffer_size
 abbrev pub expired_limit : ServiceConfig → ℕ
 expired_limit c = max c.subscriber_expired_connection_buffer c.subscriber_max_borrowed_samples
 
--- For each subscriber its buffer and what it may borrow; then the history; then the loans.
+-- How many channels each connection has: at least one.
+abbrev pub channel_count : ServiceConfig → ℕ
+channel_count c = max 1 c.number_of_channels
+
+-- For each channel of each subscriber its buffer and what it may borrow; then the history; then the loans.
 abbrev pub worst_case : ServiceConfig → (loans : ℕ) → ℕ
-worst_case c loans = c.max_subscribers * (buffer_limit c + c.subscriber_max_borrowed_samples) + c.history_size + loans
+worst_case c loans = c.max_subscribers * channel_count c * (buffer_limit c + c.subscriber_max_borrowed_samples) + c.history_size + loans
 
 -- A counter of ports or messages ends here: this number is never given out.
 abbrev pub last_number : ℕ

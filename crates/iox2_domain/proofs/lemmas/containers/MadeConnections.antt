@@ -1,19 +1,20 @@
 -- A connection is made, where there was none between its ports.
-use Rattle.std.proofs.Common.{◌≡◌, ◌≢◌, ℕ, ◌+◌, zero, suc, List, [], ◌∷◌, true, false, Bool, cond, eqb, ◌&&◌, get_or, refl, ap, sym, ◌∙◌, ◌⊎◌, inl, inr, arith}
+use Rattle.std.proofs.Common.{◌≡◌, ◌≢◌, ℕ, ◌+◌, zero, suc, List, [], ◌∷◌, true, false, Bool, cond, ◌&&◌, get_or, refl, ap, sym, ◌∙◌, ◌⊎◌, inl, inr, arith, replicate}
 use Rattle.std.proofs.lemmas.Bool.{cases_eq, eqb-true}
 use Rattle.std.proofs.lemmas.List.Sums.{sum_by-cons}
 use Rattle.std.specs.List.{sum_by}
 use Rattle.std.specs.declared.option.Option.{Option}
 use Rattle.std.specs.declared.option.Option.TheVariants.{None, Some}
 use Rattle.slab.specs.Slab.{Slab, get}
-use Rattle.iox2_slots.specs.Link.{Link, empty_link}
+use Rattle.iox2_slots.specs.Link.{Link, channel_at, empty_link}
 use Rattle.iox2_slots.specs.declared.connection.Home.{Home}
 use Rattle.iox2_ends.specs.LookUp.{look_up}
 use Rattle.iox2_ends.specs.Homes.{IsApart}
 use Rattle.iox2_ends.specs.Counters.{stands}
-use Rattle.iox2_ends.specs.Mailboxes.{is_between, mailboxes_of, mailbox_if_any, channels_of, channels_if_any, channels_in}
+use Rattle.iox2_ends.specs.Mailboxes.{is_between, mailboxes_of, mailbox_if_any, channels_if_any, channels_in}
 use Rattle.iox2_store.specs.machine.Channel.{new_channel}
 use mathlib.Core.Path.{fun_ext}
+use Rattle.iox2_slots.proofs.ChannelLists.{all-new}
 use Rattle.iox2_domain.specs.Updates.{MakesConnection}
 use Rattle.iox2_domain.proofs.lemmas.containers.LookUps.{look_up-written, IsOnly-inserted}
 use Rattle.iox2_domain.proofs.lemmas.containers.Extensions.{Extends}
@@ -42,10 +43,10 @@ module _ {A : Type 0} (f : Option A → ℕ) (nothing : f None ≡ 0) where
 
 -- ---- connections
 
-module _ (old new : Slab Link) (home : Home) (buffer limit key : ℕ) (apart : IsApart old)
-    (none : look_up (is_between home.publisher home.subscriber) old.slots ≡ None) (made : MakesConnection old home buffer limit key new) where
+module _ (old new : Slab Link) (home : Home) (buffer limit count key : ℕ) (apart : IsApart old)
+    (none : look_up (is_between home.publisher home.subscriber) old.slots ≡ None) (made : MakesConnection old home buffer limit count key new) where
   abbrev link : Link
-  link = empty_link home buffer limit
+  link = empty_link home buffer limit count
 
   both : (a b : Bool) → (a && b) ≡ true → (a ≡ true) × (b ≡ true)
   both true b e = (refl, e)
@@ -88,12 +89,8 @@ module _ (old new : Slab Link) (home : Home) (buffer limit key : ℕ) (apart : I
     where
       by : (b : Bool) → is_between p q link ≡ b → channels_if_any (cond b (Some link) (look_up (is_between p q) old.slots)) ≡ channels_if_any (look_up (is_between p q) old.slots)
       by true e = fun_ext fresh ∙ sym (ap channels_if_any (none_between p q e)) where
-        alike : (b : Bool) → cond b new_channel new_channel ≡ new_channel
-        alike true = refl
-        alike false = refl
-
-        fresh : (k : ℕ) → channels_of new_channel k ≡ new_channel
-        fresh k = alike (eqb k 0)
+        fresh : (k : ℕ) → channel_at (replicate count new_channel) k ≡ new_channel
+        fresh k = all-new count k
       by false e = refl
 
   made-grows : (k : ℕ) (c : Link) → get old k ≡ Some c → get new k ≡ Some c

@@ -1,5 +1,5 @@
 -- A connection is marked as open between open ports, or as open no more.
-use Rattle.std.proofs.Common.{◌≡◌, ℕ, ◌+◌, ◌≤◌, Bool, true, map, slice_set, refl, ap, sym, subst, ◌∙◌, inl, inr, ◌⊎◌, Option, None, Some}
+use Rattle.std.proofs.Common.{◌≡◌, ℕ, ◌+◌, ◌≤◌, Bool, true, length, map, slice_set, refl, ap, sym, subst, ◌∙◌, inl, inr, ◌⊎◌, Option, None, Some}
 use Rattle.std.proofs.lemmas.Bool.{cases_eq}
 use Rattle.std.proofs.lemmas.List.{map-set, set-get_or}
 use Rattle.std.specs.Prelude.{[]}
@@ -8,6 +8,7 @@ use Rattle.slab.specs.Slab.{Slab, Updates, get, with_value}
 use Rattle.iox2_slots.specs.Link.{Link}
 use Rattle.iox2_slots.specs.declared.connection.Home.{Home}
 use Rattle.iox2_store.specs.machine.WellFormed.{IsWellFormed}
+use Rattle.iox2_store.specs.machine.Limits.{channel_count}
 use Rattle.iox2_ends.specs.Counters.{stands}
 use Rattle.iox2_ends.specs.Homes.{IsApart}
 use Rattle.iox2_ends.specs.Mailboxes.{is_between}
@@ -111,6 +112,12 @@ module _ {T U : Type 0} (f : Fields T U) (sound : IsDomain f) (key : ℕ) (c : L
     | inr old ↦ sound.parts.linked.marked k d old is
   ]
 
+  counts : (k : ℕ) (d : Link) → get new k ≡ Some d → length d.channels ≡ channel_count f.config
+  counts k d at_d = elim (mark-was k d at_d) [
+    | inl here ↦ ap (λ (e : Link). length e.channels) here.1 ∙ sound.parts.linked.channel_counts k c (ap (get f.connections) here.0 ∙ at)
+    | inr old ↦ sound.parts.linked.channel_counts k d old
+  ]
+
   room : HasExpiredRoom f.subscribers new
   room = record {
     at = λ i y at_y. subst (λ (n : ℕ). n ≤ y.expired_room) (sym (sum-alike (one_if_receivers y.id) refl new.slots f.connections.slots (alike (one_if_receivers y.id) refl))) (sound.parts.expired_room.at i y at_y);
@@ -144,7 +151,7 @@ module _ {T U : Type 0} (f : Fields T U) (sound : IsDomain f) (key : ℕ) (c : L
     publisher_ids = sound.parts.publisher_ids;
     subscriber_ids = sound.parts.subscriber_ids;
     apart = apart;
-    linked = linked-seated f new seats sound.parts.linked returned marked;
+    linked = linked-seated f new seats sound.parts.linked counts returned marked;
     expired_room = room;
     books = books;
     names = names;
@@ -164,5 +171,5 @@ module _ {T U : Type 0} (f : Fields T U) (sound : IsDomain f) (key : ℕ) (c : L
         (subst KeepsEntries (sym mark-kept) sound.entries);
     fields = refl;
     kept = mark-kept;
-    same = record { same = alike (option_map (λ (l : Link). (l.home, l.channel))) refl };
+    same = record { same = alike (option_map (λ (l : Link). (l.home, l.channels))) refl };
   }

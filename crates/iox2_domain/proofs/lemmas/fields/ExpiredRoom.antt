@@ -31,7 +31,7 @@ count-still old new same q = sum-alike (one_if_receivers q) refl old.slots new.s
   by (Some c) None e = absurd cc
   by (Some c) (Some d) e =
       let is : fixed_of d ≡ fixed_of c = cc in
-      ap (λ (t : Home × ℕ × ℕ × Bool × Channel). one_if_receivers q (Some (record c { home = t.0 }))) is
+      ap (λ (t : Home × ℕ × ℕ × Bool × List Channel). one_if_receivers q (Some (record c { home = t.0 }))) is
 
 -- so the room suffices
 pub room-still : (subscribers : List (Option SubscriberFields)) (old new : Slab Link) → SameHomes old new → HasExpiredRoom subscribers old → HasExpiredRoom subscribers new

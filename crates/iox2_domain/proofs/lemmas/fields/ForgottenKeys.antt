@@ -181,6 +181,7 @@ module _ {T U : Type 0} (f : Fields T U) (parts : HasParts f) (publishers : List
         subst (λ (n : ℕ). c.home.publisher_place < n) (sym (ap (λ (z : SubscriberFields). z.key_room) was.2.fields))
         (parts.linked.receiver_rooms key i c was.0 (g.fewer key c at_c) was.1 (sym (ap (λ (z : SubscriberFields). z.id) was.2.fields) ∙ same));
     limits = λ key c at. parts.linked.limits key c (g.fewer key c at);
+    channel_counts = λ key c at. parts.linked.channel_counts key c (g.fewer key c at);
     returned = g.returned;
     marked = g.marked;
   } where

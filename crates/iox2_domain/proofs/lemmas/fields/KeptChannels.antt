@@ -2,12 +2,12 @@
 use Rattle.std.proofs.Common.{◌≡◌, ℕ, zero, suc, Bool, true, false, cond, List, [], ◌∷◌, Option, None, Some, get_or, refl, ap, sym, ◌∙◌}
 use Rattle.std.specs.Option.{option_map}
 use Rattle.slab.specs.Slab.{Slab}
-use Rattle.iox2_slots.specs.Link.{Link}
+use Rattle.iox2_slots.specs.Link.{Link, channel_at}
 use Rattle.iox2_slots.specs.declared.connection.Home.{Home}
 use Rattle.iox2_store.specs.machine.Channel.{Channel, new_channels}
 use Rattle.iox2_ends.specs.LookUp.{look_up}
 use Rattle.iox2_ends.specs.Homes.{SameHomes, fixed_of}
-use Rattle.iox2_ends.specs.Mailboxes.{is_between, channels_of, channels_if_any, channels_in}
+use Rattle.iox2_ends.specs.Mailboxes.{is_between, channels_if_any, channels_in}
 use Rattle.iox2_domain.specs.Kept.{state_of, stands_between, channels_if_between}
 use Rattle.iox2_domain.specs.Fields.{Fields, kept_of, between_of}
 use Rattle.iox2_domain.specs.Midway.{with_channels_of}
@@ -67,16 +67,16 @@ look_up-alike g test (Some x ∷ xs) (Some y ∷ ys) same =
 pub channels-still : (old new : Slab Link) → SameHomes old new → channels_in new ≡ channels_in old
 channels-still old new same = fun_ext (λ p. fun_ext (λ q.
     through (look_up (is_between p q) new.slots)
-    ∙ ap of_fixed (look_up-alike fixed_of (λ (t : Home × ℕ × ℕ × Bool × Channel). is_between p q (link_at t)) old.slots new.slots same.same)
+    ∙ ap of_fixed (look_up-alike fixed_of (λ (t : Home × ℕ × ℕ × Bool × List Channel). is_between p q (link_at t)) old.slots new.slots same.same)
     ∙ sym (through (look_up (is_between p q) old.slots))))
   where
     -- a connection that has these
-    link_at : Home × ℕ × ℕ × Bool × Channel → Link
-    link_at t = record { home = t.0; buffer = 0; limit = 0; is_open = false; channel = t.4; waiting = []; borrowed = []; returned = [] }
+    link_at : Home × ℕ × ℕ × Bool × List Channel → Link
+    link_at t = record { home = t.0; buffer = 0; limit = 0; is_open = false; channels = t.4; waiting = []; borrowed = []; returned = [] }
 
-    of_fixed : Option (Home × ℕ × ℕ × Bool × Channel) → ℕ → Channel
+    of_fixed : Option (Home × ℕ × ℕ × Bool × List Channel) → ℕ → Channel
     of_fixed None = new_channels
-    of_fixed (Some t) = channels_of t.4
+    of_fixed (Some t) = channel_at t.4
 
     through : (o : Option Link) → channels_if_any o ≡ of_fixed (option_map fixed_of o)
     through None = refl

@@ -1,5 +1,5 @@
 -- Connections name the keys of books, which stay.
-use Rattle.std.proofs.Common.{◌≡◌, ℕ, Bool, ap, subst, ◌∙◌, Some}
+use Rattle.std.proofs.Common.{◌≡◌, ℕ, List, Bool, ap, subst, ◌∙◌, Some}
 use Rattle.slab.specs.Slab.{Slab, get}
 use Rattle.iox2_slots.specs.Link.{Link}
 use Rattle.iox2_store.specs.machine.Channel.{Channel}
@@ -25,6 +25,6 @@ pub names-still : (books : Slab Book) (old new : Slab Link) → SameHomes old ne
 names-still books old new same names = record {
   at = λ key c at.
       let before = was old new key c same at in
-      let home : before.0.home ≡ c.home = ap (λ (t : Home × ℕ × ℕ × Bool × Channel). t.0) before.2 in
+      let home : before.0.home ≡ c.home = ap (λ (t : Home × ℕ × ℕ × Bool × List Channel). t.0) before.2 in
       subst (λ (h : Home). IsBookOf books h.publisher h.book) home (names.at key before.0 before.1);
 }

@@ -41,7 +41,7 @@ module _ {T U : Type 0} (f : Fields T U) where
     lone = sound.lone;
     kept_books = record { own = λ b at. inr (sound.left_book b at); others = λ k b away at. sound.kept_books k b away at };
     state = refl;
-    channels = λ k d at. record { key = k; link = d; stands = at; home = refl; channel = refl };
+    channels = λ k d at. record { key = k; link = d; stands = at; home = refl; channels = refl };
     entries = λ n entry e. e;
     complete = sound.entries;
   }

@@ -1,9 +1,9 @@
 -- Channels of connections change, and which connections are marked as open.
-use Rattle.std.proofs.Common.{◌≡◌, ℕ, ◌+◌, ◌≤◌, true, false, map, refl, ap, sym, subst, ◌∙◌, inl, inr, ◌⊎◌, Option, None, Some, []}
+use Rattle.std.proofs.Common.{◌≡◌, ℕ, ◌+◌, ◌≤◌, true, false, length, map, refl, ap, sym, subst, ◌∙◌, inl, inr, ◌⊎◌, Option, None, Some, []}
 use Rattle.std.specs.Option.{option_map}
 use Rattle.slab.specs.Slab.{Slab, get}
 use Rattle.iox2_slots.specs.Link.{Link}
-use Rattle.iox2_store.specs.machine.Channel.{new_channel}
+use Rattle.iox2_store.specs.machine.Limits.{channel_count}
 use Rattle.iox2_store.specs.machine.State.{State}
 use Rattle.iox2_store.specs.machine.WellFormed.{IsWellFormed}
 use Rattle.iox2_ends.specs.Counters.{stands}
@@ -23,13 +23,14 @@ use Rattle.iox2_domain.proofs.lemmas.fields.Views.{mailboxes-are, held-before}
 use Rattle.iox2_domain.proofs.lemmas.slots.Recounts.{sum-alike}
 use mathlib.Core.Path.{fun_ext}
 
--- The connection, whatever channel it has, and whether it is marked as open.
+-- The connection, whatever channels it has, and whether it is marked as open.
 abbrev pub plain_link : Link → Link
-plain_link c = record c { is_open = false; channel = new_channel }
+plain_link c = record c { is_open = false; channels = [] }
 
--- Nothing changed of connections but channels and marks.
+-- Nothing changed of connections but channels and marks, and no channel came or went.
 pub record SameButChannels (old new : Slab Link) : Type 0 where
   pub same : (key : ℕ) → option_map plain_link (get new key) ≡ option_map plain_link (get old key)
+  pub counts : (key : ℕ) → option_map (λ (c : Link). length c.channels) (get new key) ≡ option_map (λ (c : Link). length c.channels) (get old key)
 
 module _ (old new : Slab Link) (same : SameButChannels old new) where
   -- what a connection is to whatever reads neither
@@ -107,6 +108,14 @@ module _ {T U : Type 0} (f : Fields T U) (sound : IsDomain f) (new : Slab Link) 
         | inr none ↦ inr (sym (ap (λ (e : Link). e.returned) c.2) ∙ none)
       ]
 
+  counts : (k : ℕ) (d : Link) → get new k ≡ Some d → length d.channels ≡ channel_count f.config
+  counts k d at_d =
+      let c = plain-was f.connections new same k d at_d in
+      let both : Some (length d.channels) ≡ Some (length c.0.channels) =
+      sym (ap (option_map (λ (e : Link). length e.channels)) at_d) ∙ same.counts k ∙ ap (option_map (λ (e : Link). length e.channels)) c.1 in
+      let alike : length d.channels ≡ length c.0.channels = cc in
+      alike ∙ sound.parts.linked.channel_counts k c.0 c.1
+
   room : HasExpiredRoom f.subscribers new
   room = record {
     at = λ i y at_y. subst (λ (n : ℕ). n ≤ y.expired_room)
@@ -140,7 +149,7 @@ module _ {T U : Type 0} (f : Fields T U) (sound : IsDomain f) (new : Slab Link) 
     publisher_ids = sound.parts.publisher_ids;
     subscriber_ids = sound.parts.subscriber_ids;
     apart = apart;
-    linked = linked-seated f new seats sound.parts.linked returned marked;
+    linked = linked-seated f new seats sound.parts.linked counts returned marked;
     expired_room = room;
     books = books;
     names = names;

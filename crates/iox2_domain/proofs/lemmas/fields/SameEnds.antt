@@ -1,10 +1,11 @@
 -- Connections change, and none is made, goes or moves: the ends of all ports stay.
-use Rattle.std.proofs.Common.{◌≡◌, ℕ, Bool, map, refl, ap, sym, ◌∙◌, ◌⊎◌, Option, None, Some, true}
+use Rattle.std.proofs.Common.{◌≡◌, ℕ, List, Bool, length, map, refl, ap, sym, ◌∙◌, ◌⊎◌, Option, None, Some, true}
 use Rattle.std.specs.Prelude.{[]}
 use Rattle.std.specs.Option.{option_map}
 use Rattle.slab.specs.Slab.{Slab, get}
 use Rattle.iox2_slots.specs.Link.{Link}
 use Rattle.iox2_store.specs.machine.Channel.{Channel}
+use Rattle.iox2_store.specs.machine.Limits.{channel_count}
 use Rattle.iox2_slots.specs.declared.connection.Home.{Home}
 use Rattle.iox2_ends.specs.Homes.{SameHomes, fixed_of}
 use Rattle.iox2_ends.specs.Mailboxes.{mailboxes_of, subscriber_of_key, publisher_of_key}
@@ -21,9 +22,9 @@ module _ (old new : Slab Link) (same : SameHomes old new) where
   -- all the more each connection keeps its seat
   pub seats-of : SameSeats old new
   seats-of = record {
-    same = λ key. through (get new key) ∙ ap (option_map (λ (t : Home × ℕ × ℕ × Bool × Channel). (t.0, t.1, t.2))) (same.same key) ∙ sym (through (get old key));
+    same = λ key. through (get new key) ∙ ap (option_map (λ (t : Home × ℕ × ℕ × Bool × List Channel). (t.0, t.1, t.2))) (same.same key) ∙ sym (through (get old key));
   } where
-    through : (o : Option Link) → option_map seat_of o ≡ option_map (λ (t : Home × ℕ × ℕ × Bool × Channel). (t.0, t.1, t.2)) (option_map fixed_of o)
+    through : (o : Option Link) → option_map seat_of o ≡ option_map (λ (t : Home × ℕ × ℕ × Bool × List Channel). (t.0, t.1, t.2)) (option_map fixed_of o)
     through None = refl
     through (Some c) = refl
 
@@ -65,16 +66,21 @@ module _ {T U : Type 0} (f : Fields T U) (new : Slab Link) (same : SameHomes f.c
       boxes = fun_ext (λ p. fun_ext (λ q. mailboxes-are with_connections p q))
 
   seat-same : (c d : Link) → fixed_of c ≡ fixed_of d → seat_of c ≡ seat_of d
-  seat-same c d fixed = ap (λ (t : Home × ℕ × ℕ × Bool × Channel). (t.0, t.1, t.2)) fixed
+  seat-same c d fixed = ap (λ (t : Home × ℕ × ℕ × Bool × List Channel). (t.0, t.1, t.2)) fixed
 
   pub sender-same : (key : ℕ) (c d : Link) → fixed_of c ≡ fixed_of d → SenderHas f.publishers key c → SenderHas f.publishers key d
   sender-same key c d fixed has = sender-seated f new seats key c d (seat-same c d fixed) has
 
   -- ports and connections still know of each other, where each slot that was given back has its publisher
   pub linked-still : IsLinked f → ((key : ℕ) (c : Link) → get new key ≡ Some c → SenderHas f.publishers key c ⊎ (c.returned ≡ [])) → IsLinked with_connections
-  linked-still linked returned = linked-seated f new seats linked returned marked where
+  linked-still linked returned = linked-seated f new seats linked counts returned marked where
+    counts : (key : ℕ) (d : Link) → get new key ≡ Some d → length d.channels ≡ channel_count f.config
+    counts key d at =
+        let c = was f.connections new key d same at in
+        sym (ap (λ (t : Home × ℕ × ℕ × Bool × List Channel). length t.4) c.2) ∙ linked.channel_counts key c.0 c.1
+
     marked : (key : ℕ) (d : Link) → get new key ≡ Some d → d.is_open ≡ true → IsBetweenOpen f.publishers f.subscribers key d
     marked key d at is =
         let c = was f.connections new key d same at in
-        let both = linked.marked key c.0 c.1 (ap (λ (t : Home × ℕ × ℕ × Bool × Channel). t.3) c.2 ∙ is) in
+        let both = linked.marked key c.0 c.1 (ap (λ (t : Home × ℕ × ℕ × Bool × List Channel). t.3) c.2 ∙ is) in
         record { sender = sender-same key c.0 d c.2 both.sender; receiver = open-seated f new seats c.0 d (seat-same c.0 d c.2) both.receiver }

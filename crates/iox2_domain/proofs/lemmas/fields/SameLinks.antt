@@ -21,6 +21,7 @@ linked-same f next_message warnings books contents linked = record {
   sender_rooms = linked.sender_rooms;
   receiver_rooms = linked.receiver_rooms;
   limits = linked.limits;
+  channel_counts = linked.channel_counts;
   returned = linked.returned;
   marked = linked.marked;
 }

@@ -1,9 +1,10 @@
 -- Connections change, and none is made, goes or moves, whatever is marked: the ends of all ports stay.
-use Rattle.std.proofs.Common.{◌<◌, ◌≡◌, ℕ, map, get_or, refl, ap, sym, subst, ◌∙◌, inl, inr, ◌⊎◌, Option, None, Some, true}
+use Rattle.std.proofs.Common.{◌<◌, ◌≡◌, ℕ, length, map, get_or, refl, ap, sym, subst, ◌∙◌, inl, inr, ◌⊎◌, Option, None, Some, true}
 use Rattle.std.specs.Prelude.{IsSomeAnd, Contains, []}
 use Rattle.std.specs.Option.{option_map}
 use Rattle.slab.specs.Slab.{Slab, get}
 use Rattle.iox2_slots.specs.Link.{Link}
+use Rattle.iox2_store.specs.machine.Limits.{channel_count}
 use Rattle.iox2_store.specs.machine.Places.{occupants}
 use Rattle.iox2_slots.specs.declared.connection.Home.{Home}
 use Rattle.iox2_ends.specs.Homes.{IsSenders}
@@ -102,11 +103,12 @@ module _ {T U : Type 0} (f : Fields T U) (new : Slab Link) (same : SameSeats f.c
         is_open = has.is_open;
       }
 
-  -- ports and connections still know of each other, where each slot that was given back has its publisher, and marks say
-  -- what is so
-  pub linked-seated : IsLinked f → ((key : ℕ) (c : Link) → get new key ≡ Some c → SenderHas f.publishers key c ⊎ (c.returned ≡ []))
+  -- ports and connections still know of each other, where each connection has as many channels as before, each slot that was
+  -- given back has its publisher, and marks say what is so
+  pub linked-seated : IsLinked f → ((key : ℕ) (c : Link) → get new key ≡ Some c → length c.channels ≡ channel_count f.config)
+      → ((key : ℕ) (c : Link) → get new key ≡ Some c → SenderHas f.publishers key c ⊎ (c.returned ≡ []))
       → ((key : ℕ) (c : Link) → get new key ≡ Some c → c.is_open ≡ true → IsBetweenOpen f.publishers f.subscribers key c) → IsLinked with_connections
-  linked-seated linked returned marked = record {
+  linked-seated linked counts returned marked = record {
     senders = λ i x at. record { at = λ place key at_key. sender x.id place key ((linked.senders i x at).at place key at_key) };
     receivers = λ i y at. record { at = λ place key at_key. receiver y.id key ((linked.receivers i y at).at place key at_key) };
     expired = λ i y at. record { at = λ place key at_key. receiver y.id key ((linked.expired i y at).at place key at_key) };
@@ -128,6 +130,7 @@ module _ {T U : Type 0} (f : Fields T U) (new : Slab Link) (same : SameSeats f.c
         subst (λ (n : ℕ). n < y.key_room) (ap (λ (t : Home × ℕ × ℕ). t.0.publisher_place) b.2)
         (linked.receiver_rooms key i b.0 y b.1 at_y (is ∙ sym (ap (λ (t : Home × ℕ × ℕ). t.0.subscriber) b.2)));
     limits = λ key c at. let b = before key c at in sym (ap (λ (t : Home × ℕ × ℕ). t.2) b.2) ∙ linked.limits key b.0 b.1;
+    channel_counts = counts;
     returned = returned;
     marked = marked;
   } where

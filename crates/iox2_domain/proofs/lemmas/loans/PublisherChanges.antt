@@ -206,6 +206,7 @@ module _ {T U : Type 0} (f : Fields T U) (i : ℕ) (x y : PublisherFields) (at :
     ];
     receiver_rooms = linked.receiver_rooms;
     limits = linked.limits;
+    channel_counts = linked.channel_counts;
     returned = λ key c at_c. reclaims key c at_c (linked.returned key c at_c);
     marked = λ key c at_c is. let both = linked.marked key c at_c is in record { sender = moved key c at_c both.sender; receiver = both.receiver };
   } where

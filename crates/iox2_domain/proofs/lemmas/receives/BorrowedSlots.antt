@@ -26,7 +26,7 @@ module _ (old new : Slab Link) (key slot : ℕ) (c : Link) (at_c : get old key �
     by (Some d) e is =
         let here : Some (fixed_of d) ≡ Some (fixed_of c) = is in
         let fixed : fixed_of d ≡ fixed_of c = cc in
-        (d, e, ap (λ (f : Home × ℕ × ℕ × Bool × Channel). f.0) fixed)
+        (d, e, ap (λ (f : Home × ℕ × ℕ × Bool × List Channel). f.0) fixed)
 
   borrowed : Contains (stays.0).borrowed slot
   borrowed =

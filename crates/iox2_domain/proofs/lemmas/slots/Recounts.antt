@@ -160,7 +160,7 @@ module _ {T U : Type 0} (f : Fields T U) (parts : HasParts f) (p key : ℕ) (b :
       | inl its ↦
           let fixed : Some (fixed_of d) ≡ Some (fixed_of c) = sym (ap (option_map fixed_of) h) ∙ same ∙ ap (option_map fixed_of) e in
           let is : fixed_of d ≡ fixed_of c = cc in
-          ap (stands q slot) h ∙ other d (ap (λ (t : Home × ℕ × ℕ × Bool × Channel). t.0.publisher) is ∙ its) ∙ sym (other c its) ∙ ap (stands q slot) (sym e)
+          ap (stands q slot) h ∙ other d (ap (λ (t : Home × ℕ × ℕ × Bool × List Channel). t.0.publisher) is ∙ its) ∙ sym (other c its) ∙ ap (stands q slot) (sym e)
       | inr away ↦ ap (stands q slot) (r.others.stay i c e away ∙ sym e)
     ]
 

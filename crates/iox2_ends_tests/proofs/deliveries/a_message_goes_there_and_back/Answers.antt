@@ -18,7 +18,7 @@ sum-zero f [] zeros = refl
 sum-zero f (x ∷ xs) zeros = sum_by-cons f x xs ∙ omega (arith, zeros zero, sum-zero f xs (λ i. zeros (suc i)))
 
 -- no slot stands in a slab that had no connection and then got an empty one
-none-stands : (old new : Slab Link) (key p : ℕ) (home : Home) (buffer limit : ℕ) → old.slots ≡ [] → Updates old new key (Some (empty_link home buffer limit)) → (n : ℕ) → sum_by (stands p n) new.slots ≡ 0
+none-stands : (old new : Slab Link) (key p : ℕ) (home : Home) (buffer limit : ℕ) → old.slots ≡ [] → Updates old new key (Some (empty_link home buffer limit 1)) → (n : ℕ) → sum_by (stands p n) new.slots ≡ 0
 none-stands old new key p home buffer limit empty u n = sum-zero (stands p n) new.slots (λ i. at n i) where
   vacant : (i : ℕ) → get_or {A = Option Link} [] i None ≡ None
   vacant zero = refl
@@ -41,11 +41,11 @@ stands-received old new expired keys (Ok None) h = subst (SameStands old) (sym h
 stands-received old new expired keys (Err e) h = subst (SameStands old) (sym h.2) (record { follows = λ p holders. record { at = λ slot. refl } })
 
 -- so its counters cover it
-covered-first : (old new : Slab Link) (key p : ℕ) (home : Home) (buffer limit : ℕ) (holders : List ℕ) → old.slots ≡ [] → Updates old new key (Some (empty_link home buffer limit)) → IsCovered p holders new.slots
+covered-first : (old new : Slab Link) (key p : ℕ) (home : Home) (buffer limit : ℕ) (holders : List ℕ) → old.slots ≡ [] → Updates old new key (Some (empty_link home buffer limit 1)) → IsCovered p holders new.slots
 covered-first old new key p home buffer limit holders empty u = record { at = λ n. omega (arith, none-stands old new key p home buffer limit empty u n) }
 
 -- and its publisher itself holds a slot in use
-own-first : (old new : Slab Link) (key p n : ℕ) (home : Home) (buffer limit : ℕ) (holders : List ℕ) → old.slots ≡ [] → Updates old new key (Some (empty_link home buffer limit)) → 0 < get_or holders n 0 → HoldsItself p n holders new.slots
+own-first : (old new : Slab Link) (key p n : ℕ) (home : Home) (buffer limit : ℕ) (holders : List ℕ) → old.slots ≡ [] → Updates old new key (Some (empty_link home buffer limit 1)) → 0 < get_or holders n 0 → HoldsItself p n holders new.slots
 own-first old new key p n home buffer limit holders empty u some = record { more = omega (arith, some, none-stands old new key p home buffer limit empty u n) }
 
 pub deliver-outcome-requires-clause-covered : goal.deliver-outcome-requires-clause-covered

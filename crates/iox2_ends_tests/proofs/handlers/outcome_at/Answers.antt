@@ -22,7 +22,7 @@ sum-one f (x ∷ xs) (suc key) zeros =
 
 -- the connection in which the slot waits
 abbrev link_with : Home → (buffer limit slot : ℕ) → Link
-link_with home buffer limit slot = record (empty_link home buffer limit) { waiting = slot ∷ [] }
+link_with home buffer limit slot = record (empty_link home buffer limit 1) { waiting = slot ∷ [] }
 
 module _ (old new : Slab Link) (key p : ℕ) (home : Home) (buffer limit slot : ℕ) (empty : old.slots ≡ []) (u : Updates old new key (Some (link_with home buffer limit slot))) where
   -- a slot stands there as often as it waits

@@ -6,4 +6,4 @@ use Rattle.iox2_messages.proofs.changed_channels.change_expired.Given as goal
 
 -- the channels at the keys so far are changed
 abbrev pub invariant-loop-index : goal.invariant-loop-index
-invariant-loop-index l = ChangesLinks (changed_link l.change l.expected) (HasKeyBelow (map Some l.keys) l.index) l.fn.connections l.connections
+invariant-loop-index l = ChangesLinks (changed_link l.change l.channel l.expected) (HasKeyBelow (map Some l.keys) l.index) l.fn.connections l.connections

@@ -16,14 +16,14 @@ pub change_expired-requires : goal.change_expired-requires
 change_expired-requires c =
     let expired : c.deref-2.result.now ≡ c.args.subscriber.now.expired = c.deref-2.ensures.value ∙ ap (λ (y : SubscriberFields). y.expired) c.subscriber.view_is in
     subst (λ (keys : List ℕ). HasConnections c.change_at_places.new.connections (map Some keys)) (sym expired)
-    (still-connected c.args.change c.args.expected (HasKey c.deref.result.now) c.args.connections.now c.change_at_places.new.connections c.change_at_places.ensures (map Some c.args.subscriber.now.expired) c.requires.expired)
+    (still-connected c.args.change c.args.channel c.args.expected (HasKey c.deref.result.now) c.args.connections.now c.change_at_places.new.connections c.change_at_places.ensures (map Some c.args.subscriber.now.expired) c.requires.expired)
 
 pub returns : goal.returns
 returns c =
     let places : c.deref.result.now ≡ c.args.subscriber.now.keys = c.deref.ensures.value ∙ ap (λ (y : SubscriberFields). y.keys) c.subscriber.view_is in
     let expired : c.deref-2.result.now ≡ c.args.subscriber.now.expired = c.deref-2.ensures.value ∙ ap (λ (y : SubscriberFields). y.expired) c.subscriber.view_is in
-    both-changed c.args.change c.args.expected (HasKey c.args.subscriber.now.keys) (HasKey (map Some c.args.subscriber.now.expired)) (KnowsKey c.args.subscriber.now)
+    both-changed c.args.change c.args.channel c.args.expected (HasKey c.args.subscriber.now.keys) (HasKey (map Some c.args.subscriber.now.expired)) (KnowsKey c.args.subscriber.now)
     c.args.connections.now c.change_at_places.new.connections c.change_expired.new.connections
-    (subst (λ (keys : List (Option ℕ)). ChangesLinks (changed_link c.args.change c.args.expected) (HasKey keys) c.args.connections.now c.change_at_places.new.connections) places c.change_at_places.ensures)
-    (subst (λ (keys : List ℕ). ChangesLinks (changed_link c.args.change c.args.expected) (HasKey (map Some keys)) c.change_at_places.new.connections c.change_expired.new.connections) expired c.change_expired.ensures)
+    (subst (λ (keys : List (Option ℕ)). ChangesLinks (changed_link c.args.change c.args.channel c.args.expected) (HasKey keys) c.args.connections.now c.change_at_places.new.connections) places c.change_at_places.ensures)
+    (subst (λ (keys : List ℕ). ChangesLinks (changed_link c.args.change c.args.channel c.args.expected) (HasKey (map Some keys)) c.change_at_places.new.connections c.change_expired.new.connections) expired c.change_expired.ensures)
     (λ k has. has) (λ k has. inl has) (λ k has. inr has)

@@ -23,7 +23,7 @@ mark_received-requires g c =
     let has =
     has-keys _ c.args.state.now c.args.place c.index.result.now c.in-Some.subscriber c.in-Some.subscriber _ _ c.requires.agrees c.state.view_is c.requires.stands
     c.index.ensures c.in-Some.is refl refl refl in
-    (received-from _ c.args.state.now c.state.view_is c.requires.agrees c.args.place c.in-Some.subscriber has.stands c.args.change c.args.expected c.change_known.new.connections c.change_known.ensures
+    (received-from _ c.args.state.now c.state.view_is c.requires.agrees c.args.place c.in-Some.subscriber has.stands c.args.change c.args.channel c.args.expected c.requires.channel c.change_known.new.connections c.change_known.ensures
     c.in-Some.subscriber has.stands).agrees
 
 pub returns : goal.returns
@@ -32,7 +32,7 @@ returns g c = λ y at.
     has-keys _ c.args.state.now c.args.place c.index.result.now c.in-Some.subscriber c.in-Some.subscriber _ _ c.requires.agrees c.state.view_is c.requires.stands
     c.index.ensures c.in-Some.is refl refl refl in
     reaches-then-marks _ _ c.mark_received.new.state _
-    (received-from _ c.args.state.now c.state.view_is c.requires.agrees c.args.place c.in-Some.subscriber has.stands c.args.change c.args.expected c.change_known.new.connections c.change_known.ensures y at)
+    (received-from _ c.args.state.now c.state.view_is c.requires.agrees c.args.place c.in-Some.subscriber has.stands c.args.change c.args.channel c.args.expected c.requires.channel c.change_known.new.connections c.change_known.ensures y at)
     c.mark_received.ensures
 
 pub index-requires : goal.index-requires

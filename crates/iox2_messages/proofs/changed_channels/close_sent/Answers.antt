@@ -7,4 +7,4 @@ change_at-requires g c = connected-from _ c.args.state.now c.state.view_is c.req
 pub returns : goal.returns
 returns g c =
     closed-from _ c.args.state.now c.state.view_is c.requires.agrees c.args.place c.args.connection c.deref.result.now c.key_at-key.result c.deref.ensures.value c.key_at-key.ensures
-    c.args.expected c.change_at.new.connections c.change_at.ensures
+    c.args.channel c.requires.channel c.args.expected c.change_at.new.connections c.change_at.ensures

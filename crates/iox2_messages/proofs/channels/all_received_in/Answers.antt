@@ -9,7 +9,7 @@ returns-else-all_expired g c = λ y at.
     has-keys _ c.args.state.now c.args.place c.index.result.now c.in-Some.subscriber _ c.deref.result.now _ c.requires.agrees c.state.view_is c.requires.stands
     c.index.ensures c.in-Some.is c.subscriber.view_is c.deref.ensures.value refl in
     untold-first c.all_expired.result _ _ c.all_expired.ensures c.if-all_expired.false
-    ∙ asked-all _ c.args.state.now c.args.place c.in-Some.subscriber c.deref.result.now _ has c.args.channel_state y at
+    ∙ asked-all _ c.args.state.now c.args.place c.in-Some.subscriber c.deref.result.now _ has c.args.channel c.args.channel_state y at
 
 pub returns-then-all_expired : goal.returns-then-all_expired
 returns-then-all_expired g c = λ y at.
@@ -17,4 +17,4 @@ returns-then-all_expired g c = λ y at.
     has-keys _ c.args.state.now c.args.place c.index.result.now c.in-Some.subscriber _ c.deref.result.now c.deref-then-all_expired.result.now c.requires.agrees c.state.view_is c.requires.stands
     c.index.ensures c.in-Some.is c.subscriber.view_is c.deref.ensures.value c.deref-then-all_expired.ensures.value in
     untold-later c.all_expired.result c.all_at_places.result _ _ c.all_expired.ensures c.if-all_expired.true c.all_at_places.ensures
-    ∙ asked-all _ c.args.state.now c.args.place c.in-Some.subscriber c.deref.result.now c.deref-then-all_expired.result.now has c.args.channel_state y at
+    ∙ asked-all _ c.args.state.now c.args.place c.in-Some.subscriber c.deref.result.now c.deref-then-all_expired.result.now has c.args.channel c.args.channel_state y at

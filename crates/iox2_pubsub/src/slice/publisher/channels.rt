@@ -8,6 +8,7 @@ use iox2_store::{BackpressureFn, DegradationFn};
 impl Publisher {
     ghost use Rattle.std.specs.Prelude.{Some};
     ghost use Rattle.iox2_store.specs.machine.ChannelCalls.{connection_place, has_channel_state, has_disconnect_hint, sent_closed};
+    ghost use Rattle.iox2_store.specs.machine.Limits.{channel_count};
     ghost use Rattle.iox2_store.specs.machine.State.{State, Messages};
     ghost use Rattle.iox2_pubsub.specs.Live.{IsConnected, IsPlacedPublisher, IsPublisherKey, IsUpToDate, RoomStays, Stays, WaitingStays, publisher_key};
     ghost use Rattle.iox2_pubsub.specs.LoansLeft.{LoansLeftStay};
@@ -32,8 +33,8 @@ impl Publisher {
             .get_connection_id_of(domain, receiver_port_id)
     }
 
-    /// Whether a channel is in a state at a connection. `channel` is its number: a connection has
-    /// one channel, number 0. It isn't, where there is no such connection.
+    /// Whether a channel is in a state at a connection. `channel` is its number, below
+    /// `number_of_channels` of the settings. It isn't, where there is no such connection.
     ///
     /// iceoryx2's `Sender::has_channel_state` (`src/port/details/sender.rs`), which is internal.
     pub fn has_channel_state<T: Drop, U: Default + Drop, F: BackpressureFn, G: DegradationFn>(
@@ -45,7 +46,7 @@ impl Publisher {
     ) -> bool
         requires there { IsPublisherKey domain.now (publisher_key (as_publisher self.now)) }
         requires placed { IsPlacedPublisher domain.now (as_publisher self.now) }
-        requires channel { channel < 1 }
+        requires channel { channel < channel_count domain.now.config }
         ensures { (m : Messages T U) (s : State T U) → Shows domain.now m s → result ≡ has_channel_state s (publisher_id (as_publisher self.now)) channel connection state }
     {
         self.publisher
@@ -65,7 +66,7 @@ impl Publisher {
     ) -> bool
         requires there { IsPublisherKey domain.now (publisher_key (as_publisher self.now)) }
         requires placed { IsPlacedPublisher domain.now (as_publisher self.now) }
-        requires channel { channel < 1 }
+        requires channel { channel < channel_count domain.now.config }
         ensures { (m : Messages T U) (s : State T U) → Shows domain.now m s → result ≡ has_disconnect_hint s (publisher_id (as_publisher self.now)) channel connection state }
     {
         self.publisher
@@ -73,7 +74,8 @@ impl Publisher {
     }
 
     /// Closes a channel at a connection, where it is in the state `expected`, as a publisher of single
-    /// values does. `channel` is its number: a connection has one channel, number 0. Takes no memory.
+    /// values does. `channel` is its number, below `number_of_channels` of the settings. Takes no
+    /// memory.
     ///
     /// iceoryx2's `Sender::close_channel` (`src/port/details/sender.rs`), which is internal.
     pub fn close_channel<T: Drop, U: Default + Drop, F: BackpressureFn, G: DegradationFn>(
@@ -85,12 +87,12 @@ impl Publisher {
     )
         requires there { IsPublisherKey domain.old (publisher_key (as_publisher self.now)) }
         requires placed { IsPlacedPublisher domain.old (as_publisher self.now) }
-        requires channel { channel < 1 }
+        requires channel { channel < channel_count domain.old.config }
         ensures closed { (m : Messages T U) (s : State T U) → Shows domain.old m s → Shows domain.new m (sent_closed s (publisher_id (as_publisher self.now)) channel connection expected) }
         ensures waits { WaitingStays domain.old domain.new }
         ensures up_to_date { (subscriber : Subscriber) → IsUpToDate domain.old subscriber → IsUpToDate domain.new subscriber }
         ensures connections { (m : Messages T U) (s : State T U) (publisher : ℕ) (subscriber : Subscriber) → Shows domain.old m s
-            → (publisher ≢ publisher_id (as_publisher self.now)) ⊎ (connection_place s publisher (subscriber_id subscriber) ≢ Some connection)
+            → (publisher ≢ publisher_id (as_publisher self.now)) ⊎ (connection_place s publisher (subscriber_id subscriber) ≢ Some connection) ⊎ (channel ≢ 0)
             → IsConnected domain.old publisher subscriber → IsConnected domain.new publisher subscriber }
         ensures room { RoomStays domain.old domain.new }
         ensures loans_left { LoansLeftStay domain.old domain.new }

@@ -1,5 +1,5 @@
 //! A subscriber of slices asks about the channels of its connections, and changes them.
-ghost use Rattle.std.specs.Prelude.{◌≡◌, ◌≢◌, ◌<◌, ℕ};
+ghost use Rattle.std.specs.Prelude.{◌≡◌, ◌≢◌, ◌⊎◌, ◌<◌, ℕ};
 
 use crate::domain::Domain;
 use crate::slice::Subscriber;
@@ -7,6 +7,7 @@ use iox2_store::{BackpressureFn, DegradationFn};
 
 impl Subscriber {
     ghost use Rattle.iox2_store.specs.machine.ChannelCalls.{SetChannelState, received_closed, received_hinted, some_channel_has_state};
+    ghost use Rattle.iox2_store.specs.machine.Limits.{channel_count};
     ghost use Rattle.iox2_store.specs.machine.State.{State, Messages};
     ghost use Rattle.iox2_pubsub.specs.Leaves.{Leaves};
     ghost use Rattle.iox2_pubsub.specs.Live.{IsConnected, IsLiveSubscriber, IsUpToDate, RoomStays, Stays, WaitingStays};
@@ -16,7 +17,7 @@ impl Subscriber {
     ghost use Rattle.iox2_domain.specs.Shows.{Shows};
 
     /// Whether a channel is in a state at some connection of the subscriber. `channel` is its
-    /// number: a connection has one channel, number 0. It isn't, where the subscriber has no
+    /// number, below `number_of_channels` of the settings. It isn't, where the subscriber has no
     /// connection.
     ///
     /// iceoryx2's `Receiver::at_least_one_channel_has_state` (`src/port/details/receiver.rs`), which
@@ -28,7 +29,7 @@ impl Subscriber {
         G: DegradationFn,
     >(&self, domain: &Domain<T, U, F, G>, channel: usize, state: u64) -> bool
         requires live { IsLiveSubscriber domain.now (as_subscriber self.now) }
-        requires channel { channel < 1 }
+        requires channel { channel < channel_count domain.now.config }
         ensures { (m : Messages T U) (s : State T U) → Shows domain.now m s → result ≡ some_channel_has_state s (subscriber_id (as_subscriber self.now)) channel state }
     {
         self.subscriber
@@ -36,8 +37,8 @@ impl Subscriber {
     }
 
     /// Brings a channel from the closed state into another one, at each connection of the subscriber
-    /// where it is closed, as a subscriber of single values does. `channel` is its number: a
-    /// connection has one channel, number 0. Returns whether it was closed at every connection, and so
+    /// where it is closed, as a subscriber of single values does. `channel` is its number,
+    /// below `number_of_channels` of the settings. Returns whether it was closed at every connection, and so
     /// `true` where there is none. Takes no memory.
     ///
     /// iceoryx2's `Receiver::set_channel_state` (`src/port/details/receiver.rs`), which is internal.
@@ -48,7 +49,7 @@ impl Subscriber {
         state: u64,
     ) -> bool
         requires live { IsLiveSubscriber domain.old (as_subscriber self.now) }
-        requires channel { channel < 1 }
+        requires channel { channel < channel_count domain.old.config }
         ensures sets { (m : Messages T U) (s : State T U) → Shows domain.old m s
             → (s' : State T U) × Shows domain.new m s' × SetChannelState s (subscriber_id (as_subscriber self.now)) channel state s' result }
         ensures leaves { Leaves domain.old domain.new }
@@ -57,8 +58,8 @@ impl Subscriber {
     }
 
     /// Closes a channel at each connection of the subscriber where it is in the state `expected`, as a
-    /// subscriber of single values does. `channel` is its number: a connection has one channel,
-    /// number 0. Takes no memory.
+    /// subscriber of single values does. `channel` is its number, below `number_of_channels` of
+    /// the settings. Takes no memory.
     ///
     /// iceoryx2's `Receiver::close_channel` (`src/port/details/receiver.rs`), which is internal.
     pub fn close_channel<T: Drop, U: Default + Drop, F: BackpressureFn, G: DegradationFn>(
@@ -68,11 +69,11 @@ impl Subscriber {
         expected: u64,
     )
         requires live { IsLiveSubscriber domain.old (as_subscriber self.now) }
-        requires channel { channel < 1 }
+        requires channel { channel < channel_count domain.old.config }
         ensures closed { (m : Messages T U) (s : State T U) → Shows domain.old m s → Shows domain.new m (received_closed s (subscriber_id (as_subscriber self.now)) channel expected) }
         ensures waits { WaitingStays domain.old domain.new }
         ensures up_to_date { (subscriber : Handle) → IsUpToDate domain.old subscriber → IsUpToDate domain.new subscriber }
-        ensures connections { (publisher : ℕ) (other : Handle) → subscriber_id other ≢ subscriber_id (as_subscriber self.now) → IsConnected domain.old publisher other → IsConnected domain.new publisher other }
+        ensures connections { (publisher : ℕ) (other : Handle) → (subscriber_id other ≢ subscriber_id (as_subscriber self.now)) ⊎ (channel ≢ 0) → IsConnected domain.old publisher other → IsConnected domain.new publisher other }
         ensures room { RoomStays domain.old domain.new }
         ensures loans_left { LoansLeftStay domain.old domain.new }
         ensures stays { Stays domain.old domain.new }
@@ -81,8 +82,8 @@ impl Subscriber {
     }
 
     /// Hints at each connection of the subscriber, where a channel is in the state `expected`, that
-    /// the subscriber is about to disconnect, as one of single values does. `channel` is its number: a
-    /// connection has one channel, number 0. Takes no memory.
+    /// the subscriber is about to disconnect, as one of single values does. `channel` is its number,
+    /// below `number_of_channels` of the settings. Takes no memory.
     ///
     /// iceoryx2's `Receiver::set_disconnect_hint` (`src/port/details/receiver.rs`), which is
     /// internal.
@@ -93,7 +94,7 @@ impl Subscriber {
         expected: u64,
     )
         requires live { IsLiveSubscriber domain.old (as_subscriber self.now) }
-        requires channel { channel < 1 }
+        requires channel { channel < channel_count domain.old.config }
         ensures hinted { (m : Messages T U) (s : State T U) → Shows domain.old m s → Shows domain.new m (received_hinted s (subscriber_id (as_subscriber self.now)) channel expected) }
         ensures leaves { Leaves domain.old domain.new }
     {

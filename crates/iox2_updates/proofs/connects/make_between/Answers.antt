@@ -3,6 +3,7 @@ use Rattle.std.proofs.lemmas.List.{with_items_is}
 use Rattle.std.specs.declared.option.Option.TheVariants.{None}
 use Rattle.std.specs.Prelude.{IfOk}
 use Rattle.iox2_domain.specs.Fields.{Fields}
+use Rattle.iox2_store.specs.machine.Limits.{channel_count}
 use Rattle.iox2_domain.specs.Invariant.{connection_count}
 use Rattle.iox2_domain.specs.Updates.{MakesConnection}
 use Rattle.iox2_steps.proofs.updates.MadeRoom.{always, gets-sender-room, gets-receiver-room, keeps-receiver-room, makes-room}
@@ -49,8 +50,11 @@ returns-clause-receiver_room g c =
 pub returns-clause-made : goal.returns-clause-made
 returns-clause-made g c =
     subst (λ (f : Fields g.row.T.Denot g.row.U.Denot).
-    IfOk c.make_connection.result (λ key. MakesConnection f.connections c.args.home c.args.buffer f.config.subscriber_max_borrowed_samples key c.make_connection.new.connections))
-    c.state.view_is c.make_connection.ensures.made
+    IfOk c.make_connection.result (λ key. MakesConnection f.connections c.args.home c.args.buffer f.config.subscriber_max_borrowed_samples (channel_count f.config) key c.make_connection.new.connections))
+    c.state.view_is
+    (subst (λ (count : ℕ).
+    IfOk c.make_connection.result (λ key. MakesConnection c.state.inside.connections c.args.home c.args.buffer (c.state.inside.config).subscriber_max_borrowed_samples count key c.make_connection.new.connections))
+    c.channel_count-channels.ensures.count c.make_connection.ensures.made)
 
 pub returns-clause-expired_room : goal.returns-clause-expired_room
 returns-clause-expired_room g c =

@@ -1,14 +1,12 @@
-use Rattle.std.proofs.Common.{ℕ, ap, subst, ◌∙◌}
+use Rattle.std.proofs.Common.{ℕ, inl, inr, ap, subst, ◌∙◌}
 use Rattle.iox2_store.specs.machine.Channel.{Channel, is_closed}
 use Rattle.iox2_store.specs.machine.ChannelCalls.{sent_closed}
-use Rattle.iox2_store.specs.machine.State.{State}
 use Rattle.iox2_domain.specs.Fields.{kept_of, keeping}
 use Rattle.iox2_domain.specs.Kept.{state_of}
 use Rattle.iox2_domain.specs.Reaches.{Reaches}
 use Rattle.iox2_messages.proofs.SentChannels.{sent-closed-is}
 use Rattle.iox2_pubsub.proofs.ChangedChannels.{changed-shows, changed-waits, changed-updated, changed-connected, changed-room, changed-left, changed-stays}
-use Rattle.iox2_pubsub.proofs.ChannelsShown.{only-channel}
-use Rattle.iox2_pubsub.proofs.ClosedChannels.{sent-others}
+use Rattle.iox2_pubsub.proofs.ClosedChannels.{sent-further, sent-others}
 use Rattle.iox2_pubsub.proofs.PlacedHandles.{publisher-there}
 use Rattle.iox2_pubsub.proofs.StaysBut.{same-boxes}
 use Rattle.iox2_pubsub.proofs.publisher.Publisher.close_channel.Goals as goal
@@ -24,8 +22,7 @@ returns-clause-closed g c =
     changed-shows {T = g.row.T.Denot} {U = g.row.U.Denot} c.domain.inside.state c.args.domain.now c.domain.view_is
     (λ s. sent_closed s c.args.self.now.id c.args.channel c.args.connection c.args.expected) (λ s. sent-closed-is s c.args.self.now.id c.args.channel c.args.connection c.args.expected) c.close_sent.new.state
     (subst (Reaches c.domain.inside.state c.close_sent.new.state)
-    (ap (λ (p : ℕ). sent_closed (state_of (kept_of c.domain.inside.state)) p 0 c.args.connection c.args.expected) at.2
-    ∙ only-channel (λ (number : ℕ). sent_closed (state_of (kept_of c.domain.inside.state)) c.args.self.now.id number c.args.connection c.args.expected) c.args.channel c.requires.channel)
+    (ap (λ (p : ℕ). sent_closed (state_of (kept_of c.domain.inside.state)) p c.args.channel c.args.connection c.args.expected) at.2)
     (c.close_sent.ensures at.0 at.1))
 
 pub returns-clause-waits : goal.returns-clause-waits
@@ -45,7 +42,13 @@ returns-clause-connections g c = λ m s publisher subscriber shown other.
     changed-connected {T = g.row.T.Denot} {U = g.row.U.Denot} c.domain.inside.state c.args.domain.now c.domain.view_is
     (λ s. sent_closed s c.args.self.now.id c.args.channel c.args.connection c.args.expected) (λ s. sent-closed-is s c.args.self.now.id c.args.channel c.args.connection c.args.expected)
     c.domain.invariant (keeping _ c.close_sent.new.state) (returns-clause-closed g c) m s shown publisher subscriber
-    (λ takes. ap (λ (channels : ℕ → Channel). is_closed (channels 0)) (sent-others s shown.well_formed c.args.self.now.id c.args.channel c.args.connection c.args.expected publisher subscriber.id other) ∙ takes)
+    (λ takes. elim other [
+      | inl away ↦ ap (λ (channels : ℕ → Channel). is_closed (channels 0)) (sent-others s shown.well_formed c.args.self.now.id c.args.channel c.args.connection c.args.expected publisher subscriber.id (inl away)) ∙ takes
+      | inr more ↦ elim more [
+        | inl elsewhere ↦ ap (λ (channels : ℕ → Channel). is_closed (channels 0)) (sent-others s shown.well_formed c.args.self.now.id c.args.channel c.args.connection c.args.expected publisher subscriber.id (inr elsewhere)) ∙ takes
+        | inr further ↦ ap is_closed (sent-further s c.args.self.now.id c.args.channel c.args.connection c.args.expected further publisher subscriber.id) ∙ takes
+      ]
+    ])
 
 pub returns-clause-room : goal.returns-clause-room
 returns-clause-room g c =

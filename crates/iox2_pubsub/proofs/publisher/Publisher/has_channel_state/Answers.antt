@@ -3,7 +3,7 @@ use Rattle.iox2_store.specs.machine.ChannelCalls.{has_channel_state}
 use Rattle.iox2_store.specs.machine.State.{State}
 use Rattle.iox2_domain.specs.Fields.{kept_of}
 use Rattle.iox2_domain.specs.Kept.{state_of}
-use Rattle.iox2_pubsub.proofs.ChannelsShown.{only-channel, shown-answer}
+use Rattle.iox2_pubsub.proofs.ChannelsShown.{shown-answer}
 use Rattle.iox2_pubsub.proofs.PlacedHandles.{publisher-there}
 use Rattle.iox2_pubsub.proofs.publisher.Publisher.has_channel_state.Goals as goal
 
@@ -13,5 +13,4 @@ returns g c =
     shown-answer {T = g.row.T.Denot} {U = g.row.U.Denot} c.domain.inside.state c.args.domain.now c.domain.view_is
     (λ (s : State g.row.T.Denot g.row.U.Denot). has_channel_state s c.args.self.now.id c.args.channel c.args.connection c.args.state) c.is_sent_in.result
     (c.is_sent_in.ensures at.0 at.1
-    ∙ ap (λ (p : ℕ). has_channel_state (state_of (kept_of c.domain.inside.state)) p 0 c.args.connection c.args.state) at.2
-    ∙ only-channel (λ (number : ℕ). has_channel_state (state_of (kept_of c.domain.inside.state)) c.args.self.now.id number c.args.connection c.args.state) c.args.channel c.requires.channel)
+    ∙ ap (λ (p : ℕ). has_channel_state (state_of (kept_of c.domain.inside.state)) p c.args.channel c.args.connection c.args.state) at.2)

@@ -3,7 +3,7 @@ use Rattle.iox2_store.specs.machine.ChannelCalls.{some_channel_has_state}
 use Rattle.iox2_store.specs.machine.State.{State}
 use Rattle.iox2_domain.specs.Fields.{kept_of}
 use Rattle.iox2_domain.specs.Kept.{state_of}
-use Rattle.iox2_pubsub.proofs.ChannelsShown.{only-channel, shown-answer}
+use Rattle.iox2_pubsub.proofs.ChannelsShown.{shown-answer}
 use Rattle.iox2_pubsub.proofs.PlacedHandles.{subscriber-at-place}
 use Rattle.iox2_pubsub.proofs.subscriber.Subscriber.at_least_one_channel_has_state.Goals as goal
 
@@ -18,5 +18,4 @@ returns g c =
     shown-answer {T = g.row.T.Denot} {U = g.row.U.Denot} c.domain.inside.state c.args.domain.now c.domain.view_is
     (λ (s : State g.row.T.Denot g.row.U.Denot). some_channel_has_state s c.args.self.now.id c.args.channel c.args.state) c.some_received_in.result
     (c.some_received_in.ensures at.0 at.1
-    ∙ ap (λ (q : ℕ). some_channel_has_state (state_of (kept_of c.domain.inside.state)) q 0 c.args.state) at.2
-    ∙ only-channel (λ (number : ℕ). some_channel_has_state (state_of (kept_of c.domain.inside.state)) c.args.self.now.id number c.args.state) c.args.channel c.requires.channel)
+    ∙ ap (λ (q : ℕ). some_channel_has_state (state_of (kept_of c.domain.inside.state)) q c.args.channel c.args.state) at.2)

@@ -1,14 +1,12 @@
-use Rattle.std.proofs.Common.{ℕ, ap, refl, subst, ◌∙◌}
+use Rattle.std.proofs.Common.{ℕ, inl, inr, ap, refl, subst, ◌∙◌}
 use Rattle.iox2_store.specs.machine.Channel.{Channel, closed_state, is_closed, with_state}
 use Rattle.iox2_store.specs.machine.ChannelCalls.{received_closed}
-use Rattle.iox2_store.specs.machine.State.{State}
 use Rattle.iox2_domain.specs.Fields.{kept_of, keeping}
 use Rattle.iox2_domain.specs.Kept.{state_of}
 use Rattle.iox2_domain.specs.Reaches.{Reaches}
 use Rattle.iox2_pubsub.proofs.CallsStay.{always-shown}
 use Rattle.iox2_pubsub.proofs.ChangedChannels.{changed-shows, changed-waits, changed-updated, changed-connected, changed-room, changed-left, changed-stays}
-use Rattle.iox2_pubsub.proofs.ChannelsShown.{only-channel}
-use Rattle.iox2_pubsub.proofs.ClosedChannels.{received-others}
+use Rattle.iox2_pubsub.proofs.ClosedChannels.{received-further, received-others}
 use Rattle.iox2_pubsub.proofs.PlacedHandles.{subscriber-at-place}
 use Rattle.iox2_pubsub.proofs.StaysBut.{same-boxes}
 use Rattle.iox2_pubsub.proofs.subscriber.Subscriber.close_channel.Goals as goal
@@ -29,8 +27,7 @@ returns-clause-closed g c =
     changed-shows {T = g.row.T.Denot} {U = g.row.U.Denot} c.domain.inside.state c.args.domain.now c.domain.view_is
     (λ s. received_closed s c.args.self.now.id c.args.channel c.args.expected) (λ s. refl) c.change_received.new.state
     (subst (Reaches c.domain.inside.state c.change_received.new.state)
-    (ap (λ (q : ℕ). received_closed (state_of (kept_of c.domain.inside.state)) q 0 c.args.expected) at.2
-    ∙ only-channel (λ (number : ℕ). received_closed (state_of (kept_of c.domain.inside.state)) c.args.self.now.id number c.args.expected) c.args.channel c.requires.channel)
+    (ap (λ (q : ℕ). received_closed (state_of (kept_of c.domain.inside.state)) q c.args.channel c.args.expected) at.2)
     (c.change_received.ensures at.0 at.1))
 
 pub returns-clause-waits : goal.returns-clause-waits
@@ -46,12 +43,15 @@ returns-clause-up_to_date g c =
     c.domain.invariant (keeping _ c.change_received.new.state) (returns-clause-closed g c)
 
 pub returns-clause-connections : goal.returns-clause-connections
-returns-clause-connections g c = λ publisher other away.
+returns-clause-connections g c = λ publisher other apart.
     let it = always-shown {T = g.row.T.Denot} {U = g.row.U.Denot} c.domain.inside.state c.args.domain.now c.domain.invariant c.domain.view_is in
     changed-connected {T = g.row.T.Denot} {U = g.row.U.Denot} c.domain.inside.state c.args.domain.now c.domain.view_is
     (λ s. received_closed s c.args.self.now.id c.args.channel c.args.expected) (λ s. refl)
     c.domain.invariant (keeping _ c.change_received.new.state) (returns-clause-closed g c) it.0 it.1 it.2 publisher other
-    (λ takes. ap (λ (channels : ℕ → Channel). is_closed (channels 0)) (received-others it.1 c.args.self.now.id c.args.channel c.args.expected (with_state closed_state) publisher other.id away) ∙ takes)
+    (λ takes. elim apart [
+      | inl away ↦ ap (λ (channels : ℕ → Channel). is_closed (channels 0)) (received-others it.1 c.args.self.now.id c.args.channel c.args.expected (with_state closed_state) publisher other.id away) ∙ takes
+      | inr further ↦ ap is_closed (received-further it.1 c.args.self.now.id c.args.channel c.args.expected (with_state closed_state) further publisher other.id) ∙ takes
+    ])
 
 pub returns-clause-room : goal.returns-clause-room
 returns-clause-room g c =

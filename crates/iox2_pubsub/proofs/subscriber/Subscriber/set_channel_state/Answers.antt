@@ -8,7 +8,7 @@ use Rattle.iox2_domain.specs.Kept.{state_of}
 use Rattle.iox2_domain.specs.Reaches.{Reaches}
 use Rattle.iox2_domain.specs.Shows.{Shows}
 use Rattle.iox2_pubsub.proofs.ChangedChannels.{changed-shows, changed-leaves}
-use Rattle.iox2_pubsub.proofs.ChannelsShown.{only-channel, shown-answer}
+use Rattle.iox2_pubsub.proofs.ChannelsShown.{shown-answer}
 use Rattle.iox2_pubsub.proofs.ClosedChannels.{opening-closes-none, received-takes}
 use Rattle.iox2_pubsub.proofs.PlacedHandles.{subscriber-at-place}
 use Rattle.iox2_pubsub.proofs.StaysBut.{same-boxes}
@@ -40,16 +40,14 @@ returns-clause-sets g c = λ m s shown.
       changed-shows {T = g.row.T.Denot} {U = g.row.U.Denot} c.domain.inside.state c.args.domain.now c.domain.view_is
           (λ s. received_changed s c.args.self.now.id c.args.channel closed_state (with_state c.args.state)) (λ s. refl) c.change_received.new.state
           (subst (Reaches c.domain.inside.state c.change_received.new.state)
-          (ap (λ (q : ℕ). received_changed (state_of (kept_of c.domain.inside.state)) q 0 closed_state (with_state c.args.state)) at.2
-          ∙ only-channel (λ (number : ℕ). received_changed (state_of (kept_of c.domain.inside.state)) c.args.self.now.id number closed_state (with_state c.args.state)) c.args.channel c.requires.channel)
+          (ap (λ (q : ℕ). received_changed (state_of (kept_of c.domain.inside.state)) q c.args.channel closed_state (with_state c.args.state)) at.2)
           (c.change_received.ensures at.0 at.1)) m s shown,
       (
         refl,
         shown-answer {T = g.row.T.Denot} {U = g.row.U.Denot} c.domain.inside.state c.args.domain.now c.domain.view_is
             (λ (s : State g.row.T.Denot g.row.U.Denot). all_closed s c.args.self.now.id c.args.channel) c.all_received_in-were_closed.result
             (c.all_received_in-were_closed.ensures at.0 at.1
-            ∙ ap (λ (q : ℕ). all_closed (state_of (kept_of c.domain.inside.state)) q 0) at.2
-            ∙ only-channel (λ (number : ℕ). all_closed (state_of (kept_of c.domain.inside.state)) c.args.self.now.id number) c.args.channel c.requires.channel) m s shown,
+            ∙ ap (λ (q : ℕ). all_closed (state_of (kept_of c.domain.inside.state)) q c.args.channel) at.2) m s shown,
       ),
     )
 

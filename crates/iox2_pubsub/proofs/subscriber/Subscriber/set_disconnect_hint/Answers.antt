@@ -1,12 +1,10 @@
-use Rattle.std.proofs.Common.{ℕ, ap, refl, subst, ◌∙◌}
+use Rattle.std.proofs.Common.{ℕ, ap, refl, subst}
 use Rattle.iox2_store.specs.machine.Channel.{with_hint}
 use Rattle.iox2_store.specs.machine.ChannelCalls.{received_hinted}
-use Rattle.iox2_store.specs.machine.State.{State}
 use Rattle.iox2_domain.specs.Fields.{kept_of, keeping}
 use Rattle.iox2_domain.specs.Kept.{state_of}
 use Rattle.iox2_domain.specs.Reaches.{Reaches}
 use Rattle.iox2_pubsub.proofs.ChangedChannels.{changed-shows, changed-leaves}
-use Rattle.iox2_pubsub.proofs.ChannelsShown.{only-channel}
 use Rattle.iox2_pubsub.proofs.ClosedChannels.{hint-closes-none, received-takes}
 use Rattle.iox2_pubsub.proofs.PlacedHandles.{subscriber-at-place}
 use Rattle.iox2_pubsub.proofs.StaysBut.{same-boxes}
@@ -28,8 +26,7 @@ returns-clause-hinted g c =
     changed-shows {T = g.row.T.Denot} {U = g.row.U.Denot} c.domain.inside.state c.args.domain.now c.domain.view_is
     (λ s. received_hinted s c.args.self.now.id c.args.channel c.args.expected) (λ s. refl) c.change_received.new.state
     (subst (Reaches c.domain.inside.state c.change_received.new.state)
-    (ap (λ (q : ℕ). received_hinted (state_of (kept_of c.domain.inside.state)) q 0 c.args.expected) at.2
-    ∙ only-channel (λ (number : ℕ). received_hinted (state_of (kept_of c.domain.inside.state)) c.args.self.now.id number c.args.expected) c.args.channel c.requires.channel)
+    (ap (λ (q : ℕ). received_hinted (state_of (kept_of c.domain.inside.state)) q c.args.channel c.args.expected) at.2)
     (c.change_received.ensures at.0 at.1))
 
 pub returns-clause-leaves : goal.returns-clause-leaves
