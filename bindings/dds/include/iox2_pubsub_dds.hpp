@@ -214,7 +214,7 @@ private:
     auto kept = std::make_unique<Domain<P, M>>(std::move(domain));
     iox2ps_domain_t *place = nullptr;
     auto find = [&](iox2ps_domain_t *its) { return place = its, static_cast<std::uint32_t>(IOX2PS_OK); };
-    if (kept->call(0, find) != IOX2PS_OK) return why = text(Error::NotLive), std::nullopt;
+    if (iox2ps::detail::Raw::call(*kept, 0, find) != IOX2PS_OK) return why = text(Error::NotLive), std::nullopt;
     std::string name = settings.type_name.empty() ? detail::name_of<Element>() : settings.type_name;
     iox2ps_dds_settings_t plain = settings_of(settings, name, kept.get());
     iox2ps_dds_gateway_t *gateway = nullptr;
