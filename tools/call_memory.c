@@ -12,6 +12,13 @@ static void must(iox2ps_status_t got, iox2ps_status_t code, int line) {
   exit(2);
 }
 
+/* The call gave this answer. */
+static void must_be(uint32_t got, uint32_t answer, int line) {
+  if (got == answer) return;
+  fprintf(stderr, "call_memory.c:%d: %u\n", line, (unsigned)got);
+  exit(2);
+}
+
 #define IS(call, code) must(call, code, __LINE__)
 #define OK(call) IS(call, IOX2PS_OK)
 
@@ -66,7 +73,28 @@ static void receive(iox2ps_domain_t *domain, const iox2ps_subscriber_t *subscrib
   OK(iox2ps_sample_release(domain, &sample));
 }
 
-/* Loans are discarded, and messages sent, one of which waits twice and is given up. All are received. */
+/* A channel is asked about, closed by the publisher and by the subscriber, and opened again each time. */
+static void turn_channel(iox2ps_domain_t *domain, const iox2ps_publisher_t *publisher, const iox2ps_subscriber_t *subscriber) {
+  const uint64_t open = IOX2PS_CHANNEL_STATE_OPEN;
+  size_t connection;
+  uint32_t is_open, has_hint, were_closed;
+  OK(iox2ps_publisher_get_connection_id_of(domain, publisher, &subscriber->id, &connection));
+  OK(iox2ps_publisher_close_channel(domain, publisher, 0, connection, open));
+  OK(iox2ps_publisher_has_channel_state(domain, publisher, 0, connection, open, &is_open));
+  must_be(is_open, 0, __LINE__);
+  OK(iox2ps_subscriber_set_channel_state(domain, subscriber, 0, open, &were_closed));
+  must_be(were_closed, 1, __LINE__);
+  OK(iox2ps_subscriber_set_disconnect_hint(domain, subscriber, 0, open));
+  OK(iox2ps_publisher_has_disconnect_hint(domain, publisher, 0, connection, open, &has_hint));
+  must_be(has_hint, 1, __LINE__);
+  OK(iox2ps_subscriber_close_channel(domain, subscriber, 0, open));
+  OK(iox2ps_subscriber_at_least_one_channel_has_state(domain, subscriber, 0, open, &is_open));
+  must_be(is_open, 0, __LINE__);
+  OK(iox2ps_subscriber_set_channel_state(domain, subscriber, 0, open, &were_closed));
+  must_be(were_closed, 1, __LINE__);
+}
+
+/* A channel is turned, loans are discarded, and messages sent, one of which waits twice and is given up. All are received. */
 static void round_of_calls(iox2ps_domain_t *domain, const iox2ps_publisher_t *publisher, const iox2ps_subscriber_t *subscriber) {
   iox2ps_loan_t loan;
   iox2ps_blocked_t blocked;
@@ -74,6 +102,7 @@ static void round_of_calls(iox2ps_domain_t *domain, const iox2ps_publisher_t *pu
   size_t len, receivers;
   OK(iox2ps_publisher_update_connections(domain, publisher));
   OK(iox2ps_subscriber_update_connections(domain, subscriber));
+  turn_channel(domain, publisher, subscriber);
   OK(iox2ps_publisher_loan(domain, publisher, 8, &loan, &payload));
   OK(iox2ps_loan_payload(domain, &loan, &payload, &len));
   OK(iox2ps_loan_discard(domain, &loan));

@@ -1,5 +1,6 @@
-//! What the static library exports. Each export takes the domain out of its box, calls what stands
-//! in `calls`, and puts it back.
+//! What the static library exports. Each export has what stands in `calls` done to the domain where it
+//! lies in C's box. Only what makes or frees a domain, and a question of `questions`, takes it out and
+//! puts it back.
 
 mod channel_changes;
 mod channels;

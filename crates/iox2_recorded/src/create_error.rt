@@ -1,4 +1,7 @@
 //! Why a recorded domain isn't made.
+ghost use Rattle.std.specs.Prelude.{◌≡◌};
+ghost use Rattle.iox2_recorded.specs.declared.create_error.RecordedCreateError.TheVariants.{OutOfMemory};
+
 use std::alloc::{AllocError, AllocFailed};
 use std::error::Error;
 use std::fmt;
@@ -25,12 +28,16 @@ impl fmt::Display for RecordedCreateError {
 impl Error for RecordedCreateError {}
 
 impl From<AllocError> for RecordedCreateError {
+    ghost from_gives = { λ _ error. error ≡ OutOfMemory };
+
     fn from(_error: AllocError) -> Self {
         RecordedCreateError::OutOfMemory
     }
 }
 
 impl<T: Drop> From<AllocFailed<T>> for RecordedCreateError {
+    ghost from_gives = { λ _ error. error ≡ OutOfMemory };
+
     fn from(_error: AllocFailed<T>) -> Self {
         RecordedCreateError::OutOfMemory
     }

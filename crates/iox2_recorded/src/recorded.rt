@@ -1,6 +1,6 @@
-ghost use Rattle.std.specs.Prelude.{◌≡◌, Err, IfErr, IfOk, false, vec_len};
+ghost use Rattle.std.specs.Prelude.{◌≡◌, Err, IfErr, IfOk, false, true, vec_len};
 ghost use Rattle.iox2_runs.specs.Carries.{defaults_of};
-ghost use Rattle.iox2_recorded.specs.declared.create_error.RecordedCreateError.TheVariants.{NoCells};
+ghost use Rattle.iox2_recorded.specs.declared.create_error.RecordedCreateError.TheVariants.{NoCells, OutOfMemory};
 ghost use Rattle.iox2_recorded.specs.Recorded.{IsCarriedOut, IsRecorded, Keeps, SameRecording, WasRun, has_room};
 
 use crate::create_error::RecordedCreateError;
@@ -49,6 +49,7 @@ impl<
         ensures recorded { IfOk result (λ r. IsRecorded (defaults_of T.is_default U.is_default) r) }
         ensures empty { IfOk result (λ r. (r.config ≡ config) × (vec_len r.commands ≡ 0) × (r.missed ≡ 0)) }
         ensures no_cells { config.lists_cells ≡ false → result ≡ Err NoCells }
+        ensures out_of_memory { config.lists_cells ≡ true → IfErr result (λ error. error ≡ OutOfMemory) }
     {
         if !config.lists_cells {
             return Err(RecordedCreateError::NoCells);

@@ -8,13 +8,15 @@ mod replay;
 
 use calls::{calls, service};
 use failure::Failure;
+use iox2_store::ServiceConfig;
 use record::record;
 use recordings::{Recording, save};
 use replay::count_alike;
 
 fn main(rt: HostRuntime) -> Result<(), Failure> {
     record_all(&rt)?;
-    record_some(&rt)
+    record_some(&rt)?;
+    record_without_cells(&rt)
 }
 
 // Records all calls, prints the recording, and says how many replies its replay has in common with it.
@@ -40,5 +42,18 @@ fn record_some(rt: &HostRuntime) -> Result<(), Failure> {
     let count = commands.len();
     let alike = count_alike(rt.alloc(), service(), commands, &replies)?;
     println!(rt; "{count} calls kept, {missed} missed, {alike} with the same reply in a replay")?;
+    Ok(())
+}
+
+// A domain that hands out no cells, which commands read and write.
+fn record_without_cells(rt: &HostRuntime) -> Result<(), Failure> {
+    let config = ServiceConfig {
+        lists_cells: false,
+        ..service()
+    };
+    match record(rt.alloc(), config, &calls(), 7) {
+        Ok(_) => println!(rt; "without cells: recorded")?,
+        Err(failure) => println!(rt; "without cells: {failure:?}")?,
+    }
     Ok(())
 }
