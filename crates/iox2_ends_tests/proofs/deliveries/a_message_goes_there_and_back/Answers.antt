@@ -1,7 +1,9 @@
-use Rattle.std.proofs.Common.{Bool, Err, List, None, Ok, Option, Result, Some, [], ap, arith, cond, eqb, false, get_or, inl, inr, refl, rules, subst, suc, sym, true, zero, ℕ, ◌<◌, ◌∙◌, ◌∷◌, ◌≡◌}
+use Rattle.std.proofs.Common.{Bool, Err, List, None, Ok, Option, Result, Some, [], ap, arith, cond, eqb, false, get_or, inl, inr, refl, replicate, rules, subst, suc, sym, true, zero, ℕ, ◌<◌, ◌∙◌, ◌∷◌, ◌≡◌}
 use Rattle.std.proofs.lemmas.Bool.{cases_eq}
+use Rattle.std.proofs.lemmas.List.Elements.{All-head}
 use Rattle.std.proofs.lemmas.List.Sums.{sum_by-cons}
-use Rattle.std.specs.List.{sum_by}
+use Rattle.std.specs.List.{All, sum_by}
+use Rattle.std.specs.Prelude.{◌↔◌, IsSome, IsNone}
 use Rattle.slab.specs.Slab.{Slab, get, Updates}
 use Rattle.iox2_slots.specs.Link.{Link, empty_link}
 use Rattle.iox2_slots.specs.declared.connection.Home.{Home}
@@ -47,6 +49,14 @@ covered-first old new key p home buffer limit holders empty u = record { at = λ
 -- and its publisher itself holds a slot in use
 own-first : (old new : Slab Link) (key p n : ℕ) (home : Home) (buffer limit : ℕ) (holders : List ℕ) → old.slots ≡ [] → Updates old new key (Some (empty_link home buffer limit 1)) → 0 < get_or holders n 0 → HoldsItself p n holders new.slots
 own-first old new key p n home buffer limit holders empty u some = record { more = omega (arith, some, none-stands old new key p home buffer limit empty u n) }
+
+-- a book whose one slot is free gives that slot
+some-taken : (slot : Option ℕ) (holders : List ℕ) → holders ≡ replicate 1 0 → (IsNone slot ↔ All (λ n. 0 < n) holders) → IsSome slot
+some-taken (Some slot) holders unused none = refl
+some-taken None holders unused none = absurd (omega (arith, All-head (λ n. 0 < n) 0 [] (subst (All (λ n. 0 < n)) unused (none.0 refl))))
+
+pub unwrap-slot-requires : goal.unwrap-slot-requires
+unwrap-slot-requires g c = some-taken c.take.result c.in_ok-book.book.holders c.in_ok-book.ensures.unused c.take.ensures.none
 
 pub deliver-outcome-requires-clause-covered : goal.deliver-outcome-requires-clause-covered
 deliver-outcome-requires-clause-covered g c =
