@@ -35,7 +35,7 @@ use Rattle.iox2_domain.proofs.lemmas.containers.LookUps.{map-at}
 use Rattle.iox2_steps.proofs.creations.PublishersDue.{with_publishers_due, publishers_due-are}
 use Rattle.iox2_domain.proofs.lemmas.fields.OwnKeys.{receiver-leads}
 use Rattle.iox2_domain.proofs.lemmas.fields.Standing.{some_is}
-use Rattle.iox2_domain.proofs.lemmas.fields.Views.{mailboxes-are}
+use Rattle.iox2_domain.proofs.lemmas.fields.Views.{mailboxes-are, no-others}
 use Rattle.iox2_domain.specs.Midway.{IsMidway, with_channels_of}
 use Rattle.iox2_steps.proofs.releases.SettledChannels.{box-still, freed-channels, freed-linked, pruned-linked, settles-channels, shut-linked}
 use Rattle.iox2_domain.specs.Reaches.{Reaches}
@@ -148,7 +148,7 @@ module _ {T U : Type 0} (f : Fields T U) (sound : IsDomain f) (place : ℕ) (y :
 
   -- so it is closed, but for its place
   closed-but : publishers_due t ≡ record (subscriber_pruned (subscriber_shut s y.id port) y.id) { channels = t.channels }
-  closed-but = sheds-closed s y.id port t closing.sheds dropped known
+  closed-but = sheds-closed s y.id port t closing.sheds (λ p gone. (dropped p gone, no-others f' p y.id)) known
 
   -- ---- the publishers are due, and it may go
 

@@ -77,14 +77,18 @@ put_at-twice f k x z = fun_ext (λ i. by (eqb i k) i) where
   by true i = refl
   by false i = refl
 
+-- Nothing waits in the mailbox, in whatever channel.
+abbrev pub HasLost : Mailbox → Type 0
+HasLost box = (has_data box ≡ false) × (box.others ≡ [])
+
 -- an empty mailbox stays empty, and one in which nothing waits has nothing to lose
 dropped-none : (box : Mailbox) → has_numbers box ≡ false → has_numbers (waiting_dropped box) ≡ false
 dropped-none box none = has_numbers_dropped box ∙ ap (λ (ns : List ℕ). not (is_nil ns)) (nothing_borrowed box none)
 
-dropped-same : (box : Mailbox) → has_data box ≡ false → box ≡ waiting_dropped box
-dropped-same box none = by box.waiting refl none where
+dropped-same : (box : Mailbox) → HasLost box → box ≡ waiting_dropped box
+dropped-same box none = by box.waiting refl none.0 where
   by : (ws : List ℕ) → box.waiting ≡ ws → not (is_nil box.waiting) ≡ false → box ≡ waiting_dropped box
-  by [] e h = λ i. record box { waiting = e i }
+  by [] e h = λ i. record box { waiting = e i; others = none.1 i }
   by (w ∷ ws) e h = absurd (true≢false (sym (ap (λ (vs : List ℕ). not (is_nil vs)) e) ∙ h))
 
 -- the subscriber with the publishers that pass the test
@@ -171,7 +175,7 @@ module _ {T U : Type 0} where
 
       -- Where nothing waits from departed publishers, and only publishers with which it still has to do are known, q has
       -- forgotten the others.
-      module _ (dropped : (p : ℕ) → s.publishers p ≡ None → has_data (t.mailboxes p q) ≡ false)
+      module _ (dropped : (p : ℕ) → s.publishers p ≡ None → HasLost (t.mailboxes p q))
           (known : (p : ℕ) (z : Subscriber) → t.subscribers q ≡ Some z → (contains z.expired p ≡ true) ⊎ LeadsTo z.ends p → s.publishers p ≡ None → has_numbers (t.mailboxes p q) ≡ true) where
         -- the mailboxes of a subscriber that closes
         abbrev lost : State T U
@@ -229,7 +233,7 @@ module _ {T U : Type 0} where
   -- A subscriber that was shut, and then has lost and forgotten so, is one that closes.
   pub sheds-closed : (s : State T U) (q : ℕ) (y : Subscriber) (t : State T U)
       → Sheds (record s { subscribers = put_at s.subscribers q (Some (record y { is_open = false })) }) q (record y { is_open = false }) t
-      → ((p : ℕ) → s.publishers p ≡ None → has_data (t.mailboxes p q) ≡ false)
+      → ((p : ℕ) → s.publishers p ≡ None → HasLost (t.mailboxes p q))
       → ((p : ℕ) (z : Subscriber) → t.subscribers q ≡ Some z → (contains z.expired p ≡ true) ⊎ LeadsTo z.ends p → s.publishers p ≡ None → has_numbers (t.mailboxes p q) ≡ true)
       → publishers_due t ≡ record (subscriber_pruned (subscriber_shut s q y) q) { channels = t.channels }
   sheds-closed s q y t x dropped known =

@@ -41,7 +41,7 @@ borrows_alike : (box box' : Mailbox) (n n' : ℕ) (after after' : Mailbox) → b
 borrows_alike box box' n n' after after' e h k =
     let parts : (n ≡ n') × (h.0 ≡ k.0) = first_alike n n' h.0 k.0 (sym h.1 ∙ ap (λ (m : Mailbox). m.waiting) e ∙ k.1) in (
       parts.0,
-      h.2 ∙ (λ i. record { waiting = parts.1 i; borrowed = (e i).borrowed ++ parts.0 i ∷ [] }) ∙ sym k.2,
+      h.2 ∙ (λ i. record { waiting = parts.1 i; borrowed = (e i).borrowed ++ parts.0 i ∷ []; others = (e i).others }) ∙ sym k.2,
     )
 
 module _ {T U : Type 0} (q : ℕ) where

@@ -15,6 +15,7 @@ use Rattle.iox2_store.specs.machine.Releases.{released}
 use Rattle.iox2_store.specs.machine.SingleCalls.{GrantWrittenLoan}
 use Rattle.iox2_store.specs.declared.errors.LoanError.{LoanError}
 use Rattle.iox2_laws.proofs.Cases.{by_option}
+use Rattle.iox2_laws.proofs.MailboxLemmas.{borrowed-appended}
 use Rattle.iox2_laws.proofs.MailboxWalks.{deliver_keeps}
 use Rattle.iox2_laws.proofs.PortsClose.{publisher_closed_borrowed, subscriber_closed_borrowed}
 use Rattle.iox2_laws.proofs.PortsStay.{update_publisher_stays, update_subscriber_stays, create_publisher_stays, create_subscriber_stays, grant_loan_stays}
@@ -45,13 +46,13 @@ module _ {T U : Type 0} where
   -- ---- sends and loans
 
   -- a delivery, whether or not it is blocked
-  delivered_borrows : (environment : Environment) (s : State T U) (p n retries : ℕ) (elapsed : Duration) (place : ℕ) (ends : List (Option ℕ)) (count : ℕ) (has_failed : Bool) (s' : State T U) (result : SendResult)
-      → DeliverAndConclude environment s p n retries elapsed place ends count has_failed s' result → SameBorrows s s'
-  delivered_borrows environment s p n retries elapsed place ends count has_failed s' result h =
+  delivered_borrows : (environment : Environment) (s : State T U) (p n channel retries : ℕ) (elapsed : Duration) (place : ℕ) (ends : List (Option ℕ)) (count : ℕ) (has_failed : Bool) (s' : State T U) (result : SendResult)
+      → DeliverAndConclude environment s p n channel retries elapsed place ends count has_failed s' result → SameBorrows s s'
+  delivered_borrows environment s p n channel retries elapsed place ends count has_failed s' result h =
       by_option (SameBorrows s s') (s.publishers p) _ _ h (λ _ v. absurd v) (λ x present h.
       let are : (q : ℕ) → (h.1 q).borrowed ≡ (s.mailboxes p q).borrowed =
-      (deliver_keeps (λ i box. box.borrowed ≡ (s.mailboxes p i).borrowed) (λ i box same. same) environment s.config p x.backpressure_strategy x.backpressure_handler (channel_buffer s p 0) n
-      (λ i buffer box same. same) retries elapsed place ends count has_failed (s.mailboxes p) h.0 h.1 (λ q. refl) h.2).0 in
+      (deliver_keeps (λ i box. box.borrowed ≡ (s.mailboxes p i).borrowed) (λ i box same. same) environment s.config p x.backpressure_strategy x.backpressure_handler (channel_buffer s p channel) n channel
+      (λ i buffer box same. borrowed-appended channel buffer n box ∙ same) retries elapsed place ends count has_failed (s.mailboxes p) h.0 h.1 (λ q. refl) h.2).0 in
       concluded (with_mailboxes s p h.1) h.0 (λ i q. at_each s.mailboxes p h.1 (λ i row. (row q).borrowed ≡ (s.mailboxes i q).borrowed) i (λ _. are q) (λ _. refl)) h.3)
     where
       concluded : (mid : State T U) (how : DeliveryEnd) → SameBorrows s mid → ConcludeSend mid p n how s' result → SameBorrows s s'
@@ -71,7 +72,7 @@ module _ {T U : Type 0} where
       published_borrows : (mid : State T U) → SameBorrows s mid → Publish environment mid l.publisher n s' result → SameBorrows s s'
       published_borrows mid first h =
           by_option (SameBorrows s s') (mid.publishers l.publisher) _ _ h (λ _ v. absurd v) (λ x _ h.
-          λ p q. delivered_borrows environment (published mid l.publisher n) l.publisher n 0 _ 0 x.ends 0 false s' result h p q ∙ first p q)
+          λ p q. delivered_borrows environment (published mid l.publisher n) l.publisher n 0 0 _ 0 x.ends 0 false s' result h p q ∙ first p q)
 
   written_loan_borrows : (environment : Environment) (value : T) (default_header : U) (checks_length : Bool) (len : ℕ) (s : State T U) (p : ℕ) (s' : State T U) (refusal : Option LoanError)
       → GrantWrittenLoan environment value default_header checks_length len s p s' refusal → SameBorrows s s'
@@ -167,9 +168,9 @@ module _ {T U : Type 0} where
         (λ e _ i. by o _ j.0 i refl mid))
     step_borrows (Discard of) o k h = live o (loan_at s handles of) _ h (λ loan j. by o _ _ j refl (λ p q. refl))
     step_borrows (Retry of elapsed) o k h =
-        live o (blocked_at s handles of) _ h (λ named j. by o _ j.0 j.3 (state_retry j.0 j.1) (delivered_borrows environment s named.0 _ _ _ _ _ _ _ j.0 j.1 j.2))
+        live o (blocked_at s handles of) _ h (λ named j. by o _ j.0 j.3 (state_retry j.0 j.1) (delivered_borrows environment s named.0 _ _ _ _ _ _ _ _ j.0 j.1 j.2))
     step_borrows (GiveUp of) o k h =
-        live o (blocked_at s handles of) _ h (λ named j. by o _ j.0 j.3 (state_retry j.0 j.1) (delivered_borrows environment s named.0 _ _ _ _ _ _ _ j.0 j.1 j.2))
+        live o (blocked_at s handles of) _ h (λ named j. by o _ j.0 j.3 (state_retry j.0 j.1) (delivered_borrows environment s named.0 _ _ _ _ _ _ _ _ j.0 j.1 j.2))
     step_borrows (Update of) o k h =
         by_option (SameBorrows s o.state) (unblocked_at s handles of) _ _ h
         (λ _ j. live o (subscriber_at s handles of) _ j (λ subscriber j. by o _ j.0 j.3 (state_update j.0 j.1) (update_subscriber_stays environment s subscriber.0 j.0 j.1 j.2).borrowed))
@@ -200,7 +201,7 @@ module _ {T U : Type 0} where
       kept : (command : Command T U) (o : Outcome T U) → releases command ≡ false → SameBorrows s o.state → is_borrowed n ((o.state).mailboxes p r) ≡ true
           → BorrowedAfter s handles command o p r n
       kept command o quiet stays held =
-          inl (sym (ap (λ (ns : List ℕ). is_borrowed n (record { waiting = []; borrowed = ns })) (stays p r)) ∙ held, spared handles command p r n quiet)
+          inl (sym (ap (λ (ns : List ℕ). is_borrowed n (record { waiting = []; borrowed = ns; others = [] })) (stays p r)) ∙ held, spared handles command p r n quiet)
 
       -- after a receive
       took : (of : ℕ) (o : Outcome T U) (q : ℕ) (s' : State T U) (result : ReceiveResult) → slice_get handles of ≡ Some (Subscriber_handle q)

@@ -14,7 +14,7 @@ use Rattle.iox2_store.specs.machine.Places.{occupants, free_place}
 use Rattle.iox2_store.specs.machine.Mailbox.{Mailbox, can_receive, has_data, BorrowsFirst}
 use Rattle.iox2_store.specs.machine.Records.{Loan, Publisher, Subscriber, PublisherSettings, SubscriberSettings}
 use Rattle.iox2_store.specs.machine.State.{State, held, channel_buffer, connected_publishers, with_mailbox, with_loan, publisher_changed, receiver_channels_reset}
-use Rattle.iox2_store.specs.machine.Delivery.{Deliver, DeliveryEnd, Complete, Suspended, no_time}
+use Rattle.iox2_store.specs.machine.Delivery.{DeliveryEnd, Complete, Suspended, no_time, DeliverIn}
 use Rattle.iox2_store.specs.machine.PublisherUpdate.{UpdatePublisher}
 use Rattle.iox2_store.specs.machine.SubscriberUpdate.{UpdateSubscriber}
 use Rattle.iox2_store.specs.machine.Loans.{GrantLoan, StaticLoan, DynamicLoan, IsGuaranteed, NoSegmentFits, known_length, loan_granted, limit_error, is_static, loan_discarded, written}
@@ -254,19 +254,19 @@ module _ {T U : Type 0} where
       (send_ended s p n, cond has_failed (Send_error UnableToDeliver) (Delivered_to count), (refl, refl), changed_fixed s p (λ x. record x { loans = without n x.loans; blocked = None }) (λ x. refl) k)
   conclude_comes s p n (Suspended b) k = (send_blocked s p b, Blocked_send, (refl, refl), changed_fixed s p (λ x. record x { blocked = Some b }) (λ x. refl) k)
 
-  pub delivers : (s : State T U) (p : ℕ) (x : Publisher) → s.publishers p ≡ Some x → IsFixed s → (n retries : ℕ) (elapsed : Duration) (place : ℕ) (ends : List (Option ℕ)) (count : ℕ) (has_failed : Bool)
-      → ComesTo SendResult (DeliverAndConclude ample_memory s p n retries elapsed place ends count has_failed)
-  delivers s p x present k n retries elapsed place ends count has_failed =
-      let d : ComesWith DeliveryEnd (ℕ → Mailbox) (Deliver ample_memory s.config p x.backpressure_strategy x.backpressure_handler (channel_buffer s p 0) n retries elapsed place ends count has_failed (s.mailboxes p)) (anything DeliveryEnd (ℕ → Mailbox)) =
-      deliver_comes s.config p x.backpressure_strategy x.backpressure_handler (k.handlers p x present) (channel_buffer s p 0) n retries elapsed place ends count has_failed (s.mailboxes p) in
+  pub delivers : (s : State T U) (p : ℕ) (x : Publisher) → s.publishers p ≡ Some x → IsFixed s → (n channel retries : ℕ) (elapsed : Duration) (place : ℕ) (ends : List (Option ℕ)) (count : ℕ) (has_failed : Bool)
+      → ComesTo SendResult (DeliverAndConclude ample_memory s p n channel retries elapsed place ends count has_failed)
+  delivers s p x present k n channel retries elapsed place ends count has_failed =
+      let d : ComesWith DeliveryEnd (ℕ → Mailbox) (DeliverIn ample_memory s.config p x.backpressure_strategy x.backpressure_handler (channel_buffer s p channel) n channel retries elapsed place ends count has_failed (s.mailboxes p)) (anything DeliveryEnd (ℕ → Mailbox)) =
+      deliver_comes s.config p x.backpressure_strategy x.backpressure_handler (k.handlers p x present) (channel_buffer s p channel) n channel retries elapsed place ends count has_failed (s.mailboxes p) in
       let e : ComesTo SendResult (ConcludeSend (with_mailboxes s p d.1) p n d.0) = conclude_comes (with_mailboxes s p d.1) p n d.0 (record { message = k.message; handlers = k.handlers }) in
       (e.0, e.1, match_some (s.publishers p) x _ _ present (d.0, d.1, d.2, e.2), e.3)
 
   publish_comes : (s : State T U) (p : ℕ) (x : Publisher) → s.publishers p ≡ Some x → IsFixed s → (n : ℕ) → ComesTo SendResult (Publish ample_memory s p n)
   publish_comes s p x present k n =
-      let d : ComesTo SendResult (DeliverAndConclude ample_memory (published s p n) p n 0 no_time 0 x.ends 0 false) =
+      let d : ComesTo SendResult (DeliverAndConclude ample_memory (published s p n) p n 0 0 no_time 0 x.ends 0 false) =
       delivers (published s p n) p (remembers x) (put_at-same s.publishers p (option_map remembers (s.publishers p)) ∙ ap (option_map remembers) present)
-      (changed_fixed (with_loan s n None) p remembers (λ x. refl) (with_loan_fixed s n None k)) n 0 no_time 0 x.ends 0 false in
+      (changed_fixed (with_loan s n None) p remembers (λ x. refl) (with_loan_fixed s n None k)) n 0 0 no_time 0 x.ends 0 false in
       (d.0, d.1, match_some (s.publishers p) x _ _ present d.2, d.3)
     where
       remembers : Publisher → Publisher

@@ -4,7 +4,7 @@ use Rattle.std.specs.Prelude.{MatchOption, slice_get, nat_lt}
 use Rattle.std.specs.Option.{option_map}
 use Rattle.std.proofs.lemmas.Bool.{true≢false, ltb-true}
 use Rattle.std.proofs.lemmas.Option.{none-some, same_Some, slice_get_cases}
-use Rattle.iox2_store.specs.machine.Mailbox.{is_borrowed, numbers_in}
+use Rattle.iox2_store.specs.machine.Mailbox.{is_borrowed, numbers_in, Mailbox, other_numbers}
 use Rattle.iox2_store.specs.machine.Numbers.{contains}
 use Rattle.iox2_store.specs.machine.Records.{Entry, Loan, Publisher, Handler, Fixed}
 use Rattle.iox2_store.specs.machine.State.{State, Messages, fresh, no_messages, with_loan}
@@ -82,7 +82,8 @@ module _ {T U : Type 0} where
     sample_sent : (of : ℕ) (named : ℕ × ℕ × ℕ) → sample_at s handles of ≡ Some named → (entry : Entry T U) × (m named.2 ≡ Some entry)
     sample_sent of named e =
         let box : contains (numbers_in (s.mailboxes named.0 named.1)) named.2 ≡ true =
-        contains_right (s.mailboxes named.0 named.1).waiting (s.mailboxes named.0 named.1).borrowed named.2 (sample_borrowed s handles of named e) in
+        let inner : Mailbox = s.mailboxes named.0 named.1 in
+        contains_right (other_numbers inner) (inner.waiting ++ inner.borrowed) named.2 (contains_right inner.waiting inner.borrowed named.2 (sample_borrowed s handles of named e)) in
         let sent : (entry : Entry T U) × past.WasSent named.0 named.2 entry × ((entry.header).publisher_id ≡ named.0) =
         (reached.traced).0 named.0 named.1 named.2 box (subst (λ i. i ≤ named.1) (sym first) (omega arith)) in
         (sent.0, reached.kept named.0 named.2 sent.0 sent.1)
@@ -179,11 +180,11 @@ module _ {T U : Type 0} where
     step_comes (Retry of elapsed) =
         live (blocked_at s handles of) _ (λ blocked e.
         let there : (x : Publisher) × (s.publishers blocked.0 ≡ Some x) × (x.blocked ≡ Some blocked.1) = blocked_is s handles of blocked e in
-        ends_call _ _ (λ s' r. after_retry s' r) state_retry (delivers s blocked.0 there.0 there.1 k _ _ _ _ _ _ _))
+        ends_call _ _ (λ s' r. after_retry s' r) state_retry (delivers s blocked.0 there.0 there.1 k _ _ _ _ _ _ _ _))
     step_comes (GiveUp of) =
         live (blocked_at s handles of) _ (λ blocked e.
         let there : (x : Publisher) × (s.publishers blocked.0 ≡ Some x) × (x.blocked ≡ Some blocked.1) = blocked_is s handles of blocked e in
-        ends_call _ _ (λ s' r. after_retry s' r) state_retry (delivers s blocked.0 there.0 there.1 k _ _ _ _ _ _ _))
+        ends_call _ _ (λ s' r. after_retry s' r) state_retry (delivers s blocked.0 there.0 there.1 k _ _ _ _ _ _ _ _))
     step_comes (Update of) =
         ends_option (unblocked_at s handles of) _ _
         (λ _. live (subscriber_at s handles of) _ (λ subscriber e.

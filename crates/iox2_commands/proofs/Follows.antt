@@ -28,8 +28,8 @@ use Rattle.iox2_store.specs.declared.warning.Warning.TheVariants.{PublisherPartl
 use Rattle.iox2_laws.proofs.Cases.{by_option, by_bool}
 use Rattle.iox2_laws.proofs.CallCases.{grant_cases, publisher_cases, subscriber_cases}
 use Rattle.iox2_laws.proofs.Puts.{at_each, found_put, found_removed, found_mapped, put_at-same}
-use Rattle.iox2_laws.proofs.NumberLemmas.{contains_in_append, contains_left, contains_right, contains_first, contains_one, contains_in_last_n, contains-without_other}
-use Rattle.iox2_laws.proofs.MailboxLemmas.{contains_in_released}
+use Rattle.iox2_laws.proofs.NumberLemmas.{contains_in_append, contains_right, contains_first, contains_one, contains_in_last_n, contains-without_other}
+use Rattle.iox2_laws.proofs.MailboxLemmas.{contains_in_released, contains_waiting_in}
 use Rattle.iox2_commands.proofs.Traces.{IsGood, AreGood, good_dropped, good_borrowed, sender_side_good, receiver_side_good, deliver_good}
 use Rattle.iox2_laws.proofs.SenderSides.{in_history_for}
 
@@ -212,7 +212,7 @@ module _ {T U : Type 0} where
         by_option Result h.1 _ _ h.3
         (λ _ k. by_option Result ((h.0).subscribers q) _ _ k (λ _ v. absurd v) (λ y _ j.
         let found : contains (numbers_in ((h.0).mailboxes p q)) n ≡ true =
-        contains_left ((h.0).mailboxes p q).waiting ((h.0).mailboxes p q).borrowed n
+        contains_waiting_in 0 ((h.0).mailboxes p q) n
         (subst (λ ws. contains ws n ≡ true) (sym (j.2).1) (contains_first n (j.2).0)) in
         let box : is_borrowed n j.1 ≡ true =
         subst (λ (m : Mailbox). is_borrowed n m ≡ true) (sym (j.2).2) (contains_right ((h.0).mailboxes p q).borrowed (n ∷ []) n (contains_first n [])) in (
@@ -312,13 +312,13 @@ module _ {T U : Type 0} where
         )
 
     -- A message that was sent is delivered, and the send ends or is blocked.
-    pub deliver_follows : (environment : Environment) (s : State T U) (p n retries : ℕ) (elapsed : Duration) (place : ℕ) (ends : List (Option ℕ)) (count : ℕ)
+    pub deliver_follows : (environment : Environment) (s : State T U) (p n channel retries : ℕ) (elapsed : Duration) (place : ℕ) (ends : List (Option ℕ)) (count : ℕ)
         (has_failed : Bool) (s' : State T U) (result : SendResult)
-        → scope.WasSent p n → IsTraced scope s → DeliverAndConclude environment s p n retries elapsed place ends count has_failed s' result → Follows scope s s'
-    deliver_follows environment s p n retries elapsed place ends count has_failed s' result sent t h =
+        → scope.WasSent p n → IsTraced scope s → DeliverAndConclude environment s p n channel retries elapsed place ends count has_failed s' result → Follows scope s s'
+    deliver_follows environment s p n channel retries elapsed place ends count has_failed s' result sent t h =
         by_option (Follows scope s s') (s.publishers p) _ _ h (λ _ v. absurd v) (λ x present k.
         let d : AreGood (MayHold scope p) (s.mailboxes p) k.1 × ((b : BlockedSend) → k.0 ≡ Suspended b → b.message ≡ n) =
-        deliver_good (MayHold scope p) (s.mailboxes p) environment s.config p x.backpressure_strategy x.backpressure_handler (channel_buffer s p 0) n (λ _ _. sent)
+        deliver_good (MayHold scope p) (s.mailboxes p) environment s.config p x.backpressure_strategy x.backpressure_handler (channel_buffer s p channel) n channel (λ _ _. sent)
         retries elapsed place ends count has_failed (s.mailboxes p) k.0 k.1 (same_good s t.0 p) k.2 in
         let f : Follows scope s (with_mailboxes s p k.1) =
         (λ i q. at_each s.mailboxes p k.1 (λ i m. IsGood (MayHold scope i q) (s.mailboxes i q) (m q)) i (λ _. d.0 q) (λ _. same_good s t.0 i q), t.1, t.2) in
@@ -341,20 +341,20 @@ module _ {T U : Type 0} where
           λ i l e. found_removed s.loans n i l (LoanTraced scope i l) e (λ apart f. others i l apart f),
         ) in
         follows_trans s (published s p n) s' f
-        (deliver_follows environment (published s p n) p n 0 no_time 0 x.ends 0 false s' result sent (traced_after s (published s p n) f) k))
+        (deliver_follows environment (published s p n) p n 0 0 no_time 0 x.ends 0 false s' result sent (traced_after s (published s p n) f) k))
 
     -- A blocked send is tried again.
     pub retry_follows : (environment : Environment) (s : State T U) (p : ℕ) (x : Publisher) (b : BlockedSend) (elapsed : Duration) (s' : State T U)
         (result : SendResult)
         → scope.first_port ≤ p → s.publishers p ≡ Some x → x.blocked ≡ Some b → IsTraced scope s → Retry environment s p b elapsed s' result → Follows scope s s'
     retry_follows environment s p x b elapsed s' result own present e t h =
-        deliver_follows environment s p b.message (more_retries b.retries) elapsed b.place b.ends b.count b.has_failed s' result ((t.1 p x present own).1 b e) t h
+        deliver_follows environment s p b.message b.channel (more_retries b.retries) elapsed b.place b.ends b.count b.has_failed s' result ((t.1 p x present own).1 b e) t h
 
     -- A blocked send is given up.
     pub give_up_follows : (environment : Environment) (s : State T U) (p : ℕ) (x : Publisher) (b : BlockedSend) (s' : State T U) (result : SendResult)
         → scope.first_port ≤ p → s.publishers p ≡ Some x → x.blocked ≡ Some b → IsTraced scope s → GiveUp environment s p b s' result → Follows scope s s'
     give_up_follows environment s p x b s' result own present e t h =
-        deliver_follows environment s p b.message 0 no_time (b.place + 1) (drop 1 b.ends) b.count b.has_failed s' result ((t.1 p x present own).1 b e) t h
+        deliver_follows environment s p b.message b.channel 0 no_time (b.place + 1) (drop 1 b.ends) b.count b.has_failed s' result ((t.1 p x present own).1 b e) t h
 
     -- ---- ports
 

@@ -1,13 +1,14 @@
 -- What a subscriber receives from a publisher is a part of what that publisher sent, in the same order.
-use Rattle.std.proofs.Common.{◌≡◌, ℕ, ◌<◌, true, false, cond, ◌&&◌, not, List, [], ◌∷◌, ◌++◌, refl, sym, ap, subst, ◌∙◌, arith, eqb, ltb, ⊎_elim}
+use Rattle.std.proofs.Common.{◌≡◌, ℕ, ◌<◌, true, false, cond, ◌&&◌, List, [], ◌∷◌, ◌++◌, refl, sym, ap, subst, ◌∙◌, arith, eqb, ltb, ⊎_elim}
 use Rattle.std.proofs.lemmas.Bool.{true≢false, eqb-true, eq-eqb, ne_eqb, ltb-true, ltb-false}
 use Rattle.std.proofs.lemmas.List.{append-nil}
 use Rattle.std.proofs.lemmas.Option.{none-some}
-use Rattle.iox2_store.specs.machine.Numbers.{put_at, is_nil, IsOnce}
+use Rattle.iox2_store.specs.machine.Numbers.{put_at, IsOnce}
 use Rattle.iox2_store.specs.machine.Mailbox.{Mailbox, has_numbers}
 use Rattle.iox2_store.specs.machine.Records.{Environment}
 use Rattle.iox2_store.specs.machine.State.{State, Messages}
 use Rattle.iox2_store.specs.machine.WellFormed.{IsWellFormed}
+use Rattle.iox2_laws.proofs.MailboxLemmas.{nothing_anywhere}
 use Rattle.iox2_laws.proofs.NumberLemmas.{false_from}
 use Rattle.iox2_commands.specs.Outcomes.{Event, No_event, Message_sent, Message_received, Outcome, messages_after}
 use Rattle.iox2_commands.specs.Step.{Step}
@@ -34,11 +35,7 @@ grows f p n i =
 
 -- where nothing is in a mailbox nothing waits
 nothing_waits : (box : Mailbox) → has_numbers box ≡ false → box.waiting ≡ []
-nothing_waits box h = at box.waiting box.borrowed h
-  where
-    at : (ws bs : List ℕ) → not (is_nil ws && is_nil bs) ≡ false → ws ≡ []
-    at [] bs h = refl
-    at (w ∷ ws) bs h = absurd (true≢false h)
+nothing_waits box h = (nothing_anywhere box h).1
 
 module _ {T U : Type 0} where
   -- what is sent in a list's end comes behind what was sent before

@@ -1,12 +1,12 @@
 -- A message is delivered behind all that its publisher sent before it, and received in that order.
-use Rattle.std.proofs.Common.{◌≡◌, ℕ, suc, ◌≤◌, ◌+◌, Bool, true, ◌||◌, List, [], ◌∷◌, ◌++◌, drop, refl, sym, ap, subst, ◌∙◌, arith, ltb, length, Option, None, Some}
+use Rattle.std.proofs.Common.{◌≡◌, ℕ, zero, suc, ◌≤◌, ◌+◌, Bool, true, ◌||◌, List, [], ◌∷◌, ◌++◌, drop, refl, sym, ap, subst, ◌∙◌, arith, ltb, length, Option, None, Some}
 use Rattle.std.specs.declared.time.Duration.{Duration}
 use Rattle.std.proofs.lemmas.Bool.{cond_both, true≢false}
 use Rattle.std.proofs.lemmas.List.{append_assoc}
 use Rattle.iox2_store.specs.machine.Numbers.{put_at}
-use Rattle.iox2_store.specs.machine.Mailbox.{Mailbox, with_appended, has_room}
+use Rattle.iox2_store.specs.machine.Mailbox.{Mailbox, with_appended, with_appended_in, has_room_in}
 use Rattle.iox2_store.specs.machine.Records.{Handler, Environment}
-use Rattle.iox2_store.specs.machine.Delivery.{PutResult, accepted_count, is_failed, is_blocking, DeliveryEnd, Complete, Suspended, Put, PutAtEnd, Deliver, no_time}
+use Rattle.iox2_store.specs.machine.Delivery.{PutResult, accepted_count, is_failed, is_blocking, DeliveryEnd, Complete, Suspended, no_time, PutIn, PutAtEndIn, DeliverIn}
 use Rattle.iox2_store.specs.machine.WellFormed.{LeadsTo, IsInjective}
 use Rattle.iox2_store.specs.declared.service_config.ServiceConfig.{ServiceConfig}
 use Rattle.iox2_store.specs.declared.backpressure.BackpressureStrategy.{BackpressureStrategy}
@@ -67,6 +67,18 @@ module _ (p0 : ℕ) (got : ℕ → List ℕ) (before : List ℕ) (n : ℕ) where
         (λ _ new l. v.unserved r new (leads_further (Some q) rest r l));
   }
 
+  -- or it gets it in another channel, and what waits in channel 0 stays
+  served_in : (channel q : ℕ) (rest : List (Option ℕ)) (boxes : ℕ → Mailbox) (buffer : ℕ) (box : Mailbox) → IsInjective (Some q ∷ rest)
+      → box ≡ with_appended_in channel buffer n (boxes q) → Serving (Some q ∷ rest) boxes → Serving rest (put_at boxes q box)
+  served_in zero q rest boxes buffer box apart e v = served q rest boxes buffer box apart e v
+  served_in (suc k) q rest boxes buffer box apart e v = record {
+    whole = λ r. at_each boxes q box (λ r b. p0 ≤ r → IsSubsequence (got r ++ b.waiting) (before ++ n ∷ [])) r
+        (λ _ new. subst (λ (b : Mailbox). IsSubsequence (got q ++ b.waiting) (before ++ n ∷ [])) (sym e) (v.whole q new)) (λ _. v.whole r);
+    unserved = λ r. at_each boxes q box (λ r b. p0 ≤ r → LeadsTo rest r → IsSubsequence (got r ++ b.waiting) before) r
+        (λ _ new l. let same : 0 ≡ suc l.0 = apart 0 (suc l.0) q refl l.1 in absurd (omega arith))
+        (λ _ new l. v.unserved r new (later_end (Some q) rest r l));
+  }
+
   module _ (environment : Environment) (c : ServiceConfig) (p : ℕ) (strategy : BackpressureStrategy) (handler : Option (Handler BackpressureAction)) (buffers : ℕ → Option ℕ) where
     -- after the first end, either it was served or left out; and where the send waits for it nothing was changed
     abbrev AfterEnd : (end : Option ℕ) → (rest : List (Option ℕ)) → PutResult → (ℕ → Mailbox) → Type 0
@@ -75,32 +87,32 @@ module _ (p0 : ℕ) (got : ℕ → List ℕ) (before : List ℕ) (n : ℕ) where
     left_out : (end : Option ℕ) (rest : List (Option ℕ)) (boxes mid : ℕ → Mailbox) (result : PutResult) → Serving (end ∷ rest) mid → AfterEnd end rest result mid
     left_out end rest boxes mid result v = (one_fewer end rest mid v, λ _. v)
 
-    put_in_order : (q : ℕ) (rest : List (Option ℕ)) (retries : ℕ) (elapsed : Duration) (buffer : Option ℕ) (boxes : ℕ → Mailbox) (result : PutResult) (box : Mailbox)
+    put_in_order : (q : ℕ) (rest : List (Option ℕ)) (channel retries : ℕ) (elapsed : Duration) (buffer : Option ℕ) (boxes : ℕ → Mailbox) (result : PutResult) (box : Mailbox)
         → IsInjective (Some q ∷ rest) → Serving (Some q ∷ rest) boxes
-        → Put environment c p strategy handler buffers n q retries elapsed buffer (boxes q) result box → AfterEnd (Some q) rest result (put_at boxes q box)
-    put_in_order q rest retries elapsed None boxes result box apart v h =
+        → PutIn environment c p strategy handler buffers n channel q retries elapsed buffer (boxes q) result box → AfterEnd (Some q) rest result (put_at boxes q box)
+    put_in_order q rest channel retries elapsed None boxes result box apart v h =
         left_out (Some q) rest boxes (put_at boxes q box) result (rewritten (Some q ∷ rest) boxes q box h.1 v)
-    put_in_order q rest retries elapsed (Some buffer) boxes result box apart v h =
-        by_bool (AfterEnd (Some q) rest result (put_at boxes q box)) (has_room buffer (boxes q) || c.enable_safe_overflow) _ _ h
-        (λ _ h. (served q rest boxes buffer box apart h.1 v, λ blocks. absurd (true≢false (sym blocks ∙ ap is_blocking h.0))))
+    put_in_order q rest channel retries elapsed (Some buffer) boxes result box apart v h =
+        by_bool (AfterEnd (Some q) rest result (put_at boxes q box)) (has_room_in channel buffer (boxes q) || c.enable_safe_overflow) _ _ h
+        (λ _ h. (served_in channel q rest boxes buffer box apart h.1 v, λ blocks. absurd (true≢false (sym blocks ∙ ap is_blocking h.0))))
         (λ _ h. left_out (Some q) rest boxes (put_at boxes q box) result (rewritten (Some q ∷ rest) boxes q box h.1 v))
 
-    put_at_end_in_order : (end : Option ℕ) (rest : List (Option ℕ)) (retries : ℕ) (elapsed : Duration) (boxes : ℕ → Mailbox) (result : PutResult) (mid : ℕ → Mailbox)
-        → IsInjective (end ∷ rest) → Serving (end ∷ rest) boxes → PutAtEnd environment c p strategy handler buffers n retries elapsed end boxes result mid
+    put_at_end_in_order : (end : Option ℕ) (rest : List (Option ℕ)) (channel retries : ℕ) (elapsed : Duration) (boxes : ℕ → Mailbox) (result : PutResult) (mid : ℕ → Mailbox)
+        → IsInjective (end ∷ rest) → Serving (end ∷ rest) boxes → PutAtEndIn environment c p strategy handler buffers n channel retries elapsed end boxes result mid
         → AfterEnd end rest result mid
-    put_at_end_in_order None rest retries elapsed boxes result mid apart v h =
+    put_at_end_in_order None rest channel retries elapsed boxes result mid apart v h =
         left_out None rest boxes mid result (subst (Serving (None ∷ rest)) (sym h.1) v)
-    put_at_end_in_order (Some q) rest retries elapsed boxes result mid apart v h =
-        subst (AfterEnd (Some q) rest result) (sym h.2) (put_in_order q rest retries elapsed (buffers q) boxes result h.0 apart v h.1)
+    put_at_end_in_order (Some q) rest channel retries elapsed boxes result mid apart v h =
+        subst (AfterEnd (Some q) rest result) (sym h.2) (put_in_order q rest channel retries elapsed (buffers q) boxes result h.0 apart v h.1)
 
     -- A delivery leaves each receiver with what it had, or with the message behind all that was sent before.
-    pub deliver_in_order : (retries : ℕ) (elapsed : Duration) (place : ℕ) (ends : List (Option ℕ)) (count : ℕ) (has_failed : Bool) (boxes : ℕ → Mailbox) (how : DeliveryEnd) (boxes' : ℕ → Mailbox)
-        → IsInjective ends → Serving ends boxes → Deliver environment c p strategy handler buffers n retries elapsed place ends count has_failed boxes how boxes'
+    pub deliver_in_order : (channel retries : ℕ) (elapsed : Duration) (place : ℕ) (ends : List (Option ℕ)) (count : ℕ) (has_failed : Bool) (boxes : ℕ → Mailbox) (how : DeliveryEnd) (boxes' : ℕ → Mailbox)
+        → IsInjective ends → Serving ends boxes → DeliverIn environment c p strategy handler buffers n channel retries elapsed place ends count has_failed boxes how boxes'
         → LeftSo how boxes'
-    deliver_in_order retries elapsed place [] count has_failed boxes how boxes' apart v h =
+    deliver_in_order channel retries elapsed place [] count has_failed boxes how boxes' apart v h =
         subst (λ (d : DeliveryEnd). LeftSo d boxes') (sym h.0) (subst (Serving []) (sym h.1) v)
-    deliver_in_order retries elapsed place (end ∷ rest) count has_failed boxes how boxes' apart v h =
-        let k : AfterEnd end rest h.0 h.1 = put_at_end_in_order end rest retries elapsed boxes h.0 h.1 apart v h.2 in
+    deliver_in_order channel retries elapsed place (end ∷ rest) count has_failed boxes how boxes' apart v h =
+        let k : AfterEnd end rest h.0 h.1 = put_at_end_in_order end rest channel retries elapsed boxes h.0 h.1 apart v h.2 in
         by_bool (LeftSo how boxes') (is_blocking h.0) _ _ h.3
         (λ blocks j. subst (λ (d : DeliveryEnd). LeftSo d boxes') (sym j.0) (refl, subst (Serving (end ∷ rest)) (sym j.1) (k.1 blocks)))
-        (λ _ j. deliver_in_order 0 no_time (place + 1) rest (count + accepted_count h.0) (has_failed || is_failed h.0) h.1 how boxes' (injective_rest end rest apart) k.0 j)
+        (λ _ j. deliver_in_order channel 0 no_time (place + 1) rest (count + accepted_count h.0) (has_failed || is_failed h.0) h.1 how boxes' (injective_rest end rest apart) k.0 j)

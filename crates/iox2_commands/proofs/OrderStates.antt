@@ -11,6 +11,7 @@ use Rattle.iox2_store.specs.machine.State.{State, is_open, channel_buffer, with_
 use Rattle.iox2_store.specs.machine.Delivery.{DeliveryEnd, Complete, Suspended, no_time}
 use Rattle.iox2_store.specs.machine.Sends.{SendResult, published, send_ended, send_blocked, with_mailboxes, ConcludeSend, DeliverAndConclude, Publish, Retry, GiveUp, more_retries}
 use Rattle.iox2_store.specs.machine.WellFormed.{LeadsTo, IsInjective, IsWellFormed, BlockedIsWellFormed}
+use Rattle.iox2_laws.proofs.SendLaws.{injective_take, injective_drop}
 use Rattle.iox2_laws.proofs.Cases.{by_option}
 use Rattle.iox2_laws.proofs.Puts.{at_each, found_put, found_removed, put_at-same, put_at-other}
 use Rattle.iox2_laws.proofs.PlaceLemmas.{occupant-drop}
@@ -142,10 +143,10 @@ module _ {T U : Type 0} where
           (λ b'' e. subst (BlockedWith p0 out got p boxes) (same_Some b' b'' e) (before, last ∙ ap (λ m. before ++ m ∷ []) (sym v.0), left.unserved)))
 
       -- A delivery of the blocked message goes on at these ends, which are among those that haven't got it.
-      pub deliver_ordered : (retries : ℕ) (elapsed : Duration) (place : ℕ) (ends : List (Option ℕ)) (count : ℕ) (has_failed : Bool) (s' : State T U) (result : SendResult)
+      pub deliver_ordered : (channel retries : ℕ) (elapsed : Duration) (place : ℕ) (ends : List (Option ℕ)) (count : ℕ) (has_failed : Bool) (s' : State T U) (result : SendResult)
           → IsInjective ends → ((q : ℕ) → LeadsTo ends q → LeadsTo b.ends q)
-          → DeliverAndConclude environment t p b.message retries elapsed place ends count has_failed s' result → Ordered p0 n0 out got s'
-      deliver_ordered retries elapsed place ends count has_failed s' result apart among h =
+          → DeliverAndConclude environment t p b.message channel retries elapsed place ends count has_failed s' result → Ordered p0 n0 out got s'
+      deliver_ordered channel retries elapsed place ends count has_failed s' result apart among h =
           let v : BlockedInOrder p0 out got from p b = w.blocked p x b new present waits in
           let start : Serving p0 (got p) v.before b.message ends (t.mailboxes p) = record {
             whole = λ q new_q. subst (λ (row : ℕ → Mailbox). IsSubsequence (got p q ++ (row q).waiting) (v.before ++ b.message ∷ [])) (sym k.row)
@@ -154,8 +155,8 @@ module _ {T U : Type 0} where
           } in
           by_option (Ordered p0 n0 out got s') (t.publishers p) _ _ h (λ _ j. absurd j) (λ y _ j.
           conclude_ordered v.before v.last j.0 j.1 s' result
-          (deliver_in_order p0 (got p) v.before b.message environment t.config p y.backpressure_strategy y.backpressure_handler (channel_buffer t p 0)
-          retries elapsed place ends count has_failed (t.mailboxes p) j.0 j.1 apart start j.2)
+          (deliver_in_order p0 (got p) v.before b.message environment t.config p y.backpressure_strategy y.backpressure_handler (channel_buffer t p channel)
+          channel retries elapsed place ends count has_failed (t.mailboxes p) j.0 j.1 apart start j.2)
           j.3)
 
     -- ---- a blocked send is tried again or given up
@@ -179,17 +180,17 @@ module _ {T U : Type 0} where
       ends_apart : IsInjective b.ends
       ends_apart =
           let u : BlockedIsWellFormed s p x b = (v.publishers p x present).blocked b waits in
-          subst IsInjective (sym u.ends) (injective_drop b.place x.ends (v.publishers p x present).ends_apart)
+          subst IsInjective (sym (u.ends).1) (injective_take (u.ends).0 (drop b.place x.ends) (injective_drop b.place x.ends (v.publishers p x present).ends_apart))
 
       -- A blocked send is tried again.
       pub retry_ordered : (elapsed : Duration) (s' : State T U) (result : SendResult) → Retry environment s p b elapsed s' result → Ordered p0 n0 out got s'
       retry_ordered elapsed s' result h =
-          deliver_ordered environment s s p x x b w new present waits nothing_changed (more_retries b.retries) elapsed b.place b.ends b.count b.has_failed s' result ends_apart (λ q l. l) h
+          deliver_ordered environment s s p x x b w new present waits nothing_changed b.channel (more_retries b.retries) elapsed b.place b.ends b.count b.has_failed s' result ends_apart (λ q l. l) h
 
       -- A blocked send is given up.
       pub give_up_ordered : (s' : State T U) (result : SendResult) → GiveUp environment s p b s' result → Ordered p0 n0 out got s'
       give_up_ordered s' result h =
-          deliver_ordered environment s s p x x b w new present waits nothing_changed 0 no_time (b.place + 1) (drop 1 b.ends) b.count b.has_failed s' result
+          deliver_ordered environment s s p x x b w new present waits nothing_changed b.channel 0 no_time (b.place + 1) (drop 1 b.ends) b.count b.has_failed s' result
           (injective_drop 1 b.ends ends_apart) (λ q l. (1 + l.0, sym (occupant-drop 1 b.ends l.0) ∙ l.1)) h
 
   -- ---- a message is sent
@@ -197,7 +198,7 @@ module _ {T U : Type 0} where
   module _ (p0 n0 : ℕ) (out : ℕ → List ℕ) (got : ℕ → ℕ → List ℕ) where
     module _ (s : State T U) (p n : ℕ) (x : Publisher) (l : Loan T U) (w : Ordered p0 n0 out got s) (v : IsWellFormed s) (new : p0 ≤ p) (held : s.loans n ≡ Some l) (present : s.publishers p ≡ Some x) where
       abbrev first_wait : BlockedSend
-      first_wait = record { message = n; place = 0; ends = x.ends; retries = 0; count = 0; has_failed = false }
+      first_wait = record { message = n; channel = 0; place = 0; ends = x.ends; retries = 0; count = 0; has_failed = false }
 
       abbrev pending : Publisher
       pending = record x { history = last_n (s.config).history_size (x.history ++ n ∷ []); blocked = Some first_wait }
@@ -267,5 +268,5 @@ module _ {T U : Type 0} where
           by_option (Ordered p0 n0 out_then got s') (s.publishers p) _ _ h (λ _ j. absurd j) (λ y found j.
           let same : y ≡ x = same_Some y x (sym found ∙ present) in
           deliver_ordered p0 n0 out_then got environment with_pending (published s p n) p pending _ first_wait pending_ordered new (put_at-same s.publishers p (Some pending)) refl published_row
-          0 no_time 0 x.ends 0 false s' result (v.publishers p x present).ends_apart (λ q l. l)
-          (subst (λ (r : Publisher). DeliverAndConclude environment (published s p n) p n 0 no_time 0 r.ends 0 false s' result) same j))
+          0 0 no_time 0 x.ends 0 false s' result (v.publishers p x present).ends_apart (λ q l. l)
+          (subst (λ (r : Publisher). DeliverAndConclude environment (published s p n) p n 0 0 no_time 0 r.ends 0 false s' result) same j))

@@ -151,22 +151,22 @@ module _ {T U : Type 0} where
       subst AllStatic (sym h.0) (publisher_changed_static s p (λ x. record x { blocked = Some b }) (λ x h. h) k)
 
   -- a delivery ends or is held up
-  delivered_static : (environment : Environment) (s s' : State T U) (p n retries : ℕ) (elapsed : Duration) (place : ℕ) (ends : List (Option ℕ)) (count : ℕ) (has_failed : Bool) (result : SendResult)
-      → DeliverAndConclude environment s p n retries elapsed place ends count has_failed s' result → AllStatic s → AllStatic s'
-  delivered_static environment s s' p n retries elapsed place ends count has_failed result h k =
+  delivered_static : (environment : Environment) (s s' : State T U) (p n channel retries : ℕ) (elapsed : Duration) (place : ℕ) (ends : List (Option ℕ)) (count : ℕ) (has_failed : Bool) (result : SendResult)
+      → DeliverAndConclude environment s p n channel retries elapsed place ends count has_failed s' result → AllStatic s → AllStatic s'
+  delivered_static environment s s' p n channel retries elapsed place ends count has_failed result h k =
       by_option (AllStatic s') (s.publishers p) _ _ h (λ _ v. absurd v) (λ z _ h.
       concluded_static (with_mailboxes s p h.1) s' p n h.0 result h.3 (record { publishers = k.publishers }))
 
   pub retry_static : (environment : Environment) (s s' : State T U) (p : ℕ) (b : BlockedSend) (elapsed : Duration) (result : SendResult) → Retry environment s p b elapsed s' result → AllStatic s → AllStatic s'
-  retry_static environment s s' p b elapsed result = delivered_static environment s s' p b.message (more_retries b.retries) elapsed b.place b.ends b.count b.has_failed result
+  retry_static environment s s' p b elapsed result = delivered_static environment s s' p b.message b.channel (more_retries b.retries) elapsed b.place b.ends b.count b.has_failed result
 
   pub give_up_static : (environment : Environment) (s s' : State T U) (p : ℕ) (b : BlockedSend) (result : SendResult) → GiveUp environment s p b s' result → AllStatic s → AllStatic s'
-  give_up_static environment s s' p b result = delivered_static environment s s' p b.message 0 no_time (b.place + 1) (drop 1 b.ends) b.count b.has_failed result
+  give_up_static environment s s' p b result = delivered_static environment s s' p b.message b.channel 0 no_time (b.place + 1) (drop 1 b.ends) b.count b.has_failed result
 
   publish_static : (environment : Environment) (s s' : State T U) (p n : ℕ) (result : SendResult) → Publish environment s p n s' result → AllStatic s → AllStatic s'
   publish_static environment s s' p n result h k =
       by_option (AllStatic s') (s.publishers p) _ _ h (λ _ v. absurd v) (λ x _ h.
-      delivered_static environment (published s p n) s' p n 0 no_time 0 x.ends 0 false result h kept)
+      delivered_static environment (published s p n) s' p n 0 0 no_time 0 x.ends 0 false result h kept)
     where
       kept : AllStatic (published s p n)
       kept = publisher_changed_static (with_loan s n None) p (λ x. record x { history = last_n (s.config).history_size (x.history ++ n ∷ []) }) (λ x h. h) (with_loan_static s n None k)

@@ -4,12 +4,12 @@ use Rattle.std.specs.Prelude.{nat_lt, MatchOption}
 use Rattle.std.specs.Bool.{MatchBool}
 use Rattle.std.specs.declared.time.Duration.{Duration}
 use Rattle.iox2_store.specs.machine.Limits.{buffer_limit, last_number}
-use Rattle.iox2_store.specs.machine.Mailbox.{Mailbox, has_room}
+use Rattle.iox2_store.specs.machine.Mailbox.{Mailbox, has_room_in}
 use Rattle.iox2_store.specs.machine.Places.{free_place}
 use Rattle.iox2_store.specs.machine.SingleCalls.{GrantWrittenLoan}
 use Rattle.iox2_store.specs.machine.Records.{Loan, Publisher, Subscriber, BlockedSend, Handler, Fixed, Custom, PublisherSettings, SubscriberSettings}
 use Rattle.iox2_store.specs.machine.State.{State, warned, channel_buffer}
-use Rattle.iox2_store.specs.machine.Delivery.{PutResult, DeliveryEnd, Complete, Suspended, Decides, Put, PutAtEnd, Deliver, is_blocking, is_failed, accepted_count, no_time}
+use Rattle.iox2_store.specs.machine.Delivery.{PutResult, DeliveryEnd, Complete, Suspended, Decides, is_blocking, is_failed, accepted_count, no_time, PutIn, PutAtEndIn, DeliverIn}
 use Rattle.iox2_store.specs.machine.Loans.{GrantLoan, is_static, limit_error, loan_discarded}
 use Rattle.iox2_store.specs.machine.Sends.{Send, SendResult, Send_error, Publish, DeliverAndConclude, ConcludeSend, Retry, GiveUp, more_retries, published, with_mailboxes}
 use Rattle.iox2_store.specs.machine.Receives.{Receive, TakeSample, ReceiveResult, Got_sample, No_sample, Receive_error}
@@ -43,26 +43,26 @@ module _ (c : ServiceConfig) (p : ℕ) (strategy : BackpressureStrategy) (handle
   decides_ample (Some (Fixed action)) info result h = h
   decides_ample (Some Custom) info result h = absurd h.1
 
-  put_ample : (q retries : ℕ) (elapsed : Duration) (buffer : Option ℕ) (box : Mailbox) (result : PutResult) (box' : Mailbox)
-      → Put fixed_handlers c p strategy handler buffers n q retries elapsed buffer box result box' → Put ample_memory c p strategy handler buffers n q retries elapsed buffer box result box'
-  put_ample q retries elapsed None box result box' h = h
-  put_ample q retries elapsed (Some buffer) box result box' h = bool_maps (has_room buffer box || c.enable_safe_overflow) _ _ _ _ h (λ h. h) (λ h. (decides_ample handler _ result h.0, h.1))
+  put_ample : (channel q retries : ℕ) (elapsed : Duration) (buffer : Option ℕ) (box : Mailbox) (result : PutResult) (box' : Mailbox)
+      → PutIn fixed_handlers c p strategy handler buffers n channel q retries elapsed buffer box result box' → PutIn ample_memory c p strategy handler buffers n channel q retries elapsed buffer box result box'
+  put_ample channel q retries elapsed None box result box' h = h
+  put_ample channel q retries elapsed (Some buffer) box result box' h = bool_maps (has_room_in channel buffer box || c.enable_safe_overflow) _ _ _ _ h (λ h. h) (λ h. (decides_ample handler _ result h.0, h.1))
 
-  put_at_end_ample : (retries : ℕ) (elapsed : Duration) (end : Option ℕ) (boxes : ℕ → Mailbox) (result : PutResult) (boxes' : ℕ → Mailbox)
-      → PutAtEnd fixed_handlers c p strategy handler buffers n retries elapsed end boxes result boxes' → PutAtEnd ample_memory c p strategy handler buffers n retries elapsed end boxes result boxes'
-  put_at_end_ample retries elapsed end boxes result boxes' h =
-      option_maps end _ _ _ _ h (λ h. h) (λ q _ h. (h.0, put_ample q retries elapsed (buffers q) (boxes q) result h.0 h.1, h.2))
+  put_at_end_ample : (channel retries : ℕ) (elapsed : Duration) (end : Option ℕ) (boxes : ℕ → Mailbox) (result : PutResult) (boxes' : ℕ → Mailbox)
+      → PutAtEndIn fixed_handlers c p strategy handler buffers n channel retries elapsed end boxes result boxes' → PutAtEndIn ample_memory c p strategy handler buffers n channel retries elapsed end boxes result boxes'
+  put_at_end_ample channel retries elapsed end boxes result boxes' h =
+      option_maps end _ _ _ _ h (λ h. h) (λ q _ h. (h.0, put_ample channel q retries elapsed (buffers q) (boxes q) result h.0 h.1, h.2))
 
-  deliver_ample : (retries : ℕ) (elapsed : Duration) (place : ℕ) (ends : List (Option ℕ)) (count : ℕ) (has_failed : Bool) (boxes : ℕ → Mailbox) (how : DeliveryEnd) (boxes' : ℕ → Mailbox)
-      → Deliver fixed_handlers c p strategy handler buffers n retries elapsed place ends count has_failed boxes how boxes'
-      → Deliver ample_memory c p strategy handler buffers n retries elapsed place ends count has_failed boxes how boxes'
-  deliver_ample retries elapsed place [] count has_failed boxes how boxes' h = h
-  deliver_ample retries elapsed place (end ∷ rest) count has_failed boxes how boxes' h = (
+  deliver_ample : (channel retries : ℕ) (elapsed : Duration) (place : ℕ) (ends : List (Option ℕ)) (count : ℕ) (has_failed : Bool) (boxes : ℕ → Mailbox) (how : DeliveryEnd) (boxes' : ℕ → Mailbox)
+      → DeliverIn fixed_handlers c p strategy handler buffers n channel retries elapsed place ends count has_failed boxes how boxes'
+      → DeliverIn ample_memory c p strategy handler buffers n channel retries elapsed place ends count has_failed boxes how boxes'
+  deliver_ample channel retries elapsed place [] count has_failed boxes how boxes' h = h
+  deliver_ample channel retries elapsed place (end ∷ rest) count has_failed boxes how boxes' h = (
     h.0,
     h.1,
-    put_at_end_ample retries elapsed end boxes h.0 h.1 h.2,
+    put_at_end_ample channel retries elapsed end boxes h.0 h.1 h.2,
     bool_maps (is_blocking h.0) _ _ _ _ h.3 (λ h. h)
-        (λ k. deliver_ample 0 no_time (place + 1) rest (count + accepted_count h.0) (has_failed || is_failed h.0) h.1 how boxes' k),
+        (λ k. deliver_ample channel 0 no_time (place + 1) rest (count + accepted_count h.0) (has_failed || is_failed h.0) h.1 how boxes' k),
   )
 
 module _ {T U : Type 0} where
@@ -121,44 +121,44 @@ module _ {T U : Type 0} where
   concluded_same s s' p n (Suspended b) result h = ap (λ (z : State T U). z.warnings) h.0
 
   -- a delivery takes no memory, and warns of nothing
-  delivered_ample : (s s' : State T U) (p n retries : ℕ) (elapsed : Duration) (place : ℕ) (ends : List (Option ℕ)) (count : ℕ) (has_failed : Bool) (result : SendResult)
-      → DeliverAndConclude fixed_handlers s p n retries elapsed place ends count has_failed s' result → DeliverAndConclude ample_memory s p n retries elapsed place ends count has_failed s' result
-  delivered_ample s s' p n retries elapsed place ends count has_failed result h =
+  delivered_ample : (s s' : State T U) (p n channel retries : ℕ) (elapsed : Duration) (place : ℕ) (ends : List (Option ℕ)) (count : ℕ) (has_failed : Bool) (result : SendResult)
+      → DeliverAndConclude fixed_handlers s p n channel retries elapsed place ends count has_failed s' result → DeliverAndConclude ample_memory s p n channel retries elapsed place ends count has_failed s' result
+  delivered_ample s s' p n channel retries elapsed place ends count has_failed result h =
       option_maps (s.publishers p) _ _ _ _ h (λ v. v) (λ z _ h. (
         h.0,
         h.1,
-        deliver_ample s.config p z.backpressure_strategy z.backpressure_handler (channel_buffer s p 0) n retries elapsed place ends count has_failed (s.mailboxes p) h.0 h.1 h.2,
+        deliver_ample s.config p z.backpressure_strategy z.backpressure_handler (channel_buffer s p channel) n channel retries elapsed place ends count has_failed (s.mailboxes p) h.0 h.1 h.2,
         h.3,
       ))
 
-  delivered_same : (s s' : State T U) (p n retries : ℕ) (elapsed : Duration) (place : ℕ) (ends : List (Option ℕ)) (count : ℕ) (has_failed : Bool) (result : SendResult)
-      → DeliverAndConclude fixed_handlers s p n retries elapsed place ends count has_failed s' result → s'.warnings ≡ s.warnings
-  delivered_same s s' p n retries elapsed place ends count has_failed result h =
+  delivered_same : (s s' : State T U) (p n channel retries : ℕ) (elapsed : Duration) (place : ℕ) (ends : List (Option ℕ)) (count : ℕ) (has_failed : Bool) (result : SendResult)
+      → DeliverAndConclude fixed_handlers s p n channel retries elapsed place ends count has_failed s' result → s'.warnings ≡ s.warnings
+  delivered_same s s' p n channel retries elapsed place ends count has_failed result h =
       by_option (s'.warnings ≡ s.warnings) (s.publishers p) _ _ h (λ _ v. absurd v) (λ z _ h.
       concluded_same (with_mailboxes s p h.1) s' p n h.0 result h.3)
 
   pub retry_ample : (s s' : State T U) (p : ℕ) (b : BlockedSend) (elapsed : Duration) (result : SendResult)
       → Retry fixed_handlers s p b elapsed s' result → Retry ample_memory s p b elapsed s' result × (s'.warnings ≡ s.warnings)
   retry_ample s s' p b elapsed result h = (
-    delivered_ample s s' p b.message (more_retries b.retries) elapsed b.place b.ends b.count b.has_failed result h,
-    delivered_same s s' p b.message (more_retries b.retries) elapsed b.place b.ends b.count b.has_failed result h,
+    delivered_ample s s' p b.message b.channel (more_retries b.retries) elapsed b.place b.ends b.count b.has_failed result h,
+    delivered_same s s' p b.message b.channel (more_retries b.retries) elapsed b.place b.ends b.count b.has_failed result h,
   )
 
   pub give_up_ample : (s s' : State T U) (p : ℕ) (b : BlockedSend) (result : SendResult) → GiveUp fixed_handlers s p b s' result → GiveUp ample_memory s p b s' result × (s'.warnings ≡ s.warnings)
   give_up_ample s s' p b result h = (
-    delivered_ample s s' p b.message 0 no_time (b.place + 1) (drop 1 b.ends) b.count b.has_failed result h,
-    delivered_same s s' p b.message 0 no_time (b.place + 1) (drop 1 b.ends) b.count b.has_failed result h,
+    delivered_ample s s' p b.message b.channel 0 no_time (b.place + 1) (drop 1 b.ends) b.count b.has_failed result h,
+    delivered_same s s' p b.message b.channel 0 no_time (b.place + 1) (drop 1 b.ends) b.count b.has_failed result h,
   )
 
   publish_ample : (s s' : State T U) (p n : ℕ) (result : SendResult) → Publish fixed_handlers s p n s' result → Publish ample_memory s p n s' result
   publish_ample s s' p n result h =
       option_maps (s.publishers p) _ _ _ _ h (λ v. v) (λ x _ h.
-      delivered_ample (published s p n) s' p n 0 no_time 0 x.ends 0 false result h)
+      delivered_ample (published s p n) s' p n 0 0 no_time 0 x.ends 0 false result h)
 
   publish_same : (s s' : State T U) (p n : ℕ) (result : SendResult) → Publish fixed_handlers s p n s' result → s'.warnings ≡ s.warnings
   publish_same s s' p n result h =
       by_option (s'.warnings ≡ s.warnings) (s.publishers p) _ _ h (λ _ v. absurd v) (λ x _ h.
-      delivered_same (published s p n) s' p n 0 no_time 0 x.ends 0 false result h)
+      delivered_same (published s p n) s' p n 0 0 no_time 0 x.ends 0 false result h)
 
   pub send_ample : (s s' : State T U) (n : ℕ) (l : Loan T U) (result : SendResult) → TellNoRefusal s'.warnings
       → Send fixed_handlers s n l s' result → Send ample_memory s n l s' result × TellNoRefusal s.warnings

@@ -1,10 +1,10 @@
 -- What is in a run's mailboxes and histories was sent in that run, and what is borrowed stays so.
-use Rattle.std.proofs.Common.{◌≡◌, ℕ, Bool, true, List, [], ◌∷◌, sym, subst, Option, ⊎_elim}
+use Rattle.std.proofs.Common.{◌≡◌, ℕ, Bool, true, List, [], ◌∷◌, ◌++◌, sym, subst, ◌∙◌, Option, ⊎_elim, ap}
 use Rattle.std.specs.declared.time.Duration.{Duration}
 use Rattle.iox2_store.specs.machine.Numbers.{contains, last_n}
-use Rattle.iox2_store.specs.machine.Mailbox.{Mailbox, numbers_in, is_borrowed, with_appended, with_waiting, waiting_dropped, BorrowsFirst}
+use Rattle.iox2_store.specs.machine.Mailbox.{Mailbox, numbers_in, is_borrowed, with_waiting, waiting_dropped, BorrowsFirst, with_appended_in, other_numbers}
 use Rattle.iox2_store.specs.machine.Records.{Handler, Environment, BlockedSend}
-use Rattle.iox2_store.specs.machine.Delivery.{DeliveryEnd, Suspended, Deliver}
+use Rattle.iox2_store.specs.machine.Delivery.{DeliveryEnd, Suspended, DeliverIn}
 use Rattle.iox2_store.specs.machine.Connections.{ForEachPlace}
 use Rattle.iox2_store.specs.machine.PublisherUpdate.{SenderSide, UpdateSenderPlace}
 use Rattle.iox2_store.specs.machine.SubscriberUpdate.{ReceiverSide, UpdateReceiverSide}
@@ -14,7 +14,7 @@ use Rattle.iox2_store.specs.declared.backpressure.BackpressureAction.{Backpressu
 use Rattle.iox2_store.specs.declared.degradation.DegradationAction.{DegradationAction}
 use Rattle.iox2_store.specs.declared.errors.ConnectionFailure.{ConnectionFailure}
 use Rattle.iox2_laws.proofs.NumberLemmas.{contains_in_append, contains_left, contains_right, contains_in_last_n}
-use Rattle.iox2_laws.proofs.MailboxLemmas.{contains_in_dropped, contains_in_appended, contains_in_borrowed}
+use Rattle.iox2_laws.proofs.MailboxLemmas.{contains_in_dropped, contains_in_appended, contains_in_borrowed, borrowed-appended}
 use Rattle.iox2_laws.proofs.MailboxWalks.{sender_side_keeps, receiver_side_keeps, deliver_keeps}
 
 -- ---- one mailbox
@@ -29,14 +29,20 @@ module _ (Ok : ℕ → Type 0) (old new : Mailbox) (good : IsGood Ok old new) wh
   good_dropped = (λ k h. good.0 k (contains_in_dropped new k h), good.1)
 
   -- a number comes in
-  pub good_appended : (buffer n : ℕ) → Ok n → IsGood Ok old (with_appended buffer n new)
-  good_appended buffer n ok = (λ k h. ⊎_elim (λ e. subst Ok (sym e) ok) (λ there. good.0 k there) (contains_in_appended buffer n new k h), good.1)
+  pub good_appended : (channel buffer n : ℕ) → Ok n → IsGood Ok old (with_appended_in channel buffer n new)
+  good_appended channel buffer n ok = (
+    λ k h. ⊎_elim (λ e. subst Ok (sym e) ok) (λ there. good.0 k there) (contains_in_appended channel buffer n new k h),
+    λ k h. ap (λ ns. contains ns k) (borrowed-appended channel buffer n new) ∙ good.1 k h,
+  )
 
   -- the end of a history comes in
   pub good_history : (buffer : ℕ) (history : List ℕ) → ((k : ℕ) → contains history k ≡ true → Ok k) → IsGood Ok old (with_waiting (last_n buffer history) new)
   good_history buffer history ok = (
-    λ k h. ⊎_elim (λ left. ok k (contains_in_last_n buffer history k left)) (λ right. good.0 k (contains_right new.waiting new.borrowed k right))
-        (contains_in_append (last_n buffer history) new.borrowed k h),
+    λ k h. ⊎_elim (λ left. good.0 k (contains_left (other_numbers new) (new.waiting ++ new.borrowed) k left))
+        (λ right. ⊎_elim (λ recent. ok k (contains_in_last_n buffer history k recent))
+        (λ later. good.0 k (contains_right (other_numbers new) (new.waiting ++ new.borrowed) k (contains_right new.waiting new.borrowed k later)))
+        (contains_in_append (last_n buffer history) new.borrowed k right))
+        (contains_in_append (other_numbers new) (last_n buffer history ++ new.borrowed) k h),
     good.1,
   )
 
@@ -78,10 +84,11 @@ module _ (Ok : ℕ → ℕ → Type 0) (old : ℕ → Mailbox) where
 
   -- A delivery puts its message alone into mailboxes, and keeps what is borrowed; where it is suspended, it is with that message.
   pub deliver_good : (environment : Environment) (c : ServiceConfig) (p : ℕ) (strategy : BackpressureStrategy) (handler : Option (Handler BackpressureAction))
-      (buffers : ℕ → Option ℕ) (n : ℕ) (ok : (i : ℕ) → Ok i n)
+      (buffers : ℕ → Option ℕ) (n channel : ℕ) (ok : (i : ℕ) → Ok i n)
       (retries : ℕ) (elapsed : Duration) (place : ℕ) (ends : List (Option ℕ)) (count : ℕ) (has_failed : Bool) (boxes : ℕ → Mailbox)
       (how : DeliveryEnd) (boxes' : ℕ → Mailbox)
-      → AreGood boxes → Deliver environment c p strategy handler buffers n retries elapsed place ends count has_failed boxes how boxes'
+      → AreGood boxes → DeliverIn environment c p strategy handler buffers n channel retries elapsed place ends count has_failed boxes how boxes'
       → AreGood boxes' × ((b : BlockedSend) → how ≡ Suspended b → b.message ≡ n)
-  deliver_good environment c p strategy handler buffers n ok =
-      deliver_keeps Good good_with_dropped environment c p strategy handler buffers n (λ i buffer box good. good_appended (Ok i) (old i) box good buffer n (ok i))
+  deliver_good environment c p strategy handler buffers n channel ok =
+      deliver_keeps Good good_with_dropped environment c p strategy handler buffers n channel
+      (λ i buffer box good. good_appended (Ok i) (old i) box good channel buffer n (ok i))

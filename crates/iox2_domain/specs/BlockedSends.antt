@@ -50,7 +50,7 @@ pub record GoesOn {T U : Type 0} (environment : Environment) (old : Fields T U) 
 -- entry is newly kept.
 pub record ConcludesAs {T U : Type 0} (environment : Environment) (old new : Fields T U) (x : PublisherFields) (n : ℕ) (start : Progress) (elapsed : Duration) (result : SendResult) : Type 0 where
   pub agrees : IsDomain new
-  pub concludes : DeliverAndConclude environment (state_of (kept_of old)) x.id n start.retries elapsed start.place (drop start.place (sender_ends old.connections x.keys)) start.count start.has_failed
+  pub concludes : DeliverAndConclude environment (state_of (kept_of old)) x.id n 0 start.retries elapsed start.place (drop start.place (sender_ends old.connections x.keys)) start.count start.has_failed
       (state_of (kept_of new)) result
   pub entries : (m : ℕ) (entry : Entry T U) → entries_of (kept_of new) m ≡ Some entry → entries_of (kept_of old) m ≡ Some entry
 

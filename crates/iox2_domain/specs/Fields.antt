@@ -92,6 +92,7 @@ module _ {T U : Type 0} where
 abbrev pub blocked_send : (number : ℕ → ℕ) → (ends : List (Option ℕ)) → BlockedDelivery → BlockedSend
 blocked_send number ends b = record {
   message = number b.slot;
+  channel = 0;
   place = (b.progress).place;
   ends = drop (b.progress).place ends;
   retries = (b.progress).retries;

@@ -63,4 +63,4 @@ stands_in-with_returned n slot c h once = omega (arith, times-without n slot c.b
 
 -- a slot that is given back leaves the mailbox
 pub mailbox-with_returned : (number : ℕ → ℕ) (slot : ℕ) (c : Link) → contains c.borrowed slot ≡ true → IsOnce (map number c.borrowed) → mailbox_of number (with_returned slot c) ≡ with_released (number slot) (mailbox_of number c)
-mailbox-with_returned number slot c h once = ap (λ (ns : List ℕ). let box : Mailbox = record { waiting = map number c.waiting; borrowed = ns } in box) (map-without number slot c.borrowed h once)
+mailbox-with_returned number slot c h once = ap (λ (ns : List ℕ). let box : Mailbox = record { waiting = map number c.waiting; borrowed = ns; others = [] } in box) (map-without number slot c.borrowed h once)

@@ -35,7 +35,7 @@ result_of Reception.WouldBlock = Would_block
 abbrev pub end_of : (n : ℕ) → List (Option ℕ) → DeliveryOutcome → DeliveryEnd
 end_of n ends (DeliveryOutcome.Complete count has_failed) = Complete count has_failed
 end_of n ends (DeliveryOutcome.Suspended at) =
-    Suspended (record { message = n; place = at.place; ends = drop at.place ends; retries = at.retries; count = at.count; has_failed = at.has_failed })
+    Suspended (record { message = n; channel = 0; place = at.place; ends = drop at.place ends; retries = at.retries; count = at.count; has_failed = at.has_failed })
 
 -- How often the receiver at a place was asked again, and the time since it was asked first: the one at which the delivery
 -- is taken up was asked before, the others are asked anew.

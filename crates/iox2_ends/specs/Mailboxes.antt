@@ -1,5 +1,5 @@
 -- The machine's mailboxes, as the connections of a slab show them. `number` has the message number of each slot, by publisher.
-use Rattle.std.specs.Prelude.{ℕ, Bool, ◌&&◌, ◌==◌, List, map}
+use Rattle.std.specs.Prelude.{ℕ, Bool, ◌&&◌, ◌==◌, List, [], map}
 use Rattle.std.specs.declared.option.Option.{Option}
 use Rattle.std.specs.declared.option.Option.TheVariants.{None, Some}
 use Rattle.std.specs.Option.{option_map, option_and_then}
@@ -14,9 +14,9 @@ use Rattle.iox2_ends.specs.LookUp.{look_up}
 abbrev pub is_between : (p q : ℕ) → Link → Bool
 is_between p q c = (c.home.publisher == p) && (c.home.subscriber == q)
 
--- The mailbox that a connection is, where its slots have these numbers.
+-- The mailbox that a connection is, where its slots have these numbers. It has channel 0 alone.
 abbrev pub mailbox_of : (ℕ → ℕ) → Link → Mailbox
-mailbox_of number c = record { waiting = map number c.waiting; borrowed = map number c.borrowed }
+mailbox_of number c = record { waiting = map number c.waiting; borrowed = map number c.borrowed; others = [] }
 
 -- The mailbox that a connection is, or an empty one.
 abbrev pub mailbox_if_any : (ℕ → ℕ) → Option Link → Mailbox

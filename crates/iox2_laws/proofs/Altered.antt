@@ -4,10 +4,10 @@ use Rattle.std.specs.Option.{MatchOption, option_map}
 use Rattle.std.specs.List.{flat_map}
 use Rattle.std.proofs.lemmas.Bool.{eqb-true, ne_eqb}
 use Rattle.std.proofs.lemmas.Option.{none-some, same_Some}
-use Rattle.iox2_store.specs.machine.Limits.{buffer_limit}
+use Rattle.iox2_store.specs.machine.Limits.{buffer_limit, channel_count}
 use Rattle.iox2_store.specs.machine.Numbers.{put_at, contains, size}
 use Rattle.iox2_store.specs.machine.Places.{occupants}
-use Rattle.iox2_store.specs.machine.Mailbox.{Mailbox, numbers_in, has_numbers, has_borrows, has_data, waiting_count, IsWithin}
+use Rattle.iox2_store.specs.machine.Mailbox.{Mailbox, numbers_in, has_numbers, has_borrows, has_data, waiting_count, IsWithin, OthersWithin}
 use Rattle.iox2_store.specs.machine.Records.{Loan, Publisher}
 use Rattle.iox2_store.specs.machine.State.{State}
 use Rattle.iox2_store.specs.machine.WellFormed.{LeadsTo, publisher_place, BlockedIsWellFormed, PublisherIsWellFormed, SubscriberIsWellFormed, MailboxIsWellFormed, LoanIsWellFormed, IsWellFormed}
@@ -74,7 +74,9 @@ module _ {T U : Type 0} where
         → MailboxIsWellFormed (rewritten s publishers mailboxes loans next) p q
     mailbox_moves p q same box w = record {
       within = subst (λ (m : Mailbox). IsWithin (buffer_limit s.config) (s.config).subscriber_max_borrowed_samples m) (sym box) w.within;
+      others = subst (λ (m : Mailbox). OthersWithin (channel_count s.config) (buffer_limit s.config) m) (sym box) w.others;
       room = λ y e. subst (λ (m : Mailbox). waiting_count m ≤ y.buffer) (sym box) (w.room y e);
+      others_room = λ y e. subst (λ (m : Mailbox). OthersWithin (channel_count s.config) y.buffer m) (sym box) (w.others_room y e);
       below = λ n h. let low : n < s.next_message = w.below n (ap (λ m. contains (numbers_in m) n) (sym box) ∙ h) in omega arith;
       known = λ h. w.known (ap has_numbers (sym box) ∙ h);
       sender_end = λ x e h. w.sender_end x (sym same ∙ e) (ap has_numbers (sym box) ∙ h);
@@ -122,6 +124,7 @@ module _ {T U : Type 0} where
         is_out = v.is_out;
         unheld = none b.message (w.loans_below b.message v.is_out) v.unheld;
         ends = v.ends;
+        channel = v.channel;
         unserved = λ q leads. ap (λ (m : ℕ → Mailbox). contains (numbers_in (m q)) b.message) row ∙ v.unserved q leads;
         waits = v.waits;
         count_bound = v.count_bound;
@@ -216,7 +219,9 @@ module _ {T U : Type 0} where
     pub mailbox_stays : (q : ℕ) → x'.ends ≡ x.ends → boxes q ≡ s.mailboxes p q → MailboxIsWellFormed s p q → MailboxIsWellFormed (uniform s x' boxes loans next) p q
     mailbox_stays q ends box w = record {
       within = subst (λ (m : Mailbox). IsWithin (buffer_limit s.config) (s.config).subscriber_max_borrowed_samples m) (sym box) w.within;
+      others = subst (λ (m : Mailbox). OthersWithin (channel_count s.config) (buffer_limit s.config) m) (sym box) w.others;
       room = λ y e. subst (λ (m : Mailbox). waiting_count m ≤ y.buffer) (sym box) (w.room y e);
+      others_room = λ y e. subst (λ (m : Mailbox). OthersWithin (channel_count s.config) y.buffer m) (sym box) (w.others_room y e);
       below = λ n h. let low : n < s.next_message = w.below n (ap (λ m. contains (numbers_in m) n) (sym box) ∙ h) in omega arith;
       known = λ h. w.known (ap has_numbers (sym box) ∙ h);
       sender_end = λ v e h. subst (λ (u : Publisher). LeadsTo u.ends q) (same_Some x' v e)

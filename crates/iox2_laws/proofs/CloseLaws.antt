@@ -6,10 +6,10 @@ use Rattle.std.specs.List.{filter}
 use Rattle.std.specs.Option.{MatchOption, option_map, option_map_or}
 use Rattle.std.proofs.lemmas.Bool.{true≢false, eqb-true, or_right, and_parts}
 use Rattle.std.proofs.lemmas.Option.{none-some, same_Some}
-use Rattle.iox2_store.specs.machine.Limits.{buffer_limit}
+use Rattle.iox2_store.specs.machine.Limits.{buffer_limit, channel_count}
 use Rattle.iox2_store.specs.machine.Numbers.{contains, put_at}
 use Rattle.iox2_store.specs.machine.Places.{occupant, vacated, places_kept, is_port}
-use Rattle.iox2_store.specs.machine.Mailbox.{Mailbox, numbers_in, has_numbers, has_borrows, has_data, waiting_count, waiting_dropped, IsWithin}
+use Rattle.iox2_store.specs.machine.Mailbox.{Mailbox, numbers_in, has_numbers, has_borrows, has_data, waiting_count, waiting_dropped, IsWithin, OthersWithin}
 use Rattle.iox2_store.specs.machine.Records.{Publisher, Subscriber}
 use Rattle.iox2_store.specs.machine.State.{State, publishers_due, subscribers_due}
 use Rattle.iox2_store.specs.machine.Releases.{is_connected, pruned, subscriber_pruned, freed_if_unused}
@@ -22,7 +22,7 @@ use Rattle.iox2_laws.proofs.Puts.{put_at-same, put_at-other, found_put, found_re
 use Rattle.iox2_laws.proofs.FilterLemmas.{contains_in_filter, contains-filter, IsOnce-filter, length-filter_le}
 use Rattle.iox2_laws.proofs.PlaceLemmas.{occupant-vacated, vacated_keeps, length-vacated, occupant-places_kept, places_kept_keeps, length-places_kept}
 use Rattle.iox2_laws.proofs.PlaceLemmas.{injective_places_kept, is_port-true}
-use Rattle.iox2_laws.proofs.MailboxLemmas.{has_numbers-borrows, has_numbers-data, has_numbers_dropped, IsWithin-dropped, contains_in_dropped}
+use Rattle.iox2_laws.proofs.MailboxLemmas.{has_numbers-borrows, has_numbers-data, has_numbers_dropped, IsWithin-dropped, OthersWithin-dropped, contains_in_dropped}
 use Rattle.iox2_laws.proofs.Freed.{freed_if_unused_keeps, freed_if_unused_advances}
 use Rattle.iox2_laws.proofs.PortChanges.{changed, places_agree_by, place_of_publisher, place_of_subscriber, publisher_kept, subscriber_kept, loan_kept, sender_reset_keeps, receiver_reset_keeps}
 use Rattle.iox2_laws.proofs.PortChanges.{RestIsWellFormed, IsNearlyWellFormed, publishers_due_nearly, subscribers_due_keeps}
@@ -122,7 +122,7 @@ module _ {T U : Type 0} where
   -- what waits from a departed publisher waits for somebody.
   mailbox_kept : (s t : State T U) (p q : ℕ) → MailboxIsWellFormed s p q
       → s.next_port ≤ t.next_port → FewerPublishers s.publishers t.publishers → LosesWaiting (s.mailboxes p q) (t.mailboxes p q)
-      → ((y : Subscriber) → t.subscribers q ≡ Some y → waiting_count (s.mailboxes p q) ≤ y.buffer)
+      → ((y : Subscriber) → t.subscribers q ≡ Some y → (waiting_count (s.mailboxes p q) ≤ y.buffer) × OthersWithin (channel_count s.config) y.buffer (s.mailboxes p q))
       → (has_borrows (t.mailboxes p q) ≡ true → has_borrows (s.mailboxes p q) ≡ true
       → (y : Subscriber) × (t.subscribers q ≡ Some y) × ((contains y.expired p ≡ true) ⊎ LeadsTo y.ends p))
       → (t.publishers p ≡ None → has_data (t.mailboxes p q) ≡ true
@@ -131,7 +131,9 @@ module _ {T U : Type 0} where
   mailbox_kept s t p q w more fewer loses room ends departed = record {
     within = after_loss (λ v. IsWithin (buffer_limit s.config) (s.config).subscriber_max_borrowed_samples v) box (t.mailboxes p q) loses w.within
         (IsWithin-dropped (buffer_limit s.config) (s.config).subscriber_max_borrowed_samples box w.within);
-    room = λ y e. after_loss (λ v. waiting_count v ≤ y.buffer) box (t.mailboxes p q) loses (room y e) (omega arith);
+    others = after_loss (λ v. OthersWithin (channel_count s.config) (buffer_limit s.config) v) box (t.mailboxes p q) loses w.others (OthersWithin-dropped _ _ box);
+    room = λ y e. after_loss (λ v. waiting_count v ≤ y.buffer) box (t.mailboxes p q) loses (room y e).0 (omega arith);
+    others_room = λ y e. after_loss (λ v. OthersWithin (channel_count s.config) y.buffer v) box (t.mailboxes p q) loses (room y e).1 (OthersWithin-dropped _ y.buffer box);
     below = λ k h. w.below k (loss_has_fewer box (t.mailboxes p q) loses k h);
     known = λ h. let old : (p < s.next_port) × (q < s.next_port) = w.known (numbers_before h) in (omega (arith, old.0), omega (arith, old.1));
     sender_end = λ x e h. w.sender_end x (fewer p x e) (numbers_before h);
@@ -204,8 +206,10 @@ module _ {T U : Type 0} where
         (pruned_is s s' (is_connected t q) q v (w.subscribers q v g) (omega arith) fewer (λ i. refl)
         (λ closed. let used : (i : ℕ) × (has_borrows (s.mailboxes i q) ≡ true) = (w.subscribers q v g).is_used closed in (used.0, borrowed_still used.0 q used.1))));
     mailboxes = λ i q. mailbox_kept s s' i q (w.mailboxes i q) (omega arith) fewer (gone_loses s p x i q)
-        (λ y e. found_mapped (pruned t q) (s.subscribers q) y (waiting_count (s.mailboxes i q) ≤ y.buffer) e (λ v g k.
-        subst (λ (u : Subscriber). waiting_count (s.mailboxes i q) ≤ u.buffer) (sym k) ((w.mailboxes i q).room v g)))
+        (λ y e. found_mapped (pruned t q) (s.subscribers q) y
+        ((waiting_count (s.mailboxes i q) ≤ y.buffer) × OthersWithin (channel_count s.config) y.buffer (s.mailboxes i q)) e (λ v g k.
+        subst (λ (u : Subscriber). (waiting_count (s.mailboxes i q) ≤ u.buffer) × OthersWithin (channel_count s.config) u.buffer (s.mailboxes i q)) (sym k)
+        ((w.mailboxes i q).room v g, (w.mailboxes i q).others_room v g)))
         (λ h before. let found : (y : Subscriber) × (s.subscribers q ≡ Some y) × ((contains y.expired i ≡ true) ⊎ LeadsTo y.ends i) =
         (w.mailboxes i q).receiver_end before in (
           pruned t q found.0,
@@ -310,8 +314,9 @@ module _ {T U : Type 0} where
         (λ _ old at. (w.publishers p x e).ends_stand place r v at old) at);
     mailboxes = λ p r. mailbox_kept s s' p r (w.mailboxes p r)
         (omega arith) (λ p x e. e) (shut_loses s q p r)
-        (λ v e. found_put s.subscribers q new (λ r v. waiting_count (s.mailboxes p r) ≤ v.buffer) r v e
-        (λ _. (w.mailboxes p q).room y here) (λ _ old. (w.mailboxes p r).room v old))
+        (λ v e. found_put s.subscribers q new
+        (λ r v. (waiting_count (s.mailboxes p r) ≤ v.buffer) × OthersWithin (channel_count s.config) v.buffer (s.mailboxes p r)) r v e
+        (λ _. ((w.mailboxes p q).room y here, (w.mailboxes p q).others_room y here)) (λ _ old. ((w.mailboxes p r).room v old, (w.mailboxes p r).others_room v old)))
         (λ h before. receiver_end_stays p r h ((w.mailboxes p r).receiver_end before))
         (departed_waits p r);
     loans = λ n l e. loan_kept s s' n l (w.loans n l e)

@@ -12,11 +12,12 @@ use Rattle.iox2_laws.proofs.PortChanges.{RestIsWellFormed, IsNearlyWellFormed, w
 use Rattle.iox2_laws.specs.Laws.{Advances}
 use Rattle.iox2_store.specs.machine.Numbers.{put_at, contains}
 use Rattle.iox2_store.specs.machine.Places.{occupant, occupants, vacated}
-use Rattle.iox2_store.specs.machine.Mailbox.{has_borrows, has_data, waiting_count}
+use Rattle.iox2_store.specs.machine.Mailbox.{has_borrows, has_data, waiting_count, OthersWithin}
 use Rattle.iox2_store.specs.machine.Records.{Publisher, Subscriber}
 use Rattle.iox2_store.specs.machine.State.{State, connected_publishers}
 use Rattle.iox2_store.specs.machine.Releases.{is_unused, place_freed, freed_if_unused}
 use Rattle.iox2_store.specs.machine.WellFormed.{LeadsTo, PlacesAgree, BlockedIsWellFormed, PublisherIsWellFormed, SubscriberIsWellFormed, MailboxIsWellFormed, LoanIsWellFormed, IsWellFormed}
+use Rattle.iox2_store.specs.machine.Limits.{channel_count}
 
 module _ {T U : Type 0} where
   removed_places : (s : State T U) → RestIsWellFormed s → (q : ℕ)
@@ -56,6 +57,7 @@ module _ {T U : Type 0} where
       is_out = old.is_out;
       unheld = old.unheld;
       ends = old.ends;
+      channel = old.channel;
       unserved = old.unserved;
       waits = old.waits;
       count_bound = old.count_bound;
@@ -70,7 +72,9 @@ module _ {T U : Type 0} where
     below = b.below;
     known = b.known;
     sender_end = b.sender_end;
+    others = b.others;
     room = λ y e. found_removed s.subscribers q r y (waiting_count (s.mailboxes p r) ≤ y.buffer) e (λ _ f. b.room y f);
+    others_room = λ y e. found_removed s.subscribers q r y (OthersWithin (channel_count s.config) y.buffer (s.mailboxes p r)) e (λ _ f. b.others_room y f);
     receiver_end = λ h.
         elim (eqb r q) as (λ c. eqb r q ≡ c → (y : Subscriber) × (cond c None (s.subscribers r) ≡ Some y) × ((contains y.expired p ≡ true) ⊎ LeadsTo y.ends p)) [
           | true ↦ λ same. absurd (nothing (ap (λ k. has_borrows (s.mailboxes p k)) (sym (eqb-true r q same)) ∙ h))

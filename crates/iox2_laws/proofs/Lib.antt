@@ -4,6 +4,7 @@ pub mod Sizes
 pub mod Puts
 pub mod NumberLemmas
 pub mod PlaceLemmas
+pub mod ChannelNumbers
 pub mod MailboxLemmas
 pub mod Enough
 pub mod EnoughSlots
@@ -23,6 +24,7 @@ pub mod Altered
 pub mod LoanLaws
 pub mod DeliveryLaws
 pub mod SendLaws
+pub mod ConnectionSends
 pub mod LoanKeeping
 pub mod MailboxWalks
 pub mod PortsStay
@@ -41,3 +43,6 @@ pub mod WaitingCloses
 pub mod LoansLeft
 pub mod Waits
 pub mod SendsRemain
+mod WorkedChannels
+pub mod ConnectionSendsLeave
+pub mod BegunSends

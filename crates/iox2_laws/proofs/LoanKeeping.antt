@@ -217,10 +217,10 @@ module _ {T U : Type 0} where
   -- ---- sends
 
   -- A delivery leaves the loans.
-  deliver_and_conclude_loans : (environment : Environment) (s : State T U) (p n retries : ℕ) (elapsed : Duration) (place : ℕ) (ends : List (Option ℕ))
+  pub deliver_and_conclude_loans : (environment : Environment) (s : State T U) (p n channel retries : ℕ) (elapsed : Duration) (place : ℕ) (ends : List (Option ℕ))
       (count : ℕ) (has_failed : Bool) (s' : State T U) (result : SendResult)
-      → DeliverAndConclude environment s p n retries elapsed place ends count has_failed s' result → s'.loans ≡ s.loans
-  deliver_and_conclude_loans environment s p n retries elapsed place ends count has_failed s' result h =
+      → DeliverAndConclude environment s p n channel retries elapsed place ends count has_failed s' result → s'.loans ≡ s.loans
+  deliver_and_conclude_loans environment s p n channel retries elapsed place ends count has_failed s' result h =
       by_option (s'.loans ≡ s.loans) (s.publishers p) _ _ h (λ _ v. absurd v) (λ x _ h. conclude h.0 h.1 h.3)
     where
       conclude : (how : DeliveryEnd) (boxes : ℕ → Mailbox) → ConcludeSend (with_mailboxes s p boxes) p n how s' result → s'.loans ≡ s.loans
@@ -231,13 +231,13 @@ module _ {T U : Type 0} where
   pub retry_loans : (environment : Environment) (s : State T U) (p : ℕ) (b : BlockedSend) (elapsed : Duration) (s' : State T U) (result : SendResult)
       → Retry environment s p b elapsed s' result → s'.loans ≡ s.loans
   retry_loans environment s p b elapsed s' result h =
-      deliver_and_conclude_loans environment s p b.message (more_retries b.retries) elapsed b.place b.ends b.count b.has_failed s' result h
+      deliver_and_conclude_loans environment s p b.message b.channel (more_retries b.retries) elapsed b.place b.ends b.count b.has_failed s' result h
 
   -- A blocked send that is given up leaves the loans.
   pub give_up_loans : (environment : Environment) (s : State T U) (p : ℕ) (b : BlockedSend) (s' : State T U) (result : SendResult)
       → GiveUp environment s p b s' result → s'.loans ≡ s.loans
   give_up_loans environment s p b s' result h =
-      deliver_and_conclude_loans environment s p b.message 0 no_time (b.place + 1) (drop 1 b.ends) b.count b.has_failed s' result h
+      deliver_and_conclude_loans environment s p b.message b.channel 0 no_time (b.place + 1) (drop 1 b.ends) b.count b.has_failed s' result h
 
   -- A send, refused or not, takes its loan out of its user's hands, and leaves the others.
   pub send_loans : (environment : Environment) (s : State T U) (n : ℕ) (l : Loan T U) (s' : State T U) (result : SendResult)
@@ -250,7 +250,7 @@ module _ {T U : Type 0} where
       ap (λ (f : ℕ → Option (Loan T U)). put_at f n None) (update_publisher_loans environment s l.publisher h.0 h.1 h.2) in
       by_option (s'.loans ≡ put_at s.loans n None) h.1 _ _ h.3
       (λ _ k. by_option (s'.loans ≡ put_at s.loans n None) ((h.0).publishers l.publisher) _ _ k (λ _ v. absurd v) (λ x1 _ k.
-      deliver_and_conclude_loans environment (published h.0 l.publisher n) l.publisher n 0 no_time 0 x1.ends 0 false s' result k ∙ mid))
+      deliver_and_conclude_loans environment (published h.0 l.publisher n) l.publisher n 0 0 no_time 0 x1.ends 0 false s' result k ∙ mid))
       (λ e _ k. ap (λ (t : State T U). t.loans) k.0 ∙ mid))
 
   -- After a send, refused or not, its number is in nobody's hands.

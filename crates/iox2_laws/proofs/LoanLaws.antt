@@ -175,6 +175,7 @@ module _ {T U : Type 0} where
             is_out = contains-without_other n b.message x.loans apart u.is_out;
             unheld = put_at-other s.loans n None b.message apart ∙ u.unheld;
             ends = u.ends;
+            channel = u.channel;
             unserved = u.unserved;
             waits = u.waits;
             count_bound = u.count_bound;
@@ -283,6 +284,7 @@ module _ {T U : Type 0} where
         is_out = contains_left x.loans (s.next_message ∷ []) b.message u.is_out;
         unheld = old_loan b.message (v.loans_below b.message u.is_out) ∙ u.unheld;
         ends = u.ends;
+        channel = u.channel;
         unserved = u.unserved;
         waits = u.waits;
         count_bound = u.count_bound;

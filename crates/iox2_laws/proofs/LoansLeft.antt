@@ -82,7 +82,7 @@ module _ {T U : Type 0} where
   pub kept_itself : (s : State T U) → LoansKept s s
   kept_itself s = record { config = refl; numbers = refl; publishers = λ p x e. (x, e, same_terms x) }
 
-  kept_trans : (a b c : State T U) → LoansKept a b → LoansKept b c → LoansKept a c
+  pub kept_trans : (a b c : State T U) → LoansKept a b → LoansKept b c → LoansKept a c
   kept_trans a b c h k = record {
     config = k.config ∙ h.config;
     numbers = k.numbers ∙ h.numbers;
@@ -316,7 +316,7 @@ module _ {T U : Type 0} where
         → (x' : Publisher) × (s'.publishers p ≡ Some x') × (x'.allocation_strategy ≡ x.allocation_strategy) × (x'.max_loaned_samples ≡ x.max_loaned_samples) × (x'.slots ≡ x.slots) × (x'.loans ≡ without n x.loans) × (x'.initial_max_slice_len ≡ x.initial_max_slice_len)
     pub others : (i : ℕ) (x : Publisher) → i ≢ p → s.publishers i ≡ Some x → Kept_at x (s'.publishers i)
 
-  kept_ends : (p n : ℕ) (a b c : State T U) → LoansKept a b → LoanEnds p n b c → LoanEnds p n a c
+  pub kept_ends : (p n : ℕ) (a b c : State T U) → LoansKept a b → LoanEnds p n b c → LoanEnds p n a c
   kept_ends p n a b c h k = record {
     config = k.config ∙ h.config;
     numbers = k.numbers ∙ h.numbers;
@@ -329,7 +329,7 @@ module _ {T U : Type 0} where
   }
 
   -- where its publisher is gone
-  kept_gone : (p n : ℕ) (s s' : State T U) → s.publishers p ≡ None → LoansKept s s' → LoanEnds p n s s'
+  pub kept_gone : (p n : ℕ) (s s' : State T U) → s.publishers p ≡ None → LoansKept s s' → LoanEnds p n s s'
   kept_gone p n s s' gone h = record {
     config = h.config;
     numbers = h.numbers;
@@ -403,15 +403,15 @@ module _ {T U : Type 0} where
   concluded_kept s p n (Suspended b) s' result is h =
       subst (LoansKept s) (sym h.0) (changed_kept s p (λ x. record x { blocked = Some b }) (λ x. record { allocation = refl; most = refl; slots = refl; longest = refl; loans = refl }))
 
-  delivered_kept : (environment : Environment) (s : State T U) (p n retries : ℕ) (elapsed : Duration) (place : ℕ) (ends : List (Option ℕ)) (count : ℕ) (has_failed : Bool) (s' : State T U)
-      (result : SendResult) → result ≡ Blocked_send → DeliverAndConclude environment s p n retries elapsed place ends count has_failed s' result → LoansKept s s'
-  delivered_kept environment s p n retries elapsed place ends count has_failed s' result is h =
+  pub delivered_kept : (environment : Environment) (s : State T U) (p n channel retries : ℕ) (elapsed : Duration) (place : ℕ) (ends : List (Option ℕ)) (count : ℕ) (has_failed : Bool) (s' : State T U)
+      (result : SendResult) → result ≡ Blocked_send → DeliverAndConclude environment s p n channel retries elapsed place ends count has_failed s' result → LoansKept s s'
+  delivered_kept environment s p n channel retries elapsed place ends count has_failed s' result is h =
       by_option (LoansKept s s') (s.publishers p) _ _ h (λ _ v. absurd v)
       (λ x _ k. kept_trans s (with_mailboxes s p k.1) s' (mailboxes_kept s p k.1) (concluded_kept (with_mailboxes s p k.1) p n k.0 s' result is k.3))
 
-  delivered_ends : (environment : Environment) (s : State T U) (p n retries : ℕ) (elapsed : Duration) (place : ℕ) (ends : List (Option ℕ)) (count : ℕ) (has_failed : Bool) (s' : State T U)
-      (result : SendResult) → (result ≡ Blocked_send → ⊥) → DeliverAndConclude environment s p n retries elapsed place ends count has_failed s' result → LoanEnds p n s s'
-  delivered_ends environment s p n retries elapsed place ends count has_failed s' result free h =
+  pub delivered_ends : (environment : Environment) (s : State T U) (p n channel retries : ℕ) (elapsed : Duration) (place : ℕ) (ends : List (Option ℕ)) (count : ℕ) (has_failed : Bool) (s' : State T U)
+      (result : SendResult) → (result ≡ Blocked_send → ⊥) → DeliverAndConclude environment s p n channel retries elapsed place ends count has_failed s' result → LoanEnds p n s s'
+  delivered_ends environment s p n channel retries elapsed place ends count has_failed s' result free h =
       by_option (LoanEnds p n s s') (s.publishers p) _ _ h (λ _ v. absurd v)
       (λ x _ k. kept_ends p n s (with_mailboxes s p k.1) s' (mailboxes_kept s p k.1) (concluded_ends (with_mailboxes s p k.1) p n k.0 s' result free k.3))
 
@@ -427,25 +427,25 @@ module _ {T U : Type 0} where
       (λ _ j. by_option (LoansKept s s') ((k.0).publishers l.publisher) _ _ j (λ _ v. absurd v) (λ x1 _ i.
       let mid : State T U = published k.0 l.publisher n in
       kept_trans s mid s' (kept_trans s k.0 mid first (published_kept k.0 l.publisher n))
-      (delivered_kept environment mid l.publisher n 0 no_time 0 x1.ends 0 false s' result is i)))
+      (delivered_kept environment mid l.publisher n 0 0 no_time 0 x1.ends 0 false s' result is i)))
       (λ e _ j. absurd (let no : Send_error _ ≡ Blocked_send = sym j.1 ∙ is in cc)))
 
   pub retry_blocked_kept : (environment : Environment) (s : State T U) (p : ℕ) (b : BlockedSend) (elapsed : Duration) (s' : State T U) (result : SendResult) → result ≡ Blocked_send
       → Retry environment s p b elapsed s' result → LoansKept s s'
-  retry_blocked_kept environment s p b elapsed = delivered_kept environment s p b.message (more_retries b.retries) elapsed b.place b.ends b.count b.has_failed
+  retry_blocked_kept environment s p b elapsed = delivered_kept environment s p b.message b.channel (more_retries b.retries) elapsed b.place b.ends b.count b.has_failed
 
   pub give_up_blocked_kept : (environment : Environment) (s : State T U) (p : ℕ) (b : BlockedSend) (s' : State T U) (result : SendResult) → result ≡ Blocked_send
       → GiveUp environment s p b s' result → LoansKept s s'
-  give_up_blocked_kept environment s p b = delivered_kept environment s p b.message 0 no_time (b.place + 1) (drop 1 b.ends) b.count b.has_failed
+  give_up_blocked_kept environment s p b = delivered_kept environment s p b.message b.channel 0 no_time (b.place + 1) (drop 1 b.ends) b.count b.has_failed
 
   -- until the send ends
   pub retry_ends : (environment : Environment) (s : State T U) (p : ℕ) (b : BlockedSend) (elapsed : Duration) (s' : State T U) (result : SendResult) → (result ≡ Blocked_send → ⊥)
       → Retry environment s p b elapsed s' result → LoanEnds p b.message s s'
-  retry_ends environment s p b elapsed = delivered_ends environment s p b.message (more_retries b.retries) elapsed b.place b.ends b.count b.has_failed
+  retry_ends environment s p b elapsed = delivered_ends environment s p b.message b.channel (more_retries b.retries) elapsed b.place b.ends b.count b.has_failed
 
   pub give_up_ends : (environment : Environment) (s : State T U) (p : ℕ) (b : BlockedSend) (s' : State T U) (result : SendResult) → (result ≡ Blocked_send → ⊥)
       → GiveUp environment s p b s' result → LoanEnds p b.message s s'
-  give_up_ends environment s p b = delivered_ends environment s p b.message 0 no_time (b.place + 1) (drop 1 b.ends) b.count b.has_failed
+  give_up_ends environment s p b = delivered_ends environment s p b.message b.channel 0 no_time (b.place + 1) (drop 1 b.ends) b.count b.has_failed
 
   -- Its publisher, among whose loans it was, may take one loan more.
   pub counted_lends : (p n : ℕ) (s s' : State T U) → IsWellFormed s → (x : Publisher) → s.publishers p ≡ Some x → contains x.loans n ≡ true → LoanEnds p n s s'

@@ -7,13 +7,14 @@ use Rattle.std.proofs.lemmas.Option.{none-some, same_Some}
 use Rattle.iox2_store.specs.machine.Numbers.{contains, size}
 use Rattle.iox2_store.specs.machine.Places.{occupant, occupants}
 use Rattle.iox2_store.specs.machine.Channel.{Channel}
-use Rattle.iox2_store.specs.machine.Mailbox.{Mailbox, numbers_in, has_numbers, has_borrows, waiting_count}
+use Rattle.iox2_store.specs.machine.Mailbox.{Mailbox, numbers_in, has_numbers, has_borrows, waiting_count, OthersWithin}
 use Rattle.iox2_store.specs.machine.Records.{Loan, Publisher, Subscriber}
 use Rattle.iox2_store.specs.machine.State.{State, Warnings, publishers_due, subscribers_due, sender_channels_reset, receiver_channels_reset}
 use Rattle.iox2_store.specs.machine.WellFormed.{LeadsTo, PlacesAgree, publisher_place, subscriber_place, BlockedIsWellFormed, PublisherIsWellFormed}
 use Rattle.iox2_store.specs.machine.WellFormed.{SubscriberIsWellFormed, MailboxIsWellFormed, LoanIsWellFormed, IsWellFormed}
 use Rattle.iox2_laws.proofs.Puts.{found_mapped}
 use Rattle.iox2_laws.proofs.NumberLemmas.{contains_in_append, contains_left, contains_right, contains_in_flat_map, contains-flat_map, size_le, absent_from}
+use Rattle.iox2_store.specs.machine.Limits.{channel_count}
 
 -- ---- places
 
@@ -123,6 +124,7 @@ module _ {T U : Type 0} where
       is_out = v.is_out;
       unheld = v.unheld;
       ends = v.ends;
+      channel = v.channel;
       unserved = λ q h. fewer_absent s t p q b.message (fewer q) (v.unserved q h);
       waits = v.waits;
       count_bound = v.count_bound;
@@ -148,7 +150,7 @@ module _ {T U : Type 0} where
     some_segment = w.some_segment;
     segments_bound = w.segments_bound;
     blocked = λ b e. let v : BlockedIsWellFormed s p x b = w.blocked b e in
-        record { is_out = v.is_out; unheld = v.unheld; ends = v.ends; unserved = v.unserved; waits = v.waits; count_bound = v.count_bound };
+        record { is_out = v.is_out; unheld = v.unheld; ends = v.ends; channel = v.channel; unserved = v.unserved; waits = v.waits; count_bound = v.count_bound };
   }
 
   -- A subscriber that is due is as well-formed as before.
@@ -254,7 +256,9 @@ module _ {T U : Type 0} where
     subscribers = λ q y e. subscriber_kept s s' q y (w.subscribers q y e) (omega arith) (λ p. refl) (λ p _. refl);
     mailboxes = λ p q. let v : MailboxIsWellFormed s p q = w.mailboxes p q in record {
       within = v.within;
+      others = v.others;
       room = v.room;
+      others_room = v.others_room;
       below = v.below;
       known = v.known;
       sender_end = v.sender_end;
@@ -276,7 +280,9 @@ module _ {T U : Type 0} where
     subscribers = λ q y e. subscriber_kept s s' q y (w.subscribers q y e) (omega arith) (λ p. refl) (λ p _. refl);
     mailboxes = λ p q. let v : MailboxIsWellFormed s p q = w.mailboxes p q in record {
       within = v.within;
+      others = v.others;
       room = v.room;
+      others_room = v.others_room;
       below = v.below;
       known = v.known;
       sender_end = v.sender_end;
@@ -315,6 +321,9 @@ module _ {T U : Type 0} where
       sender_end = v.sender_end;
       room = λ y e. found_mapped due_subscriber (s.subscribers q) y (waiting_count (s.mailboxes p q) ≤ y.buffer) e
           (λ z f g. subst (λ (u : Subscriber). waiting_count (s.mailboxes p q) ≤ u.buffer) (sym g) (v.room z f));
+      others = v.others;
+      others_room = λ y e. found_mapped due_subscriber (s.subscribers q) y (OthersWithin (channel_count s.config) y.buffer (s.mailboxes p q)) e
+          (λ z f g. subst (λ (u : Subscriber). OthersWithin (channel_count s.config) u.buffer (s.mailboxes p q)) (sym g) (v.others_room z f));
       receiver_end = λ h. let found : (y : Subscriber) × (s.subscribers q ≡ Some y) × ((contains y.expired p ≡ true) ⊎ LeadsTo y.ends p) = v.receiver_end h in
           (due_subscriber found.0, ap (λ o. option_map due_subscriber o) found.1, found.2);
       departed = λ gone h.
@@ -338,7 +347,9 @@ module _ {T U : Type 0} where
         (publisher_due s' p z (publisher_kept s s' p z (w.publishers p z f) (omega arith) (λ q n h. h) (w.publishers p z f).ends_stand)));
     mailboxes = λ p q. let v : MailboxIsWellFormed s p q = w.mailboxes p q in record {
       within = v.within;
+      others = v.others;
       room = v.room;
+      others_room = v.others_room;
       below = v.below;
       known = v.known;
       receiver_end = v.receiver_end;

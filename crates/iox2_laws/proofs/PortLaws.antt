@@ -1,12 +1,12 @@
 -- What making a port keeps.
-use Rattle.std.proofs.Common.{◌≡◌, ℕ, ◌+◌, ◌≤◌, ◌<◌, true, false, cond, List, [], ◌∷◌, length, refl, sym, ap, subst, ◌∙◌, arith, eqb, lt_irrefl, Option}
+use Rattle.std.proofs.Common.{◌≡◌, ℕ, ◌+◌, ◌≤◌, ◌<◌, true, false, cond, List, length, refl, sym, ap, subst, ◌∙◌, arith, eqb, lt_irrefl, Option}
 use Rattle.std.proofs.Common.{None, Some, ◌⊎◌, ⊎_elim}
 use Rattle.std.proofs.lemmas.Bool.{eq-eqb, true≢false, ne_eqb, ltb-false, false_from_ne_true}
 use Rattle.std.proofs.lemmas.Option.{none-some, same_Some}
-use Rattle.iox2_store.specs.machine.Limits.{buffer_limit}
+use Rattle.iox2_store.specs.machine.Limits.{buffer_limit, channel_count}
 use Rattle.iox2_store.specs.machine.Numbers.{contains, put_at}
 use Rattle.iox2_store.specs.machine.Places.{occupant, set_place}
-use Rattle.iox2_store.specs.machine.Mailbox.{Mailbox, has_numbers, waiting_count}
+use Rattle.iox2_store.specs.machine.Mailbox.{Mailbox, has_numbers, waiting_count, OthersWithin}
 use Rattle.iox2_store.specs.machine.Records.{Publisher, Subscriber, PublisherSettings, SubscriberSettings, Environment}
 use Rattle.iox2_store.specs.machine.State.{State, is_blocked, with_warning}
 use Rattle.iox2_store.specs.machine.Ports.{buffer_for, new_publisher, new_subscriber, with_new_publisher, with_new_subscriber, FirstPublisherUpdate, FirstSubscriberUpdate}
@@ -22,7 +22,7 @@ use Rattle.iox2_laws.specs.Laws.{Advances}
 use Rattle.iox2_laws.proofs.CallCases.{publisher_cases, subscriber_cases}
 use Rattle.iox2_laws.proofs.Puts.{put_at-other, at_each, found_put}
 use Rattle.iox2_laws.proofs.PlaceLemmas.{occupant-set_place, length-set_place_le, found_set, free_place_is}
-use Rattle.iox2_laws.proofs.MailboxLemmas.{has_numbers-borrows, has_numbers-data}
+use Rattle.iox2_laws.proofs.MailboxLemmas.{has_numbers-borrows, has_numbers-data, nothing_anywhere, OthersWithin-none}
 use Rattle.iox2_laws.proofs.PublisherUpdates.{update_publisher_keeps, update_publisher_advances}
 use Rattle.iox2_laws.proofs.SubscriberUpdates.{update_subscriber_keeps, update_subscriber_advances}
 use Rattle.iox2_laws.proofs.PortChanges.{places_agree_by, place_of_publisher, place_of_subscriber, publisher_kept, subscriber_kept, loan_kept}
@@ -51,11 +51,7 @@ places_with_new limit places f place new w low free absent = record {
 
 -- No number of a mailbox without numbers waits.
 none_waits : (box : Mailbox) → has_numbers box ≡ false → waiting_count box ≡ 0
-none_waits box h = by_list box.waiting box.borrowed h
-  where
-    by_list : (ws bs : List ℕ) → has_numbers (record { waiting = ws; borrowed = bs }) ≡ false → length ws ≡ 0
-    by_list [] bs h = refl
-    by_list (n ∷ ws) bs h = absurd (true≢false h)
+none_waits box h = ap length (nothing_anywhere box h).1
 
 module _ {T U : Type 0} where
   -- ---- a publisher is made
@@ -133,7 +129,9 @@ module _ {T U : Type 0} where
         (λ p known. ap place_of_publisher (put_at-other s.publishers s.next_port (Some (new_publisher s given place)) p (ne_eqb p s.next_port (λ same. omega arith))));
     mailboxes = λ p q. let v : MailboxIsWellFormed s p q = w.mailboxes p q in record {
       within = v.within;
+      others = v.others;
       room = v.room;
+      others_room = v.others_room;
       below = v.below;
       receiver_end = v.receiver_end;
       known = λ h. (omega (arith, (v.known h).0), omega (arith, (v.known h).1));
@@ -226,6 +224,10 @@ module _ {T U : Type 0} where
       room = λ y e. found_put s.subscribers s.next_port (new_subscriber given place) (λ q y. waiting_count (s.mailboxes p q) ≤ y.buffer) q y e
           (λ _. omega (arith, none_waits (s.mailboxes p s.next_port) (nothing_yet p)))
           (λ _ old. v.room y old);
+      others = v.others;
+      others_room = λ y e. found_put s.subscribers s.next_port (new_subscriber given place) (λ q y. OthersWithin (channel_count s.config) y.buffer (s.mailboxes p q)) q y e
+          (λ _. OthersWithin-none (channel_count s.config) (buffer_for given) (s.mailboxes p s.next_port) (nothing_anywhere (s.mailboxes p s.next_port) (nothing_yet p)).0)
+          (λ _ old. v.others_room y old);
       receiver_end = λ h. let found : (y : Subscriber) × (s.subscribers q ≡ Some y) × ((contains y.expired p ≡ true) ⊎ LeadsTo y.ends p) = v.receiver_end h in
           (found.0, old_stays q (v.known (has_numbers-borrows (s.mailboxes p q) h)).1 ∙ found.1, found.2);
       departed = λ gone h.

@@ -188,10 +188,10 @@ module _ {T U : Type 0} where
       subst (PortsCome s) (sym h.0) (publisher_changed_comes s p (λ x. record x { loans = without n x.loans; blocked = None }) (λ x free. refl))
   concluded_comes s p n (Suspended b) s' result ends h = absurd (ends h.1)
 
-  delivered_comes : (environment : Environment) (s : State T U) (p n retries : ℕ) (elapsed : Duration) (place : ℕ) (ends : List (Option ℕ)) (count : ℕ)
+  delivered_comes : (environment : Environment) (s : State T U) (p n channel retries : ℕ) (elapsed : Duration) (place : ℕ) (ends : List (Option ℕ)) (count : ℕ)
       (has_failed : Bool) (s' : State T U) (result : SendResult)
-      → DeliverAndConclude environment s p n retries elapsed place ends count has_failed s' result → (result ≡ Blocked_send → ⊥) → PortsCome s s'
-  delivered_comes environment s p n retries elapsed place ends count has_failed s' result h free =
+      → DeliverAndConclude environment s p n channel retries elapsed place ends count has_failed s' result → (result ≡ Blocked_send → ⊥) → PortsCome s s'
+  delivered_comes environment s p n channel retries elapsed place ends count has_failed s' result h free =
       by_option (PortsCome s s') (s.publishers p) _ _ h (λ _ v. absurd v) (λ x present h.
       let mid : State T U = with_mailboxes s p h.1 in
       ports_come_trans s mid s' (same_ports s mid refl refl refl) (concluded_comes mid p n h.0 s' result free h.3))
@@ -203,7 +203,7 @@ module _ {T U : Type 0} where
       let first : PortsCome s mid =
       ports_come_trans s (with_loan s n None) mid (loan_set_comes s n None)
       (publisher_changed_comes (with_loan s n None) p (λ x. record x { history = last_n (s.config).history_size (x.history ++ n ∷ []) }) (λ x free. free)) in
-      ports_come_trans s mid s' first (delivered_comes environment mid p n 0 no_time 0 x.ends 0 false s' result h free))
+      ports_come_trans s mid s' first (delivered_comes environment mid p n 0 0 no_time 0 x.ends 0 false s' result h free))
 
   pub loan_discarded_comes : (s : State T U) (n : ℕ) (l : Loan T U) → PortsCome s (loan_discarded s n l)
   loan_discarded_comes s n l =

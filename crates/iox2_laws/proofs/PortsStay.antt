@@ -25,6 +25,7 @@ use Rattle.iox2_laws.proofs.Cases.{by_option, by_bool}
 use Rattle.iox2_laws.proofs.CallCases.{grant_cases, publisher_cases, subscriber_cases}
 use Rattle.iox2_laws.proofs.Puts.{at_each}
 use Rattle.iox2_laws.proofs.MailboxWalks.{sender_side_keeps, receiver_side_keeps, deliver_keeps}
+use Rattle.iox2_laws.proofs.MailboxLemmas.{borrowed-appended}
 
 -- Publishers stay, and no send of theirs is blocked where none was; open subscribers stay open.
 pub record Remain {T U : Type 0} (s s' : State T U) : Type 0 where
@@ -200,14 +201,14 @@ module _ {T U : Type 0} where
       subst (PortsStay s) (sym h.0) (publisher_changed_stays s p (λ x. record x { loans = without n x.loans; blocked = None }) (λ x free. refl))
   concluded_stays s p n (Suspended b) s' result ends h = absurd (ends h.1)
 
-  pub delivered_stays : (environment : Environment) (s : State T U) (p n retries : ℕ) (elapsed : Duration) (place : ℕ) (ends : List (Option ℕ)) (count : ℕ)
+  pub delivered_stays : (environment : Environment) (s : State T U) (p n channel retries : ℕ) (elapsed : Duration) (place : ℕ) (ends : List (Option ℕ)) (count : ℕ)
       (has_failed : Bool) (s' : State T U) (result : SendResult)
-      → DeliverAndConclude environment s p n retries elapsed place ends count has_failed s' result → (result ≡ Blocked_send → ⊥) → PortsStay s s'
-  delivered_stays environment s p n retries elapsed place ends count has_failed s' result h free =
+      → DeliverAndConclude environment s p n channel retries elapsed place ends count has_failed s' result → (result ≡ Blocked_send → ⊥) → PortsStay s s'
+  delivered_stays environment s p n channel retries elapsed place ends count has_failed s' result h free =
       by_option (PortsStay s s') (s.publishers p) _ _ h (λ _ v. absurd v) (λ x present h.
       let are : (q : ℕ) → SameBorrowed (s.mailboxes p) q (h.1 q) =
-      (deliver_keeps (SameBorrowed (s.mailboxes p)) (λ i box same. same) environment s.config p x.backpressure_strategy x.backpressure_handler (channel_buffer s p 0) n
-      (λ i buffer box same. same) retries elapsed place ends count has_failed (s.mailboxes p) h.0 h.1 (λ q. refl) h.2).0 in
+      (deliver_keeps (SameBorrowed (s.mailboxes p)) (λ i box same. same) environment s.config p x.backpressure_strategy x.backpressure_handler (channel_buffer s p channel) n channel
+      (λ i buffer box same. borrowed-appended channel buffer n box ∙ same) retries elapsed place ends count has_failed (s.mailboxes p) h.0 h.1 (λ q. refl) h.2).0 in
       let mid : State T U = with_mailboxes s p h.1 in
       let first : PortsStay s mid = record {
         remain = record {
@@ -226,7 +227,7 @@ module _ {T U : Type 0} where
       let first : PortsStay s mid =
       ports_stay_trans s (with_loan s n None) mid (loan_set_stays s n None)
       (publisher_changed_stays (with_loan s n None) p (λ x. record x { history = last_n (s.config).history_size (x.history ++ n ∷ []) }) (λ x free. free)) in
-      ports_stay_trans s mid s' first (delivered_stays environment mid p n 0 no_time 0 x.ends 0 false s' result h free))
+      ports_stay_trans s mid s' first (delivered_stays environment mid p n 0 0 no_time 0 x.ends 0 false s' result h free))
 
   pub loan_discarded_stays : (s : State T U) (n : ℕ) (l : Loan T U) → PortsStay s (loan_discarded s n l)
   loan_discarded_stays s n l =

@@ -18,7 +18,7 @@ use Rattle.iox2_laws.proofs.Puts.{put_at-same, put_at-other, at_each, found_put}
 use Rattle.iox2_laws.proofs.NumberLemmas.{contains_in_append, contains_left, contains_right, absent_from, size_le, contains_in_flat_map, contains-flat_map}
 use Rattle.iox2_laws.proofs.PlaceLemmas.{contains-occupants}
 use Rattle.iox2_laws.proofs.MailboxLemmas.{has_numbers-contains}
-use Rattle.iox2_laws.proofs.SenderSides.{KeepsLimits, FitsBuffer, SenderSideIsWellFormed, sender_side_keeps}
+use Rattle.iox2_laws.proofs.SenderSides.{KeepsLimits, FitsBuffer, OthersKeepLimits, OthersFit, SenderSideIsWellFormed, sender_side_keeps}
 use Rattle.iox2_laws.proofs.PortChanges.{sender_reset_keeps}
 
 module _ {T U : Type 0} where
@@ -104,6 +104,7 @@ module _ {T U : Type 0} where
         is_out = v.is_out;
         unheld = v.unheld;
         ends = v.ends;
+        channel = v.channel;
         unserved = λ q l. subst (λ (m : ℕ → Mailbox). contains (numbers_in (m q)) b.message ≡ false) (sym (same_boxes p' other)) (v.unserved q l);
         waits = v.waits;
         count_bound = v.count_bound;
@@ -156,6 +157,8 @@ module _ {T U : Type 0} where
     mailbox_keeps p' q = record {
       within = at_each s.mailboxes p side.mailboxes (λ _ m. KeepsLimits s (m q)) p' (λ _. k.within q) (λ _. (w.mailboxes p' q).within);
       room = at_each s.mailboxes p side.mailboxes (λ _ m. FitsBuffer s q (m q)) p' (λ _. k.room q) (λ _. (w.mailboxes p' q).room);
+      others = at_each s.mailboxes p side.mailboxes (λ _ m. OthersKeepLimits s (m q)) p' (λ _. k.others q) (λ _. (w.mailboxes p' q).others);
+      others_room = at_each s.mailboxes p side.mailboxes (λ _ m. OthersFit s q (m q)) p' (λ _. k.others_room q) (λ _. (w.mailboxes p' q).others_room);
       below = at_each s.mailboxes p side.mailboxes (λ _ m. (n : ℕ) → contains (numbers_in (m q)) n ≡ true → n < s.next_message) p'
           (λ _. below q) (λ _. (w.mailboxes p' q).below);
       known = at_each s.mailboxes p side.mailboxes (λ i m. has_numbers (m q) ≡ true → (i < s.next_port) × (q < s.next_port)) p'

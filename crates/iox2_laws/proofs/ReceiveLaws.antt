@@ -1,7 +1,7 @@
 -- A receive, and the question whether anything waits, keep a state well-formed.
 use Rattle.std.proofs.Common.{◌≡◌, ℕ, Bool, true, refl, sym, subst, ◌∙◌, arith, Option, None, Some, ◌⊎◌, inl, inr, le_trans}
 use Rattle.iox2_laws.proofs.Cases.{by_option, by_bool}
-use Rattle.iox2_laws.proofs.MailboxLemmas.{IsWithin-borrowed, waiting_count-borrowed, contains_in_borrowed, has_numbers-borrowed, has_data-borrowed, has_borrows-borrowed}
+use Rattle.iox2_laws.proofs.MailboxLemmas.{IsWithin-borrowed, OthersWithin-borrowed, waiting_count-borrowed, contains_in_borrowed, has_numbers-borrowed, has_data-borrowed, has_borrows-borrowed}
 use Rattle.iox2_laws.proofs.PlaceLemmas.{leads_to}
 use Rattle.iox2_laws.proofs.ReleaseLaws.{Shrinks, shrinks_same, with_receivers, ReceiversAgree, receivers_keep, subscriber_keeps, at_each_mailbox}
 use Rattle.iox2_laws.proofs.SubscriberUpdates.{update_subscriber_keeps, update_subscriber_advances}
@@ -33,6 +33,7 @@ module _ {T U : Type 0} where
         (record {
           within = IsWithin-borrowed (buffer_limit s.config) (s.config).subscriber_max_borrowed_samples n (s.mailboxes p q) box may.0 borrows (w.mailboxes p q).within;
           waiting = waiting_count-borrowed n (s.mailboxes p q) box borrows;
+          others = λ channels buffer. OthersWithin-borrowed channels buffer n (s.mailboxes p q) box borrows;
           numbers = λ m h. contains_in_borrowed n (s.mailboxes p q) box m borrows h;
           some = λ _. (has_numbers-borrowed n (s.mailboxes p q) box borrows).0;
         })

@@ -11,10 +11,10 @@ use Rattle.iox2_laws.proofs.FilterLemmas.{contains_in_filter, contains-filter, I
 use Rattle.iox2_laws.proofs.PlaceLemmas.{occupant-places_kept, places_kept_keeps, length-places_kept, injective_places_kept}
 use Rattle.iox2_laws.proofs.MailboxLemmas.{has_numbers-borrows, has_numbers-data, IsWithin-released, contains_in_released, has_borrows_before_release, has_numbers_before_release}
 use Rattle.iox2_laws.specs.Laws.{Advances}
-use Rattle.iox2_store.specs.machine.Limits.{buffer_limit, expired_limit}
+use Rattle.iox2_store.specs.machine.Limits.{buffer_limit, channel_count, expired_limit}
 use Rattle.iox2_store.specs.machine.Numbers.{put_at, contains, size}
 use Rattle.iox2_store.specs.machine.Places.{occupant, occupants}
-use Rattle.iox2_store.specs.machine.Mailbox.{Mailbox, numbers_in, has_numbers, has_borrows, has_data, waiting_count, with_released, IsWithin}
+use Rattle.iox2_store.specs.machine.Mailbox.{Mailbox, numbers_in, has_numbers, has_borrows, has_data, waiting_count, with_released, IsWithin, OthersWithin}
 use Rattle.iox2_store.specs.machine.Records.{Publisher, Subscriber}
 use Rattle.iox2_store.specs.machine.State.{State, Warnings, held, is_present}
 use Rattle.iox2_store.specs.machine.Releases.{is_connected, pruned, unborrowed, subscriber_pruned, released, freed_if_unused}
@@ -26,12 +26,13 @@ use Rattle.iox2_store.specs.machine.WellFormed.{LeadsTo, subscriber_place, Block
 pub record Shrinks (limit borrow_limit : ℕ) (box box' : Mailbox) : Type 0 where
   pub within : IsWithin limit borrow_limit box'
   pub waiting : waiting_count box' ≤ waiting_count box
+  pub others : (channels buffer : ℕ) → OthersWithin channels buffer box → OthersWithin channels buffer box'
   pub numbers : (n : ℕ) → contains (numbers_in box') n ≡ true → contains (numbers_in box) n ≡ true
   pub some : has_numbers box' ≡ true → has_numbers box ≡ true
 
 -- A mailbox that stays the same has nothing new.
 pub shrinks_same : (limit borrow_limit : ℕ) (box : Mailbox) → IsWithin limit borrow_limit box → Shrinks limit borrow_limit box box
-shrinks_same limit borrow_limit box w = record { within = w; waiting = omega arith; numbers = λ n h. h; some = λ h. h }
+shrinks_same limit borrow_limit box w = record { within = w; waiting = omega arith; others = λ channels buffer h. h; numbers = λ n h. h; some = λ h. h }
 
 held_shrinks : (loans history ids : List ℕ) (f g : ℕ → List ℕ) → ((q n : ℕ) → contains (f q) n ≡ true → contains (g q) n ≡ true)
     → (n : ℕ) → contains (loans ++ history ++ flat_map f ids) n ≡ true → contains (loans ++ history ++ flat_map g ids) n ≡ true
@@ -126,6 +127,7 @@ module _ {T U : Type 0} where
           is_out = old.is_out;
           unheld = old.unheld;
           ends = old.ends;
+          channel = old.channel;
           unserved = λ q l. absent_still s boxes p q c.message (a.shrinks p q) (old.unserved q l);
           waits = old.waits;
           count_bound = old.count_bound;
@@ -142,6 +144,11 @@ module _ {T U : Type 0} where
         let less : waiting_count (boxes p q) ≤ waiting_count (s.mailboxes p q) = (a.shrinks p q).waiting in
         let same : y.buffer ≡ (g.0).buffer = g.3 in
         omega arith;
+    others = (a.shrinks p q).others (channel_count s.config) (buffer_limit s.config) b.others;
+    others_room = λ y f.
+        let g : (z : Subscriber) × (s.subscribers q ≡ Some z) × (y.place ≡ z.place) × (y.buffer ≡ z.buffer) = a.stays q y f in
+        subst (λ n. OthersWithin (channel_count s.config) n (boxes p q)) (sym g.3)
+        ((a.shrinks p q).others (channel_count s.config) (g.0).buffer (b.others_room g.0 g.1));
     below = λ n h. b.below n ((a.shrinks p q).numbers n h);
     known = λ h. b.known ((a.shrinks p q).some h);
     sender_end = λ x e h. b.sender_end x e ((a.shrinks p q).some h);
@@ -267,6 +274,7 @@ module _ {T U : Type 0} where
       (record {
         within = IsWithin-released (buffer_limit s.config) (s.config).subscriber_max_borrowed_samples n (s.mailboxes p q) (w.mailboxes p q).within;
         waiting = omega arith;
+        others = λ channels buffer h. h;
         numbers = λ m h. contains_in_released n (s.mailboxes p q) m h;
         some = has_numbers_before_release n (s.mailboxes p q);
       })

@@ -18,7 +18,7 @@ use Rattle.iox2_laws.proofs.PortsStay.{PortsStay, Remain, update_subscriber_stay
 
 -- what is borrowed is what was
 pub same_borrowed : {T U : Type 0} (s s' : State T U) → PortsStay s s' → (p q n : ℕ) → is_borrowed n (s'.mailboxes p q) ≡ is_borrowed n (s.mailboxes p q)
-same_borrowed s s' stay p q n = ap (λ (ns : List ℕ). is_borrowed n (record { waiting = []; borrowed = ns })) (stay.borrowed p q)
+same_borrowed s s' stay p q n = ap (λ (ns : List ℕ). is_borrowed n (record { waiting = []; borrowed = ns; others = [] })) (stay.borrowed p q)
 
 -- ---- what changes of what is borrowed
 

@@ -1,5 +1,5 @@
 -- A send, and a blocked send that is tried again or given up, keep a state well-formed.
-use Rattle.std.proofs.Common.{◌≡◌, ℕ, le_refl, ◌+◌, ◌≤◌, Bool, true, false, List, [], ◌∷◌, ◌++◌, drop, drop-drop, refl, sym, ap, subst, ◌∙◌, arith, ⊎_elim, ◌⊎◌, inl, inr, Option, None, Some}
+use Rattle.std.proofs.Common.{zero, suc, ◌≡◌, ◌<◌, length, ℕ, le_refl, ◌+◌, ◌≤◌, Bool, true, false, List, [], ◌∷◌, ◌++◌, drop, refl, sym, ap, subst, ◌∙◌, arith, ⊎_elim, ◌⊎◌, inl, inr, Option, None, Some, take, take_all}
 use Rattle.std.specs.Option.{option_map}
 use Rattle.std.specs.declared.time.Duration.{Duration}
 use Rattle.std.proofs.lemmas.Bool.{eqb-false}
@@ -20,7 +20,8 @@ use Rattle.iox2_laws.proofs.PlaceLemmas.{occupant-drop}
 use Rattle.iox2_laws.proofs.PublisherUpdates.{update_publisher_keeps, update_publisher_advances, update_publisher_leaves, no_blocked_send}
 use Rattle.iox2_laws.proofs.Altered.{same_state, altered}
 use Rattle.iox2_laws.proofs.LoanLaws.{loan_lost_keeps, loan_discarded_keeps}
-use Rattle.iox2_laws.proofs.DeliveryLaws.{Delivered, deliver_is, IsUnderway, ended_keeps, blocked_keeps}
+use Rattle.iox2_laws.proofs.DeliveryLaws.{Delivered, deliver_is, IsUnderway, ended_keeps, blocked_keeps, AreFrom, rest_of}
+use Rattle.iox2_store.specs.machine.Limits.{channel_count}
 
 -- all ends but the first lead where the ends do
 later_ends : (ends : List (Option ℕ)) (q : ℕ) → LeadsTo (drop 1 ends) q → LeadsTo ends q
@@ -30,6 +31,21 @@ later_ends ends q h = (1 + h.0, sym (occupant-drop 1 ends h.0) ∙ h.1)
 pub injective_drop : (k : ℕ) (xs : List (Option ℕ)) → IsInjective xs → IsInjective (drop k xs)
 injective_drop k xs apart i j id h e =
     let same : k + i ≡ k + j = apart (k + i) (k + j) id (sym (occupant-drop k xs i) ∙ h) (sym (occupant-drop k xs j) ∙ e) in omega (arith, same)
+
+-- what stands in the first of a list stands there in the list
+pub occupant-take : (count : ℕ) (xs : List (Option ℕ)) (i q : ℕ) → occupant (take count xs) i ≡ Some q → occupant xs i ≡ Some q
+occupant-take zero xs i q h = absurd (none-some q h)
+occupant-take (suc count) [] i q h = h
+occupant-take (suc count) (x ∷ xs) zero q h = h
+occupant-take (suc count) (x ∷ xs) (suc i) q h = occupant-take count xs i q h
+
+pub injective_take : (count : ℕ) (xs : List (Option ℕ)) → IsInjective xs → IsInjective (take count xs)
+injective_take count xs apart i j id h e = apart i j id (occupant-take count xs i id h) (occupant-take count xs j id e)
+
+-- without the first they are some from the next place on
+behind_first : (ends whole : List (Option ℕ)) (place : ℕ) → AreFrom whole ends place → AreFrom whole (drop 1 ends) (place + 1)
+behind_first [] whole place h = (0, refl)
+behind_first (end ∷ rest) whole place h = rest_of end rest whole place h
 
 module _ {T U : Type 0} where
   -- ---- a blocked send goes on
@@ -49,8 +65,11 @@ module _ {T U : Type 0} where
     history_bound = w.history_bound;
     history_once = w.history_once;
     history_has = λ m h. inl h;
-    leads = λ q h. let at : LeadsTo b.ends q = inside q h in
-        (b.place + at.0, sym (occupant-drop b.place x.ends at.0) ∙ ap (λ (l : List (Option ℕ)). occupant l at.0) (sym v.ends) ∙ at.1);
+    leads = λ q h. let at : LeadsTo b.ends q = inside q h in (
+      b.place + at.0,
+      sym (occupant-drop b.place x.ends at.0)
+          ∙ occupant-take (v.ends).0 (drop b.place x.ends) at.0 q (ap (λ (l : List (Option ℕ)). occupant l at.0) (sym (v.ends).1) ∙ at.1),
+    );
     unserved = λ q h. v.unserved q (inside q h);
   }
 
@@ -58,17 +77,20 @@ module _ {T U : Type 0} where
   pub delivery_goes_on_keeps : (environment : Environment) (s : State T U) (p : ℕ) (x : Publisher) (b : BlockedSend) (retries : ℕ) (elapsed : Duration)
       (place : ℕ) (ends : List (Option ℕ))
       (count : ℕ) (has_failed : Bool) (s' : State T U) (result : SendResult)
-      → IsWellFormed s → s.publishers p ≡ Some x → x.blocked ≡ Some b → ends ≡ drop place x.ends → count ≤ place → ((q : ℕ) → LeadsTo ends q → LeadsTo b.ends q)
-      → DeliverAndConclude environment s p b.message retries elapsed place ends count has_failed s' result → IsWellFormed s'
+      → IsWellFormed s → s.publishers p ≡ Some x → x.blocked ≡ Some b → AreFrom x.ends ends place → count ≤ place → ((q : ℕ) → LeadsTo ends q → LeadsTo b.ends q)
+      → DeliverAndConclude environment s p b.message b.channel retries elapsed place ends count has_failed s' result → IsWellFormed s'
   delivery_goes_on_keeps environment s p x b retries elapsed place ends count has_failed s' result w here waits tail few inside h =
       by_option (IsWellFormed s') (s.publishers p) _ _ h (λ _ v. absurd v) (λ x2 _ h.
-      let d : Delivered (channel_buffer s p 0) b.message x.ends ends (s.mailboxes p) h.0 h.1 =
-      deliver_is environment s.config p x2.backpressure_strategy x2.backpressure_handler (channel_buffer s p 0) b.message retries elapsed place ends count
+      let d : Delivered (channel_buffer s p b.channel) b.message b.channel x.ends ends (s.mailboxes p) h.0 h.1 =
+      deliver_is environment s.config p x2.backpressure_strategy x2.backpressure_handler (channel_buffer s p b.channel) b.message b.channel retries elapsed place ends count
       has_failed x.ends (s.mailboxes p) h.0 h.1
-      (subst IsInjective (sym tail) (injective_drop place x.ends ((w.publishers p x here).ends_apart))) tail few h.2 in
+      (subst IsInjective (sym tail.1) (injective_take tail.0 (drop place x.ends) (injective_drop place x.ends ((w.publishers p x here).ends_apart)))) tail few h.2 in
       conclude h.0 h.1 d h.3)
     where
-      conclude : (how : DeliveryEnd) (boxes : ℕ → Mailbox) → Delivered (channel_buffer s p 0) b.message x.ends ends (s.mailboxes p) how boxes
+      known : b.channel < channel_count s.config
+      known = ((w.publishers p x here).blocked b waits).channel
+
+      conclude : (how : DeliveryEnd) (boxes : ℕ → Mailbox) → Delivered (channel_buffer s p b.channel) b.message b.channel x.ends ends (s.mailboxes p) how boxes
           → ConcludeSend (with_mailboxes s p boxes) p b.message how s' result → IsWellFormed s'
       conclude (Complete count has_failed) boxes d h = subst IsWellFormed
           (ap (λ o. record s {
@@ -77,21 +99,21 @@ module _ {T U : Type 0} where
             mailboxes = put_at s.mailboxes p boxes;
           })
           (sym here) ∙ sym h.0)
-          (ended_keeps s w p x here b.message s.loans x.history ends (Complete count has_failed) boxes
+          (ended_keeps s w p x here b.message b.channel known s.loans x.history ends (Complete count has_failed) boxes
           (underway_of_blocked s p x b ends (w.publishers p x here) waits inside) d)
       conclude (Suspended b') boxes d h = subst IsWellFormed
           (ap (λ o. record s {
             publishers = put_at s.publishers p (option_map (λ (v : Publisher). record v { blocked = Some b' }) o);
             mailboxes = put_at s.mailboxes p boxes;
           }) (sym here) ∙ sym h.0)
-          (blocked_keeps s w p x here b.message s.loans x.history ends (Suspended b') boxes
+          (blocked_keeps s w p x here b.message b.channel known s.loans x.history ends (Suspended b') boxes
           (underway_of_blocked s p x b ends (w.publishers p x here) waits inside) d b' refl)
 
   -- a blocked send's delivery goes on from its place, however often and long it was tried
   pub deliver_and_conclude_keeps : (environment : Environment) (s : State T U) (p : ℕ) (x : Publisher) (b : BlockedSend) (retries : ℕ) (elapsed : Duration)
       (s' : State T U) (result : SendResult)
       → IsWellFormed s → s.publishers p ≡ Some x → x.blocked ≡ Some b
-      → DeliverAndConclude environment s p b.message retries elapsed b.place b.ends b.count b.has_failed s' result → IsWellFormed s'
+      → DeliverAndConclude environment s p b.message b.channel retries elapsed b.place b.ends b.count b.has_failed s' result → IsWellFormed s'
   deliver_and_conclude_keeps environment s p x b retries elapsed s' result w here waits h =
       delivery_goes_on_keeps environment s p x b retries elapsed b.place b.ends b.count b.has_failed s' result w here waits
       (((w.publishers p x here).blocked b waits).ends) (((w.publishers p x here).blocked b waits).count_bound) (λ q h. h) h
@@ -107,15 +129,18 @@ module _ {T U : Type 0} where
   pub give_up_keeps : (environment : Environment) (s : State T U) (p : ℕ) (x : Publisher) (b : BlockedSend) (s' : State T U) (result : SendResult)
       → IsWellFormed s → s.publishers p ≡ Some x → x.blocked ≡ Some b → GiveUp environment s p b s' result → IsWellFormed s'
   give_up_keeps environment s p x b s' result w here waits h =
-      let tail : b.ends ≡ drop b.place x.ends = ((w.publishers p x here).blocked b waits).ends in
+      let tail : AreFrom x.ends b.ends b.place = ((w.publishers p x here).blocked b waits).ends in
       let few : b.count ≤ b.place = ((w.publishers p x here).blocked b waits).count_bound in
       delivery_goes_on_keeps environment s p x b 0 no_time (b.place + 1) (drop 1 b.ends) b.count b.has_failed s' result w here waits
-      (ap (drop 1) tail ∙ drop-drop 1 b.place x.ends) (omega arith) (later_ends b.ends) h
+      (behind_first b.ends x.ends b.place tail) (omega arith) (later_ends b.ends) h
 
   -- ---- a message is published
 
   module _ (s : State T U) (w : IsWellFormed s) (p n : ℕ) (l : Loan T U) (found : s.loans n ≡ Some l) (own : l.publisher ≡ p) (x : Publisher)
       (here : s.publishers p ≡ Some x) (free : x.blocked ≡ None) where
+    first_channel : 0 < channel_count s.config
+    first_channel = omega arith
+
     -- The history with the message.
     abbrev longer : List ℕ
     longer = last_n (s.config).history_size (x.history ++ n ∷ [])
@@ -154,7 +179,7 @@ module _ {T U : Type 0} where
         (λ apart. sym (put_at-other (published s p n).publishers p (option_map f ((published s p n).publishers p)) i apart
         ∙ put_at-other s.publishers p (option_map g (s.publishers p)) i apart))
 
-    conclude_published : (how : DeliveryEnd) (boxes : ℕ → Mailbox) (s' : State T U) (result : SendResult) → Delivered (channel_buffer s p 0) n x.ends x.ends
+    conclude_published : (how : DeliveryEnd) (boxes : ℕ → Mailbox) (s' : State T U) (result : SendResult) → Delivered (channel_buffer s p 0) n 0 x.ends x.ends
         (s.mailboxes p) how boxes
         → ConcludeSend (with_mailboxes (published s p n) p boxes) p n how s' result → IsWellFormed s'
     conclude_published (Complete count has_failed) boxes s' result d h = subst IsWellFormed
@@ -162,13 +187,13 @@ module _ {T U : Type 0} where
         (send_ended (with_mailboxes (published s p n) p boxes) p n) refl refl refl (λ _. refl)
         (written_alike (λ v. record v { loans = without n v.loans; blocked = None }) (record x { loans = without n x.loans; history = longer; blocked = None }) refl)
         (λ _. refl) (λ _ _. refl) (λ _ _. refl) refl refl refl ∙ sym h.0)
-        (ended_keeps s w p x here n (put_at s.loans n None) longer x.ends (Complete count has_failed) boxes underway_of_loan d)
+        (ended_keeps s w p x here n 0 first_channel (put_at s.loans n None) longer x.ends (Complete count has_failed) boxes underway_of_loan d)
     conclude_published (Suspended b) boxes s' result d h = subst IsWellFormed
         (same_state (altered s p (record x { history = longer; blocked = Some b }) boxes (put_at s.loans n None) s.next_message)
         (send_blocked (with_mailboxes (published s p n) p boxes) p b) refl refl refl (λ _. refl)
         (written_alike (λ v. record v { blocked = Some b }) (record x { history = longer; blocked = Some b }) refl)
         (λ _. refl) (λ _ _. refl) (λ _ _. refl) refl refl refl ∙ sym h.0)
-        (blocked_keeps s w p x here n (put_at s.loans n None) longer x.ends (Suspended b) boxes underway_of_loan d b refl)
+        (blocked_keeps s w p x here n 0 first_channel (put_at s.loans n None) longer x.ends (Suspended b) boxes underway_of_loan d b refl)
 
     -- a loan of a publisher that isn't blocked is published
     pub publish_keeps : (environment : Environment) (s' : State T U) (result : SendResult) → Publish environment s p n s' result → IsWellFormed s'
@@ -177,10 +202,10 @@ module _ {T U : Type 0} where
         by_option (IsWellFormed s') ((published s p n).publishers p) _ _ h (λ _ v. absurd v) (λ x2 _ h.
         let same : x1 ≡ x = same_Some x1 x (sym here1 ∙ here) in
         let apart : IsInjective x1.ends = (w.publishers p x1 here1).ends_apart in
-        let d : Delivered (channel_buffer s p 0) n x1.ends x1.ends (s.mailboxes p) h.0 h.1 =
-        deliver_is environment s.config p x2.backpressure_strategy x2.backpressure_handler (channel_buffer s p 0) n 0 no_time 0 x1.ends 0 false x1.ends
-        (s.mailboxes p) h.0 h.1 apart refl (le_refl 0) h.2 in
-        conclude_published h.0 h.1 s' result (subst (λ (v : Publisher). Delivered (channel_buffer s p 0) n v.ends v.ends (s.mailboxes p) h.0 h.1) same d) h.3))
+        let d : Delivered (channel_buffer s p 0) n 0 x1.ends x1.ends (s.mailboxes p) h.0 h.1 =
+        deliver_is environment s.config p x2.backpressure_strategy x2.backpressure_handler (channel_buffer s p 0) n 0 0 no_time 0 x1.ends 0 false x1.ends
+        (s.mailboxes p) h.0 h.1 apart (length x1.ends, sym (take_all (length x1.ends) x1.ends (le_refl (length x1.ends)))) (le_refl 0) h.2 in
+        conclude_published h.0 h.1 s' result (subst (λ (v : Publisher). Delivered (channel_buffer s p 0) n 0 v.ends v.ends (s.mailboxes p) h.0 h.1) same d) h.3))
 
   -- ---- a loan is sent
 
@@ -203,11 +228,11 @@ module _ {T U : Type 0} where
   -- ---- counters
 
   -- a delivery leaves the configuration and the counters
-  pub deliver_and_conclude_advances : (environment : Environment) (s : State T U) (p n retries : ℕ) (elapsed : Duration) (place : ℕ) (ends : List (Option ℕ))
+  pub deliver_and_conclude_advances : (environment : Environment) (s : State T U) (p n channel retries : ℕ) (elapsed : Duration) (place : ℕ) (ends : List (Option ℕ))
       (count : ℕ) (has_failed : Bool)
       (s' : State T U) (result : SendResult)
-      → DeliverAndConclude environment s p n retries elapsed place ends count has_failed s' result → Advances s s'
-  deliver_and_conclude_advances environment s p n retries elapsed place ends count has_failed s' result h =
+      → DeliverAndConclude environment s p n channel retries elapsed place ends count has_failed s' result → Advances s s'
+  deliver_and_conclude_advances environment s p n channel retries elapsed place ends count has_failed s' result h =
       by_option (Advances s s') (s.publishers p) _ _ h (λ _ v. absurd v) (λ x _ h. conclude h.0 h.1 h.3)
     where
       conclude : (how : DeliveryEnd) (boxes : ℕ → Mailbox) → ConcludeSend (with_mailboxes s p boxes) p n how s' result → Advances s s'
@@ -220,13 +245,13 @@ module _ {T U : Type 0} where
   pub retry_advances : (environment : Environment) (s : State T U) (p : ℕ) (b : BlockedSend) (elapsed : Duration) (s' : State T U) (result : SendResult)
       → Retry environment s p b elapsed s' result → Advances s s'
   retry_advances environment s p b elapsed s' result h =
-      deliver_and_conclude_advances environment s p b.message (more_retries b.retries) elapsed b.place b.ends b.count b.has_failed s' result h
+      deliver_and_conclude_advances environment s p b.message b.channel (more_retries b.retries) elapsed b.place b.ends b.count b.has_failed s' result h
 
   -- a blocked send that is given up advances the state
   pub give_up_advances : (environment : Environment) (s : State T U) (p : ℕ) (b : BlockedSend) (s' : State T U) (result : SendResult)
       → GiveUp environment s p b s' result → Advances s s'
   give_up_advances environment s p b s' result h =
-      deliver_and_conclude_advances environment s p b.message 0 no_time (b.place + 1) (drop 1 b.ends) b.count b.has_failed s' result h
+      deliver_and_conclude_advances environment s p b.message b.channel 0 no_time (b.place + 1) (drop 1 b.ends) b.count b.has_failed s' result h
 
   -- a send advances the state
   pub send_advances : (environment : Environment) (s : State T U) (n : ℕ) (l : Loan T U) (s' : State T U) (result : SendResult)
@@ -240,7 +265,7 @@ module _ {T U : Type 0} where
       by_option (Advances s s') h.1 _ _ h.3
       (λ _ k. by_option (Advances s s') ((h.0).publishers l.publisher) _ _ k (λ _ v. absurd v) (λ x1 _ k.
       let later : Advances (published h.0 l.publisher n) s' =
-      deliver_and_conclude_advances environment (published h.0 l.publisher n) l.publisher n 0 no_time 0 x1.ends 0 false s' result k in
+      deliver_and_conclude_advances environment (published h.0 l.publisher n) l.publisher n 0 0 no_time 0 x1.ends 0 false s' result k in
       record {
         config = later.config ∙ v.config;
         next_port = omega (arith, v.next_port, later.next_port);

@@ -2,11 +2,11 @@
 use Rattle.std.proofs.Common.{◌≡◌, ℕ, ◌≤◌, ◌<◌, Bool, true, false, cond, List, [], length, refl, sym, ap, subst, ◌∙◌, arith, eqb, Option, None, Some, ◌⊎◌, inl, inr, ⊎_elim}
 use Rattle.std.proofs.lemmas.Bool.{true≢false, eqb-false, eq-eqb, ne_eqb, cond_both}
 use Rattle.std.proofs.lemmas.Option.{none-some, same_Some, cond_some, option_and_then_some}
-use Rattle.iox2_store.specs.machine.Limits.{buffer_limit}
+use Rattle.iox2_store.specs.machine.Limits.{buffer_limit, channel_count}
 use Rattle.iox2_store.specs.machine.Numbers.{put_at, contains, last_n, IsOnce}
 use Rattle.iox2_store.specs.machine.Places.{occupant, set_place, is_port}
 use Rattle.iox2_store.specs.machine.Channel.{is_closed}
-use Rattle.iox2_store.specs.machine.Mailbox.{Mailbox, numbers_in, has_numbers, has_borrows, waiting_count, waiting_dropped, with_waiting, IsWithin}
+use Rattle.iox2_store.specs.machine.Mailbox.{Mailbox, numbers_in, has_numbers, has_borrows, waiting_count, waiting_dropped, with_waiting, IsWithin, OthersWithin}
 use Rattle.iox2_store.specs.machine.Records.{Publisher, Subscriber, Environment}
 use Rattle.iox2_store.specs.machine.State.{State, receiving_buffer, has_receiver_end}
 use Rattle.iox2_store.specs.machine.Connections.{ForEachPlace}
@@ -15,7 +15,7 @@ use Rattle.iox2_store.specs.machine.WellFormed.{LeadsTo, IsInjective, subscriber
 use Rattle.iox2_store.specs.declared.errors.ConnectionFailure.{ConnectionFailure}
 use Rattle.iox2_laws.proofs.Puts.{at_each}
 use Rattle.iox2_laws.proofs.PlaceLemmas.{length-set_place_le, occupant-set_place, is_port-true, is_port-false, injective_removed, injective_set, found_set}
-use Rattle.iox2_laws.proofs.MailboxLemmas.{has_numbers-borrows, has_numbers_dropped, IsWithin-dropped, contains_in_dropped, IsWithin-history, waiting_count-history, contains_in_history, has_borrows-history}
+use Rattle.iox2_laws.proofs.MailboxLemmas.{has_numbers-borrows, has_numbers_dropped, IsWithin-dropped, contains_in_dropped, OthersWithin-dropped, IsWithin-history, waiting_count-history, contains_in_history, has_borrows-history}
 use Rattle.iox2_laws.proofs.Walks.{for_each_place_keeps}
 
 -- what isn't true is false
@@ -47,6 +47,13 @@ module _ {T U : Type 0} where
   abbrev pub FitsBuffer : State T U → (q : ℕ) → Mailbox → Type 0
   FitsBuffer s q box = (y : Subscriber) → s.subscribers q ≡ Some y → waiting_count box ≤ y.buffer
 
+  -- the same of the channels other than 0
+  abbrev pub OthersKeepLimits : State T U → Mailbox → Type 0
+  OthersKeepLimits s box = OthersWithin (channel_count s.config) (buffer_limit s.config) box
+
+  abbrev pub OthersFit : State T U → (q : ℕ) → Mailbox → Type 0
+  OthersFit s q box = (y : Subscriber) → s.subscribers q ≡ Some y → OthersWithin (channel_count s.config) y.buffer box
+
   -- each number was in the mailbox before, or it is of the history
   abbrev pub ComesFrom : State T U → (p : ℕ) → Publisher → (q : ℕ) → Mailbox → Type 0
   ComesFrom s p x q box =
@@ -60,6 +67,8 @@ module _ {T U : Type 0} where
     pub ends_stand : (place q : ℕ) (y : Subscriber) → occupant ends place ≡ Some q → s.subscribers q ≡ Some y → y.place ≡ place
     pub within : (q : ℕ) → KeepsLimits s (boxes q)
     pub room : (q : ℕ) → FitsBuffer s q (boxes q)
+    pub others : (q : ℕ) → OthersKeepLimits s (boxes q)
+    pub others_room : (q : ℕ) → OthersFit s q (boxes q)
     pub known : (q : ℕ) → has_numbers (boxes q) ≡ true → q < s.next_port
     pub sender_end : (q : ℕ) → has_numbers (boxes q) ≡ true → LeadsTo ends q
     pub borrows : (q : ℕ) → has_borrows (boxes q) ≡ true → has_borrows (s.mailboxes p q) ≡ true
@@ -111,6 +120,8 @@ module _ {T U : Type 0} where
           ends_stand = u.ends_stand;
           within = λ q. (w.mailboxes p q).within;
           room = λ q. (w.mailboxes p q).room;
+          others = λ q. (w.mailboxes p q).others;
+          others_room = λ q. (w.mailboxes p q).others_room;
           known = λ q h. ((w.mailboxes p q).known h).1;
           sender_end = λ q. (w.mailboxes p q).sender_end x present;
           borrows = λ q h. h;
@@ -134,6 +145,8 @@ module _ {T U : Type 0} where
           (λ _. IsWithin-dropped _ _ (boxes q) (k.within q)) (λ _. k.within r);
       room = λ r. at_each boxes q new (FitsBuffer s) r
           (λ _ y e. omega arith) (λ _. k.room r);
+      others = λ r. at_each boxes q new (λ _. OthersKeepLimits s) r (λ _. OthersWithin-dropped _ _ (boxes q)) (λ _. k.others r);
+      others_room = λ r. at_each boxes q new (OthersFit s) r (λ _ y e. OthersWithin-dropped _ y.buffer (boxes q)) (λ _. k.others_room r);
       known = λ r. at_each boxes q new (λ i box. has_numbers box ≡ true → i < s.next_port) r
           (λ _ h. k.known q (has_numbers-borrows (boxes q) (sym (has_numbers_dropped (boxes q)) ∙ h))) (λ _. k.known r);
       sender_end = λ r. at_each boxes q new (λ i box. has_numbers box ≡ true → LeadsTo ends' i) r
@@ -212,6 +225,8 @@ module _ {T U : Type 0} where
               (λ _ y e. subst (λ b. waiting_count new ≤ b) (sym found.2 ∙ ap (λ (z : Subscriber). z.buffer) (same_Some found.0 y (sym found.1 ∙ e)))
               (waiting_count-history buffer ns (side.mailboxes q)))
               (λ _. k.room r);
+          others = λ r. at_each side.mailboxes q new (λ _. OthersKeepLimits s) r (λ _. k.others q) (λ _. k.others r);
+          others_room = λ r. at_each side.mailboxes q new (OthersFit s) r (λ _. k.others_room q) (λ _. k.others_room r);
           known = λ r. at_each side.mailboxes q new (λ i box. has_numbers box ≡ true → i < s.next_port) r (λ _ _. v.is_known) (λ _. k.known r);
           sender_end = λ r. at_each side.mailboxes q new (λ i box. has_numbers box ≡ true → LeadsTo (set_place side.ends place (Some q)) i) r
               (λ _ _. (place, end_set side.ends place (Some q)))

@@ -14,7 +14,7 @@ use Rattle.iox2_store.specs.declared.warning.Warning.TheVariants.{PublisherPartl
 use Rattle.iox2_laws.proofs.PublisherUpdates.{update_publisher_leaves}
 use Rattle.iox2_laws.proofs.Waits.{update_publisher_waits}
 use Rattle.iox2_store.specs.machine.State.{State, channel_buffer, with_loan, publisher_changed}
-use Rattle.iox2_store.specs.machine.Delivery.{Deliver, DeliveryEnd, Complete, Suspended, accepted_count, is_failed, is_blocking, no_time}
+use Rattle.iox2_store.specs.machine.Delivery.{DeliveryEnd, Complete, Suspended, accepted_count, is_failed, is_blocking, no_time, DeliverIn}
 use Rattle.iox2_store.specs.machine.Sends.{Send, Publish, Retry, GiveUp, DeliverAndConclude, ConcludeSend, SendResult, Blocked_send, Delivered_to, Send_error, with_mailboxes, published, more_retries}
 use Rattle.iox2_store.specs.machine.SingleCalls.{HoldsBlocked}
 use Rattle.iox2_store.specs.declared.backpressure.BackpressureStrategy.{BackpressureStrategy}
@@ -26,6 +26,7 @@ use Rattle.iox2_laws.proofs.CallCases.{publisher_cases}
 use Rattle.iox2_laws.proofs.MailboxWalks.{deliver_keeps}
 use Rattle.iox2_laws.proofs.PortsStay.{PortsStay, update_publisher_stays, loan_set_stays, loan_discarded_stays}
 use Rattle.iox2_laws.proofs.Puts.{at_each, put_at-same}
+use Rattle.iox2_laws.proofs.MailboxLemmas.{borrowed-appended}
 
 -- The ports stay, and what is borrowed is what was.
 pub record PortsRemain {T U : Type 0} (s s' : State T U) : Type 0 where
@@ -47,7 +48,7 @@ module _ {T U : Type 0} where
     borrowed = stay.borrowed;
   }
 
-  ports_remain_trans : (s s' s'' : State T U) → PortsRemain s s' → PortsRemain s' s'' → PortsRemain s s''
+  pub ports_remain_trans : (s s' s'' : State T U) → PortsRemain s s' → PortsRemain s' s'' → PortsRemain s s''
   ports_remain_trans s s' s'' a b = record {
     config = b.config ∙ a.config;
     publishers = λ p x e. let v = a.publishers p x e in b.publishers p v.0 v.1;
@@ -69,14 +70,14 @@ module _ {T U : Type 0} where
   concluded_remains s p n (Complete count has_failed) s' result h = subst (PortsRemain s) (sym h.0) (publisher_changed_remains s p (λ x. record x { loans = without n x.loans; blocked = None }))
   concluded_remains s p n (Suspended b) s' result h = subst (PortsRemain s) (sym h.0) (publisher_changed_remains s p (λ x. record x { blocked = Some b }))
 
-  delivered_remains : (environment : Environment) (s : State T U) (p n retries : ℕ) (elapsed : Duration) (place : ℕ) (ends : List (Option ℕ)) (count : ℕ)
+  pub delivered_remains : (environment : Environment) (s : State T U) (p n channel retries : ℕ) (elapsed : Duration) (place : ℕ) (ends : List (Option ℕ)) (count : ℕ)
       (has_failed : Bool) (s' : State T U) (result : SendResult)
-      → DeliverAndConclude environment s p n retries elapsed place ends count has_failed s' result → PortsRemain s s'
-  delivered_remains environment s p n retries elapsed place ends count has_failed s' result h =
+      → DeliverAndConclude environment s p n channel retries elapsed place ends count has_failed s' result → PortsRemain s s'
+  delivered_remains environment s p n channel retries elapsed place ends count has_failed s' result h =
       by_option (PortsRemain s s') (s.publishers p) _ _ h (λ _ v. absurd v) (λ x present h.
       let are : (q : ℕ) → SameBorrowed (s.mailboxes p) q (h.1 q) =
-      (deliver_keeps (SameBorrowed (s.mailboxes p)) (λ i box same. same) environment s.config p x.backpressure_strategy x.backpressure_handler (channel_buffer s p 0) n
-      (λ i buffer box same. same) retries elapsed place ends count has_failed (s.mailboxes p) h.0 h.1 (λ q. refl) h.2).0 in
+      (deliver_keeps (SameBorrowed (s.mailboxes p)) (λ i box same. same) environment s.config p x.backpressure_strategy x.backpressure_handler (channel_buffer s p channel) n channel
+      (λ i buffer box same. borrowed-appended channel buffer n box ∙ same) retries elapsed place ends count has_failed (s.mailboxes p) h.0 h.1 (λ q. refl) h.2).0 in
       let mid : State T U = with_mailboxes s p h.1 in
       let first : PortsRemain s mid = record {
         config = refl;
@@ -88,10 +89,10 @@ module _ {T U : Type 0} where
 
   pub retry_remains : (environment : Environment) (s : State T U) (p : ℕ) (b : BlockedSend) (elapsed : Duration) (s' : State T U) (result : SendResult)
       → Retry environment s p b elapsed s' result → PortsRemain s s'
-  retry_remains environment s p b elapsed s' result = delivered_remains environment s p b.message (more_retries b.retries) elapsed b.place b.ends b.count b.has_failed s' result
+  retry_remains environment s p b elapsed s' result = delivered_remains environment s p b.message b.channel (more_retries b.retries) elapsed b.place b.ends b.count b.has_failed s' result
 
   pub give_up_remains : (environment : Environment) (s : State T U) (p : ℕ) (b : BlockedSend) (s' : State T U) (result : SendResult) → GiveUp environment s p b s' result → PortsRemain s s'
-  give_up_remains environment s p b s' result = delivered_remains environment s p b.message 0 no_time (b.place + 1) (drop 1 b.ends) b.count b.has_failed s' result
+  give_up_remains environment s p b s' result = delivered_remains environment s p b.message b.channel 0 no_time (b.place + 1) (drop 1 b.ends) b.count b.has_failed s' result
 
   publish_remains : (environment : Environment) (s : State T U) (p n : ℕ) (s' : State T U) (result : SendResult) → Publish environment s p n s' result → PortsRemain s s'
   publish_remains environment s p n s' result h =
@@ -100,7 +101,7 @@ module _ {T U : Type 0} where
       let first : PortsRemain s mid =
       ports_remain_trans s (with_loan s n None) mid (ports_remain s (with_loan s n None) (loan_set_stays s n None))
       (publisher_changed_remains (with_loan s n None) p (λ x. record x { history = last_n (s.config).history_size (x.history ++ n ∷ []) })) in
-      ports_remain_trans s mid s' first (delivered_remains environment mid p n 0 no_time 0 x.ends 0 false s' result h))
+      ports_remain_trans s mid s' first (delivered_remains environment mid p n 0 0 no_time 0 x.ends 0 false s' result h))
 
   pub send_remains : (environment : Environment) (s : State T U) (n : ℕ) (l : Loan T U) (s' : State T U) (result : SendResult) → Send environment s n l s' result → PortsRemain s s'
   send_remains environment s n l s' result h =
@@ -114,14 +115,14 @@ module _ {T U : Type 0} where
 
 -- ---- a send that is blocked waits with its message
 
-module _ (e : Environment) (c : ServiceConfig) (p : ℕ) (strategy : BackpressureStrategy) (handler : Option (Handler BackpressureAction)) (buffers : ℕ → Option ℕ) (n : ℕ) where
+module _ (e : Environment) (c : ServiceConfig) (p : ℕ) (strategy : BackpressureStrategy) (handler : Option (Handler BackpressureAction)) (buffers : ℕ → Option ℕ) (n channel : ℕ) where
   suspended_message : (retries : ℕ) (elapsed : Duration) (place : ℕ) (ends : List (Option ℕ)) (count : ℕ) (has_failed : Bool) (boxes : ℕ → Mailbox) (b : BlockedSend) (boxes' : ℕ → Mailbox)
-      → Deliver e c p strategy handler buffers n retries elapsed place ends count has_failed boxes (Suspended b) boxes' → b.message ≡ n
+      → DeliverIn e c p strategy handler buffers n channel retries elapsed place ends count has_failed boxes (Suspended b) boxes' → b.message ≡ n
   suspended_message retries elapsed place [] count has_failed boxes b boxes' h = absurd (let no : Suspended b ≡ Complete count has_failed = h.0 in cc)
   suspended_message retries elapsed place (end ∷ rest) count has_failed boxes b boxes' h =
       by_bool (b.message ≡ n) (is_blocking h.0) _ _ h.3
       (λ _ k.
-      let stop : BlockedSend = record { message = n; place = place; ends = end ∷ rest; retries = retries; count = count; has_failed = has_failed } in
+      let stop : BlockedSend = record { message = n; channel = channel; place = place; ends = end ∷ rest; retries = retries; count = count; has_failed = has_failed } in
       let same : Suspended b ≡ Suspended stop = k.0 in
       let is : b ≡ stop = cc in
       ap (λ (v : BlockedSend). v.message) is)
@@ -143,14 +144,14 @@ module _ {T U : Type 0} where
         message b refl,
       )
 
-  pub delivered_waits_with : (environment : Environment) (s : State T U) (p n retries : ℕ) (elapsed : Duration) (place : ℕ) (ends : List (Option ℕ)) (count : ℕ)
+  pub delivered_waits_with : (environment : Environment) (s : State T U) (p n channel retries : ℕ) (elapsed : Duration) (place : ℕ) (ends : List (Option ℕ)) (count : ℕ)
       (has_failed : Bool) (s' : State T U) (result : SendResult)
-      → DeliverAndConclude environment s p n retries elapsed place ends count has_failed s' result → result ≡ Blocked_send → HoldsBlocked s' p n
-  delivered_waits_with environment s p n retries elapsed place ends count has_failed s' result h is =
+      → DeliverAndConclude environment s p n channel retries elapsed place ends count has_failed s' result → result ≡ Blocked_send → HoldsBlocked s' p n
+  delivered_waits_with environment s p n channel retries elapsed place ends count has_failed s' result h is =
       by_option (HoldsBlocked s' p n) (s.publishers p) _ _ h (λ _ v. absurd v) (λ x present h.
       concluded_waits_with (with_mailboxes s p h.1) p n x present h.0 s' result
-      (λ b e. suspended_message environment s.config p x.backpressure_strategy x.backpressure_handler (channel_buffer s p 0) n retries elapsed place ends count has_failed (s.mailboxes p) b h.1
-      (subst (λ (how : DeliveryEnd). Deliver environment s.config p x.backpressure_strategy x.backpressure_handler (channel_buffer s p 0) n retries elapsed place ends count has_failed (s.mailboxes p) how h.1) e h.2))
+      (λ b e. suspended_message environment s.config p x.backpressure_strategy x.backpressure_handler (channel_buffer s p channel) n channel retries elapsed place ends count has_failed (s.mailboxes p) b h.1
+      (subst (λ (how : DeliveryEnd). DeliverIn environment s.config p x.backpressure_strategy x.backpressure_handler (channel_buffer s p channel) n channel retries elapsed place ends count has_failed (s.mailboxes p) how h.1) e h.2))
       h.3 is)
 
   pub send_waits_with : (environment : Environment) (s : State T U) (n : ℕ) (l : Loan T U) (s' : State T U) (result : SendResult) → Send environment s n l s' result → result ≡ Blocked_send
@@ -161,16 +162,16 @@ module _ {T U : Type 0} where
       (λ x _ k.
       by_option (HoldsBlocked s' l.publisher n) k.1 _ _ k.3
       (λ _ j. by_option (HoldsBlocked s' l.publisher n) ((k.0).publishers l.publisher) _ _ j (λ _ v. absurd v) (λ x1 _ i.
-      delivered_waits_with environment (published k.0 l.publisher n) l.publisher n 0 no_time 0 x1.ends 0 false s' result i is))
+      delivered_waits_with environment (published k.0 l.publisher n) l.publisher n 0 0 no_time 0 x1.ends 0 false s' result i is))
       (λ e _ j. absurd (let no : Send_error _ ≡ Blocked_send = sym j.1 ∙ is in cc)))
 
   pub retry_waits_with : (environment : Environment) (s : State T U) (p : ℕ) (b : BlockedSend) (elapsed : Duration) (s' : State T U) (result : SendResult)
       → Retry environment s p b elapsed s' result → result ≡ Blocked_send → HoldsBlocked s' p b.message
-  retry_waits_with environment s p b elapsed s' result = delivered_waits_with environment s p b.message (more_retries b.retries) elapsed b.place b.ends b.count b.has_failed s' result
+  retry_waits_with environment s p b elapsed s' result = delivered_waits_with environment s p b.message b.channel (more_retries b.retries) elapsed b.place b.ends b.count b.has_failed s' result
 
   pub give_up_waits_with : (environment : Environment) (s : State T U) (p : ℕ) (b : BlockedSend) (s' : State T U) (result : SendResult)
       → GiveUp environment s p b s' result → result ≡ Blocked_send → HoldsBlocked s' p b.message
-  give_up_waits_with environment s p b s' result = delivered_waits_with environment s p b.message 0 no_time (b.place + 1) (drop 1 b.ends) b.count b.has_failed s' result
+  give_up_waits_with environment s p b s' result = delivered_waits_with environment s p b.message b.channel 0 no_time (b.place + 1) (drop 1 b.ends) b.count b.has_failed s' result
 
 -- ---- a send that isn't blocked frees its publisher
 
@@ -186,20 +187,20 @@ module _ {T U : Type 0} where
       by (Some x) x' e = sym (ap (λ (z : Publisher). z.blocked) (same_Some _ x' e))
   concluded_frees s p n (Suspended b) s' result free h = absurd (free h.1)
 
-  delivered_frees : (environment : Environment) (s : State T U) (p n retries : ℕ) (elapsed : Duration) (place : ℕ) (ends : List (Option ℕ)) (count : ℕ)
+  delivered_frees : (environment : Environment) (s : State T U) (p n channel retries : ℕ) (elapsed : Duration) (place : ℕ) (ends : List (Option ℕ)) (count : ℕ)
       (has_failed : Bool) (s' : State T U) (result : SendResult) → (result ≡ Blocked_send → ⊥)
-      → DeliverAndConclude environment s p n retries elapsed place ends count has_failed s' result → (x' : Publisher) → s'.publishers p ≡ Some x' → x'.blocked ≡ None
-  delivered_frees environment s p n retries elapsed place ends count has_failed s' result free h =
+      → DeliverAndConclude environment s p n channel retries elapsed place ends count has_failed s' result → (x' : Publisher) → s'.publishers p ≡ Some x' → x'.blocked ≡ None
+  delivered_frees environment s p n channel retries elapsed place ends count has_failed s' result free h =
       by_option ((x' : Publisher) → s'.publishers p ≡ Some x' → x'.blocked ≡ None) (s.publishers p) _ _ h (λ _ v. absurd v)
       (λ x _ k. concluded_frees (with_mailboxes s p k.1) p n k.0 s' result free k.3)
 
   pub retry_frees : (environment : Environment) (s : State T U) (p : ℕ) (b : BlockedSend) (elapsed : Duration) (s' : State T U) (result : SendResult) → (result ≡ Blocked_send → ⊥)
       → Retry environment s p b elapsed s' result → (x' : Publisher) → s'.publishers p ≡ Some x' → x'.blocked ≡ None
-  retry_frees environment s p b elapsed = delivered_frees environment s p b.message (more_retries b.retries) elapsed b.place b.ends b.count b.has_failed
+  retry_frees environment s p b elapsed = delivered_frees environment s p b.message b.channel (more_retries b.retries) elapsed b.place b.ends b.count b.has_failed
 
   pub give_up_frees : (environment : Environment) (s : State T U) (p : ℕ) (b : BlockedSend) (s' : State T U) (result : SendResult) → (result ≡ Blocked_send → ⊥)
       → GiveUp environment s p b s' result → (x' : Publisher) → s'.publishers p ≡ Some x' → x'.blocked ≡ None
-  give_up_frees environment s p b = delivered_frees environment s p b.message 0 no_time (b.place + 1) (drop 1 b.ends) b.count b.has_failed
+  give_up_frees environment s p b = delivered_frees environment s p b.message b.channel 0 no_time (b.place + 1) (drop 1 b.ends) b.count b.has_failed
 
 -- ---- a publisher that was made waits for nobody
 

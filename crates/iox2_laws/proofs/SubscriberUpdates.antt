@@ -5,7 +5,7 @@ use Rattle.std.proofs.lemmas.Option.{same_Some}
 use Rattle.std.specs.Option.{option_map}
 use Rattle.iox2_laws.proofs.Cases.{by_option, by_bool}
 use Rattle.iox2_laws.proofs.Puts.{put_at-same, put_at-other, at_each, found_put}
-use Rattle.iox2_laws.proofs.MailboxLemmas.{IsWithin-dropped, contains_in_dropped, has_numbers_dropped, has_numbers-borrows}
+use Rattle.iox2_laws.proofs.MailboxLemmas.{IsWithin-dropped, contains_in_dropped, has_numbers_dropped, has_numbers-borrows, OthersWithin-dropped}
 use Rattle.iox2_laws.proofs.ReleaseLaws.{Shrinks, shrinks_same, ReceiversAgree, receivers_keep, subscriber_keeps}
 use Rattle.iox2_laws.proofs.ReceiverSides.{ReceiverSideIsWellFormed, receiver_side_begins, connect_at_place_keeps, disconnect_at_place_keeps}
 use Rattle.iox2_laws.proofs.Walks.{for_each_place_keeps}
@@ -26,6 +26,7 @@ pub shrinks_dropped : (limit borrow_limit : ℕ) (box : Mailbox) → IsWithin li
 shrinks_dropped limit borrow_limit box w = record {
   within = IsWithin-dropped limit borrow_limit box w;
   waiting = omega arith;
+  others = λ channels buffer _. OthersWithin-dropped channels buffer box;
   numbers = contains_in_dropped box;
   some = λ h. has_numbers-borrows box (sym (has_numbers_dropped box) ∙ h);
 }

@@ -79,18 +79,18 @@ module _ {T U : Type 0} where
       Same : Type 0
       Same = s'.subscribers ≡ s.subscribers
 
-  goes_on_subscribers : (environment : Environment) (s : State T U) (p n retries : ℕ) (elapsed : Duration) (place : ℕ) (ends : List (Option ℕ)) (count : ℕ) (has_failed : Bool) (s' : State T U)
-      (result : SendResult) → DeliverAndConclude environment s p n retries elapsed place ends count has_failed s' result → s'.subscribers ≡ s.subscribers
-  goes_on_subscribers environment s p n retries elapsed place ends count has_failed s' result h =
+  pub goes_on_subscribers : (environment : Environment) (s : State T U) (p n channel retries : ℕ) (elapsed : Duration) (place : ℕ) (ends : List (Option ℕ)) (count : ℕ) (has_failed : Bool) (s' : State T U)
+      (result : SendResult) → DeliverAndConclude environment s p n channel retries elapsed place ends count has_failed s' result → s'.subscribers ≡ s.subscribers
+  goes_on_subscribers environment s p n channel retries elapsed place ends count has_failed s' result h =
       by_option (s'.subscribers ≡ s.subscribers) (s.publishers p) _ _ h (λ _ v. absurd v) (λ x _ k. concluded_subscribers (with_mailboxes s p k.1) p n k.0 s' result k.3)
 
   pub retry_subscribers : (environment : Environment) (s : State T U) (p : ℕ) (b : BlockedSend) (elapsed : Duration) (s' : State T U) (result : SendResult)
       → Retry environment s p b elapsed s' result → s'.subscribers ≡ s.subscribers
-  retry_subscribers environment s p b elapsed = goes_on_subscribers environment s p b.message (more_retries b.retries) elapsed b.place b.ends b.count b.has_failed
+  retry_subscribers environment s p b elapsed = goes_on_subscribers environment s p b.message b.channel (more_retries b.retries) elapsed b.place b.ends b.count b.has_failed
 
   pub give_up_subscribers : (environment : Environment) (s : State T U) (p : ℕ) (b : BlockedSend) (s' : State T U) (result : SendResult)
       → GiveUp environment s p b s' result → s'.subscribers ≡ s.subscribers
-  give_up_subscribers environment s p b = goes_on_subscribers environment s p b.message 0 no_time (b.place + 1) (drop 1 b.ends) b.count b.has_failed
+  give_up_subscribers environment s p b = goes_on_subscribers environment s p b.message b.channel 0 no_time (b.place + 1) (drop 1 b.ends) b.count b.has_failed
 
   -- ---- a subscriber's update, and a receive
 

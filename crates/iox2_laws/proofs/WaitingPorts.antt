@@ -1,6 +1,6 @@
 -- What the creation of a subscriber does to the number of messages that wait.
 use Rattle.std.proofs.Common.{◌≡◌, ℕ, suc, ◌+◌, ◌≤◌, ◌<◌, true, List, [], ◌∷◌, length, refl, sym, ap, subst, ◌∙◌, arith, Option, None, Some, inl, inr}
-use Rattle.std.specs.Prelude.{not, ◌&&◌, ◌≢◌}
+use Rattle.std.specs.Prelude.{not, ◌≢◌}
 use Rattle.std.proofs.lemmas.Bool.{cases_eq, ne_eqb}
 use Rattle.std.proofs.lemmas.Option.{none-some}
 use Rattle.iox2_store.specs.machine.Numbers.{is_nil}
@@ -17,13 +17,14 @@ use Rattle.iox2_laws.proofs.CallCases.{subscriber_cases}
 use Rattle.iox2_laws.proofs.Puts.{put_at-other}
 use Rattle.iox2_laws.proofs.WaitingCounts.{SameWaits, same_itself, cond_le, same_from}
 use Rattle.iox2_laws.proofs.WaitingReceives.{UpdateWaits, update_subscriber_waits}
+use Rattle.iox2_laws.proofs.MailboxLemmas.{has_numbers-data}
 
 -- a mailbox has numbers, or nothing waits in it
 none_or_numbers : (box : Mailbox) (R : Type 0) → (has_numbers box ≡ true → R) → (waiting_count box ≡ 0 → R) → R
 none_or_numbers box R some none = at box.waiting refl where
   at : (ns : List ℕ) → box.waiting ≡ ns → R
   at [] e = none (ap length e)
-  at (n ∷ ns) e = some (ap (λ ms. not (is_nil ms && is_nil box.borrowed)) e)
+  at (n ∷ ns) e = some (has_numbers-data box (ap (λ ms. not (is_nil ms)) e))
 
 no_length : (ns : List ℕ) → length ns ≡ 0 → ns ≡ []
 no_length [] none = refl

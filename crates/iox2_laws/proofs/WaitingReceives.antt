@@ -408,8 +408,8 @@ kept_same test expired ends p passes = both_ways _ _ there back where
 
 -- a mailbox in which something waits has numbers
 some_waits : (box : Mailbox) → (box.waiting ≡ [] → ⊥) → has_numbers box ≡ true
-some_waits box some = at box.waiting some where
-  at : (ns : List ℕ) → (ns ≡ [] → ⊥) → not (is_nil ns && is_nil box.borrowed) ≡ true
+some_waits box some = has_numbers-data box (at box.waiting some) where
+  at : (ns : List ℕ) → (ns ≡ [] → ⊥) → not (is_nil ns) ≡ true
   at [] some = absurd (some refl)
   at (n ∷ ns) some = refl
 

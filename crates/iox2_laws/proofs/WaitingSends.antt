@@ -1,15 +1,15 @@
 -- What a publisher's update and a send do to the number of messages that wait.
-use Rattle.std.proofs.Common.{◌≡◌, ℕ, ◌+◌, ◌≤◌, Bool, true, false, cond, ◌||◌, List, [], ◌∷◌, ◌++◌, length, drop, refl, sym, ap, subst, ◌∙◌, arith, eqb, ◌⊎◌, inl, inr, ⊎_elim, nat_lt, Option, None, Some}
+use Rattle.std.proofs.Common.{zero, suc, ◌≡◌, ℕ, ◌+◌, ◌≤◌, Bool, true, false, cond, ◌||◌, List, [], ◌∷◌, ◌++◌, length, drop, refl, sym, ap, subst, ◌∙◌, arith, eqb, ◌⊎◌, inl, inr, ⊎_elim, nat_lt, Option, None, Some, take}
 use Rattle.std.proofs.lemmas.Bool.{ne_eqb, eq-eqb, eqb-true, cond_both, true≢false}
 use Rattle.std.proofs.lemmas.List.{length-append, length-drop}
 use Rattle.std.specs.declared.time.Duration.{Duration}
 use Rattle.std.specs.Option.{option_map, option_map_or}
 use Rattle.iox2_store.specs.machine.Numbers.{put_at, contains, without, last_n, IsOnce}
 use Rattle.iox2_store.specs.machine.Places.{occupants}
-use Rattle.iox2_store.specs.machine.Mailbox.{Mailbox, has_room, waiting_count, with_appended}
+use Rattle.iox2_store.specs.machine.Mailbox.{Mailbox, has_room, waiting_count, with_appended_in, has_room_in}
 use Rattle.iox2_store.specs.machine.Records.{Loan, Publisher, Subscriber, BlockedSend, Handler, Environment}
 use Rattle.iox2_store.specs.machine.State.{State, receiving_buffer, channel_buffer, has_receiver_end}
-use Rattle.iox2_store.specs.machine.Delivery.{PutResult, DeliveryEnd, Complete, Suspended, Put, Deliver, no_time, is_blocking, accepted_count, is_failed}
+use Rattle.iox2_store.specs.machine.Delivery.{PutResult, DeliveryEnd, Complete, Suspended, no_time, is_blocking, accepted_count, is_failed, PutIn, DeliverIn}
 use Rattle.iox2_store.specs.machine.Connections.{ForEachPlace}
 use Rattle.iox2_store.specs.machine.PublisherUpdate.{SenderSide, sender_side, history_for, UpdateSenderPlace, UpdatePublisher}
 use Rattle.iox2_store.specs.machine.Sends.{Send, Retry, GiveUp, Publish, DeliverAndConclude, ConcludeSend, SendResult, more_retries, with_mailboxes, published}
@@ -26,6 +26,7 @@ use Rattle.iox2_laws.proofs.MailboxWalks.{sender_side_keeps, deliver_keeps}
 use Rattle.iox2_laws.proofs.NumberLemmas.{length-last_n_le, contains_in_append, contains_one, contains_in_drop, contains_in_last_n}
 use Rattle.iox2_laws.proofs.PlaceLemmas.{IsOnce-occupants, once-behind}
 use Rattle.iox2_laws.proofs.WaitingCounts.{sum_more, cond_more, cond_both_among}
+use Rattle.iox2_laws.proofs.SendLaws.{injective_take, injective_drop}
 
 -- ---- one publisher's mailboxes change
 
@@ -75,8 +76,9 @@ module _ {T U : Type 0} where
 -- ---- a delivery
 
 -- a message that is put makes one more, or takes the oldest one's place
-appended_more : (buffer n : ℕ) (box : Mailbox) → waiting_count (with_appended buffer n box) ≤ waiting_count box + 1
-appended_more buffer n box =
+appended_more : (channel buffer n : ℕ) (box : Mailbox) → waiting_count (with_appended_in channel buffer n box) ≤ waiting_count box + 1
+appended_more (suc k) buffer n box = omega arith
+appended_more zero buffer n box =
     cond_both (has_room buffer box) box.waiting (drop 1 box.waiting) (λ ns. length (ns ++ n ∷ []) ≤ length box.waiting + 1)
     (λ _. omega (arith, length-append box.waiting (n ∷ [])))
     (λ _. omega (arith, length-append (drop 1 box.waiting) (n ∷ []), length-drop 1 box.waiting))
@@ -89,18 +91,18 @@ once_more false true a b c apart one other = omega arith
 once_more false false a b c apart one other = omega arith
 
 module _ (environment : Environment) (c : ServiceConfig) (p : ℕ) (strategy : BackpressureStrategy) (handler : Option (Handler BackpressureAction))
-    (buffers : ℕ → Option ℕ) (n : ℕ) where
+    (buffers : ℕ → Option ℕ) (n channel : ℕ) where
   put_more : (q retries : ℕ) (elapsed : Duration) (buffer : Option ℕ) (box : Mailbox) (result : PutResult) (box' : Mailbox)
-      → Put environment c p strategy handler buffers n q retries elapsed buffer box result box' → waiting_count box' ≤ waiting_count box + 1
+      → PutIn environment c p strategy handler buffers n channel q retries elapsed buffer box result box' → waiting_count box' ≤ waiting_count box + 1
   put_more q retries elapsed None box result box' h = subst (λ (b : Mailbox). waiting_count b ≤ waiting_count box + 1) (sym h.1) (omega arith)
   put_more q retries elapsed (Some buffer) box result box' h =
-      by_bool (waiting_count box' ≤ waiting_count box + 1) (has_room buffer box || c.enable_safe_overflow) _ _ h
-      (λ _ k. subst (λ (b : Mailbox). waiting_count b ≤ waiting_count box + 1) (sym k.1) (appended_more buffer n box))
+      by_bool (waiting_count box' ≤ waiting_count box + 1) (has_room_in channel buffer box || c.enable_safe_overflow) _ _ h
+      (λ _ k. subst (λ (b : Mailbox). waiting_count b ≤ waiting_count box + 1) (sym k.1) (appended_more channel buffer n box))
       (λ _ k. subst (λ (b : Mailbox). waiting_count b ≤ waiting_count box + 1) (sym k.1) (omega arith))
 
   deliver_more : (retries : ℕ) (elapsed : Duration) (place : ℕ) (ends : List (Option ℕ)) (count : ℕ) (has_failed : Bool) (boxes : ℕ → Mailbox)
       (how : DeliveryEnd) (boxes' : ℕ → Mailbox) → IsOnce (occupants ends)
-      → Deliver environment c p strategy handler buffers n retries elapsed place ends count has_failed boxes how boxes'
+      → DeliverIn environment c p strategy handler buffers n channel retries elapsed place ends count has_failed boxes how boxes'
       → (q : ℕ) → waiting_count (boxes' q) ≤ waiting_count (boxes q) + cond (contains (occupants ends) q) 1 0
   deliver_more retries elapsed place [] count has_failed boxes how boxes' once h q =
       subst (λ (bs : ℕ → Mailbox). waiting_count (bs q) ≤ waiting_count (boxes q) + 0) (sym h.1) (omega arith)
@@ -170,7 +172,7 @@ module _ {T U : Type 0} where
       let mid : State T U = published s p n in
       let after = concluded_ends s p n h.1 h.0 s' result x present h.3 in
       let few : waiting_count (h.1 q) ≤ waiting_count (s.mailboxes p q) + cond (contains (occupants x.ends) q) 1 0 =
-      deliver_more environment s.config p z.backpressure_strategy z.backpressure_handler (channel_buffer mid p 0) n 0 no_time 0 x.ends 0 false (s.mailboxes p) h.0 h.1
+      deliver_more environment s.config p z.backpressure_strategy z.backpressure_handler (channel_buffer mid p 0) n 0 0 no_time 0 x.ends 0 false (s.mailboxes p) h.0 h.1
       (subst (λ ends. IsOnce (occupants ends)) after.2 (IsOnce-occupants (after.0).ends (w.publishers p after.0 after.1).ends_apart)) h.2 q in
       let one : cond (contains (occupants x.ends) q) 1 0 ≤ 1 = at_most_one (contains (occupants x.ends) q) in
       let rows : waiting_for (with_mailboxes mid p h.1) q ≤ waiting_for mid q + 1 = row_more mid p h.1 q 1 (omega arith) in
@@ -192,13 +194,13 @@ module _ {T U : Type 0} where
 -- ---- a blocked send that goes on
 
 module _ {T U : Type 0} where
-  goes_on_waits : (environment : Environment) (s : State T U) (p n retries : ℕ) (elapsed : Duration) (place : ℕ) (ends : List (Option ℕ)) (count : ℕ) (has_failed : Bool) (s' : State T U)
-      (result : SendResult) → IsOnce (occupants ends) → DeliverAndConclude environment s p n retries elapsed place ends count has_failed s' result
+  goes_on_waits : (environment : Environment) (s : State T U) (p n channel retries : ℕ) (elapsed : Duration) (place : ℕ) (ends : List (Option ℕ)) (count : ℕ) (has_failed : Bool) (s' : State T U)
+      (result : SendResult) → IsOnce (occupants ends) → DeliverAndConclude environment s p n channel retries elapsed place ends count has_failed s' result
       → (q : ℕ) → waiting_for s' q ≤ waiting_for s q + 1
-  goes_on_waits environment s p n retries elapsed place ends count has_failed s' result once h q =
+  goes_on_waits environment s p n channel retries elapsed place ends count has_failed s' result once h q =
       by_option (waiting_for s' q ≤ waiting_for s q + 1) (s.publishers p) _ _ h (λ _ v. absurd v) (λ x _ k.
       let few : waiting_count (k.1 q) ≤ waiting_count (s.mailboxes p q) + cond (contains (occupants ends) q) 1 0 =
-      deliver_more environment s.config p x.backpressure_strategy x.backpressure_handler (channel_buffer s p 0) n retries elapsed place ends count has_failed (s.mailboxes p) k.0 k.1 once k.2 q in
+      deliver_more environment s.config p x.backpressure_strategy x.backpressure_handler (channel_buffer s p channel) n channel retries elapsed place ends count has_failed (s.mailboxes p) k.0 k.1 once k.2 q in
       let one : cond (contains (occupants ends) q) 1 0 ≤ 1 = at_most_one (contains (occupants ends) q) in
       let rows : waiting_for (with_mailboxes s p k.1) q ≤ waiting_for s q + 1 = row_more s p k.1 q 1 (omega arith) in
       let same : waiting_for s' q ≡ waiting_for (with_mailboxes s p k.1) q = concluded_waits (with_mailboxes s p k.1) p n k.0 s' result k.3 q in
@@ -208,18 +210,20 @@ module _ {T U : Type 0} where
   remain_once : (s : State T U) (p : ℕ) (x : Publisher) (b : BlockedSend) → IsWellFormed s → s.publishers p ≡ Some x → x.blocked ≡ Some b → IsOnce (occupants b.ends)
   remain_once s p x b w stands waits =
       let port = w.publishers p x stands in
-      subst (λ (ends : List (Option ℕ)). IsOnce (occupants ends)) (sym (port.blocked b waits).ends) (once-behind b.place x.ends (IsOnce-occupants x.ends port.ends_apart))
+      let from = (port.blocked b waits).ends in
+      subst (λ (ends : List (Option ℕ)). IsOnce (occupants ends)) (sym from.1)
+      (IsOnce-occupants (take from.0 (drop b.place x.ends)) (injective_take from.0 (drop b.place x.ends) (injective_drop b.place x.ends port.ends_apart)))
 
   -- at most one more, since those that took the message aren't served again
   pub retry_adds : (environment : Environment) (s : State T U) (p : ℕ) (x : Publisher) (b : BlockedSend) (elapsed : Duration) (s' : State T U) (result : SendResult) → IsWellFormed s
       → s.publishers p ≡ Some x → x.blocked ≡ Some b → Retry environment s p b elapsed s' result → (q : ℕ) → waiting_for s' q ≤ waiting_for s q + 1
   retry_adds environment s p x b elapsed s' result w stands waits =
-      goes_on_waits environment s p b.message (more_retries b.retries) elapsed b.place b.ends b.count b.has_failed s' result (remain_once s p x b w stands waits)
+      goes_on_waits environment s p b.message b.channel (more_retries b.retries) elapsed b.place b.ends b.count b.has_failed s' result (remain_once s p x b w stands waits)
 
   pub give_up_adds : (environment : Environment) (s : State T U) (p : ℕ) (x : Publisher) (b : BlockedSend) (s' : State T U) (result : SendResult) → IsWellFormed s
       → s.publishers p ≡ Some x → x.blocked ≡ Some b → GiveUp environment s p b s' result → (q : ℕ) → waiting_for s' q ≤ waiting_for s q + 1
   give_up_adds environment s p x b s' result w stands waits =
-      goes_on_waits environment s p b.message 0 no_time (b.place + 1) (drop 1 b.ends) b.count b.has_failed s' result (once-behind 1 b.ends (remain_once s p x b w stands waits))
+      goes_on_waits environment s p b.message b.channel 0 no_time (b.place + 1) (drop 1 b.ends) b.count b.has_failed s' result (once-behind 1 b.ends (remain_once s p x b w stands waits))
 
 -- ---- which messages a send adds, where no history is kept
 
@@ -274,7 +278,7 @@ module _ {T U : Type 0} where
       let mid : State T U = published s p n in
       let rows : (j : ℕ) → contains (h.1 j).waiting k ≡ true → (k ≡ n) ⊎ (contains (s.mailboxes p j).waiting k ≡ true) =
       (deliver_keeps (λ j box. contains box.waiting k ≡ true → (k ≡ n) ⊎ (contains (s.mailboxes p j).waiting k ≡ true)) (λ j box old at. absurd (true≢false (sym at)))
-      environment s.config p z.backpressure_strategy z.backpressure_handler (channel_buffer mid p 0) n
+      environment s.config p z.backpressure_strategy z.backpressure_handler (channel_buffer mid p 0) n 0
       (λ j buffer box old at. ⊎_elim (λ new. inl new) old (appended_among buffer n box.waiting k at)) 0 no_time 0 x.ends 0 false (s.mailboxes p) h.0 h.1 (λ j at. inr at) h.2).0 in
       row_among mid p h.1 (λ m. m ≡ n) i q k (rows q)
       (sym (concluded_from (with_mailboxes mid p h.1) p n h.0 s' result h.3 i q k) ∙ at)))

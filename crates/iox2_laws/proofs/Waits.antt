@@ -284,10 +284,10 @@ module _ (Spared : ℕ → Type 0) where
           subst (Waits Spared s) (sym h.0) (publisher_changed_waits s p (λ x. record x { blocked = Some b })
           (λ x. record { place = refl; strategy = refl; handler = refl; degradation = refl; blocked = λ apart. absurd (apart spared) }))
 
-      pub delivered_waits : (environment : Environment) (s : State T U) (n retries : ℕ) (elapsed : Duration) (place : ℕ) (ends : List (Option ℕ)) (count : ℕ)
+      pub delivered_waits : (environment : Environment) (s : State T U) (n channel retries : ℕ) (elapsed : Duration) (place : ℕ) (ends : List (Option ℕ)) (count : ℕ)
           (has_failed : Bool) (s' : State T U) (result : SendResult)
-          → DeliverAndConclude environment s p n retries elapsed place ends count has_failed s' result → Waits Spared s s'
-      delivered_waits environment s n retries elapsed place ends count has_failed s' result h =
+          → DeliverAndConclude environment s p n channel retries elapsed place ends count has_failed s' result → Waits Spared s s'
+      delivered_waits environment s n channel retries elapsed place ends count has_failed s' result h =
           by_option (Waits Spared s s') (s.publishers p) _ _ h (λ _ v. absurd v) (λ x present h.
           let mid : State T U = with_mailboxes s p h.1 in
           waits_trans s mid s' (same_ports s mid refl refl refl) (concluded_waits mid n h.0 s' result h.3))
@@ -296,14 +296,14 @@ module _ (Spared : ℕ → Type 0) where
       publish_waits environment s n s' result h =
           by_option (Waits Spared s s') (s.publishers p) _ _ h (λ _ v. absurd v) (λ x present h.
           let mid : State T U = published s p n in
-          waits_trans s mid s' (published_waits s p n) (delivered_waits environment mid n 0 no_time 0 x.ends 0 false s' result h))
+          waits_trans s mid s' (published_waits s p n) (delivered_waits environment mid n 0 0 no_time 0 x.ends 0 false s' result h))
 
       pub retry_waits : (environment : Environment) (s : State T U) (b : BlockedSend) (elapsed : Duration) (s' : State T U) (result : SendResult)
           → Retry environment s p b elapsed s' result → Waits Spared s s'
-      retry_waits environment s b elapsed s' result = delivered_waits environment s b.message (more_retries b.retries) elapsed b.place b.ends b.count b.has_failed s' result
+      retry_waits environment s b elapsed s' result = delivered_waits environment s b.message b.channel (more_retries b.retries) elapsed b.place b.ends b.count b.has_failed s' result
 
       pub give_up_waits : (environment : Environment) (s : State T U) (b : BlockedSend) (s' : State T U) (result : SendResult) → GiveUp environment s p b s' result → Waits Spared s s'
-      give_up_waits environment s b s' result = delivered_waits environment s b.message 0 no_time _ _ b.count b.has_failed s' result
+      give_up_waits environment s b s' result = delivered_waits environment s b.message b.channel 0 no_time _ _ b.count b.has_failed s' result
 
     pub send_waits : (environment : Environment) (s : State T U) (n : ℕ) (l : Loan T U) → Spared l.publisher → (s' : State T U) (result : SendResult) → Send environment s n l s' result → Waits Spared s s'
     send_waits environment s n l spared s' result h =

@@ -97,7 +97,7 @@ module _ {T U F G : Type 0} {boxes : DomainBoxes F G} (f g : Fields T U) (kept :
         subscribers = λ q y at is_open _. remain.subscribers q y at is_open;
       })
       (λ k loan at _. ap (λ (all : ℕ → Option (Loan T U)). all k) loans ∙ at)
-      (λ i j k at _. ap (λ (ns : List ℕ). is_borrowed k (record { waiting = []; borrowed = ns })) (remain.borrowed i j) ∙ at) waits goes-on (same-boxes f g kept view)
+      (λ i j k at _. ap (λ (ns : List ℕ). is_borrowed k (record { waiting = []; borrowed = ns; others = [] })) (remain.borrowed i j) ∙ at) waits goes-on (same-boxes f g kept view)
 
   -- the publisher is the one whose send is blocked
   spared-on : (x : Publisher) (b : BlockedSend) → s.publishers p ≡ Some x → x.blocked ≡ Some b

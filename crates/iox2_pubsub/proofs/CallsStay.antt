@@ -24,7 +24,7 @@ use Rattle.iox2_store.specs.declared.key.Key.{Key}
 use Rattle.iox2_laws.proofs.Cases.{by_option}
 use Rattle.iox2_laws.proofs.LoanKeeping.{create_publisher_loans, create_subscriber_loans, receive_loans, released_loans, send_loans}
 use Rattle.iox2_laws.proofs.NextLoan.{loan_next}
-use Rattle.iox2_laws.proofs.NumberLemmas.{IsOnce-apart, contains_first, contains_right}
+use Rattle.iox2_laws.proofs.NumberLemmas.{IsOnce-apart, contains_first}
 use Rattle.iox2_laws.proofs.PortsStay.{PortsStay, Remain, ports_stay_themselves, create_publisher_stays, create_subscriber_stays, grant_loan_stays, loan_set_stays, send_stays, update_subscriber_stays}
 use Rattle.iox2_laws.proofs.Puts.{put_at-other, put_at-same}
 use Rattle.iox2_laws.proofs.SendsRemain.{send_remains}
@@ -47,6 +47,7 @@ use Rattle.iox2_pubsub.proofs.LiveParts.{publisher-parts, subscriber-parts, loan
 use Rattle.iox2_pubsub.proofs.SliceParts.{cells-parts, values-parts}
 use Rattle.iox2_pubsub.proofs.StaysBut.{BoxesStayBut, IsSpared, PortsRemainBut, SamplesStayBut, ports-remain, stays-between, none-spared, SparedPublishers}
 use Rattle.iox2_pubsub.proofs.UnfailedSends.{IsMild, HasNotFailed, blocked-unfailed}
+use Rattle.iox2_laws.proofs.MailboxLemmas.{contains_borrowed}
 
 -- a domain shows some state
 pub always-shown : {T U F G : Type 0} {boxes : DomainBoxes F G} (f : Fields T U) (kept : Kept T U F G) → IsDomain f → keeping boxes f ≡ kept → (m : Messages T U) × (s : State T U) × Shows kept m s
@@ -104,7 +105,7 @@ one-origin {T} {U} kept m s shown p p' q q' n here there =
     sym a.2 ∙ ap (λ (e : Entry T U). (e.header).publisher_id) same ∙ b.2
   where
     entry : (i j : ℕ) → is_borrowed n ((state_of kept).mailboxes i j) ≡ true → (e : Entry T U) × (entries_of kept n ≡ Some e) × ((e.header).publisher_id ≡ i)
-    entry i j borrowed = shown.complete i n (In_mailbox j (contains_right ((state_of kept).mailboxes i j).waiting ((state_of kept).mailboxes i j).borrowed n borrowed))
+    entry i j borrowed = shown.complete i n (In_mailbox j (contains_borrowed ((state_of kept).mailboxes i j) n borrowed))
 
 module _ {T U F G : Type 0} (old new : Kept T U F G) (m : Messages T U) (s : State T U) (shown : Shows old m s) where
   -- ports, loans and samples stay
@@ -242,7 +243,7 @@ module _ {T U F G : Type 0} (old new : Kept T U F G) (m : Messages T U) (s : Sta
 
     sent-borrowed : (spent : Item) → SamplesStayBut spent s s'
     sent-borrowed spent p q k at other =
-        ap (λ (ns : List ℕ). is_borrowed k (record { waiting = []; borrowed = ns })) ((send_remains environment s n l s' result h).borrowed p q) ∙ at
+        ap (λ (ns : List ℕ). is_borrowed k (record { waiting = []; borrowed = ns; others = [] })) ((send_remains environment s n l s' result h).borrowed p q) ∙ at
 
     -- where it isn't blocked, so does its own
     unblocked-waits : (Spared : ℕ → Type 0) → (result ≡ Blocked_send → ⊥) → ((x : Publisher) → s.publishers l.publisher ≡ Some x → x.blocked ≡ None) → Waits Spared s s'

@@ -61,7 +61,7 @@ module _ {T U F G : Type 0} (old new : Kept T U F G) (m : Messages T U) (s : Sta
   -- what is borrowed is told from what is borrowed in the mailboxes
   still-borrowed : (s' : State T U) → ((p q : ℕ) → (s'.mailboxes p q).borrowed ≡ (s.mailboxes p q).borrowed) → (p q n : ℕ) → is_borrowed n (s.mailboxes p q) ≡ true
       → is_borrowed n (s'.mailboxes p q) ≡ true
-  still-borrowed s' same p q n at = ap (λ (ns : List ℕ). is_borrowed n (record { waiting = []; borrowed = ns })) (same p q) ∙ at
+  still-borrowed s' same p q n at = ap (λ (ns : List ℕ). is_borrowed n (record { waiting = []; borrowed = ns; others = [] })) (same p q) ∙ at
 
   module _ (x : Publisher) (shown' : Shows new m (publisher_closed s id x)) where
     -- all but the publisher stays

@@ -222,27 +222,27 @@ module _ {T U : Type 0} where
 
   -- ---- blocked sends
 
-  goes-on-ends : (environment : Environment) (s : State T U) (p n retries : ℕ) (elapsed : Duration) (place : ℕ) (ends : List (Option ℕ)) (count : ℕ) (has_failed : Bool) (s' : State T U)
-      (result : SendResult) → DeliverAndConclude environment s p n retries elapsed place ends count has_failed s' result → EndsStay s s'
-  goes-on-ends environment s p n retries elapsed place ends count has_failed s' result h =
+  goes-on-ends : (environment : Environment) (s : State T U) (p n channel retries : ℕ) (elapsed : Duration) (place : ℕ) (ends : List (Option ℕ)) (count : ℕ) (has_failed : Bool) (s' : State T U)
+      (result : SendResult) → DeliverAndConclude environment s p n channel retries elapsed place ends count has_failed s' result → EndsStay s s'
+  goes-on-ends environment s p n channel retries elapsed place ends count has_failed s' result h =
       by_option (EndsStay s s') (s.publishers p) _ _ h (λ _ v. absurd v) (λ x _ k. concluded-ends s p n k.1 k.0 s' result k.3)
 
-  goes-on-channels : (environment : Environment) (s : State T U) (p n retries : ℕ) (elapsed : Duration) (place : ℕ) (ends : List (Option ℕ)) (count : ℕ) (has_failed : Bool) (s' : State T U)
-      (result : SendResult) → DeliverAndConclude environment s p n retries elapsed place ends count has_failed s' result → s'.channels ≡ s.channels
-  goes-on-channels environment s p n retries elapsed place ends count has_failed s' result h =
+  goes-on-channels : (environment : Environment) (s : State T U) (p n channel retries : ℕ) (elapsed : Duration) (place : ℕ) (ends : List (Option ℕ)) (count : ℕ) (has_failed : Bool) (s' : State T U)
+      (result : SendResult) → DeliverAndConclude environment s p n channel retries elapsed place ends count has_failed s' result → s'.channels ≡ s.channels
+  goes-on-channels environment s p n channel retries elapsed place ends count has_failed s' result h =
       by_option (s'.channels ≡ s.channels) (s.publishers p) _ _ h (λ _ v. absurd v) (λ x _ k. concluded-channels s p n k.1 k.0 s' result k.3)
 
   pub retry-connections : (environment : Environment) (s : State T U) (p : ℕ) (b : BlockedSend) (elapsed : Duration) (s' : State T U) (result : SendResult)
       → Retry environment s p b elapsed s' result → ConnectsStay s s'
   retry-connections environment s p b elapsed s' result h =
-      same-connections s s' (goes-on-ends environment s p b.message (more_retries b.retries) elapsed b.place b.ends b.count b.has_failed s' result h) (retry_subscribers environment s p b elapsed s' result h)
-      (goes-on-channels environment s p b.message (more_retries b.retries) elapsed b.place b.ends b.count b.has_failed s' result h)
+      same-connections s s' (goes-on-ends environment s p b.message b.channel (more_retries b.retries) elapsed b.place b.ends b.count b.has_failed s' result h) (retry_subscribers environment s p b elapsed s' result h)
+      (goes-on-channels environment s p b.message b.channel (more_retries b.retries) elapsed b.place b.ends b.count b.has_failed s' result h)
 
   pub give-up-connections : (environment : Environment) (s : State T U) (p : ℕ) (b : BlockedSend) (s' : State T U) (result : SendResult)
       → GiveUp environment s p b s' result → ConnectsStay s s'
   give-up-connections environment s p b s' result h =
-      same-connections s s' (goes-on-ends environment s p b.message 0 no_time (b.place + 1) (drop 1 b.ends) b.count b.has_failed s' result h) (give_up_subscribers environment s p b s' result h)
-      (goes-on-channels environment s p b.message 0 no_time (b.place + 1) (drop 1 b.ends) b.count b.has_failed s' result h)
+      same-connections s s' (goes-on-ends environment s p b.message b.channel 0 no_time (b.place + 1) (drop 1 b.ends) b.count b.has_failed s' result h) (give_up_subscribers environment s p b s' result h)
+      (goes-on-channels environment s p b.message b.channel 0 no_time (b.place + 1) (drop 1 b.ends) b.count b.has_failed s' result h)
 
   -- ---- a subscriber's update, and a receive
 

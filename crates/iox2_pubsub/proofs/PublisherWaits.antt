@@ -11,8 +11,8 @@ use Rattle.iox2_store.specs.machine.WellFormed.{IsWellFormed}
 use Rattle.iox2_store.specs.declared.errors.SendError.{SendError}
 use Rattle.iox2_domain.specs.Kept.{Kept, state_of, entries_of}
 use Rattle.iox2_domain.specs.Shows.{Shows}
-use Rattle.iox2_laws.proofs.MailboxLemmas.{has_numbers-contains}
-use Rattle.iox2_laws.proofs.NumberLemmas.{contains_first, contains_left}
+use Rattle.iox2_laws.proofs.MailboxLemmas.{has_numbers-contains, contains_waiting_in}
+use Rattle.iox2_laws.proofs.NumberLemmas.{contains_first}
 use Rattle.iox2_laws.proofs.WaitingCounts.{cond_among, sum_part}
 use Rattle.iox2_pubsub.specs.Live.{AllFrom, AreAllSlices, HasItsBuffer, IsServed, LeavesLater, TakesFirst, TakesOldest, payloads, payloads_from, waiting, sample_key}
 use Rattle.iox2_pubsub.specs.Payloads.{payload_of}
@@ -57,7 +57,7 @@ module _ {T U F G : Type 0} (kept : Kept T U F G) (well : IsWellFormed (state_of
       (λ some. inr (
       (well.mailboxes p q).known
       (has_numbers-contains ((state_of kept).mailboxes p q) some.0
-      (contains_left ((state_of kept).mailboxes p q).waiting ((state_of kept).mailboxes p q).borrowed some.0 (cond_among _ ((state_of kept).mailboxes p q).waiting some.0 some.1)))
+      (contains_waiting_in 0 ((state_of kept).mailboxes p q) some.0 (cond_among _ ((state_of kept).mailboxes p q).waiting some.0 some.1)))
       ).0)
       (some-or-none (waiting_from (state_of kept) p q))
 

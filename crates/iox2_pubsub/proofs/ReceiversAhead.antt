@@ -8,7 +8,7 @@ use Rattle.std.specs.declared.time.Duration.{Duration}
 use Rattle.iox2_store.specs.machine.Mailbox.{Mailbox}
 use Rattle.iox2_store.specs.machine.Records.{Environment, Handler, Publisher, BlockedSend}
 use Rattle.iox2_store.specs.machine.State.{State, channel_buffer}
-use Rattle.iox2_store.specs.machine.Delivery.{Deliver, DeliveryEnd, Complete, Suspended, accepted_count, is_blocking, is_failed, no_time}
+use Rattle.iox2_store.specs.machine.Delivery.{DeliverIn, DeliveryEnd, Complete, Suspended, accepted_count, is_blocking, is_failed, no_time}
 use Rattle.iox2_store.specs.machine.Sends.{Retry, GiveUp, SendResult, Delivered_to, Blocked_send, Send_error, DeliverAndConclude, ConcludeSend, with_mailboxes, more_retries}
 use Rattle.iox2_store.specs.machine.SingleCalls.{HoldsBlocked}
 use Rattle.iox2_store.specs.declared.backpressure.BackpressureAction.{BackpressureAction}
@@ -27,15 +27,15 @@ use Rattle.iox2_pubsub.specs.declared.blocked_send.BlockedSend.{BlockedSend as H
 use Rattle.iox2_pubsub.specs.declared.send_outcome.SendOutcome.{SendOutcome}
 use Rattle.iox2_pubsub.specs.declared.send_outcome.SendOutcome.TheVariants.{Delivered, Blocked}
 
-module _ (e : Environment) (c : ServiceConfig) (p : ℕ) (strategy : BackpressureStrategy) (handler : Option (Handler BackpressureAction)) (buffers : ℕ → Option ℕ) (n : ℕ) where
+module _ (e : Environment) (c : ServiceConfig) (p : ℕ) (strategy : BackpressureStrategy) (handler : Option (Handler BackpressureAction)) (buffers : ℕ → Option ℕ) (n channel : ℕ) where
   -- a suspended delivery waits at one of its ends
   suspended-at : (retries : ℕ) (elapsed : Duration) (place : ℕ) (ends : List (Option ℕ)) (count : ℕ) (has_failed : Bool) (boxes : ℕ → Mailbox) (b : BlockedSend) (boxes' : ℕ → Mailbox)
-      → Deliver e c p strategy handler buffers n retries elapsed place ends count has_failed boxes (Suspended b) boxes' → (0 < length b.ends) × (length b.ends ≤ length ends)
+      → DeliverIn e c p strategy handler buffers n channel retries elapsed place ends count has_failed boxes (Suspended b) boxes' → (0 < length b.ends) × (length b.ends ≤ length ends)
   suspended-at retries elapsed place [] count has_failed boxes b boxes' h = absurd (let no : Suspended b ≡ Complete count has_failed = h.0 in cc)
   suspended-at retries elapsed place (end ∷ rest) count has_failed boxes b boxes' h =
       by_bool ((0 < length b.ends) × (length b.ends ≤ length (end ∷ rest))) (is_blocking h.0) _ _ h.3
       (λ _ k.
-      let stop : BlockedSend = record { message = n; place = place; ends = end ∷ rest; retries = retries; count = count; has_failed = has_failed } in
+      let stop : BlockedSend = record { message = n; channel = channel; place = place; ends = end ∷ rest; retries = retries; count = count; has_failed = has_failed } in
       let same : Suspended b ≡ Suspended stop = k.0 in
       let is : b ≡ stop = cc in
       let long : length b.ends ≡ length (end ∷ rest) = ap (λ (v : BlockedSend). length v.ends) is in
@@ -69,14 +69,14 @@ module _ {T U : Type 0} where
       let has = at b refl in
       (omega (arith, ahead, has.0), omega (arith, ahead, has.1))
 
-  delivered-ahead : (environment : Environment) (s : State T U) (p n retries : ℕ) (elapsed : Duration) (place : ℕ) (ends : List (Option ℕ)) (count : ℕ)
+  delivered-ahead : (environment : Environment) (s : State T U) (p n channel retries : ℕ) (elapsed : Duration) (place : ℕ) (ends : List (Option ℕ)) (count : ℕ)
       (has_failed : Bool) (s' : State T U) (result : SendResult)
-      → DeliverAndConclude environment s p n retries elapsed place ends count has_failed s' result → result ≡ Blocked_send → IsAhead s' p (length ends)
-  delivered-ahead environment s p n retries elapsed place ends count has_failed s' result h is =
+      → DeliverAndConclude environment s p n channel retries elapsed place ends count has_failed s' result → result ≡ Blocked_send → IsAhead s' p (length ends)
+  delivered-ahead environment s p n channel retries elapsed place ends count has_failed s' result h is =
       by_option (IsAhead s' p (length ends)) (s.publishers p) _ _ h (λ _ v. absurd v) (λ x present h.
       concluded-ahead (with_mailboxes s p h.1) p n x present (length ends) h.0 s' result
-      (λ b e. suspended-at environment s.config p x.backpressure_strategy x.backpressure_handler (channel_buffer s p 0) n retries elapsed place ends count has_failed (s.mailboxes p) b h.1
-      (subst (λ (how : DeliveryEnd). Deliver environment s.config p x.backpressure_strategy x.backpressure_handler (channel_buffer s p 0) n retries elapsed place ends count has_failed (s.mailboxes p) how h.1) e h.2))
+      (λ b e. suspended-at environment s.config p x.backpressure_strategy x.backpressure_handler (channel_buffer s p channel) n channel retries elapsed place ends count has_failed (s.mailboxes p) b h.1
+      (subst (λ (how : DeliveryEnd). DeliverIn environment s.config p x.backpressure_strategy x.backpressure_handler (channel_buffer s p channel) n channel retries elapsed place ends count has_failed (s.mailboxes p) how h.1) e h.2))
       h.3 is)
 
   -- ---- seen from outside
@@ -95,14 +95,14 @@ module _ {T U : Type 0} where
     unfolding receivers_ahead
     retry-no-more elapsed h =
         let b = held.1 in
-        let has = now-ahead (length b.ends) (delivered-ahead environment s blocked.loan.publisher b.message (more_retries b.retries) elapsed b.place b.ends b.count b.has_failed s' result h waits) in
+        let has = now-ahead (length b.ends) (delivered-ahead environment s blocked.loan.publisher b.message b.channel (more_retries b.retries) elapsed b.place b.ends b.count b.has_failed s' result h waits) in
         omega (arith, has.1, was-ahead)
 
     pub give-up-fewer : GiveUp environment s blocked.loan.publisher held.1 s' result → receivers_ahead new blocked < receivers_ahead old blocked
     unfolding receivers_ahead
     give-up-fewer h =
         let b = held.1 in
-        let has = now-ahead (length (drop 1 b.ends)) (delivered-ahead environment s blocked.loan.publisher b.message 0 no_time (b.place + 1) (drop 1 b.ends) b.count b.has_failed s' result h waits) in
+        let has = now-ahead (length (drop 1 b.ends)) (delivered-ahead environment s blocked.loan.publisher b.message b.channel 0 no_time (b.place + 1) (drop 1 b.ends) b.count b.has_failed s' result h waits) in
         let fewer = shorter b.ends (places_ahead (state_of new) blocked.loan.publisher) has.0 has.1 in
         omega (arith, fewer, was-ahead)
 

@@ -13,7 +13,6 @@ use Rattle.iox2_store.specs.declared.service_config.ServiceConfig.{ServiceConfig
 use Rattle.iox2_laws.proofs.PortsStay.{Remain}
 use Rattle.iox2_laws.proofs.Waits.{Waits}
 use Rattle.iox2_store.specs.Stored.{In_mailbox}
-use Rattle.iox2_laws.proofs.NumberLemmas.{contains_right}
 use Rattle.iox2_domain.specs.Boxes.{DomainBoxes, box_of, boxes_of, degradation_box_of}
 use Rattle.iox2_domain.specs.declared.boxes.PortBox.{PortBox}
 use Rattle.iox2_domain.specs.declared.boxes.PortBoxes.{PortBoxes}
@@ -30,6 +29,7 @@ use Rattle.iox2_pubsub.specs.declared.sample.Sample.{Sample}
 use Rattle.iox2_pubsub.specs.declared.sample_mut.SampleMut.{SampleMut}
 use Rattle.iox2_pubsub.specs.declared.sample_mut_uninit.SampleMutUninit.{SampleMutUninit}
 use Rattle.iox2_pubsub.specs.declared.subscriber.Subscriber.{Subscriber as SubscriberHandle}
+use Rattle.iox2_laws.proofs.MailboxLemmas.{contains_borrowed}
 
 module _ {T U : Type 0} where
   -- the settings stay, and the ports, but for the item
@@ -384,7 +384,7 @@ stays-between {T} {U} spent old new m m' s s' shown shown' sent remain loans sam
   where
     entries : (n p q : ℕ) (entry : Entry T U) → entries_of old n ≡ Some entry → is_borrowed n ((state_of new).mailboxes p q) ≡ true → entries_of new n ≡ Some entry
     entries n p q entry at borrowed =
-        let kept = shown'.complete p n (In_mailbox q (contains_right ((state_of new).mailboxes p q).waiting ((state_of new).mailboxes p q).borrowed n borrowed)) in
+        let kept = shown'.complete p n (In_mailbox q (contains_borrowed ((state_of new).mailboxes p q) n borrowed)) in
         let both : Some kept.0 ≡ Some entry = sym (shown'.entries n kept.0 kept.1) ∙ sent n entry (shown.entries n entry at) in
         kept.1 ∙ both
 

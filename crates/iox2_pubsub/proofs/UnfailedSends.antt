@@ -3,11 +3,11 @@ use Rattle.std.proofs.Common.{◌≡◌, ◌⊎◌, inl, inr, ℕ, ◌<◌, ◌+
 use Rattle.std.proofs.lemmas.Option.{same_Some}
 use Rattle.std.specs.Option.{option_map}
 use Rattle.std.specs.declared.time.Duration.{Duration}
-use Rattle.iox2_store.specs.machine.Mailbox.{Mailbox, has_room}
+use Rattle.iox2_store.specs.machine.Mailbox.{Mailbox, has_room_in}
 use Rattle.iox2_store.specs.machine.Numbers.{without}
 use Rattle.iox2_store.specs.machine.Records.{BlockedSend, Environment, Handler, Loan, Publisher}
 use Rattle.iox2_store.specs.machine.State.{State, channel_buffer}
-use Rattle.iox2_store.specs.machine.Delivery.{Deliver, DeliveryEnd, Complete, Suspended, PutResult, Put, PutAtEnd, accepted_count, is_blocking, is_failed, no_time}
+use Rattle.iox2_store.specs.machine.Delivery.{DeliverIn, DeliveryEnd, Complete, Suspended, PutResult, PutIn, PutAtEndIn, accepted_count, is_blocking, is_failed, no_time}
 use Rattle.iox2_store.specs.machine.Sends.{Send, Retry, GiveUp, SendResult, Delivered_to, Blocked_send, Send_error, ConcludeSend, DeliverAndConclude, more_retries, with_mailboxes, published}
 use Rattle.iox2_store.specs.declared.backpressure.BackpressureAction.{BackpressureAction}
 use Rattle.iox2_store.specs.declared.backpressure.BackpressureAction.TheVariants as actions
@@ -27,24 +27,24 @@ abbrev FailedAt : DeliveryEnd → Bool
 FailedAt (Complete took failed) = failed
 FailedAt (Suspended b) = b.has_failed
 
-module _ (e : Environment) (c : ServiceConfig) (p : ℕ) (strategy : BackpressureStrategy) (handler : Option (Handler BackpressureAction)) (buffers : ℕ → Option ℕ) (n : ℕ)
+module _ (e : Environment) (c : ServiceConfig) (p : ℕ) (strategy : BackpressureStrategy) (handler : Option (Handler BackpressureAction)) (buffers : ℕ → Option ℕ) (n channel : ℕ)
     (mild : (c.enable_safe_overflow ≡ true) ⊎ (may_fail handler ≡ false)) where
   put-unfailed : may_fail handler ≡ false → (q retries : ℕ) (elapsed : Duration) (buffer : Option ℕ) (box : Mailbox) (result : PutResult) (box' : Mailbox)
-      → Put e c p strategy handler buffers n q retries elapsed buffer box result box' → is_failed result ≡ false
+      → PutIn e c p strategy handler buffers n channel q retries elapsed buffer box result box' → is_failed result ≡ false
   put-unfailed none q retries elapsed None box result box' h = ap is_failed h.0
   put-unfailed none q retries elapsed (Some buffer) box result box' h =
-      by_bool (is_failed result ≡ false) (has_room buffer box || c.enable_safe_overflow) _ _ h (λ _ k. ap is_failed k.0) (λ _ k. decides-passes e p strategy handler none _ result k.0)
+      by_bool (is_failed result ≡ false) (has_room_in channel buffer box || c.enable_safe_overflow) _ _ h (λ _ k. ap is_failed k.0) (λ _ k. decides-passes e p strategy handler none _ result k.0)
 
   end-unfailed : (retries : ℕ) (elapsed : Duration) (end : Option ℕ) (boxes : ℕ → Mailbox) (result : PutResult) (boxes' : ℕ → Mailbox)
-      → PutAtEnd e c p strategy handler buffers n retries elapsed end boxes result boxes' → is_failed result ≡ false
+      → PutAtEndIn e c p strategy handler buffers n channel retries elapsed end boxes result boxes' → is_failed result ≡ false
   end-unfailed retries elapsed None boxes result boxes' h = ap is_failed h.0
   end-unfailed retries elapsed (Some q) boxes result boxes' h = elim mild [
-    | inl over ↦ (end-passes e c p strategy handler buffers n over retries elapsed (Some q) boxes result boxes' h).1
+    | inl over ↦ (end-passes e c p strategy handler buffers n channel over retries elapsed (Some q) boxes result boxes' h).1
     | inr none ↦ put-unfailed none q retries elapsed (buffers q) (boxes q) result h.0 h.1
   ]
 
   delivery-unfailed : (retries : ℕ) (elapsed : Duration) (place : ℕ) (ends : List (Option ℕ)) (count : ℕ) (has_failed : Bool) (boxes : ℕ → Mailbox) (how : DeliveryEnd) (boxes' : ℕ → Mailbox)
-      → has_failed ≡ false → Deliver e c p strategy handler buffers n retries elapsed place ends count has_failed boxes how boxes' → FailedAt how ≡ false
+      → has_failed ≡ false → DeliverIn e c p strategy handler buffers n channel retries elapsed place ends count has_failed boxes how boxes' → FailedAt how ≡ false
   delivery-unfailed retries elapsed place [] count has_failed boxes how boxes' none h = ap FailedAt h.0 ∙ none
   delivery-unfailed retries elapsed place (end ∷ rest) count has_failed boxes how boxes' none h =
       by_bool (FailedAt how ≡ false) (is_blocking h.0) _ _ h.3
@@ -89,24 +89,24 @@ module _ {T U : Type 0} where
         λ failed. absurd (let clash : Blocked_send ≡ Send_error UnableToDeliver = sym h.1 ∙ failed in cc),
       )
 
-  delivered-unfailed : (environment : Environment) (s : State T U) (p n retries : ℕ) (elapsed : Duration) (place : ℕ) (ends : List (Option ℕ)) (count : ℕ) (has_failed : Bool) (s' : State T U) (result : SendResult)
-      → IsMild s p → has_failed ≡ false → DeliverAndConclude environment s p n retries elapsed place ends count has_failed s' result → IsUnfailed s' p result
-  delivered-unfailed environment s p n retries elapsed place ends count has_failed s' result mild none h =
+  delivered-unfailed : (environment : Environment) (s : State T U) (p n channel retries : ℕ) (elapsed : Duration) (place : ℕ) (ends : List (Option ℕ)) (count : ℕ) (has_failed : Bool) (s' : State T U) (result : SendResult)
+      → IsMild s p → has_failed ≡ false → DeliverAndConclude environment s p n channel retries elapsed place ends count has_failed s' result → IsUnfailed s' p result
+  delivered-unfailed environment s p n channel retries elapsed place ends count has_failed s' result mild none h =
       by_option (IsUnfailed s' p result) (s.publishers p) _ _ h (λ _ v. absurd v) (λ x present h.
       concluded-unfailed (with_mailboxes s p h.1) p n x present h.0 s' result
-      (delivery-unfailed environment s.config p x.backpressure_strategy x.backpressure_handler (channel_buffer s p 0) n (elim mild [ inl over ↦ inl over | inr each ↦ inr (each x present) ])
+      (delivery-unfailed environment s.config p x.backpressure_strategy x.backpressure_handler (channel_buffer s p channel) n channel (elim mild [ inl over ↦ inl over | inr each ↦ inr (each x present) ])
       retries elapsed place ends count has_failed (s.mailboxes p) h.0 h.1 none h.2)
       h.3)
 
   pub retry-unfailed : (environment : Environment) (s : State T U) (p : ℕ) (b : BlockedSend) (elapsed : Duration) (s' : State T U) (result : SendResult)
       → IsMild s p → b.has_failed ≡ false → Retry environment s p b elapsed s' result → IsUnfailed s' p result
   retry-unfailed environment s p b elapsed s' result mild none h =
-      delivered-unfailed environment s p b.message (more_retries b.retries) elapsed b.place b.ends b.count b.has_failed s' result mild none h
+      delivered-unfailed environment s p b.message b.channel (more_retries b.retries) elapsed b.place b.ends b.count b.has_failed s' result mild none h
 
   pub give-up-unfailed : (environment : Environment) (s : State T U) (p : ℕ) (b : BlockedSend) (s' : State T U) (result : SendResult)
       → IsMild s p → b.has_failed ≡ false → GiveUp environment s p b s' result → IsUnfailed s' p result
   give-up-unfailed environment s p b s' result mild none h =
-      delivered-unfailed environment s p b.message 0 no_time (b.place + 1) (drop 1 b.ends) b.count b.has_failed s' result mild none h
+      delivered-unfailed environment s p b.message b.channel 0 no_time (b.place + 1) (drop 1 b.ends) b.count b.has_failed s' result mild none h
 
   -- a send that is blocked
   pub blocked-unfailed : (environment : Environment) (s : State T U) (n : ℕ) (l : Loan T U) (s' : State T U) → l.publisher < s.next_port → IsMild s l.publisher
@@ -120,6 +120,6 @@ module _ {T U : Type 0} where
       (λ _ j. by_option (HasNotFailed s' l.publisher) ((k.0).publishers l.publisher) _ _ j (λ _ v. absurd v) (λ x1 _ i.
       let mid : State T U = published k.0 l.publisher n in
       let was = (waits_trans (λ _. ⊥) s k.0 mid (update_publisher_waits (λ _. ⊥) environment s l.publisher k.0 k.1 k.2) (published_waits (λ _. ⊥) k.0 l.publisher n)).publishers l.publisher in
-      (delivered-unfailed environment mid l.publisher n 0 no_time 0 x1.ends 0 false s' Blocked_send
+      (delivered-unfailed environment mid l.publisher n 0 0 no_time 0 x1.ends 0 false s' Blocked_send
       (elim mild [ inl over ↦ inl (still ∙ over) | inr each ↦ inr (λ x2 at. let before = was x2 low at in ap may_fail before.2.handler ∙ each before.0 before.1) ]) refl i).0))
       (λ e _ j. absurd (let no : Blocked_send ≡ Send_error (ConnectionError e) = j.1 in cc)))

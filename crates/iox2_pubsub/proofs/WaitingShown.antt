@@ -28,8 +28,8 @@ use Rattle.iox2_domain.specs.Kept.{Kept, state_of, entries_of}
 use Rattle.iox2_domain.specs.Lending.{LoanCall, loan_memory}
 use Rattle.iox2_domain.specs.Questions.{IsAnswer}
 use Rattle.iox2_domain.specs.Shows.{Shows}
-use Rattle.iox2_laws.proofs.MailboxLemmas.{has_numbers-contains}
-use Rattle.iox2_laws.proofs.NumberLemmas.{contains_later, contains_left, contains_right}
+use Rattle.iox2_laws.proofs.MailboxLemmas.{has_numbers-contains, contains_borrowed, contains_waiting_in}
+use Rattle.iox2_laws.proofs.NumberLemmas.{contains_later}
 use Rattle.iox2_laws.proofs.SamplesStay.{received_one}
 use Rattle.iox2_laws.proofs.WaitingCounts.{SameWaits, same_itself, sum_zero, sum_part, cond_among}
 use Rattle.iox2_laws.proofs.WaitingLoans.{grant_loan_waits, loan_set_waits, loan_discarded_waits}
@@ -69,7 +69,7 @@ waiting-is {T} {U} kept m s shown subscriber =
 
 -- what waits for a subscriber is in a mailbox
 waits-in-mailbox : {T U : Type 0} (s : State T U) (p q n : ℕ) → contains (waiting_from s p q) n ≡ true → contains (numbers_in (s.mailboxes p q)) n ≡ true
-waits-in-mailbox s p q n at = contains_left (s.mailboxes p q).waiting (s.mailboxes p q).borrowed n (cond_among _ (s.mailboxes p q).waiting n at)
+waits-in-mailbox s p q n at = contains_waiting_in 0 (s.mailboxes p q) n (cond_among _ (s.mailboxes p q).waiting n at)
 
 -- the entry of what waits is kept, and is the message
 entry-of : {T U F G : Type 0} (kept : Kept T U F G) (m : Messages T U) (s : State T U) → Shows kept m s → (p q n : ℕ) → contains (numbers_in (s.mailboxes p q)) n ≡ true
@@ -358,7 +358,7 @@ module _ {T U F G : Type 0} (old new : Kept T U F G) (m m' : Messages T U) (s s'
         let before = entry-of old m s shown p subscriber.id n boxed in
         let waiting_values : payload_of (entries_of old) n ≡ values = payload_at (λ payload. payload ≡ values) s (entries_of old) subscriber.id all p n known waited in
         let borrowed : contains (numbers_in (s'.mailboxes p subscriber.id)) n ≡ true =
-        contains_right (s'.mailboxes p subscriber.id).waiting (s'.mailboxes p subscriber.id).borrowed n ((received_one environment s subscriber.id p n s' h).now) in
+        contains_borrowed (s'.mailboxes p subscriber.id) n ((received_one environment s subscriber.id p n s' h).now) in
         let entry : entries_of new n ≡ Some before.0 = same-entry sent p subscriber.id p subscriber.id n boxed borrowed ∙ before.1 in
         sample-values new (sample_key sample) values (before.0, entry, ap (λ (o : Option (Entry T U)). option_map_or (λ (e : Entry T U). e.values) o []) (sym before.1) ∙ waiting_values)
 
@@ -388,7 +388,7 @@ module _ {T U F G : Type 0} (old new : Kept T U F G) (m m' : Messages T U) (s s'
       before = entry-of old m s shown p q n boxed
 
       borrowed : contains (numbers_in (s'.mailboxes p q)) n ≡ true
-      borrowed = contains_right (s'.mailboxes p q).waiting (s'.mailboxes p q).borrowed n ((received_one environment s q p n s' h).now)
+      borrowed = contains_borrowed (s'.mailboxes p q) n ((received_one environment s q p n s' h).now)
 
       entry : entries_of new n ≡ Some before.0
       entry = same-entry sent p q p q n boxed borrowed ∙ before.1

@@ -94,7 +94,7 @@ module _ {T U : Type 0} (environment : Environment) (defaults : Defaults T U) (S
     follows = λ once. table_next s s' handles events table w No_handle No_event No_entry (slice_set table of No_entry) (later_same s s' keep.next_port rises (λ n _. ap (λ (f : ℕ → Option (Loan T U)). f n) loans)) (set_length table of No_entry)
         (others_still s s' handles events table w of named No_entry keep at spent
         (λ n low _. ap (λ (f : ℕ → Option (Loan T U)). f n) loans)
-        (λ i p q n _ _. ap (λ (ns : List ℕ). is_borrowed n (record { waiting = []; borrowed = ns })) (borrowed p q)))
+        (λ i p q n _ _. ap (λ (ns : List ℕ). is_borrowed n (record { waiting = []; borrowed = ns; others = [] })) (borrowed p q)))
         tt (no_next s s' _) once;
   }
 

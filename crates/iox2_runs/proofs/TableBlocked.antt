@@ -42,6 +42,6 @@ module _ {T U : Type 0} (environment : Environment) (defaults : Defaults T U) (S
             (others_kept s s' handles events table w of (Blocked_handle p n) (Blocked_handle p n) entry (passed_keeps (Blocked_handle p n) p n s s' passed)
             (λ i q k at_i away is. away (w.blocked_apart i of p n (at_i ∙ ap Some is) here))
             here now (λ k _ _. same k)
-            (λ i i' q k _ _. ap (λ (ns : List ℕ). is_borrowed k (record { waiting = []; borrowed = ns })) ((passed.remain).borrowed i' q)))
+            (λ i i' q k _ _. ap (λ (ns : List ℕ). is_borrowed k (record { waiting = []; borrowed = ns; others = [] })) ((passed.remain).borrowed i' q)))
             tt (no_next s s' _) once;
       }

@@ -153,7 +153,7 @@ module _ {T U : Type 0} (environment : Environment) (defaults : Defaults T U) (S
             named.1
             (subst (IsSpent s') (sym (named.2).1) lost)
             (λ k low_k other. others k low_k (λ e. other ((named.2).1 ∙ ap Loan_handle (sym e))))
-            (λ i i' q k _ _. ap (λ (ns : List ℕ). is_borrowed k (record { waiting = []; borrowed = ns })) ((passed.remain).borrowed i' q)))
+            (λ i i' q k _ _. ap (λ (ns : List ℕ). is_borrowed k (record { waiting = []; borrowed = ns; others = [] })) ((passed.remain).borrowed i' q)))
             new (record {
               port = λ i e. absurd (none-some i (sym no_port ∙ e));
               loan = λ k e. absurd (no_loan k e);

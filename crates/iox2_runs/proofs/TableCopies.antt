@@ -225,7 +225,7 @@ module _ {T U : Type 0} (environment : Environment) (defaults : Defaults T U) (S
             (all_kept s s' handles events table w (Blocked_handle p n) keep
             (λ i q k at_i e. let clash : k ≡ n = cc in let low = (w.blocked_sent i q k at_i).1 in absurd (omega (arith, low, clash)))
             others
-            (λ i i' q k _. ap (λ (ns : List ℕ). is_borrowed k (record { waiting = []; borrowed = ns })) ((passed.remain).borrowed i' q ∙ stay.borrowed i' q)))
+            (λ i i' q k _. ap (λ (ns : List ℕ). is_borrowed k (record { waiting = []; borrowed = ns; others = [] })) ((passed.remain).borrowed i' q ∙ stay.borrowed i' q)))
             new (record {
               port = λ i e. absurd (none-some i (sym no_port ∙ e));
               loan = λ k e. absurd (no_loan k e);

@@ -7,14 +7,14 @@ use Rattle.std.proofs.lemmas.List.{length-append}
 use Rattle.iox2_store.specs.machine.Limits.{buffer_limit, channel_count, worst_case, last_number}
 use Rattle.iox2_store.specs.machine.Numbers.{put_at, contains, last_n, size, IsOnce}
 use Rattle.iox2_store.specs.machine.Places.{occupants}
-use Rattle.iox2_store.specs.machine.Mailbox.{Mailbox, numbers_in, has_numbers, with_waiting}
+use Rattle.iox2_store.specs.machine.Mailbox.{Mailbox, other_numbers, numbers_in, has_numbers, with_waiting}
 use Rattle.iox2_store.specs.machine.State.{State, held}
 use Rattle.iox2_store.specs.machine.WellFormed.{MailboxIsWellFormed}
 use Rattle.iox2_store.specs.declared.service_config.ServiceConfig.{ServiceConfig}
 use Rattle.iox2_laws.proofs.Puts.{put_at-same}
 use Rattle.iox2_laws.proofs.Sizes.{size_is}
 use Rattle.iox2_laws.proofs.NumberLemmas.{false_from, absent_from, contains_in_append, contains_in_flat_map, IsOnce-append}
-use Rattle.iox2_laws.proofs.MailboxLemmas.{nothing_borrowed}
+use Rattle.iox2_laws.proofs.MailboxLemmas.{nothing_anywhere}
 use Rattle.iox2_commands.specs.Outcomes.{Handle, Publisher_handle, Subscriber_handle}
 use Rattle.iox2_worst_case.specs.Fills.{is_granted}
 use Rattle.iox2_worst_case.specs.FillingCommands.{loan_command, sends, rounds, subscriber_filled, subscribers_filled, filling_length}
@@ -85,7 +85,13 @@ length-all_numbers c boxes made bound sent out f enough =
       length-numbers_from (suc sent) out,
       length-numbers_from first count,
       length-flat_map_each (λ q. numbers_in (boxes q)) each 2 made (λ q low high.
-          omega (arith, length-append (boxes q).waiting (boxes q).borrowed, f.waits q low high, f.borrows q low high)),
+          omega (
+            arith,
+            ap (λ (os : List ℕ). length (os ++ ((boxes q).waiting ++ (boxes q).borrowed))) (f.single q low high),
+            length-append (boxes q).waiting (boxes q).borrowed,
+            f.waits q low high,
+            f.borrows q low high,
+          )),
     )
 
 module _ {T U : Type 0} (c : ServiceConfig) (most available : ℕ) (value : T) (some : 0 < most) (units : c.units_per_element ≡ 1)
@@ -117,14 +123,15 @@ module _ {T U : Type 0} (c : ServiceConfig) (most available : ℕ) (value : T) (
         named = f.named;
       }
 
-  -- a subscriber that isn't made yet has borrowed nothing
+  -- a subscriber that isn't made yet has borrowed nothing, and nothing waits for it in other channels
   nothing_lent : (sent made : ℕ) (links : List (Option ℕ)) (due : Bool) (boxes : ℕ → Mailbox) (s : State T U)
-      → IsFilling c most available s sent 0 made links due boxes → (boxes (2 + made)).borrowed ≡ []
+      → IsFilling c most available s sent 0 made links due boxes → (other_numbers (boxes (2 + made)) ≡ []) × ((boxes (2 + made)).borrowed ≡ [])
   nothing_lent sent made links due boxes s f =
-      subst (λ (b : ℕ → Mailbox). (b (2 + made)).borrowed ≡ []) f.mailboxes
-      (nothing_borrowed (s.mailboxes 1 (2 + made)) (false_from (has_numbers (s.mailboxes 1 (2 + made))) (λ h.
+      let box : Mailbox = s.mailboxes 1 (2 + made) in
+      let none : (other_numbers box ≡ []) × (box.waiting ≡ []) × (box.borrowed ≡ []) = nothing_anywhere box (false_from (has_numbers box) (λ h.
       let below : (1 < s.next_port) × (2 + made < s.next_port) = ((f.well_formed).mailboxes 1 (2 + made)).known h in
-      omega (arith, below.1, f.next_port))))
+      omega (arith, below.1, f.next_port))) in
+      subst (λ (b : ℕ → Mailbox). (other_numbers (b (2 + made)) ≡ []) × ((b (2 + made)).borrowed ≡ [])) f.mailboxes (none.0, none.2)
 
   -- the last subscriber was made and connected
   first_served : (sent made position : ℕ) (s s' : State T U) (handles : List Handle) (new last : Handle)
@@ -135,12 +142,14 @@ module _ {T U : Type 0} (c : ServiceConfig) (most available : ℕ) (value : T) (
   first_served sent made position s s' handles new last f e h =
       let boxes : ℕ → Mailbox = (f.full).boxes in
       let box : Mailbox = with_waiting (last_n (buffer_limit c) (recent c.history_size sent)) (boxes (2 + made)) in
+      let nothing : (other_numbers (boxes (2 + made)) ≡ []) × ((boxes (2 + made)).borrowed ≡ []) =
+      nothing_lent sent made (ports_from 2 made) false boxes s (f.full).filling in
       record {
         boxes = put_at boxes (2 + made) box;
         filling = h;
         full = full_kept c boxes made f.bound box (f.full).full;
         opening = subst (λ (b : Mailbox). IsOpening c b 0 0 f.bound) (sym (put_at-same boxes (2 + made) box))
-            (opening_served c (boxes (2 + made)) sent f.bound f.apart (nothing_lent sent made (ports_from 2 made) false boxes s (f.full).filling));
+            (opening_served c (boxes (2 + made)) sent f.bound f.apart nothing.0 nothing.1);
         low = omega (arith, f.apart);
         named = named_next (handles ++ new ∷ []) last (suc position) (position + 2) (omega arith)
             (named_next handles new position (suc position) refl (f.full).named);

@@ -20,7 +20,7 @@ use Rattle.iox2_worst_case.proofs.FillingShape.{reader, IsFilling, at_some, at_n
 
 -- the mailbox after its first message was received
 abbrev pub one_received : Mailbox → Mailbox
-one_received box = record { waiting = drop 1 box.waiting; borrowed = box.borrowed ++ take 1 box.waiting }
+one_received box = record box { waiting = drop 1 box.waiting; borrowed = box.borrowed ++ take 1 box.waiting }
 
 -- something waits
 data_waits : (box : Mailbox) → 0 < length box.waiting → has_data box ≡ true
@@ -37,7 +37,7 @@ receivable most box some room =
 
 -- what receiving the first message makes of a mailbox
 borrowed_so : (box : Mailbox) (n : ℕ) (box' : Mailbox) → BorrowsFirst box n box' → box' ≡ one_received box
-borrowed_so box n box' h = h.2 ∙ ap (λ (ws : List ℕ). record { waiting = drop 1 ws; borrowed = box.borrowed ++ take 1 ws }) (sym h.1)
+borrowed_so box n box' h = h.2 ∙ ap (λ (ws : List ℕ). record box { waiting = drop 1 ws; borrowed = box.borrowed ++ take 1 ws }) (sym h.1)
 
 module _ {T U : Type 0} (c : ServiceConfig) (most available : ℕ) (s : State T U) (sent made : ℕ) (links : List (Option ℕ)) (due : Bool) (boxes : ℕ → Mailbox)
     (f : IsFilling c most available s sent 0 made links due boxes) (q : ℕ) (low : 2 ≤ q) (high : q < 2 + made)

@@ -98,7 +98,7 @@ module _ {T U : Type 0} (c : ServiceConfig) (most available : ℕ) (s : State T 
   published_so : (s' : State T U) (result : SendResult) → Publish ample_memory s 1 (suc sent) s' result
       → (count : ℕ) × (boxes' : ℕ → Mailbox) × (boxes' ≡ wanted) × (s' ≡ after boxes') × (result ≡ Delivered_to count)
   published_so s' result h =
-      let there : DeliverAndConclude ample_memory now 1 (suc sent) 0 no_time 0 (ports_from 2 made) 0 false s' result =
+      let there : DeliverAndConclude ample_memory now 1 (suc sent) 0 0 no_time 0 (ports_from 2 made) 0 false s' result =
       at_some (s.publishers 1) before _ _ f.publisher h in
       let x : Publisher = record before { history = last_n (s.config).history_size (before.history ++ suc sent ∷ []) } in
       let present : now.publishers 1 ≡ Some x =

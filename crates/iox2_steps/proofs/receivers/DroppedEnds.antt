@@ -13,7 +13,6 @@ use Rattle.iox2_store.specs.machine.Places.{occupants, set_place}
 use Rattle.iox2_store.specs.machine.Records.{Entry, Publisher, Subscriber}
 use Rattle.iox2_store.specs.machine.State.{State}
 use Rattle.iox2_store.specs.Stored.{IsHeldMessage, In_history, In_mailbox, In_blocked_send}
-use Rattle.iox2_laws.proofs.NumberLemmas.{contains_right}
 use Rattle.iox2_laws.proofs.Puts.{at_each}
 use Rattle.iox2_ends.specs.Counters.{with_counters}
 use Rattle.iox2_ends.specs.Drops.{RemovesDropped}
@@ -39,6 +38,7 @@ use Rattle.iox2_domain.proofs.lemmas.slots.RecountedLoans as counts
 use Rattle.iox2_steps.proofs.receivers.LeftEnds.{IsDeparted, LeavesReceiver, left_fields, left-parts, end-goes, expired-goes}
 use Rattle.iox2_steps.proofs.receivers.LeftStates.{left-is, ends-left, expired-left}
 use mathlib.Core.Path.{fun_ext}
+use Rattle.iox2_laws.proofs.MailboxLemmas.{contains_borrowed}
 
 -- the mailboxes of which one's waiting messages are lost, as the subscriber sees them
 pub dropped-box : (boxes : ℕ → ℕ → Mailbox) (p q : ℕ) (box : Mailbox) → with_box boxes p q box ≡ (λ (r : ℕ). put_at (boxes r) q (put_at (λ (i : ℕ). boxes i q) p box r))
@@ -57,7 +57,7 @@ held-dropped s p q r n (In_mailbox k is) =
     (λ i row. contains (numbers_in (row k)) n ≡ true → contains (numbers_in (s.mailboxes i k)) n ≡ true) r
     (λ _. at_each (s.mailboxes p) q (waiting_dropped (s.mailboxes p q))
     (λ i box. contains (numbers_in box) n ≡ true → contains (numbers_in (s.mailboxes p i)) n ≡ true) k
-    (λ _ has. contains_right (s.mailboxes p q).waiting (s.mailboxes p q).borrowed n has)
+    (λ _ has. contains_borrowed (s.mailboxes p q) n has)
     (λ _ has. has))
     (λ _ has. has) is)
 

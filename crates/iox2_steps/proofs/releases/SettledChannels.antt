@@ -61,7 +61,9 @@ module _ {T U : Type 0} (t : State T U) (q p r : ℕ) (away : r ≢ q) where
 pub box-still : {T U : Type 0} (s : State T U) (channels : ℕ → ℕ → ℕ → Channel) (p q : ℕ) → MailboxIsWellFormed s p q → MailboxIsWellFormed (record s { channels = channels }) p q
 box-still s channels p q v = record {
   within = v.within;
+  others = v.others;
   room = v.room;
+  others_room = v.others_room;
   below = v.below;
   known = v.known;
   sender_end = v.sender_end;

@@ -5,7 +5,7 @@ use Rattle.std.specs.Option.{option_map}
 use Rattle.std.specs.declared.option.Option.{Option}
 use Rattle.std.specs.declared.option.Option.TheVariants.{None, Some}
 use Rattle.std.specs.declared.time.Duration.{Duration}
-use Rattle.iox2_store.specs.machine.Delivery.{Deliver, DeliveryEnd, no_time}
+use Rattle.iox2_store.specs.machine.Delivery.{DeliverIn, DeliveryEnd, no_time}
 use Rattle.iox2_store.specs.machine.Loans.{loan_discarded}
 use Rattle.iox2_store.specs.machine.Mailbox.{Mailbox}
 use Rattle.iox2_store.specs.machine.Numbers.{last_n}
@@ -24,22 +24,22 @@ module _ {T U : Type 0} (e e' : Environment) where
   abbrev pub MayAnswerAsMuch : State T U → ℕ → Type 0
   MayAnswerAsMuch s p = (x : Publisher) → s.publishers p ≡ Some x → AllowsAsMuch e e' p x.backpressure_handler
 
-  module _ (p n retries : ℕ) (elapsed : Duration) (place : ℕ) (ends : List (Option ℕ)) (count : ℕ) (has_failed : Bool) (s s' : State T U) (result : SendResult) where
+  module _ (p n channel retries : ℕ) (elapsed : Duration) (place : ℕ) (ends : List (Option ℕ)) (count : ℕ) (has_failed : Bool) (s s' : State T U) (result : SendResult) where
     -- what is delivered and concluded of the publisher x
     abbrev Concludes : Environment → Publisher → Type 0
     Concludes environment x = (how : DeliveryEnd) × (boxes : ℕ → Mailbox)
-        × Deliver environment s.config p x.backpressure_strategy x.backpressure_handler (channel_buffer s p 0) n
-        retries elapsed place ends count has_failed (s.mailboxes p) how boxes
+        × DeliverIn environment s.config p x.backpressure_strategy x.backpressure_handler (channel_buffer s p channel) n
+        channel retries elapsed place ends count has_failed (s.mailboxes p) how boxes
         × ConcludeSend (with_mailboxes s p boxes) p n how s' result
 
-    pub concludes-alike : MayAnswerAsMuch s p → DeliverAndConclude e s p n retries elapsed place ends count has_failed s' result → DeliverAndConclude e' s p n retries elapsed place ends count has_failed s' result
+    pub concludes-alike : MayAnswerAsMuch s p → DeliverAndConclude e s p n channel retries elapsed place ends count has_failed s' result → DeliverAndConclude e' s p n channel retries elapsed place ends count has_failed s' result
     concludes-alike allows h = by (s.publishers p) (λ x is. allows x is) h where
       by : (o : Option Publisher) → ((x : Publisher) → o ≡ Some x → AllowsAsMuch e e' p x.backpressure_handler) → MatchOption o ⊥ (Concludes e) → MatchOption o ⊥ (Concludes e')
       by None allowed h = h
       by (Some x) allowed h = (
         h.0,
         h.1,
-        Deliver-any e e' s.config p x.backpressure_strategy x.backpressure_handler (channel_buffer s p 0) n (allowed x refl)
+        Deliver-any e e' s.config p x.backpressure_strategy x.backpressure_handler (channel_buffer s p channel) n channel (allowed x refl)
             retries elapsed place ends count has_failed (s.mailboxes p) h.0 h.1 h.2,
         h.3,
       )
@@ -58,10 +58,10 @@ module _ {T U : Type 0} (e e' : Environment) where
     pub publishes-alike : (s' : State T U) (result : SendResult) → Publish e s p n s' result → Publish e' s p n s' result
     publishes-alike s' result h = by (s.publishers p) h where
       by : (o : Option Publisher)
-          → MatchOption o ⊥ (λ x. DeliverAndConclude e (published s p n) p n 0 no_time 0 x.ends 0 false s' result)
-          → MatchOption o ⊥ (λ x. DeliverAndConclude e' (published s p n) p n 0 no_time 0 x.ends 0 false s' result)
+          → MatchOption o ⊥ (λ x. DeliverAndConclude e (published s p n) p n 0 0 no_time 0 x.ends 0 false s' result)
+          → MatchOption o ⊥ (λ x. DeliverAndConclude e' (published s p n) p n 0 0 no_time 0 x.ends 0 false s' result)
       by None h = h
-      by (Some x) h = concludes-alike p n 0 no_time 0 x.ends 0 false (published s p n) s' result published-allows h
+      by (Some x) h = concludes-alike p n 0 0 no_time 0 x.ends 0 false (published s p n) s' result published-allows h
 
   module _ (s : State T U) (n : ℕ) (l : Loan T U) (s' : State T U) (result : SendResult)
       (updates : (x : Publisher) → s.publishers l.publisher ≡ Some x → AllowsUpdates e e' l.publisher x.degradation_handler)
@@ -94,8 +94,8 @@ module _ {T U : Type 0} (e e' : Environment) where
   module _ (s : State T U) (p : ℕ) (b : BlockedSend) (s' : State T U) (result : SendResult) (allows : MayAnswerAsMuch s p) where
     -- and so is what is tried again
     pub retries-alike : (elapsed : Duration) → Retry e s p b elapsed s' result → Retry e' s p b elapsed s' result
-    retries-alike elapsed h = concludes-alike p b.message (more_retries b.retries) elapsed b.place b.ends b.count b.has_failed s s' result allows h
+    retries-alike elapsed h = concludes-alike p b.message b.channel (more_retries b.retries) elapsed b.place b.ends b.count b.has_failed s s' result allows h
 
     -- and what is given up
     pub gives_up-alike : GiveUp e s p b s' result → GiveUp e' s p b s' result
-    gives_up-alike h = concludes-alike p b.message 0 no_time (b.place + 1) (drop 1 b.ends) b.count b.has_failed s s' result allows h
+    gives_up-alike h = concludes-alike p b.message b.channel 0 no_time (b.place + 1) (drop 1 b.ends) b.count b.has_failed s s' result allows h

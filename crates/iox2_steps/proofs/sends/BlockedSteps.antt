@@ -124,7 +124,7 @@ module _ {T U : Type 0} (environment : Environment) (f0 f1 f2 : Fields T U) (sou
       agrees = went.agrees;
       gives_up = subst (λ (c : BlockedSend). GiveUp environment (state_of (kept_of f0)) x.id c (state_of (kept_of f2)) (result_of_send outcome)) waiting-same
           (subst (λ (s : State T U). GiveUp environment s x.id (waiting_send f1 x w) (state_of (kept_of f2)) (result_of_send outcome)) reclaimed.state
-          (subst (λ (ends : List (Option ℕ)). DeliverAndConclude environment (state_of (kept_of f1)) x.id (numbers_of f1.books x.id w.slot) 0 no_time ((w.progress).place + 1) ends (w.progress).count (w.progress).has_failed (state_of (kept_of f2)) (result_of_send outcome))
+          (subst (λ (ends : List (Option ℕ)). DeliverAndConclude environment (state_of (kept_of f1)) x.id (numbers_of f1.books x.id w.slot) 0 0 no_time ((w.progress).place + 1) ends (w.progress).count (w.progress).has_failed (state_of (kept_of f2)) (result_of_send outcome))
           (sym (drop-drop 1 (w.progress).place (sender_ends f1.connections x.keys))) went.concludes));
       entries = λ m entry e. reclaimed.entries m entry (went.entries m entry e);
     } where

@@ -135,7 +135,7 @@ module _ {T U : Type 0} (e e' : Environment) (old : Fields T U) (x : PublisherFi
     recounts = d.recounts;
     alone = d.alone;
     delivers = λ number.
-        Deliver-any e e' old.config x.id x.strategy x.backpressure_handler (taking_buffers old.connections x.id (map (option_map details_of) old.subscribers)) (number x.id slot) allows
+        Deliver-any e e' old.config x.id x.strategy x.backpressure_handler (taking_buffers old.connections x.id (map (option_map details_of) old.subscribers)) (number x.id slot) 0 allows
         start.retries elapsed start.place (drop start.place (sender_ends old.connections x.keys)) start.count start.has_failed (mailboxes_of number old.connections x.id)
         (end_of (number x.id slot) (sender_ends old.connections x.keys) outcome) (mailboxes_of number d.connections x.id) (d.delivers number);
   }

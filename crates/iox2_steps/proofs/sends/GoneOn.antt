@@ -27,7 +27,7 @@ use Rattle.iox2_ends.specs.declared.sender.DeliveryOutcome.{DeliveryOutcome}
 use Rattle.iox2_ends.proofs.Counts.{one_if, one_if_other, get_or-one_holder_less}
 use Rattle.iox2_ends.specs.Mailboxes.{mailboxes_of, sender_ends}
 use Rattle.iox2_ends.proofs.MailboxChanges.{others-stay, one-put, both-true}
-use Rattle.iox2_laws.proofs.DeliveryLaws.{Delivered, deliver_is}
+use Rattle.iox2_laws.proofs.DeliveryLaws.{Delivered, deliver_is, all_from}
 use Rattle.iox2_laws.proofs.MailboxLemmas.{contains_in_appended}
 use Rattle.iox2_laws.proofs.PlaceLemmas.{occupant-drop}
 use Rattle.iox2_laws.proofs.Puts.{found_put}
@@ -294,7 +294,7 @@ module _ {T U : Type 0} (environment : Environment) (f : Fields T U) (sound : Is
   ends-so (DeliveryOutcome.Complete count has_failed) is = (is, refl)
   ends-so (DeliveryOutcome.Suspended progress) is = (is, refl)
 
-  concludes : DeliverAndConclude environment s x.id n start.retries elapsed start.place (drop start.place port.ends) start.count start.has_failed (state_of (kept_of after)) (result_of_send outcome)
+  concludes : DeliverAndConclude environment s x.id n 0 start.retries elapsed start.place (drop start.place port.ends) start.count start.has_failed (state_of (kept_of after)) (result_of_send outcome)
   concludes = match_some (s.publishers x.id) port ⊥ _ stands (how, boxes x.id, delivers, ends-so outcome after-shown)
 
   -- the ends that remain are among those that remained
@@ -309,7 +309,7 @@ module _ {T U : Type 0} (environment : Environment) (f : Fields T U) (sound : Is
 
   well : IsWellFormed (state_of (kept_of after))
   well = delivery_goes_on_keeps environment s x.id port b start.retries elapsed start.place (drop start.place port.ends) start.count start.has_failed (state_of (kept_of after)) (result_of_send outcome)
-      sound.well_formed stands port-waits refl can.counted remained concludes
+      sound.well_formed stands port-waits (all_from port.ends start.place) can.counted remained concludes
 
   -- ---- entries
 
@@ -336,9 +336,9 @@ module _ {T U : Type 0} (environment : Environment) (f : Fields T U) (sound : Is
   injective-drop i j id h e =
       let same : start.place + i ≡ start.place + j = (sound.well_formed.publishers x.id port stands).ends_apart (start.place + i) (start.place + j) id (sym (occupant-drop start.place port.ends i) ∙ h) (sym (occupant-drop start.place port.ends j) ∙ e) in omega (arith, same)
 
-  delivered : Delivered (channel_buffer s x.id 0) n port.ends (drop start.place port.ends) (s.mailboxes x.id) how (boxes x.id)
-  delivered = deliver_is environment f.config x.id x.strategy x.backpressure_handler (channel_buffer s x.id 0) n start.retries elapsed start.place (drop start.place port.ends) start.count start.has_failed port.ends (s.mailboxes x.id) how (boxes x.id)
-      injective-drop refl can.counted delivers
+  delivered : Delivered (channel_buffer s x.id 0) n 0 port.ends (drop start.place port.ends) (s.mailboxes x.id) how (boxes x.id)
+  delivered = deliver_is environment f.config x.id x.strategy x.backpressure_handler (channel_buffer s x.id 0) n 0 start.retries elapsed start.place (drop start.place port.ends) start.count start.has_failed port.ends (s.mailboxes x.id) how (boxes x.id)
+      injective-drop (all_from port.ends start.place) can.counted delivers
 
   -- and before it
   held-before-it : (q m : ℕ) → IsHeldMessage (record s { mailboxes = boxes }) q m → IsHeldMessage s q m
@@ -353,7 +353,7 @@ module _ {T U : Type 0} (environment : Environment) (f : Fields T U) (sound : Is
       row h = ⊎_elim
           (λ same. In_mailbox r (ap (λ box. contains (numbers_in box) m) (sym same) ∙ h))
           (λ put. ⊎_elim (λ is_n. In_blocked_send port b stands port-waits (sym is_n)) (λ was. In_mailbox r was)
-          (contains_in_appended (put.1).0 n (s.mailboxes x.id r) m (ap (λ box. contains (numbers_in box) m) (sym (put.1).2) ∙ h)))
+          (contains_in_appended 0 (put.1).0 n (s.mailboxes x.id r) m (ap (λ box. contains (numbers_in box) m) (sym (put.1).2) ∙ h)))
           (delivered.each r)
 
   entries-after : (q m : ℕ) → IsHeldMessage (state_of (kept_of after)) q m → (entry : Entry T U) × (entries_of (kept_of after) m ≡ Some entry) × ((entry.header).publisher_id ≡ q)

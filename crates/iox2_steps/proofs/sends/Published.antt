@@ -27,7 +27,7 @@ use Rattle.iox2_ends.proofs.MailboxChanges.{others-stay, one-put, both-true}
 use Rattle.iox2_laws.proofs.Altered.{same_state}
 use Rattle.iox2_store.specs.machine.Channel.{Channel, is_closed}
 use Rattle.iox2_domain.proofs.lemmas.fields.KeptChannels.{channels-are}
-use Rattle.iox2_laws.proofs.DeliveryLaws.{Delivered, deliver_is}
+use Rattle.iox2_laws.proofs.DeliveryLaws.{Delivered, deliver_is, all_from}
 use Rattle.iox2_laws.proofs.MailboxLemmas.{contains_in_appended}
 use Rattle.iox2_laws.proofs.NumberLemmas.{contains_in_append, contains_in_last_n}
 use Rattle.iox2_laws.proofs.Puts.{put_at-same, put_at-other, at_each, found_put}
@@ -386,9 +386,9 @@ module _ {T U : Type 0} (environment : Environment) (f : Fields T U) (sound : Is
   held-mid z longer waiting q m away (In_blocked_send y b at waits is) = found_put s.publishers x.id z (λ j v. v.blocked ≡ Some b → IsHeldMessage (record s { mailboxes = boxes }) j m) q y at
       (λ _ h. absurd (away (sym is ∙ waiting b h))) (λ _ there h. In_blocked_send y b there h is) waits
 
-  delivered : Delivered (channel_buffer s x.id 0) n port.ends port.ends (s.mailboxes x.id) how (boxes x.id)
-  delivered = deliver_is environment f.config x.id x.strategy x.backpressure_handler (channel_buffer s x.id 0) n 0 no_time 0 port.ends 0 false port.ends (s.mailboxes x.id) how (boxes x.id)
-      (sound.well_formed.publishers x.id port stands).ends_apart refl (le_refl 0) delivers
+  delivered : Delivered (channel_buffer s x.id 0) n 0 port.ends port.ends (s.mailboxes x.id) how (boxes x.id)
+  delivered = deliver_is environment f.config x.id x.strategy x.backpressure_handler (channel_buffer s x.id 0) n 0 0 no_time 0 port.ends 0 false port.ends (s.mailboxes x.id) how (boxes x.id)
+      (sound.well_formed.publishers x.id port stands).ends_apart (all_from port.ends 0) (le_refl 0) delivers
 
   -- and before it
   held-before-send : (q m : ℕ) → m ≢ n → IsHeldMessage (record s { mailboxes = boxes }) q m → IsHeldMessage s q m
@@ -403,7 +403,7 @@ module _ {T U : Type 0} (environment : Environment) (f : Fields T U) (sound : Is
       row h = ⊎_elim
           (λ same. ap (λ box. contains (numbers_in box) m) (sym same) ∙ h)
           (λ put. ⊎_elim (λ is_n. absurd (away is_n)) (λ was. was)
-          (contains_in_appended (put.1).0 n (s.mailboxes x.id r) m (ap (λ box. contains (numbers_in box) m) (sym (put.1).2) ∙ h)))
+          (contains_in_appended 0 (put.1).0 n (s.mailboxes x.id r) m (ap (λ box. contains (numbers_in box) m) (sym (put.1).2) ∙ h)))
           (delivered.each r)
 
   -- each message that somebody holds has its entry, where those of the remembered fields are kept
@@ -542,7 +542,7 @@ module _ {T U : Type 0} (environment : Environment) (f : Fields T U) (sound : Is
 
     -- what waits, to the machine
     abbrev b : BlockedSend
-    b = record { message = n; place = progress.place; ends = drop progress.place port.ends; retries = progress.retries; count = progress.count; has_failed = progress.has_failed }
+    b = record { message = n; channel = 0; place = progress.place; ends = drop progress.place port.ends; retries = progress.retries; count = progress.count; has_failed = progress.has_failed }
 
     abbrev relent_port : Publisher
     relent_port = record port { history = port.history ++ n ∷ []; blocked = Some b }

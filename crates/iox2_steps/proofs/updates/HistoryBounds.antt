@@ -77,7 +77,7 @@ module _ {T U : Type 0} (f : Fields T U) (sound : IsDomain f) (i : ℕ) (x : Pub
     -- where it stands, the publisher has the connection's key
     known : (slot key : ℕ) → 0 < stands x.id slot (get f.connections key) → (j : ℕ) × (get_or x.keys j None ≡ Some key)
     known slot key some = by (get f.connections key) refl some where
-      filled : (number : ℕ → ℕ) (ws bs : List ℕ) → 0 < times slot (ws ++ bs) → has_numbers (record { waiting = map number ws; borrowed = map number bs }) ≡ true
+      filled : (number : ℕ → ℕ) (ws bs : List ℕ) → 0 < times slot (ws ++ bs) → has_numbers (record { waiting = map number ws; borrowed = map number bs; others = [] }) ≡ true
       filled number [] [] h = absurd (let no : times slot [] ≡ 0 = refl in omega (arith, h, no))
       filled number [] (x ∷ bs) h = refl
       filled number (x ∷ ws) bs h = refl

@@ -1,5 +1,5 @@
 -- The last messages of a publisher's history wait in a connection in which no slot stood.
-use Rattle.std.proofs.Common.{◌≡◌, ℕ, zero, suc, ◌+◌, ◌-◌, ◌<◌, true, false, ◌&&◌, List, [], ◌∷◌, length, drop, map, get_or, refl, ap, sym, subst, ◌∙◌, inl, inr, arith}
+use Rattle.std.proofs.Common.{◌≡◌, ℕ, zero, suc, ◌+◌, ◌-◌, ◌<◌, true, false, ◌&&◌, List, [], ◌∷◌, ◌++◌, length, drop, map, get_or, refl, ap, sym, subst, ◌∙◌, inl, inr, arith}
 use Rattle.std.proofs.lemmas.Bool.{eq-eqb, lt-ltb}
 use Rattle.std.proofs.lemmas.List.{length-map, drop-map}
 use Rattle.std.specs.Prelude.{slice_get, nat_lt}
@@ -8,7 +8,7 @@ use Rattle.std.specs.Option.{option_map_or}
 use Rattle.slab.specs.Slab.{Slab, get, with_value}
 use Rattle.iox2_slots.specs.Link.{Link, load}
 use Rattle.iox2_slots.specs.SlotBook.{Book, holders_at}
-use Rattle.iox2_store.specs.machine.Mailbox.{Mailbox, numbers_in, with_waiting}
+use Rattle.iox2_store.specs.machine.Mailbox.{Mailbox, numbers_in, with_waiting, ChannelNumber}
 use Rattle.iox2_store.specs.machine.Numbers.{put_at, contains, last_n}
 use Rattle.iox2_store.specs.machine.Records.{Entry, Publisher}
 use Rattle.iox2_store.specs.machine.State.{State}
@@ -30,7 +30,7 @@ use Rattle.iox2_domain.specs.Invariant.{IsDomain, IsOwned, HasLoneLoans, HasNumb
 use Rattle.iox2_domain.specs.Histories.{with_history_waiting, HandsOut}
 use Rattle.iox2_domain.proofs.lemmas.fields.ConnectionEnds.{publisher-stands}
 use Rattle.iox2_domain.proofs.lemmas.fields.Parts.{whole_of}
-use Rattle.iox2_domain.proofs.lemmas.fields.Views.{mailboxes-are}
+use Rattle.iox2_domain.proofs.lemmas.fields.Views.{mailboxes-are, no-others}
 use Rattle.iox2_domain.proofs.lemmas.loans.LoanSlots.{number-at}
 use Rattle.iox2_domain.proofs.lemmas.slots.LoneLoans.{IsLoneIn, lone-changed, lone-fewer}
 use Rattle.iox2_domain.proofs.lemmas.slots.Messages.{LiesIn, message_in-parts, lies_at, message_at-slot, has_number, entry-there}
@@ -131,7 +131,7 @@ module _ {T U : Type 0} (f : Fields T U) (sound : IsDomain f) (i : ℕ) (x : Pub
   held-before p n (In_mailbox q is) =
       at_each s.mailboxes x.id (put_at (s.mailboxes x.id) c.home.subscriber box) (λ r row. contains (numbers_in (row q)) n ≡ true → IsHeldMessage s r n) p
       (λ _. at_each (s.mailboxes x.id) c.home.subscriber box (λ r m. contains (numbers_in m) n ≡ true → IsHeldMessage s x.id n) q
-      (λ _ in_box. elim (contains_in_append (last_n c.buffer P.history) (s.mailboxes x.id c.home.subscriber).borrowed n in_box) [
+      (λ _ in_box. elim (contains_in_append (last_n c.buffer P.history) (s.mailboxes x.id c.home.subscriber).borrowed n (in_first in_box)) [
         | inl waits ↦ In_history P present (contains_in_last_n c.buffer P.history n waits)
         | inr lent ↦ absurd (let no : false ≡ true = sym (ap (λ (ns : List ℕ). contains ns n) nothing-lent) ∙ lent in cc)
       ]) (λ _ in_old. In_mailbox q in_old))
@@ -139,6 +139,11 @@ module _ {T U : Type 0} (f : Fields T U) (sound : IsDomain f) (i : ℕ) (x : Pub
     where
       box : Mailbox
       box = with_waiting (last_n c.buffer P.history) (s.mailboxes x.id c.home.subscriber)
+
+      in_first : contains (numbers_in box) n ≡ true → contains (last_n c.buffer P.history ++ (s.mailboxes x.id c.home.subscriber).borrowed) n ≡ true
+      in_first in_box =
+          ap (λ (ms : List ChannelNumber). contains (map (λ (m : ChannelNumber). m.number) ms ++ (last_n c.buffer P.history ++ (s.mailboxes x.id c.home.subscriber).borrowed)) n)
+          (sym (no-others f x.id c.home.subscriber)) ∙ in_box
 
   -- ---- loans
 

@@ -1,5 +1,5 @@
 -- A publisher's update at one subscriber's place.
-use Rattle.std.proofs.Common.{◌≡◌, ℕ, ◌-◌, List, [], ◌∷◌, true, false, not, ◌&&◌, Bool, cond, get_or, slice_set, refl, ap, sym, subst, ◌∙◌, inl, arith}
+use Rattle.std.proofs.Common.{◌≡◌, ℕ, ◌-◌, List, [], ◌∷◌, true, false, Bool, cond, get_or, slice_set, refl, ap, sym, subst, ◌∙◌, inl, arith}
 use Rattle.std.proofs.lemmas.List.{drop_all}
 use Rattle.std.specs.declared.option.Option.{Option}
 use Rattle.std.specs.declared.option.Option.TheVariants.{None, Some}
@@ -8,7 +8,7 @@ use Rattle.slab.specs.Slab.{Slab, get}
 use Rattle.iox2_store.specs.machine.Limits.{warning_limit}
 use Rattle.iox2_slots.specs.Link.{Link, load}
 use Rattle.iox2_store.specs.machine.Mailbox.{Mailbox, has_numbers, with_waiting}
-use Rattle.iox2_store.specs.machine.Numbers.{put_at, last_n, is_nil}
+use Rattle.iox2_store.specs.machine.Numbers.{put_at, last_n}
 use Rattle.iox2_store.specs.machine.Places.{occupant, set_place}
 use Rattle.iox2_store.specs.machine.Records.{Publisher, Subscriber, Environment}
 use Rattle.iox2_store.specs.machine.State.{State, receiving_buffer, has_receiver_end}
@@ -33,6 +33,7 @@ use Rattle.iox2_steps.proofs.updates.SenderChanges.{FitsSender, sender-is, fits-
 use Rattle.iox2_steps.proofs.updates.SenderActions.{update-keeps, update-connects}
 use Rattle.iox2_steps.proofs.updates.SenderAgrees.{sender-agrees}
 use Rattle.iox2_domain.proofs.lemmas.fields.Standing.{subscriber-listed, subscriber-place}
+use Rattle.iox2_laws.proofs.MailboxLemmas.{nothing_anywhere}
 
 module _ {T U : Type 0} (f : Fields T U) where
   abbrev pub now : State T U
@@ -133,21 +134,9 @@ module _ {T U : Type 0} (environment : Environment) (f : Fields T U) (sound : Is
 
   -- ---- the mailbox
 
-  nothing : (ns : List ℕ) → is_nil ns ≡ true → ns ≡ []
-  nothing [] e = refl
-  nothing (n ∷ ns) e = absurd cc
-
-  -- a mailbox without numbers
-  empty : (box : Mailbox) → has_numbers box ≡ false → (box.waiting ≡ []) × (box.borrowed ≡ [])
-  empty box none = by (is_nil box.waiting) (is_nil box.borrowed) refl refl none where
-    by : (a b : Bool) → is_nil box.waiting ≡ a → is_nil box.borrowed ≡ b → not (a && b) ≡ false → (box.waiting ≡ []) × (box.borrowed ≡ [])
-    by true true e h none = (nothing box.waiting e, nothing box.borrowed h)
-    by true false e h none = absurd cc
-    by false b e h none = absurd cc
-
   -- without an end there is nothing in the mailbox
   pub no-numbers : get_or x.keys j None ≡ None → (s.mailboxes x.id y.id).waiting ≡ [] × (s.mailboxes x.id y.id).borrowed ≡ []
-  no-numbers none = empty (s.mailboxes x.id y.id) (by (has_numbers (s.mailboxes x.id y.id)) refl) where
+  no-numbers none = let all = nothing_anywhere (s.mailboxes x.id y.id) (by (has_numbers (s.mailboxes x.id y.id)) refl) in (all.1, all.2) where
     by : (b : Bool) → has_numbers (s.mailboxes x.id y.id) ≡ b → b ≡ false
     by false e = refl
     by true e =

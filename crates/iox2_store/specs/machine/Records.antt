@@ -42,8 +42,9 @@ pub record Environment : Type 1 where
 -- the receivers that have taken it.
 pub record BlockedSend : Type 0 where
   pub message : ℕ
+  pub channel : ℕ  -- into which it is put: 0, but where it was sent to one connection
   pub place : ℕ  -- of the receiver that it waits for
-  pub ends : List (Option ℕ)  -- the sender's ends that remain, from that place on
+  pub ends : List (Option ℕ)  -- the sender's ends that remain, from that place on; that end alone where it was sent to one connection
   pub retries : ℕ  -- how often the receiver was asked again
   pub count : ℕ  -- the receivers that have taken the message so far
   pub has_failed : Bool  -- whether an earlier receiver's handler failed the send

@@ -1,12 +1,12 @@
 -- What holds of every state that calls and runs reach.
-use Rattle.std.specs.Prelude.{ℕ, true, false, List, length, ◌≡◌, ◌⊎◌, ◌*◌, ◌<◌, ◌≤◌, drop, MatchOption}
+use Rattle.std.specs.Prelude.{ℕ, true, false, List, length, ◌≡◌, ◌⊎◌, ◌*◌, ◌<◌, ◌≤◌, take, drop, MatchOption}
 use Rattle.std.specs.Option.{option_map}
 use Rattle.std.specs.declared.option.Option.{Option}
 use Rattle.std.specs.declared.option.Option.TheVariants.{None, Some}
-use Rattle.iox2_store.specs.machine.Limits.{buffer_limit, expired_limit, worst_case, segment_limit}
+use Rattle.iox2_store.specs.machine.Limits.{buffer_limit, channel_count, expired_limit, worst_case, segment_limit}
 use Rattle.iox2_store.specs.machine.Numbers.{contains, size, IsOnce}
 use Rattle.iox2_store.specs.machine.Places.{occupant}
-use Rattle.iox2_store.specs.machine.Mailbox.{numbers_in, has_numbers, has_borrows, has_data, IsWithin, waiting_count}
+use Rattle.iox2_store.specs.machine.Mailbox.{numbers_in, has_numbers, has_borrows, has_data, waiting_count, IsWithin, OthersWithin}
 use Rattle.iox2_store.specs.machine.Records.{Loan, Publisher, Subscriber, BlockedSend}
 use Rattle.iox2_store.specs.machine.State.{State, held}
 use Rattle.iox2_store.specs.machine.Loans.{is_static, is_initialized}
@@ -34,12 +34,13 @@ module _ {T U : Type 0} where
   abbrev pub subscriber_place : State T U → (q : ℕ) → Option ℕ
   subscriber_place s q = option_map {T = Subscriber} {U = ℕ} (λ y. y.place) (s.subscribers q)
 
-  -- A blocked send's message is out, no user holds it, its remaining ends are the publisher's from its place on, and
-  -- those haven't got it.
+  -- A blocked send's message is out, no user holds it, its remaining ends are some of the publisher's from its place on,
+  -- and those haven't got it.
   pub record BlockedIsWellFormed (s : State T U) (p : ℕ) (x : Publisher) (b : BlockedSend) : Type 0 where
     pub is_out : contains x.loans b.message ≡ true
     pub unheld : s.loans b.message ≡ None
-    pub ends : b.ends ≡ drop b.place x.ends
+    pub ends : (count : ℕ) × (b.ends ≡ take count (drop b.place x.ends))
+    pub channel : b.channel < channel_count s.config
     pub unserved : (q : ℕ) → LeadsTo b.ends q → contains (numbers_in (s.mailboxes p q)) b.message ≡ false
     -- The place has a receiver, and whoever took the message stands before it.
     pub waits : (q : ℕ) × (occupant x.ends b.place ≡ Some q)
@@ -94,7 +95,9 @@ module _ {T U : Type 0} where
   -- departed publisher but for an open one.
   pub record MailboxIsWellFormed (s : State T U) (p q : ℕ) : Type 0 where
     pub within : IsWithin (buffer_limit s.config) (s.config).subscriber_max_borrowed_samples (s.mailboxes p q)
+    pub others : OthersWithin (channel_count s.config) (buffer_limit s.config) (s.mailboxes p q)
     pub room : (y : Subscriber) → s.subscribers q ≡ Some y → waiting_count (s.mailboxes p q) ≤ y.buffer
+    pub others_room : (y : Subscriber) → s.subscribers q ≡ Some y → OthersWithin (channel_count s.config) y.buffer (s.mailboxes p q)
     pub below : (n : ℕ) → contains (numbers_in (s.mailboxes p q)) n ≡ true → n < s.next_message
     pub known : has_numbers (s.mailboxes p q) ≡ true → (p < s.next_port) × (q < s.next_port)
     pub sender_end : (x : Publisher) → s.publishers p ≡ Some x → has_numbers (s.mailboxes p q) ≡ true → LeadsTo x.ends q

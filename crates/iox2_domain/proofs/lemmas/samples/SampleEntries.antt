@@ -11,7 +11,6 @@ use Rattle.iox2_store.specs.declared.header.Header.{Header}
 use Rattle.iox2_store.specs.declared.service_config.TypeVariant.TheVariants.{FixedSize}
 use Rattle.iox2_slots.specs.declared.slots.mark.SlotMark.{SlotMark}
 use Rattle.iox2_slots.specs.declared.slots.mark.SlotMark.TheVariants.{Unwritten, Written, Sent}
-use Rattle.iox2_laws.proofs.NumberLemmas.{contains_right}
 use Rattle.iox2_ends.proofs.Counts.{in_range}
 use Rattle.iox2_domain.specs.Kept.{Sent_message, state_of, entries_of}
 use Rattle.iox2_domain.specs.Fields.{Fields, kept_of, contents_at, message_of}
@@ -21,6 +20,7 @@ use Rattle.iox2_domain.specs.declared.sample_slots.SampleSlot.{SampleSlot}
 use Rattle.iox2_domain.proofs.lemmas.samples.BorrowedNumbers.{lies-borrowed}
 use Rattle.iox2_domain.proofs.lemmas.slots.ConnectionSlots.{borrowed-in_use}
 use Rattle.iox2_domain.proofs.lemmas.slots.Messages.{lies_at, message_in-parts, message_at-slot, has_number, entry-there}
+use Rattle.iox2_laws.proofs.MailboxLemmas.{contains_borrowed}
 
 module _ {T U : Type 0} where
   -- the parts of a sent message are those of its slot
@@ -42,7 +42,7 @@ module _ {T U : Type 0} where
 -- a borrowed message has an entry that names its publisher
 pub borrowed-entry : {T U : Type 0} (f : Fields T U) → IsDomain f → (q p n : ℕ) → is_borrowed n ((state_of (kept_of f)).mailboxes p q) ≡ true
     → (entry : Entry T U) × (entries_of (kept_of f) n ≡ Some entry) × ((entry.header).publisher_id ≡ p)
-borrowed-entry f sound q p n borrowed = sound.entries p n (In_mailbox q (contains_right ((state_of (kept_of f)).mailboxes p q).waiting ((state_of (kept_of f)).mailboxes p q).borrowed n borrowed))
+borrowed-entry f sound q p n borrowed = sound.entries p n (In_mailbox q (contains_borrowed ((state_of (kept_of f)).mailboxes p q) n borrowed))
 
 -- the entry of a borrowed message, in its slot
 pub record SampleEntry {T U : Type 0} (f : Fields T U) (p n : ℕ) (at : SampleSlot) (b : Book) : Type 0 where

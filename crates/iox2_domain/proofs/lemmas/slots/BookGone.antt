@@ -122,7 +122,7 @@ module _ {T U : Type 0} (f : Fields T U) (parts : HasParts f) (key : ℕ) (b : B
 
   connections-shown : map (option_map (between_of after.books f.connections)) f.connections.slots ≡ map (option_map (between_of f.books f.connections)) f.connections.slots
   connections-shown = map-alike (between_of after.books f.connections) (between_of f.books f.connections) f.connections.slots (λ k c there.
-      ap (λ (number : ℕ → ℕ). record (between_of f.books f.connections c) { box = record { waiting = map number c.waiting; borrowed = map number c.borrowed } })
+      ap (λ (number : ℕ → ℕ). record (between_of f.books f.connections c) { box = record { waiting = map number c.waiting; borrowed = map number c.borrowed; others = [] } })
       (numbers-same c.home.publisher (unnamed k c there)))
 
   -- the machine sees nothing of it

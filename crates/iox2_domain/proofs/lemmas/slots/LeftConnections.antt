@@ -1,5 +1,5 @@
 -- In each connection of a publisher that is gone, something waits or is borrowed.
-use Rattle.std.proofs.Common.{◌≡◌, ◌≢◌, ℕ, List, [], ◌∷◌, map, true, false, not, ◌&&◌, get_or, refl, ap, sym, subst, ◌∙◌, inl, inr, ◌⊎◌}
+use Rattle.std.proofs.Common.{◌≡◌, ◌≢◌, ℕ, List, [], ◌∷◌, map, true, false, get_or, refl, ap, sym, subst, ◌∙◌, inl, inr, ◌⊎◌}
 use Rattle.std.proofs.lemmas.Bool.{eq-eqb, ne_eqb}
 use Rattle.std.specs.Prelude.{MatchOption}
 use Rattle.std.specs.declared.option.Option.{Option}
@@ -7,8 +7,8 @@ use Rattle.std.specs.declared.option.Option.TheVariants.{None, Some}
 use Rattle.std.specs.Option.{option_map}
 use Rattle.slab.specs.Slab.{get}
 use Rattle.iox2_slots.specs.Link.{Link}
-use Rattle.iox2_store.specs.machine.Mailbox.{Mailbox, has_numbers, numbers_in}
-use Rattle.iox2_store.specs.machine.Numbers.{contains, is_nil}
+use Rattle.iox2_store.specs.machine.Mailbox.{Mailbox, has_numbers, numbers_in, ChannelNumber}
+use Rattle.iox2_store.specs.machine.Numbers.{contains}
 use Rattle.iox2_store.specs.machine.Places.{occupant}
 use Rattle.iox2_store.specs.machine.Records.{Publisher, Subscriber}
 use Rattle.iox2_store.specs.machine.WellFormed.{IsWellFormed, SubscriberIsWellFormed}
@@ -25,13 +25,18 @@ use Rattle.iox2_domain.proofs.lemmas.containers.LookUps.{look_up-map}
 use Rattle.iox2_domain.proofs.lemmas.fields.OwnKeys.{listed-at}
 use Rattle.iox2_domain.proofs.lemmas.fields.Standing.{occupant-receiver_ends}
 
+-- a mailbox of these parts
+abbrev made : List ChannelNumber → (waiting borrowed : List ℕ) → Mailbox
+made others waiting borrowed = record { waiting = waiting; borrowed = borrowed; others = others }
+
 -- what has numbers has some number
 pub some-number : (box : Mailbox) → has_numbers box ≡ true → (n : ℕ) × (contains (numbers_in box) n ≡ true)
-some-number box some = by box.waiting box.borrowed some where
-  by : (waiting borrowed : List ℕ) → not (is_nil waiting && is_nil borrowed) ≡ true → (n : ℕ) × (contains (numbers_in (record { waiting = waiting; borrowed = borrowed })) n ≡ true)
-  by [] [] e = absurd cc
-  by [] (n ∷ ns) e = (n, contains_first n ns)
-  by (n ∷ ns) borrowed e = (n, contains_first n _)
+some-number box some = by box.others box.waiting box.borrowed some where
+  by : (others : List ChannelNumber) (waiting borrowed : List ℕ) → has_numbers (made others waiting borrowed) ≡ true → (n : ℕ) × (contains (numbers_in (made others waiting borrowed)) n ≡ true)
+  by [] [] [] e = absurd cc
+  by [] [] (n ∷ ns) e = (n, contains_first n ns)
+  by [] (n ∷ ns) borrowed e = (n, contains_first n _)
+  by (m ∷ ms) waiting borrowed e = (m.number, contains_first m.number _)
 
 -- a publisher that isn't found stands nowhere
 pub stands-nowhere : (publishers : List (Option PublisherFields)) (p : ℕ) → look_up (is_publisher p) publishers ≡ None

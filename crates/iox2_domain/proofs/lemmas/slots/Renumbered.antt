@@ -64,7 +64,7 @@ module _ {T U : Type 0} (f : Fields T U) (sound : IsDomain f) (new : Slab Book)
 
   -- in a connection lies what lay there
   between-same : (key : ℕ) (c : Link) → get f.connections key ≡ Some c → between_of new f.connections c ≡ between_of f.books f.connections c
-  between-same key c at = λ t. record (between_of f.books f.connections c) { box = record { waiting = waiting t; borrowed = borrowed t } } where
+  between-same key c at = λ t. record (between_of f.books f.connections c) { box = record { waiting = waiting t; borrowed = borrowed t; others = [] } } where
     waiting : map (numbers_of new c.home.publisher) c.waiting ≡ map (numbers_of f.books c.home.publisher) c.waiting
     waiting = map-numbers c.home.publisher c.waiting (λ slot e. standing-in_use f sound.parts.counted sound.parts.publisher_ids key slot c at (omega (arith, times-there slot c.waiting e)))
 

@@ -1,0 +1,94 @@
+-- A send to one connection keeps a state well-formed, and advances it.
+use Rattle.std.proofs.Common.{◌≡◌, ◌<◌, ℕ, le_refl, ◌+◌, List, false, drop, take, refl, sym, ap, subst, ◌∙◌, arith, ⊎_elim, inl, Option, None, Some}
+use Rattle.std.specs.Option.{option_map}
+use Rattle.std.proofs.lemmas.Option.{none-some, same_Some}
+use Rattle.iox2_store.specs.machine.Limits.{channel_count}
+use Rattle.iox2_store.specs.machine.Numbers.{put_at, contains, without}
+use Rattle.iox2_store.specs.machine.Mailbox.{Mailbox, numbers_in}
+use Rattle.iox2_store.specs.machine.Records.{Loan, Publisher, BlockedSend, Environment}
+use Rattle.iox2_store.specs.machine.State.{State, is_blocked, channel_buffer, with_loan}
+use Rattle.iox2_store.specs.machine.Delivery.{DeliveryEnd, Complete, Suspended, no_time}
+use Rattle.iox2_store.specs.machine.Sends.{SendResult, ConcludeSend, with_mailboxes, DeliverAndConclude, SendToConnection}
+use Rattle.iox2_store.specs.machine.WellFormed.{PublisherIsWellFormed, IsWellFormed}
+use Rattle.iox2_laws.specs.Laws.{Advances}
+use Rattle.iox2_laws.proofs.Cases.{by_option}
+use Rattle.iox2_laws.proofs.Puts.{put_at-same, put_at-other}
+use Rattle.iox2_laws.proofs.PlaceLemmas.{occupant-drop}
+use Rattle.iox2_laws.proofs.LoanLaws.{loan_lost_keeps}
+use Rattle.iox2_laws.proofs.DeliveryLaws.{Delivered, deliver_is, IsUnderway, ended_keeps, blocked_keeps}
+use Rattle.iox2_laws.proofs.PublisherUpdates.{no_blocked_send}
+use Rattle.iox2_laws.proofs.SendLaws.{occupant-take, injective_drop, injective_take, deliver_and_conclude_advances}
+
+module _ {T U : Type 0} where
+  module _ (s : State T U) (w : IsWellFormed s) (p n channel place : ℕ) (l : Loan T U) (found : s.loans n ≡ Some l) (own : l.publisher ≡ p) (x : Publisher)
+      (here : s.publishers p ≡ Some x) (free : x.blocked ≡ None) (known : channel < channel_count s.config) where
+    -- The end at that place, and no other.
+    abbrev pub there : List (Option ℕ)
+    there = take 1 (drop place x.ends)
+
+    -- a loan may be delivered at that end
+    pub underway_there : IsUnderway s p x n (put_at s.loans n None) x.history there
+    underway_there =
+        let v : PublisherIsWellFormed s p x = w.publishers p x here in
+        record {
+          is_out = ((w.loans n l found).is_out x (ap s.publishers own ∙ here)).0;
+          unheld = put_at-same s.loans n None;
+          own = λ u e. ap (λ (k : Loan T U). k.publisher) (same_Some u l (sym e ∙ found)) ∙ own;
+          others = put_at-other s.loans n None;
+          held = λ m _ h. ⊎_elim (λ held. held)
+              (λ (waits : (b : BlockedSend) × (x.blocked ≡ Some b) × (b.message ≡ m)). absurd (none-some waits.0 (sym free ∙ waits.1))) (v.loans_held m h);
+          history_bound = v.history_bound;
+          history_once = v.history_once;
+          history_has = λ m h. inl h;
+          leads = λ q h. (place + h.0, sym (occupant-drop place x.ends h.0) ∙ occupant-take 1 (drop place x.ends) h.0 q h.1);
+          unserved = λ q _. ap (λ i. contains (numbers_in (s.mailboxes i q)) n) (sym own) ∙ (w.loans n l found).unsent q;
+        }
+
+    conclude_there : (how : DeliveryEnd) (boxes : ℕ → Mailbox) (s' : State T U) (result : SendResult)
+        → Delivered (channel_buffer s p channel) n channel x.ends there (s.mailboxes p) how boxes
+        → ConcludeSend (with_mailboxes (with_loan s n None) p boxes) p n how s' result → IsWellFormed s'
+    conclude_there (Complete count has_failed) boxes s' result d h = subst IsWellFormed
+        (ap (λ o. record s {
+          publishers = put_at s.publishers p (option_map (λ (v : Publisher). record v { loans = without n v.loans; blocked = None }) o);
+          mailboxes = put_at s.mailboxes p boxes;
+          loans = put_at s.loans n None;
+        }) (sym here) ∙ sym h.0)
+        (ended_keeps s w p x here n channel known (put_at s.loans n None) x.history there (Complete count has_failed) boxes underway_there d)
+    conclude_there (Suspended b) boxes s' result d h = subst IsWellFormed
+        (ap (λ o. record s {
+          publishers = put_at s.publishers p (option_map (λ (v : Publisher). record v { blocked = Some b }) o);
+          mailboxes = put_at s.mailboxes p boxes;
+          loans = put_at s.loans n None;
+        }) (sym here) ∙ sym h.0)
+        (blocked_keeps s w p x here n channel known (put_at s.loans n None) x.history there (Suspended b) boxes underway_there d b refl)
+
+    sent_there_keeps : (environment : Environment) (s' : State T U) (result : SendResult)
+        → DeliverAndConclude environment (with_loan s n None) p n channel 0 no_time place there 0 false s' result → IsWellFormed s'
+    sent_there_keeps environment s' result h =
+        by_option (IsWellFormed s') (s.publishers p) _ _ h (λ _ v. absurd v) (λ x1 _ h.
+        let d : Delivered (channel_buffer s p channel) n channel x.ends there (s.mailboxes p) h.0 h.1 =
+        deliver_is environment s.config p x1.backpressure_strategy x1.backpressure_handler (channel_buffer s p channel) n channel 0 no_time place there 0 false x.ends
+        (s.mailboxes p) h.0 h.1 (injective_take 1 (drop place x.ends) (injective_drop place x.ends ((w.publishers p x here).ends_apart))) (1, refl)
+        (omega arith) h.2 in
+        conclude_there h.0 h.1 s' result d h.3)
+
+  -- A send to one connection keeps a state well-formed.
+  pub send_to_connection_keeps : (environment : Environment) (s : State T U) (n : ℕ) (l : Loan T U) (channel place : ℕ) (s' : State T U) (result : SendResult)
+      → IsWellFormed s → s.loans n ≡ Some l → is_blocked s l.publisher ≡ false → channel < channel_count s.config
+      → SendToConnection environment s n l channel place s' result → IsWellFormed s'
+  send_to_connection_keeps environment s n l channel place s' result w found free known h =
+      by_option (IsWellFormed s') (s.publishers l.publisher) _ _ h
+      (λ gone h. subst IsWellFormed (sym h.0) (loan_lost_keeps s w n l found gone))
+      (λ x here h.
+      sent_there_keeps s w l.publisher n channel place l found refl x here (no_blocked_send s l.publisher x here free) known environment s' result h)
+
+  -- A send to one connection advances the state.
+  pub send_to_connection_advances : (environment : Environment) (s : State T U) (n : ℕ) (l : Loan T U) (channel place : ℕ) (s' : State T U) (result : SendResult)
+      → SendToConnection environment s n l channel place s' result → Advances s s'
+  send_to_connection_advances environment s n l channel place s' result h =
+      by_option (Advances s s') (s.publishers l.publisher) _ _ h
+      (λ _ h. subst (Advances s) (sym h.0) (record { config = refl; next_port = le_refl s.next_port; next_message = le_refl s.next_message }))
+      (λ x _ h.
+      let later : Advances (with_loan s n None) s' =
+      deliver_and_conclude_advances environment (with_loan s n None) l.publisher n channel 0 no_time place (take 1 (drop place x.ends)) 0 false s' result h in
+      record { config = later.config; next_port = later.next_port; next_message = later.next_message })

@@ -1,0 +1,85 @@
+-- What a send to one connection leaves as it was, and what it changes of its loan.
+use Rattle.std.proofs.Common.{◌≡◌, ℕ, List, false, drop, take, sym, ap, subst, ◌∙◌, Option, None}
+use Rattle.iox2_store.specs.machine.Numbers.{put_at}
+use Rattle.iox2_store.specs.machine.Records.{Loan, Publisher, Environment}
+use Rattle.iox2_store.specs.machine.State.{State, with_loan}
+use Rattle.iox2_store.specs.machine.Delivery.{no_time}
+use Rattle.iox2_store.specs.machine.SingleCalls.{HoldsBlocked}
+use Rattle.iox2_store.specs.machine.Sends.{SendResult, Send_error, Blocked_send, SendToConnection}
+use Rattle.iox2_laws.proofs.Cases.{by_option}
+use Rattle.iox2_laws.proofs.LoanKeeping.{LoansFollow, removed_loans_follow, deliver_and_conclude_loans}
+use Rattle.iox2_laws.proofs.LoansLeft.{LoansKept, LoanEnds, kept_trans, kept_ends, kept_gone, set_kept, delivered_kept, delivered_ends}
+use Rattle.iox2_laws.proofs.PortsStay.{PortsStay, ports_stay_trans, loan_set_stays, delivered_stays}
+use Rattle.iox2_laws.proofs.SendsRemain.{PortsRemain, ports_remain, ports_remain_trans, delivered_remains, delivered_waits_with}
+use Rattle.iox2_laws.proofs.UpToDate.{goes_on_subscribers}
+
+module _ {T U : Type 0} (environment : Environment) (s : State T U) (n : ℕ) (l : Loan T U) (channel place : ℕ) (s' : State T U) (result : SendResult)
+    (h : SendToConnection environment s n l channel place s' result) where
+  -- The state in which the message is delivered.
+  abbrev before : State T U
+  before = with_loan s n None
+
+  -- The end to which it goes.
+  abbrev end_of : Publisher → List (Option ℕ)
+  end_of x = take 1 (drop place x.ends)
+
+  -- The loan leaves its user's hands, and the others stay.
+  pub send_to_connection_loans : s'.loans ≡ put_at s.loans n None
+  send_to_connection_loans =
+      by_option (s'.loans ≡ put_at s.loans n None) (s.publishers l.publisher) _ _ h
+      (λ _ k. ap (λ (t : State T U). t.loans) k.0)
+      (λ x _ k. deliver_and_conclude_loans environment before l.publisher n channel 0 no_time place (end_of x) 0 false s' result k)
+
+  -- No loan appears.
+  pub send_to_connection_follows : LoansFollow s s'
+  send_to_connection_follows = removed_loans_follow s s' n send_to_connection_loans
+
+  -- Where it isn't blocked it no longer counts as a loan of its publisher.
+  pub send_to_connection_ends : (result ≡ Blocked_send → ⊥) → LoanEnds l.publisher n s s'
+  send_to_connection_ends free =
+      by_option (LoanEnds l.publisher n s s') (s.publishers l.publisher) _ _ h
+      (λ gone k. subst (LoanEnds l.publisher n s) (sym k.0) (kept_gone l.publisher n s before gone (set_kept s n None)))
+      (λ x _ k.
+      kept_ends l.publisher n s before s' (set_kept s n None)
+      (delivered_ends environment before l.publisher n channel 0 no_time place (end_of x) 0 false s' result free k))
+
+  -- Where it is blocked it still does.
+  pub send_to_connection_blocked_kept : result ≡ Blocked_send → LoansKept s s'
+  send_to_connection_blocked_kept is =
+      by_option (LoansKept s s') (s.publishers l.publisher) _ _ h
+      (λ _ k. absurd (let no : Send_error _ ≡ Blocked_send = sym k.1 ∙ is in cc))
+      (λ x _ k.
+      kept_trans s before s' (set_kept s n None)
+      (delivered_kept environment before l.publisher n channel 0 no_time place (end_of x) 0 false s' result is k))
+
+  -- Where it isn't blocked all ports stay as they are.
+  pub send_to_connection_stays : (result ≡ Blocked_send → ⊥) → PortsStay s s'
+  send_to_connection_stays free =
+      by_option (PortsStay s s') (s.publishers l.publisher) _ _ h
+      (λ _ k. subst (PortsStay s) (sym k.0) (loan_set_stays s n None))
+      (λ x _ k.
+      ports_stay_trans s before s' (loan_set_stays s n None)
+      (delivered_stays environment before l.publisher n channel 0 no_time place (end_of x) 0 false s' result k free))
+
+  -- No port goes, and what is borrowed stays so.
+  pub send_to_connection_remains : PortsRemain s s'
+  send_to_connection_remains =
+      by_option (PortsRemain s s') (s.publishers l.publisher) _ _ h
+      (λ _ k. subst (PortsRemain s) (sym k.0) (ports_remain s before (loan_set_stays s n None)))
+      (λ x _ k.
+      ports_remain_trans s before s' (ports_remain s before (loan_set_stays s n None))
+      (delivered_remains environment before l.publisher n channel 0 no_time place (end_of x) 0 false s' result k))
+
+  -- Where it is blocked its publisher waits with it.
+  pub send_to_connection_waits_with : result ≡ Blocked_send → HoldsBlocked s' l.publisher n
+  send_to_connection_waits_with is =
+      by_option (HoldsBlocked s' l.publisher n) (s.publishers l.publisher) _ _ h
+      (λ _ k. absurd (let no : Send_error _ ≡ Blocked_send = sym k.1 ∙ is in cc))
+      (λ x _ k. delivered_waits_with environment before l.publisher n channel 0 no_time place (end_of x) 0 false s' result k is)
+
+  -- Subscribers stay as they are.
+  pub send_to_connection_subscribers : s'.subscribers ≡ s.subscribers
+  send_to_connection_subscribers =
+      by_option (s'.subscribers ≡ s.subscribers) (s.publishers l.publisher) _ _ h
+      (λ _ k. ap (λ (t : State T U). t.subscribers) k.0)
+      (λ x _ k. goes_on_subscribers environment before l.publisher n channel 0 no_time place (end_of x) 0 false s' result k)
