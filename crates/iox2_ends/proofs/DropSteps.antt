@@ -39,7 +39,7 @@ drops-one hs slot c d held r = record {
 -- one slot more went
 pub drops-more : (hs hs' : List ℕ) (slot : ℕ) (a c d : Link) → IsHeld hs' c → DropsFrom hs a hs' c → IsDropped c (Some slot) d → DropsFrom hs a (one_holder_less slot hs') d
 drops-more hs hs' slot a c d held x r = let y = drops-one hs' slot c d held r in record {
-  kept = y.kept ∙ ap (λ (l : Link). let k : Link = record l { waiting = d.waiting } in k) x.kept;
+  kept = y.kept ∙ ap (λ (l : Link). let k : Link = record l { waiting = d.waiting; others = d.others } in k) x.kept;
   counters = λ n. omega (arith, x.counters n, y.counters n);
   shrinks = λ n. omega (arith, x.shrinks n, y.shrinks n);
   slots = y.slots ∙ x.slots;
@@ -53,7 +53,7 @@ dropped-held hs slot c d held r = record { at = λ n. omega (arith, held.at n, (
 pub drops-reclaims : (hs hs' hs'' : List ℕ) (a b c : Link) → DropsFrom hs a hs' b → ReclaimsFrom hs' b hs'' c → EmptiesFrom hs a hs'' c
 drops-reclaims hs hs' hs'' a b c x y = record {
   kept = y.kept ∙ ap (λ (l : Link). let k : Link = record l { returned = c.returned } in k) x.kept
-      ∙ (λ t. record a { waiting = sym (ap (λ (l : Link). l.waiting) y.kept) t; returned = c.returned });
+      ∙ (λ t. record a { waiting = sym (ap (λ (l : Link). l.waiting) y.kept) t; returned = c.returned; others = sym (ap (λ (l : Link). l.others) y.kept) t });
   fewer = omega (arith, ap (λ (l : Link). length l.returned) x.kept, y.fewer);
   counters = λ n. omega (arith, x.counters n, y.counters n);
   shrinks = λ n. omega (arith, x.shrinks n, y.shrinks n);
@@ -61,10 +61,10 @@ drops-reclaims hs hs' hs'' a b c x y = record {
 }
 
 -- nothing but what is borrowed is left
-pub all-dropped : (hs hs' hs'' : List ℕ) (a b c : Link) → DropsFrom hs a hs' b → b.waiting ≡ [] → ReclaimsFrom hs' b hs'' c → c.returned ≡ [] → c ≡ borrowed_alone a
-all-dropped hs hs' hs'' a b c x none y clear =
+pub all-dropped : (hs hs' hs'' : List ℕ) (a b c : Link) → DropsFrom hs a hs' b → b.waiting ≡ [] → b.others ≡ [] → ReclaimsFrom hs' b hs'' c → c.returned ≡ [] → c ≡ borrowed_alone a
+all-dropped hs hs' hs'' a b c x none no_others y clear =
     (drops-reclaims hs hs' hs'' a b c x y).kept
-    ∙ (λ t. record a { waiting = (ap (λ (l : Link). l.waiting) y.kept ∙ none) t; returned = clear t })
+    ∙ (λ t. record a { waiting = (ap (λ (l : Link). l.waiting) y.kept ∙ none) t; returned = clear t; others = (ap (λ (l : Link). l.others) y.kept ∙ no_others) t })
 
 -- ---- from a connection of a slab
 

@@ -14,6 +14,7 @@ pub fn drop_waiting(connection: &mut Connection, book: &mut SlotBook)
     ensures book { book.new ≡ with_counters book.old book.new.holders }
     ensures drops { DropsFrom book.old.holders connection.old book.new.holders connection.new }
     ensures all { connection.new.waiting ≡ [] }
+    ensures others { connection.new.others ≡ [] }
 {
     while let Some(slot) = connection.drop_first() {
         book.release(slot);

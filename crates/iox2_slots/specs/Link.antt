@@ -1,8 +1,9 @@
 -- What a contract sees of a connection: the slots between one publisher and one subscriber.
-use Rattle.std.specs.Prelude.{◌≡◌, ℕ, ◌+◌, ◌<◌, ◌≤◌, ◌^◌, Bool, true, false, not, ◌&&◌, List, [], ◌∷◌, ◌++◌, length, cond, nat_lt, replicate, slice_index_or, slice_set}
+use Rattle.std.specs.Prelude.{◌≡◌, ℕ, ◌+◌, ◌<◌, ◌≤◌, ◌^◌, Bool, true, false, not, ◌&&◌, List, [], ◌∷◌, ◌++◌, length, map, cond, nat_lt, replicate, slice_index_or, slice_set}
 use Rattle.std.specs.declared.option.Option.{Option}
 use Rattle.std.specs.declared.option.Option.TheVariants.{None, Some}
 use Rattle.iox2_store.specs.machine.Numbers.{is_nil, without}
+use Rattle.iox2_store.specs.machine.Mailbox.{ChannelNumber}
 use Rattle.iox2_store.specs.machine.Channel.{Channel, new_channel, is_in_state, is_closed, with_state, with_hint}
 use Rattle.iox2_slots.specs.declared.connection.Home.{Home}
 use Rattle.iox2_slots.specs.declared.connection.PutOutcome.{PutOutcome}
@@ -15,19 +16,24 @@ pub record Link : Type 0 where
   pub limit : ℕ  -- how many slots may be borrowed
   pub is_open : Bool  -- whether it is marked as open
   pub channels : List Channel  -- the state and the hint of each, by number
-  pub waiting : List ℕ  -- delivered and not yet received, oldest first
+  pub waiting : List ℕ  -- in channel 0: delivered and not yet received, oldest first
   pub borrowed : List ℕ  -- received and not yet released, in the order of receipt
   pub returned : List ℕ  -- released and not yet reclaimed, oldest first
+  pub others : List ChannelNumber  -- the slots that wait in the other channels, by rising channel, and in each oldest first
 
 -- A new connection with so many channels: no slot stands in it, its channels are open, and it isn't marked as open.
 abbrev pub empty_link : Home → (buffer limit count : ℕ) → Link
-empty_link home buffer limit count = record { home = home; buffer = buffer; limit = limit; is_open = false; channels = replicate count new_channel; waiting = []; borrowed = []; returned = [] }
+empty_link home buffer limit count = record { home = home; buffer = buffer; limit = limit; is_open = false; channels = replicate count new_channel; waiting = []; borrowed = []; returned = []; others = [] }
 
 -- ---- reading
 
 -- How many slots stand in the connection.
 abbrev pub load : Link → ℕ
-load c = length c.waiting + length c.borrowed + length c.returned
+load c = length c.waiting + length c.borrowed + length c.returned + length c.others
+
+-- The slots that wait in the channels other than 0.
+abbrev pub other_slots : Link → List ℕ
+other_slots c = map (λ (m : ChannelNumber). m.number) c.others
 
 -- Some slot waits for the subscriber.
 abbrev pub has_slots : Link → Bool
@@ -77,7 +83,7 @@ IsDropped old (Some slot) new = (rest : List ℕ) × (old.waiting ≡ slot ∷ r
 
 -- Nothing but what is borrowed stands in the connection.
 abbrev pub borrowed_alone : Link → Link
-borrowed_alone c = record c { waiting = []; returned = [] }
+borrowed_alone c = record c { waiting = []; returned = []; others = [] }
 
 -- A borrowed slot is given back.
 abbrev pub with_returned : (slot : ℕ) → Link → Link
@@ -125,6 +131,7 @@ pub record IsBounded (c : Link) : Type 0 where
   pub some_room : 0 < c.buffer
   pub waiting : length c.waiting ≤ c.buffer
   pub borrowed : length c.borrowed ≤ c.limit
-  pub load : load c ≤ c.buffer + c.limit
+  pub together : length c.waiting + length c.borrowed + length c.returned ≤ c.buffer + c.limit
+  pub stand_in : c.others ≡ []
   pub fits : c.buffer + c.limit + 1 < 2 ^ 64
   pub marked : c.is_open ≡ true → is_shut c ≡ false

@@ -1,5 +1,5 @@
 -- What the fields of a connection keep.
-use Rattle.std.specs.Prelude.{◌≡◌, ◌+◌, ◌∷◌}
+use Rattle.std.specs.Prelude.{◌≡◌, ◌+◌, ◌∷◌, []}
 use Rattle.std.specs.Vec.{vec_capacity}
 use Rattle.iox2_slots.specs.Link.{Link, IsBounded}
 use Rattle.iox2_slots.specs.declared.connection.Connection.TheInside.{Inside}
@@ -21,6 +21,7 @@ link_of a = record {
   waiting = a.waiting.items;
   borrowed = a.borrowed.items;
   returned = a.returned.items;
+  others = [];
 }
 
 -- The slots are within their bounds, and the room for them is made.
