@@ -39,6 +39,10 @@ other_slots c = map (λ (m : ChannelNumber). m.number) c.others
 abbrev pub has_slots : Link → Bool
 has_slots c = not (is_nil c.waiting)
 
+-- Some slot waits in a channel other than 0.
+abbrev pub has_other_slots : Link → Bool
+has_other_slots c = not (is_nil (other_slots c))
+
 -- Some slot is borrowed.
 abbrev pub has_borrowed_slots : Link → Bool
 has_borrowed_slots c = not (is_nil c.borrowed)

@@ -1,6 +1,6 @@
 //! What lies between one publisher and one subscriber: numbers of the publisher's slots.
 ghost use Rattle.std.specs.Prelude.{◌≡◌, ◌+◌, ◌<◌, ◌↔◌, length, Contains, IfOk, IsTrue};
-ghost use Rattle.iox2_slots.specs.Link.{load, empty_link, channel_at, has_slots, has_borrowed_slots, has_returned_slots, can_borrow, is_shut, with_mark, state_changed, hint_set, with_returned, without_borrowed, IsBounded};
+ghost use Rattle.iox2_slots.specs.Link.{has_other_slots, load, empty_link, channel_at, has_slots, has_borrowed_slots, has_returned_slots, can_borrow, is_shut, with_mark, state_changed, hint_set, with_returned, without_borrowed, IsBounded};
 ghost use Rattle.iox2_store.specs.machine.Numbers.{IsOnce};
 
 use crate::channel_status::ChannelStatus;
@@ -287,6 +287,13 @@ impl Connection {
         ensures { result ≡ has_slots self.now }
     {
         !self.waiting.is_empty()
+    }
+
+    /// Whether some slot waits in another channel.
+    pub fn has_other_data(&self) -> bool
+        ensures { result ≡ has_other_slots self.now }
+    {
+        false
     }
 
     /// Whether some slot was given back and isn't reclaimed yet.
