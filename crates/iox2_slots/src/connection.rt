@@ -293,6 +293,7 @@ impl Connection {
     pub fn has_other_data(&self) -> bool
         ensures { result ≡ has_other_slots self.now }
     {
+        let _ = &self.waiting;
         false
     }
 
