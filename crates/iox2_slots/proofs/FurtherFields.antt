@@ -162,10 +162,10 @@ put-within room old slot overflow (Overwrote oldest) new within put =
 put-within room old slot overflow Full new within put = rw put.2 within
 
 -- a channel behind channel 0 stands among the further ones
-pub further-there : (a : Inside) (c : Link) (number : ℕ) → link_of a ≡ c → number ≢ 0 → number < length c.channels → number - 1 < length a.further.items
+pub further-there : (a : Inside) (c : Link) (number : ℕ) → link_of a ≡ c → number ≢ 0 → (0 < number → number < length c.channels) → number - 1 < length a.further.items
 further-there a c number is some low =
     let all : length c.channels ≡ suc (length a.further.items) = ap (λ (d : Link). length d.channels) (sym is) ∙ ap suc (length-map a.further.items (λ (x : FurtherChannel). x.status)) in
-    omega (arith, all, low, some)
+    omega (arith, all, low (omega (arith, some)), some)
 
 -- where the ring is put into, the channel keeps its room
 pub put-room : (buffer : ℕ) (c : FurtherChannel) (slot : ℕ) (overflow : Bool) (o : PutOutcome) (ring : Buffer ℕ) → HasRoom buffer c → IsRingPut c.waiting.capacity c.waiting.items slot overflow o ring.items → ring.capacity ≡ c.waiting.capacity

@@ -218,11 +218,12 @@ impl Connection {
     }
 
     /// Puts a slot behind those that wait in a channel. Where there is no room, the oldest of them
-    /// goes if `overflow` is set, and else nothing changes. What was given back is reclaimed before.
+    /// goes if `overflow` is set, and else nothing changes. What was given back is reclaimed before,
+    /// and there is such a channel.
     #[inline(always)]
     pub fn put(&mut self, channel: usize, slot: usize, overflow: bool) -> PutOutcome
         requires returned { length self.old.returned ≡ 0 }
-        requires channel { channel < length self.old.channels }
+        requires channel { 0 < channel → channel < length self.old.channels }
         ensures put { IsPut channel self.old slot overflow result self.new }
         ensures bounded { IsBounded self.new }
     {
