@@ -22,9 +22,6 @@ nothing : {A : Type 0} (xs : List A) → length xs ≡ 0 → xs ≡ []
 nothing [] e = refl
 nothing (x ∷ xs) e = absurd (omega arith)
 
-abbrev same_message : ChannelNumber → ChannelNumber
-same_message m = record m { number = m.number }
-
 -- two connections in which no slot stands, at one place and with the same limits
 alike : (c d : Link) → fixed_of d ≡ fixed_of c → load c ≡ 0 → load d ≡ 0 → d ≡ c
 alike c d fixed none_c none_d = λ t. record {
@@ -43,6 +40,9 @@ alike c d fixed none_c none_d = λ t. record {
 pub still-empty : (p : ℕ) (holders holders' : List ℕ) (old new : Slab Link) → IsApart old → Reclaims p holders old holders' new → (key : ℕ) (c : Link) → get old key ≡ Some c → load c ≡ 0
     → get new key ≡ Some c
 still-empty p holders holders' old new apart r key c at none = by (get new key) refl (r.recounts.homes.same key ∙ ap (option_map fixed_of) at) where
+  same-number : ChannelNumber → ChannelNumber
+  same-number m = record m { number = m.number }
+
   by : (o : Option Link) → get new key ≡ o → option_map fixed_of (get new key) ≡ Some (fixed_of c) → get new key ≡ Some c
   by None e same = absurd (let no : None ≡ Some (fixed_of c) = sym (ap (option_map fixed_of) e) ∙ same in cc)
   by (Some d) e same =
@@ -55,7 +55,7 @@ still-empty p holders holders' old new apart r key c at none = by (get new key) 
       ∙ mailbox-there (λ q s. s) old key c.home.publisher c.home.subscriber c apart at refl refl in
       let waits : length d.waiting ≡ length c.waiting = sym (length-map d.waiting (λ s. s)) ∙ ap (λ (box : Mailbox). length box.waiting) there ∙ length-map c.waiting (λ s. s) in
       let lent : length d.borrowed ≡ length c.borrowed = sym (length-map d.borrowed (λ s. s)) ∙ ap (λ (box : Mailbox). length box.borrowed) there ∙ length-map c.borrowed (λ s. s) in
-      let elsewhere : length d.others ≡ length c.others = sym (length-map d.others same_message) ∙ ap (λ (box : Mailbox). length box.others) there ∙ length-map c.others same_message in
+      let elsewhere : length d.others ≡ length c.others = sym (length-map d.others same-number) ∙ ap (λ (box : Mailbox). length box.others) there ∙ length-map c.others same-number in
       let now : returned_count new key ≡ length d.returned = ap (λ o. option_map_or (λ (x : Link). length x.returned) o 0) e in
       let then : returned_count old key ≡ length c.returned = ap (λ o. option_map_or (λ (x : Link). length x.returned) o 0) at in
       e ∙ ap Some (alike c d fixed none (omega (arith, none, waits, lent, elsewhere, now, then, r.recounts.fewer key)))

@@ -5,7 +5,7 @@ use Rattle.iox2_store.specs.machine.Numbers.{contains, without, IsOnce}
 use Rattle.iox2_slots.specs.Link.{Link, with_returned}
 use Rattle.iox2_store.specs.machine.Mailbox.{Mailbox, with_released}
 use Rattle.iox2_slots.proofs.LinkLemmas.{without-absent}
-use Rattle.iox2_ends.specs.Mailboxes.{mailbox_of, numbered}
+use Rattle.iox2_ends.specs.Mailboxes.{numbered, mailbox_of}
 use Rattle.iox2_ends.specs.Counters.{times, stands_in}
 use Rattle.iox2_ends.proofs.Counts.{one_if, times-cons, times_push}
 

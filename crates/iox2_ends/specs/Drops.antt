@@ -8,6 +8,10 @@ use Rattle.iox2_ends.specs.Mailboxes.{mailboxes_of, with_box}
 use Rattle.iox2_ends.specs.Counters.{stands_in}
 use Rattle.iox2_ends.specs.Recounts.{Recounts}
 
+-- The connection in which nothing waits.
+abbrev pub without_waiting : Link → Link
+without_waiting c = record c { waiting = []; others = [] }
+
 -- Slots that waited in the connection went: nothing else of it changes, and each of them has one holder less.
 pub record DropsFrom (holders : List ℕ) (old : Link) (holders' : List ℕ) (new : Link) : Type 0 where
   pub kept : new ≡ record old { waiting = new.waiting; others = new.others }
@@ -40,10 +44,6 @@ pub record RemovesConnection (p : ℕ) (holders : List ℕ) (old : Slab Link) (k
   pub drops : DropsAll p holders old key holders' mid
   pub unused : (drops.link).borrowed ≡ []
   pub gone : Updates mid new key None
-
--- The connection in which nothing waits, in whatever channel.
-abbrev pub without_waiting : Link → Link
-without_waiting c = record c { waiting = []; others = [] }
 
 -- The connection at the key is gone, and what waited in it is lost.
 pub record RemovesDropped (holders : List ℕ) (old : Slab Link) (key : ℕ) (link : Link) (holders' : List ℕ) (new : Slab Link) : Type 0 where

@@ -8,7 +8,7 @@ use Rattle.iox2_ends.specs.Counters.{times, stands_in}
 abbrev pub left_link : (awaited : Bool) → Link → Link
 left_link awaited c = record c { waiting = cond awaited c.waiting []; returned = []; others = cond awaited c.others [] }
 
--- Some slot waits, in whatever channel, or is borrowed.
+-- Some slot waits or is borrowed.
 abbrev pub holds_slots : Link → Bool
 holds_slots c = not (is_nil (other_slots c) && (is_nil c.waiting && is_nil c.borrowed))
 

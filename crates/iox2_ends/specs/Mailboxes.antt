@@ -6,7 +6,7 @@ use Rattle.std.specs.Option.{option_map, option_and_then}
 use Rattle.slab.specs.Slab.{Slab, get}
 use Rattle.iox2_slots.specs.Link.{Link, channel_at}
 use Rattle.iox2_store.specs.machine.Channel.{Channel, new_channels}
-use Rattle.iox2_store.specs.machine.Mailbox.{ChannelNumber, Mailbox, empty_mailbox}
+use Rattle.iox2_store.specs.machine.Mailbox.{Mailbox, ChannelNumber, empty_mailbox}
 use Rattle.iox2_store.specs.machine.Numbers.{put_at}
 use Rattle.iox2_ends.specs.LookUp.{look_up}
 
@@ -14,9 +14,9 @@ use Rattle.iox2_ends.specs.LookUp.{look_up}
 abbrev pub is_between : (p q : ℕ) → Link → Bool
 is_between p q c = (c.home.publisher == p) && (c.home.subscriber == q)
 
--- The messages in these slots of channels, where the slots have these numbers.
+-- The numbers of slots that wait in channels other than 0, where slots have these numbers.
 abbrev pub numbered : (ℕ → ℕ) → List ChannelNumber → List ChannelNumber
-numbered number others = map (λ (m : ChannelNumber). record m { number = number m.number }) others
+numbered number ms = map (λ (m : ChannelNumber). record m { number = number m.number }) ms
 
 -- The mailbox that a connection is, where its slots have these numbers.
 abbrev pub mailbox_of : (ℕ → ℕ) → Link → Mailbox
