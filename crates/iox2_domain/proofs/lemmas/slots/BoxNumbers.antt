@@ -1,19 +1,14 @@
 -- The numbers in the mailbox that a connection is, and the slots that have them.
-use Rattle.std.proofs.Common.{◌≡◌, ℕ, ◌+◌, ◌<◌, true, List, [], ◌∷◌, ◌++◌, map, refl, ap, sym, ◌∙◌, arith}
+use Rattle.std.proofs.Common.{◌≡◌, ℕ, ◌+◌, ◌<◌, true, List, [], ◌++◌, map, ap, sym, ◌∙◌, arith}
 use Rattle.std.proofs.lemmas.List.{map-append}
 use Rattle.iox2_slots.specs.Link.{Link, other_slots}
 use Rattle.iox2_store.specs.machine.Numbers.{contains}
-use Rattle.iox2_store.specs.machine.Mailbox.{ChannelNumber, numbers_in}
+use Rattle.iox2_store.specs.machine.Mailbox.{numbers_in}
 use Rattle.iox2_ends.specs.Counters.{times, stands_in}
-use Rattle.iox2_ends.specs.Mailboxes.{numbered, mailbox_of}
+use Rattle.iox2_ends.specs.Mailboxes.{mailbox_of}
 use Rattle.iox2_ends.proofs.Histories.{times-append}
+use Rattle.iox2_ends.proofs.OtherNumbers.{slots-numbered}
 use Rattle.iox2_domain.proofs.lemmas.slots.NumbersInUse.{times-there, times-stands, contains-map, contains-map_there}
-
--- the numbers of other channels are those of their slots
-pub other_numbers-are : (number : ℕ → ℕ) (others : List ChannelNumber)
-    → map (λ (m : ChannelNumber). m.number) (numbered number others) ≡ map number (map (λ (m : ChannelNumber). m.number) others)
-other_numbers-are number [] = refl
-other_numbers-are number (m ∷ ms) = ap (λ (ns : List ℕ). number m.number ∷ ns) (other_numbers-are number ms)
 
 -- The slots that stand in a connection and weren't given back.
 abbrev pub kept_slots : Link → List ℕ
@@ -22,7 +17,7 @@ kept_slots c = other_slots c ++ (c.waiting ++ c.borrowed)
 -- their numbers are those in the mailbox
 pub numbers-are_kept : (number : ℕ → ℕ) (c : Link) → numbers_in (mailbox_of number c) ≡ map number (kept_slots c)
 numbers-are_kept number c =
-    ap (λ (ns : List ℕ). ns ++ (map number c.waiting ++ map number c.borrowed)) (other_numbers-are number c.others)
+    ap (λ (ns : List ℕ). ns ++ (map number c.waiting ++ map number c.borrowed)) (slots-numbered number c.others)
     ∙ ap (λ (ns : List ℕ). map number (other_slots c) ++ ns) (sym (map-append number c.waiting c.borrowed))
     ∙ sym (map-append number (other_slots c) (c.waiting ++ c.borrowed))
 

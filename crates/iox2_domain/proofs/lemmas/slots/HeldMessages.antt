@@ -20,7 +20,7 @@ use Rattle.iox2_ends.specs.Mailboxes.{is_between, mailbox_if_any, sender_ends}
 use Rattle.iox2_ends.proofs.LookUps.{look_up-there}
 use Rattle.iox2_ends.proofs.MailboxChanges.{within_if_some, both-true}
 use Rattle.iox2_ends.proofs.Counts.{times-cons, one_if_same, stands-own}
-use Rattle.iox2_laws.proofs.NumberLemmas.{contains_in_append, contains_in_cons}
+use Rattle.iox2_laws.proofs.NumberLemmas.{contains_in_cons}
 use Rattle.iox2_domain.specs.Ports.{PublisherFields}
 use Rattle.iox2_domain.specs.declared.publisher_state.BlockedDelivery.{BlockedDelivery}
 use Rattle.iox2_domain.specs.Kept.{Named, state_of, is_named}

@@ -1,5 +1,5 @@
 -- The slots of a publisher that have a holder lie in its loans, its history and its mailboxes, and nowhere else.
-use Rattle.std.proofs.Common.{◌≡◌, ℕ, zero, suc, ◌+◌, ◌<◌, ◌≤◌, List, [], map, Bool, true, false, ◌&&◌, cond, length, get_or, refl, ap, sym, subst, ◌∙◌, inl, inr, ◌⊎◌, arith, eqb, drop}
+use Rattle.std.proofs.Common.{◌≡◌, ℕ, zero, suc, ◌+◌, ◌<◌, ◌≤◌, List, [], map, Bool, true, false, ◌&&◌, cond, length, get_or, refl, ap, sym, subst, ◌∙◌, inl, inr, arith, eqb, drop}
 use Rattle.std.proofs.lemmas.Bool.{eqb-true, eq-eqb, and_from}
 use Rattle.std.specs.declared.option.Option.{Option}
 use Rattle.std.specs.declared.option.Option.TheVariants.{None, Some}
@@ -21,7 +21,7 @@ use Rattle.iox2_ends.specs.Receivers.{HasReclaimed}
 use Rattle.iox2_ends.proofs.LookUps.{look_up-found, look_up-there}
 use Rattle.iox2_laws.proofs.Altered.{in_three, in_first, in_second, in_third}
 use Rattle.iox2_laws.proofs.MailboxLemmas.{has_numbers-contains}
-use Rattle.iox2_laws.proofs.NumberLemmas.{contains_in_append, contains_left, contains_right, contains_in_flat_map, contains-flat_map}
+use Rattle.iox2_laws.proofs.NumberLemmas.{contains_in_flat_map, contains-flat_map}
 use Rattle.iox2_laws.proofs.PlaceLemmas.{contains-occupants}
 use Rattle.iox2_laws.proofs.Sizes.{size_is, size_le}
 use Rattle.iox2_domain.specs.Ports.{PublisherFields}
