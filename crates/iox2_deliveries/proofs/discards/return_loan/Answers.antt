@@ -73,7 +73,7 @@ end_cells-requires g c =
     let cs = c.requires.contents x c.requires.stands.2 in
     let has : slice_index_or c.state.inside.contents.items x.book None ≡ Some cs.0 = ap (λ (f : Fields g.row.T.Denot g.row.U.Denot). slice_index_or f.contents x.book None) c.state.view_is ∙ cs.1 in
     let at_key : slice_index_or c.state.inside.contents.items c.publisher.inside.book None ≡ Some cs.0 = ap (λ (k : ℕ). slice_index_or c.state.inside.contents.items k None) key ∙ has in
-    subst (λ (o : Option (List (ContentState g.row.T.Denot g.row.U.Denot))). IsSomeAnd o (λ zs. c.args.slot < length zs)) (sym at_key ∙ read-there _ _ _ _ at_key c.index_mut-2.ensures.value) cs.2
+    subst (λ (o : Option (List (ContentState g.row.T.Denot g.row.U.Denot))). IsSomeAnd o (λ zs. c.args.slot < length zs)) (sym at_key ∙ read-there c.state.inside.contents.items c.publisher.inside.book _ _ at_key c.index_mut-2.ensures.value) cs.2
 
 pub returns : goal.returns
 returns g c = λ x b at has.
@@ -90,7 +90,7 @@ returns g c = λ x b at has.
     let had : slice_index_or c.state.inside.contents.items x.book None ≡ Some cs.0 = ap (λ (f : Fields g.row.T.Denot g.row.U.Denot). slice_index_or f.contents x.book None) c.state.view_is ∙ cs.1 in
     let at_key : slice_index_or c.state.inside.contents.items c.publisher.inside.book None ≡ Some cs.0 = ap (λ (k : ℕ). slice_index_or c.state.inside.contents.items k None) key ∙ had in
     let ended : c.end_cells.new.contents ≡ Some (with_changed (contents_at c.state.inside.contents.items x.book) c.args.slot ended_content) =
-    c.end_cells.ensures cs.0 (sym (read-there _ _ _ _ at_key c.index_mut-2.ensures.value) ∙ at_key)
+    c.end_cells.ensures cs.0 (sym (read-there c.state.inside.contents.items c.publisher.inside.book _ _ at_key c.index_mut-2.ensures.value) ∙ at_key)
     ∙ ap (λ (o : Option (List (ContentState g.row.T.Denot g.row.U.Denot))). Some (with_changed (contents_in o) c.args.slot ended_content)) (sym had) in
     (λ i. record {
       config = c.state.inside.config;
