@@ -63,7 +63,8 @@ module _ {T U : Type 0} (f : Fields T U) (parts : HasParts f) (i : ℕ) (x : Pub
   written : LiesWritten b slot (contents_at f.contents x.book) n l
   written = written-loan b slot (contents_at f.contents x.book) n l is_written lay
 
-  marked-written : slice_get b.marks slot ≡ Some Written
+  -- it was written
+  pub marked-written : slice_get b.marks slot ≡ Some Written
   marked-written =
       let parts = message_in-parts b (contents_at f.contents x.book) slot (Lent_message n l) lay in
       parts.marks ∙ ap Some (written-mark b (contents_at f.contents x.book) slot n l parts is_written)
