@@ -6,11 +6,11 @@ use Rattle.std.proofs.Math.ListN.{get_or-map}
 use Rattle.std.specs.Option.{option_map, option_and_then}
 use Rattle.std.specs.Prelude.{IsSomeAnd}
 use Rattle.slab.specs.Slab.{Slab, get, with_value, ContainsKey}
-use Rattle.iox2_slots.specs.Link.{Link, is_shut, IsPut}
+use Rattle.iox2_slots.specs.Link.{Link, channel_at, IsPut}
 use Rattle.iox2_store.specs.machine.Channel.{Channel, is_closed}
 use Rattle.iox2_store.specs.machine.Mailbox.{Mailbox}
 use Rattle.iox2_store.specs.machine.Records.{Environment}
-use Rattle.iox2_store.specs.machine.Delivery.{PutResult, Skipped, DeliveryEnd, Put, is_blocking, is_failed, accepted_count}
+use Rattle.iox2_store.specs.machine.Delivery.{PutResult, Skipped, DeliveryEnd, Put, PutIn, is_blocking, is_failed, accepted_count}
 use Rattle.iox2_store.specs.declared.service_config.ServiceConfig.{ServiceConfig}
 use Rattle.iox2_slots.specs.declared.connection.Home.{Home}
 use Rattle.iox2_slots.specs.declared.connection.PutOutcome.{PutOutcome}
@@ -76,22 +76,26 @@ buffers-closed slab receivers key c knows at not_receiving = by (look_up (has_id
       let shut : (eqb y.port_id c.home.subscriber && y.is_open) ≡ false = rw here at not_receiving in
       rw (rw found.2 at shut) refl
 
--- what a connection that takes messages says of its receiver and of its channel
-takes-both : (receivers : List (Option ReceiverDetails)) (i : ℕ) (c : Link) → takes_at receivers i c ≡ true → (is_open_at receivers i c.home.subscriber ≡ true) × (not (is_shut c) ≡ true)
-takes-both receivers i c h = both-true (is_open_at receivers i c.home.subscriber) (not (is_shut c)) h
+-- the channel with that number is closed
+abbrev is_shut_in : (channel : ℕ) → Link → Bool
+is_shut_in channel c = is_closed (channel_at c.channels channel)
 
-takes-open : (receivers : List (Option ReceiverDetails)) (i : ℕ) (c : Link) → takes_at receivers i c ≡ true → is_open_at receivers i c.home.subscriber ≡ true
-takes-open receivers i c h = (takes-both receivers i c h).0
+-- what a connection that takes messages in a channel says of its receiver and of the channel
+takes-both : (receivers : List (Option ReceiverDetails)) (i channel : ℕ) (c : Link) → takes_at receivers i channel c ≡ true → (is_open_at receivers i c.home.subscriber ≡ true) × (not (is_shut_in channel c) ≡ true)
+takes-both receivers i channel c h = both-true (is_open_at receivers i c.home.subscriber) (not (is_shut_in channel c)) h
 
-takes-shut : (receivers : List (Option ReceiverDetails)) (i : ℕ) (c : Link) → takes_at receivers i c ≡ true → is_shut c ≡ false
-takes-shut receivers i c h = by (is_shut c) (takes-both receivers i c h).1 where
+takes-open : (receivers : List (Option ReceiverDetails)) (i channel : ℕ) (c : Link) → takes_at receivers i channel c ≡ true → is_open_at receivers i c.home.subscriber ≡ true
+takes-open receivers i channel c h = (takes-both receivers i channel c h).0
+
+takes-shut : (receivers : List (Option ReceiverDetails)) (i channel : ℕ) (c : Link) → takes_at receivers i channel c ≡ true → is_shut_in channel c ≡ false
+takes-shut receivers i channel c h = by (is_shut_in channel c) (takes-both receivers i channel c h).1 where
   by : (b : Bool) → not b ≡ true → b ≡ false
   by true e = absurd cc
   by false e = refl
 
 -- one that doesn't has a receiver that isn't open, or a closed channel
-takes-not : (receivers : List (Option ReceiverDetails)) (i : ℕ) (c : Link) → takes_at receivers i c ≡ false → (is_open_at receivers i c.home.subscriber ≡ false) ⊎ (is_shut c ≡ true)
-takes-not receivers i c h = by (is_open_at receivers i c.home.subscriber) (is_shut c) h where
+takes-not : (receivers : List (Option ReceiverDetails)) (i channel : ℕ) (c : Link) → takes_at receivers i channel c ≡ false → (is_open_at receivers i c.home.subscriber ≡ false) ⊎ (is_shut_in channel c ≡ true)
+takes-not receivers i channel c h = by (is_open_at receivers i c.home.subscriber) (is_shut_in channel c) h where
   by : (a b : Bool) → (a && not b) ≡ false → (a ≡ false) ⊎ (b ≡ true)
   by false b e = inl refl
   by true true e = inr refl
@@ -141,9 +145,9 @@ module _ {p : ℕ} {slab : Slab Link} {keys : List (Option ℕ)} {receivers : Li
   home-of c was_c = senders-at p slab keys i key c ready.linked at was_c
 
   -- its channel says whether its receiver may take messages
-  taking-there : (c : Link) → get slab key ≡ Some c → taking_buffers slab p receivers c.home.subscriber ≡ cond (is_shut c) None (buffers_of receivers c.home.subscriber)
-  taking-there c was_c =
-      ap (λ (channels : ℕ → Channel). cond (is_closed (channels 0)) None (buffers_of receivers c.home.subscriber))
+  taking-there : (channel : ℕ) (c : Link) → get slab key ≡ Some c → taking_buffers slab p channel receivers c.home.subscriber ≡ cond (is_shut_in channel c) None (buffers_of receivers c.home.subscriber)
+  taking-there channel c was_c =
+      ap (λ (channels : ℕ → Channel). cond (is_closed (channels channel)) None (buffers_of receivers c.home.subscriber))
       (channels-there slab key p c.home.subscriber c ready.apart was_c (home-of c was_c).publisher refl)
 
   pub put-homes : (slot : ℕ) (overflow : Bool) (o : PutOutcome) (c d : Link) → get slab key ≡ Some c → IsPut c slot overflow o d → SameHomes slab (with_value slab key d)
@@ -154,10 +158,10 @@ module _ {p : ℕ} {slab : Slab Link} {keys : List (Option ℕ)} {receivers : Li
       KeepsOthers-updated p slab (with_value slab key d) key c (Some d) was_c (home-of c was_c).publisher (Updates-with_value slab key c d was_c)
 
   -- a put is the machine's, at the end to which the place leads
-  pub put-puts : {F : Type 0} (environment : Environment) (config : ServiceConfig) (v : Delivery) (handler : Option (BackpressureHandler F)) (o : PutOutcome) (c d : Link) (result : Reception) → v.publisher ≡ p → get slab key ≡ Some c → takes_at receivers i c ≡ true
+  pub put-puts : {F : Type 0} (environment : Environment) (config : ServiceConfig) (v : Delivery) (handler : Option (BackpressureHandler F)) (o : PutOutcome) (c d : Link) (result : Reception) → v.publisher ≡ p → v.channel ≡ 0 → get slab key ≡ Some c → takes_at receivers i v.channel c ≡ true
       → IsPut c v.slot config.enable_safe_overflow o d → ComesTo environment config v handler i c.home.subscriber o (result_of result) → (number : ℕ → ℕ → ℕ)
-      → PutsMessage environment config v handler (taking_buffers slab p receivers) (number p v.slot) i (subscriber_of_key slab (get_or keys i None)) (mailboxes_of number slab p) (result_of result) (mailboxes_of number (with_value slab key d) p)
-  put-puts environment config v handler o c d result by_p was_c receiving put comes number =
+      → PutsMessage environment config v handler (taking_buffers slab p v.channel receivers) (number p v.slot) i (subscriber_of_key slab (get_or keys i None)) (mailboxes_of number slab p) (result_of result) (mailboxes_of number (with_value slab key d) p)
+  put-puts environment config v handler o c d result by_p zero was_c receiving put comes number =
       rw (at, was_c) (
         mailbox_of (number p) d,
         goes,
@@ -165,29 +169,30 @@ module _ {p : ℕ} {slab : Slab Link} {keys : List (Option ℕ)} {receivers : Li
             (home-of c was_c).publisher (ap (λ (t : Home × ℕ × ℕ × Bool × List Channel). t.0) (put-fixed c v.slot config.enable_safe_overflow o d put)) (Updates-with_value slab key c d was_c) q),
       )
     where
-      takes : taking_buffers slab p receivers c.home.subscriber ≡ Some c.buffer
-      takes = taking-there c was_c
-          ∙ ap (λ (b : Bool). cond b None (buffers_of receivers c.home.subscriber)) (takes-shut receivers i c receiving)
-          ∙ buffers-open slab receivers key i c ready.knows (ready.one_id c.home.subscriber) was_c (takes-open receivers i c receiving)
+      takes : taking_buffers slab p v.channel receivers c.home.subscriber ≡ Some c.buffer
+      takes = taking-there v.channel c was_c
+          ∙ ap (λ (b : Bool). cond b None (buffers_of receivers c.home.subscriber)) (takes-shut receivers i v.channel c receiving)
+          ∙ buffers-open slab receivers key i c ready.knows (ready.one_id c.home.subscriber) was_c (takes-open receivers i v.channel c receiving)
 
-      goes : Put environment config v.publisher v.strategy (marks_of handler) (taking_buffers slab p receivers) (number p v.slot) c.home.subscriber (retries_at v i) (elapsed_at v i) (taking_buffers slab p receivers c.home.subscriber) (mailboxes_of number slab p c.home.subscriber) (result_of result) (mailbox_of (number p) d)
+      goes : PutIn environment config v.publisher v.strategy (marks_of handler) (taking_buffers slab p v.channel receivers) (number p v.slot) v.channel c.home.subscriber (retries_at v i) (elapsed_at v i) (taking_buffers slab p v.channel receivers c.home.subscriber) (mailboxes_of number slab p c.home.subscriber) (result_of result) (mailbox_of (number p) d)
       goes = rw (mailbox-there number slab key p c.home.subscriber c ready.apart was_c (home-of c was_c).publisher refl, takes)
-          (put-mailbox environment (number p) config v handler i c.home.subscriber (taking_buffers slab p receivers) c d o (result_of result) put comes)
+          (subst (λ (channel : ℕ). PutIn environment config v.publisher v.strategy (marks_of handler) (taking_buffers slab p v.channel receivers) (number p v.slot) channel c.home.subscriber (retries_at v i) (elapsed_at v i) (Some c.buffer) (mailbox_of (number p) c) (result_of result) (mailbox_of (number p) d)) (sym zero)
+          (put-mailbox environment (number p) config v handler i c.home.subscriber (taking_buffers slab p v.channel receivers) c d o (result_of result) put comes))
 
   -- a closed receiver is skipped, and so is a closed channel
-  pub put-passes : {F : Type 0} (environment : Environment) (config : ServiceConfig) (v : Delivery) (handler : Option (BackpressureHandler F)) (c : Link) → get slab key ≡ Some c → takes_at receivers i c ≡ false → (number : ℕ → ℕ → ℕ)
-      → PutsMessage environment config v handler (taking_buffers slab p receivers) (number p v.slot) i (subscriber_of_key slab (get_or keys i None)) (mailboxes_of number slab p) Skipped (mailboxes_of number slab p)
+  pub put-passes : {F : Type 0} (environment : Environment) (config : ServiceConfig) (v : Delivery) (handler : Option (BackpressureHandler F)) (c : Link) → get slab key ≡ Some c → takes_at receivers i v.channel c ≡ false → (number : ℕ → ℕ → ℕ)
+      → PutsMessage environment config v handler (taking_buffers slab p v.channel receivers) (number p v.slot) i (subscriber_of_key slab (get_or keys i None)) (mailboxes_of number slab p) Skipped (mailboxes_of number slab p)
   put-passes environment config v handler c was_c shut number =
       rw (at, was_c) (mailboxes_of number slab p c.home.subscriber, skipped, put_at-own (mailboxes_of number slab p) c.home.subscriber)
     where
-      none : taking_buffers slab p receivers c.home.subscriber ≡ None
-      none = taking-there c was_c
-          ∙ elim (takes-not receivers i c shut) [
-            | inl away ↦ ap (cond (is_shut c) None) (buffers-closed slab receivers key c ready.knows was_c (rw (home-of c was_c).place away)) ∙ cond-same (is_shut c) None
+      none : taking_buffers slab p v.channel receivers c.home.subscriber ≡ None
+      none = taking-there v.channel c was_c
+          ∙ elim (takes-not receivers i v.channel c shut) [
+            | inl away ↦ ap (cond (is_shut_in v.channel c) None) (buffers-closed slab receivers key c ready.knows was_c (rw (home-of c was_c).place away)) ∙ cond-same (is_shut_in v.channel c) None
             | inr closed ↦ ap (λ (b : Bool). cond b None (buffers_of receivers c.home.subscriber)) closed
           ]
 
-      skipped : Put environment config v.publisher v.strategy (marks_of handler) (taking_buffers slab p receivers) (number p v.slot) c.home.subscriber (retries_at v i) (elapsed_at v i) (taking_buffers slab p receivers c.home.subscriber) (mailboxes_of number slab p c.home.subscriber) Skipped (mailboxes_of number slab p c.home.subscriber)
+      skipped : PutIn environment config v.publisher v.strategy (marks_of handler) (taking_buffers slab p v.channel receivers) (number p v.slot) v.channel c.home.subscriber (retries_at v i) (elapsed_at v i) (taking_buffers slab p v.channel receivers c.home.subscriber) (mailboxes_of number slab p c.home.subscriber) Skipped (mailboxes_of number slab p c.home.subscriber)
       skipped = rw none (refl, refl)
 
 -- ---- the loop
@@ -222,15 +227,15 @@ IsReadyToDeliver-same p old new keys receivers ready same = record {
 }
 
 -- the same receivers take messages after each of its puts
-pub taking-same : (p : ℕ) (old new : Slab Link) (receivers : List (Option ReceiverDetails)) → IsApart old → SameHomes old new → taking_buffers new p receivers ≡ taking_buffers old p receivers
-taking-same p old new receivers apart same =
-    ap {B = ℕ → Option ℕ} (λ (channels : ℕ → ℕ → ℕ → Channel) (q : ℕ). cond {A = Option ℕ} (is_closed (channels p q 0)) None (buffers_of receivers q)) (channels-same old new apart same)
+pub taking-same : (p channel : ℕ) (old new : Slab Link) (receivers : List (Option ReceiverDetails)) → IsApart old → SameHomes old new → taking_buffers new p channel receivers ≡ taking_buffers old p channel receivers
+taking-same p channel old new receivers apart same =
+    ap {B = ℕ → Option ℕ} (λ (channels : ℕ → ℕ → ℕ → Channel) (q : ℕ). cond {A = Option ℕ} (is_closed (channels p q channel)) None (buffers_of receivers q)) (channels-same old new apart same)
 
 pub puts-same : {F : Type 0} (environment : Environment) (config : ServiceConfig) (v : Delivery) (handler : Option (BackpressureHandler F)) (old now : Slab Link) (receivers : List (Option ReceiverDetails)) (n i : ℕ) (end : Option ℕ) (boxes : ℕ → Mailbox) (result : PutResult) (boxes' : ℕ → Mailbox)
-    → IsApart old → SameHomes old now → PutsMessage environment config v handler (taking_buffers now v.publisher receivers) n i end boxes result boxes'
-    → PutsMessage environment config v handler (taking_buffers old v.publisher receivers) n i end boxes result boxes'
+    → IsApart old → SameHomes old now → PutsMessage environment config v handler (taking_buffers now v.publisher v.channel receivers) n i end boxes result boxes'
+    → PutsMessage environment config v handler (taking_buffers old v.publisher v.channel receivers) n i end boxes result boxes'
 puts-same environment config v handler old now receivers n i end boxes result boxes' apart same puts =
-    subst (λ (buffers : ℕ → Option ℕ). PutsMessage environment config v handler buffers n i end boxes result boxes') (taking-same v.publisher old now receivers apart same) puts
+    subst (λ (buffers : ℕ → Option ℕ). PutsMessage environment config v handler buffers n i end boxes result boxes') (taking-same v.publisher v.channel old now receivers apart same) puts
 
 -- a key leads to the same subscriber
 pub subscriber_of_key-same : (old new : Slab Link) → SameHomes old new → (x : Option ℕ) → subscriber_of_key new x ≡ subscriber_of_key old x
@@ -262,10 +267,10 @@ module _ {F : Type 0} (environment : Environment) (config : ServiceConfig) (v : 
   pub deliver-stops : (i count : ℕ) (has_failed : Bool) (boxes mid : ℕ → Mailbox) (d : Reception) → i < length ends
       → PutsMessage environment config v handler buffers n i (get_or ends i None) boxes (result_of d) mid → is_blocking (result_of d) ≡ true
       → DeliversMessage environment config v handler buffers n i (drop i ends) count has_failed boxes
-      (end_of n ends (DeliveryOutcome.Suspended (record { place = i; retries = retries_at v i; count = count; has_failed = has_failed }))) mid
+      (end_of n v.channel ends (DeliveryOutcome.Suspended (record { place = i; retries = retries_at v i; count = count; has_failed = has_failed }))) mid
   deliver-stops i count has_failed boxes mid d below at stops = rw (drop_more ends i None below) (result_of d, mid, at, rw stops (refl, refl))
 
   -- where no place remains the delivery is over
   pub deliver-ends : (i count : ℕ) (has_failed : Bool) (boxes : ℕ → Mailbox) → length ends ≤ i
-      → DeliversMessage environment config v handler buffers n i (drop i ends) count has_failed boxes (end_of n ends (DeliveryOutcome.Complete count has_failed)) boxes
+      → DeliversMessage environment config v handler buffers n i (drop i ends) count has_failed boxes (end_of n v.channel ends (DeliveryOutcome.Complete count has_failed)) boxes
   deliver-ends i count has_failed boxes over = rw (drop_all i ends over) (refl, refl)

@@ -1,9 +1,10 @@
 //! A publisher's end: its messages go to the connections at its places.
 ghost use Rattle.std.specs.Prelude.{◌≡◌, ℕ, ◌+◌, ◌≤◌, ◌<◌, ◌^◌, [], ◌∷◌, ◌++◌, true, None, Some, length, slice_index_or, IsSomeAnd, map};
 ghost use Rattle.std.specs.Option.{option_map};
-ghost use Rattle.iox2_slots.specs.Link.{load, IsBounded};
+ghost use Rattle.iox2_slots.specs.Link.{load, channel_at, IsBounded};
 ghost use Rattle.iox2_store.specs.declared.backpressure.BackpressureAction.{BackpressureAction};
 ghost use Rattle.iox2_slots.specs.SlotBook.{holders_at, IsInUse};
+ghost use Rattle.iox2_store.specs.machine.Channel.{is_closed};
 ghost use Rattle.iox2_store.specs.machine.Numbers.{last_n};
 ghost use Rattle.iox2_store.specs.machine.Delivery.{by_action, is_blocking, is_failed, accepted_count};
 ghost use Rattle.slab.specs.Slab.{get};
@@ -18,7 +19,7 @@ ghost use Rattle.iox2_ends.specs.Deliveries.{result_of, Answers, ComesTo, PutsSl
 
 use crate::drops;
 use circular_buffer::HeapCircularBuffer;
-use iox2_slots::{Connection, PutOutcome, SlotBook};
+use iox2_slots::{CHANNEL_STATE_CLOSED, Connection, PutOutcome, SlotBook};
 use iox2_store::{
     BackpressureAction, BackpressureFn, BackpressureHandler, BackpressureInfo,
     BackpressureStrategy, ServiceConfig,
@@ -96,6 +97,8 @@ pub struct Delivery {
     pub publisher: u128,
     /// The publisher's slot in which the message lies.
     pub slot: usize,
+    /// The channel of each connection into which it goes.
+    pub channel: usize,
     /// What happens at a full receiver, where no handler says otherwise.
     pub strategy: BackpressureStrategy,
     /// Where the delivery is taken up.
@@ -276,17 +279,30 @@ fn stands_open<R: Receiver>(receivers: &Vec<Option<R>>, place: usize, id: u128) 
     }
 }
 
-// Whether a connection takes messages: the subscriber, which the publisher knows at the place, is
-// open, and so is the channel. The mark of the connection mostly says so.
-fn is_open<R: Receiver>(connection: &Connection, receivers: &Vec<Option<R>>, place: usize) -> bool
+// Whether a channel of a connection takes messages: the subscriber, which the publisher knows at the
+// place, is open, and so is the channel. Of channel 0 the mark of the connection mostly says so.
+fn is_open<R: Receiver>(
+    connection: &Connection,
+    receivers: &Vec<Option<R>>,
+    place: usize,
+    channel: usize,
+) -> bool
     requires { connection.now.is_open ≡ true → is_open_at (map (option_map R.details_of) receivers.now.items) place connection.now.home.subscriber ≡ true }
-    ensures value { result ≡ takes_at (map (option_map R.details_of) receivers.now.items) place connection.now }
+    ensures value { result ≡ takes_at (map (option_map R.details_of) receivers.now.items) place channel connection.now }
     ensures bounded { IsBounded connection.now }
 {
-    if connection.is_open() {
+    if channel == 0 && connection.is_open() {
         return true;
     }
-    stands_open(receivers, place, connection.home().subscriber) && !connection.is_closed()
+    stands_open(receivers, place, connection.home().subscriber)
+        && !is_closed_in(connection, channel)
+}
+
+// Whether a channel of a connection is closed, and so takes no messages.
+fn is_closed_in(connection: &Connection, channel: usize) -> bool
+    ensures { result ≡ is_closed (channel_at connection.now.channels channel) }
+{
+    connection.channel_state(channel) == CHANNEL_STATE_CLOSED
 }
 
 // Counts the holders after a put.
@@ -320,6 +336,7 @@ fn deliver_at<R: Receiver, F: BackpressureFn>(
     place: usize,
 ) -> Reception
     requires at { place < length keys.now }
+    requires zero { delivery.now.channel ≡ 0 }
     requires ready { IsReadyToDeliver delivery.now.publisher connections.old keys.now (map (option_map R.details_of) receivers.now.items) }
     requires own { HoldsItself delivery.now.publisher delivery.now.slot book.old.holders connections.old.slots }
     requires fits { holders_at book.old delivery.now.slot + 1 < 2 ^ 64 }
@@ -336,7 +353,7 @@ fn deliver_at<R: Receiver, F: BackpressureFn>(
     };
     let connection = &mut connections[key];
     reclaim_from(connection, book);
-    if !is_open(connection, receivers, place) {
+    if !is_open(connection, receivers, place, delivery.channel) {
         return Reception::Skipped;
     }
     let outcome = connection.put(delivery.slot, config.enable_safe_overflow);
@@ -369,6 +386,7 @@ pub fn deliver<R: Receiver, F: BackpressureFn>(
     keys: &[Option<usize>],
     receivers: &Vec<Option<R>>,
 ) -> DeliveryOutcome
+    requires zero { delivery.now.channel ≡ 0 }
     requires ready { IsReadyToDeliver delivery.now.publisher connections.old keys.now (map (option_map R.details_of) receivers.now.items) }
     requires own { HoldsItself delivery.now.publisher delivery.now.slot book.old.holders connections.old.slots }
     requires start { delivery.now.start.place ≤ length keys.now }

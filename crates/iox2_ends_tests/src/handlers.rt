@@ -55,11 +55,13 @@ fn connection_with(alloc: Global, buffer_size: usize, slot: usize) -> Result<Con
 fn delivery_of(slot: usize, retries: u64) -> Delivery
     ensures sender { result.publisher ≡ 1 }
     ensures slot { result.slot ≡ slot }
+    ensures channel { result.channel ≡ 0 }
     ensures start { result.start ≡ record begun { retries = retries } }
 {
     Delivery {
         publisher: 1,
         slot,
+        channel: 0,
         strategy: BackpressureStrategy::DiscardData,
         start: Progress {
             retries,

@@ -38,7 +38,7 @@ recount-requires-clause-overwritten g c =
 pub returns-clause-puts : goal.returns-clause-puts
 returns-clause-puts g c =
     reclaim-puts c.args.place _ c.requires.ready c.in-Some.is _ c.index_mut-connection.result.now c.index_mut-connection.ensures.value c.requires.covered c.reclaim_from.new.book.holders c.reclaim_from.new.connection c.reclaim_from.ensures.reclaims
-    (asked g.F.BackpressureFn.allows c.args.handler.now) c.args.config.now c.args.delivery.now c.args.handler.now c.put-outcome.result c.put-outcome.new.self c.reception_of.result refl (sym c.is_open.ensures.value ∙ c.if-not-is_open.false)
+    (asked g.F.BackpressureFn.allows c.args.handler.now) c.args.config.now c.args.delivery.now c.args.handler.now c.put-outcome.result c.put-outcome.new.self c.reception_of.result refl c.requires.zero (sym c.is_open.ensures.value ∙ c.if-not-is_open.false)
     c.put-outcome.ensures.put
     (rw (put-home c.reclaim_from.new.connection c.args.delivery.now.slot c.args.config.now.enable_safe_overflow c.put-outcome.result c.put-outcome.new.self c.put-outcome.ensures.put) at c.reception_of.ensures)
 
