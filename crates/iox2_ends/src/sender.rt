@@ -1,15 +1,14 @@
 //! A publisher's end: its messages go to the connections at its places.
 ghost use Rattle.std.specs.Prelude.{◌≡◌, ℕ, ◌+◌, ◌≤◌, ◌<◌, ◌^◌, [], ◌∷◌, ◌++◌, true, None, Some, length, slice_index_or, IsSomeAnd, map};
 ghost use Rattle.std.specs.Option.{option_map};
-ghost use Rattle.iox2_slots.specs.Link.{load, channel_at, IsBounded};
+ghost use Rattle.iox2_slots.specs.Link.{load, IsBounded};
 ghost use Rattle.iox2_store.specs.declared.backpressure.BackpressureAction.{BackpressureAction};
 ghost use Rattle.iox2_slots.specs.SlotBook.{holders_at, IsInUse};
-ghost use Rattle.iox2_store.specs.machine.Channel.{is_closed};
 ghost use Rattle.iox2_store.specs.machine.Numbers.{last_n};
 ghost use Rattle.iox2_store.specs.machine.Delivery.{by_action, is_blocking, is_failed, accepted_count};
 ghost use Rattle.slab.specs.Slab.{get};
 ghost use Rattle.iox2_ends.specs.Homes.{IsApart, IsSenderLinked};
-ghost use Rattle.iox2_ends.specs.Receivers.{is_open_at, takes_at, HasReclaimed, IsReadyToDeliver};
+ghost use Rattle.iox2_ends.specs.Receivers.{is_open_at, takes_at, HasReclaimed, HaveChannel, IsReadyToDeliver};
 ghost use Rattle.iox2_ends.specs.Counters.{times, IsCovered, HoldsItself, GrowsAlone, recounted, CanLeave, with_counters, one_holder_more};
 ghost use Rattle.iox2_ends.specs.Recounts.{Recounts, returned_count};
 ghost use Rattle.iox2_ends.specs.Reclaims.{IsHeld, Reclaims, ReclaimsFrom};
@@ -19,7 +18,7 @@ ghost use Rattle.iox2_ends.specs.Deliveries.{result_of, Answers, ComesTo, PutsSl
 
 use crate::drops;
 use circular_buffer::HeapCircularBuffer;
-use iox2_slots::{CHANNEL_STATE_CLOSED, Connection, PutOutcome, SlotBook};
+use iox2_slots::{Connection, PutOutcome, SlotBook};
 use iox2_store::{
     BackpressureAction, BackpressureFn, BackpressureHandler, BackpressureInfo,
     BackpressureStrategy, ServiceConfig,
@@ -294,15 +293,7 @@ fn is_open<R: Receiver>(
     if channel == 0 && connection.is_open() {
         return true;
     }
-    stands_open(receivers, place, connection.home().subscriber)
-        && !is_closed_in(connection, channel)
-}
-
-// Whether a channel of a connection is closed, and so takes no messages.
-fn is_closed_in(connection: &Connection, channel: usize) -> bool
-    ensures { result ≡ is_closed (channel_at connection.now.channels channel) }
-{
-    connection.channel_state(channel) == CHANNEL_STATE_CLOSED
+    stands_open(receivers, place, connection.home().subscriber) && !connection.is_closed(channel)
 }
 
 // Counts the holders after a put.
@@ -336,7 +327,7 @@ fn deliver_at<R: Receiver, F: BackpressureFn>(
     place: usize,
 ) -> Reception
     requires at { place < length keys.now }
-    requires zero { delivery.now.channel ≡ 0 }
+    requires known { HaveChannel delivery.now.channel connections.old }
     requires ready { IsReadyToDeliver delivery.now.publisher connections.old keys.now (map (option_map R.details_of) receivers.now.items) }
     requires own { HoldsItself delivery.now.publisher delivery.now.slot book.old.holders connections.old.slots }
     requires fits { holders_at book.old delivery.now.slot + 1 < 2 ^ 64 }
@@ -356,15 +347,15 @@ fn deliver_at<R: Receiver, F: BackpressureFn>(
     if !is_open(connection, receivers, place, delivery.channel) {
         return Reception::Skipped;
     }
-    let outcome = connection.put(delivery.slot, config.enable_safe_overflow);
+    let outcome = connection.put(delivery.channel, delivery.slot, config.enable_safe_overflow);
     recount(book, outcome, delivery.slot);
     reception_of(config, delivery, handler, place, connection, outcome)
 }
 
-/// Delivers a message to the receivers at the places that remain, one after the other, until one
-/// blocks it. What each gave back is reclaimed first. A receiver that is closed or whose channel is
-/// closed is skipped. One with room takes the message, and with safe overflow each does; at any other
-/// the handler decides, or the strategy where there is no handler.
+/// Delivers a message into a channel of the connections at the places that remain, one after the
+/// other, until a receiver blocks it. What each gave back is reclaimed first. A receiver that is
+/// closed or whose channel is closed is skipped. One with room takes the message, and with safe
+/// overflow each does; at any other the handler decides, or the strategy where there is no handler.
 ///
 /// A send starts at the first place. A send that was blocked is taken up where it blocked, or behind
 /// that receiver, with what it came to so far.
@@ -386,7 +377,7 @@ pub fn deliver<R: Receiver, F: BackpressureFn>(
     keys: &[Option<usize>],
     receivers: &Vec<Option<R>>,
 ) -> DeliveryOutcome
-    requires zero { delivery.now.channel ≡ 0 }
+    requires known { HaveChannel delivery.now.channel connections.old }
     requires ready { IsReadyToDeliver delivery.now.publisher connections.old keys.now (map (option_map R.details_of) receivers.now.items) }
     requires own { HoldsItself delivery.now.publisher delivery.now.slot book.old.holders connections.old.slots }
     requires start { delivery.now.start.place ≤ length keys.now }
@@ -549,7 +540,7 @@ fn put_in_room(connection: &mut Connection, book: &mut SlotBook, slot: usize)
     ensures connection { connection.new ≡ record connection.old { waiting = connection.old.waiting ++ slot ∷ [] } }
     ensures book { book.new ≡ with_counters book.old (one_holder_more slot book.old.holders) }
 {
-    if let PutOutcome::Taken = connection.put(slot, false) {
+    if let PutOutcome::Taken = connection.put(0, slot, false) {
         book.hold(slot);
     }
 }

@@ -47,7 +47,7 @@ fn connection_with(alloc: Global, buffer_size: usize, slot: usize) -> Result<Con
     ensures { IfOk result (λ c. c ≡ record (empty_link HOME buffer_size 1 1) { waiting = slot ∷ [] }) }
 {
     let mut connection = Connection::new(alloc, HOME, buffer_size, 1, 1)?;
-    connection.put(slot, false);
+    connection.put(0, slot, false);
     Ok(connection)
 }
 

@@ -3,7 +3,7 @@ use Rattle.iox2_store.specs.machine.Mailbox.{Mailbox}
 use Rattle.iox2_store.specs.machine.Delivery.{DeliveryEnd, DeliverIn}
 use Rattle.iox2_ends.specs.Handlers.{asked, marks_of}
 use Rattle.iox2_ends.specs.Mailboxes.{mailboxes_of, sender_ends}
-use Rattle.iox2_ends.specs.Receivers.{IsReadyToDeliver, taking_buffers}
+use Rattle.iox2_ends.specs.Receivers.{HaveChannel, IsReadyToDeliver, taking_buffers}
 use Rattle.iox2_ends.specs.Counters.{GrowsAlone, with_counters}
 use Rattle.iox2_ends.specs.Recounts.{Recounts}
 use Rattle.iox2_ends.specs.Deliveries.{DeliversMessage}
@@ -15,6 +15,7 @@ use Rattle.iox2_ends.proofs.sender.deliver.Given as goal
 abbrev pub invariant-loop-place : goal.invariant-loop-place
 invariant-loop-place g l = record {
   ready : IsReadyToDeliver l.delivery.publisher l.connections l.keys (map (option_map g.R.Receiver.details_of) l.receivers.items);
+  known : HaveChannel l.delivery.channel l.connections;
   recounts : Recounts l.delivery.publisher l.fn.book.holders l.fn.connections l.book.holders l.connections;
   count : ℕ;
   counts : count + l.missed ≡ l.place;
