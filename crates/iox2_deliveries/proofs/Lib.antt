@@ -8,3 +8,4 @@ mod GrowthPass
 mod GrowingPass
 pub mod SentEnds
 mod ToConnection
+mod WaitingChannels
