@@ -24,7 +24,7 @@ part-numbered number test (m ∷ ms) = by (test m.channel) (part-numbered number
   by true rest = ap (λ (xs : List ChannelNumber). record m { number = number m.number } ∷ xs) rest
   by false rest = rest
 
-slots-numbered : (number : ℕ → ℕ) (ms : List ChannelNumber) → slots_of (numbered number ms) ≡ map number (slots_of ms)
+pub slots-numbered : (number : ℕ → ℕ) (ms : List ChannelNumber) → slots_of (numbered number ms) ≡ map number (slots_of ms)
 slots-numbered number [] = refl
 slots-numbered number (m ∷ ms) = ap (λ (ns : List ℕ). number m.number ∷ ns) (slots-numbered number ms)
 

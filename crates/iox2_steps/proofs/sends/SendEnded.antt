@@ -130,7 +130,7 @@ module _ {T U : Type 0} (f : Fields T U) (parts : HasParts f) (i : ℕ) (x : Pub
   -- ---- the state
 
   -- the loan is out no more
-  ended-loans : (state_of (kept_of ended)).loans ≡ put_at (state_of (kept_of f)).loans n None
+  pub ended-loans : (state_of (kept_of ended)).loans ≡ put_at (state_of (kept_of f)).loans n None
   ended-loans = fun_ext (λ m. by m (eqb m n) refl) where
     found_loan : Option (KeptMessage T U) → Option (Loan T U)
     found_loan None = None
@@ -170,7 +170,7 @@ module _ {T U : Type 0} (f : Fields T U) (parts : HasParts f) (i : ℕ) (x : Pub
 
   -- ---- the parts
 
-  ended-shapes : HasShapes ended
+  pub ended-shapes : HasShapes ended
   ended-shapes = record { at = λ k s c m stands e. shape k s m (message_at-slot f.contents ended.books k s c stands ∙ e) } where
     old : (k s : ℕ) (m : KeptMessage T U) → lies_at f k s ≡ Some m → HasShape f.config m
     old k s m e = let there = message_at-book f.contents f.books k s m e in parts.shapes.at k s there.0 m there.1 there.2
