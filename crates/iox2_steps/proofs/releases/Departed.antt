@@ -1,11 +1,11 @@
 -- A subscriber forgets a departed publisher of which it has no message any more.
-use Rattle.std.proofs.Common.{◌≡◌, ◌≢◌, ℕ, ◌+◌, Bool, true, false, ◌||◌, not, ◌&&◌, List, map, length, get_or, is_some, [], ◌∷◌, arith, Option, None, Some, refl, ap, sym, subst, ◌∙◌, inl, inr, ◌⊎◌}
+use Rattle.std.proofs.Common.{◌≡◌, ◌≢◌, ℕ, ◌+◌, Bool, true, false, ◌||◌, List, map, length, get_or, is_some, [], ◌∷◌, arith, Option, None, Some, refl, ap, sym, subst, ◌∙◌, inl, inr, ◌⊎◌}
 use Rattle.std.proofs.lemmas.Bool.{eq-eqb, or_right}
 use Rattle.std.specs.Option.{option_map}
 use Rattle.slab.specs.Slab.{Slab, Updates, get}
 use Rattle.iox2_slots.specs.Link.{Link, load}
 use Rattle.iox2_store.specs.machine.Mailbox.{has_numbers, ChannelNumber}
-use Rattle.iox2_store.specs.machine.Numbers.{put_at, is_nil}
+use Rattle.iox2_store.specs.machine.Numbers.{put_at}
 use Rattle.iox2_store.specs.machine.Records.{Publisher, Subscriber}
 use Rattle.iox2_store.specs.machine.Releases.{is_connected, pruned, subscriber_pruned, unborrowed}
 use Rattle.iox2_store.specs.machine.State.{State, is_present}

@@ -1,10 +1,9 @@
 -- A send to one connection gives the loan back where its publisher has none at that place, or is gone.
-use Rattle.std.proofs.Common.{◌≡◌, ℕ, zero, suc, ◌+◌, false, Bool, List, [], ◌∷◌, drop, take, get_or, refl, ap, sym, subst, ◌∙◌, inr, Option, None, Some}
+use Rattle.std.proofs.Common.{◌≡◌, ℕ, zero, suc, false, Bool, List, [], ◌∷◌, drop, take, get_or, refl, ap, sym, subst, ◌∙◌, inr, Option, None, Some}
 use Rattle.std.proofs.lemmas.Option.{same_Some}
 use Rattle.std.specs.Option.{option_map}
 use Rattle.std.specs.Prelude.{MatchOption}
 use Rattle.std.specs.declared.time.Duration.{Duration}
-use mathlib.Core.Path.{fun_ext}
 use Rattle.iox2_store.specs.machine.Delivery.{DeliverIn, Complete, Skipped, no_time}
 use Rattle.iox2_store.specs.machine.Loans.{loan_discarded}
 use Rattle.iox2_store.specs.machine.Mailbox.{Mailbox}
