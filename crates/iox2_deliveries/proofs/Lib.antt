@@ -7,3 +7,4 @@ mod ReadyPass
 mod GrowthPass
 mod GrowingPass
 pub mod SentEnds
+mod ToConnection
