@@ -32,7 +32,7 @@ use Rattle.iox2_domain.specs.BlockedSends.{CanGoOn, GoesOn, ConcludesAs, HasBloc
 use Rattle.iox2_domain.specs.ConnectionSends.{begun_at, begun_delivery, with_begun, SendsLoanTo}
 use Rattle.iox2_domain.specs.Deliveries.{with_sent, result_of_send}
 use Rattle.iox2_domain.specs.Fields.{Fields, kept_of, publisher_of, numbers_of, within_reach}
-use Rattle.iox2_domain.specs.Invariant.{IsDomain, IsOwned, HasParts, HasNumber, HasLoneLoans, KeepsBooks}
+use Rattle.iox2_domain.specs.Invariant.{IsDomain, IsOwned, HasParts, HasNumber, HasLoneLoans, KeepsBooks, cell_count}
 use Rattle.iox2_domain.specs.Kept.{KeptMessage, Lent_message, state_of, entries_of, entry_in}
 use Rattle.iox2_domain.specs.Ports.{PublisherFields}
 use Rattle.iox2_domain.specs.Reaches.{Reaches}
@@ -51,8 +51,11 @@ use Rattle.iox2_domain.proofs.lemmas.slots.PublisherBooks.{book-own, book-owned}
 use Rattle.iox2_steps.proofs.sends.GoneOn.{goes-on}
 use Rattle.iox2_steps.proofs.sends.LoanAlone.{loan-is, loan-of, loan-once, loan-number, loan-alone}
 use Rattle.iox2_steps.proofs.sends.Reach.{reach-ends}
-use Rattle.iox2_steps.proofs.sends.SendEnded.{ended-numbered, ended-loans, ended-shapes, ended-entries, only-slot, sent-there, others-same}
+use Rattle.iox2_steps.proofs.sends.SendEnded.{ended-numbered, ended-loans, ended-shapes, ended-entries, only-slot, sent-there, others-same, marked-written}
 use Rattle.iox2_steps.proofs.sends.SentSlots.{sent-keeps}
+use Rattle.iox2_slots.specs.declared.slots.mark.SlotMark.TheVariants.{Unwritten, Written, Sent}
+use Rattle.circular_buffer.proofs.Places.{slice_get-set_other}
+use Rattle.std.specs.Prelude.{slice_get}
 
 -- at a key's place stands an end
 keyed-end : (connections : Slab Link) (keys : List (Option ℕ)) (place key : ℕ) (c : Link) → get_or keys place None ≡ Some key → get connections key ≡ Some c → occupant (sender_ends connections keys) place ≡ Some c.home.subscriber
@@ -93,10 +96,20 @@ module _ {T U : Type 0} (f : Fields T U) (sound : IsDomain f) (i : ℕ) (x : Pub
   parts-after =
       own-parts f sound.parts i x here b at own waiter keeps (with_sent slot b) (sent-keeps b slot) (λ s. refl) refl
       (λ has d e. subst (λ (s : ℕ). 0 < times s x.loans) (ap (λ (o : Option BlockedDelivery). option_map_or (λ (v : BlockedDelivery). v.slot) o 0) e) (omega (arith, once)))
+      unwritten
       aligned
       (ended-numbered f sound.parts i x here b at own slot n l is_in_use lies is_written once free)
       (record { at = (ended-shapes f sound.parts i x here b at own slot n l is_in_use lies is_written once free).at })
     where
+      -- the slot itself was written
+      unwritten : (s : ℕ) → 0 < cell_count f.contents x.book s → slice_get b.marks s ≡ Some Unwritten → 0 < times s x.loans
+          → (0 < times s waiter.loans) × (slice_get (with_sent slot b).marks s ≡ Some Unwritten)
+      unwritten s some marked out = elim (cases_eq s slot) [
+        | inl same ↦ absurd (let no : Some Unwritten ≡ Some Written = sym marked ∙ ap (slice_get b.marks) same
+            ∙ marked-written f sound.parts i x here b at own slot n l is_in_use lies is_written once free in cc)
+        | inr away ↦ (out, slice_get-set_other b.marks slot s Sent away ∙ marked)
+      ]
+
       aligned : IsAligned (with_sent slot b)
       aligned =
           let old : IsAligned b = (sound.parts.books.books x.book b at).aligned in
