@@ -221,7 +221,7 @@ fn a_closed_channel_takes_no_slice(rt: HostRuntime) {
     assert!(rt; closed_again == [true, false]);
 }
 
-// Slices go to channel 0 alone, and no call on one channel changes another.
+// A send goes to channel 0 alone, and no call on one channel changes another.
 #[test]
 fn a_further_channel_of_slices_has_a_state_of_its_own(rt: HostRuntime) {
     let mut domain: Domain<u64, u64> = Domain::new(rt.alloc(), two_channels()).expect(
