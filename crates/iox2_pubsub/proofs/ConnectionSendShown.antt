@@ -1,5 +1,5 @@
 -- A send to one connection, seen from outside.
-use Rattle.std.proofs.Common.{◌≡◌, ◌≢◌, ◌⊎◌, ℕ, List, Bool, true, false, drop, take, refl, ap, sym, subst, ◌∙◌, inl, inr, Option, None, Some, Result, Ok, Err}
+use Rattle.std.proofs.Common.{◌≡◌, ◌≢◌, ◌⊎◌, ℕ, List, [], Bool, true, false, drop, take, refl, ap, sym, subst, ◌∙◌, inl, inr, Option, None, Some, Result, Ok, Err}
 use Rattle.std.specs.Prelude.{IsOk, IfErr}
 use Rattle.std.proofs.lemmas.Bool.{cases_eq, ne_eqb}
 use Rattle.iox2_store.specs.machine.Delivery.{DeliverIn, DeliveryEnd, Complete, Suspended, no_time}
@@ -40,7 +40,7 @@ use Rattle.iox2_pubsub.proofs.SendShown.{LeavesSent, leaves-shown, loan-is}
 use Rattle.iox2_pubsub.proofs.SendsServe.{EndsStay, same-connections}
 use Rattle.iox2_pubsub.proofs.SentMessages.{after-error, sent-before-stays}
 use Rattle.iox2_pubsub.proofs.StaysBut.{BoxesStayBut, IsSpared, SparedPublishers, none-spared, stays-between}
-use Rattle.iox2_pubsub.proofs.UnfailedSends.{IsMild, IsUnfailed, delivered-unfailed}
+use Rattle.iox2_pubsub.proofs.UnfailedSends.{HasNotFailed, IsMild, IsUnfailed, delivered-unfailed}
 use Rattle.iox2_pubsub.proofs.UpToDateShown.{stay}
 use Rattle.iox2_pubsub.proofs.WaitingShown.{payloads-stay-from}
 use mathlib.Core.Path.{fun_ext}
@@ -142,7 +142,7 @@ module _ {T U : Type 0} (environment : Environment) (s : State T U) (n : ℕ) (l
 
 module _ {T U : Type 0} (environment : Environment) (f g : Fields T U) (n channel connection : ℕ) (result : SendResult) (sends : SendsLoanTo environment f g n channel connection result)
     (m : Messages T U) (s : State T U) (l : Loan T U) (shown : Shows (kept_of f) m s) (out : s.loans n ≡ Some l) where
-  leaves : LeavesSent f g n result
+  abbrev leaves : LeavesSent f g n result
   leaves = record {
     loan = sends.loan;
     out = sends.out;
@@ -247,7 +247,7 @@ module _ {T U F G : Type 0} (old new : Kept T U F G) (m : Messages T U) (s : Sta
       keeps true boxes (send_to_connection_waits environment s n l channel place s' result h (IsSpared (A_sent_loan n l.publisher true)) (λ other. other refl)) (record {
         unfailed = λ p spared low mild none. elim (cases_eq p l.publisher) [
           | inr away ↦ absurd (spared away)
-          | inl same ↦ subst _ (sym same) ((to-unfailed environment s n l channel place s' result h (subst (IsMild s) same mild)).0)
+          | inl same ↦ subst (HasNotFailed s') (sym same) ((to-unfailed environment s n l channel place s' result h (subst (IsMild s) same mild)).0)
         ];
         waits = λ key spared never. elim (cases_eq key.port l.publisher) [
           | inr away ↦ absurd (spared away)
