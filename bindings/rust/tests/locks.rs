@@ -149,7 +149,12 @@ fn threads_that_sleep_at_once_are_woken_one_by_one() {
         assert_eq!(publisher.send_copy(7).unwrap().delivered(), Some(1));
         assert_eq!(receives.join(), Some(7));
     });
-    // The end of a send wakes who waits for it.
+}
+
+#[test]
+fn the_end_of_a_send_wakes_who_waits_for_it() {
+    let domain = keeping().create_with_lock::<Sleepy>().unwrap();
+    let (publisher, subscriber) = (domain.publisher().unwrap(), domain.subscriber().unwrap());
     let loan = publisher.loan_uninit().unwrap().write_payload(4);
     for number in 1..3 {
         assert_eq!(publisher.send_copy(number).unwrap().delivered(), Some(1));
@@ -164,7 +169,8 @@ fn threads_that_sleep_at_once_are_woken_one_by_one() {
         // It has tried again, is blocked by the full buffer, and sleeps again.
         sends.has_had(TO_SLEEP + 1 + TO_SLEEP);
         for number in 2..5 {
-            assert_eq!(receive(), Some(number));
+            let received = subscriber.blocking_receive_copy().unwrap();
+            assert_eq!(received, Some(number));
         }
         assert_eq!(sends.join(), Some(1));
     });

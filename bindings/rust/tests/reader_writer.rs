@@ -8,9 +8,9 @@ use iox2_pubsub::{
     Threads, Writer,
 };
 use std::sync::mpsc;
-use std::thread;
+use std::thread::{self, Scope};
 use std::time::{Duration, Instant};
-use turns::{asleep_after, stopped_after, Watched, WatchedThreads, TO_SLEEP};
+use turns::{asleep_after, stopped_after, Watch, Watched, WatchedThreads, TO_SLEEP};
 
 const MOMENT: Duration = Duration::from_millis(20);
 
@@ -285,6 +285,17 @@ fn a_slot_that_a_waiting_reader_gives_back_frees_a_loan() {
 // How often a reader's first wait takes the lock before it asks: that others may serve it.
 const TO_ASK: usize = 1;
 
+// A thread that reads so many messages, and stands after so many turns.
+fn stopped_reader<'s, const N: usize>(
+    scope: &'s Scope<'s, '_>,
+    turns: usize,
+    subscriber: &'s Subscriber<u64, WatchedThreads>,
+) -> Watch<'s, [Option<u64>; N]> {
+    let mut reader = subscriber.reader();
+    let mut read = move || reader.blocking_receive().unwrap().copied();
+    stopped_after(scope, turns, move || [(); N].map(|()| read()))
+}
+
 #[test]
 fn what_a_reader_has_stays_when_it_does_not_ask() {
     let domain = keeping(4, 4);
@@ -308,13 +319,11 @@ fn what_a_reader_is_served_before_it_has_the_lock_is_read_once() {
     let domain = watched(2, 2);
     let (publisher, subscriber) = (domain.publisher().unwrap(), domain.subscriber().unwrap());
     thread::scope(|scope| {
-        let reads = stopped_after(scope, TO_ASK, || {
-            let mut reader = subscriber.reader();
-            [0; 2].map(|_| reader.blocking_receive().unwrap().copied())
-        });
+        let reads = stopped_reader(scope, TO_ASK, &subscriber);
         // The first is served, and the second waits in the buffer.
         for number in 0..2 {
             assert!(is_delivered(publisher.send_copy(number)));
+            assert_eq!(subscriber.has_samples().unwrap(), number == 1);
         }
         reads.go_on();
         assert_eq!(reads.join(), [Some(0), Some(1)]);
@@ -331,10 +340,7 @@ fn a_blocked_send_goes_on_when_it_has_made_room() {
         // It has lent and is blocked, and stands before the retry.
         let send = || is_delivered(publisher.writer().blocking_send(1));
         let sends = stopped_after(scope, 2, send);
-        let reads = stopped_after(scope, TO_ASK, || {
-            let mut reader = subscriber.reader();
-            [0; 2].map(|_| reader.blocking_receive().unwrap().copied())
-        });
+        let reads = stopped_reader(scope, TO_ASK, &subscriber);
         sends.go_on();
         assert!(sends.join());
         reads.go_on();
@@ -351,10 +357,7 @@ fn a_blocked_send_goes_on_when_another_has_made_room() {
     thread::scope(|scope| {
         let send = || is_delivered(publisher.writer().blocking_send(1));
         let sends = asleep_after(scope, 2 + TO_SLEEP, send);
-        let reads = stopped_after(scope, TO_ASK, || {
-            let mut reader = subscriber.reader();
-            [0; 3].map(|_| reader.blocking_receive().unwrap().copied())
-        });
+        let reads = stopped_reader(scope, TO_ASK, &subscriber);
         assert!(is_delivered(other.send_copy(2)));
         assert!(sends.join());
         reads.go_on();
@@ -370,10 +373,7 @@ fn a_loan_goes_on_when_it_has_freed_its_slot() {
     assert!(is_delivered(publisher.send_copy(0)));
     thread::scope(|scope| {
         // It asks for the first one too, and takes it itself.
-        let reads = stopped_after(scope, 1 + TO_ASK, || {
-            let mut reader = subscriber.reader();
-            [0; 2].map(|_| reader.blocking_receive().unwrap().copied())
-        });
+        let reads = stopped_reader(scope, TO_ASK + 1, &subscriber);
         assert!(is_delivered(publisher.writer().blocking_send(1)));
         reads.go_on();
         assert_eq!(reads.join(), [Some(0), Some(1)]);
@@ -480,8 +480,8 @@ fn a_message_of_a_writer_wakes_a_reader() {
     let (publisher, subscriber) = (domain.publisher().unwrap(), domain.subscriber().unwrap());
     let (tell, told) = mpsc::channel();
     thread::scope(|scope| {
-        let reads = asleep_after(scope, TO_ASK + TO_SLEEP, || {
-            let mut reader = subscriber.reader();
+        let mut reader = subscriber.reader();
+        let reads = asleep_after(scope, TO_ASK + TO_SLEEP, move || {
             while let Some(number) = reader.blocking_receive().unwrap() {
                 tell.send(*number).unwrap();
             }
