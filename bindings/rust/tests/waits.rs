@@ -32,6 +32,15 @@ fn watched(buffer: usize) -> Domain<u64, WatchedThreads> {
     settings(buffer).create_with_lock::<Watched>().unwrap()
 }
 
+// A publisher of one slot.
+fn of_one_slot(domain: &Domain<u64, WatchedThreads>) -> Publisher<u64, WatchedThreads> {
+    let builder = domain.publisher_builder();
+    builder
+        .override_sample_preallocation(|_| 1)
+        .create()
+        .unwrap()
+}
+
 // A thread waits for a loan, and has it once `ends` has been called.
 fn lends_after(publisher: &Publisher<u64, WatchedThreads>, ends: impl FnOnce()) {
     thread::scope(|scope| {
@@ -62,11 +71,7 @@ fn a_loan_waits_for_a_loan_that_is_given_back_or_sent() {
 #[test]
 fn a_loan_waits_for_a_slot_that_is_released() {
     let domain = watched(2);
-    let publisher = domain
-        .publisher_builder()
-        .override_sample_preallocation(|_| 1)
-        .create()
-        .unwrap();
+    let publisher = of_one_slot(&domain);
     let subscriber = domain.subscriber().unwrap();
     publisher.send_copy(1).unwrap().delivered();
     let sample = subscriber.receive().unwrap().unwrap();
@@ -91,11 +96,7 @@ fn a_loan_waits_for_a_slot_that_is_released() {
 #[test]
 fn a_loan_waits_for_a_slot_that_comes_back_while_the_next_message_is_waited_for() {
     let domain = watched(1);
-    let publisher = domain
-        .publisher_builder()
-        .override_sample_preallocation(|_| 1)
-        .create()
-        .unwrap();
+    let publisher = of_one_slot(&domain);
     let subscriber = domain.subscriber().unwrap();
     publisher.send_copy(0).unwrap().delivered();
     let mut next = 0;
