@@ -43,19 +43,18 @@ fn next<M: Threads>(reader: &mut Reader<'_, u64, M>) -> Option<u64> {
 }
 
 // Two producers and four consumers, each of whom gets all in order.
-fn all_in_order<M: MayWait>(domain: &Domain<u64, M>, capacity: usize)
+fn all_in_order<M: MayWait>(domain: &Domain<u64, M>, capacity: usize, messages: u64)
 where
     Publisher<u64, M>: Sync,
     Subscriber<u64, M>: Sync,
 {
-    const MESSAGES: u64 = 3000;
     let publishers = [domain.publisher().unwrap(), domain.publisher().unwrap()];
     let subscribers: Vec<_> = (0..4).map(|_| domain.subscriber().unwrap()).collect();
     thread::scope(|scope| {
         for (of, publisher) in publishers.iter().enumerate() {
             scope.spawn(move || {
                 let mut writer = publisher.writer();
-                for number in 0..MESSAGES {
+                for number in 0..messages {
                     let sent = writer.blocking_send(number << 1 | of as u64).unwrap();
                     assert_eq!(sent.delivered(), Some(4));
                 }
@@ -65,12 +64,12 @@ where
             scope.spawn(move || {
                 let mut reader = subscriber.reader_with_capacity(capacity);
                 let mut next = [0, 0];
-                for _ in 0..2 * MESSAGES {
+                for _ in 0..2 * messages {
                     let value = *reader.blocking_receive().unwrap().unwrap();
                     assert_eq!(value >> 1, next[(value & 1) as usize]);
                     next[(value & 1) as usize] += 1;
                 }
-                assert_eq!(next, [MESSAGES; 2]);
+                assert_eq!(next, [messages; 2]);
             });
         }
     });
@@ -81,8 +80,10 @@ fn each_reader_gets_all_in_order() {
     for (buffer, borrowed, capacity) in [(1, 1, 1), (2, 2, 2), (8, 3, 64), (64, 64, 64), (4, 8, 0)]
     {
         let domain = keeping(buffer, borrowed);
-        all_in_order(&domain, capacity);
-        all_in_order(&domain.borrowed(), capacity);
+        // With short buffers the threads wait for each other at each message.
+        let messages = if buffer < 8 { 500 } else { 3000 };
+        all_in_order(&domain, capacity, messages);
+        all_in_order(&domain.borrowed(), capacity, messages);
         assert_eq!((domain.book_count(), domain.connection_count()), (0, 0));
     }
 }
