@@ -13,8 +13,8 @@ pub type WatchedThreads = ManyThreads<Watched>;
 /// How often a wait takes the lock before its thread sleeps: it tries, and is put into the list of those who wait.
 pub const TO_SLEEP: usize = 2;
 
-/// A lock that counts the turns of each thread that `start` or `turns_of` watches. Its threads look for a change before they
-/// sleep as often as it says; the default is that of the trait.
+/// A lock that counts the turns of the threads that are watched. How often a thread looks for a change before it sleeps is a
+/// parameter; the default is that of the trait.
 pub struct Watched<const LOOKS: u32 = 10>(Mutex<()>);
 
 // SAFETY: it is a mutex.
