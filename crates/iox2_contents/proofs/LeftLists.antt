@@ -9,6 +9,11 @@ use Rattle.iox2_contents.specs.RoomLists.{RoomList, with_each, with_first}
 abbrev pub room-list : {A : Type 0} → List A → ℕ → RoomList A
 room-list items room = record { items = items; room = room }
 
+-- no items
+pub no-items : {A : Type 0} (xs : List A) → length xs ≡ 0 → xs ≡ []
+no-items [] none = refl
+no-items (x ∷ xs) none = absurd (omega (arith, none))
+
 -- more of the cells that are alike are listed
 pub listed-more : {A : Type 0} (xs : List A) (n m : ℕ) (x : A) → m ≤ n → (xs ++ replicate m x) ++ replicate (n - m) x ≡ xs ++ replicate n x
 listed-more xs n m x within =

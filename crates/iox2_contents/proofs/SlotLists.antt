@@ -1,0 +1,368 @@
+-- Which lists of cells there are, where one slot changes.
+use Rattle.std.proofs.Common.{◌≡◌, ◌≢◌, ◌⊎◌, ◌<◌, ◌≤◌, ◌+◌, ◌∙◌, ◌==◌, ◌&&◌, ℕ, zero, suc, Bool, true, false, Some, cond, List, [], ◌∷◌, length, map, get_or, slice_set, inl, inr, refl, ap, sym, subst, arith}
+use Rattle.std.proofs.lemmas.Bool.{cases_eq}
+use Rattle.std.proofs.lemmas.List.{map-set}
+use Rattle.std.proofs.lemmas.List.Elements.{All-head, All-set, All-tail}
+use Rattle.std.proofs.lemmas.List.Sums.{sum_by-cons, sum_by-set, get_or-le-sum_by}
+use Rattle.std.specs.Prelude.{slice_get, nat_lt, nat_le, sum_by, IsSomeAnd}
+use Rattle.std.specs.List.{All}
+use Rattle.iox2_contents.specs.SlotContents.{ContentState, is_open, open_count}
+use Rattle.iox2_contents.specs.SlotStates.{SlotState, contents_of, has_list, waits}
+use Rattle.iox2_contents.specs.SlotRooms.{HasLists, HasListsBut, ListsCells, ShowsAtMost, one_if_long, long_count}
+
+-- there is such a place
+pub within : {A : Type 0} (xs : List A) (i : ℕ) (x : A) → slice_get xs i ≡ Some x → i < length xs
+within [] i x at = absurd at
+within (y ∷ ys) zero x at = omega arith
+within (y ∷ ys) (suc i) x at = let rest = within ys i x at in omega (arith, rest)
+
+-- what indexing gives there
+pub reads : {A : Type 0} (xs : List A) (i : ℕ) (x d : A) → slice_get xs i ≡ Some x → get_or xs i d ≡ x
+reads [] i x d at = absurd at
+reads (y ∷ ys) zero x d at = let same : Some y ≡ Some x = at in cc
+reads (y ∷ ys) (suc i) x d at = reads ys i x d at
+
+-- what stands there
+pub there : {A : Type 0} (xs : List A) (i : ℕ) (d : A) → i < length xs → slice_get xs i ≡ Some (get_or xs i d)
+there [] i d low = absurd (omega (arith, low))
+there (x ∷ xs) zero d low = refl
+there (x ∷ xs) (suc i) d low = there xs i d (omega (arith, low))
+
+-- the image of what is there
+pub mapped : {A B : Type 0} (f : A → B) (xs : List A) (i : ℕ) (x : A) → slice_get xs i ≡ Some x → slice_get (map f xs) i ≡ Some (f x)
+mapped f [] i x at = absurd at
+mapped f (y ∷ ys) zero x at = let same : Some y ≡ Some x = at in let is : y ≡ x = cc in ap (λ z. Some (f z)) is
+mapped f (y ∷ ys) (suc i) x at = mapped f ys i x at
+
+-- a sum with one element changed
+pub sum-changed : {A : Type 0} (f : A → ℕ) (xs : List A) (i : ℕ) (x y : A) → slice_get xs i ≡ Some x → sum_by f (slice_set xs i y) + f x ≡ sum_by f xs + f y
+sum-changed f xs i x y at = subst (λ z. sum_by f (slice_set xs i y) + f z ≡ sum_by f xs + f y) (reads xs i x x at) (sum_by-set f xs i y x (within xs i x at))
+
+-- nothing of a sum is more than the whole
+pub sum-has : {A : Type 0} (f : A → ℕ) (xs : List A) (i : ℕ) (x : A) → slice_get xs i ≡ Some x → f x ≤ sum_by f xs
+sum-has f xs i x at = subst (λ z. f z ≤ sum_by f xs) (reads xs i x x at) (get_or-le-sum_by f xs i x (within xs i x at))
+
+-- a sum of what is smaller everywhere
+pub sum-le : {A : Type 0} (f g : A → ℕ) (xs : List A) → All (λ x. f x ≤ g x) xs → sum_by f xs ≤ sum_by g xs
+sum-le f g [] all = omega arith
+sum-le f g (x ∷ xs) all =
+    let first = All-head (λ x. f x ≤ g x) x xs all in
+    let rest = sum-le f g xs (All-tail (λ x. f x ≤ g x) x xs all) in
+    omega (arith, first, rest, sum_by-cons f x xs, sum_by-cons g x xs)
+
+-- and smaller by one in some place
+pub sum-less : {A : Type 0} (f g : A → ℕ) (xs : List A) (i : ℕ) (x : A) → slice_get xs i ≡ Some x → All (λ y. f y ≤ g y) xs → f x + 1 ≤ g x → sum_by f xs + 1 ≤ sum_by g xs
+sum-less f g [] i x at all less = absurd at
+sum-less f g (y ∷ ys) zero x at all less =
+    let same : Some y ≡ Some x = at in
+    let is : y ≡ x = cc in
+    let here : f y + 1 ≤ g y = subst (λ z. f z + 1 ≤ g z) (sym is) less in
+    let rest = sum-le f g ys (All-tail (λ x. f x ≤ g x) y ys all) in
+    omega (arith, here, rest, sum_by-cons f y ys, sum_by-cons g y ys)
+sum-less f g (y ∷ ys) (suc i) x at all less =
+    let first = All-head (λ x. f x ≤ g x) y ys all in
+    let rest = sum-less f g ys i x at (All-tail (λ x. f x ≤ g x) y ys all) less in
+    omega (arith, first, rest, sum_by-cons f y ys, sum_by-cons g y ys)
+
+-- a sum over images
+pub sum-map : {A B : Type 0} (g : B → ℕ) (f : A → B) (xs : List A) → sum_by g (map f xs) ≡ sum_by (λ x. g (f x)) xs
+sum-map g f [] = refl
+sum-map g f (x ∷ xs) = sum_by-cons g (f x) (map f xs) ∙ ap (λ n. g (f x) + n) (sum-map g f xs) ∙ sym (sum_by-cons (λ y. g (f y)) x xs)
+
+-- the list with an element changed has the new one there
+pub set-here : {A : Type 0} (xs : List A) (i : ℕ) (x y : A) → slice_get xs i ≡ Some x → slice_get (slice_set xs i y) i ≡ Some y
+set-here [] i x y at = absurd at
+set-here (z ∷ zs) zero x y at = refl
+set-here (z ∷ zs) (suc i) x y at = set-here zs i x y at
+
+-- and the old ones elsewhere
+pub set-away : {A : Type 0} (xs : List A) (i k : ℕ) (y : A) → k ≢ i → slice_get (slice_set xs i y) k ≡ slice_get xs k
+set-away [] i k y away = refl
+set-away (z ∷ zs) zero zero y away = absurd (away refl)
+set-away (z ∷ zs) zero (suc k) y away = refl
+set-away (z ∷ zs) (suc i) zero y away = refl
+set-away (z ∷ zs) (suc i) (suc k) y away = set-away zs i k y (λ same. away (ap suc same))
+
+-- the same element leaves the list
+pub set-same : {A : Type 0} (xs : List A) (i : ℕ) (x y : A) → slice_get xs i ≡ Some x → y ≡ x → slice_set xs i y ≡ xs
+set-same [] i x y at is = refl
+set-same (z ∷ zs) zero x y at is = let same : Some z ≡ Some x = at in ap (λ w. w ∷ zs) (let e : z ≡ x = cc in is ∙ sym e)
+set-same (z ∷ zs) (suc i) x y at is = ap (λ ws. z ∷ ws) (set-same zs i x y at is)
+
+-- ---- tests of numbers
+
+and-false : (b : Bool) → (b && false) ≡ false
+and-false true = refl
+and-false false = refl
+
+nat_le-true : (n m : ℕ) → n ≤ m → nat_le n m ≡ true
+nat_le-true zero m fits = refl
+nat_le-true (suc n) zero fits = absurd (omega (arith, fits))
+nat_le-true (suc n) (suc m) fits = nat_le-true n m (omega (arith, fits))
+
+module _ {T U : Type 0} where
+  -- one where the slot has cells that can be handed out as a list
+  abbrev pub one_if_open : ContentState T U → ℕ
+  one_if_open content = cond (is_open content) 1 0
+
+  pub not-open : (content : ContentState T U) → content.cells ≡ [] → one_if_open content ≡ 0
+  not-open content none = ap (λ cells. cond {A = ℕ} (nat_lt 0 content.lists && nat_lt 0 (length cells)) 1 0) none ∙ ap (λ b. cond {A = ℕ} b 1 0) (and-false (nat_lt 0 content.lists))
+
+  pub open-once : (content : ContentState T U) → one_if_open content ≤ 1
+  open-once content = by (is_open content) where
+    by : (b : Bool) → cond {A = ℕ} b 1 0 ≤ 1
+    by true = omega arith
+    by false = omega arith
+
+  -- a slot of a publisher without lists isn't counted
+  pub never-open : (content : ContentState T U) → content.lists ≡ 0 → one_if_open content ≡ 0
+  never-open content none = ap (λ n. cond {A = ℕ} (nat_lt 0 n && nat_lt 0 (length content.cells)) 1 0) none
+
+  -- one with cells is
+  pub is-open : (content : ContentState T U) → 0 < content.lists → 0 < length content.cells → one_if_open content ≡ 1
+  is-open content lists cells = by content.lists (length content.cells) lists cells where
+    by : (n m : ℕ) → 0 < n → 0 < m → cond {A = ℕ} (nat_lt 0 n && nat_lt 0 m) 1 0 ≡ 1
+    by zero m n-some m-some = absurd (omega (arith, n-some))
+    by (suc n) zero n-some m-some = absurd (omega (arith, m-some))
+    by (suc n) (suc m) n-some m-some = refl
+
+  -- what a list and the want of one say of a slot
+  pub has-some : (s : SlotState T U) → has_list s ≡ true → (0 < s.content.lists) × (0 < s.cell_room)
+  has-some s has = by s.content.lists s.cell_room has where
+    by : (n m : ℕ) → (nat_lt 0 n && nat_lt 0 m) ≡ true → (0 < n) × (0 < m)
+    by zero m is = absurd (let no : false ≡ true = is in cc)
+    by (suc n) zero is = absurd (let no : false ≡ true = is in cc)
+    by (suc n) (suc m) is = (omega arith, omega arith)
+
+  pub some-has : (s : SlotState T U) → 0 < s.content.lists → 0 < s.cell_room → has_list s ≡ true
+  some-has s lists room = by s.content.lists s.cell_room lists room where
+    by : (n m : ℕ) → 0 < n → 0 < m → (nat_lt 0 n && nat_lt 0 m) ≡ true
+    by zero m n-some m-some = absurd (omega (arith, n-some))
+    by (suc n) zero n-some m-some = absurd (omega (arith, m-some))
+    by (suc n) (suc m) n-some m-some = refl
+
+  pub waits-for : (s : SlotState T U) → waits s ≡ true → (0 < s.content.lists) × (s.cell_room ≡ 0) × (0 < length s.content.cells)
+  waits-for s is = by s.content.lists s.cell_room (length s.content.cells) is where
+    by : (n m k : ℕ) → (nat_lt 0 n && (m == 0 && nat_lt 0 k)) ≡ true → (0 < n) × (m ≡ 0) × (0 < k)
+    by zero m k no = absurd (let clash : false ≡ true = no in cc)
+    by (suc n) (suc m) k no = absurd (let clash : false ≡ true = no in cc)
+    by (suc n) zero zero no = absurd (let clash : false ≡ true = no in cc)
+    by (suc n) zero (suc k) yes = (omega arith, refl, omega arith)
+
+  -- a list that is long enough is one
+  pub long-has : (most : ℕ) (s : SlotState T U) → ShowsAtMost most s → one_if_long most s ≤ cond {A = ℕ} (has_list s) 1 0
+  long-has most s shows = by s.content.lists s.cell_room most (λ some. (shows.0 some).1) where
+    by : (n m most : ℕ) → (0 < n → 0 < most) → cond {A = ℕ} (nat_lt 0 n && nat_le most m) 1 0 ≤ cond {A = ℕ} (nat_lt 0 n && nat_lt 0 m) 1 0
+    by zero m most some = omega arith
+    by (suc n) zero zero some = absurd (let no = some (omega arith) in omega (arith, no))
+    by (suc n) zero (suc most) some = omega arith
+    by (suc n) (suc m) most some = at-most (nat_le most (suc m))
+      where
+        at-most : (b : Bool) → cond {A = ℕ} b 1 0 ≤ 1
+        at-most true = omega arith
+        at-most false = omega arith
+
+  pub long-none : (most : ℕ) (s : SlotState T U) → ShowsAtMost most s → has_list s ≡ false → one_if_long most s ≡ 0
+  long-none most s shows none =
+      let no : one_if_long most s ≤ 0 = subst (λ b. one_if_long most s ≤ cond {A = ℕ} b 1 0) none (long-has most s shows) in
+      omega (arith, no)
+
+  -- a slot with a list that is long enough has cells
+  pub long-open : (most : ℕ) (s : SlotState T U) → ShowsAtMost most s → ListsCells s → one_if_long most s ≤ one_if_open s.content
+  long-open most s shows lists = by (has_list s) refl where
+    by : (b : Bool) → has_list s ≡ b → one_if_long most s ≤ one_if_open s.content
+    by true e =
+        let is = is-open s.content (has-some s e).0 (lists e) in
+        let no : one_if_long most s ≤ 1 = subst (λ b. one_if_long most s ≤ cond {A = ℕ} b 1 0) e (long-has most s shows) in
+        omega (arith, is, no)
+    by false e = omega (arith, long-none most s shows e)
+
+  module _ (most spare spare_room : ℕ) (xs : List (SlotState T U)) (i : ℕ) (s : SlotState T U) (at : slice_get xs i ≡ Some s) where
+    -- what holds of all slots holds of this one
+    pub of-all : (P : SlotState T U → Type 0) → All P xs → P s
+    of-all P all = subst P (reads xs i s s at) (all i s (within xs i s at))
+
+    module _ (t : SlotState T U) where
+      -- how many slots have cells, with one changed
+      pub opened-changed : open_count (contents_of (slice_set xs i t)) + one_if_open s.content ≡ open_count (contents_of xs) + one_if_open t.content
+      opened-changed =
+          rw (map-set (λ (z : SlotState T U). z.content) xs i t)
+          (sum-changed one_if_open (contents_of xs) i s.content t.content (mapped (λ (z : SlotState T U). z.content) xs i s at))
+
+      -- how many have a list that is long enough
+      pub long-changed : long_count most (slice_set xs i t) + one_if_long most s ≡ long_count most xs + one_if_long most t
+      long-changed = sum-changed (one_if_long most) xs i s t at
+
+      alike-changed : (lists : ℕ) → t.content.lists ≡ s.content.lists → All (λ z. 0 < z.content.lists → z.content.lists ≡ lists) xs
+          → All (λ z. 0 < z.content.lists → z.content.lists ≡ lists) (slice_set xs i t)
+      alike-changed lists same all =
+          All-set (λ (z : SlotState T U). 0 < z.content.lists → z.content.lists ≡ lists) xs i t
+          (λ some. same ∙ of-all (λ z. 0 < z.content.lists → z.content.lists ≡ lists) all (subst (λ n. 0 < n) same some)) all
+
+      -- a slot changes, and its list may be another one
+      pub changed : (has : HasLists most spare spare_room xs) (spare' : ℕ) → ShowsAtMost most t → ListsCells t → t.content.lists ≡ s.content.lists
+          → spare + one_if_long most s ≤ spare' + one_if_long most t → open_count (contents_of (slice_set xs i t)) ≤ has.lists → HasLists most spare' spare_room (slice_set xs i t)
+      changed has spare' shows lists same kept opened = record {
+        shown = All-set (ShowsAtMost most) xs i t shows has.shown;
+        listed = All-set ListsCells xs i t lists has.listed;
+        lists = has.lists;
+        alike = alike-changed has.lists same has.alike;
+        kept = omega (arith, has.kept, long-changed, kept);
+        room = has.room;
+        opened = opened;
+      }
+
+      -- a slot has no cells any more, but its list still
+      pub ended : (has : HasLists most spare spare_room xs) → ShowsAtMost most t → t.content.lists ≡ s.content.lists → t.cell_room ≡ s.cell_room → t.content.cells ≡ []
+          → HasListsBut i most spare spare_room (slice_set xs i t)
+      ended has shows same room none = record {
+        shown = All-set (ShowsAtMost most) xs i t shows has.shown;
+        listed = λ k z there away. of-others k z (sym (set-away xs i k t away) ∙ there);
+        ended = subst (λ o. IsSomeAnd o (λ z. z.content.cells ≡ [])) (sym (set-here xs i s t at)) none;
+        lists = has.lists;
+        alike = alike-changed has.lists same has.alike;
+        kept =
+            let long : one_if_long most t ≡ one_if_long most s = rw (same, room) refl in
+            omega (arith, has.kept, long-changed, long);
+        room = has.room;
+        opened = omega (arith, has.opened, opened-changed, not-open t.content none);
+      } where
+        of-others : (k : ℕ) (z : SlotState T U) → slice_get xs k ≡ Some z → ListsCells z
+        of-others k z there = subst ListsCells (reads xs k z z there) (has.listed k z (within xs k z there))
+
+      -- what a reference changes leaves the lists
+      pub lent : (has : HasLists most spare spare_room xs) → t.content.lists ≡ s.content.lists → t.content.room ≡ s.content.room → t.content.is_in_place ≡ s.content.is_in_place
+          → t.cell_room ≡ s.cell_room → length t.content.cells ≡ length s.content.cells → HasLists most spare spare_room (slice_set xs i t)
+      lent has lists room place cell_room long =
+          let one : one_if_open t.content ≡ one_if_open s.content = rw (lists, long) refl in
+          changed has spare
+          (rw (lists, room, place) (of-all (ShowsAtMost most) has.shown))
+          (rw (lists, cell_room, long) (of-all ListsCells has.listed))
+          lists
+          (let same : one_if_long most t ≡ one_if_long most s = rw (lists, cell_room) refl in omega (arith, same))
+          (omega (arith, has.opened, opened-changed, one))
+
+      -- a loan starts in a slot without cells
+      pub started : (has : HasLists most spare spare_room xs) → t.content.lists ≡ s.content.lists → t.content.room ≡ s.content.room → t.content.is_in_place ≡ s.content.is_in_place
+          → t.cell_room ≡ s.cell_room → (0 < s.content.lists → s.content.cells ≡ []) → (0 < s.content.lists → open_count (contents_of xs) < s.content.lists)
+          → HasLists most spare spare_room (slice_set xs i t)
+      started has lists room place cell_room none few =
+          changed has spare
+          (rw (lists, room, place) (of-all (ShowsAtMost most) has.shown))
+          (λ listed. absurd (free (rw (lists, cell_room) at listed)))
+          lists
+          (let same : one_if_long most t ≡ one_if_long most s = rw (lists, cell_room) refl in omega (arith, same))
+          (by s.content.lists refl)
+        where
+          free : has_list s ≡ true → ⊥
+          free listed =
+              let some = of-all ListsCells has.listed listed in
+              let gone : length s.content.cells ≡ 0 = ap length (none (has-some s listed).0) in
+              omega (arith, some, gone)
+
+          by : (n : ℕ) → s.content.lists ≡ n → open_count (contents_of (slice_set xs i t)) ≤ has.lists
+          by zero e = omega (arith, has.opened, opened-changed, never-open t.content (lists ∙ e))
+          by (suc n) e =
+              let some : 0 < s.content.lists = omega (arith, e) in
+              let all : s.content.lists ≡ has.lists = of-all (λ z. 0 < z.content.lists → z.content.lists ≡ has.lists) has.alike some in
+              omega (arith, few some, all, opened-changed, open-once t.content)
+
+    -- a slot without cells has no list
+    pub none-listed : HasLists most spare spare_room xs → (0 < s.content.lists → s.content.cells ≡ []) → has_list s ≡ false
+    none-listed has none = by (has_list s) refl where
+      by : (b : Bool) → has_list s ≡ b → has_list s ≡ false
+      by false e = e
+      by true e =
+          let some = of-all ListsCells has.listed e in
+          let gone : length s.content.cells ≡ 0 = ap length (none (has-some s e).0) in
+          absurd (omega (arith, some, gone))
+
+    -- where the slot without cells has no list either, all is well
+    pub settled : HasListsBut i most spare spare_room xs → has_list s ≡ false → HasLists most spare spare_room xs
+    settled but none = record {
+      shown = but.shown;
+      listed = λ k d low. by k d low (cases_eq k i);
+      lists = but.lists;
+      alike = but.alike;
+      kept = but.kept;
+      room = but.room;
+      opened = but.opened;
+    } where
+      by : (k : ℕ) (d : SlotState T U) → k < length xs → (k ≡ i) ⊎ (k ≢ i) → ListsCells (get_or xs k d)
+      by k d low (inl same) = λ listed.
+          absurd (let is : get_or xs k d ≡ s = ap (λ j. get_or xs j d) same ∙ reads xs i s d at in let clash : true ≡ false = sym listed ∙ ap has_list is ∙ none in cc)
+      by k d low (inr away) = but.listed k (get_or xs k d) (there xs k d low) away
+
+    -- its list goes back where it is long enough and there is room
+    pub given-back : (but : HasListsBut i most spare spare_room xs) (spare' : ℕ) → (t : SlotState T U) → t.content ≡ s.content → t.cell_room ≡ 0
+        → (spare + one_if_long most s ≤ spare') ⊎ (spare_room ≤ spare') → HasLists most spare' spare_room (slice_set xs i t)
+    given-back but spare' t same none back = record {
+      shown = All-set (ShowsAtMost most) xs i t (rw same (of-all (ShowsAtMost most) but.shown)) but.shown;
+      listed = λ k d low. by k d low (cases_eq k i);
+      lists = but.lists;
+      alike = alike-changed t but.lists (ap (λ (c : ContentState T U). c.lists) same) but.alike;
+      kept = enough back;
+      room = but.room;
+      opened =
+          let one : one_if_open t.content ≡ one_if_open s.content = ap one_if_open same in
+          omega (arith, but.opened, opened-changed t, one);
+    } where
+      enough : (spare + one_if_long most s ≤ spare') ⊎ (spare_room ≤ spare') → but.lists ≤ spare' + long_count most (slice_set xs i t)
+      enough (inl less) = omega (arith, but.kept, long-changed t, less)
+      enough (inr full) = omega (arith, but.room, full)
+
+      away-listed : (k : ℕ) (d : SlotState T U) → k < length (slice_set xs i t) → k ≢ i → ListsCells (get_or (slice_set xs i t) k d)
+      away-listed k d low away =
+          but.listed k (get_or (slice_set xs i t) k d) (sym (set-away xs i k t away) ∙ there (slice_set xs i t) k d low) away
+
+      by : (k : ℕ) (d : SlotState T U) → k < length (slice_set xs i t) → (k ≡ i) ⊎ (k ≢ i) → ListsCells (get_or (slice_set xs i t) k d)
+      by k d low (inr away) = away-listed k d low away
+      by k d low (inl here) = λ listed.
+          absurd (
+          let is : get_or (slice_set xs i t) k d ≡ t = ap (λ j. get_or (slice_set xs i t) j d) here ∙ reads (slice_set xs i t) i t d (set-here xs i s t at) in
+          let has : has_list t ≡ true = sym (ap has_list is) ∙ listed in
+          let some = (has-some t has).1 in
+          omega (arith, some, none)
+          )
+
+    -- the slot with another list has what it had
+    pub same-contents : (t : SlotState T U) → t.content ≡ s.content → contents_of (slice_set xs i t) ≡ contents_of xs
+    same-contents t same =
+        map-set (λ (z : SlotState T U). z.content) xs i t
+        ∙ set-same (contents_of xs) i s.content t.content (mapped (λ (z : SlotState T U). z.content) xs i s at) same
+
+    -- a slot that waits for a list finds one
+    pub spares : HasLists most spare spare_room xs → waits s ≡ true → 0 < spare
+    spares has is =
+        let want = waits-for s is in
+        let one = is-open s.content want.0 want.2 in
+        let none = long-none most s (of-all (ShowsAtMost most) has.shown) (no-list want.1) in
+        let count : long_count most xs + 1 ≤ sum_by (λ (z : SlotState T U). one_if_open z.content) xs =
+        sum-less (one_if_long most) (λ (z : SlotState T U). one_if_open z.content) xs i s at
+        (λ k d low. long-open most (get_or xs k d) (has.shown k d low) (has.listed k d low)) (omega (arith, one, none)) in
+        let map-is : open_count (contents_of xs) ≡ sum_by (λ (z : SlotState T U). one_if_open z.content) xs = sum-map one_if_open (λ (z : SlotState T U). z.content) xs in
+        omega (arith, has.kept, has.opened, count, map-is)
+      where
+        no-list : s.cell_room ≡ 0 → has_list s ≡ false
+        no-list none = ap (λ n. nat_lt 0 s.content.lists && nat_lt 0 n) none ∙ and-false (nat_lt 0 s.content.lists)
+
+    -- it gets one that is to spare
+    pub handed-out : (has : HasLists most spare spare_room xs) → waits s ≡ true → (spare' room : ℕ) → spare' + 1 ≡ spare → most ≤ room
+        → (t : SlotState T U) → t.content ≡ s.content → t.cell_room ≡ room → HasLists most spare' spare_room (slice_set xs i t)
+    handed-out has is spare' room one_less long t same is-room =
+        let want = waits-for s is in
+        changed t has spare'
+        (rw same (of-all (ShowsAtMost most) has.shown))
+        (λ listed. rw same want.2)
+        (ap (λ (c : ContentState T U). c.lists) same)
+        (let none = long-none most s (of-all (ShowsAtMost most) has.shown) (no-list want.1) in
+        let one : one_if_long most t ≡ 1 = is-long t.content.lists t.cell_room (rw same want.0) (rw is-room long) in
+        omega (arith, one_less, none, one))
+        (let one : one_if_open t.content ≡ one_if_open s.content = ap one_if_open same in omega (arith, has.opened, opened-changed t, one))
+      where
+        no-list : s.cell_room ≡ 0 → has_list s ≡ false
+        no-list none = ap (λ n. nat_lt 0 s.content.lists && nat_lt 0 n) none ∙ and-false (nat_lt 0 s.content.lists)
+
+        is-long : (n m : ℕ) → 0 < n → most ≤ m → cond {A = ℕ} (nat_lt 0 n && nat_le most m) 1 0 ≡ 1
+        is-long zero m n-some fits = absurd (omega (arith, n-some))
+        is-long (suc n) m n-some fits = ap (λ b. cond {A = ℕ} b 1 0) (nat_le-true most m fits)
