@@ -4,6 +4,8 @@ use Rattle.std.proofs.lemmas.Bool.{cases_eq}
 use Rattle.std.proofs.lemmas.List.{map-set}
 use Rattle.std.proofs.lemmas.List.Elements.{All-head, All-set, All-tail}
 use Rattle.std.proofs.lemmas.List.Sums.{sum_by-cons, sum_by-set, get_or-le-sum_by}
+use Rattle.std.proofs.lemmas.Option.{none-some}
+use Rattle.std.proofs.lemmas.Bool.Decides.{nat_tests}
 use Rattle.std.specs.Prelude.{slice_get, nat_lt, nat_le, sum_by, IsSomeAnd}
 use Rattle.std.specs.List.{All}
 use Rattle.iox2_contents.specs.SlotContents.{ContentState, is_open, open_count}
@@ -12,13 +14,13 @@ use Rattle.iox2_contents.specs.SlotRooms.{HasLists, HasListsBut, ListsCells, Sho
 
 -- there is such a place
 pub within : {A : Type 0} (xs : List A) (i : ℕ) (x : A) → slice_get xs i ≡ Some x → i < length xs
-within [] i x at = absurd at
+within [] i x at = absurd (none-some x at)
 within (y ∷ ys) zero x at = omega arith
 within (y ∷ ys) (suc i) x at = let rest = within ys i x at in omega (arith, rest)
 
 -- what indexing gives there
 pub reads : {A : Type 0} (xs : List A) (i : ℕ) (x d : A) → slice_get xs i ≡ Some x → get_or xs i d ≡ x
-reads [] i x d at = absurd at
+reads [] i x d at = absurd (none-some x at)
 reads (y ∷ ys) zero x d at = let same : Some y ≡ Some x = at in cc
 reads (y ∷ ys) (suc i) x d at = reads ys i x d at
 
@@ -30,7 +32,7 @@ there (x ∷ xs) (suc i) d low = there xs i d (omega (arith, low))
 
 -- the image of what is there
 pub mapped : {A B : Type 0} (f : A → B) (xs : List A) (i : ℕ) (x : A) → slice_get xs i ≡ Some x → slice_get (map f xs) i ≡ Some (f x)
-mapped f [] i x at = absurd at
+mapped f [] i x at = absurd (none-some x at)
 mapped f (y ∷ ys) zero x at = let same : Some y ≡ Some x = at in let is : y ≡ x = cc in ap (λ z. Some (f z)) is
 mapped f (y ∷ ys) (suc i) x at = mapped f ys i x at
 
@@ -52,7 +54,7 @@ sum-le f g (x ∷ xs) all =
 
 -- and smaller by one in some place
 pub sum-less : {A : Type 0} (f g : A → ℕ) (xs : List A) (i : ℕ) (x : A) → slice_get xs i ≡ Some x → All (λ y. f y ≤ g y) xs → f x + 1 ≤ g x → sum_by f xs + 1 ≤ sum_by g xs
-sum-less f g [] i x at all less = absurd at
+sum-less f g [] i x at all less = absurd (none-some x at)
 sum-less f g (y ∷ ys) zero x at all less =
     let same : Some y ≡ Some x = at in
     let is : y ≡ x = cc in
@@ -71,7 +73,7 @@ sum-map g f (x ∷ xs) = sum_by-cons g (f x) (map f xs) ∙ ap (λ n. g (f x) + 
 
 -- the list with an element changed has the new one there
 pub set-here : {A : Type 0} (xs : List A) (i : ℕ) (x y : A) → slice_get xs i ≡ Some x → slice_get (slice_set xs i y) i ≡ Some y
-set-here [] i x y at = absurd at
+set-here [] i x y at = absurd (none-some x at)
 set-here (z ∷ zs) zero x y at = refl
 set-here (z ∷ zs) (suc i) x y at = set-here zs i x y at
 
@@ -95,10 +97,20 @@ and-false : (b : Bool) → (b && false) ≡ false
 and-false true = refl
 and-false false = refl
 
-nat_le-true : (n m : ℕ) → n ≤ m → nat_le n m ≡ true
-nat_le-true zero m fits = refl
-nat_le-true (suc n) zero fits = absurd (omega (arith, fits))
-nat_le-true (suc n) (suc m) fits = nat_le-true n m (omega (arith, fits))
+lt-both : (n m : ℕ) → 0 < n → 0 < m → (nat_lt 0 n && nat_lt 0 m) ≡ true
+lt-both n m n-some m-some = grind (arith, nat_tests)
+
+both-lt : (n m : ℕ) → (nat_lt 0 n && nat_lt 0 m) ≡ true → (0 < n) × (0 < m)
+both-lt n m is = grind (arith, nat_tests)
+
+zero-lt : (n m k : ℕ) → (nat_lt 0 n && (m == 0 && nat_lt 0 k)) ≡ true → (0 < n) × (m ≡ 0) × (0 < k)
+zero-lt n m k is = grind (arith, nat_tests)
+
+one-if : (n m most : ℕ) → 0 < n → most ≤ m → cond {A = ℕ} (nat_lt 0 n && nat_le most m) 1 0 ≡ 1
+one-if n m most some fits = grind (arith, nat_tests)
+
+one-less : (n m most : ℕ) → (0 < n → 0 < most) → cond {A = ℕ} (nat_lt 0 n && nat_le most m) 1 0 ≤ cond {A = ℕ} (nat_lt 0 n && nat_lt 0 m) 1 0
+one-less n m most some = grind (arith, nat_tests)
 
 module _ {T U : Type 0} where
   -- one where the slot has cells that can be handed out as a list
@@ -120,47 +132,18 @@ module _ {T U : Type 0} where
 
   -- one with cells is
   pub is-open : (content : ContentState T U) → 0 < content.lists → 0 < length content.cells → one_if_open content ≡ 1
-  is-open content lists cells = by content.lists (length content.cells) lists cells where
-    by : (n m : ℕ) → 0 < n → 0 < m → cond {A = ℕ} (nat_lt 0 n && nat_lt 0 m) 1 0 ≡ 1
-    by zero m n-some m-some = absurd (omega (arith, n-some))
-    by (suc n) zero n-some m-some = absurd (omega (arith, m-some))
-    by (suc n) (suc m) n-some m-some = refl
+  is-open content lists cells = ap (λ b. cond {A = ℕ} b 1 0) (lt-both content.lists (length content.cells) lists cells)
 
   -- what a list and the want of one say of a slot
   pub has-some : (s : SlotState T U) → has_list s ≡ true → (0 < s.content.lists) × (0 < s.cell_room)
-  has-some s has = by s.content.lists s.cell_room has where
-    by : (n m : ℕ) → (nat_lt 0 n && nat_lt 0 m) ≡ true → (0 < n) × (0 < m)
-    by zero m is = absurd (let no : false ≡ true = is in cc)
-    by (suc n) zero is = absurd (let no : false ≡ true = is in cc)
-    by (suc n) (suc m) is = (omega arith, omega arith)
-
-  pub some-has : (s : SlotState T U) → 0 < s.content.lists → 0 < s.cell_room → has_list s ≡ true
-  some-has s lists room = by s.content.lists s.cell_room lists room where
-    by : (n m : ℕ) → 0 < n → 0 < m → (nat_lt 0 n && nat_lt 0 m) ≡ true
-    by zero m n-some m-some = absurd (omega (arith, n-some))
-    by (suc n) zero n-some m-some = absurd (omega (arith, m-some))
-    by (suc n) (suc m) n-some m-some = refl
+  has-some s has = both-lt s.content.lists s.cell_room has
 
   pub waits-for : (s : SlotState T U) → waits s ≡ true → (0 < s.content.lists) × (s.cell_room ≡ 0) × (0 < length s.content.cells)
-  waits-for s is = by s.content.lists s.cell_room (length s.content.cells) is where
-    by : (n m k : ℕ) → (nat_lt 0 n && (m == 0 && nat_lt 0 k)) ≡ true → (0 < n) × (m ≡ 0) × (0 < k)
-    by zero m k no = absurd (let clash : false ≡ true = no in cc)
-    by (suc n) (suc m) k no = absurd (let clash : false ≡ true = no in cc)
-    by (suc n) zero zero no = absurd (let clash : false ≡ true = no in cc)
-    by (suc n) zero (suc k) yes = (omega arith, refl, omega arith)
+  waits-for s is = zero-lt s.content.lists s.cell_room (length s.content.cells) is
 
   -- a list that is long enough is one
   pub long-has : (most : ℕ) (s : SlotState T U) → ShowsAtMost most s → one_if_long most s ≤ cond {A = ℕ} (has_list s) 1 0
-  long-has most s shows = by s.content.lists s.cell_room most (λ some. (shows.0 some).1) where
-    by : (n m most : ℕ) → (0 < n → 0 < most) → cond {A = ℕ} (nat_lt 0 n && nat_le most m) 1 0 ≤ cond {A = ℕ} (nat_lt 0 n && nat_lt 0 m) 1 0
-    by zero m most some = omega arith
-    by (suc n) zero zero some = absurd (let no = some (omega arith) in omega (arith, no))
-    by (suc n) zero (suc most) some = omega arith
-    by (suc n) (suc m) most some = at-most (nat_le most (suc m))
-      where
-        at-most : (b : Bool) → cond {A = ℕ} b 1 0 ≤ 1
-        at-most true = omega arith
-        at-most false = omega arith
+  long-has most s shows = one-less s.content.lists s.cell_room most (λ some. (shows.0 some).1)
 
   pub long-none : (most : ℕ) (s : SlotState T U) → ShowsAtMost most s → has_list s ≡ false → one_if_long most s ≡ 0
   long-none most s shows none =
@@ -356,13 +339,9 @@ module _ {T U : Type 0} where
         (λ listed. rw same want.2)
         (ap (λ (c : ContentState T U). c.lists) same)
         (let none = long-none most s (of-all (ShowsAtMost most) has.shown) (no-list want.1) in
-        let one : one_if_long most t ≡ 1 = is-long t.content.lists t.cell_room (rw same want.0) (rw is-room long) in
+        let one : one_if_long most t ≡ 1 = one-if t.content.lists t.cell_room most (rw same want.0) (rw is-room long) in
         omega (arith, one_less, none, one))
         (let one : one_if_open t.content ≡ one_if_open s.content = ap one_if_open same in omega (arith, has.opened, opened-changed t, one))
       where
         no-list : s.cell_room ≡ 0 → has_list s ≡ false
         no-list none = ap (λ n. nat_lt 0 s.content.lists && nat_lt 0 n) none ∙ and-false (nat_lt 0 s.content.lists)
-
-        is-long : (n m : ℕ) → 0 < n → most ≤ m → cond {A = ℕ} (nat_lt 0 n && nat_le most m) 1 0 ≡ 1
-        is-long zero m n-some fits = absurd (omega (arith, n-some))
-        is-long (suc n) m n-some fits = ap (λ b. cond {A = ℕ} b 1 0) (nat_le-true most m fits)

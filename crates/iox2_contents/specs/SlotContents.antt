@@ -25,6 +25,10 @@ with_changed xs i f = option_map_or (λ x. slice_set xs i (f x)) (slice_get xs i
 abbrev pub SomeAt : {A : Type 0} → List A → (slot : ℕ) → (A → Type 0) → Type 0
 SomeAt contents slot P = IsSomeAnd (slice_get contents slot) P
 
+-- How many lists of cells there are for slots whose elements lie in lists, or don't.
+abbrev pub lists_for : (in_lists : Bool) → (lists : ℕ) → ℕ
+lists_for in_lists lists = cond in_lists lists 0
+
 module _ {T U : Type 0} where
   -- The content of a loan that starts: so many unwritten cells, no values, and this user header.
   abbrev pub unwritten_content : (user_header : U) → (len : ℕ) → ContentState T U → ContentState T U
@@ -91,10 +95,6 @@ module _ {T U : Type 0} where
   -- The first of the slot's values.
   abbrev pub first_value_at : List (ContentState T U) → (slot : ℕ) → Option T
   first_value_at contents slot = option_and_then (λ content. slice_get content.values 0) (slice_get contents slot)
-
-  -- How many lists of cells there are for slots whose elements lie in lists, or don't.
-  abbrev pub lists_for : (in_lists : Bool) → (lists : ℕ) → ℕ
-  lists_for in_lists lists = cond in_lists lists 0
 
   -- So many slots more stand behind the old ones, each without cells and with room for so many elements, which lie in lists
   -- where they are to, and whose cells can then be handed out for so many loans at a time.
