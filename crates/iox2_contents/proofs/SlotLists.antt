@@ -8,7 +8,7 @@ use Rattle.std.proofs.lemmas.Option.{none-some}
 use Rattle.std.proofs.lemmas.Bool.Decides.{nat_tests}
 use Rattle.std.specs.Prelude.{slice_get, nat_lt, nat_le, sum_by, IsSomeAnd}
 use Rattle.std.specs.List.{All}
-use Rattle.iox2_contents.specs.SlotContents.{ContentState, is_open, open_count}
+use Rattle.iox2_contents.specs.SlotContents.{ContentState, ended_content, is_open, open_count}
 use Rattle.iox2_contents.specs.SlotStates.{SlotState, contents_of, has_list, waits}
 use Rattle.iox2_contents.specs.SlotRooms.{HasLists, HasListsBut, ListsCells, ShowsAtMost, one_if_long, long_count}
 
@@ -112,6 +112,12 @@ one-if n m most some fits = grind (arith, nat_tests)
 one-less : (n m most : ℕ) → (0 < n → 0 < most) → cond {A = ℕ} (nat_lt 0 n && nat_le most m) 1 0 ≤ cond {A = ℕ} (nat_lt 0 n && nat_lt 0 m) 1 0
 one-less n m most some = grind (arith, nat_tests)
 
+at-most : (n m most : ℕ) → cond {A = ℕ} (nat_lt 0 n && nat_le most m) 1 0 ≤ 1
+at-most n m most = grind (arith, nat_tests)
+
+too-short : (n m most : ℕ) → m < most → cond {A = ℕ} (nat_lt 0 n && nat_le most m) 1 0 ≡ 0
+too-short n m most short = grind (arith, nat_tests)
+
 module _ {T U : Type 0} where
   -- one where the slot has cells that can be handed out as a list
   abbrev pub one_if_open : ContentState T U → ℕ
@@ -144,6 +150,13 @@ module _ {T U : Type 0} where
   -- a list that is long enough is one
   pub long-has : (most : ℕ) (s : SlotState T U) → ShowsAtMost most s → one_if_long most s ≤ cond {A = ℕ} (has_list s) 1 0
   long-has most s shows = one-less s.content.lists s.cell_room most (λ some. (shows.0 some).1)
+
+  -- it is one at most, and none where it is shorter
+  pub long-once : (most : ℕ) (s : SlotState T U) → one_if_long most s ≤ 1
+  long-once most s = at-most s.content.lists s.cell_room most
+
+  pub short-none : (most : ℕ) (s : SlotState T U) → s.cell_room < most → one_if_long most s ≡ 0
+  short-none most s short = too-short s.content.lists s.cell_room most short
 
   pub long-none : (most : ℕ) (s : SlotState T U) → ShowsAtMost most s → has_list s ≡ false → one_if_long most s ≡ 0
   long-none most s shows none =
@@ -313,6 +326,19 @@ module _ {T U : Type 0} where
     same-contents t same =
         map-set (λ (z : SlotState T U). z.content) xs i t
         ∙ set-same (contents_of xs) i s.content t.content (mapped (λ (z : SlotState T U). z.content) xs i s at) same
+
+    -- what a slot is whose list was taken out
+    abbrev pub bare : SlotState T U
+    bare = record s { content = ended_content s.content; cell_room = 0 }
+
+    pub bare-content : IsSomeAnd (slice_get xs i) (λ z. z.content.cells ≡ []) → bare.content ≡ s.content
+    bare-content none = let is : s.content.cells ≡ [] = subst (λ o. IsSomeAnd o (λ z. z.content.cells ≡ [])) at none in ap (λ cells. record s.content { cells = cells }) (sym is)
+
+    pub bare-same : IsSomeAnd (slice_get xs i) (λ z. z.content.cells ≡ []) → contents_of (slice_set xs i bare) ≡ contents_of xs
+    bare-same none = same-contents bare (bare-content none)
+
+    pub bare-lists : (but : HasListsBut i most spare spare_room xs) (spare' : ℕ) → (spare + one_if_long most s ≤ spare') ⊎ (spare_room ≤ spare') → HasLists most spare' spare_room (slice_set xs i bare)
+    bare-lists but spare' back = given-back but spare' bare (bare-content but.ended) refl back
 
     -- a slot that waits for a list finds one
     pub spares : HasLists most spare spare_room xs → waits s ≡ true → 0 < spare

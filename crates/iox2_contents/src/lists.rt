@@ -27,7 +27,6 @@ pub(crate) fn cell_lists<T: Drop>(
 /// Gives back the list that a slot may have, whose cells are gone. One is long enough that holds so
 /// many cells; a shorter one is of an older segment, and goes.
 #[inline(always)]
-#[tactic(none)]
 pub(crate) fn settle<T: Drop, U>(
     slots: &mut Vec<Content<T, U>>,
     spare: &mut Vec<Vec<Option<T>>>,
@@ -48,7 +47,6 @@ pub(crate) fn settle<T: Drop, U>(
 // The same of a slot that has a list.
 #[cold]
 #[inline(never)]
-#[tactic(none)]
 fn take_back<T: Drop, U>(
     slots: &mut Vec<Content<T, U>>,
     spare: &mut Vec<Vec<Option<T>>>,
@@ -70,7 +68,6 @@ fn take_back<T: Drop, U>(
 
 /// Gives a slot a list for its cells, where these need one to be written.
 #[inline(always)]
-#[tactic(none)]
 pub(crate) fn ready<T: Drop, U>(
     slots: &mut Vec<Content<T, U>>,
     spare: &mut Vec<Vec<Option<T>>>,
@@ -93,7 +90,6 @@ pub(crate) fn ready<T: Drop, U>(
 // The same of a slot whose cells need one.
 #[cold]
 #[inline(never)]
-#[tactic(none)]
 fn hand_out<T: Drop, U>(
     slots: &mut Vec<Content<T, U>>,
     spare: &mut Vec<Vec<Option<T>>>,
