@@ -118,6 +118,9 @@ at-most n m most = grind (arith, nat_tests)
 too-short : (n m most : ℕ) → m < most → cond {A = ℕ} (nat_lt 0 n && nat_le most m) 1 0 ≡ 0
 too-short n m most short = grind (arith, nat_tests)
 
+no-wait : (n m k : ℕ) → 0 < m → (nat_lt 0 n && (m == 0 && nat_lt 0 k)) ≡ false
+no-wait n m k some = grind (arith, nat_tests)
+
 module _ {T U : Type 0} where
   -- one where the slot has cells that can be handed out as a list
   abbrev pub one_if_open : ContentState T U → ℕ
@@ -371,3 +374,23 @@ module _ {T U : Type 0} where
       where
         no-list : s.cell_room ≡ 0 → has_list s ≡ false
         no-list none = ap (λ n. nat_lt 0 s.content.lists && nat_lt 0 n) none ∙ and-false (nat_lt 0 s.content.lists)
+
+    -- what a slot is that got a list with this room
+    abbrev pub listed-in : (room : ℕ) → SlotState T U
+    listed-in room = record s { cell_room = room }
+
+    pub listed-same : (room : ℕ) → contents_of (slice_set xs i (listed-in room)) ≡ contents_of xs
+    listed-same room = same-contents (listed-in room) refl
+
+    pub listed-lists : (has : HasLists most spare spare_room xs) → waits s ≡ true → (spare' room : ℕ) → spare' + 1 ≡ spare → most ≤ room → HasLists most spare' spare_room (slice_set xs i (listed-in room))
+    listed-lists has is spare' room less long = handed-out has is spare' room less long (listed-in room) refl refl
+
+    pub listed-ready : HasLists most spare spare_room xs → waits s ≡ true → (room : ℕ) → most ≤ room → IsSomeAnd (slice_get (slice_set xs i (listed-in room)) i) (λ z. waits z ≡ false)
+    listed-ready has is room long =
+        let some = ((of-all (ShowsAtMost most) has.shown).0 (waits-for s is).0).1 in
+        let no = no-wait s.content.lists room (length s.content.cells) (omega (arith, some, long)) in
+        subst (λ o. IsSomeAnd o (λ z. waits z ≡ false)) (sym (set-here xs i s (listed-in room) at)) no
+
+    -- the list is long enough for it
+    pub listed-fits : HasLists most spare spare_room xs → waits s ≡ true → (room : ℕ) → most ≤ room → s.content.room ≤ room
+    listed-fits has is room long = let fits = ((of-all (ShowsAtMost most) has.shown).0 (waits-for s is).0).0 in omega (arith, fits, long)

@@ -13,6 +13,12 @@ some_within [] slot P h = absurd h
 some_within (x ∷ xs) zero P h = omega arith
 some_within (x ∷ xs) (suc slot) P h = let rest = some_within xs slot P h in omega arith
 
+-- What stands there, of which it holds.
+pub found : {A : Type 0} (contents : List A) (slot : ℕ) (P : A → Type 0) → SomeAt contents slot P → (x : A) × (slice_get contents slot ≡ Some x) × P x
+found [] slot P h = absurd h
+found (x ∷ xs) zero P h = (x, refl, h)
+found (x ∷ xs) (suc slot) P h = found xs slot P h
+
 -- It holds of the content that indexing gives there.
 pub some_read : {A : Type 0} (contents : List A) (slot : ℕ) (P : A → Type 0) (x : A) → SomeAt contents slot P → x ≡ get_or contents slot x → (slice_get contents slot ≡ Some x) × P x
 some_read contents slot P x h e =
