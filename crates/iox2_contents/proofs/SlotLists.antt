@@ -8,8 +8,8 @@ use Rattle.std.proofs.lemmas.Option.{none-some}
 use Rattle.std.proofs.lemmas.Bool.Decides.{nat_tests}
 use Rattle.std.specs.Prelude.{slice_get, nat_lt, nat_le, sum_by, IsSomeAnd}
 use Rattle.std.specs.List.{All}
-use Rattle.iox2_contents.specs.SlotContents.{ContentState, ended_content, is_open, open_count}
-use Rattle.iox2_contents.specs.SlotStates.{SlotState, contents_of, has_list, waits}
+use Rattle.iox2_contents.specs.SlotContents.{ContentState, ended_content, unwritten_content, written_content, with_changed, is_open, open_count}
+use Rattle.iox2_contents.specs.SlotStates.{SlotState, contents_of, has_list, waits, with_content}
 use Rattle.iox2_contents.specs.SlotRooms.{HasLists, HasListsBut, ListsCells, ShowsAtMost, one_if_long, long_count}
 
 -- there is such a place
@@ -394,3 +394,22 @@ module _ {T U : Type 0} where
     -- the list is long enough for it
     pub listed-fits : HasLists most spare spare_room xs → waits s ≡ true → (room : ℕ) → most ≤ room → s.content.room ≤ room
     listed-fits has is room long = let fits = ((of-all (ShowsAtMost most) has.shown).0 (waits-for s is).0).0 in omega (arith, fits, long)
+
+    -- a write, or the end of a loan, leaves no cells
+    pub written-lists : HasLists most spare spare_room xs → (values : List T) (t : SlotState T U) → t ≡ with_content (written_content values) s → HasListsBut i most spare spare_room (slice_set xs i t)
+    written-lists has values t is = rw is (ended (with_content (written_content values) s) has (of-all (ShowsAtMost most) has.shown) refl refl refl)
+
+    pub ended-lists : HasLists most spare spare_room xs → (t : SlotState T U) → t ≡ with_content ended_content s → HasListsBut i most spare spare_room (slice_set xs i t)
+    ended-lists has t is = rw is (ended (with_content ended_content s) has (of-all (ShowsAtMost most) has.shown) refl refl refl)
+
+    -- a loan starts in a slot whose last one has no cells any more
+    pub started-lists : HasLists most spare spare_room xs → (header : U) (len : ℕ) (t : SlotState T U) → t ≡ with_content (unwritten_content header len) s
+        → (0 < s.content.lists → s.content.cells ≡ []) → (0 < s.content.lists → open_count (contents_of xs) < s.content.lists) → HasLists most spare spare_room (slice_set xs i t)
+    started-lists has header len t is none few = rw is (started (with_content (unwritten_content header len) s) has refl refl refl refl none few)
+
+    -- what the contents are where one of them changed
+    pub changed-contents : (contents : List (ContentState T U)) (f : ContentState T U → ContentState T U) (t : SlotState T U) → contents_of xs ≡ contents → t ≡ with_content f s
+        → contents_of (slice_set xs i t) ≡ with_changed contents i f
+    changed-contents contents f t are is =
+        let read : slice_get contents i ≡ Some s.content = subst (λ ys. slice_get ys i ≡ Some s.content) are (mapped (λ (z : SlotState T U). z.content) xs i s at) in
+        map-set (λ (z : SlotState T U). z.content) xs i t ∙ rw (are, is, read) refl

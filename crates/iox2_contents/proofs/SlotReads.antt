@@ -5,7 +5,8 @@ use Rattle.std.specs.Prelude.{slice_get}
 use Rattle.std.specs.Bool.{MatchBool}
 use Rattle.std.specs.List.{All}
 use Rattle.std.proofs.lemmas.List.Elements.{All-get_or}
-use Rattle.iox2_contents.specs.SlotContents.{SomeAt}
+use Rattle.iox2_contents.specs.SlotContents.{ContentState, SomeAt}
+use Rattle.iox2_contents.specs.SlotStates.{SlotState, contents_of}
 
 -- There is a slot of which something holds.
 pub some_within : {A : Type 0} (contents : List A) (slot : ℕ) (P : A → Type 0) → SomeAt contents slot P → slot < length contents
@@ -39,3 +40,13 @@ set_same (y ∷ ys) (suc slot) x at = ap (λ zs. y ∷ zs) (set_same ys slot x a
 pub by_result : {A B : Type 0} (b : Bool) → (b ≡ true → A) → (b ≡ false → B) → MatchBool b A B
 by_result true whole partial = whole refl
 by_result false whole partial = partial refl
+
+-- It holds of the content in the slot that indexing gives there.
+pub content_read : {T U : Type 0} (slots : List (SlotState T U)) (contents : List (ContentState T U)) (slot : ℕ) (P : ContentState T U → Type 0) (x : SlotState T U) → contents_of slots ≡ contents → SomeAt contents slot P
+    → x ≡ get_or slots slot x → (slice_get slots slot ≡ Some x) × P x.content
+content_read {T = T} {U = U} slots contents slot P x are h e = some_read slots slot (λ s. P s.content) x (of_contents slots slot (subst (λ ys. SomeAt ys slot P) (sym are) h)) e
+  where
+    of_contents : (ys : List (SlotState T U)) (k : ℕ) → SomeAt (contents_of ys) k P → SomeAt ys k (λ s. P s.content)
+    of_contents [] k h = absurd h
+    of_contents (y ∷ ys) zero h = h
+    of_contents (y ∷ ys) (suc k) h = of_contents ys k h
