@@ -1,14 +1,15 @@
 -- Which lists of cells there are, where one slot changes.
-use Rattle.std.proofs.Common.{◌≡◌, ◌≢◌, ◌⊎◌, ◌<◌, ◌≤◌, ◌+◌, ◌∙◌, ◌==◌, ◌&&◌, ℕ, zero, suc, Bool, true, false, Some, cond, List, [], ◌∷◌, length, map, get_or, slice_set, inl, inr, refl, ap, sym, subst, arith}
+use Rattle.std.proofs.Common.{◌≡◌, ◌≢◌, ◌⊎◌, ◌<◌, ◌≤◌, ◌+◌, ◌∙◌, ◌==◌, ◌&&◌, ℕ, zero, suc, Bool, true, false, Option, None, Some, cond, List, [], ◌∷◌, length, map, get_or, slice_set, inl, inr, refl, ap, sym, subst, arith}
 use Rattle.std.proofs.lemmas.Bool.{cases_eq}
-use Rattle.std.proofs.lemmas.List.{map-set}
+use Rattle.std.proofs.lemmas.List.{length-set, map-set, set-set}
 use Rattle.std.proofs.lemmas.List.Elements.{All-head, All-set, All-tail}
 use Rattle.std.proofs.lemmas.List.Sums.{sum_by-cons, sum_by-set, get_or-le-sum_by}
 use Rattle.std.proofs.lemmas.Option.{none-some}
 use Rattle.std.proofs.lemmas.Bool.Decides.{nat_tests}
 use Rattle.std.specs.Prelude.{slice_get, nat_lt, nat_le, sum_by, IsSomeAnd}
 use Rattle.std.specs.List.{All}
-use Rattle.iox2_contents.specs.SlotContents.{ContentState, ended_content, unwritten_content, written_content, with_changed, is_open, open_count}
+use Rattle.std.specs.Option.{option_map_or}
+use Rattle.iox2_contents.specs.SlotContents.{ClearsSlot, ContentState, ended_content, unwritten_content, written_content, with_changed, is_open, open_count}
 use Rattle.iox2_contents.specs.SlotStates.{SlotState, contents_of, has_list, waits, with_content}
 use Rattle.iox2_contents.specs.SlotRooms.{HasLists, HasListsBut, ListsCells, ShowsAtMost, one_if_long, long_count}
 
@@ -84,6 +85,14 @@ set-away (z ∷ zs) zero zero y away = absurd (away refl)
 set-away (z ∷ zs) zero (suc k) y away = refl
 set-away (z ∷ zs) (suc i) zero y away = refl
 set-away (z ∷ zs) (suc i) (suc k) y away = set-away zs i k y (λ same. away (ap suc same))
+
+-- as many stay
+pub changed-long : {A : Type 0} (xs : List A) (i : ℕ) (f : A → A) → length (with_changed xs i f) ≡ length xs
+changed-long {A = A} xs i f = by (slice_get xs i)
+  where
+    by : (o : Option A) → length (option_map_or (λ x. slice_set xs i (f x)) o xs) ≡ length xs
+    by None = refl
+    by (Some x) = length-set xs i (f x)
 
 -- the same element leaves the list
 pub set-same : {A : Type 0} (xs : List A) (i : ℕ) (x y : A) → slice_get xs i ≡ Some x → y ≡ x → slice_set xs i y ≡ xs
@@ -407,9 +416,53 @@ module _ {T U : Type 0} where
         → (0 < s.content.lists → s.content.cells ≡ []) → (0 < s.content.lists → open_count (contents_of xs) < s.content.lists) → HasLists most spare spare_room (slice_set xs i t)
     started-lists has header len t is none few = rw is (started (with_content (unwritten_content header len) s) has refl refl refl refl none few)
 
+    -- what the content there is
+    pub content-at : (contents : List (ContentState T U)) → contents_of xs ≡ contents → slice_get contents i ≡ Some s.content
+    content-at contents are = subst (λ ys. slice_get ys i ≡ Some s.content) are (mapped (λ (z : SlotState T U). z.content) xs i s at)
+
     -- what the contents are where one of them changed
     pub changed-contents : (contents : List (ContentState T U)) (f : ContentState T U → ContentState T U) (t : SlotState T U) → contents_of xs ≡ contents → t ≡ with_content f s
         → contents_of (slice_set xs i t) ≡ with_changed contents i f
-    changed-contents contents f t are is =
-        let read : slice_get contents i ≡ Some s.content = subst (λ ys. slice_get ys i ≡ Some s.content) are (mapped (λ (z : SlotState T U). z.content) xs i s at) in
-        map-set (λ (z : SlotState T U). z.content) xs i t ∙ rw (are, is, read) refl
+    changed-contents contents f t are is = map-set (λ (z : SlotState T U). z.content) xs i t ∙ rw (are, is, content-at contents are) refl
+
+    -- a slot without cells gives up its room
+    pub cleared-lists : HasLists most spare spare_room xs → (t : SlotState T U) → s.content.cells ≡ [] → t.content.cells ≡ [] → t.content.lists ≡ s.content.lists → t.content.is_in_place ≡ s.content.is_in_place
+        → t.content.room ≤ s.content.room → has_list t ≡ false → HasLists most spare spare_room (slice_set xs i t)
+    cleared-lists has t none gone lists place room no-list =
+        let shows = of-all (ShowsAtMost most) has.shown in
+        changed t has spare
+        (
+          λ some. let was = shows.0 (subst (λ n. 0 < n) lists some) in (omega (arith, room, was.0), was.1),
+          λ away. shows.1 (sym place ∙ away),
+        )
+        (λ listed. absurd (let clash : true ≡ false = sym listed ∙ no-list in let not : true ≡ false → ⊥ = λ e. cc in not clash))
+        lists
+        (omega (arith, long-none most s shows (none-listed has (λ some. none))))
+        (omega (arith, has.opened, opened-changed t, not-open t.content gone))
+
+module _ {T U : Type 0} (old mid : List (ContentState T U)) (slot : ℕ) (was : ContentState T U) (low : slot < length old) (is : mid ≡ with_changed old slot ended_content) (at : slice_get mid slot ≡ Some was) where
+  had-at : slice_get old slot ≡ Some (get_or old slot was)
+  had-at = there old slot was low
+
+  mid-is : mid ≡ slice_set old slot (ended_content (get_or old slot was))
+  mid-is = rw had-at at is
+
+  -- where a loan ended there are no cells
+  pub ended-there : was ≡ ended_content (get_or old slot was)
+  ended-there =
+      let read : slice_get mid slot ≡ Some (ended_content (get_or old slot was)) = rw mid-is (set-here old slot (get_or old slot was) (ended_content (get_or old slot was)) had-at) in
+      let same : Some was ≡ Some (ended_content (get_or old slot was)) = sym at ∙ read in
+      cc
+
+  -- and another content takes the place
+  pub clears : (new : List (ContentState T U)) (content : ContentState T U) → content.is_in_place ≡ was.is_in_place → content.lists ≡ was.lists → content.cells ≡ [] → new ≡ slice_set mid slot content
+      → ClearsSlot old new slot
+  clears new content place lists cells cleared = record {
+    content = content;
+    had = get_or old slot was;
+    there = had-at;
+    form = place ∙ ap (λ (c : ContentState T U). c.is_in_place) ended-there;
+    lists = lists ∙ ap (λ (c : ContentState T U). c.lists) ended-there;
+    cells = cells;
+    cleared = cleared ∙ ap (λ m. slice_set m slot content) mid-is ∙ set-set old slot (ended_content (get_or old slot was)) content;
+  }

@@ -1,5 +1,6 @@
 -- What is read at a slot of the contents.
-use Rattle.std.proofs.Common.{◌≡◌, ℕ, zero, suc, ◌<◌, List, [], ◌∷◌, length, Some, arith, get_or, slice_set, Bool, true, false, refl, ap, subst, sym}
+use Rattle.std.proofs.Common.{◌≡◌, ℕ, zero, suc, ◌<◌, List, [], ◌∷◌, length, Some, arith, get_or, slice_set, Bool, true, false, refl, ap, subst, sym, ◌∙◌}
+use Rattle.std.proofs.lemmas.List.{length-map}
 use Rattle.std.proofs.lemmas.Option.{slice_get_read}
 use Rattle.std.specs.Prelude.{slice_get}
 use Rattle.std.specs.Bool.{MatchBool}
@@ -50,3 +51,10 @@ content_read {T = T} {U = U} slots contents slot P x are h e = some_read slots s
     of_contents [] k h = absurd h
     of_contents (y ∷ ys) zero h = h
     of_contents (y ∷ ys) (suc k) h = of_contents ys k h
+
+-- What stands in a slot that there is.
+pub slot_read : {T U : Type 0} (slots : List (SlotState T U)) (contents : List (ContentState T U)) (slot : ℕ) (x : SlotState T U) → contents_of slots ≡ contents → slot < length contents
+    → x ≡ get_or slots slot x → slice_get slots slot ≡ Some x
+slot_read slots contents slot x are within e =
+    let count : length contents ≡ length slots = sym (ap length are) ∙ length-map slots (λ s. s.content) in
+    slice_get_read slots _ slot x refl (omega (arith, within, count)) e

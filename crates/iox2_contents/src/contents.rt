@@ -136,7 +136,7 @@ impl<T: Drop, U: Default + Drop> Contents<T, U> {
         ensures { self.new ≡ with_changed self.old slot ended_content }
     {
         self.slots[slot].end();
-        settle(&mut self.slots, &mut self.spare, self.unwritten.len(), slot);
+        settle(&mut self.slots, &mut self.spare, &self.unwritten, slot);
     }
 
     /// Writes the value of a loan of one element, which then counts as written.
@@ -145,7 +145,7 @@ impl<T: Drop, U: Default + Drop> Contents<T, U> {
         ensures { self.new ≡ with_changed self.old slot (written_content (value ∷ [])) }
     {
         self.slots[slot].write_payload(value);
-        settle(&mut self.slots, &mut self.spare, self.unwritten.len(), slot);
+        settle(&mut self.slots, &mut self.spare, &self.unwritten, slot);
     }
 
     /// Writes into each cell of the slot's loan what the function returns for its index. It is
@@ -156,7 +156,7 @@ impl<T: Drop, U: Default + Drop> Contents<T, U> {
         ensures { (answers : List T) × AnswersInOrder F.step f answers × WritesValues self.old self.new slot answers }
     {
         self.slots[slot].write_from_fn(f);
-        settle(&mut self.slots, &mut self.spare, self.unwritten.len(), slot);
+        settle(&mut self.slots, &mut self.spare, &self.unwritten, slot);
     }
 
     /// Takes the cells of the slot's loan as its values, where each is written. Returns whether it
@@ -168,7 +168,7 @@ impl<T: Drop, U: Default + Drop> Contents<T, U> {
         if !self.slots[slot].assume_init() {
             return false;
         }
-        settle(&mut self.slots, &mut self.spare, self.unwritten.len(), slot);
+        settle(&mut self.slots, &mut self.spare, &self.unwritten, slot);
         true
     }
 }
@@ -181,7 +181,7 @@ impl<T: Copy + Drop, U: Default + Drop> Contents<T, U> {
         ensures { WritesValues self.old self.new slot values.now }
     {
         self.slots[slot].write_from_slice(values);
-        settle(&mut self.slots, &mut self.spare, self.unwritten.len(), slot);
+        settle(&mut self.slots, &mut self.spare, &self.unwritten, slot);
     }
 }
 
@@ -194,7 +194,7 @@ impl<T: Copy + Default + Drop, U: Default + Drop> Contents<T, U> {
         ensures { (values : List T) × WritesValues self.old self.new slot values }
     {
         self.slots[slot].write_unspecified();
-        settle(&mut self.slots, &mut self.spare, self.unwritten.len(), slot);
+        settle(&mut self.slots, &mut self.spare, &self.unwritten, slot);
     }
 }
 
@@ -301,7 +301,7 @@ impl<T: Drop, U> Contents<T, U> {
         ensures* writes_back { sem 𝓛 (LendsCell T.row U.row self.entry slot result) }
         ensures value { first_cell_at self.old slot ≡ Some result.now }
     {
-        ready(&mut self.slots, &mut self.spare, self.unwritten.len(), slot);
+        ready(&mut self.slots, &mut self.spare, &self.unwritten, slot);
         self.slots[slot].cell_mut()
     }
 
@@ -312,7 +312,7 @@ impl<T: Drop, U> Contents<T, U> {
         ensures* writes_back { sem 𝓛 (LendsCells T.row U.row self.entry slot result) }
         ensures value { cells_at self.old slot ≡ Some result.now }
     {
-        ready(&mut self.slots, &mut self.spare, self.unwritten.len(), slot);
+        ready(&mut self.slots, &mut self.spare, &self.unwritten, slot);
         self.slots[slot].cells_mut()
     }
 }

@@ -30,17 +30,17 @@ pub(crate) fn cell_lists<T: Drop>(
 pub(crate) fn settle<T: Drop, U>(
     slots: &mut Vec<Content<T, U>>,
     spare: &mut Vec<Vec<Option<T>>>,
-    most: usize,
+    unwritten: &Vec<Option<T>>,
     slot: usize,
 )
-    requires lists { HasListsBut slot most (length spare.old.items) (vec_capacity spare.old) slots.old.items }
-    requires empty { All (λ list. (list.items ≡ []) × (most ≤ vec_capacity list)) spare.old.items }
+    requires lists { HasListsBut slot (length unwritten.now.items) (length spare.old.items) (vec_capacity spare.old) slots.old.items }
+    requires empty { All (λ list. (list.items ≡ []) × (length unwritten.now.items ≤ vec_capacity list)) spare.old.items }
     ensures same { contents_of slots.new.items ≡ contents_of slots.old.items }
-    ensures lists { HasLists most (length spare.new.items) (vec_capacity spare.new) slots.new.items }
-    ensures empty { All (λ list. (list.items ≡ []) × (most ≤ vec_capacity list)) spare.new.items }
+    ensures lists { HasLists (length unwritten.now.items) (length spare.new.items) (vec_capacity spare.new) slots.new.items }
+    ensures empty { All (λ list. (list.items ≡ []) × (length unwritten.now.items ≤ vec_capacity list)) spare.new.items }
 {
     if slots[slot].has_list() {
-        take_back(slots, spare, most, slot);
+        take_back(slots, spare, unwritten.len(), slot);
     }
 }
 
@@ -71,19 +71,19 @@ fn take_back<T: Drop, U>(
 pub(crate) fn ready<T: Drop, U>(
     slots: &mut Vec<Content<T, U>>,
     spare: &mut Vec<Vec<Option<T>>>,
-    most: usize,
+    unwritten: &Vec<Option<T>>,
     slot: usize,
 )
-    requires lists { HasLists most (length spare.old.items) (vec_capacity spare.old) slots.old.items }
-    requires empty { All (λ list. (list.items ≡ []) × (most ≤ vec_capacity list)) spare.old.items }
+    requires lists { HasLists (length unwritten.now.items) (length spare.old.items) (vec_capacity spare.old) slots.old.items }
+    requires empty { All (λ list. (list.items ≡ []) × (length unwritten.now.items ≤ vec_capacity list)) spare.old.items }
     requires within { slot < length slots.old.items }
     ensures same { contents_of slots.new.items ≡ contents_of slots.old.items }
-    ensures lists { HasLists most (length spare.new.items) (vec_capacity spare.new) slots.new.items }
-    ensures empty { All (λ list. (list.items ≡ []) × (most ≤ vec_capacity list)) spare.new.items }
+    ensures lists { HasLists (length unwritten.now.items) (length spare.new.items) (vec_capacity spare.new) slots.new.items }
+    ensures empty { All (λ list. (list.items ≡ []) × (length unwritten.now.items ≤ vec_capacity list)) spare.new.items }
     ensures ready { IsSomeAnd (slice_get slots.new.items slot) (λ s. waits s ≡ false) }
 {
     if slots[slot].waits() {
-        hand_out(slots, spare, most, slot);
+        hand_out(slots, spare, unwritten.len(), slot);
     }
 }
 

@@ -7,16 +7,7 @@ use Rattle.iox2_contents.proofs.contents.Contents.write_payload.Goals as goal
 pub settle-requires-clause-lists : goal.settle-requires-clause-lists
 settle-requires-clause-lists g c =
     let read = content_read c.self.inside.slots.items _ c.args.slot (λ content. length content.cells ≡ 1) _ c.self.view_is c.requires c.index_mut.ensures.value in
-    let most : c.len.result ≡ length c.self.inside.unwritten.items = search rules in
-    rw most (written-lists _ _ _ _ c.args.slot _ read.0 c.self.invariant.2 _ _ c.write_payload.ensures)
-
-pub settle-requires-clause-empty : goal.settle-requires-clause-empty
-settle-requires-clause-empty g c = let most : c.len.result ≡ length c.self.inside.unwritten.items = search rules in rw most c.self.invariant.1
-
-pub invariant_of-self : goal.invariant_of-self
-invariant_of-self g c =
-    let most : c.len.result ≡ length c.self.inside.unwritten.items = search rules in
-    (c.self.invariant.0, rw (← most) c.settle.ensures.empty, rw (← most) c.settle.ensures.lists)
+    written-lists _ _ _ _ c.args.slot _ read.0 c.self.invariant.2 _ _ c.write_payload.ensures
 
 pub returns : goal.returns
 returns g c =
