@@ -1,16 +1,17 @@
 -- Which lists of cells there are, where one slot changes.
-use Rattle.std.proofs.Common.{◌≡◌, ◌≢◌, ◌⊎◌, ◌<◌, ◌≤◌, ◌+◌, ◌∙◌, ◌==◌, ◌&&◌, ℕ, zero, suc, Bool, true, false, Option, None, Some, cond, List, [], ◌∷◌, length, map, get_or, slice_set, inl, inr, refl, ap, sym, subst, arith}
+use Rattle.std.proofs.Common.{◌≡◌, ◌≢◌, ◌⊎◌, ◌<◌, ◌≤◌, ◌+◌, ◌∙◌, ◌==◌, ◌&&◌, ◌++◌, not, ℕ, zero, suc, Bool, true, false, Option, None, Some, cond, List, [], ◌∷◌, length, map, get_or, slice_set, inl, inr, refl, ap, sym, subst, arith}
 use Rattle.std.proofs.lemmas.Bool.{cases_eq}
-use Rattle.std.proofs.lemmas.List.{length-set, map-set, set-set}
-use Rattle.std.proofs.lemmas.List.Elements.{All-head, All-set, All-tail}
-use Rattle.std.proofs.lemmas.List.Sums.{sum_by-cons, sum_by-set, get_or-le-sum_by}
+use Rattle.std.proofs.lemmas.List.{length-set, map-append, map-set, set-set}
+use Rattle.std.proofs.lemmas.List.Elements.{All-append, All-head, All-map, All-set, All-tail, All-weaker}
+use Rattle.std.proofs.lemmas.List.Sums.{sum_by-append, sum_by-cons, sum_by-set, get_or-le-sum_by}
 use Rattle.std.proofs.lemmas.Option.{none-some}
 use Rattle.std.proofs.lemmas.Bool.Decides.{nat_tests}
 use Rattle.std.specs.Prelude.{slice_get, nat_lt, nat_le, sum_by, IsSomeAnd}
 use Rattle.std.specs.List.{All}
 use Rattle.std.specs.Option.{option_map_or}
 use Rattle.iox2_contents.specs.SlotContents.{ClearsSlot, ContentState, ended_content, unwritten_content, written_content, with_changed, is_open, open_count}
-use Rattle.iox2_contents.specs.SlotStates.{SlotState, contents_of, has_list, waits, with_content}
+use Rattle.iox2_contents.specs.SlotPayload.{lies_in_place}
+use Rattle.iox2_contents.specs.SlotStates.{IsNew, SlotState, contents_of, has_list, waits, with_content}
 use Rattle.iox2_contents.specs.SlotRooms.{HasLists, HasListsBut, ListsCells, ShowsAtMost, one_if_long, long_count}
 
 -- there is such a place
@@ -466,3 +467,108 @@ module _ {T U : Type 0} (old mid : List (ContentState T U)) (slot : ℕ) (was : 
     cells = cells;
     cleared = cleared ∙ ap (λ m. slice_set m slot content) mid-is ∙ set-set old slot (ended_content (get_or old slot was)) content;
   }
+
+-- ---- slots that are new
+
+-- a sum of nothing
+zero-sum : {A : Type 0} (f : A → ℕ) (xs : List A) → All (λ x. f x ≡ 0) xs → sum_by f xs ≡ 0
+zero-sum f [] all = refl
+zero-sum f (x ∷ xs) all =
+    let first = All-head (λ y. f y ≡ 0) x xs all in
+    let rest = zero-sum f xs (All-tail (λ y. f y ≡ 0) x xs all) in
+    omega (arith, first, rest, sum_by-cons f x xs)
+
+module _ {T U : Type 0} where
+  none-open : (xs : List (SlotState T U)) → All (λ s. s.content.cells ≡ []) xs → open_count (contents_of xs) ≡ 0
+  none-open xs none =
+      zero-sum one_if_open (contents_of xs) (All-map (λ (c : ContentState T U). one_if_open c ≡ 0) (λ (s : SlotState T U). s.content) xs
+      (All-weaker (λ (s : SlotState T U). s.content.cells ≡ []) (λ s. one_if_open s.content ≡ 0) (λ s e. not-open s.content e) xs none))
+
+  without-lists : (xs : List (SlotState T U)) → All (λ s. s.content.lists ≡ 0) xs → open_count (contents_of xs) ≡ 0
+  without-lists xs none =
+      zero-sum one_if_open (contents_of xs) (All-map (λ (c : ContentState T U). one_if_open c ≡ 0) (λ (s : SlotState T U). s.content) xs
+      (All-weaker (λ (s : SlotState T U). s.content.lists ≡ 0) (λ s. one_if_open s.content ≡ 0) (λ s e. never-open s.content e) xs none))
+
+  first-alike : (n lists : ℕ) (xs : List (SlotState T U)) → 0 < length xs → All (λ s. s.content.lists ≡ n) xs → All (λ s. 0 < s.content.lists → s.content.lists ≡ lists) xs → 0 < n → n ≡ lists
+  first-alike n lists [] some are alike more = absurd (omega (arith, some))
+  first-alike n lists (x ∷ xs) some are alike more =
+      let is = All-head (λ s. s.content.lists ≡ n) x xs are in
+      sym is ∙ All-head (λ s. 0 < s.content.lists → s.content.lists ≡ lists) x xs alike (subst (λ m. 0 < m) (sym is) more)
+
+  shows-more : (most more : ℕ) → most ≤ more → (s : SlotState T U) → ShowsAtMost most s → ShowsAtMost more s
+  shows-more most more less s shows =
+      (λ some. let was = shows.0 some in (omega (arith, was.0, less), omega (arith, was.1, less)), λ away. let was = shows.1 away in omega (arith, was, less))
+
+  module _ (d : U → Type 0) (room : ℕ) (in_lists : Bool) (n : ℕ) (none : in_lists ≡ false → n ≡ 0) (most : ℕ) (fits : 0 < n → room ≤ most) (first : lies_in_place room in_lists ≡ false → 0 < most) where
+    new-shows : (s : SlotState T U) → IsNew d room in_lists n s → ShowsAtMost most s
+    new-shows s new = (
+      λ some.
+          let listed : 0 < n = subst (λ m. 0 < m) new.lists_are some in
+          (rw new.rooms (fits listed), by in_lists refl listed),
+      λ away. first (sym new.in_place ∙ away),
+    ) where
+      by : (b : Bool) → in_lists ≡ b → 0 < n → 0 < most
+      by true e listed = first (ap (λ b. room == 1 && not b) e ∙ and-false (room == 1))
+      by false e listed = absurd (omega (arith, none e, listed))
+
+    new-listed : (s : SlotState T U) → IsNew d room in_lists n s → ListsCells s
+    new-listed s new = λ listed. absurd (let clash : true ≡ false = sym listed ∙ new.none in let no : true ≡ false → ⊥ = λ e. cc in no clash)
+
+    -- slots that are new have lists enough
+    pub new-lists : (spare spare_room : ℕ) (xs : List (SlotState T U)) → All (IsNew d room in_lists n) xs → n ≤ spare → n ≤ spare_room → HasLists most spare spare_room xs
+    new-lists spare spare_room xs new enough fit = record {
+      shown = All-weaker (IsNew d room in_lists n) (ShowsAtMost most) new-shows xs new;
+      listed = All-weaker (IsNew d room in_lists n) ListsCells new-listed xs new;
+      lists = n;
+      alike = All-weaker (IsNew d room in_lists n) (λ s. 0 < s.content.lists → s.content.lists ≡ n) (λ s is some. is.lists_are) xs new;
+      kept = omega (arith, enough);
+      room = fit;
+      opened = omega (arith, none-open xs (All-weaker (IsNew d room in_lists n) (λ s. s.content.cells ≡ []) (λ s is. is.cells) xs new));
+    }
+
+    module _ (was spare spare_room : ℕ) (xs ys : List (SlotState T U)) (has : HasLists was spare spare_room xs) (some : 0 < length xs) (are : All (λ s. s.content.lists ≡ n) xs)
+        (new : All (IsNew d room in_lists n) ys) (less : was ≤ most) where
+      both-shown : All (ShowsAtMost most) (xs ++ ys)
+      both-shown = All-append (ShowsAtMost most) xs ys (All-weaker (ShowsAtMost was) (ShowsAtMost most) (shows-more was most less) xs has.shown) (All-weaker (IsNew d room in_lists n) (ShowsAtMost most) new-shows ys new)
+
+      both-listed : All ListsCells (xs ++ ys)
+      both-listed = All-append ListsCells xs ys has.listed (All-weaker (IsNew d room in_lists n) ListsCells new-listed ys new)
+
+      both-opened : open_count (contents_of (xs ++ ys)) ≡ open_count (contents_of xs)
+      both-opened =
+          let none-new = none-open ys (All-weaker (IsNew d room in_lists n) (λ s. s.content.cells ≡ []) (λ s is. is.cells) ys new) in
+          ap open_count (map-append (λ (s : SlotState T U). s.content) xs ys) ∙ sum_by-append one_if_open (contents_of xs) (contents_of ys) ∙ omega (arith, none-new)
+
+      -- new slots stand behind those that are there, with the same lists
+      pub grown-lists : was ≡ most → HasLists most spare spare_room (xs ++ ys)
+      grown-lists same = record {
+        shown = both-shown;
+        listed = both-listed;
+        lists = has.lists;
+        alike = All-append (λ s. 0 < s.content.lists → s.content.lists ≡ has.lists) xs ys has.alike
+            (All-weaker (IsNew d room in_lists n) (λ s. 0 < s.content.lists → s.content.lists ≡ has.lists)
+            (λ s is more. is.lists_are ∙ first-alike n has.lists xs some are has.alike (subst (λ m. 0 < m) is.lists_are more)) ys new);
+        kept =
+            let long : long_count most (xs ++ ys) ≡ long_count most xs + long_count most ys = sum_by-append (one_if_long most) xs ys in
+            let old : long_count was xs ≡ long_count most xs = ap (λ m. long_count m xs) same in
+            omega (arith, has.kept, long, old);
+        room = has.room;
+        opened = omega (arith, both-opened, has.opened);
+      }
+
+      -- or with new lists
+      pub relisted : (spare' spare_room' : ℕ) → n ≤ spare' → n ≤ spare_room' → HasLists most spare' spare_room' (xs ++ ys)
+      relisted spare' spare_room' enough fit = record {
+        shown = both-shown;
+        listed = both-listed;
+        lists = n;
+        alike = All-append (λ s. 0 < s.content.lists → s.content.lists ≡ n) xs ys
+            (All-weaker (λ s. s.content.lists ≡ n) (λ s. 0 < s.content.lists → s.content.lists ≡ n) (λ s is more. is) xs are)
+            (All-weaker (IsNew d room in_lists n) (λ s. 0 < s.content.lists → s.content.lists ≡ n) (λ s is more. is.lists_are) ys new);
+        kept = omega (arith, enough);
+        room = fit;
+        opened = omega (arith, both-opened, by n refl);
+      } where
+        by : (m : ℕ) → n ≡ m → open_count (contents_of xs) ≤ n
+        by zero e = omega (arith, without-lists xs (All-weaker (λ s. s.content.lists ≡ n) (λ s. s.content.lists ≡ 0) (λ s is. is ∙ e) xs are))
+        by (suc m) e = omega (arith, has.opened, first-alike n has.lists xs some are has.alike (omega (arith, e)))

@@ -1,9 +1,13 @@
 -- What a slot's payload has, which no public contract shows.
-use Rattle.std.specs.Prelude.{ℕ, Bool, true, false, ◌&&◌, ◌==◌, List, [], ◌∷◌, length, nat_lt}
+use Rattle.std.specs.Prelude.{ℕ, Bool, true, false, ◌&&◌, ◌==◌, List, [], ◌∷◌, length, nat_lt, not}
 use Rattle.std.specs.declared.option.Option.{Option}
 use Rattle.iox2_contents.specs.SlotElements.{with_first_cell as with_cell_in, with_cells as with_cells_in, with_first_value as with_value_in, with_values as with_values_in}
 use Rattle.iox2_contents.specs.declared.payload.Payload.{Payload}
 use Rattle.iox2_contents.specs.declared.payload.Payload.TheVariants.{Empty, Unwritten, Written, Elements}
+
+-- A payload with room for so many elements lies in its slot, and not in lists.
+abbrev pub lies_in_place : (room : ℕ) → (in_lists : Bool) → Bool
+lies_in_place room in_lists = room == 1 && not in_lists
 
 module _ {T : Type 0} where
   -- The cells of a payload.

@@ -4,7 +4,7 @@ ghost use Rattle.std.specs.Borrow.{sem};
 ghost use Rattle.std.specs.List.{list_all};
 ghost use Rattle.iox2_contents.specs.SlotCalls.{AnswersInOrder};
 ghost use Rattle.iox2_contents.specs.SlotContents.{unwritten_content, written_content, ended_content};
-ghost use Rattle.iox2_contents.specs.SlotStates.{has_list, waits, with_content};
+ghost use Rattle.iox2_contents.specs.SlotStates.{IsNew, has_list, waits, with_content};
 
 use crate::payload::Payload;
 use std::alloc::{AllocError, Global};
@@ -49,14 +49,8 @@ impl<T: Drop, U: Default + Drop> Content<T, U> {
         in_lists: bool,
         lists: usize,
     ) -> Result<Self, AllocError>
-        ensures default { IfOk result (λ slot. U.is_default slot.content.user_header) }
-        ensures cells { IfOk result (λ slot. slot.content.cells ≡ []) }
-        ensures values { IfOk result (λ slot. slot.content.values ≡ []) }
-        ensures room { IfOk result (λ slot. slot.content.room ≡ room) }
-        ensures in_lists { IfOk result (λ slot. in_lists ≡ true → slot.content.is_in_place ≡ false) }
-        ensures lists { IfOk result (λ slot. slot.content.is_in_place ≡ false → slot.content.lists ≡ lists) }
-        ensures placed { IfOk result (λ slot. slot.content.is_in_place ≡ true → (slot.content.lists ≡ 0) × (room ≡ 1) × (in_lists ≡ false)) }
-        ensures none { IfOk result (λ slot. has_list slot ≡ false) }
+        requires { in_lists ≡ false → lists ≡ 0 }
+        ensures { IfOk result (IsNew U.is_default room in_lists lists) }
     {
         let payload = Payload::new(alloc, room, in_lists, lists)?;
         Ok(Content {

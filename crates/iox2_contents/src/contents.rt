@@ -3,6 +3,8 @@ ghost use Rattle.std.specs.Prelude.{◌≡◌, ◌<◌, ◌≤◌, List, [], ◌
 ghost use Rattle.std.specs.Borrow.{sem};
 ghost use Rattle.std.specs.List.{All};
 ghost use Rattle.iox2_contents.specs.SlotCalls.{AnswersInOrder};
+ghost use Rattle.iox2_contents.specs.SlotPayload.{lies_in_place};
+ghost use Rattle.iox2_contents.specs.SlotStates.{IsNew};
 ghost use Rattle.iox2_contents.specs.SlotContents.{SomeAt, AddsSlots, ClearsSlot, WritesValues, AssumesWritten, StartsLoan, with_changed, written_content, ended_content, lists_for, open_count, user_header_at, cells_at, values_at, first_cell_at, first_value_at};
 
 use crate::cells::push_unwritten;
@@ -10,7 +12,6 @@ use crate::content::Content;
 use crate::lists::{cell_lists, ready, settle};
 use std::alloc::{AllocError, Global};
 use std::marker::Model;
-use std::mem;
 
 /// What a publisher's users write and its subscribers' users read: for each slot the user header
 /// and the payload.
@@ -68,18 +69,12 @@ impl<T: Drop, U: Default + Drop> Contents<T, U> {
         ensures in_lists { IfOk result (All (λ content. in_lists ≡ true → content.is_in_place ≡ false)) }
         ensures lists { IfOk result (All (λ content. content.lists ≡ lists_for in_lists lists)) }
     {
-        let lists = if in_lists { lists } else { 0 };
+        let lists = lists_for(in_lists, lists);
         let longest = shown_cells(room, in_lists, lists);
-        let unwritten = unwritten_cells(alloc, longest)?;
-        let spare = cell_lists(alloc, lists, longest)?;
-        let mut contents = Vec::with_capacity(alloc, slots)?;
-        for _ in 0..slots {
-            contents.push_reserved(Content::new(alloc, room, in_lists, lists)?);
-        }
         Ok(Contents {
-            slots: contents,
-            unwritten,
-            spare,
+            slots: new_slots(alloc, slots, room, in_lists, lists)?,
+            unwritten: unwritten_cells(alloc, longest)?,
+            spare: cell_lists(alloc, lists, longest)?,
         })
     }
 
@@ -99,12 +94,18 @@ impl<T: Drop, U: Default + Drop> Contents<T, U> {
         ensures grown { OnOk result (AddsSlots self.old self.new more room in_lists lists) }
         ensures refused { OnErr result (self.new ≡ self.old) }
     {
-        let mut added = Contents::new(alloc, more, room, in_lists, lists)?;
-        self.slots.append(&mut added.slots)?;
-        if self.unwritten.len() < added.unwritten.len() {
-            mem::swap(&mut self.unwritten, &mut added.unwritten);
-            mem::swap(&mut self.spare, &mut added.spare);
+        let lists = lists_for(in_lists, lists);
+        let longest = shown_cells(room, in_lists, lists);
+        let mut added = new_slots(alloc, more, room, in_lists, lists)?;
+        if longest <= self.unwritten.len() {
+            self.slots.append(&mut added)?;
+            return Ok(());
         }
+        let unwritten = unwritten_cells(alloc, longest)?;
+        let spare = cell_lists(alloc, lists, longest)?;
+        self.slots.append(&mut added)?;
+        self.unwritten = unwritten;
+        self.spare = spare;
         Ok(())
     }
 
@@ -198,16 +199,43 @@ impl<T: Copy + Default + Drop, U: Default + Drop> Contents<T, U> {
     }
 }
 
+// How many lists of cells there are for slots whose elements lie in lists, or don't.
+fn lists_for(in_lists: bool, lists: usize) -> usize
+    ensures { result ≡ lists_for in_lists lists }
+{
+    if in_lists { lists } else { 0 }
+}
+
 // How many unwritten cells a slot may have to show: all of a loan where its publisher keeps lists, and
 // else the first, unless that lies in the slot.
 fn shown_cells(room: usize, in_lists: bool, lists: usize) -> usize
+    requires { in_lists ≡ false → lists ≡ 0 }
     ensures all { 0 < lists → room ≤ result }
-    ensures first { (room ≡ 1 → in_lists ≡ true) → 0 < result }
+    ensures first { lies_in_place room in_lists ≡ false → 0 < result }
 {
     if room == 1 && !in_lists {
-        return if lists == 0 { 0 } else { 1 };
+        return 0;
     }
     if lists == 0 { 1 } else { room.max(1) }
+}
+
+// The contents of so many slots that have no message yet.
+fn new_slots<T: Drop, U: Default + Drop>(
+    alloc: Global,
+    slots: usize,
+    room: usize,
+    in_lists: bool,
+    lists: usize,
+) -> Result<Vec<Content<T, U>>, AllocError>
+    requires { in_lists ≡ false → lists ≡ 0 }
+    ensures count { IfOk result (λ contents. length contents.items ≡ slots) }
+    ensures new { IfOk result (λ contents. All (IsNew U.is_default room in_lists lists) contents.items) }
+{
+    let mut contents = Vec::with_capacity(alloc, slots)?;
+    for _ in 0..slots {
+        contents.push_reserved(Content::new(alloc, room, in_lists, lists)?);
+    }
+    Ok(contents)
 }
 
 // So many unwritten cells.

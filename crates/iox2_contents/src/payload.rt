@@ -3,7 +3,7 @@ ghost use Rattle.std.specs.Prelude.{◌≡◌, ◌<◌, ◌≤◌, [], ◌∷◌
 ghost use Rattle.std.specs.Borrow.{sem};
 ghost use Rattle.std.specs.List.{list_all};
 ghost use Rattle.iox2_contents.specs.SlotCalls.{AnswersInOrder};
-ghost use Rattle.iox2_contents.specs.SlotPayload.{cells_of, values_of, room_of, is_in_place, lists_of, cell_room_of, has_list, waits};
+ghost use Rattle.iox2_contents.specs.SlotPayload.{cells_of, values_of, room_of, is_in_place, lists_of, cell_room_of, lies_in_place, has_list, waits};
 
 use crate::elements::Elements;
 use std::alloc::{AllocError, Global};
@@ -30,12 +30,12 @@ impl<T: Drop> Payload<T> {
         in_lists: bool,
         lists: usize,
     ) -> Result<Self, AllocError>
+        requires { in_lists ≡ false → lists ≡ 0 }
         ensures cells { IfOk result (λ payload. cells_of payload ≡ []) }
         ensures values { IfOk result (λ payload. values_of payload ≡ []) }
         ensures room { IfOk result (λ payload. room_of payload ≡ room) }
-        ensures in_lists { IfOk result (λ payload. in_lists ≡ true → is_in_place payload ≡ false) }
-        ensures lists { IfOk result (λ payload. is_in_place payload ≡ false → lists_of payload ≡ lists) }
-        ensures placed { IfOk result (λ payload. is_in_place payload ≡ true → (lists_of payload ≡ 0) × (room ≡ 1) × (in_lists ≡ false)) }
+        ensures in_place { IfOk result (λ payload. is_in_place payload ≡ lies_in_place room in_lists) }
+        ensures lists { IfOk result (λ payload. lists_of payload ≡ lists) }
         ensures none { IfOk result (λ payload. has_list payload ≡ false) }
     {
         if room == 1 && !in_lists {
