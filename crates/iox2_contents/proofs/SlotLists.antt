@@ -1,15 +1,15 @@
 -- Which lists of cells there are, where one slot changes.
-use Rattle.std.proofs.Common.{◌≡◌, ◌≢◌, ◌⊎◌, ◌<◌, ◌≤◌, ◌+◌, ◌∙◌, ◌==◌, ◌&&◌, ◌++◌, not, ℕ, zero, suc, Bool, true, false, Option, None, Some, cond, List, [], ◌∷◌, length, map, get_or, slice_set, inl, inr, refl, ap, sym, subst, arith}
+use Rattle.std.proofs.Common.{◌≡◌, ◌≢◌, ◌⊎◌, ◌<◌, ◌≤◌, ◌+◌, ◌∙◌, ◌==◌, ◌&&◌, ◌++◌, not, ℕ, zero, suc, Bool, true, false, Option, None, Some, cond, List, [], ◌∷◌, length, map, replicate, get_or, slice_set, inl, inr, refl, ap, sym, subst, arith}
 use Rattle.std.proofs.lemmas.Bool.{cases_eq}
-use Rattle.std.proofs.lemmas.List.{length-set, map-append, map-set, set-set}
-use Rattle.std.proofs.lemmas.List.Elements.{All-append, All-head, All-map, All-set, All-tail, All-weaker}
+use Rattle.std.proofs.lemmas.List.{length-map, length-replicate, length-set, map-append, map-set, set-set}
+use Rattle.std.proofs.lemmas.List.Elements.{All-append, All-cons, All-head, All-map, All-nil, All-set, All-tail, All-weaker}
 use Rattle.std.proofs.lemmas.List.Sums.{sum_by-append, sum_by-cons, sum_by-set, get_or-le-sum_by}
 use Rattle.std.proofs.lemmas.Option.{none-some}
 use Rattle.std.proofs.lemmas.Bool.Decides.{nat_tests}
 use Rattle.std.specs.Prelude.{slice_get, nat_lt, nat_le, sum_by, IsSomeAnd}
 use Rattle.std.specs.List.{All}
 use Rattle.std.specs.Option.{option_map_or}
-use Rattle.iox2_contents.specs.SlotContents.{ClearsSlot, ContentState, ended_content, unwritten_content, written_content, with_changed, is_open, open_count}
+use Rattle.iox2_contents.specs.SlotContents.{AddsSlots, ClearsSlot, ContentState, ended_content, unwritten_content, written_content, with_changed, lists_for, is_open, open_count}
 use Rattle.iox2_contents.specs.SlotPayload.{lies_in_place}
 use Rattle.iox2_contents.specs.SlotStates.{IsNew, SlotState, contents_of, has_list, waits, with_content}
 use Rattle.iox2_contents.specs.SlotRooms.{HasLists, HasListsBut, ListsCells, ShowsAtMost, one_if_long, long_count}
@@ -572,3 +572,47 @@ module _ {T U : Type 0} where
         by : (m : ℕ) → n ≡ m → open_count (contents_of xs) ≤ n
         by zero e = omega (arith, without-lists xs (All-weaker (λ s. s.content.lists ≡ n) (λ s. s.content.lists ≡ 0) (λ s is. is ∙ e) xs are))
         by (suc m) e = omega (arith, has.opened, first-alike n has.lists xs some are has.alike (omega (arith, e)))
+
+  -- what holds of all contents holds of all slots
+  pub of-contents : (P : ContentState T U → Type 0) (xs : List (SlotState T U)) (contents : List (ContentState T U)) → contents_of xs ≡ contents → All P contents → All (λ s. P s.content) xs
+  of-contents P xs contents are all = by xs (subst (All P) (sym are) all)
+    where
+      by : (ys : List (SlotState T U)) → All P (contents_of ys) → All (λ s. P s.content) ys
+      by [] none = All-nil (λ s. P s.content)
+      by (y ∷ ys) each = All-cons (λ s. P s.content) y ys (All-head P y.content (contents_of ys) each) (by ys (All-tail P y.content (contents_of ys) each))
+
+  module _ (d : U → Type 0) (room : ℕ) (in_lists : Bool) (n : ℕ) (ys : List (SlotState T U)) (new : All (IsNew d room in_lists n) ys) where
+    -- what new slots show
+    pub new-contents : (P : ContentState T U → Type 0) → ((s : SlotState T U) → IsNew d room in_lists n s → P s.content) → All P (contents_of ys)
+    new-contents P each = All-map P (λ (s : SlotState T U). s.content) ys (All-weaker (IsNew d room in_lists n) (λ s. P s.content) each ys new)
+
+    pub new-forms : All (λ content. in_lists ≡ true → content.is_in_place ≡ false) (contents_of ys)
+    new-forms = new-contents (λ content. in_lists ≡ true → content.is_in_place ≡ false) (λ s is listed. is.in_place ∙ ap (λ b. room == 1 && not b) listed ∙ and-false (room == 1))
+
+    pub adds : (old : List (ContentState T U)) (xs zs : List (SlotState T U)) (lists more : ℕ) → contents_of xs ≡ old → n ≡ lists_for in_lists lists → length ys ≡ more → zs ≡ xs ++ ys
+        → AddsSlots old (contents_of zs) more room in_lists lists
+    adds old xs zs lists more are count long is = record {
+      added = contents_of ys;
+      count = length-map ys (λ (s : SlotState T U). s.content) ∙ long;
+      rooms = new-contents (λ content. content.room ≡ room) (λ s new_slot. new_slot.rooms);
+      forms = λ listed k e low. new-forms k e low listed;
+      lists_are = new-contents (λ content. content.lists ≡ lists_for in_lists lists) (λ s new_slot. new_slot.lists_are ∙ count);
+      cells = new-contents (λ content. content.cells ≡ []) (λ s new_slot. new_slot.cells);
+      grown = ap contents_of is ∙ map-append (λ (s : SlotState T U). s.content) xs ys ∙ ap (λ contents. contents ++ contents_of ys) are;
+    }
+
+  -- slots of which there are some show some
+  pub some-slots : (xs : List (SlotState T U)) (contents : List (ContentState T U)) → contents_of xs ≡ contents → 0 < length contents → 0 < length xs
+  some-slots xs contents are some =
+      let count : length contents ≡ length xs = sym (ap length are) ∙ length-map xs (λ (s : SlotState T U). s.content) in
+      omega (arith, some, count)
+
+-- without lists there are none
+pub without : (in_lists : Bool) (lists n : ℕ) → n ≡ lists_for in_lists lists → in_lists ≡ false → n ≡ 0
+without in_lists lists n is none = is ∙ ap (λ b. cond {A = ℕ} b lists 0) none
+
+-- so many of one are as many as they are
+pub replicated : {A : Type 0} (xs : List A) (n : ℕ) (x : A) → xs ≡ replicate n x → (length xs ≡ n) × (xs ≡ replicate (length xs) x)
+replicated xs n x are =
+    let long : length xs ≡ n = ap length are ∙ length-replicate n x in
+    (long, are ∙ ap (λ m. replicate m x) (sym long))
