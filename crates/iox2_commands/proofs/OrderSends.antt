@@ -76,7 +76,7 @@ module _ (p0 : ℕ) (got : ℕ → List ℕ) (before : List ℕ) (n : ℕ) where
         (λ _ new. subst (λ (b : Mailbox). IsSubsequence (got q ++ b.waiting) (before ++ n ∷ [])) (sym e) (v.whole q new)) (λ _. v.whole r);
     unserved = λ r. at_each boxes q box (λ r b. p0 ≤ r → LeadsTo rest r → IsSubsequence (got r ++ b.waiting) before) r
         (λ _ new l. let same : 0 ≡ suc l.0 = apart 0 (suc l.0) q refl l.1 in absurd (omega arith))
-        (λ _ new l. v.unserved r new (later_end (Some q) rest r l));
+        (λ _ new l. v.unserved r new (leads_further (Some q) rest r l));
   }
 
   module _ (environment : Environment) (c : ServiceConfig) (p : ℕ) (strategy : BackpressureStrategy) (handler : Option (Handler BackpressureAction)) (buffers : ℕ → Option ℕ) where

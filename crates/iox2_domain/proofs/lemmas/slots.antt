@@ -11,8 +11,13 @@ pub mod HolderGone
 pub mod LeftConnections
 pub mod SettledBooks
 pub mod LoneLoans
+pub mod OpenLoans
+pub mod SlotCells
+pub mod OpenCounts
 pub mod OwnSlots
 pub mod Rebooked
+pub mod RewrittenContents
+pub mod FreeContents
 pub mod SlotChanges
 pub mod ConnectionSlots
 pub mod PublisherBooks

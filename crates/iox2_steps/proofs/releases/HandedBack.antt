@@ -22,7 +22,6 @@ use Rattle.iox2_ends.proofs.LookUps.{look_up-nothing, look_up-there}
 use Rattle.iox2_ends.proofs.MailboxChanges.{mailbox-there}
 use Rattle.iox2_ends.proofs.Releases.{IsOnce-map}
 use Rattle.iox2_laws.proofs.MailboxLemmas.{has_borrows-is_borrowed}
-use Rattle.iox2_laws.proofs.NumberLemmas.{IsOnce-right}
 use Rattle.iox2_domain.specs.Fields.{Fields, kept_of, numbers_of, subscriber_of}
 use Rattle.iox2_domain.specs.Invariant.{IsBookOf, IsDomain, KeepsBooks, details_of, is_publisher, is_subscriber}
 use Rattle.iox2_domain.specs.Kept.{Named, state_of, is_named}
@@ -34,7 +33,7 @@ use Rattle.iox2_domain.proofs.lemmas.fields.Standing.{some_is}
 use Rattle.iox2_domain.proofs.lemmas.fields.Views.{mailboxes-are}
 use Rattle.iox2_steps.proofs.releases.Forgets.{ItsSubscriber}
 use Rattle.iox2_steps.proofs.releases.LetGo.{let_go-midway}
-use Rattle.iox2_steps.proofs.releases.Released.{gives-back-midway}
+use Rattle.iox2_steps.proofs.releases.Released.{once-borrowed, gives-back-midway}
 use Rattle.iox2_domain.proofs.lemmas.slots.ConnectionSlots.{borrowed-in_use, contains-one}
 
 -- a slot is borrowed in the connection at a key, which stands there
@@ -76,7 +75,7 @@ module _ {T U : Type 0} (f : Fields T U) (sound : IsDomain f) (key slot : ℕ) (
   once : IsOnce c.borrowed
   once =
       IsOnce-map (numbers_of f.books c.home.publisher) c.borrowed
-      (subst (λ (b : Mailbox). IsOnce b.borrowed) box-is (IsOnce-right _ _ (sound.well_formed.mailboxes c.home.publisher c.home.subscriber).within.once))
+      (subst (λ (b : Mailbox). IsOnce b.borrowed) box-is (once-borrowed ((state_of (kept_of f)).mailboxes c.home.publisher c.home.subscriber) (sound.well_formed.mailboxes c.home.publisher c.home.subscriber).within.once))
 
   -- no slot is borrowed there twice
   pub once-there : IsSomeAnd (get f.connections key) (λ (d : Link). IsOnce d.borrowed)

@@ -1,10 +1,10 @@
 -- A subscriber's message is released, and its publisher is there.
-use Rattle.std.proofs.Common.{◌≡◌, ℕ, [], true, get_or, is_some, ap, sym, subst, ◌∙◌, Option, Some, None, ◌⊎◌}
+use Rattle.std.proofs.Common.{◌≡◌, ℕ, [], ◌++◌, true, get_or, is_some, ap, sym, subst, ◌∙◌, Option, Some, None, ◌⊎◌}
 use Rattle.std.proofs.lemmas.Bool.{or_left}
 use Rattle.slab.specs.Slab.{Slab, get}
 use Rattle.iox2_slots.specs.Link.{Link}
 use Rattle.iox2_store.specs.machine.Numbers.{contains, IsOnce}
-use Rattle.iox2_store.specs.machine.Mailbox.{Mailbox, numbers_in, is_borrowed, has_numbers, with_released}
+use Rattle.iox2_store.specs.machine.Mailbox.{Mailbox, other_numbers, numbers_in, is_borrowed, has_numbers, with_released}
 use Rattle.iox2_store.specs.machine.Records.{Publisher, Subscriber}
 use Rattle.iox2_store.specs.machine.State.{State, is_present}
 use Rattle.iox2_store.specs.machine.Releases.{is_connected, unborrowed, subscriber_pruned}
@@ -30,6 +30,10 @@ use Rattle.iox2_domain.proofs.lemmas.fields.KeptChannels.{but-channels}
 use Rattle.iox2_steps.proofs.releases.Pruning.{pruned-none}
 use Rattle.iox2_steps.proofs.updates.FollowedChannels.{links-same}
 
+-- nothing is borrowed twice where no number stands twice
+pub once-borrowed : (box : Mailbox) → IsOnce (numbers_in box) → IsOnce box.borrowed
+once-borrowed box once = IsOnce-right box.waiting box.borrowed (IsOnce-right (other_numbers box) (box.waiting ++ box.borrowed) once)
+
 module _ {T U : Type 0} (f : Fields T U) (sound : IsDomain f) (key slot : ℕ) (c : Link) (at_c : get f.connections key ≡ Some c) (new : Slab Link)
     (releases : ReleasesSlot f.connections key slot new)
     (held : is_borrowed (numbers_of f.books c.home.publisher slot) ((state_of (kept_of f)).mailboxes c.home.publisher c.home.subscriber) ≡ true) where
@@ -48,7 +52,7 @@ module _ {T U : Type 0} (f : Fields T U) (sound : IsDomain f) (key slot : ℕ) (
       → with_all_mailboxes (state_of (kept_of f)) (mailboxes_of (numbers_of f.books) new)
       ≡ with_all_mailboxes (state_of (kept_of f)) (with_box boxes c.home.publisher c.home.subscriber (with_released number_released (boxes c.home.publisher c.home.subscriber))))
       (boxes-are f) (λ once. ap (with_all_mailboxes (state_of (kept_of f))) (releases.releases c at_c (numbers_of f.books) once))
-      (IsOnce-right _ _ (sound.well_formed.mailboxes c.home.publisher c.home.subscriber).within.once)
+      (once-borrowed ((state_of (kept_of f)).mailboxes c.home.publisher c.home.subscriber) (sound.well_formed.mailboxes c.home.publisher c.home.subscriber).within.once)
 
   -- no number is new in a mailbox
   pub numbers-were : (p q n : ℕ) → contains (numbers_in (mailboxes_of (numbers_of f.books) new p q)) n ≡ true → contains (numbers_in ((state_of (kept_of f)).mailboxes p q)) n ≡ true

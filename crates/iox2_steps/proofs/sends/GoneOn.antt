@@ -182,6 +182,10 @@ module _ {T U : Type 0} (environment : Environment) (f : Fields T U) (sound : Is
     settings = other_slots x (without w.slot x.loans) (x.history).items None;
     keys = refl;
     lends = λ had c e. absurd cc;
+    unwritten = λ r marked_unwritten out. elim (cases_eq r w.slot) [
+      | inl same ↦ absurd (let no : Some Unwritten ≡ Some Sent = sym marked_unwritten ∙ ap (slice_get (d.book).marks) same ∙ marked in cc)
+      | inr away ↦ omega (arith, out, times-without-one r w.slot x.loans (omega (arith, once, lent)), one_if_other r w.slot away)
+    ];
     slots = length-set book.holders w.slot _;
     used = λ r some. omega (arith, some, less r);
     counts = λ r. omega (arith, less r, times-without-one r w.slot x.loans (omega (arith, once, lent)));
@@ -191,6 +195,7 @@ module _ {T U : Type 0} (environment : Environment) (f : Fields T U) (sound : Is
     settings = other_slots x x.loans (x.history).items (Some (record { slot = w.slot; progress = progress }));
     keys = refl;
     lends = λ had c e. subst (λ (slot : ℕ). 0 < times slot x.loans) (ap (λ (o : Option BlockedDelivery). option_map_or (λ (v : BlockedDelivery). v.slot) o 0) e) lent;
+    unwritten = λ r marked_unwritten out. out;
     slots = refl;
     used = λ r some. some;
     counts = λ r. refl;

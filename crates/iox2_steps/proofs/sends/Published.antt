@@ -500,6 +500,7 @@ module _ {T U : Type 0} (environment : Environment) (f : Fields T U) (sound : Is
       settings = other_slots remembering x.loans (remembering.history).items (Some waiting);
       keys = refl;
       lends = λ had c e. subst (λ (r : ℕ). 0 < times r x.loans) (ap (λ (o : Option BlockedDelivery). option_map_or (λ (v : BlockedDelivery). v.slot) o 0) e) (omega (arith, once));
+      unwritten = λ r marked out. omega (arith, out, times-without-one r slot x.loans once);
       slots = length-set book.holders slot _;
       used = λ r some. elim (cases_eq r slot) [
         | inl same ↦ subst (λ (k : ℕ). 0 < holders_at book k) (sym same) in_use
