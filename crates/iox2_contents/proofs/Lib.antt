@@ -1,3 +1,4 @@
 pub mod CallLists
 pub mod LeftLists
 pub mod SlotReads
+pub mod SlotLists
