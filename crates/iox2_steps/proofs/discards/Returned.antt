@@ -142,8 +142,8 @@ module _ {T U : Type 0} (f : Fields T U) (sound : IsDomain f) (i : ℕ) (x : Pub
       forms = forms-changed f.config f.contents x.book slot cs has ended_content (λ c. refl) (λ c. refl) parts.forms
 
       -- the slot has no cells, and the others are as they were
-      open_loans : HasOpenLoans returned.publishers returned.books returned.contents
-      open_loans = open-own f parts i x here (with_loan_out slot x) b given at returned.contents (rewritten-others f x.book cs has slot ended_content) refl (λ s some. elim (cases_eq s slot) [
+      open_loans : HasOpenLoans f.config returned.publishers returned.books returned.contents
+      open_loans = open-own f parts i x here (with_loan_out slot x) b given at returned.contents (rewritten-others f x.book cs has slot ended_content) refl refl (λ s some. elim (cases_eq s slot) [
         | inl same ↦ absurd (let none = cells-here f.contents x.book cs has slot ended_content (subst (λ (j : ℕ). 0 < cell_count returned.contents x.book j) same some) in let no : 0 < 0 = none.2 in omega arith)
         | inr away ↦
             let before : cell_count returned.contents x.book s ≡ cell_count f.contents x.book s = cells-elsewhere f.contents x.book cs has slot ended_content x.book s (λ both. away both.1) in

@@ -76,7 +76,9 @@ returns-clause-step g c =
           omega (arith, is, needed);
       contents_closed = c.in-Ok.ensures.contents_closed;
       contents_form = λ several. c.in-Ok.ensures.contents_form (let single = c.is_single_valued-in_lists.ensures ∙ several in search rules);
-      contents_cells = λ several lists. c.in-Ok.ensures.contents_cells (let single = c.is_single_valued-in_lists.ensures ∙ several in search rules) lists;
+      contents_lists =
+          subst (λ (n : ℕ). All (λ (content : ContentState g.row.T.Denot g.row.U.Denot). content.lists ≡ n) c.in-Ok.segment.contents)
+          ((λ i. lists_for (in-lists i) (c.lists_wanted-lists.ensures i))) c.in-Ok.ensures.contents_lists;
       vacant = c.in-Ok-add_segment.ensures.vacant;
       updates = c.in-Ok-add_segment.ensures.updates;
       changed = λ i. record {
