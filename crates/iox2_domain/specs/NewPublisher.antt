@@ -98,9 +98,8 @@ pub record IsNewSegment {T U : Type 0} (book : Book) (contents : List (ContentSt
   pub contents_lists : All (λ content. content.lists ≡ lists_for in_lists lists) contents
 
 -- A book of the publisher, none of whose slots is in use, is among the books now, at a key that had none. At that key are
--- contents for its slots, each without cells and with room for so many elements, and for so many loans at a time their cells
--- can be handed out. Nothing else changes.
-pub record BookEnters {T U : Type 0} (node publisher slots room lists key : ℕ) (old_books : Slab Book) (old_contents : List (Option (List (ContentState T U))))
+-- contents for its slots, each without cells and with room for so many elements. Nothing else changes.
+pub record BookEnters {T U : Type 0} (node publisher slots room key : ℕ) (old_books : Slab Book) (old_contents : List (Option (List (ContentState T U))))
     (books : Slab Book) (contents : List (Option (List (ContentState T U)))) : Type 0 where
   pub book : Book
   pub vacant : get old_books key ≡ None
@@ -115,4 +114,3 @@ pub record BookEnters {T U : Type 0} (node publisher slots room lists key : ℕ)
   pub contents_length : length slot_contents ≡ slots
   pub has_room : All (λ content. room ≤ content.room) slot_contents
   pub closed : All (λ content. content.cells ≡ []) slot_contents
-  pub lists_are : All (λ content. content.lists ≡ lists) slot_contents
