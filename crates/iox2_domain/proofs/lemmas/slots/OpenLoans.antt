@@ -1,16 +1,17 @@
 -- Each slot with cells is a loan that is out and isn't written, still.
-use Rattle.std.proofs.Common.{◌≡◌, ◌≢◌, ℕ, ◌<◌, List, length, get_or, slice_set, refl, ap, sym, subst, ◌∙◌, inl, inr}
-use Rattle.std.proofs.lemmas.Bool.{cases_eq, eq-eqb}
+use Rattle.std.proofs.Common.{◌≡◌, ◌≢◌, ℕ, Bool, true, false, cond, max, not, ◌<◌, List, length, get_or, slice_set, refl, ap, sym, subst, ◌∙◌, inl, inr, arith}
+use Rattle.std.proofs.lemmas.Bool.{cases_eq, eq-eqb, false≢true}
 use Rattle.std.specs.Prelude.{slice_get}
 use Rattle.std.specs.List.{All}
 use Rattle.std.specs.declared.option.Option.{Option}
 use Rattle.std.specs.declared.option.Option.TheVariants.{None, Some}
 use Rattle.std.specs.Option.{option_map_or, option_and_then}
 use Rattle.slab.specs.Slab.{Slab, get, with_value}
+use Rattle.iox2_store.specs.SingleValues.{is_single_valued}
 use Rattle.iox2_store.specs.declared.service_config.ServiceConfig.{ServiceConfig}
 use Rattle.iox2_slots.specs.SlotBook.{Book}
 use Rattle.iox2_slots.specs.declared.slots.mark.SlotMark.TheVariants.{Unwritten}
-use Rattle.iox2_contents.specs.SlotContents.{ContentState}
+use Rattle.iox2_contents.specs.SlotContents.{ContentState, lists_for}
 use Rattle.iox2_ends.specs.Counters.{times}
 use Rattle.iox2_domain.specs.Ports.{PublisherFields}
 use Rattle.iox2_domain.specs.Fields.{Fields, contents_in}
@@ -47,11 +48,19 @@ pub record KeepsLists {T U : Type 0} (old new : List (Option (List (ContentState
   pub at : (key : ℕ) (cs : List (ContentState T U)) → get_or new key None ≡ Some cs
       → (was : List (ContentState T U)) × (get_or old key None ≡ Some was) × ((n : ℕ) → All (λ content. content.lists ≡ n) was → All (λ content. content.lists ≡ n) cs)
 
-module _ {T U : Type 0} {c : ServiceConfig} where
-  -- the same contents
-  pub same-lists : (contents : List (Option (List (ContentState T U)))) → KeepsLists contents contents
-  same-lists contents = record { at = λ key cs there. (cs, there, λ n all. all) }
+-- lists are asked for where cells can be handed out
+pub lists-some : (c : ServiceConfig) (n : ℕ) → is_single_valued c ≡ false → c.lists_cells ≡ true → 0 < cell_lists c n
+lists-some c n several lists = by (is_single_valued c) c.lists_cells several lists where
+  by : (single listed : Bool) → single ≡ false → listed ≡ true → 0 < lists_for (not single) (cond listed (max 1 n) 0)
+  by false true is are = omega arith
+  by false false is are = absurd (false≢true are)
+  by true listed is are = absurd (false≢true (sym is))
 
+-- the same contents
+pub same-lists : {T U : Type 0} (contents : List (Option (List (ContentState T U)))) → KeepsLists contents contents
+same-lists contents = record { at = λ key cs there. (cs, there, λ n all. all) }
+
+module _ {T U : Type 0} {c : ServiceConfig} where
   -- the publishers change
   pub open-published : (old new : List (Option PublisherFields)) (books : Slab Book) (contents : List (Option (List (ContentState T U)))) → LendsStill old new
       → HasOpenLoans c old books contents → HasOpenLoans c new books contents
@@ -108,6 +117,9 @@ module _ {T U : Type 0} (f : Fields T U) (parts : HasParts f) (i : ℕ) (x : Pub
     -- and its slots have so many lists of cells
     abbrev pub HasItsLists : Type 0
     HasItsLists = (cs : List (ContentState T U)) → get_or contents x.book None ≡ Some cs → All (λ content. content.lists ≡ cell_lists f.config x.max_loaned_samples) cs
+
+    pub kept-lists : KeepsLists f.contents contents → HasItsLists
+    kept-lists keeps cs there = let was = keeps.at x.book cs there in was.2 (cell_lists f.config x.max_loaned_samples) (parts.open_loans.lists i x was.0 here was.1)
 
     pub open-own : y.book ≡ x.book → y.max_loaned_samples ≡ x.max_loaned_samples → LendsOpen → HasItsLists → HasOpenLoans f.config (slice_set f.publishers i (Some y)) (with_value f.books x.book d) contents
     open-own same max lends listed = record {
