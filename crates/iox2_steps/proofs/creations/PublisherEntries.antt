@@ -2,7 +2,6 @@
 use Rattle.std.proofs.Common.{◌≡◌, ◌≢◌, ℕ, suc, ◌+◌, ◌*◌, ◌<◌, ◌≤◌, ◌==◌, Bool, true, false, cond, nat_lt, List, [], length, map, get_or, replicate, refl, ap, sym, subst, ◌∙◌, inl, inr, arith}
 use Rattle.std.proofs.lemmas.Bool.{cases_eq, ltb-true, eq-eqb}
 use Rattle.std.proofs.lemmas.List.Elements.{All-weaker}
-use Rattle.std.specs.Prelude.{max, not}
 use Rattle.std.specs.List.{All}
 use Rattle.std.specs.declared.option.Option.{Option}
 use Rattle.std.specs.declared.option.Option.TheVariants.{None, Some}
@@ -15,28 +14,20 @@ use Rattle.iox2_store.specs.machine.Ports.{slots_for, with_new_publisher}
 use Rattle.iox2_store.specs.machine.Records.{PublisherSettings}
 use Rattle.iox2_store.specs.SingleValues.{is_single_valued}
 use Rattle.iox2_slots.specs.SlotBook.{Book, IsAligned}
-use Rattle.iox2_contents.specs.SlotContents.{ContentState, lists_for}
-use Rattle.iox2_store.specs.declared.service_config.ServiceConfig.{ServiceConfig}
+use Rattle.iox2_contents.specs.SlotContents.{ContentState}
 use Rattle.iox2_store.specs.declared.errors.PublisherCreateError.TheVariants.{UnableToCreatePortTag, ExceedsMaxSupportedPublishers}
 use Rattle.iox2_domain.specs.Ports.{PublisherFields, slot_length}
 use Rattle.iox2_domain.specs.Kept.{state_of}
 use Rattle.iox2_domain.specs.Fields.{Fields, kept_of}
-use Rattle.iox2_domain.specs.Invariant.{IsDomain, IsLinked, HasBooks, HasNumber, IsNumbered, HasForms, HasPublisherRoom, cell_lists, lists_wanted}
+use Rattle.iox2_domain.specs.Invariant.{IsDomain, IsLinked, HasBooks, HasNumber, IsNumbered, HasForms, HasPublisherRoom, cell_lists}
 use Rattle.iox2_domain.specs.NewPublisher.{BookEnters, entering_publisher, subscriber_due, place_for_publisher}
 use Rattle.iox2_domain.specs.Placed.{placed, lowest_empty}
 use Rattle.iox2_domain.specs.Reaches.{Reaches}
 use Rattle.iox2_domain.proofs.lemmas.fields.NamedBooks.{names-books}
 use Rattle.iox2_domain.proofs.lemmas.containers.FreePlaces.{lowest_empty-low, lowest_empty-free}
 use Rattle.iox2_domain.proofs.lemmas.containers.Placed.{placed-here, placed-others}
-use Rattle.iox2_domain.proofs.lemmas.slots.OpenLoans.{same-lists, open-kept}
+use Rattle.iox2_domain.proofs.lemmas.slots.OpenLoans.{lists-some, same-lists, open-kept}
 use Rattle.iox2_steps.proofs.creations.PublisherAdmitted.{with_admitted, admitted-reaches}
-
--- there is a list of cells where they are to be handed out
-some-lists : (c : ServiceConfig) (max_loaned_samples : ℕ) → is_single_valued c ≡ false → c.lists_cells ≡ true → 0 < cell_lists c max_loaned_samples
-some-lists c max_loaned_samples several lists =
-    let number : cell_lists c max_loaned_samples ≡ max 1 max_loaned_samples =
-    ap (λ single. lists_for (not single) (lists_wanted c max_loaned_samples)) several ∙ ap (λ wanted. cond wanted (max 1 max_loaned_samples) 0) lists in
-    omega (arith, number)
 
 -- the tests of a place that a publisher has, in their order
 pub record HasPlace {T U : Type 0} (f : Fields T U) (place : ℕ) : Type 0 where
@@ -193,7 +184,7 @@ module _ {T U : Type 0} (f : Fields T U) where
               let is : slot_contents ≡ zs = cc in
               subst (All (λ content. 0 < content.lists)) is
               (All-weaker (λ (content : ContentState T U). content.lists ≡ cell_lists f.config given.max_loaned_samples) (λ (content : ContentState T U). 0 < content.lists)
-              (λ content are. let some = some-lists f.config given.max_loaned_samples several lists in omega (arith, are, some)) slot_contents e.contents_lists)
+              (λ content are. let some = lists-some f.config given.max_loaned_samples several lists in omega (arith, are, some)) slot_contents e.contents_lists)
           | inr away ↦ sound.parts.forms.cells several lists k zs (sym (placed-others slot_contents f.contents key k away) ∙ there)
         ];
       } in
