@@ -1,5 +1,5 @@
 -- Which unwritten cells a slot may have to show, and which lists its cells may have to have, which no public contract shows.
-use Rattle.std.specs.Prelude.{◌≡◌, ◌≢◌, ◌<◌, ◌≤◌, ◌+◌, ℕ, Bool, true, false, ◌&&◌, cond, List, [], length, nat_le, nat_lt, slice_get, sum_by, IsSomeAnd}
+use Rattle.std.specs.Prelude.{◌≡◌, ◌≢◌, ◌<◌, ◌≤◌, ◌+◌, ℕ, true, false, ◌&&◌, cond, List, [], length, nat_le, nat_lt, slice_get, sum_by, IsSomeAnd}
 use Rattle.std.specs.List.{All}
 use Rattle.std.specs.declared.option.Option.TheVariants.{Some}
 use Rattle.iox2_contents.specs.SlotContents.{open_count}

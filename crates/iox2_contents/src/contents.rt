@@ -79,8 +79,8 @@ impl<T: Drop, U: Default + Drop> Contents<T, U> {
     }
 
     /// So many slots more, each with room for so many elements, behind those that are there, as `new`
-    /// makes them. Where they are longer, there are new lists of cells too: those that loans have are
-    /// dropped with them. Fails where memory is refused; the contents then stay as they are.
+    /// makes them. Where they are longer, there are new lists of cells too, and a list that a loan has
+    /// goes with its cells. Fails where memory is refused; the contents then stay as they are.
     pub fn grow(
         &mut self,
         alloc: Global,
@@ -119,8 +119,8 @@ impl<T: Drop, U: Default + Drop> Contents<T, U> {
     }
 
     /// Makes the slot an unwritten loan of this length, which must fit the slot's room. It costs the
-    /// same for any length, but for a value that has to be dropped. No more loans may have cells than
-    /// there are lists for, and the slot's last one has none any more.
+    /// same for any length, but for a value that has to be dropped. Fewer loans have cells than there
+    /// are lists for, and the slot's last one has none any more.
     pub fn start(&mut self, slot: usize, len: usize)
         requires fit { SomeAt self.old slot (λ content. len ≤ content.room) }
         requires ended { SomeAt self.old slot (λ content. 0 < content.lists → content.cells ≡ []) }

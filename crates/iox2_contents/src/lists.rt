@@ -24,8 +24,8 @@ pub(crate) fn cell_lists<T: Drop>(
     Ok(lists)
 }
 
-/// Gives back the list that a slot may have, whose cells are gone. One is long enough that holds so
-/// many cells; a shorter one is of an older segment, and goes.
+/// Gives back the list that a slot may have, whose cells are gone. One is long enough that holds as
+/// many cells as can be shown; a shorter one is of an older segment, and goes.
 #[inline(always)]
 pub(crate) fn settle<T: Drop, U>(
     slots: &mut Vec<Content<T, U>>,

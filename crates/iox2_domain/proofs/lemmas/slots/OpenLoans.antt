@@ -60,6 +60,14 @@ lists-some c n several lists = by (is_single_valued c) c.lists_cells several lis
 pub same-lists : {T U : Type 0} (contents : List (Option (List (ContentState T U)))) → KeepsLists contents contents
 same-lists contents = record { at = λ key cs there. (cs, there, λ n all. all) }
 
+-- and then they are enough for all loans
+pub lists-enough : (c : ServiceConfig) (n : ℕ) → 0 < cell_lists c n → n ≤ cell_lists c n
+lists-enough c n = by (is_single_valued c) c.lists_cells where
+  by : (single listed : Bool) → 0 < lists_for (not single) (cond listed (max 1 n) 0) → n ≤ lists_for (not single) (cond listed (max 1 n) 0)
+  by false true some = omega arith
+  by false false some = absurd (omega (arith, some))
+  by true listed some = absurd (omega (arith, some))
+
 module _ {T U : Type 0} {c : ServiceConfig} where
   -- the publishers change
   pub open-published : (old new : List (Option PublisherFields)) (books : Slab Book) (contents : List (Option (List (ContentState T U)))) → LendsStill old new

@@ -1,5 +1,5 @@
-use Rattle.std.proofs.Common.{◌≡◌, ◌<◌, ◌≤◌, ◌∙◌, zero, suc, ℕ, List, [], ◌∷◌, None, vec_capacity, length, replicate, take, refl, ap, sym, arith}
-use Rattle.std.proofs.lemmas.List.{length-append, length-replicate, take-replicate}
+use Rattle.std.proofs.Common.{◌≡◌, ◌<◌, ◌≤◌, ◌∙◌, zero, suc, ℕ, [], None, vec_capacity, length, replicate, take, refl, ap, sym, arith}
+use Rattle.std.proofs.lemmas.List.{length-replicate, take-replicate}
 use Rattle.iox2_contents.proofs.LeftLists.{no-items}
 use Rattle.iox2_contents.proofs.cells.Cells.cells.Goals as goal
 

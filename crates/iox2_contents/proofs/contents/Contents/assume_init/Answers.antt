@@ -1,7 +1,8 @@
-use Rattle.std.proofs.Common.{◌≡◌, ◌∙◌, true, length, refl, ap, sym}
+use Rattle.std.proofs.Common.{◌≡◌, ◌∙◌, true, length, ap, sym}
 use Rattle.iox2_contents.specs.SlotStates.{contents_of}
 use Rattle.iox2_contents.proofs.SlotReads.{content_read}
-use Rattle.iox2_contents.proofs.SlotLists.{changed-contents, content-at, set-same, written-lists}
+use Rattle.iox2_contents.proofs.SlotLists.{changed-contents, content-at, written-lists}
+use Rattle.iox2_contents.proofs.SlotSums.{set-same}
 use Rattle.iox2_contents.proofs.contents.Contents.assume_init.Goals as goal
 
 pub invariant_of-self : goal.invariant_of-self
@@ -11,8 +12,7 @@ invariant_of-self g c =
 
 pub returns-then-not-assume_init : goal.returns-then-not-assume_init
 returns-then-not-assume_init g c =
-    let read = content_read c.self.inside.slots.items _ c.args.slot (λ content. content.is_in_place ≡ true → length content.cells ≡ 1) _ c.self.view_is c.requires c.index_mut.ensures.value in
-    (
+    let read = content_read c.self.inside.slots.items _ c.args.slot (λ content. content.is_in_place ≡ true → length content.cells ≡ 1) _ c.self.view_is c.requires c.index_mut.ensures.value in (
       c.index_mut.result.now.content,
       content-at 0 0 0 _ c.args.slot _ read.0 _ c.self.view_is,
       sym c.if-not-assume_init.true ∙ c.assume_init.ensures.all,
@@ -26,8 +26,7 @@ settle-requires-clause-lists g c =
 
 pub returns : goal.returns
 returns g c =
-    let read = content_read c.self.inside.slots.items _ c.args.slot (λ content. content.is_in_place ≡ true → length content.cells ≡ 1) _ c.self.view_is c.requires c.index_mut.ensures.value in
-    (
+    let read = content_read c.self.inside.slots.items _ c.args.slot (λ content. content.is_in_place ≡ true → length content.cells ≡ 1) _ c.self.view_is c.requires c.index_mut.ensures.value in (
       c.index_mut.result.now.content,
       content-at 0 0 0 _ c.args.slot _ read.0 _ c.self.view_is,
       sym c.if-not-assume_init.false ∙ c.assume_init.ensures.all,

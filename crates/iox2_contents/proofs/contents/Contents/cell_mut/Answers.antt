@@ -18,8 +18,7 @@ invariant_of-self-lent g c =
 pub returns : goal.returns
 returns g c =
     let same = c.ready.ensures.same ∙ c.self.view_is in
-    let read = content_read c.ready.new.slots.items _ c.args.slot (λ content. 0 < length content.cells) _ same c.requires c.index_mut.ensures.value in
-    (
+    let read = content_read c.ready.new.slots.items _ c.args.slot (λ content. 0 < length content.cells) _ same c.requires c.index_mut.ensures.value in (
       (refl, λ w. changed-contents 0 0 0 c.ready.new.slots.items c.args.slot _ read.0 _ (with_first_cell w) _ same refl),
       record { writes_back = tt; value = rw (content-at 0 0 0 c.ready.new.slots.items c.args.slot _ read.0 _ same) c.cell_mut.ensures.value },
     )

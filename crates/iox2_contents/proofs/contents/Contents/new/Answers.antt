@@ -1,17 +1,16 @@
-use Rattle.std.proofs.Common.{◌≡◌, ◌≤◌, ◌<◌, ◌∙◌, [], true, false, length, refl, arith}
+use Rattle.std.proofs.Common.{◌≡◌, ◌∙◌, [], arith}
 use Rattle.iox2_contents.specs.SlotContents.{lists_for}
-use Rattle.iox2_contents.specs.SlotPayload.{lies_in_place}
-use Rattle.iox2_contents.proofs.SlotLists.{new-contents, new-forms, new-lists, replicated, without}
+use Rattle.iox2_contents.proofs.NewSlots.{new-contents, new-forms, new-lists, without}
+use Rattle.iox2_contents.proofs.SlotSums.{replicated}
 use Rattle.iox2_contents.proofs.contents.Contents.new.Goals as goal
 
 pub invariant_of-result : goal.invariant_of-result
 invariant_of-result g c =
-    let unwritten = replicated c.in_ok-unwritten_cells.field-0.items _ _ c.in_ok-unwritten_cells.ensures.unwritten in
-    (
+    let unwritten = replicated c.in_ok-unwritten_cells.field-0.items _ _ c.in_ok-unwritten_cells.ensures.unwritten in (
       unwritten.1,
       rw unwritten.0 c.in_ok-cell_lists.ensures.empty,
       rw unwritten.0 (new-lists g.U.Default.is_default c.args.room c.args.in_lists c.lists_for-lists.result (without c.args.in_lists c.args.lists _ c.lists_for-lists.ensures) _ c.shown_cells-longest.ensures.all c.shown_cells-longest.ensures.first
-      _ _ _ c.in_ok-new_slots.ensures.new (omega (arith, c.in_ok-cell_lists.ensures.count)) (omega (arith, c.in_ok-cell_lists.ensures.capacity))),
+          _ _ _ c.in_ok-new_slots.ensures.new (omega (arith, c.in_ok-cell_lists.ensures.count)) (omega (arith, c.in_ok-cell_lists.ensures.capacity))),
     )
 
 pub returns-clause-default : goal.returns-clause-default

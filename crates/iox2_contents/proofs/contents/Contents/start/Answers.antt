@@ -1,5 +1,5 @@
 use Rattle.std.proofs.Common.{◌≡◌, ◌≤◌, ◌<◌, []}
-use Rattle.iox2_contents.specs.SlotContents.{open_count, unwritten_content}
+use Rattle.iox2_contents.specs.SlotContents.{open_count}
 use Rattle.iox2_contents.proofs.SlotReads.{content_read}
 use Rattle.iox2_contents.proofs.SlotLists.{changed-contents, started-lists}
 use Rattle.iox2_contents.proofs.contents.Contents.start.Goals as goal

@@ -1,5 +1,4 @@
-use Rattle.std.proofs.Common.{◌≡◌, ◌∙◌, ◌∷◌, [], length, rules}
-use Rattle.iox2_contents.specs.SlotContents.{written_content}
+use Rattle.std.proofs.Common.{◌≡◌, ◌∙◌, length}
 use Rattle.iox2_contents.proofs.SlotReads.{content_read}
 use Rattle.iox2_contents.proofs.SlotLists.{changed-contents, written-lists}
 use Rattle.iox2_contents.proofs.contents.Contents.write_payload.Goals as goal

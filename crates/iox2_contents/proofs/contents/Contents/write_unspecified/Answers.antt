@@ -10,8 +10,7 @@ settle-requires-clause-lists g c =
 
 pub returns : goal.returns
 returns g c =
-    let read = content_read c.self.inside.slots.items _ c.args.slot (λ content. content.is_in_place ≡ false) _ c.self.view_is c.requires c.index_mut.ensures.value in
-    (
+    let read = content_read c.self.inside.slots.items _ c.args.slot (λ content. content.is_in_place ≡ false) _ c.self.view_is c.requires c.index_mut.ensures.value in (
       c.write_unspecified.new.self.content.values,
       record {
         content = c.index_mut.result.now.content;
