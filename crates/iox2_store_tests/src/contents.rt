@@ -1,6 +1,7 @@
-ghost use Rattle.std.specs.Prelude.{◌≡◌, ◌<◌, length, true, false};
+ghost use Rattle.std.specs.Prelude.{◌≡◌, ◌<◌, [], length, true, false};
 ghost use Rattle.iox2_contents.specs.SlotContents.{SomeAt};
 
+use crate::starts::start;
 use iox2_contents::Contents;
 use std::alloc::Global;
 use std::process::Abort;
@@ -20,15 +21,11 @@ struct Station {
 
 #[test]
 fn a_loan_starts_with_empty_cells(rt: HostRuntime) {
-    let mut contents: Contents<Reading, Station> = Contents::new(
-        rt.alloc(),
-        2,
-        3,
-        true,
-        true,
-    ).expect(&rt, "room");
-    contents.start(0, 3);
-    contents.start(1, 1);
+    let mut contents: Contents<Reading, Station> = Contents::new(rt.alloc(), 2, 3, true, 3).expect(
+        &rt, "room",
+    );
+    start(&mut contents, 0, 3);
+    start(&mut contents, 1, 1);
     let station = contents.user_header(1).number;
     let is_empty = contents.cell(1).is_none();
     let cells = [contents.cells(0).len(), contents.cells(1).len()];
@@ -40,22 +37,23 @@ fn a_loan_starts_with_empty_cells(rt: HostRuntime) {
 // The contents of two slots with room for three elements. A loan of three starts in the first, and one
 // of one in the second, which is written.
 fn written_beside_a_loan(rt: &impl Abort, alloc: Global, celsius: u64) -> Contents<Reading, Station>
-    ensures beside { SomeAt result 0 (λ content. content.lists_cells ≡ true) }
-    ensures written { SomeAt result 1 (λ content. (0 < length content.values) × (content.is_in_place ≡ false) × (content.lists_cells ≡ true) × (content.room ≡ 3)) }
+    ensures slots { length result ≡ 2 }
+    ensures beside { SomeAt result 0 (λ content. 0 < content.lists) }
+    ensures written { SomeAt result 1 (λ content. (0 < length content.values) × (content.cells ≡ []) × (content.is_in_place ≡ false) × (content.lists ≡ 3) × (content.room ≡ 3)) }
 {
-    let mut contents: Contents<Reading, Station> = Contents::new(alloc, 2, 3, true, true).expect(
+    let mut contents: Contents<Reading, Station> = Contents::new(alloc, 2, 3, true, 3).expect(
         rt, "room",
     );
-    contents.start(0, 3);
-    contents.start(1, 1);
+    start(&mut contents, 0, 3);
+    start(&mut contents, 1, 1);
     contents.write_payload(1, Reading { celsius });
     contents
 }
 
 // How many values the second slot has, and how many cells the first and the second.
 fn lengths(contents: &Contents<Reading, Station>) -> [usize; 3]
-    requires first { SomeAt contents.now 0 (λ content. content.lists_cells ≡ true) }
-    requires second { SomeAt contents.now 1 (λ content. (content.is_in_place ≡ false) × (content.lists_cells ≡ true)) }
+    requires first { SomeAt contents.now 0 (λ content. 0 < content.lists) }
+    requires second { SomeAt contents.now 1 (λ content. (content.is_in_place ≡ false) × (0 < content.lists)) }
 {
     [
         contents.values(1).len(),
@@ -69,7 +67,7 @@ fn a_payload_is_written_and_read(rt: HostRuntime) {
     let mut contents = written_beside_a_loan(&rt, rt.alloc(), 21);
     let celsius = contents.value(1).celsius;
     let written = lengths(&contents);
-    contents.start(1, 2);
+    start(&mut contents, 1, 2);
     let again = lengths(&contents);
     drop(contents);
     assert!(rt; celsius == 21 && written == [1, 3, 0] && again == [0, 3, 2]);
@@ -78,9 +76,9 @@ fn a_payload_is_written_and_read(rt: HostRuntime) {
 // The contents of two slots with a loan of one element each, in place.
 fn two_loans(rt: &impl Abort, alloc: Global) -> Contents<Reading, Station>
     ensures first { SomeAt result 0 (λ content. length content.cells ≡ 1) }
-    ensures second { SomeAt result 1 (λ content. (length content.cells ≡ 1) × (content.room ≡ 1)) }
+    ensures second { SomeAt result 1 (λ content. (length content.cells ≡ 1) × (content.room ≡ 1) × (content.lists ≡ 0)) }
 {
-    let mut contents: Contents<Reading, Station> = Contents::new(alloc, 2, 1, false, true).expect(
+    let mut contents: Contents<Reading, Station> = Contents::new(alloc, 2, 1, false, 2).expect(
         rt, "room",
     );
     contents.start(0, 1);
@@ -91,9 +89,9 @@ fn two_loans(rt: &impl Abort, alloc: Global) -> Contents<Reading, Station>
 // Writes the second loan, and then the first.
 fn write_both(contents: &mut Contents<Reading, Station>, second: u64, first: u64)
     requires first { SomeAt contents.old 0 (λ content. length content.cells ≡ 1) }
-    requires second { SomeAt contents.old 1 (λ content. (length content.cells ≡ 1) × (content.room ≡ 1)) }
+    requires second { SomeAt contents.old 1 (λ content. (length content.cells ≡ 1) × (content.room ≡ 1) × (content.lists ≡ 0)) }
     ensures first { SomeAt contents.new 0 (λ content. 0 < length content.values) }
-    ensures second { SomeAt contents.new 1 (λ content. (0 < length content.values) × (content.room ≡ 1)) }
+    ensures second { SomeAt contents.new 1 (λ content. (0 < length content.values) × (content.room ≡ 1) × (content.lists ≡ 0)) }
 {
     contents.write_payload(1, Reading { celsius: second });
     contents.write_payload(0, Reading { celsius: first });
@@ -114,19 +112,19 @@ fn a_single_value_is_written_and_read(rt: HostRuntime) {
 
 // The contents of one slot, in which a loan of so many elements lies in a list.
 fn listed(rt: &impl Abort, alloc: Global, len: usize) -> Contents<Reading, Station>
-    ensures { SomeAt result 0 (λ content. (content.is_in_place ≡ false) × (content.lists_cells ≡ true)) }
+    ensures { SomeAt result 0 (λ content. (content.is_in_place ≡ false) × (0 < content.lists)) }
 {
-    let mut contents: Contents<Reading, Station> = Contents::new(alloc, 1, len, true, true).expect(
+    let mut contents: Contents<Reading, Station> = Contents::new(alloc, 1, len, true, 2).expect(
         rt, "room",
     );
-    contents.start(0, len);
+    start(&mut contents, 0, len);
     contents
 }
 
 // Writes one cell of the loan, if it has one there.
 fn write_cell(contents: &mut Contents<Reading, Station>, at: usize, celsius: u64)
-    requires { SomeAt contents.old 0 (λ content. (content.is_in_place ≡ false) × (content.lists_cells ≡ true)) }
-    ensures { SomeAt contents.new 0 (λ content. (content.is_in_place ≡ false) × (content.lists_cells ≡ true)) }
+    requires { SomeAt contents.old 0 (λ content. (content.is_in_place ≡ false) × (0 < content.lists)) }
+    ensures { SomeAt contents.new 0 (λ content. (content.is_in_place ≡ false) × (0 < content.lists)) }
 {
     if let Some(cell) = contents.cells_mut(0).get_mut(at) {
         *cell = Some(Reading { celsius });
@@ -135,15 +133,15 @@ fn write_cell(contents: &mut Contents<Reading, Station>, at: usize, celsius: u64
 
 // Takes the cells of the loan as its values, where each is written.
 fn assume_init(contents: &mut Contents<Reading, Station>) -> bool
-    requires { SomeAt contents.old 0 (λ content. (content.is_in_place ≡ false) × (content.lists_cells ≡ true)) }
-    ensures { SomeAt contents.new 0 (λ content. (content.is_in_place ≡ false) × (content.lists_cells ≡ true)) }
+    requires { SomeAt contents.old 0 (λ content. (content.is_in_place ≡ false) × (0 < content.lists)) }
+    ensures { SomeAt contents.new 0 (λ content. (content.is_in_place ≡ false) × (0 < content.lists)) }
 {
     contents.assume_init(0)
 }
 
 // The value there, if the slot has one.
 fn celsius_at(contents: &Contents<Reading, Station>, at: usize) -> Option<u64>
-    requires { SomeAt contents.now 0 (λ content. (content.is_in_place ≡ false) × (content.lists_cells ≡ true)) }
+    requires { SomeAt contents.now 0 (λ content. (content.is_in_place ≡ false) × (0 < content.lists)) }
 {
     match contents.values(0).get(at) {
         Some(reading) => Some(reading.celsius),
@@ -153,7 +151,7 @@ fn celsius_at(contents: &Contents<Reading, Station>, at: usize) -> Option<u64>
 
 // Whether the cell there is written, if the slot has one.
 fn is_written_at(contents: &Contents<Reading, Station>, at: usize) -> Option<bool>
-    requires { SomeAt contents.now 0 (λ content. (content.is_in_place ≡ false) × (content.lists_cells ≡ true)) }
+    requires { SomeAt contents.now 0 (λ content. (content.is_in_place ≡ false) × (0 < content.lists)) }
 {
     match contents.cells(0).get(at) {
         Some(cell) => Some(cell.is_some()),
@@ -197,13 +195,9 @@ fn cells_are_taken_only_once_each_is_written(rt: HostRuntime) {
 #[test]
 fn what_lay_in_a_cleared_slot_is_dropped(rt: HostRuntime) {
     let shared = Rc::new(rt.alloc(), 21_u8).expect(&rt, "a value");
-    let mut contents: Contents<Rc<u8>, Station> = Contents::new(
-        rt.alloc(),
-        1,
-        1,
-        false,
-        true,
-    ).expect(&rt, "room");
+    let mut contents: Contents<Rc<u8>, Station> = Contents::new(rt.alloc(), 1, 1, false, 1).expect(
+        &rt, "room",
+    );
     contents.start(0, 1);
     contents.write_payload(0, shared.clone().expect(&rt, "a share"));
     let held = Rc::strong_count(&shared);
@@ -216,13 +210,9 @@ fn what_lay_in_a_cleared_slot_is_dropped(rt: HostRuntime) {
 #[test]
 fn what_was_put_into_a_cell_goes_with_its_loan(rt: HostRuntime) {
     let shared = Rc::new(rt.alloc(), 21_u8).expect(&rt, "a value");
-    let mut contents: Contents<Rc<u8>, Station> = Contents::new(
-        rt.alloc(),
-        1,
-        1,
-        false,
-        true,
-    ).expect(&rt, "room");
+    let mut contents: Contents<Rc<u8>, Station> = Contents::new(rt.alloc(), 1, 1, false, 1).expect(
+        &rt, "room",
+    );
     contents.start(0, 1);
     *contents.cell_mut(0) = Some(shared.clone().expect(&rt, "a share"));
     let held = Rc::strong_count(&shared);

@@ -3,6 +3,8 @@
 #![tactic(auto)]
 
 #[cfg(test)]
+mod cell_lists;
+#[cfg(test)]
 mod connections;
 #[cfg(test)]
 mod contents;
@@ -20,6 +22,8 @@ mod plain_types;
 mod settings;
 #[cfg(test)]
 mod slots;
+#[cfg(test)]
+mod starts;
 #[cfg(test)]
 mod unspecified;
 #[cfg(test)]

@@ -1,26 +1,30 @@
 //! Loans whose cells nobody writes, and cells that loans share until they are written.
-ghost use Rattle.std.specs.Prelude.{◌≡◌, ◌≤◌, true, false};
+ghost use Rattle.std.specs.Prelude.{◌≡◌, ◌≤◌, [], length, true, false};
 ghost use Rattle.iox2_contents.specs.SlotContents.{SomeAt};
 
+use crate::starts::start;
 use iox2_contents::Contents;
 use std::alloc::Global;
 use std::process::Abort;
 
 // The contents of two slots with room for five numbers each.
 fn five(rt: &impl Abort, alloc: Global) -> Contents<u64, u64>
-    ensures first { SomeAt result 0 (λ content. (content.is_in_place ≡ false) × (content.lists_cells ≡ true) × (content.room ≡ 5)) }
-    ensures second { SomeAt result 1 (λ content. (content.is_in_place ≡ false) × (content.lists_cells ≡ true) × (content.room ≡ 5)) }
+    ensures slots { length result ≡ 2 }
+    ensures first { SomeAt result 0 (λ content. (content.cells ≡ []) × (content.is_in_place ≡ false) × (content.lists ≡ 3) × (content.room ≡ 5)) }
+    ensures second { SomeAt result 1 (λ content. (content.cells ≡ []) × (content.is_in_place ≡ false) × (content.lists ≡ 3) × (content.room ≡ 5)) }
 {
-    Contents::new(alloc, 2, 5, true, true).expect(rt, "room")
+    Contents::new(alloc, 2, 5, true, 3).expect(rt, "room")
 }
 
 // Whether a loan of so many elements in the first slot, whose cells nobody writes, has these values.
 fn has(contents: &mut Contents<u64, u64>, len: usize, values: &[u64]) -> bool
-    requires room { SomeAt contents.old 0 (λ content. (content.is_in_place ≡ false) × (content.lists_cells ≡ true) × (content.room ≡ 5)) }
+    requires room { SomeAt contents.old 0 (λ content. (content.cells ≡ []) × (content.is_in_place ≡ false) × (content.lists ≡ 3) × (content.room ≡ 5)) }
+    requires slots { length contents.old ≡ 2 }
     requires length { len ≤ 5 }
-    ensures { SomeAt contents.new 0 (λ content. (content.is_in_place ≡ false) × (content.lists_cells ≡ true) × (content.room ≡ 5)) }
+    ensures slots { length contents.new ≡ 2 }
+    ensures { SomeAt contents.new 0 (λ content. (content.cells ≡ []) × (content.is_in_place ≡ false) × (content.lists ≡ 3) × (content.room ≡ 5)) }
 {
-    contents.start(0, len);
+    start(contents, 0, len);
     contents.write_unspecified(0);
     contents.values(0) == values
 }
@@ -29,7 +33,7 @@ fn has(contents: &mut Contents<u64, u64>, len: usize, values: &[u64]) -> bool
 fn what_nobody_writes_lay_there_before(rt: HostRuntime) {
     let mut contents = five(&rt, rt.alloc());
     let first = has(&mut contents, 2, [0, 0].as_slice());
-    contents.start(0, 3);
+    start(&mut contents, 0, 3);
     contents.write_from_fn(0, |index| (index as u64).wrapping_add(7));
     let longer = has(&mut contents, 5, [7, 8, 9, 0, 0].as_slice());
     let shorter = has(&mut contents, 1, [7].as_slice());
@@ -41,14 +45,15 @@ fn what_nobody_writes_lay_there_before(rt: HostRuntime) {
 #[test]
 fn cells_of_one_loan_are_no_other_s(rt: HostRuntime) {
     let mut contents = five(&rt, rt.alloc());
-    contents.start(0, 5);
-    contents.start(1, 2);
+    start(&mut contents, 0, 5);
+    start(&mut contents, 1, 2);
     if let Some(cell) = contents.cells_mut(0).get_mut(1) {
         *cell = Some(3);
     }
     let written = contents.cells(0) == [None, Some(3), None, None, None].as_slice();
     let beside = contents.cells(1) == [None, None].as_slice();
-    contents.start(0, 3);
+    contents.end(0);
+    start(&mut contents, 0, 3);
     let again = contents.cells(0) == [None, None, None].as_slice();
     drop(contents);
     assert!(rt; written && beside && again);
@@ -56,21 +61,18 @@ fn cells_of_one_loan_are_no_other_s(rt: HostRuntime) {
 
 // The contents of a slot with room for two numbers, and of one more with room for five.
 fn grown(rt: &impl Abort, alloc: Global) -> Contents<u64, u64>
-    ensures { SomeAt result 1 (λ content. (content.is_in_place ≡ false) × (content.lists_cells ≡ true) × (content.room ≡ 5)) }
+    ensures slots { length result ≡ 2 }
+    ensures added { SomeAt result 1 (λ content. (content.cells ≡ []) × (content.is_in_place ≡ false) × (content.lists ≡ 3) × (content.room ≡ 5)) }
 {
-    let mut contents: Contents<u64, u64> = Contents::new(alloc, 1, 2, true, true).expect(
-        rt, "room",
-    );
-    contents
-        .grow(alloc, 1, 5, true, true)
-        .expect(rt, "more room");
+    let mut contents: Contents<u64, u64> = Contents::new(alloc, 1, 2, true, 3).expect(rt, "room");
+    contents.grow(alloc, 1, 5, true, 3).expect(rt, "more room");
     contents
 }
 
 #[test]
 fn longer_slots_show_as_many_cells(rt: HostRuntime) {
     let mut contents = grown(&rt, rt.alloc());
-    contents.start(1, 5);
+    start(&mut contents, 1, 5);
     let shown = contents.cells(1) == [None, None, None, None, None].as_slice();
     drop(contents);
     assert!(rt; shown);
@@ -78,9 +80,9 @@ fn longer_slots_show_as_many_cells(rt: HostRuntime) {
 
 // The contents of a slot with room for five numbers, which hands out no list of cells.
 fn without_cells(rt: &impl Abort, alloc: Global) -> Contents<u64, u64>
-    ensures { SomeAt result 0 (λ content. (content.is_in_place ≡ false) × (content.room ≡ 5)) }
+    ensures { SomeAt result 0 (λ content. (content.is_in_place ≡ false) × (content.lists ≡ 0) × (content.room ≡ 5)) }
 {
-    Contents::new(alloc, 1, 5, true, false).expect(rt, "room")
+    Contents::new(alloc, 1, 5, true, 0).expect(rt, "room")
 }
 
 #[test]
