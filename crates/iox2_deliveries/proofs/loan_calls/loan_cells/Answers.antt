@@ -1,4 +1,4 @@
-use Rattle.std.proofs.Common.{◌≡◌, true}
+use Rattle.std.proofs.Common.{◌<◌}
 use Rattle.iox2_domain.proofs.lemmas.loans.LoanCalls.{here, some-at, cells-listed, cells-read, is-unwritten}
 use Rattle.iox2_deliveries.proofs.loan_calls.loan_cells.Goals as goal
 
