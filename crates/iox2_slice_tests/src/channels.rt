@@ -221,7 +221,7 @@ fn a_closed_channel_takes_no_slice(rt: HostRuntime) {
     assert!(rt; closed_again == [true, false]);
 }
 
-// Slices go to channel 0 alone, and no call on one channel changes another.
+// A send goes to channel 0 alone, and no call on one channel changes another.
 #[test]
 fn a_further_channel_of_slices_has_a_state_of_its_own(rt: HostRuntime) {
     let mut domain: Domain<u64, u64> = Domain::new(rt.alloc(), two_channels()).expect(
@@ -251,8 +251,8 @@ fn a_further_channel_of_slices_has_a_state_of_its_own(rt: HostRuntime) {
     assert!(rt; taken == 1);
 }
 
-// A slice reaches the one connection, in a further channel too, and takes the loan where there is no
-// connection. A receive looks at channel 0 alone.
+// A slice reaches the one connection, in a further channel too until that is full, and nobody where
+// there is no connection. A receive looks at channel 0 alone.
 #[test]
 fn a_slice_goes_into_one_channel_of_one_connection(rt: HostRuntime) {
     let config = ServiceConfig {
@@ -279,7 +279,7 @@ fn a_slice_goes_into_one_channel_of_one_connection(rt: HostRuntime) {
     first.disown();
     second.disown();
     drop(domain);
-    assert!(rt; further == [1, 1]);
+    assert!(rt; further == [1, 0]);
     assert!(rt; unconnected == [0, 0]);
     assert!(rt; nothing && still_nothing);
     assert!(rt; taken == 1 && is_fifth);
