@@ -1,0 +1,233 @@
+//! The channels of connections that carry slices.
+ghost use Rattle.std.specs.Prelude.{◌<◌};
+ghost use Rattle.iox2_store.specs.machine.Limits.{channel_count};
+
+use crate::tests::fixtures::{
+    assert_live, assert_ready, assert_sliced, lend_slice, receive_slice, send_slice,
+    slice_publisher, slice_subscriber,
+};
+use iox2_fixtures::settings;
+use iox2_pubsub::slice::{Publisher, Subscriber};
+use iox2_pubsub::{Domain, UpdateConnections};
+use iox2_store::{ServiceConfig, TypeVariant};
+use std::process::Abort;
+
+// The settings of a domain of slices whose connections have two channels.
+fn two_channels() -> ServiceConfig {
+    ServiceConfig {
+        variant: TypeVariant::Dynamic,
+        subscriber_max_buffer_size: 1,
+        subscriber_max_borrowed_samples: 1,
+        history_size: 0,
+        number_of_channels: 2,
+        publisher_max_loaned_samples: 2,
+        ..settings()
+    }
+}
+
+// Asserts that the connections of the domain have the channel.
+fn assert_has_channel(rt: &impl Abort, domain: &Domain<u64, u64>, channel: usize)
+    ensures { channel < channel_count domain.now.config }
+{
+    assert!(rt; channel < domain.config().number_of_channels.max(1));
+}
+
+// Sends a slice with this value. Returns how many subscribers took it.
+fn sent(
+    rt: &impl Abort,
+    domain: &mut Domain<u64, u64>,
+    publisher: &Publisher,
+    value: u64,
+) -> usize {
+    let loan = lend_slice(rt, domain, publisher, 1);
+    let message = loan.write_from_fn(domain, |_| value);
+    send_slice(rt, domain, message)
+}
+
+// Whether no slice waits.
+fn gets_nothing(rt: &impl Abort, domain: &mut Domain<u64, u64>, subscriber: &Subscriber) -> bool {
+    assert_sliced(rt, domain);
+    assert_live(rt, domain, subscriber);
+    match subscriber.receive(domain).expect(rt, "an answer") {
+        Some(sample) => {
+            sample.disown();
+            false
+        }
+        None => true,
+    }
+}
+
+// Whether the next slice has this value.
+fn gets(
+    rt: &impl Abort,
+    domain: &mut Domain<u64, u64>,
+    subscriber: &Subscriber,
+    value: u64,
+) -> bool {
+    let sample = receive_slice(rt, domain, subscriber);
+    let is_it = sample.payload(domain) == [value].as_slice();
+    sample.release(domain);
+    is_it
+}
+
+// Whether the channel was closed at each of the subscriber's connections. Where it was, it has the
+// state afterwards.
+fn set(
+    rt: &impl Abort,
+    domain: &mut Domain<u64, u64>,
+    subscriber: &Subscriber,
+    channel: usize,
+    state: u64,
+) -> bool {
+    assert_live(rt, domain, subscriber);
+    assert_has_channel(rt, domain, channel);
+    subscriber.set_channel_state(domain, channel, state)
+}
+
+// Closes the subscriber's channels that are in the state.
+fn close(
+    rt: &impl Abort,
+    domain: &mut Domain<u64, u64>,
+    subscriber: &Subscriber,
+    channel: usize,
+    expected: u64,
+) {
+    assert_live(rt, domain, subscriber);
+    assert_has_channel(rt, domain, channel);
+    subscriber.close_channel(domain, channel, expected);
+}
+
+// Hints a disconnect in the subscriber's channels that are in the state.
+fn hint(
+    rt: &impl Abort,
+    domain: &mut Domain<u64, u64>,
+    subscriber: &Subscriber,
+    channel: usize,
+    expected: u64,
+) {
+    assert_live(rt, domain, subscriber);
+    assert_has_channel(rt, domain, channel);
+    subscriber.set_disconnect_hint(domain, channel, expected);
+}
+
+// Whether a channel of the subscriber is in the state.
+fn is_any(
+    rt: &impl Abort,
+    domain: &Domain<u64, u64>,
+    subscriber: &Subscriber,
+    channel: usize,
+    state: u64,
+) -> bool {
+    assert_live(rt, domain, subscriber);
+    assert_has_channel(rt, domain, channel);
+    subscriber.at_least_one_channel_has_state(domain, channel, state)
+}
+
+// Whether the channel of the publisher's first connection is in the state, and whether it has a hint
+// too.
+fn is_first(
+    rt: &impl Abort,
+    domain: &Domain<u64, u64>,
+    publisher: &Publisher,
+    channel: usize,
+    state: u64,
+) -> [bool; 2] {
+    assert_ready(rt, domain, publisher);
+    assert_has_channel(rt, domain, channel);
+    [
+        publisher.has_channel_state(domain, channel, 0, state),
+        publisher.has_disconnect_hint(domain, channel, 0, state),
+    ]
+}
+
+// Closes the channel of the publisher's first connection, where it is in the state.
+fn close_first(
+    rt: &impl Abort,
+    domain: &mut Domain<u64, u64>,
+    publisher: &Publisher,
+    channel: usize,
+    expected: u64,
+) {
+    assert_ready(rt, domain, publisher);
+    assert_has_channel(rt, domain, channel);
+    publisher.close_channel(domain, channel, 0, expected);
+}
+
+#[test]
+fn a_closed_channel_takes_no_slice(rt: HostRuntime) {
+    let mut domain: Domain<u64, u64> = Domain::new(rt.alloc(), two_channels()).expect(
+        &rt, "a domain",
+    );
+    let subscriber = slice_subscriber(&rt, &mut domain);
+    let publisher = slice_publisher(&rt, &mut domain, 1);
+    let unconnected = [
+        set(&rt, &mut domain, &subscriber, 0, 9),
+        is_any(&rt, &domain, &subscriber, 0, 0),
+    ];
+    assert_live(&rt, &domain, &subscriber);
+    let updated = subscriber.update_connections(&mut domain).is_ok();
+    assert_ready(&rt, &domain, &publisher);
+    let places = [
+        publisher.get_connection_id_of(&domain, 1),
+        publisher.get_connection_id_of(&domain, 7),
+    ];
+    let further = is_any(&rt, &domain, &subscriber, 1, 0);
+    close(&rt, &mut domain, &subscriber, 0, 5);
+    close(&rt, &mut domain, &subscriber, 0, 0);
+    let closed = is_first(&rt, &domain, &publisher, 0, u64::MAX);
+    let passed = sent(&rt, &mut domain, &publisher, 1);
+    let nothing = gets_nothing(&rt, &mut domain, &subscriber);
+    let was_closed = set(&rt, &mut domain, &subscriber, 0, 7);
+    let taken = sent(&rt, &mut domain, &publisher, 2);
+    hint(&rt, &mut domain, &subscriber, 0, 0);
+    let unhinted = is_first(&rt, &domain, &publisher, 0, 7);
+    hint(&rt, &mut domain, &subscriber, 0, 7);
+    let hinted = is_first(&rt, &domain, &publisher, 0, 7);
+    let was_open = set(&rt, &mut domain, &subscriber, 0, 3);
+    let still = is_first(&rt, &domain, &publisher, 0, 7);
+    close_first(&rt, &mut domain, &publisher, 0, 7);
+    let closed_again = is_first(&rt, &domain, &publisher, 0, u64::MAX);
+    let second = gets(&rt, &mut domain, &subscriber, 2);
+    publisher.disown();
+    subscriber.disown();
+    drop(domain);
+    assert!(rt; unconnected == [true, false]);
+    assert!(rt; updated && places == [Some(0), None]);
+    assert!(rt; further && closed == [true, false]);
+    assert!(rt; [passed, taken] == [0, 1]);
+    assert!(rt; nothing && second);
+    assert!(rt; [was_closed, was_open] == [true, false]);
+    assert!(rt; unhinted == [true, false]);
+    assert!(rt; [hinted, still] == [[true, true], [true, true]]);
+    assert!(rt; closed_again == [true, false]);
+}
+
+// Slices go to channel 0 alone, and no call on one channel changes another.
+#[test]
+fn a_further_channel_of_slices_has_a_state_of_its_own(rt: HostRuntime) {
+    let mut domain: Domain<u64, u64> = Domain::new(rt.alloc(), two_channels()).expect(
+        &rt, "a domain",
+    );
+    let subscriber = slice_subscriber(&rt, &mut domain);
+    let publisher = slice_publisher(&rt, &mut domain, 1);
+    assert_live(&rt, &domain, &subscriber);
+    let updated = subscriber.update_connections(&mut domain).is_ok();
+    hint(&rt, &mut domain, &subscriber, 1, 0);
+    let hinted = [
+        is_first(&rt, &domain, &publisher, 0, 0),
+        is_first(&rt, &domain, &publisher, 1, 0),
+    ];
+    close(&rt, &mut domain, &subscriber, 1, 0);
+    let closed = is_first(&rt, &domain, &publisher, 1, u64::MAX);
+    let taken = sent(&rt, &mut domain, &publisher, 1);
+    let was_closed = set(&rt, &mut domain, &subscriber, 1, 4);
+    close_first(&rt, &mut domain, &publisher, 1, 4);
+    let open = is_any(&rt, &domain, &subscriber, 0, 0);
+    publisher.disown();
+    subscriber.disown();
+    drop(domain);
+    assert!(rt; updated && open && was_closed);
+    assert!(rt; hinted == [[true, false], [true, true]]);
+    assert!(rt; closed == [true, false]);
+    assert!(rt; taken == 1);
+}

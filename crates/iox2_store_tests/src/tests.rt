@@ -1,0 +1,11 @@
+mod connections;
+mod contents;
+mod error_texts;
+mod errors;
+mod handlers;
+mod places;
+mod plain_types;
+mod settings;
+mod slots;
+mod unspecified;
+mod worst_cases;
