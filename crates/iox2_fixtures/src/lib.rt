@@ -26,6 +26,12 @@ pub struct Station {
     pub number: u32,
 }
 
+/// A domain of readings.
+pub type Weather = Domain<Reading, Station>;
+
+/// A domain of numbers, whose user headers are numbers too.
+pub type Numbers = Domain<u64, u64>;
+
 /// A payload whose default value takes a while to make, for calls that are to make none: a value
 /// that is made and thrown away shows in the processor's time alone.
 #[derive(Drop)]
@@ -75,6 +81,17 @@ pub fn settings() -> ServiceConfig
     }
 }
 
+/// The same, with a buffer of one message, of which the subscriber may borrow one.
+pub fn smallest() -> ServiceConfig
+    ensures { result ≡ record (default_config 7) { node_id = 3; max_publishers = 1; max_subscribers = 1; subscriber_max_buffer_size = 1; subscriber_max_borrowed_samples = 1; enable_safe_overflow = false } }
+{
+    ServiceConfig {
+        subscriber_max_buffer_size: 1,
+        subscriber_max_borrowed_samples: 1,
+        ..settings()
+    }
+}
+
 /// A factory of publishers that discard what a full subscriber doesn't take.
 pub fn factory_for<T: Drop, U: Default + Drop>(domain: &Domain<T, U>) -> PortFactoryPublisher
     ensures strategy { result.settings.backpressure_strategy ≡ BackpressureStrategy.DiscardData }
@@ -88,11 +105,7 @@ pub fn factory_for<T: Drop, U: Default + Drop>(domain: &Domain<T, U>) -> PortFac
 
 /// Lends, writes and sends a message, and returns how many subscribers took it. `None` where the
 /// publisher may not lend.
-pub fn publish(
-    domain: &mut Domain<Reading, Station>,
-    publisher: &Publisher,
-    celsius: u64,
-) -> Option<usize>
+pub fn publish(domain: &mut Weather, publisher: &Publisher, celsius: u64) -> Option<usize>
     requires single_valued { IsSingleValued domain.old }
     requires publisher { IsLivePublisher domain.old publisher.now }
     ensures { Stays domain.old domain.new }
@@ -106,7 +119,7 @@ pub fn publish(
 ///
 /// Fails where the receive does.
 pub fn next_reading(
-    domain: &mut Domain<Reading, Station>,
+    domain: &mut Weather,
     subscriber: &Subscriber,
 ) -> Result<Option<u64>, ReceiveError>
     requires single_valued { IsSingleValued domain.old }

@@ -6,13 +6,13 @@ use crate::tests::waiting_publishers::{
     assert_blocked, assert_ready, assert_single_valued, blocked, deliver, delivered, next_reading,
     subscriber_of, waiting_domain, waiting_publisher,
 };
-use iox2_fixtures::{Reading, Station};
-use iox2_pubsub::{BlockedSend, Domain, Publisher, SampleMut, SampleMutUninit};
+use iox2_fixtures::{Reading, Weather};
+use iox2_pubsub::{BlockedSend, Publisher, SampleMut, SampleMutUninit};
 use std::process::Abort;
 use std::time::Duration;
 
 // Sets the reading of a written loan, and the number of its station.
-fn change(domain: &mut Domain<Reading, Station>, message: &mut SampleMut, celsius: u64, number: u32)
+fn change(domain: &mut Weather, message: &mut SampleMut, celsius: u64, number: u32)
     requires single_valued { IsSingleValued domain.old }
     requires message { IsWritten domain.old message.old }
     ensures same { message.new ≡ message.old }
@@ -26,7 +26,7 @@ fn change(domain: &mut Domain<Reading, Station>, message: &mut SampleMut, celsiu
 // Writes the loan, and then sets its reading and the number of its station. Returns the message and
 // that number.
 fn write_and_change(
-    domain: &mut Domain<Reading, Station>,
+    domain: &mut Weather,
     loan: SampleMutUninit,
     celsius: u64,
     number: u32,
@@ -45,7 +45,7 @@ fn write_and_change(
 // Lends two messages, writes the first and sends it, which is blocked. Returns the other loan, too.
 fn block_beside_a_loan(
     rt: &impl Abort,
-    domain: &mut Domain<Reading, Station>,
+    domain: &mut Weather,
     publisher: &Publisher,
     celsius: u64,
 ) -> (BlockedSend, SampleMutUninit)
@@ -61,7 +61,7 @@ fn block_beside_a_loan(
 }
 
 // Sends the message, whose publisher has no blocked send. Returns how many took it.
-fn send_message(rt: &impl Abort, domain: &mut Domain<Reading, Station>, message: SampleMut) -> usize
+fn send_message(rt: &impl Abort, domain: &mut Weather, message: SampleMut) -> usize
     requires { IsWritten domain.old message }
 {
     assert!(rt; !message.is_blocked(domain));

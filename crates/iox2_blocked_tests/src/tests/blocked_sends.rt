@@ -4,8 +4,8 @@ use crate::tests::waiting_publishers::{
     close_subscriber, deliver, delivered, delivered_at_last, given_up, has_blocked_send,
     next_reading, subscriber_of, waiting_domain, waiting_publisher,
 };
-use iox2_fixtures::{Reading, Station};
-use iox2_pubsub::{BlockedSend, Domain, LoanParts, Publisher};
+use iox2_fixtures::{Reading, Weather};
+use iox2_pubsub::{BlockedSend, LoanParts, Publisher};
 use iox2_store::{BackpressureStrategy, Key};
 use std::process::Abort;
 use std::time::Duration;
@@ -32,7 +32,7 @@ fn a_publisher_goes_on_once_its_send_has_ended(rt: HostRuntime) {
 // Lends, writes and sends a message, which is blocked. Returns the key of its loan, too.
 fn block_a_loan(
     rt: &impl Abort,
-    domain: &mut Domain<Reading, Station>,
+    domain: &mut Weather,
     publisher: &Publisher,
     celsius: u64,
 ) -> (Key, BlockedSend) {
@@ -106,7 +106,7 @@ fn a_blocked_send_is_held_until_it_has_ended(rt: HostRuntime) {
 }
 
 // Whether a send with the numbers waits.
-fn has_blocked(domain: &Domain<Reading, Station>, parts: &LoanParts) -> bool {
+fn has_blocked(domain: &Weather, parts: &LoanParts) -> bool {
     match domain.blocked_of(parts) {
         Some(waiting) => {
             waiting.disown();

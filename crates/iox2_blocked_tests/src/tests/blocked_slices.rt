@@ -6,7 +6,7 @@ ghost use Rattle.iox2_pubsub.specs.Live.{IsReadyPublisher};
 ghost use Rattle.iox2_pubsub.specs.Slices.{IsSliced};
 
 use crate::tests::waiting_publishers::{blocked, delivered};
-use iox2_fixtures::settings;
+use iox2_fixtures::{Numbers, settings};
 use iox2_pubsub::slice::{Publisher, SampleMut, Subscriber};
 use iox2_pubsub::{BackpressureHandler, BackpressureStrategy, BlockedSend, Domain, SendOutcome};
 use iox2_store::{BackpressureAction, SendError, ServiceConfig, TypeVariant};
@@ -24,7 +24,7 @@ pub(crate) fn slices() -> ServiceConfig
 }
 
 // Asserts that messages are slices of elements of one unit.
-fn assert_sliced(rt: &impl Abort, domain: &Domain<u64, u64>)
+fn assert_sliced(rt: &impl Abort, domain: &Numbers)
     ensures sliced { IsSliced domain.now }
     ensures dynamic { (domain.now.config).variant ≡ Dynamic }
     ensures one_unit { (domain.now.config).units_per_element ≡ 1 }
@@ -36,7 +36,7 @@ fn assert_sliced(rt: &impl Abort, domain: &Domain<u64, u64>)
 }
 
 // Asserts that the publisher is one of the domain's that has no blocked send.
-fn assert_ready(rt: &impl Abort, domain: &Domain<u64, u64>, publisher: &Publisher)
+fn assert_ready(rt: &impl Abort, domain: &Numbers, publisher: &Publisher)
     ensures { IsReadyPublisher domain.now publisher.now.publisher }
 {
     assert!(rt; publisher.is_in(domain));
@@ -44,13 +44,13 @@ fn assert_ready(rt: &impl Abort, domain: &Domain<u64, u64>, publisher: &Publishe
 }
 
 // Whether a send of the publisher is blocked, which is one of the domain's.
-fn has_blocked_send(rt: &impl Abort, domain: &Domain<u64, u64>, publisher: &Publisher) -> bool {
+fn has_blocked_send(rt: &impl Abort, domain: &Numbers, publisher: &Publisher) -> bool {
     assert!(rt; publisher.is_in(domain));
     publisher.is_blocked(domain)
 }
 
 // Whether a send of the written loan's publisher is blocked, where the loan is out.
-fn is_held_up(rt: &impl Abort, domain: &Domain<u64, u64>, loan: &SampleMut) -> bool {
+fn is_held_up(rt: &impl Abort, domain: &Numbers, loan: &SampleMut) -> bool {
     assert!(rt; domain.holds_loan(loan.key()));
     loan.is_blocked(domain)
 }
@@ -58,7 +58,7 @@ fn is_held_up(rt: &impl Abort, domain: &Domain<u64, u64>, loan: &SampleMut) -> b
 // Sends a slice of these values.
 fn send(
     rt: &impl Abort,
-    domain: &mut Domain<u64, u64>,
+    domain: &mut Numbers,
     publisher: &Publisher,
     values: &[u64],
 ) -> Result<SendOutcome, SendError> {
@@ -76,7 +76,7 @@ fn send(
 // Tries a blocked send again.
 fn retry(
     rt: &impl Abort,
-    domain: &mut Domain<u64, u64>,
+    domain: &mut Numbers,
     waiting: BlockedSend,
 ) -> Result<SendOutcome, SendError> {
     assert!(rt; domain.holds_blocked(waiting.key()));
@@ -84,11 +84,7 @@ fn retry(
 }
 
 // The sum of the slice that the subscriber receives next.
-fn next_sum(
-    rt: &impl Abort,
-    domain: &mut Domain<u64, u64>,
-    subscriber: &Subscriber,
-) -> Option<u64> {
+fn next_sum(rt: &impl Abort, domain: &mut Numbers, subscriber: &Subscriber) -> Option<u64> {
     assert_sliced(rt, domain);
     assert!(rt; subscriber.is_in(domain));
     let sample = subscriber.receive(domain).expect(rt, "an answer")?;
@@ -102,7 +98,7 @@ fn next_sum(
 
 #[test]
 fn a_slice_waits_and_arrives_as_it_was_written(rt: HostRuntime) {
-    let mut domain: Domain<u64, u64> = Domain::new(rt.alloc(), slices()).expect(&rt, "a domain");
+    let mut domain: Numbers = Domain::new(rt.alloc(), slices()).expect(&rt, "a domain");
     let factory = domain.slice_subscriber_builder().buffer_size(1);
     let subscriber = factory.create(&mut domain).expect(&rt, "a subscriber");
     let factory = domain.slice_publisher_builder().initial_max_slice_len(3);
@@ -131,7 +127,7 @@ fn a_slice_waits_and_arrives_as_it_was_written(rt: HostRuntime) {
 // The other loan is out meanwhile.
 #[test]
 fn a_handler_blocks_slices_of_a_publisher_that_would_discard(rt: HostRuntime) {
-    let mut domain: Domain<u64, u64> = Domain::new(rt.alloc(), slices()).expect(&rt, "a domain");
+    let mut domain: Numbers = Domain::new(rt.alloc(), slices()).expect(&rt, "a domain");
     let factory = domain.slice_subscriber_builder().buffer_size(1);
     let subscriber = factory.create(&mut domain).expect(&rt, "a subscriber");
     subscriber.disown();
@@ -166,7 +162,7 @@ fn a_handler_blocks_slices_of_a_publisher_that_would_discard(rt: HostRuntime) {
 // Its loans are as long as those of the factory, and its subscriber has the same buffer.
 #[test]
 fn a_partial_clone_of_a_factory_of_slices_has_its_settings(rt: HostRuntime) {
-    let mut domain: Domain<u64, u64> = Domain::new(rt.alloc(), slices()).expect(&rt, "a domain");
+    let mut domain: Numbers = Domain::new(rt.alloc(), slices()).expect(&rt, "a domain");
     let factory = domain.slice_subscriber_builder().buffer_size(1);
     let copied = factory.internal_partial_clone();
     let subscriber = copied.create(&mut domain).expect(&rt, "a subscriber");

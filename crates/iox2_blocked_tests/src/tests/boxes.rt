@@ -8,7 +8,7 @@ use crate::tests::waiting_publishers::{
     block, blocked, blocked_again, close_publisher, close_subscriber, deliver, delivered, given_up,
     has_blocked_send, next_reading, retry, send, subscriber_of, waiting_domain,
 };
-use iox2_fixtures::{Reading, Station};
+use iox2_fixtures::Weather;
 use iox2_pubsub::{
     BackpressureAction, BackpressureFn, BackpressureHandler, BackpressureInfo,
     BackpressureStrategy, DegradationFn, Domain, Publisher, SendError,
@@ -41,7 +41,7 @@ impl BackpressureFn for Patience {
 fn patient_publisher(
     rt: &impl Abort,
     alloc: Global,
-    domain: &mut Domain<Reading, Station>,
+    domain: &mut Weather,
     retries: u64,
 ) -> Publisher {
     let patience: Box<dyn BackpressureFn> = Box::new(alloc, Patience { retries }).expect(
@@ -162,7 +162,7 @@ impl BackpressureFn for Counting {
 fn counted_publisher(
     rt: &impl Abort,
     alloc: Global,
-    domain: &mut Domain<Reading, Station>,
+    domain: &mut Weather,
     asked: &Rc<Cell<u64>>,
 ) -> Publisher {
     let asked = asked.clone().expect(rt, "memory");

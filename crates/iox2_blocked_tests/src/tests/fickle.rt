@@ -2,10 +2,10 @@
 use crate::tests::waiting_publishers::{
     give_up, next_reading, send, subscriber_of, waiting_domain,
 };
-use iox2_fixtures::{Reading, Station};
+use iox2_fixtures::Weather;
 use iox2_pubsub::{
     BackpressureAction, BackpressureFn, BackpressureHandler, BackpressureInfo,
-    BackpressureStrategy, Domain, Publisher, SendError, SendOutcome,
+    BackpressureStrategy, Publisher, SendError, SendOutcome,
 };
 use std::alloc::Global;
 use std::cell::Cell;
@@ -45,7 +45,7 @@ impl BackpressureFn for Fickle {
 fn fickle_publisher(
     rt: &impl Abort,
     alloc: Global,
-    domain: &mut Domain<Reading, Station>,
+    domain: &mut Weather,
     given: &Rc<Cell<usize>>,
 ) -> Publisher {
     let given = given.clone().expect(rt, "memory");
@@ -60,7 +60,7 @@ fn fickle_publisher(
 // How a send ends, where each of two subscribers that it waits for is given up.
 fn ended(
     rt: &impl Abort,
-    domain: &mut Domain<Reading, Station>,
+    domain: &mut Weather,
     sent: Result<SendOutcome, SendError>,
 ) -> Result<usize, SendError> {
     let mut sent = sent;

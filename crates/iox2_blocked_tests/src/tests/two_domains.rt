@@ -6,13 +6,13 @@ use crate::tests::waiting_publishers::{
     assert_ready, assert_single_valued, block, blocked_again, close_publisher, close_subscriber,
     deliver, delivered, given_up, release, subscriber_of, take, waiting_publisher,
 };
-use iox2_fixtures::{Reading, Station, settings};
+use iox2_fixtures::{Reading, Weather, settings};
 use iox2_pubsub::{Domain, Publisher, SampleMut, SampleMutUninit};
 use iox2_store::{Key, ServiceConfig};
 use std::alloc::Global;
 use std::process::Abort;
 
-type Service = Domain<Reading, Station>;
+type Service = Weather;
 
 // A domain of one publisher and one subscriber, of this service.
 fn domain_of(rt: &impl Abort, alloc: Global, service_id: u128) -> Service {

@@ -6,7 +6,7 @@ ghost use Rattle.std.specs.Prelude.{◌≡◌, false};
 ghost use Rattle.std.specs.declared.result.Result.TheVariants.{Ok};
 ghost use Rattle.iox2_pubsub.specs.Live.{IsBlockedSend, IsLiveSubscriber, IsReadyPublisher, IsSingleValued, Stays};
 
-use iox2_fixtures::{Reading, Station, settings};
+use iox2_fixtures::{Reading, Weather, settings};
 use iox2_pubsub::{BlockedSend, Domain, Publisher, Sample, SendError, SendOutcome, Subscriber};
 use iox2_store::{ServiceConfig, TypeVariant};
 use std::alloc::Global;
@@ -15,7 +15,7 @@ use std::time::Duration;
 
 /// A domain of two publishers, which wait for a full subscriber, and of three subscribers. It keeps
 /// no history.
-pub(crate) fn waiting_domain(rt: &impl Abort, alloc: Global) -> Domain<Reading, Station>
+pub(crate) fn waiting_domain(rt: &impl Abort, alloc: Global) -> Weather
     ensures { IsSingleValued result }
 {
     let config = ServiceConfig {
@@ -27,7 +27,7 @@ pub(crate) fn waiting_domain(rt: &impl Abort, alloc: Global) -> Domain<Reading, 
 }
 
 /// A publisher that waits for a full subscriber, as the settings of its domain say.
-pub(crate) fn waiting_publisher(rt: &impl Abort, domain: &mut Domain<Reading, Station>) -> Publisher
+pub(crate) fn waiting_publisher(rt: &impl Abort, domain: &mut Weather) -> Publisher
     ensures ready { IsReadyPublisher domain.new result }
     ensures stays { Stays domain.old domain.new }
 {
@@ -36,11 +36,7 @@ pub(crate) fn waiting_publisher(rt: &impl Abort, domain: &mut Domain<Reading, St
 }
 
 /// A subscriber for which so many messages of each publisher may wait.
-pub(crate) fn subscriber_of(
-    rt: &impl Abort,
-    domain: &mut Domain<Reading, Station>,
-    buffer_size: usize,
-) -> Subscriber
+pub(crate) fn subscriber_of(rt: &impl Abort, domain: &mut Weather, buffer_size: usize) -> Subscriber
     ensures live { IsLiveSubscriber domain.new result }
     ensures stays { Stays domain.old domain.new }
 {
@@ -76,7 +72,7 @@ pub(crate) fn delivered(rt: &impl Abort, sent: Result<SendOutcome, SendError>) -
 // ---- what a call asks for is tested
 
 /// Asserts that messages are single values.
-pub(crate) fn assert_single_valued(rt: &impl Abort, domain: &Domain<Reading, Station>)
+pub(crate) fn assert_single_valued(rt: &impl Abort, domain: &Weather)
     ensures { IsSingleValued domain.now }
 {
     let config = domain.config();
@@ -85,44 +81,28 @@ pub(crate) fn assert_single_valued(rt: &impl Abort, domain: &Domain<Reading, Sta
 }
 
 /// Asserts that the publisher is one of the domain's that has no blocked send.
-pub(crate) fn assert_ready(
-    rt: &impl Abort,
-    domain: &Domain<Reading, Station>,
-    publisher: &Publisher,
-)
+pub(crate) fn assert_ready(rt: &impl Abort, domain: &Weather, publisher: &Publisher)
     ensures { IsReadyPublisher domain.now publisher.now }
 {
     assert!(rt; !has_blocked_send(rt, domain, publisher));
 }
 
 /// Asserts that the subscriber is one of the domain's.
-pub(crate) fn assert_live(
-    rt: &impl Abort,
-    domain: &Domain<Reading, Station>,
-    subscriber: &Subscriber,
-)
+pub(crate) fn assert_live(rt: &impl Abort, domain: &Weather, subscriber: &Subscriber)
     ensures { IsLiveSubscriber domain.now subscriber.now }
 {
     assert!(rt; subscriber.is_in(domain));
 }
 
 /// Asserts that the send is one of the domain's that is blocked.
-pub(crate) fn assert_blocked(
-    rt: &impl Abort,
-    domain: &Domain<Reading, Station>,
-    waiting: &BlockedSend,
-)
+pub(crate) fn assert_blocked(rt: &impl Abort, domain: &Weather, waiting: &BlockedSend)
     ensures { IsBlockedSend domain.now waiting.now }
 {
     assert!(rt; domain.holds_blocked(waiting.key()));
 }
 
 /// Whether a send of the publisher is blocked, which is one of the domain's.
-pub(crate) fn has_blocked_send(
-    rt: &impl Abort,
-    domain: &Domain<Reading, Station>,
-    publisher: &Publisher,
-) -> bool
+pub(crate) fn has_blocked_send(rt: &impl Abort, domain: &Weather, publisher: &Publisher) -> bool
     ensures { result ≡ false → IsReadyPublisher domain.now publisher.now }
 {
     assert!(rt; publisher.is_in(domain));
@@ -132,7 +112,7 @@ pub(crate) fn has_blocked_send(
 /// Sends a value.
 pub(crate) fn send(
     rt: &impl Abort,
-    domain: &mut Domain<Reading, Station>,
+    domain: &mut Weather,
     publisher: &Publisher,
     celsius: u64,
 ) -> Result<SendOutcome, SendError> {
@@ -144,7 +124,7 @@ pub(crate) fn send(
 /// Tries a blocked send again.
 pub(crate) fn retry(
     rt: &impl Abort,
-    domain: &mut Domain<Reading, Station>,
+    domain: &mut Weather,
     waiting: BlockedSend,
     elapsed: Duration,
 ) -> Result<SendOutcome, SendError> {
@@ -155,7 +135,7 @@ pub(crate) fn retry(
 /// Gives up the subscriber that a blocked send waits for.
 pub(crate) fn give_up(
     rt: &impl Abort,
-    domain: &mut Domain<Reading, Station>,
+    domain: &mut Weather,
     waiting: BlockedSend,
 ) -> Result<SendOutcome, SendError> {
     assert_blocked(rt, domain, &waiting);
@@ -165,7 +145,7 @@ pub(crate) fn give_up(
 /// Sends a value that isn't blocked. Returns how many subscribers took it.
 pub(crate) fn deliver(
     rt: &impl Abort,
-    domain: &mut Domain<Reading, Station>,
+    domain: &mut Weather,
     publisher: &Publisher,
     celsius: u64,
 ) -> usize {
@@ -175,7 +155,7 @@ pub(crate) fn deliver(
 /// Sends a value, which is blocked.
 pub(crate) fn block(
     rt: &impl Abort,
-    domain: &mut Domain<Reading, Station>,
+    domain: &mut Weather,
     publisher: &Publisher,
     celsius: u64,
 ) -> BlockedSend {
@@ -185,7 +165,7 @@ pub(crate) fn block(
 /// Tries a send again that isn't blocked then. Returns how many subscribers took it.
 pub(crate) fn delivered_at_last(
     rt: &impl Abort,
-    domain: &mut Domain<Reading, Station>,
+    domain: &mut Weather,
     waiting: BlockedSend,
 ) -> usize {
     delivered(rt, retry(rt, domain, waiting, Duration::ZERO))
@@ -194,7 +174,7 @@ pub(crate) fn delivered_at_last(
 /// Tries a send again that stays blocked.
 pub(crate) fn blocked_again(
     rt: &impl Abort,
-    domain: &mut Domain<Reading, Station>,
+    domain: &mut Weather,
     waiting: BlockedSend,
 ) -> BlockedSend {
     blocked(rt, retry(rt, domain, waiting, Duration::ZERO))
@@ -202,27 +182,19 @@ pub(crate) fn blocked_again(
 
 /// Gives up the subscriber that a send waits for, which isn't blocked then. Returns how many
 /// subscribers took it.
-pub(crate) fn given_up(
-    rt: &impl Abort,
-    domain: &mut Domain<Reading, Station>,
-    waiting: BlockedSend,
-) -> usize {
+pub(crate) fn given_up(rt: &impl Abort, domain: &mut Weather, waiting: BlockedSend) -> usize {
     delivered(rt, give_up(rt, domain, waiting))
 }
 
 /// Receives a message, which waits.
-pub(crate) fn take(
-    rt: &impl Abort,
-    domain: &mut Domain<Reading, Station>,
-    subscriber: &Subscriber,
-) -> Sample {
+pub(crate) fn take(rt: &impl Abort, domain: &mut Weather, subscriber: &Subscriber) -> Sample {
     assert_live(rt, domain, subscriber);
     let received = subscriber.receive(domain).expect(rt, "an answer");
     received.expect(rt, "a message")
 }
 
 /// Gives a message back.
-pub(crate) fn release(rt: &impl Abort, domain: &mut Domain<Reading, Station>, sample: Sample) {
+pub(crate) fn release(rt: &impl Abort, domain: &mut Weather, sample: Sample) {
     assert!(rt; domain.holds_sample(sample.key()));
     sample.release(domain);
 }
@@ -230,7 +202,7 @@ pub(crate) fn release(rt: &impl Abort, domain: &mut Domain<Reading, Station>, sa
 /// Reads and releases what the subscriber receives next. `None` where no message waits.
 pub(crate) fn next_reading(
     rt: &impl Abort,
-    domain: &mut Domain<Reading, Station>,
+    domain: &mut Weather,
     subscriber: &Subscriber,
 ) -> Option<u64>
     ensures { Stays domain.old domain.new }
@@ -241,21 +213,13 @@ pub(crate) fn next_reading(
 }
 
 /// Closes a publisher that has no blocked send.
-pub(crate) fn close_publisher(
-    rt: &impl Abort,
-    domain: &mut Domain<Reading, Station>,
-    publisher: Publisher,
-) {
+pub(crate) fn close_publisher(rt: &impl Abort, domain: &mut Weather, publisher: Publisher) {
     assert_ready(rt, domain, &publisher);
     publisher.close(domain);
 }
 
 /// Closes a subscriber.
-pub(crate) fn close_subscriber(
-    rt: &impl Abort,
-    domain: &mut Domain<Reading, Station>,
-    subscriber: Subscriber,
-) {
+pub(crate) fn close_subscriber(rt: &impl Abort, domain: &mut Weather, subscriber: Subscriber) {
     assert_live(rt, domain, &subscriber);
     subscriber.close(domain);
 }

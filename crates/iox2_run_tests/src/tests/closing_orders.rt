@@ -1,6 +1,6 @@
 //! Two ports, a sample and a loan end in every order, and nothing is left of them.
 use crate::tests::runs::{CREATE_SUBSCRIBER, create_publisher, replies_to_numbers};
-use iox2_fixtures::settings;
+use iox2_fixtures::smallest;
 use iox2_pubsub::Domain;
 use iox2_runs::{Command, Reply};
 use iox2_store::{ServiceConfig, UniquePublisherId, UniqueSubscriberId};
@@ -137,10 +137,8 @@ struct Ended {
 
 fn end_in(rt: &impl Abort, alloc: Global, order: Order) -> Ended {
     let config = ServiceConfig {
-        subscriber_max_buffer_size: 1,
-        subscriber_max_borrowed_samples: 1,
         history_size: 1,
-        ..settings()
+        ..smallest()
     };
     let mut domain: Domain<u64, u8> = Domain::new(alloc, config).expect(rt, "a domain");
     let commands = commands_in_order(alloc, order).expect(rt, "commands");

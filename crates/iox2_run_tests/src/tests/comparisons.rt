@@ -2,7 +2,7 @@
 ghost use Rattle.std.specs.Prelude.{◌≡◌, true};
 ghost use Rattle.iox2_commands.specs.Refusals.{TellNoRefusal};
 
-use iox2_fixtures::settings;
+use iox2_fixtures::smallest;
 use iox2_pubsub::Domain;
 use iox2_runs::{Command, Reply, compare_runs};
 use iox2_store::{
@@ -146,9 +146,7 @@ fn replies_of((_, replies): End) -> Replies {
 fn two_subscribers() -> ServiceConfig {
     ServiceConfig {
         max_subscribers: 2,
-        subscriber_max_buffer_size: 1,
-        subscriber_max_borrowed_samples: 1,
-        ..settings()
+        ..smallest()
     }
 }
 
@@ -415,10 +413,8 @@ fn met_no_refusal(end: &End) -> bool
 fn runs_are_compared_after_more_warnings_than_are_kept(rt: HostRuntime) {
     let config = ServiceConfig {
         max_subscribers: 102,
-        subscriber_max_buffer_size: 1,
-        subscriber_max_borrowed_samples: 1,
         subscriber_expired_connection_buffer: 0,
-        ..settings()
+        ..smallest()
     };
     let commands = after_many_subscribers(&rt, rt.alloc(), &WITH_A_LATE_RECEIVE);
     let reduced = after_many_subscribers(&rt, rt.alloc(), &WITHOUT_IT_LATE);

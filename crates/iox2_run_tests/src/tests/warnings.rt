@@ -1,6 +1,6 @@
 //! What a domain tells after a run.
 use crate::tests::runs::{CREATE_SUBSCRIBER, replies_to_numbers};
-use iox2_fixtures::settings;
+use iox2_fixtures::smallest;
 use iox2_pubsub::{Domain, Warning};
 use iox2_runs::{Command, Reply};
 use iox2_store::{ServiceConfig, UniqueSubscriberId};
@@ -16,11 +16,8 @@ fn raised(subscriber: u128) -> Warning {
 #[test]
 fn only_the_last_warnings_stay(rt: HostRuntime) {
     let config = ServiceConfig {
-        subscriber_max_buffer_size: 1,
-        subscriber_max_borrowed_samples: 1,
-        history_size: 0,
         subscriber_expired_connection_buffer: 0,
-        ..settings()
+        ..smallest()
     };
     let mut domain: Domain<u64, u8> = Domain::new(rt.alloc(), config).expect(&rt, "a domain");
     for subscriber in 1..34u64 {

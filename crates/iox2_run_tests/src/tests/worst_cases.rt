@@ -1,4 +1,4 @@
-use iox2_fixtures::settings;
+use iox2_fixtures::{settings, smallest};
 use iox2_pubsub::Domain;
 use iox2_runs::{Command, Reply, run, worst_case_commands};
 use iox2_store::{
@@ -7,15 +7,6 @@ use iox2_store::{
 };
 use std::alloc::Global;
 use std::process::Abort;
-
-// One subscriber with a buffer of one, which may borrow one message; no history.
-fn smallest() -> ServiceConfig {
-    ServiceConfig {
-        subscriber_max_buffer_size: 1,
-        subscriber_max_borrowed_samples: 1,
-        ..settings()
-    }
-}
 
 fn publisher(slots: Option<usize>) -> Command<u64, u8> {
     Command::CreatePublisher {
@@ -282,9 +273,7 @@ fn the_last_loan_of_a_list_needs_the_last_slot(rt: HostRuntime) {
     let two_subscribers = ServiceConfig {
         max_subscribers: 2,
         subscriber_max_buffer_size: 2,
-        subscriber_max_borrowed_samples: 1,
-        history_size: 1,
-        ..settings()
+        ..smallest_with_history()
     };
     let nothing_borrowed = ServiceConfig {
         subscriber_max_borrowed_samples: 0,

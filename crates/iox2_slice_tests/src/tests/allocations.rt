@@ -1,7 +1,7 @@
 //! By which strategy a publisher's memory grows: its factory's, or else the settings'.
 
 use crate::tests::fixtures::{assert_ready, assert_sliced, slice_factory};
-use iox2_fixtures::settings;
+use iox2_fixtures::{Numbers, settings};
 use iox2_pubsub::{Domain, slice};
 use iox2_store::{AllocationStrategy, LoanError, ServiceConfig, TypeVariant};
 use std::process::Abort;
@@ -18,7 +18,7 @@ fn slices(strategy: AllocationStrategy) -> ServiceConfig {
 // publisher is then closed.
 fn longer_loan(
     rt: &impl Abort,
-    domain: &mut Domain<u64, u64>,
+    domain: &mut Numbers,
     factory: slice::PortFactoryPublisher,
 ) -> Result<(), LoanError> {
     let publisher = factory.create(domain).expect(rt, "a publisher");
@@ -34,7 +34,7 @@ fn longer_loan(
 #[test]
 fn a_factory_begins_with_the_strategy_of_the_settings(rt: HostRuntime) {
     let growing = slices(AllocationStrategy::PowerOfTwo);
-    let mut domain: Domain<u64, u64> = Domain::new(rt.alloc(), growing).expect(&rt, "a domain");
+    let mut domain: Numbers = Domain::new(rt.alloc(), growing).expect(&rt, "a domain");
     let factory = slice_factory(&domain);
     let by_settings = longer_loan(&rt, &mut domain, factory);
     let factory = slice_factory(&domain).allocation_strategy(AllocationStrategy::Static);
@@ -48,7 +48,7 @@ fn a_factory_begins_with_the_strategy_of_the_settings(rt: HostRuntime) {
 #[test]
 fn the_last_strategy_counts(rt: HostRuntime) {
     let fixed = slices(AllocationStrategy::Static);
-    let mut domain: Domain<u64, u64> = Domain::new(rt.alloc(), fixed).expect(&rt, "a domain");
+    let mut domain: Numbers = Domain::new(rt.alloc(), fixed).expect(&rt, "a domain");
     let factory = slice_factory(&domain);
     let by_settings = longer_loan(&rt, &mut domain, factory);
     let factory = slice_factory(&domain).allocation_strategy(AllocationStrategy::BestFit);

@@ -6,7 +6,7 @@ use crate::tests::fixtures::{
     assert_live, assert_ready, assert_sliced, lend_slice, receive_slice, send_slice,
     slice_publisher, slice_subscriber,
 };
-use iox2_fixtures::settings;
+use iox2_fixtures::{Numbers, smallest};
 use iox2_pubsub::slice::{Publisher, Subscriber};
 use iox2_pubsub::{Domain, UpdateConnections};
 use iox2_store::{ServiceConfig, TypeVariant};
@@ -16,36 +16,28 @@ use std::process::Abort;
 fn two_channels() -> ServiceConfig {
     ServiceConfig {
         variant: TypeVariant::Dynamic,
-        subscriber_max_buffer_size: 1,
-        subscriber_max_borrowed_samples: 1,
-        history_size: 0,
         number_of_channels: 2,
         publisher_max_loaned_samples: 2,
-        ..settings()
+        ..smallest()
     }
 }
 
 // Asserts that the connections of the domain have the channel.
-fn assert_has_channel(rt: &impl Abort, domain: &Domain<u64, u64>, channel: usize)
+fn assert_has_channel(rt: &impl Abort, domain: &Numbers, channel: usize)
     ensures { channel < channel_count domain.now.config }
 {
     assert!(rt; channel < domain.config().number_of_channels.max(1));
 }
 
 // Sends a slice with this value. Returns how many subscribers took it.
-fn sent(
-    rt: &impl Abort,
-    domain: &mut Domain<u64, u64>,
-    publisher: &Publisher,
-    value: u64,
-) -> usize {
+fn sent(rt: &impl Abort, domain: &mut Numbers, publisher: &Publisher, value: u64) -> usize {
     let loan = lend_slice(rt, domain, publisher, 1);
     let message = loan.write_from_fn(domain, |_| value);
     send_slice(rt, domain, message)
 }
 
 // Whether no slice waits.
-fn gets_nothing(rt: &impl Abort, domain: &mut Domain<u64, u64>, subscriber: &Subscriber) -> bool {
+fn gets_nothing(rt: &impl Abort, domain: &mut Numbers, subscriber: &Subscriber) -> bool {
     assert_sliced(rt, domain);
     assert_live(rt, domain, subscriber);
     match subscriber.receive(domain).expect(rt, "an answer") {
@@ -58,12 +50,7 @@ fn gets_nothing(rt: &impl Abort, domain: &mut Domain<u64, u64>, subscriber: &Sub
 }
 
 // Whether the next slice has this value.
-fn gets(
-    rt: &impl Abort,
-    domain: &mut Domain<u64, u64>,
-    subscriber: &Subscriber,
-    value: u64,
-) -> bool {
+fn gets(rt: &impl Abort, domain: &mut Numbers, subscriber: &Subscriber, value: u64) -> bool {
     let sample = receive_slice(rt, domain, subscriber);
     let is_it = sample.payload(domain) == [value].as_slice();
     sample.release(domain);
@@ -74,7 +61,7 @@ fn gets(
 // state afterwards.
 fn set(
     rt: &impl Abort,
-    domain: &mut Domain<u64, u64>,
+    domain: &mut Numbers,
     subscriber: &Subscriber,
     channel: usize,
     state: u64,
@@ -87,7 +74,7 @@ fn set(
 // Closes the subscriber's channels that are in the state.
 fn close(
     rt: &impl Abort,
-    domain: &mut Domain<u64, u64>,
+    domain: &mut Numbers,
     subscriber: &Subscriber,
     channel: usize,
     expected: u64,
@@ -100,7 +87,7 @@ fn close(
 // Hints a disconnect in the subscriber's channels that are in the state.
 fn hint(
     rt: &impl Abort,
-    domain: &mut Domain<u64, u64>,
+    domain: &mut Numbers,
     subscriber: &Subscriber,
     channel: usize,
     expected: u64,
@@ -113,7 +100,7 @@ fn hint(
 // Whether a channel of the subscriber is in the state.
 fn is_any(
     rt: &impl Abort,
-    domain: &Domain<u64, u64>,
+    domain: &Numbers,
     subscriber: &Subscriber,
     channel: usize,
     state: u64,
@@ -127,7 +114,7 @@ fn is_any(
 // too.
 fn is_first(
     rt: &impl Abort,
-    domain: &Domain<u64, u64>,
+    domain: &Numbers,
     publisher: &Publisher,
     channel: usize,
     state: u64,
@@ -143,7 +130,7 @@ fn is_first(
 // Closes the channel of the publisher's first connection, where it is in the state.
 fn close_first(
     rt: &impl Abort,
-    domain: &mut Domain<u64, u64>,
+    domain: &mut Numbers,
     publisher: &Publisher,
     channel: usize,
     expected: u64,
@@ -155,9 +142,7 @@ fn close_first(
 
 #[test]
 fn a_closed_channel_takes_no_slice(rt: HostRuntime) {
-    let mut domain: Domain<u64, u64> = Domain::new(rt.alloc(), two_channels()).expect(
-        &rt, "a domain",
-    );
+    let mut domain: Numbers = Domain::new(rt.alloc(), two_channels()).expect(&rt, "a domain");
     let subscriber = slice_subscriber(&rt, &mut domain);
     let publisher = slice_publisher(&rt, &mut domain, 1);
     let unconnected = [
@@ -205,9 +190,7 @@ fn a_closed_channel_takes_no_slice(rt: HostRuntime) {
 // Slices go to channel 0 alone, and no call on one channel changes another.
 #[test]
 fn a_further_channel_of_slices_has_a_state_of_its_own(rt: HostRuntime) {
-    let mut domain: Domain<u64, u64> = Domain::new(rt.alloc(), two_channels()).expect(
-        &rt, "a domain",
-    );
+    let mut domain: Numbers = Domain::new(rt.alloc(), two_channels()).expect(&rt, "a domain");
     let subscriber = slice_subscriber(&rt, &mut domain);
     let publisher = slice_publisher(&rt, &mut domain, 1);
     assert_live(&rt, &domain, &subscriber);

@@ -8,7 +8,7 @@ use crate::tests::fixtures::{
     assert_live, assert_ready, assert_sliced, close_publisher, close_subscriber, receive_slice,
     send_slice, slice_factory, slice_subscriber,
 };
-use iox2_fixtures::settings;
+use iox2_fixtures::{Numbers, smallest};
 use iox2_pubsub::slice::{Publisher, Sample, SampleMutUninit};
 use iox2_pubsub::{CustomHeaderMarker, CustomPayloadMarker, Domain};
 use iox2_store::{AllocationStrategy, LoanError, ServiceConfig, TypeVariant};
@@ -20,16 +20,14 @@ use std::rc::Rc;
 fn slices() -> ServiceConfig {
     ServiceConfig {
         variant: TypeVariant::Dynamic,
-        subscriber_max_buffer_size: 1,
-        subscriber_max_borrowed_samples: 1,
-        ..settings()
+        ..smallest()
     }
 }
 
 // A publisher whose first slots have room for one element.
 fn growing(
     rt: &impl Abort,
-    domain: &mut Domain<u64, u64>,
+    domain: &mut Numbers,
     loans: usize,
     strategy: AllocationStrategy,
 ) -> Publisher {
@@ -42,7 +40,7 @@ fn growing(
 // A loan of that length, or why there is none.
 fn lend(
     rt: &impl Abort,
-    domain: &mut Domain<u64, u64>,
+    domain: &mut Numbers,
     publisher: &Publisher,
     len: usize,
 ) -> Result<SampleMutUninit, LoanError>
@@ -58,7 +56,7 @@ fn lend(
 // Whether a loan of that length is granted, which is given back.
 fn lends(
     rt: &impl Abort,
-    domain: &mut Domain<u64, u64>,
+    domain: &mut Numbers,
     publisher: &Publisher,
     len: usize,
 ) -> Result<(), LoanError> {
@@ -69,13 +67,7 @@ fn lends(
 }
 
 // Sends that many times this value, which one subscriber takes.
-fn send(
-    rt: &impl Abort,
-    domain: &mut Domain<u64, u64>,
-    publisher: &Publisher,
-    len: usize,
-    value: u64,
-) {
+fn send(rt: &impl Abort, domain: &mut Numbers, publisher: &Publisher, len: usize, value: u64) {
     let loan = lend(rt, domain, publisher, len).expect(rt, "a loan");
     let message = loan.write_from_fn(domain, |_| value);
     let takers = send_slice(rt, domain, message);
@@ -83,13 +75,7 @@ fn send(
 }
 
 // Whether the sample is that many times this value.
-fn reads(
-    rt: &impl Abort,
-    domain: &Domain<u64, u64>,
-    sample: &Sample,
-    len: usize,
-    value: u64,
-) -> bool {
+fn reads(rt: &impl Abort, domain: &Numbers, sample: &Sample, len: usize, value: u64) -> bool {
     assert_sliced(rt, domain);
     assert!(rt; domain.holds_sample(sample.key()));
     let payload = sample.payload(domain);
@@ -99,7 +85,7 @@ fn reads(
 // How many loans of rising length are granted, from 2 on, each of which is given back.
 fn granted_up_to(
     rt: &impl Abort,
-    domain: &mut Domain<u64, u64>,
+    domain: &mut Numbers,
     publisher: &Publisher,
     longest: usize,
 ) -> Result<(), LoanError> {
@@ -111,7 +97,7 @@ fn granted_up_to(
 
 #[test]
 fn best_fit_makes_at_most_255_segments(rt: HostRuntime) {
-    let mut domain: Domain<u64, u64> = Domain::new(rt.alloc(), slices()).expect(&rt, "a domain");
+    let mut domain: Numbers = Domain::new(rt.alloc(), slices()).expect(&rt, "a domain");
     let publisher = growing(&rt, &mut domain, 1, AllocationStrategy::BestFit);
     let up_to_255 = granted_up_to(&rt, &mut domain, &publisher, 255);
     let next = lends(&rt, &mut domain, &publisher, 256);
@@ -124,7 +110,7 @@ fn best_fit_makes_at_most_255_segments(rt: HostRuntime) {
 
 #[test]
 fn powers_of_two_need_few_segments(rt: HostRuntime) {
-    let mut domain: Domain<u64, u64> = Domain::new(rt.alloc(), slices()).expect(&rt, "a domain");
+    let mut domain: Numbers = Domain::new(rt.alloc(), slices()).expect(&rt, "a domain");
     let publisher = growing(&rt, &mut domain, 1, AllocationStrategy::PowerOfTwo);
     let up_to_256 = granted_up_to(&rt, &mut domain, &publisher, 256);
     publisher.disown();
@@ -133,7 +119,7 @@ fn powers_of_two_need_few_segments(rt: HostRuntime) {
 
 #[test]
 fn lengths_rise_and_fall_around_a_sample_that_is_kept(rt: HostRuntime) {
-    let mut domain: Domain<u64, u64> = Domain::new(rt.alloc(), slices()).expect(&rt, "a domain");
+    let mut domain: Numbers = Domain::new(rt.alloc(), slices()).expect(&rt, "a domain");
     let subscriber = slice_subscriber(&rt, &mut domain);
     let publisher = growing(&rt, &mut domain, 1, AllocationStrategy::BestFit);
     let lengths = [3, 1, 0, 7, 7, 2, 40, 1, 39, 41, 0];

@@ -3,7 +3,7 @@
 use crate::tests::fixtures::{
     assert_sliced, receive_slice, send_slice, slice_publisher, slice_subscriber,
 };
-use iox2_fixtures::settings;
+use iox2_fixtures::{Numbers, settings};
 use iox2_pubsub::Domain;
 use iox2_pubsub::slice::LocatedLoan;
 use iox2_store::{ServiceConfig, TypeVariant};
@@ -18,7 +18,7 @@ fn slices() -> ServiceConfig {
 
 #[test]
 fn a_loan_of_default_values_says_where_they_begin(rt: HostRuntime) {
-    let mut domain: Domain<u64, u64> = Domain::new(rt.alloc(), slices()).expect(&rt, "a domain");
+    let mut domain: Numbers = Domain::new(rt.alloc(), slices()).expect(&rt, "a domain");
     let publisher = slice_publisher(&rt, &mut domain, 16);
     assert_sliced(&rt, &domain);
     let lent = publisher.loan_slice_located(&mut domain, 3);
@@ -39,7 +39,7 @@ fn a_loan_of_default_values_says_where_they_begin(rt: HostRuntime) {
 
 #[test]
 fn a_loan_that_nobody_wrote_says_where_its_values_begin(rt: HostRuntime) {
-    let mut domain: Domain<u64, u64> = Domain::new(rt.alloc(), slices()).expect(&rt, "a domain");
+    let mut domain: Numbers = Domain::new(rt.alloc(), slices()).expect(&rt, "a domain");
     let subscriber = slice_subscriber(&rt, &mut domain);
     let publisher = slice_publisher(&rt, &mut domain, 16);
     assert_sliced(&rt, &domain);

@@ -9,7 +9,7 @@ use crate::tests::fixtures::{
     assert_live, assert_ready, assert_sliced, close_publisher, close_subscriber, lend_defaults,
     lend_slice, receive_slice, send_slice, slice_factory, slice_publisher, slice_subscriber,
 };
-use iox2_fixtures::{Costly, costly_time, micros_since, settings};
+use iox2_fixtures::{Costly, Numbers, costly_time, micros_since, settings};
 use iox2_pubsub::slice::{Publisher, SampleMut, SampleMutUninit, Subscriber};
 use iox2_pubsub::{DegradationHandler, Domain, UpdateConnections};
 use iox2_store::{DegradationAction, LoanError, PublisherCreateError, ServiceConfig, TypeVariant};
@@ -42,7 +42,7 @@ fn set(values: &mut [u64], index: usize, value: u64) {
 // says that it has.
 fn read_next(
     rt: &impl Abort,
-    domain: &mut Domain<u64, u64>,
+    domain: &mut Numbers,
     subscriber: &Subscriber,
     written: &[u64],
 ) -> (bool, u64) {
@@ -55,7 +55,7 @@ fn read_next(
 
 #[test]
 fn a_slice_is_sent_as_it_was_written(rt: HostRuntime) {
-    let mut domain: Domain<u64, u64> = Domain::new(rt.alloc(), slices()).expect(&rt, "a domain");
+    let mut domain: Numbers = Domain::new(rt.alloc(), slices()).expect(&rt, "a domain");
     let factory = domain.slice_subscriber_builder().buffer_size(2);
     let subscriber = factory.create(&mut domain).expect(&rt, "a subscriber");
     let publisher = slice_publisher(&rt, &mut domain, 16);
@@ -77,7 +77,7 @@ fn a_slice_is_sent_as_it_was_written(rt: HostRuntime) {
 
 #[test]
 fn a_slice_is_copied_into_its_loan(rt: HostRuntime) {
-    let mut domain: Domain<u64, u64> = Domain::new(rt.alloc(), slices()).expect(&rt, "a domain");
+    let mut domain: Numbers = Domain::new(rt.alloc(), slices()).expect(&rt, "a domain");
     let subscriber = slice_subscriber(&rt, &mut domain);
     let publisher = slice_publisher(&rt, &mut domain, 16);
     let loan = lend_slice(&rt, &mut domain, &publisher, 4);
@@ -102,7 +102,7 @@ fn a_slice_is_copied_into_its_loan(rt: HostRuntime) {
 
 #[test]
 fn a_slice_has_default_values(rt: HostRuntime) {
-    let mut domain: Domain<u64, u64> = Domain::new(rt.alloc(), slices()).expect(&rt, "a domain");
+    let mut domain: Numbers = Domain::new(rt.alloc(), slices()).expect(&rt, "a domain");
     let publisher = slice_publisher(&rt, &mut domain, 16);
     let mut message = lend_defaults(&rt, &mut domain, &publisher, 5);
     publisher.disown();
@@ -134,7 +134,7 @@ fn no_default_values_are_made_for_a_refused_loan(rt: HostRuntime) {
 
 #[test]
 fn a_slice_may_be_long(rt: HostRuntime) {
-    let mut domain: Domain<u64, u64> = Domain::new(rt.alloc(), slices()).expect(&rt, "a domain");
+    let mut domain: Numbers = Domain::new(rt.alloc(), slices()).expect(&rt, "a domain");
     let subscriber = slice_subscriber(&rt, &mut domain);
     let publisher = slice_publisher(&rt, &mut domain, 5000);
     let loan = lend_slice(&rt, &mut domain, &publisher, 5000);
@@ -508,7 +508,7 @@ fn slices_that_no_segment_holds_are_refused(rt: HostRuntime) {
 
 #[test]
 fn slices_arrive_whatever_a_refused_connection_would_do(rt: HostRuntime) {
-    let mut domain: Domain<u64, u64> = Domain::new(rt.alloc(), slices()).expect(&rt, "a domain");
+    let mut domain: Numbers = Domain::new(rt.alloc(), slices()).expect(&rt, "a domain");
     let handler = DegradationHandler::new_with(DegradationAction::DegradeAndFail);
     let factory = domain
         .slice_subscriber_builder()

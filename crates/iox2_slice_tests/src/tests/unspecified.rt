@@ -5,7 +5,7 @@ ghost use Rattle.iox2_pubsub.specs.Slices.{IsSliced};
 use crate::tests::fixtures::{
     lend_slice, receive_slice, send_slice, slice_publisher, slice_subscriber,
 };
-use iox2_fixtures::settings;
+use iox2_fixtures::{Numbers, settings};
 use iox2_pubsub::Domain;
 use iox2_pubsub::slice::{Publisher, SampleMut};
 use iox2_store::{ServiceConfig, TypeVariant};
@@ -22,7 +22,7 @@ fn slices() -> ServiceConfig {
 // Lends a slice of that length, whose values nobody chooses.
 fn lend_unspecified(
     rt: &impl Abort,
-    domain: &mut Domain<u64, u64>,
+    domain: &mut Numbers,
     publisher: &Publisher,
     len: usize,
 ) -> SampleMut
@@ -35,7 +35,7 @@ fn lend_unspecified(
 
 #[test]
 fn a_loan_that_nobody_writes_is_changed_and_sent(rt: HostRuntime) {
-    let mut domain: Domain<u64, u64> = Domain::new(rt.alloc(), slices()).expect(&rt, "a domain");
+    let mut domain: Numbers = Domain::new(rt.alloc(), slices()).expect(&rt, "a domain");
     let subscriber = slice_subscriber(&rt, &mut domain);
     let publisher = slice_publisher(&rt, &mut domain, 16);
     let mut message = lend_unspecified(&rt, &mut domain, &publisher, 5);
@@ -57,7 +57,7 @@ fn a_loan_that_nobody_writes_is_changed_and_sent(rt: HostRuntime) {
 
 #[test]
 fn a_discarded_loan_s_values_lie_in_the_next(rt: HostRuntime) {
-    let mut domain: Domain<u64, u64> = Domain::new(rt.alloc(), slices()).expect(&rt, "a domain");
+    let mut domain: Numbers = Domain::new(rt.alloc(), slices()).expect(&rt, "a domain");
     let publisher = slice_publisher(&rt, &mut domain, 16);
     let loan = lend_slice(&rt, &mut domain, &publisher, 3);
     let message = loan.write_from_fn(&mut domain, |index| index as u64);

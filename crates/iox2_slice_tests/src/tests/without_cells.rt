@@ -7,7 +7,7 @@ ghost use Rattle.iox2_pubsub.specs.Slices.{HoldsSlices};
 use crate::tests::fixtures::{
     assert_live, assert_ready, send_slice, slice_publisher, slice_subscriber,
 };
-use iox2_fixtures::settings;
+use iox2_fixtures::{Numbers, settings};
 use iox2_pubsub::Domain;
 use iox2_pubsub::slice::{Publisher, Sample, SampleMutUninit, Subscriber};
 use iox2_store::{ServiceConfig, TypeVariant};
@@ -23,7 +23,7 @@ fn without_cells() -> ServiceConfig {
 }
 
 // Asserts that messages are slices of elements of one unit.
-fn assert_held(rt: &impl Abort, domain: &Domain<u64, u64>)
+fn assert_held(rt: &impl Abort, domain: &Numbers)
     ensures holds { HoldsSlices domain.now }
     ensures dynamic { (domain.now.config).variant ≡ Dynamic }
     ensures one_unit { (domain.now.config).units_per_element ≡ 1 }
@@ -34,12 +34,7 @@ fn assert_held(rt: &impl Abort, domain: &Domain<u64, u64>)
 }
 
 // An unwritten loan of a slice of that length.
-fn lend(
-    rt: &impl Abort,
-    domain: &mut Domain<u64, u64>,
-    publisher: &Publisher,
-    len: usize,
-) -> SampleMutUninit
+fn lend(rt: &impl Abort, domain: &mut Numbers, publisher: &Publisher, len: usize) -> SampleMutUninit
     ensures loan { IsUnwritten domain.new result.sample }
     ensures holds { HoldsSlices domain.new }
 {
@@ -50,7 +45,7 @@ fn lend(
 }
 
 // Receives a slice, which waits.
-fn receive(rt: &impl Abort, domain: &mut Domain<u64, u64>, subscriber: &Subscriber) -> Sample
+fn receive(rt: &impl Abort, domain: &mut Numbers, subscriber: &Subscriber) -> Sample
     ensures sample { IsLiveSample domain.new result.sample }
     ensures holds { HoldsSlices domain.new }
 {
@@ -62,9 +57,7 @@ fn receive(rt: &impl Abort, domain: &mut Domain<u64, u64>, subscriber: &Subscrib
 
 #[test]
 fn slices_pass_where_no_cells_are_handed_out(rt: HostRuntime) {
-    let mut domain: Domain<u64, u64> = Domain::new(rt.alloc(), without_cells()).expect(
-        &rt, "a domain",
-    );
+    let mut domain: Numbers = Domain::new(rt.alloc(), without_cells()).expect(&rt, "a domain");
     let subscriber = slice_subscriber(&rt, &mut domain);
     let publisher = slice_publisher(&rt, &mut domain, 3);
     let loan = lend(&rt, &mut domain, &publisher, 3);

@@ -37,6 +37,13 @@ impl DegradationFn for Indifference {
     }
 }
 
+// What a degradation handler is told.
+const REFUSED: DegradationInfo = DegradationInfo {
+    service_id: 7,
+    sender_port_id: 2,
+    receiver_port_id: 1,
+};
+
 #[test]
 fn a_boxed_backpressure_handler_answers(rt: HostRuntime) {
     let patience = Patience { retries: 2 };
@@ -60,31 +67,21 @@ fn a_boxed_backpressure_handler_answers(rt: HostRuntime) {
 #[test]
 fn a_boxed_degradation_handler_answers(rt: HostRuntime) {
     let handler: Box<dyn DegradationFn> = Box::new(rt.alloc(), Indifference).expect(&rt, "memory");
-    let info = DegradationInfo {
-        service_id: 7,
-        sender_port_id: 2,
-        receiver_port_id: 1,
-    };
-    let answer = handler.call(DegradationCause::FailedToEstablishConnection, &info);
+    let answer = handler.call(DegradationCause::FailedToEstablishConnection, &REFUSED);
     drop(handler);
     assert!(rt; answer == DegradationAction::Ignore);
 }
 
 #[test]
 fn a_handler_of_refused_connections_answers(rt: HostRuntime) {
-    let info = DegradationInfo {
-        service_id: 7,
-        sender_port_id: 2,
-        receiver_port_id: 1,
-    };
     let strict = DegradationHandler::new_with(DegradationAction::DegradeAndFail);
-    let first = strict.call(DegradationCause::FailedToEstablishConnection, &info);
+    let first = strict.call(DegradationCause::FailedToEstablishConnection, &REFUSED);
     drop(strict);
     let box_of_it: Box<dyn DegradationFn> = Box::new(rt.alloc(), Indifference).expect(
         &rt, "memory",
     );
     let indifferent: DegradationHandler = DegradationHandler::Custom(box_of_it);
-    let second = indifferent.call(DegradationCause::FailedToEstablishConnection, &info);
+    let second = indifferent.call(DegradationCause::FailedToEstablishConnection, &REFUSED);
     drop(indifferent);
     assert!(rt; first == DegradationAction::DegradeAndFail);
     assert!(rt; second == DegradationAction::Ignore);

@@ -8,7 +8,7 @@ use crate::tests::fixtures::{
     assert_live, assert_ready, assert_single_valued, close_publisher, domain, next_reading,
     publisher_of, subscriber_of, waits,
 };
-use iox2_fixtures::{Reading, Station, receiver_count, settings};
+use iox2_fixtures::{Reading, Weather, receiver_count, settings, smallest};
 use iox2_pubsub::{
     BackpressureAction, BackpressureHandler, Domain, Publisher, Subscriber, UpdateConnections,
 };
@@ -62,7 +62,7 @@ fn a_connection_is_named_by_its_subscribers_place(rt: HostRuntime) {
 }
 
 // A domain with two subscribers.
-fn domain_for_two(rt: &impl Abort, alloc: Global) -> Domain<Reading, Station> {
+fn domain_for_two(rt: &impl Abort, alloc: Global) -> Weather {
     let config = ServiceConfig {
         max_subscribers: 2,
         ..settings()
@@ -71,12 +71,7 @@ fn domain_for_two(rt: &impl Abort, alloc: Global) -> Domain<Reading, Station> {
 }
 
 // Sends a copy. Returns how many subscribers took it.
-fn copied(
-    rt: &impl Abort,
-    domain: &mut Domain<Reading, Station>,
-    publisher: &Publisher,
-    celsius: u64,
-) -> usize {
+fn copied(rt: &impl Abort, domain: &mut Weather, publisher: &Publisher, celsius: u64) -> usize {
     assert_single_valued(rt, domain);
     assert_ready(rt, domain, publisher);
     let outcome = publisher
@@ -86,7 +81,7 @@ fn copied(
 }
 
 // Updates the publisher's connections.
-fn update(rt: &impl Abort, domain: &mut Domain<Reading, Station>, publisher: &Publisher) {
+fn update(rt: &impl Abort, domain: &mut Weather, publisher: &Publisher) {
     assert_ready(rt, domain, publisher);
     let updated = publisher.update_connections(domain);
     assert!(rt; updated.is_ok());
@@ -94,56 +89,31 @@ fn update(rt: &impl Abort, domain: &mut Domain<Reading, Station>, publisher: &Pu
 
 // Whether the channel was closed at each of the subscriber's connections. Where it was, it has the
 // state afterwards.
-fn set(
-    rt: &impl Abort,
-    domain: &mut Domain<Reading, Station>,
-    subscriber: &Subscriber,
-    state: u64,
-) -> bool {
+fn set(rt: &impl Abort, domain: &mut Weather, subscriber: &Subscriber, state: u64) -> bool {
     assert_live(rt, domain, subscriber);
     subscriber.set_channel_state(domain, 0, state)
 }
 
 // Closes the subscriber's channels that are in the state.
-fn close(
-    rt: &impl Abort,
-    domain: &mut Domain<Reading, Station>,
-    subscriber: &Subscriber,
-    expected: u64,
-) {
+fn close(rt: &impl Abort, domain: &mut Weather, subscriber: &Subscriber, expected: u64) {
     assert_live(rt, domain, subscriber);
     subscriber.close_channel(domain, 0, expected);
 }
 
 // Hints a disconnect in the subscriber's channels that are in the state.
-fn hint(
-    rt: &impl Abort,
-    domain: &mut Domain<Reading, Station>,
-    subscriber: &Subscriber,
-    expected: u64,
-) {
+fn hint(rt: &impl Abort, domain: &mut Weather, subscriber: &Subscriber, expected: u64) {
     assert_live(rt, domain, subscriber);
     subscriber.set_disconnect_hint(domain, 0, expected);
 }
 
 // Whether one of the subscriber's channels is in the state.
-fn is_any(
-    rt: &impl Abort,
-    domain: &Domain<Reading, Station>,
-    subscriber: &Subscriber,
-    state: u64,
-) -> bool {
+fn is_any(rt: &impl Abort, domain: &Weather, subscriber: &Subscriber, state: u64) -> bool {
     assert_live(rt, domain, subscriber);
     subscriber.at_least_one_channel_has_state(domain, 0, state)
 }
 
 // Whether the publisher's first channel is in the state, and whether it has a hint too.
-fn is_first(
-    rt: &impl Abort,
-    domain: &Domain<Reading, Station>,
-    publisher: &Publisher,
-    state: u64,
-) -> [bool; 2] {
+fn is_first(rt: &impl Abort, domain: &Weather, publisher: &Publisher, state: u64) -> [bool; 2] {
     assert_ready(rt, domain, publisher);
     [
         publisher.has_channel_state(domain, 0, 0, state),
@@ -154,16 +124,11 @@ fn is_first(
 #[test]
 fn a_closed_channel_takes_no_message(rt: HostRuntime) {
     let config = ServiceConfig {
-        subscriber_max_buffer_size: 1,
-        subscriber_max_borrowed_samples: 1,
-        history_size: 0,
         number_of_channels: 2,
         publisher_max_loaned_samples: 2,
-        ..settings()
+        ..smallest()
     };
-    let mut domain: Domain<Reading, Station> = Domain::new(rt.alloc(), config).expect(
-        &rt, "a domain",
-    );
+    let mut domain: Weather = Domain::new(rt.alloc(), config).expect(&rt, "a domain");
     let subscriber = subscriber_of(&rt, &mut domain);
     let publisher = publisher_of(&rt, &mut domain);
     let places = [
@@ -215,19 +180,14 @@ fn a_closed_channel_takes_no_message(rt: HostRuntime) {
 }
 
 // Asserts that the connections of the domain have the channel.
-fn assert_has_channel(rt: &impl Abort, domain: &Domain<Reading, Station>, channel: usize)
+fn assert_has_channel(rt: &impl Abort, domain: &Weather, channel: usize)
     ensures { channel < channel_count domain.now.config }
 {
     assert!(rt; channel < domain.config().number_of_channels.max(1));
 }
 
 // The number of each of three channels that is in the state at the publisher's first connection.
-fn all_first(
-    rt: &impl Abort,
-    domain: &Domain<Reading, Station>,
-    publisher: &Publisher,
-    state: u64,
-) -> [bool; 3] {
+fn all_first(rt: &impl Abort, domain: &Weather, publisher: &Publisher, state: u64) -> [bool; 3] {
     assert_ready(rt, domain, publisher);
     assert_has_channel(rt, domain, 2);
     [
@@ -240,7 +200,7 @@ fn all_first(
 // Closes a channel at the subscriber's connections that are in the state there.
 fn close_further(
     rt: &impl Abort,
-    domain: &mut Domain<Reading, Station>,
+    domain: &mut Weather,
     subscriber: &Subscriber,
     channel: usize,
     expected: u64,
@@ -257,9 +217,7 @@ fn a_further_channel_has_a_state_of_its_own(rt: HostRuntime) {
         number_of_channels: 3,
         ..settings()
     };
-    let mut domain: Domain<Reading, Station> = Domain::new(rt.alloc(), config).expect(
-        &rt, "a domain",
-    );
+    let mut domain: Weather = Domain::new(rt.alloc(), config).expect(&rt, "a domain");
     let subscriber = subscriber_of(&rt, &mut domain);
     let publisher = publisher_of(&rt, &mut domain);
     assert_live(&rt, &domain, &subscriber);
@@ -343,9 +301,7 @@ fn a_closed_channel_gets_no_history(rt: HostRuntime) {
         history_size: 1,
         ..settings()
     };
-    let mut domain: Domain<Reading, Station> = Domain::new(rt.alloc(), config).expect(
-        &rt, "a domain",
-    );
+    let mut domain: Weather = Domain::new(rt.alloc(), config).expect(&rt, "a domain");
     let publisher = publisher_of(&rt, &mut domain);
     let sent = copied(&rt, &mut domain, &publisher, 1);
     let first = subscriber_of(&rt, &mut domain);

@@ -1,7 +1,8 @@
 //! Values that are lent or sent at once.
 use crate::tests::fixtures::{assert_single_valued, publisher_of, receive, send, subscriber_of};
 use iox2_fixtures::{
-    Costly, Reading, Station, costly_time, factory_for, micros_since, receiver_count, settings,
+    Costly, Reading, Station, Weather, costly_time, factory_for, micros_since, receiver_count,
+    settings,
 };
 use iox2_pubsub::{Domain, LoanError, SendError};
 use iox2_store::ServiceConfig;
@@ -13,9 +14,7 @@ fn a_value_is_sent_and_received(rt: HostRuntime) {
         node_id: 9,
         ..settings()
     };
-    let mut domain: Domain<Reading, Station> = Domain::new(rt.alloc(), config).expect(
-        &rt, "a domain",
-    );
+    let mut domain: Weather = Domain::new(rt.alloc(), config).expect(&rt, "a domain");
     let subscriber = subscriber_of(&rt, &mut domain);
     let publisher = publisher_of(&rt, &mut domain);
     let ids = [subscriber.id().value(), publisher.id().value()];

@@ -4,7 +4,7 @@ ghost use Rattle.iox2_store.specs.declared.backpressure.BackpressureAction.TheVa
 ghost use Rattle.iox2_store.specs.declared.degradation.DegradationAction.TheVariants.{DegradeAndFail};
 
 use crate::tests::fixtures::domain;
-use iox2_fixtures::{Reading, Station, next_reading, receiver_count, settings};
+use iox2_fixtures::{Reading, Station, Weather, next_reading, receiver_count, settings};
 use iox2_pubsub::{
     BackpressureAction, BackpressureFn, BackpressureHandler, BackpressureInfo, DegradationAction,
     DegradationCause, DegradationFn, DegradationHandler, DegradationInfo, Domain,
@@ -115,9 +115,7 @@ fn a_box_is_told_which_port_sends(rt: HostRuntime) {
         subscriber_max_buffer_size: 1 << 60,
         ..settings()
     };
-    let mut domain: Domain<Reading, Station> = Domain::new(rt.alloc(), config).expect(
-        &rt, "a domain",
-    );
+    let mut domain: Weather = Domain::new(rt.alloc(), config).expect(&rt, "a domain");
     let in_order: Box<dyn DegradationFn> = Box::new(rt.alloc(), InOrder).expect(&rt, "memory");
     let factory = domain
         .publisher_builder()

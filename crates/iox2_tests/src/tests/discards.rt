@@ -1,8 +1,8 @@
 ghost use Rattle.iox2_pubsub.specs.Live.{IsLivePublisher, IsSingleValued, Stays};
 
 use crate::tests::fixtures::{domain, lend, subscriber_of};
-use iox2_fixtures::{Reading, Station, factory_for, publish};
-use iox2_pubsub::{Domain, Publisher};
+use iox2_fixtures::{Reading, Weather, factory_for, publish};
+use iox2_pubsub::Publisher;
 
 #[test]
 fn an_unwritten_loan_is_given_back(rt: HostRuntime) {
@@ -30,11 +30,7 @@ fn a_written_loan_is_given_back(rt: HostRuntime) {
 }
 
 // Lends and gives back as often as this; says how often a loan was granted.
-fn lend_and_discard(
-    domain: &mut Domain<Reading, Station>,
-    publisher: &Publisher,
-    rounds: u8,
-) -> usize
+fn lend_and_discard(domain: &mut Weather, publisher: &Publisher, rounds: u8) -> usize
     requires single_valued { IsSingleValued domain.old }
     requires publisher { IsLivePublisher domain.old publisher.now }
     ensures { Stays domain.old domain.new }

@@ -1,14 +1,14 @@
 ghost use Rattle.iox2_pubsub.specs.Slices.{IsSliced};
 
 use crate::tests::fixtures::{publisher_of, subscriber_of};
-use iox2_fixtures::{Reading, Station, settings};
+use iox2_fixtures::{Weather, settings};
 use iox2_pubsub::{Domain, UpdateConnections};
 use iox2_store::{ServiceConfig, TypeVariant};
 use std::alloc::Global;
 use std::process::Abort;
 
 // A domain for slices.
-fn sliced_domain(rt: &impl Abort, alloc: Global) -> Domain<Reading, Station>
+fn sliced_domain(rt: &impl Abort, alloc: Global) -> Weather
     ensures { IsSliced result }
 {
     let config = ServiceConfig {
@@ -27,7 +27,7 @@ fn a_new_domain_has_its_settings(rt: HostRuntime) {
             node_id,
             ..settings()
         };
-        let made: Result<Domain<Reading, Station>, _> = Domain::new(rt.alloc(), config);
+        let made: Result<Weather, _> = Domain::new(rt.alloc(), config);
         let domain = made.expect(&rt, "a domain");
         let is_alike = *domain.config() == config;
         let variant = domain.variant();

@@ -5,14 +5,14 @@
 
 ghost use Rattle.iox2_pubsub.specs.Live.{IsLivePublisher, IsLiveSample, IsLiveSubscriber, IsReadyPublisher, IsSingleValued, IsUnwrittenLoan, IsWritten, Stays};
 
-use iox2_fixtures::{Reading, Station, factory_for, receiver_count, settings};
+use iox2_fixtures::{Reading, Weather, factory_for, receiver_count, settings};
 use iox2_pubsub::{Domain, Publisher, Sample, SampleMut, SampleMutUninit, Subscriber};
 use iox2_store::TypeVariant;
 use std::alloc::Global;
 use std::process::Abort;
 
 /// A domain with one publisher and one subscriber, without overflow.
-pub(crate) fn domain(rt: &impl Abort, alloc: Global) -> Domain<Reading, Station>
+pub(crate) fn domain(rt: &impl Abort, alloc: Global) -> Weather
     ensures { IsSingleValued result }
 {
     Domain::new(alloc, settings()).expect(rt, "a domain")
@@ -43,7 +43,7 @@ pub(crate) fn subscriber_of<T: Drop, U: Default + Drop>(
 }
 
 /// A loan of the domain's first publisher, which is made for it.
-pub(crate) fn lend(rt: &impl Abort, domain: &mut Domain<Reading, Station>) -> SampleMutUninit
+pub(crate) fn lend(rt: &impl Abort, domain: &mut Weather) -> SampleMutUninit
     requires { IsSingleValued domain.old }
     ensures loan { IsUnwrittenLoan domain.new result }
     ensures stays { Stays domain.old domain.new }
@@ -93,7 +93,7 @@ pub(crate) fn assert_live<T: Drop, U: Default + Drop>(
 }
 
 /// Asserts that the sample is one of the domain's.
-pub(crate) fn assert_borrowed(rt: &impl Abort, domain: &Domain<Reading, Station>, sample: &Sample)
+pub(crate) fn assert_borrowed(rt: &impl Abort, domain: &Weather, sample: &Sample)
     ensures { IsLiveSample domain.now sample.now }
 {
     assert!(rt; domain.holds_sample(sample.key()));
@@ -130,7 +130,7 @@ pub(crate) fn receive<T: Drop, U: Default + Drop>(
 /// Lends, writes and sends a message. Returns how many subscribers took it.
 pub(crate) fn sent(
     rt: &impl Abort,
-    domain: &mut Domain<Reading, Station>,
+    domain: &mut Weather,
     publisher: &Publisher,
     celsius: u64,
 ) -> usize {
@@ -144,7 +144,7 @@ pub(crate) fn sent(
 /// What the subscriber receives next, which it borrows.
 pub(crate) fn received(
     rt: &impl Abort,
-    domain: &mut Domain<Reading, Station>,
+    domain: &mut Weather,
     subscriber: &Subscriber,
 ) -> Option<Sample> {
     assert_live(rt, domain, subscriber);
@@ -152,28 +152,20 @@ pub(crate) fn received(
 }
 
 /// Whether messages wait for the subscriber.
-pub(crate) fn waits(
-    rt: &impl Abort,
-    domain: &mut Domain<Reading, Station>,
-    subscriber: &Subscriber,
-) -> bool {
+pub(crate) fn waits(rt: &impl Abort, domain: &mut Weather, subscriber: &Subscriber) -> bool {
     assert_live(rt, domain, subscriber);
     subscriber.has_samples(domain).expect(rt, "an answer")
 }
 
 /// What the sample reads.
-pub(crate) fn celsius_of(
-    rt: &impl Abort,
-    domain: &Domain<Reading, Station>,
-    sample: &Sample,
-) -> u64 {
+pub(crate) fn celsius_of(rt: &impl Abort, domain: &Weather, sample: &Sample) -> u64 {
     assert_single_valued(rt, domain);
     assert_borrowed(rt, domain, sample);
     sample.payload(domain).celsius
 }
 
 /// Gives a sample back.
-pub(crate) fn release(rt: &impl Abort, domain: &mut Domain<Reading, Station>, sample: Sample) {
+pub(crate) fn release(rt: &impl Abort, domain: &mut Weather, sample: Sample) {
     assert_borrowed(rt, domain, &sample);
     sample.release(domain);
 }
@@ -181,7 +173,7 @@ pub(crate) fn release(rt: &impl Abort, domain: &mut Domain<Reading, Station>, sa
 /// Reads and releases what the subscriber receives next. `None` where no message waits.
 pub(crate) fn next_reading(
     rt: &impl Abort,
-    domain: &mut Domain<Reading, Station>,
+    domain: &mut Weather,
     subscriber: &Subscriber,
 ) -> Option<u64> {
     let sample = received(rt, domain, subscriber)?;
@@ -191,21 +183,13 @@ pub(crate) fn next_reading(
 }
 
 /// Closes a publisher.
-pub(crate) fn close_publisher(
-    rt: &impl Abort,
-    domain: &mut Domain<Reading, Station>,
-    publisher: Publisher,
-) {
+pub(crate) fn close_publisher(rt: &impl Abort, domain: &mut Weather, publisher: Publisher) {
     assert_ready(rt, domain, &publisher);
     publisher.close(domain);
 }
 
 /// Closes a subscriber.
-pub(crate) fn close_subscriber(
-    rt: &impl Abort,
-    domain: &mut Domain<Reading, Station>,
-    subscriber: Subscriber,
-) {
+pub(crate) fn close_subscriber(rt: &impl Abort, domain: &mut Weather, subscriber: Subscriber) {
     assert_live(rt, domain, &subscriber);
     subscriber.close(domain);
 }

@@ -4,15 +4,15 @@ use crate::tests::fixtures::{
     celsius_of, close_publisher, close_subscriber, domain, next_reading, received, release, sent,
     subscriber_of,
 };
-use iox2_fixtures::{Reading, Station, factory_for};
-use iox2_pubsub::{Domain, Publisher};
+use iox2_fixtures::{Weather, factory_for};
+use iox2_pubsub::Publisher;
 use iox2_store::AllocationStrategy;
 use std::process::Abort;
 
 // A publisher with so many loans and slots of one message each time.
 fn growing(
     rt: &impl Abort,
-    domain: &mut Domain<Reading, Station>,
+    domain: &mut Weather,
     loans: usize,
     strategy: AllocationStrategy,
 ) -> Publisher {

@@ -4,7 +4,7 @@ ghost use Rattle.iox2_pubsub.specs.Live.{IsSingleValued, IsUnwritten, IsWritten}
 use crate::tests::fixtures::{
     assert_ready, assert_single_valued, publisher_of, receive, send, subscriber_of,
 };
-use iox2_fixtures::{Reading, Station, factory_for, settings};
+use iox2_fixtures::{Reading, Station, Weather, factory_for, settings};
 use iox2_pubsub::{Domain, Publisher, SampleMut, SampleMutUninit};
 use iox2_store::ServiceConfig;
 use std::process::Abort;
@@ -99,11 +99,7 @@ fn what_is_left_in_a_loan_is_sent(rt: HostRuntime) {
 }
 
 // A loan of the publisher.
-fn lend(
-    rt: &impl Abort,
-    domain: &mut Domain<Reading, Station>,
-    publisher: &Publisher,
-) -> SampleMutUninit
+fn lend(rt: &impl Abort, domain: &mut Weather, publisher: &Publisher) -> SampleMutUninit
     ensures loan { IsUnwritten domain.new result }
     ensures single_valued { IsSingleValued domain.new }
 {
@@ -114,10 +110,7 @@ fn lend(
 
 // Sets the loan's station to 5 and its cell, writes 21 into it, and gives it back. Returns the number of
 // its station before it is written, and what is read of it then.
-fn write_and_discard(
-    domain: &mut Domain<Reading, Station>,
-    loan: SampleMutUninit,
-) -> (u32, [u64; 2])
+fn write_and_discard(domain: &mut Weather, loan: SampleMutUninit) -> (u32, [u64; 2])
     requires single_valued { IsSingleValued domain.old }
     requires loan { IsUnwritten domain.old loan }
 {
@@ -141,9 +134,7 @@ fn a_loan_begins_without_payload_and_with_a_default_header(rt: HostRuntime) {
         max_subscribers: 0,
         ..settings()
     };
-    let mut domain: Domain<Reading, Station> = Domain::new(rt.alloc(), config).expect(
-        &rt, "a domain",
-    );
+    let mut domain: Weather = Domain::new(rt.alloc(), config).expect(&rt, "a domain");
     let factory = factory_for(&domain).max_loaned_samples(1);
     let publisher = factory.create(&mut domain).expect(&rt, "a publisher");
     let first = lend(&rt, &mut domain, &publisher);

@@ -1,8 +1,8 @@
 ghost use Rattle.iox2_pubsub.specs.Live.{IsLivePublisher, IsSingleValued, Stays};
 
 use crate::tests::fixtures::{domain, lend};
-use iox2_fixtures::{Reading, Station, factory_for};
-use iox2_pubsub::{Domain, Publisher};
+use iox2_fixtures::{Weather, factory_for};
+use iox2_pubsub::Publisher;
 use iox2_store::{Key, LoanError};
 
 const FIRST: Key = Key {
@@ -12,7 +12,7 @@ const FIRST: Key = Key {
 };
 
 // The key of a loan that stays out.
-fn lent(domain: &mut Domain<Reading, Station>, publisher: &Publisher) -> Result<Key, LoanError>
+fn lent(domain: &mut Weather, publisher: &Publisher) -> Result<Key, LoanError>
     requires single_valued { IsSingleValued domain.old }
     requires publisher { IsLivePublisher domain.old publisher.now }
     ensures { Stays domain.old domain.new }

@@ -1,7 +1,7 @@
 //! How many slots a publisher has, by what an override answers.
 
 use crate::tests::fixtures::{assert_ready, assert_single_valued, domain, receive, subscriber_of};
-use iox2_fixtures::{Reading, Station, factory_for, receiver_count, settings};
+use iox2_fixtures::{Reading, Weather, factory_for, receiver_count, settings};
 use iox2_pubsub::{Domain, PortFactoryPublisher, Publisher, Subscriber};
 use iox2_store::{LoanError, PublisherCreateError, SendError, ServiceConfig};
 use std::alloc::Global;
@@ -20,7 +20,7 @@ fn eight_slots() -> ServiceConfig {
 }
 
 // Whether a message of the publisher finds a slot.
-fn is_sent(rt: &impl Abort, domain: &mut Domain<Reading, Station>, publisher: &Publisher) -> bool {
+fn is_sent(rt: &impl Abort, domain: &mut Weather, publisher: &Publisher) -> bool {
     assert_single_valued(rt, domain);
     assert_ready(rt, domain, publisher);
     match publisher.send_copy(domain, Reading { celsius: 1 }) {
@@ -36,7 +36,7 @@ fn is_sent(rt: &impl Abort, domain: &mut Domain<Reading, Station>, publisher: &P
 }
 
 // Whether a loan of the publisher, which stays out, finds a slot.
-fn is_lent(rt: &impl Abort, domain: &mut Domain<Reading, Station>, publisher: &Publisher) -> bool {
+fn is_lent(rt: &impl Abort, domain: &mut Weather, publisher: &Publisher) -> bool {
     assert_single_valued(rt, domain);
     assert_ready(rt, domain, publisher);
     match publisher.loan_uninit(domain) {
@@ -55,7 +55,7 @@ fn is_lent(rt: &impl Abort, domain: &mut Domain<Reading, Station>, publisher: &P
 // borrowed, three that wait, one that is kept alone, and two loans.
 fn found(
     rt: &impl Abort,
-    domain: &mut Domain<Reading, Station>,
+    domain: &mut Weather,
     publisher: &Publisher,
     subscriber: &Subscriber,
 ) -> usize {
@@ -76,11 +76,7 @@ fn found(
 }
 
 // How many slots a publisher of this factory has, in a domain of a subscriber.
-fn slots_of(
-    rt: &impl Abort,
-    domain: &mut Domain<Reading, Station>,
-    factory: PortFactoryPublisher,
-) -> usize {
+fn slots_of(rt: &impl Abort, domain: &mut Weather, factory: PortFactoryPublisher) -> usize {
     let subscriber = subscriber_of(rt, domain);
     let publisher = factory.create(domain).expect(rt, "a publisher");
     let slots = found(rt, domain, &publisher, &subscriber);
@@ -91,9 +87,7 @@ fn slots_of(
 
 // How many slots a publisher has whose override is given eight and answers so.
 fn slots_for(rt: &impl Abort, alloc: Global, answer: usize) -> usize {
-    let mut domain: Domain<Reading, Station> = Domain::new(alloc, eight_slots()).expect(
-        rt, "a domain",
-    );
+    let mut domain: Weather = Domain::new(alloc, eight_slots()).expect(rt, "a domain");
     let subscriber = subscriber_of(rt, &mut domain);
     let factory = factory_for(&domain)
         .max_loaned_samples(2)
@@ -119,9 +113,7 @@ fn a_publisher_has_as_many_slots_as_its_override_says(rt: HostRuntime) {
 
 #[test]
 fn a_partial_clone_has_no_override(rt: HostRuntime) {
-    let mut domain: Domain<Reading, Station> = Domain::new(rt.alloc(), eight_slots()).expect(
-        &rt, "a domain",
-    );
+    let mut domain: Weather = Domain::new(rt.alloc(), eight_slots()).expect(&rt, "a domain");
     let factory = factory_for(&domain)
         .max_loaned_samples(2)
         .override_sample_preallocation(|_| 1);
@@ -153,9 +145,7 @@ fn lent_without_slots(rt: &impl Abort, alloc: Global, answer: usize) -> Result<(
         max_subscribers: 0,
         ..settings()
     };
-    let mut domain: Domain<Reading, Station> = Domain::new(alloc, no_subscribers).expect(
-        rt, "a domain",
-    );
+    let mut domain: Weather = Domain::new(alloc, no_subscribers).expect(rt, "a domain");
     let factory = factory_for(&domain)
         .max_loaned_samples(0)
         .override_sample_preallocation(move |_| answer);

@@ -4,14 +4,14 @@ ghost use Rattle.std.specs.Prelude.{◌≡◌};
 use crate::tests::fixtures::{
     assert_single_valued, celsius_of, domain, publisher_of, received, release, sent, subscriber_of,
 };
-use iox2_fixtures::{Reading, Station, factory_for, settings};
+use iox2_fixtures::{Reading, Weather, factory_for, settings};
 use iox2_pubsub::{Domain, LoanParts, PublisherParts, SampleParts, SubscriberParts};
 use iox2_store::ServiceConfig;
 use std::alloc::Global;
 use std::process::Abort;
 
 // A domain with other keys.
-fn elsewhere(rt: &impl Abort, alloc: Global) -> Domain<Reading, Station> {
+fn elsewhere(rt: &impl Abort, alloc: Global) -> Weather {
     let config = ServiceConfig {
         service_id: 8,
         ..settings()
@@ -20,7 +20,7 @@ fn elsewhere(rt: &impl Abort, alloc: Global) -> Domain<Reading, Station> {
 }
 
 // Whether a publisher with the numbers stands in the domain.
-fn has_publisher(domain: &Domain<Reading, Station>, parts: &PublisherParts) -> bool {
+fn has_publisher(domain: &Weather, parts: &PublisherParts) -> bool {
     match domain.publisher_of(parts) {
         Some(publisher) => {
             publisher.disown();
@@ -31,7 +31,7 @@ fn has_publisher(domain: &Domain<Reading, Station>, parts: &PublisherParts) -> b
 }
 
 // Closes the publisher with the numbers.
-fn close_publisher(rt: &impl Abort, domain: &mut Domain<Reading, Station>, parts: &PublisherParts) {
+fn close_publisher(rt: &impl Abort, domain: &mut Weather, parts: &PublisherParts) {
     let publisher = domain.publisher_of(parts).expect(rt, "a publisher");
     assert!(rt; !publisher.is_blocked(domain));
     publisher.close(domain);
@@ -62,7 +62,7 @@ fn a_publisher_is_had_again_until_it_is_closed(rt: HostRuntime) {
 }
 
 // Whether a subscriber with the numbers stands in the domain.
-fn has_subscriber(domain: &Domain<Reading, Station>, parts: &SubscriberParts) -> bool {
+fn has_subscriber(domain: &Weather, parts: &SubscriberParts) -> bool {
     match domain.subscriber_of(parts) {
         Some(subscriber) => {
             subscriber.disown();
@@ -97,7 +97,7 @@ fn a_subscriber_is_had_again_until_it_is_closed(rt: HostRuntime) {
 }
 
 // Whether a loan with the numbers is out, and whether it is written.
-fn marks_of(domain: &Domain<Reading, Station>, parts: &LoanParts) -> [bool; 2] {
+fn marks_of(domain: &Weather, parts: &LoanParts) -> [bool; 2] {
     let is_unwritten = match domain.unwritten_of(parts) {
         Some(loan) => {
             loan.disown();
@@ -116,7 +116,7 @@ fn marks_of(domain: &Domain<Reading, Station>, parts: &LoanParts) -> [bool; 2] {
 }
 
 // The numbers of a new loan.
-fn lent(rt: &impl Abort, domain: &mut Domain<Reading, Station>) -> LoanParts {
+fn lent(rt: &impl Abort, domain: &mut Weather) -> LoanParts {
     assert_single_valued(rt, domain);
     let factory = factory_for(domain);
     let publisher = factory.create(domain).expect(rt, "a publisher");
@@ -126,7 +126,7 @@ fn lent(rt: &impl Abort, domain: &mut Domain<Reading, Station>) -> LoanParts {
 }
 
 // Writes the loan with the numbers.
-fn write(rt: &impl Abort, domain: &mut Domain<Reading, Station>, parts: &LoanParts) -> LoanParts {
+fn write(rt: &impl Abort, domain: &mut Weather, parts: &LoanParts) -> LoanParts {
     assert_single_valued(rt, domain);
     let loan = domain.unwritten_of(parts).expect(rt, "a loan");
     let written = loan.write_payload(domain, Reading { celsius: 21 });
@@ -158,7 +158,7 @@ fn a_loan_is_had_again_by_its_mark_until_it_is_given_back(rt: HostRuntime) {
 }
 
 // Whether the sample with the numbers is borrowed.
-fn has_sample(domain: &Domain<Reading, Station>, parts: &SampleParts) -> bool {
+fn has_sample(domain: &Weather, parts: &SampleParts) -> bool {
     match domain.sample_of(parts) {
         Some(sample) => {
             sample.disown();
@@ -169,7 +169,7 @@ fn has_sample(domain: &Domain<Reading, Station>, parts: &SampleParts) -> bool {
 }
 
 // Whether the sample with the numbers lies there, and was borrowed last.
-fn has_sample_at_hint(domain: &mut Domain<Reading, Station>, parts: &SampleParts) -> bool
+fn has_sample_at_hint(domain: &mut Weather, parts: &SampleParts) -> bool
     ensures { domain.new ≡ domain.old }
 {
     match domain.sample_at_hint(parts) {

@@ -2,11 +2,11 @@ ghost use Rattle.std.specs.Prelude.{◌≡◌, ℕ, [], ◌∷◌};
 ghost use Rattle.iox2_pubsub.specs.Live.{IsLiveSample, IsLiveSubscriber, IsSingleValued, IsUnwrittenLoan, StaysBut, Stays, unwritten_loan};
 
 use crate::tests::fixtures::{domain, lend, publisher_of, subscriber_of};
-use iox2_fixtures::{Reading, Station, publish};
-use iox2_pubsub::{Domain, Sample, SampleMutUninit, Subscriber};
+use iox2_fixtures::{Reading, Weather, publish};
+use iox2_pubsub::{Sample, SampleMutUninit, Subscriber};
 
 // Writes into the loan, and returns what is read of it then: what was written.
-fn written_back(domain: &mut Domain<Reading, Station>, loan: SampleMutUninit, celsius: u64) -> u64
+fn written_back(domain: &mut Weather, loan: SampleMutUninit, celsius: u64) -> u64
     requires single_valued { IsSingleValued domain.old }
     requires loan { IsUnwrittenLoan domain.old loan }
     ensures written { result ≡ celsius }
@@ -20,11 +20,7 @@ fn written_back(domain: &mut Domain<Reading, Station>, loan: SampleMutUninit, ce
 }
 
 // What is read of the sample before and after another receive: the same.
-fn read_around_a_receive(
-    domain: &mut Domain<Reading, Station>,
-    subscriber: &Subscriber,
-    sample: &Sample,
-) -> [u64; 2]
+fn read_around_a_receive(domain: &mut Weather, subscriber: &Subscriber, sample: &Sample) -> [u64; 2]
     requires single_valued { IsSingleValued domain.old }
     requires subscriber { IsLiveSubscriber domain.old subscriber.now }
     requires sample { IsLiveSample domain.old sample.now }

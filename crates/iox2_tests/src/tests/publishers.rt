@@ -1,12 +1,12 @@
 use crate::tests::fixtures::{close_publisher, domain, publisher_of, subscriber_of};
-use iox2_fixtures::{Reading, Station, factory_for, settings};
+use iox2_fixtures::{Weather, factory_for, settings};
 use iox2_pubsub::Domain;
 use iox2_store::{Key, PublisherCreateError, ServiceConfig};
 use std::alloc::Global;
 use std::process::Abort;
 
 // Why a publisher with so many loans isn't made.
-fn refusal(domain: &mut Domain<Reading, Station>, loans: usize) -> Option<PublisherCreateError> {
+fn refusal(domain: &mut Weather, loans: usize) -> Option<PublisherCreateError> {
     let factory = factory_for(domain).max_loaned_samples(loans);
     match factory.create(domain) {
         Ok(publisher) => {
@@ -40,7 +40,7 @@ fn a_publisher_is_made_and_a_second_is_refused(rt: HostRuntime) {
 }
 
 // A domain of the same service with two publishers.
-fn domain_of_two(rt: &impl Abort, alloc: Global) -> Domain<Reading, Station> {
+fn domain_of_two(rt: &impl Abort, alloc: Global) -> Weather {
     let config = ServiceConfig {
         max_publishers: 2,
         ..settings()

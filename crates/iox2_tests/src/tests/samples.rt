@@ -1,13 +1,13 @@
 use crate::tests::fixtures::{
     assert_borrowed, celsius_of, domain, publisher_of, received, release, sent, subscriber_of,
 };
-use iox2_fixtures::{Reading, Station, settings};
+use iox2_fixtures::{Reading, Station, Weather, settings};
 use iox2_pubsub::{Domain, Sample, Subscriber};
 use iox2_store::{Header, ServiceConfig};
 use std::process::Abort;
 
 // A subscriber for which a message waits.
-fn subscribed(rt: &impl Abort, domain: &mut Domain<Reading, Station>) -> Subscriber {
+fn subscribed(rt: &impl Abort, domain: &mut Weather) -> Subscriber {
     let subscriber = subscriber_of(rt, domain);
     let publisher = publisher_of(rt, domain);
     sent(rt, domain, &publisher, 21);
@@ -16,7 +16,7 @@ fn subscribed(rt: &impl Abort, domain: &mut Domain<Reading, Station>) -> Subscri
 }
 
 // The sample's header.
-fn header_of(rt: &impl Abort, domain: &Domain<Reading, Station>, sample: &Sample) -> Header {
+fn header_of(rt: &impl Abort, domain: &Weather, sample: &Sample) -> Header {
     assert_borrowed(rt, domain, sample);
     *sample.header(domain)
 }
@@ -39,7 +39,7 @@ fn a_sent_message_is_received_and_read(rt: HostRuntime) {
 }
 
 // Releases a sample of which nothing is known, where it is live in the domain.
-fn release_if_live(domain: &mut Domain<Reading, Station>, sample: Sample) -> bool {
+fn release_if_live(domain: &mut Weather, sample: Sample) -> bool {
     if !domain.holds_sample(sample.key()) {
         sample.disown();
         return false;

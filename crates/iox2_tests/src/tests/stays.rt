@@ -3,14 +3,14 @@ ghost use Rattle.std.specs.Prelude.{◌≡◌, true};
 ghost use Rattle.iox2_pubsub.specs.Live.{HasLender, IsLivePublisher, IsLiveSample, IsLiveSubscriber, IsSingleValued, IsUnwrittenLoan, Stays, StaysBut, unwritten_key, unwritten_loan};
 
 use crate::tests::fixtures::{domain, publisher_of, subscriber_of};
-use iox2_fixtures::{Reading, Station, factory_for, publish};
+use iox2_fixtures::{Reading, Weather, factory_for, publish};
 use iox2_pubsub::{
     ConnectionFailure, Domain, Publisher, Sample, SampleMutUninit, ServiceConfig, Subscriber,
     UpdateConnections,
 };
 
 // Sends what a publisher lent that is there, which isn't refused.
-fn send_lent(domain: &mut Domain<Reading, Station>, loan: SampleMutUninit, celsius: u64) -> usize
+fn send_lent(domain: &mut Weather, loan: SampleMutUninit, celsius: u64) -> usize
     requires single_valued { IsSingleValued domain.old }
     requires loan { IsUnwrittenLoan domain.old loan }
     requires lent { HasLender domain.old (unwritten_key loan) }
@@ -24,7 +24,7 @@ fn send_lent(domain: &mut Domain<Reading, Station>, loan: SampleMutUninit, celsi
 }
 
 // Makes a publisher, which sends one message and is closed. All that was there stays.
-fn send_once(domain: &mut Domain<Reading, Station>, celsius: u64) -> Option<usize>
+fn send_once(domain: &mut Weather, celsius: u64) -> Option<usize>
     requires { IsSingleValued domain.old }
     ensures { Stays domain.old domain.new }
 {
@@ -53,7 +53,7 @@ fn a_publisher_comes_sends_and_goes(rt: HostRuntime) {
 }
 
 // Sends in a service that overflows, by a publisher of any strategy, and has no case for a blocked send.
-fn send_overflowing(domain: &mut Domain<Reading, Station>, celsius: u64) -> Option<usize>
+fn send_overflowing(domain: &mut Weather, celsius: u64) -> Option<usize>
     requires single_valued { IsSingleValued domain.old }
     requires overflows { (domain.old.config).enable_safe_overflow ≡ true }
     ensures { Stays domain.old domain.new }
@@ -85,7 +85,7 @@ fn no_send_is_blocked_in_a_service_that_overflows(rt: HostRuntime) {
 
 // A loan's header and its cell are the same after an update.
 fn read_loan_twice(
-    domain: &mut Domain<Reading, Station>,
+    domain: &mut Weather,
     publisher: &Publisher,
     loan: &SampleMutUninit,
 ) -> Result<(), ConnectionFailure>
@@ -105,11 +105,7 @@ fn read_loan_twice(
 }
 
 // A sample's header is the same after its publisher was closed.
-fn read_sample_twice(
-    domain: &mut Domain<Reading, Station>,
-    publisher: Publisher,
-    sample: &Sample,
-) -> u64
+fn read_sample_twice(domain: &mut Weather, publisher: Publisher, sample: &Sample) -> u64
     requires publisher { IsLivePublisher domain.old publisher }
     requires sample { IsLiveSample domain.old sample.now }
 {
@@ -122,7 +118,7 @@ fn read_sample_twice(
 
 // A message is received, read, and read again after its publisher was closed.
 fn receive_and_close(
-    domain: &mut Domain<Reading, Station>,
+    domain: &mut Weather,
     publisher: Publisher,
     subscriber: &Subscriber,
 ) -> Option<u64>

@@ -1,6 +1,5 @@
 use crate::tests::fixtures::{domain, publisher_of, subscriber_of};
-use iox2_fixtures::{Reading, Station};
-use iox2_pubsub::Domain;
+use iox2_fixtures::Weather;
 use iox2_store::{Key, SubscriberCreateError};
 
 const FIRST: Key = Key {
@@ -10,10 +9,7 @@ const FIRST: Key = Key {
 };
 
 // Why a subscriber with that buffer isn't made.
-fn refusal(
-    domain: &mut Domain<Reading, Station>,
-    buffer_size: usize,
-) -> Option<SubscriberCreateError> {
+fn refusal(domain: &mut Weather, buffer_size: usize) -> Option<SubscriberCreateError> {
     let factory = domain.subscriber_builder().buffer_size(buffer_size);
     match factory.create(domain) {
         Ok(subscriber) => {

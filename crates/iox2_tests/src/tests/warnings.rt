@@ -1,4 +1,4 @@
-use iox2_fixtures::{Reading, Station, settings};
+use iox2_fixtures::{Weather, settings};
 use iox2_pubsub::{Domain, Warning};
 use iox2_store::{ServiceConfig, UniqueSubscriberId};
 
@@ -18,7 +18,7 @@ fn the_last_warnings_are_read_oldest_first(rt: HostRuntime) {
         ..settings()
     };
     let made = Domain::new(rt.alloc(), config);
-    let mut domain: Domain<Reading, Station> = made.expect(&rt, "a domain");
+    let mut domain: Weather = made.expect(&rt, "a domain");
     let before = domain.warnings().len();
     for _ in 0..33 {
         let factory = domain.subscriber_builder();
