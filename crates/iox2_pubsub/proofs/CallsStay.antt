@@ -1,9 +1,9 @@
 -- What each call leaves of a domain.
-use Rattle.std.proofs.Common.{◌≡◌, Bool, ℕ, ◌<◌, List, [], refl, true, false, sym, ap, subst, ◌∙◌, Option, None, Some, Result, Ok, Err, inl, inr, arith}
+use Rattle.std.proofs.Common.{◌≡◌, Bool, ℕ, ◌<◌, List, [], ◌++◌, refl, true, false, sym, ap, subst, ◌∙◌, Option, None, Some, Result, Ok, Err, inl, inr, arith}
 use Rattle.std.specs.Prelude.{◌≢◌}
 use Rattle.std.proofs.lemmas.Bool.{cases_eq, ne_eqb, true≢false}
 use Rattle.iox2_store.specs.machine.Loans.{entry_of}
-use Rattle.iox2_store.specs.machine.Mailbox.{is_borrowed}
+use Rattle.iox2_store.specs.machine.Mailbox.{is_borrowed, other_numbers}
 use Rattle.iox2_store.specs.machine.Numbers.{put_at, contains}
 use Rattle.iox2_store.specs.machine.Ports.{CreatePublisher, CreateSubscriber}
 use Rattle.iox2_store.specs.machine.Receives.{ReceiveResult, Got_sample, No_sample, Receive_error, Receive}
@@ -24,7 +24,7 @@ use Rattle.iox2_store.specs.declared.key.Key.{Key}
 use Rattle.iox2_laws.proofs.Cases.{by_option}
 use Rattle.iox2_laws.proofs.LoanKeeping.{create_publisher_loans, create_subscriber_loans, receive_loans, released_loans, send_loans}
 use Rattle.iox2_laws.proofs.NextLoan.{loan_next}
-use Rattle.iox2_laws.proofs.NumberLemmas.{IsOnce-apart, contains_first}
+use Rattle.iox2_laws.proofs.NumberLemmas.{IsOnce-apart, IsOnce-right, contains_first}
 use Rattle.iox2_laws.proofs.PortsStay.{PortsStay, Remain, ports_stay_themselves, create_publisher_stays, create_subscriber_stays, grant_loan_stays, loan_set_stays, send_stays, update_subscriber_stays}
 use Rattle.iox2_laws.proofs.Puts.{put_at-other, put_at-same}
 use Rattle.iox2_laws.proofs.SendsRemain.{send_remains}
@@ -361,7 +361,7 @@ module _ {T U F G : Type 0} (old new : Kept T U F G) (m : Messages T U) (s : Sta
       by_option ⊥ h.1 _ _ h.3
       (λ _ k. by_option ⊥ ((h.0).subscribers q) _ _ k (λ _ v. absurd v) (λ y _ k.
       let box = (h.0).mailboxes p q in
-      let once = ((update_subscriber_keeps environment s q h.0 h.1 shown.well_formed h.2).mailboxes p q).within.once in
+      let once = IsOnce-right (other_numbers box) (box.waiting ++ box.borrowed) ((update_subscriber_keeps environment s q h.0 h.1 shown.well_formed h.2).mailboxes p q).within.once in
       let waits : contains box.waiting n ≡ true = ap (λ (ns : List ℕ). contains ns n) (k.2).1 ∙ contains_first n (k.2).0 in
       true≢false (sym (same_borrowed s h.0 first p q n ∙ borrowed) ∙ IsOnce-apart box.waiting box.borrowed once n waits)))
       (λ e _ k. let clash : Got_sample p n ≡ Receive_error _ = k.1 in absurd cc)

@@ -1,5 +1,5 @@
 -- Which channels the calls on channels may close.
-use Rattle.std.proofs.Common.{◌≡◌, ℕ, zero, suc, ◌+◌, Bool, true, false, cond, eqb, List, [], ◌∷◌, Option, None, Some, refl, sym, ap, ◌∙◌, arith, ◌⊎◌, inl, inr}
+use Rattle.std.proofs.Common.{◌≡◌, ℕ, zero, suc, ◌+◌, Bool, true, false, cond, List, [], ◌∷◌, Option, None, Some, refl, sym, ap, ◌∙◌, arith, ◌⊎◌, inl, inr}
 use Rattle.std.specs.Prelude.{◌≢◌}
 use Rattle.std.specs.Option.{option_and_then, option_map_or}
 use Rattle.std.proofs.lemmas.Bool.{cases_eq, eq-eqb, ne_eqb, true≢false}
@@ -10,7 +10,7 @@ use Rattle.iox2_store.specs.machine.Places.{occupant, is_port}
 use Rattle.iox2_store.specs.machine.Records.{Publisher}
 use Rattle.iox2_store.specs.machine.State.{State, with_channels}
 use Rattle.iox2_store.specs.machine.WellFormed.{IsWellFormed}
-use Rattle.iox2_laws.proofs.PlaceLemmas.{is_port-true, is_port-false}
+use Rattle.iox2_laws.proofs.PlaceLemmas.{is_port-true}
 use Rattle.iox2_laws.proofs.Puts.{at_each, put_at-same, put_at-other}
 
 -- ---- one connection

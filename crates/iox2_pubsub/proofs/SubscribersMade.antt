@@ -7,7 +7,7 @@ use Rattle.std.proofs.lemmas.Bool.{true≢false, ne_eqb, eqb-true, eq-eqb}
 use Rattle.std.proofs.lemmas.Option.{none-some, same_Some}
 use Rattle.iox2_store.specs.machine.Channel.{Channel, is_closed}
 use Rattle.iox2_store.specs.machine.Limits.{refusal_limit, expired_limit}
-use Rattle.iox2_store.specs.machine.Numbers.{contains, put_at}
+use Rattle.iox2_store.specs.machine.Numbers.{contains}
 use Rattle.iox2_store.specs.machine.Places.{occupant, occupants}
 use Rattle.iox2_store.specs.machine.Records.{Publisher, Subscriber, Handler, Environment, SubscriberSettings}
 use Rattle.iox2_store.specs.machine.State.{State, Warnings, has_sender_end, with_warning, receiver_channels_reset}

@@ -10,7 +10,6 @@ use Rattle.iox2_store.specs.machine.State.{State, channel_buffer}
 use Rattle.iox2_store.specs.machine.Delivery.{DeliverIn, DeliveryEnd, Complete, Suspended, PutResult, PutIn, PutAtEndIn, accepted_count, is_blocking, is_failed, no_time}
 use Rattle.iox2_store.specs.machine.Sends.{Send, Retry, GiveUp, SendResult, Delivered_to, Blocked_send, Send_error, ConcludeSend, DeliverAndConclude, more_retries, with_mailboxes, published}
 use Rattle.iox2_store.specs.declared.backpressure.BackpressureAction.{BackpressureAction}
-use Rattle.iox2_store.specs.declared.backpressure.BackpressureAction.TheVariants as actions
 use Rattle.iox2_store.specs.declared.backpressure.BackpressureStrategy.{BackpressureStrategy}
 use Rattle.iox2_store.specs.declared.errors.SendError.TheVariants.{ConnectionBrokenSinceSenderNoLongerExists, ConnectionError, UnableToDeliver}
 use Rattle.iox2_store.specs.declared.service_config.ServiceConfig.{ServiceConfig}
