@@ -6,12 +6,10 @@
 //! `into_inner`), and has that one's numbers.
 
 mod at_hint;
-mod blocked_send;
 pub(crate) mod hints;
-mod loan;
-mod publisher;
+mod loans;
+mod ports;
 mod sample;
-mod subscriber;
 
 use iox2_store::BackpressureStrategy;
 

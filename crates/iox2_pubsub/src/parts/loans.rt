@@ -1,13 +1,14 @@
-//! A loan as numbers.
-ghost use Rattle.std.specs.Prelude.{◌≡◌, ◌↔◌, true, false, IfNone, IfSome, IsTrue};
+//! A loan and a blocked send as numbers.
+ghost use Rattle.std.specs.Prelude.{◌↔◌, ◌≡◌, IfNone, IfSome, IsTrue, false, true};
 
+use crate::blocked_send::BlockedSend;
 use crate::domain::Domain;
 use crate::parts::LoanParts;
 use crate::parts::hints::{has_unwritten, has_written};
 use crate::sample_mut::SampleMut;
 use crate::sample_mut_uninit::SampleMutUninit;
 use iox2_domain::LoanAt;
-use iox2_store::{BackpressureFn, DegradationFn, UniquePublisherId};
+use iox2_store::{BackpressureFn, DegradationFn, Key, UniquePublisherId};
 
 impl LoanParts {
     // The numbers of a handle's private part.
@@ -115,6 +116,45 @@ impl<T: Drop, U: Default + Drop, F: BackpressureFn, G: DegradationFn> Domain<T, 
             return None;
         }
         Some(SampleMutUninit {
+            service_id: parts.service_id,
+            loan: parts.loan(),
+        })
+    }
+}
+
+impl BlockedSend {
+    ghost use Rattle.iox2_pubsub.specs.Parts.{blocked_parts};
+
+    /// The numbers of the blocked send. Its handle is spent, and the send is blocked still. This
+    /// library's own.
+    pub fn into_parts(self) -> LoanParts
+        ensures { result ≡ blocked_parts self }
+    {
+        let BlockedSend { service_id, loan } = self;
+        LoanParts::of(service_id, loan)
+    }
+}
+
+impl<T: Drop, U: Default + Drop, F: BackpressureFn, G: DegradationFn> Domain<T, U, F, G> {
+    ghost use Rattle.iox2_pubsub.specs.Live.{IsBlockedKey, IsBlockedSend};
+    ghost use Rattle.iox2_pubsub.specs.Parts.{blocked_parts, loan_named};
+
+    /// A handle of the blocked send with these numbers, and `None` where this domain has none that
+    /// is blocked. This library's own.
+    pub fn blocked_of(&self, parts: &LoanParts) -> Option<BlockedSend>
+        ensures live { IfSome result (λ blocked. IsBlockedSend self.now blocked) }
+        ensures named { IfSome result (λ blocked. blocked_parts blocked ≡ parts.now) }
+        ensures none { IfNone result (IsBlockedKey self.now (loan_named parts.now) → ⊥) }
+    {
+        let key = Key {
+            service_id: parts.service_id,
+            port: parts.publisher,
+            message: parts.number,
+        };
+        if !self.holds_blocked(key) {
+            return None;
+        }
+        Some(BlockedSend {
             service_id: parts.service_id,
             loan: parts.loan(),
         })

@@ -1,11 +1,12 @@
-//! A publisher as numbers.
+//! A publisher and a subscriber as numbers.
 ghost use Rattle.std.specs.Prelude.{◌≡◌, IfNone, IfSome};
 
 use crate::domain::Domain;
-use crate::parts::PublisherParts;
-use crate::parts::hints::find_open_publisher;
+use crate::parts::hints::{find_open_publisher, find_open_subscriber};
+use crate::parts::{PublisherParts, SubscriberParts};
 use crate::publisher::Publisher;
-use iox2_store::{BackpressureFn, DegradationFn, UniquePublisherId};
+use crate::subscriber::Subscriber;
+use iox2_store::{BackpressureFn, DegradationFn, UniquePublisherId, UniqueSubscriberId};
 
 impl Publisher {
     ghost use Rattle.iox2_pubsub.specs.Parts.{publisher_parts};
@@ -58,6 +59,57 @@ impl<T: Drop, U: Default + Drop, F: BackpressureFn, G: DegradationFn> Domain<T, 
             place,
             strategy: parts.strategy,
             initial_max_slice_len: parts.initial_max_slice_len,
+        })
+    }
+}
+
+impl Subscriber {
+    ghost use Rattle.iox2_pubsub.specs.Parts.{subscriber_parts};
+
+    /// The subscriber's numbers. Its handle is spent, and the domain keeps the subscriber. This
+    /// library's own.
+    pub fn into_parts(self) -> SubscriberParts
+        ensures { result ≡ subscriber_parts self }
+    {
+        let Subscriber {
+            service_id,
+            id,
+            place,
+            buffer_size,
+        } = self;
+        SubscriberParts {
+            service_id,
+            id: id.value(),
+            place,
+            buffer_size,
+        }
+    }
+}
+
+impl<T: Drop, U: Default + Drop, F: BackpressureFn, G: DegradationFn> Domain<T, U, F, G> {
+    ghost use Rattle.iox2_pubsub.specs.Live.{IsLiveSubscriber, IsSubscriberKey};
+    ghost use Rattle.iox2_pubsub.specs.Parts.{subscriber_named, subscriber_parts};
+
+    /// A handle of the subscriber with these numbers, and `None` where this domain has none that
+    /// wasn't closed. Where the subscriber stands at another place than they say, the handle says
+    /// where. This library's own.
+    pub fn subscriber_of(&self, parts: &SubscriberParts) -> Option<Subscriber>
+        ensures live { IfSome result (λ subscriber. IsLiveSubscriber self.now subscriber) }
+        ensures named { IfSome result (λ subscriber. record (subscriber_parts subscriber) { place = parts.now.place } ≡ parts.now) }
+        ensures none { IfNone result (IsSubscriberKey self.now (subscriber_named parts.now) → ⊥) }
+    {
+        if parts.service_id != self.state.config().service_id {
+            return None;
+        }
+        let id = UniqueSubscriberId::new(parts.id);
+        let Some(place) = find_open_subscriber(&self.state, id, parts.place) else {
+            return None;
+        };
+        Some(Subscriber {
+            service_id: parts.service_id,
+            id,
+            place,
+            buffer_size: parts.buffer_size,
         })
     }
 }
