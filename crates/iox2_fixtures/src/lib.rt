@@ -5,11 +5,14 @@ ghost use Rattle.std.specs.Prelude.{◌≡◌, None, false};
 ghost use Rattle.iox2_store.specs.Defaults.{default_config};
 ghost use Rattle.iox2_store.specs.declared.degradation.DegradationAction.TheVariants.{Warn};
 ghost use Rattle.iox2_store.specs.machine.Records.{Fixed};
+ghost use Rattle.iox2_store.specs.declared.service_config.TypeVariant.TheVariants.{Dynamic};
 ghost use Rattle.iox2_pubsub.specs.Live.{IsLivePublisher, IsLiveSubscriber, IsSingleValued, Stays};
+ghost use Rattle.iox2_pubsub.specs.Slices.{HoldsSlices, IsSliced};
 
 use iox2_pubsub::{Domain, PortFactoryPublisher, Publisher, SendOutcome, Subscriber};
-use iox2_store::{BackpressureStrategy, ReceiveError, ServiceConfig};
+use iox2_store::{BackpressureStrategy, Key, ReceiveError, ServiceConfig, TypeVariant};
 use std::io;
+use std::process::Abort;
 use std::time::{CpuClock, Duration};
 
 /// A payload that is neither `Copy` nor `Clone`.
@@ -92,6 +95,14 @@ pub fn smallest() -> ServiceConfig
     }
 }
 
+/// The same key in another service.
+pub fn elsewhere(key: Key) -> Key {
+    Key {
+        service_id: 8,
+        ..key
+    }
+}
+
 /// A factory of publishers that discard what a full subscriber doesn't take.
 pub fn factory_for<T: Drop, U: Default + Drop>(domain: &Domain<T, U>) -> PortFactoryPublisher
     ensures strategy { result.settings.backpressure_strategy ≡ BackpressureStrategy.DiscardData }
@@ -143,4 +154,25 @@ pub fn receiver_count(outcome: SendOutcome) -> Option<usize> {
             None
         }
     }
+}
+
+/// Asserts that messages are slices of elements of one unit.
+pub fn assert_held<T: Drop, U: Default + Drop>(rt: &impl Abort, domain: &Domain<T, U>)
+    ensures holds { HoldsSlices domain.now }
+    ensures dynamic { (domain.now.config).variant ≡ Dynamic }
+    ensures one_unit { (domain.now.config).units_per_element ≡ 1 }
+{
+    let config = domain.config();
+    assert!(rt; matches!(config.variant, TypeVariant::Dynamic));
+    assert!(rt; config.units_per_element == 1);
+}
+
+/// The same, and that the domain hands out cells.
+pub fn assert_sliced<T: Drop, U: Default + Drop>(rt: &impl Abort, domain: &Domain<T, U>)
+    ensures sliced { IsSliced domain.now }
+    ensures dynamic { (domain.now.config).variant ≡ Dynamic }
+    ensures one_unit { (domain.now.config).units_per_element ≡ 1 }
+{
+    assert_held(rt, domain);
+    assert!(rt; domain.config().lists_cells);
 }

@@ -4,7 +4,7 @@ use crate::tests::waiting_publishers::{
     close_subscriber, deliver, delivered, delivered_at_last, given_up, has_blocked_send,
     next_reading, subscriber_of, waiting_domain, waiting_publisher,
 };
-use iox2_fixtures::{Reading, Weather};
+use iox2_fixtures::{Reading, Weather, elsewhere};
 use iox2_pubsub::{BlockedSend, LoanParts, Publisher};
 use iox2_store::{BackpressureStrategy, Key};
 use std::process::Abort;
@@ -85,15 +85,11 @@ fn a_blocked_send_is_held_until_it_has_ended(rt: HostRuntime) {
         port: subscriber.key().port,
         ..key
     };
-    let elsewhere = Key {
-        service_id: 8,
-        ..key
-    };
     let before = [
         domain.holds_blocked(key),
         domain.holds_blocked(delivered_one),
         domain.holds_blocked(of_the_subscriber),
-        domain.holds_blocked(elsewhere),
+        domain.holds_blocked(elsewhere(key)),
     ];
     let second = given_up(&rt, &mut domain, waiting);
     let after = domain.holds_blocked(key);
@@ -107,13 +103,7 @@ fn a_blocked_send_is_held_until_it_has_ended(rt: HostRuntime) {
 
 // Whether a send with the numbers waits.
 fn has_blocked(domain: &Weather, parts: &LoanParts) -> bool {
-    match domain.blocked_of(parts) {
-        Some(waiting) => {
-            waiting.disown();
-            true
-        }
-        None => false,
-    }
+    domain.blocked_of(parts).map(|it| it.disown()).is_some()
 }
 
 #[test]

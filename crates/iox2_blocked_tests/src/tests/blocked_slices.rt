@@ -3,10 +3,9 @@ ghost use Rattle.std.specs.Prelude.{◌≡◌, false};
 ghost use Rattle.iox2_store.specs.Defaults.{default_config};
 ghost use Rattle.iox2_store.specs.declared.service_config.TypeVariant.TheVariants.{Dynamic};
 ghost use Rattle.iox2_pubsub.specs.Live.{IsReadyPublisher};
-ghost use Rattle.iox2_pubsub.specs.Slices.{IsSliced};
 
 use crate::tests::waiting_publishers::{blocked, delivered};
-use iox2_fixtures::{Numbers, settings};
+use iox2_fixtures::{Numbers, assert_sliced, settings};
 use iox2_pubsub::slice::{Publisher, SampleMut, Subscriber};
 use iox2_pubsub::{BackpressureHandler, BackpressureStrategy, BlockedSend, Domain, SendOutcome};
 use iox2_store::{BackpressureAction, SendError, ServiceConfig, TypeVariant};
@@ -21,18 +20,6 @@ pub(crate) fn slices() -> ServiceConfig
         variant: TypeVariant::Dynamic,
         ..settings()
     }
-}
-
-// Asserts that messages are slices of elements of one unit.
-fn assert_sliced(rt: &impl Abort, domain: &Numbers)
-    ensures sliced { IsSliced domain.now }
-    ensures dynamic { (domain.now.config).variant ≡ Dynamic }
-    ensures one_unit { (domain.now.config).units_per_element ≡ 1 }
-{
-    let config = domain.config();
-    assert!(rt; matches!(config.variant, TypeVariant::Dynamic));
-    assert!(rt; config.units_per_element == 1);
-    assert!(rt; config.lists_cells);
 }
 
 // Asserts that the publisher is one of the domain's that has no blocked send.

@@ -1,7 +1,7 @@
 //! By which strategy a publisher's memory grows: its factory's, or else the settings'.
 
-use crate::tests::fixtures::{assert_ready, assert_sliced, slice_factory};
-use iox2_fixtures::{Numbers, settings};
+use crate::tests::fixtures::{assert_ready, slice_factory};
+use iox2_fixtures::{Numbers, assert_sliced, settings};
 use iox2_pubsub::{Domain, slice};
 use iox2_store::{AllocationStrategy, LoanError, ServiceConfig, TypeVariant};
 use std::process::Abort;

@@ -3,10 +3,10 @@ ghost use Rattle.std.specs.Prelude.{◌<◌};
 ghost use Rattle.iox2_store.specs.machine.Limits.{channel_count};
 
 use crate::tests::fixtures::{
-    assert_live, assert_ready, assert_sliced, lend_slice, receive_slice, send_slice,
-    slice_publisher, slice_subscriber,
+    assert_live, assert_ready, lend_slice, receive_slice, send_slice, slice_publisher,
+    slice_subscriber,
 };
-use iox2_fixtures::{Numbers, smallest};
+use iox2_fixtures::{Numbers, assert_sliced, smallest};
 use iox2_pubsub::slice::{Publisher, Subscriber};
 use iox2_pubsub::{Domain, UpdateConnections};
 use iox2_store::{ServiceConfig, TypeVariant};

@@ -3,14 +3,13 @@
 
 ghost use Rattle.std.specs.Prelude.{◌≡◌, List, Option, None, length};
 ghost use Rattle.iox2_store.specs.declared.degradation.DegradationAction.TheVariants.{Warn};
-ghost use Rattle.iox2_store.specs.declared.service_config.TypeVariant.TheVariants.{Dynamic};
 ghost use Rattle.iox2_store.specs.machine.Records.{Fixed};
 ghost use Rattle.iox2_pubsub.specs.Live.{IsLivePublisher, IsLiveSample, IsLiveSubscriber, IsReadyPublisher, IsUnwritten, IsWritten, Stays};
 ghost use Rattle.iox2_pubsub.specs.Slices.{HasUnwrittenCells, IsSliced};
 
-use iox2_fixtures::receiver_count;
+use iox2_fixtures::{assert_sliced, receiver_count};
 use iox2_pubsub::{Domain, slice};
-use iox2_store::{BackpressureStrategy, TypeVariant};
+use iox2_store::BackpressureStrategy;
 use std::process::Abort;
 
 /// A factory of publishers of slices that discard what a full subscriber doesn't take.
@@ -51,18 +50,6 @@ pub(crate) fn slice_subscriber<T: Drop, U: Default + Drop>(
 }
 
 // ---- what a call asks for is tested
-
-/// Asserts that messages are slices of elements of one unit.
-pub(crate) fn assert_sliced<T: Drop, U: Default + Drop>(rt: &impl Abort, domain: &Domain<T, U>)
-    ensures sliced { IsSliced domain.now }
-    ensures dynamic { (domain.now.config).variant ≡ Dynamic }
-    ensures one_unit { (domain.now.config).units_per_element ≡ 1 }
-{
-    let config = domain.config();
-    assert!(rt; matches!(config.variant, TypeVariant::Dynamic));
-    assert!(rt; config.units_per_element == 1);
-    assert!(rt; config.lists_cells);
-}
 
 /// Asserts that the publisher is one of the domain's that has no blocked send.
 pub(crate) fn assert_ready<T: Drop, U: Default + Drop>(

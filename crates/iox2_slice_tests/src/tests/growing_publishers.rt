@@ -5,10 +5,10 @@ ghost use Rattle.iox2_store.specs.declared.service_config.TypeVariant.TheVariant
 ghost use Rattle.std.specs.Prelude.{◌≡◌, IfOk};
 
 use crate::tests::fixtures::{
-    assert_live, assert_ready, assert_sliced, close_publisher, close_subscriber, receive_slice,
-    send_slice, slice_factory, slice_subscriber,
+    assert_live, assert_ready, close_publisher, close_subscriber, receive_slice, send_slice,
+    slice_factory, slice_subscriber,
 };
-use iox2_fixtures::{Numbers, smallest};
+use iox2_fixtures::{Numbers, assert_sliced, smallest};
 use iox2_pubsub::slice::{Publisher, Sample, SampleMutUninit};
 use iox2_pubsub::{CustomHeaderMarker, CustomPayloadMarker, Domain};
 use iox2_store::{AllocationStrategy, LoanError, ServiceConfig, TypeVariant};

@@ -1,9 +1,7 @@
 //! Loans of slices that are written, and say where their values begin.
 
-use crate::tests::fixtures::{
-    assert_sliced, receive_slice, send_slice, slice_publisher, slice_subscriber,
-};
-use iox2_fixtures::{Numbers, settings};
+use crate::tests::fixtures::{receive_slice, send_slice, slice_publisher, slice_subscriber};
+use iox2_fixtures::{Numbers, assert_sliced, settings};
 use iox2_pubsub::Domain;
 use iox2_pubsub::slice::LocatedLoan;
 use iox2_store::{ServiceConfig, TypeVariant};

@@ -6,10 +6,10 @@ ghost use Rattle.iox2_pubsub.specs.Slices.{IsSliced};
 ghost use Rattle.iox2_pubsub.specs.Live.{IsUnwritten, IsWritten, Stays};
 
 use crate::tests::fixtures::{
-    assert_live, assert_ready, assert_sliced, close_publisher, close_subscriber, lend_defaults,
-    lend_slice, receive_slice, send_slice, slice_factory, slice_publisher, slice_subscriber,
+    assert_live, assert_ready, close_publisher, close_subscriber, lend_defaults, lend_slice,
+    receive_slice, send_slice, slice_factory, slice_publisher, slice_subscriber,
 };
-use iox2_fixtures::{Costly, Numbers, costly_time, micros_since, settings};
+use iox2_fixtures::{Costly, Numbers, assert_sliced, costly_time, micros_since, settings};
 use iox2_pubsub::slice::{Publisher, SampleMut, SampleMutUninit, Subscriber};
 use iox2_pubsub::{DegradationHandler, Domain, UpdateConnections};
 use iox2_store::{DegradationAction, LoanError, PublisherCreateError, ServiceConfig, TypeVariant};

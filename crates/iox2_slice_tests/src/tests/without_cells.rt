@@ -1,13 +1,11 @@
 //! Slices in a domain that hands out no cells.
-ghost use Rattle.std.specs.Prelude.{◌≡◌};
-ghost use Rattle.iox2_store.specs.declared.service_config.TypeVariant.TheVariants.{Dynamic};
 ghost use Rattle.iox2_pubsub.specs.Live.{IsLiveSample, IsUnwritten};
 ghost use Rattle.iox2_pubsub.specs.Slices.{HoldsSlices};
 
 use crate::tests::fixtures::{
     assert_live, assert_ready, send_slice, slice_publisher, slice_subscriber,
 };
-use iox2_fixtures::{Numbers, settings};
+use iox2_fixtures::{Numbers, assert_held, settings};
 use iox2_pubsub::Domain;
 use iox2_pubsub::slice::{Publisher, Sample, SampleMutUninit, Subscriber};
 use iox2_store::{ServiceConfig, TypeVariant};
@@ -20,17 +18,6 @@ fn without_cells() -> ServiceConfig {
         lists_cells: false,
         ..settings()
     }
-}
-
-// Asserts that messages are slices of elements of one unit.
-fn assert_held(rt: &impl Abort, domain: &Numbers)
-    ensures holds { HoldsSlices domain.now }
-    ensures dynamic { (domain.now.config).variant ≡ Dynamic }
-    ensures one_unit { (domain.now.config).units_per_element ≡ 1 }
-{
-    let config = domain.config();
-    assert!(rt; matches!(config.variant, TypeVariant::Dynamic));
-    assert!(rt; config.units_per_element == 1);
 }
 
 // An unwritten loan of a slice of that length.

@@ -16,6 +16,22 @@ use iox2_store::ServiceConfig;
 use std::alloc::Global;
 use std::process::Abort;
 
+// The settings of a domain whose connections have two channels.
+fn two_channels() -> ServiceConfig {
+    ServiceConfig {
+        number_of_channels: 2,
+        publisher_max_loaned_samples: 2,
+        ..smallest()
+    }
+}
+
+fn three_channels() -> ServiceConfig {
+    ServiceConfig {
+        number_of_channels: 3,
+        ..settings()
+    }
+}
+
 #[test]
 fn a_new_channel_is_open_and_has_no_hint(rt: HostRuntime) {
     let mut domain = domain(&rt, rt.alloc());
@@ -123,12 +139,7 @@ fn is_first(rt: &impl Abort, domain: &Weather, publisher: &Publisher, state: u64
 
 #[test]
 fn a_closed_channel_takes_no_message(rt: HostRuntime) {
-    let config = ServiceConfig {
-        number_of_channels: 2,
-        publisher_max_loaned_samples: 2,
-        ..smallest()
-    };
-    let mut domain: Weather = Domain::new(rt.alloc(), config).expect(&rt, "a domain");
+    let mut domain: Weather = Domain::new(rt.alloc(), two_channels()).expect(&rt, "a domain");
     let subscriber = subscriber_of(&rt, &mut domain);
     let publisher = publisher_of(&rt, &mut domain);
     let places = [
@@ -213,11 +224,7 @@ fn close_further(
 // A closed channel behind channel 0 lets messages pass, and no call on one changes another.
 #[test]
 fn a_further_channel_has_a_state_of_its_own(rt: HostRuntime) {
-    let config = ServiceConfig {
-        number_of_channels: 3,
-        ..settings()
-    };
-    let mut domain: Weather = Domain::new(rt.alloc(), config).expect(&rt, "a domain");
+    let mut domain: Weather = Domain::new(rt.alloc(), three_channels()).expect(&rt, "a domain");
     let subscriber = subscriber_of(&rt, &mut domain);
     let publisher = publisher_of(&rt, &mut domain);
     assert_live(&rt, &domain, &subscriber);

@@ -1,7 +1,7 @@
 ghost use Rattle.iox2_pubsub.specs.Live.{IsLivePublisher, IsSingleValued, Stays};
 
 use crate::tests::fixtures::{domain, lend};
-use iox2_fixtures::{Weather, factory_for};
+use iox2_fixtures::{Weather, elsewhere, factory_for};
 use iox2_pubsub::Publisher;
 use iox2_store::{Key, LoanError};
 
@@ -29,13 +29,9 @@ fn a_domain_holds_its_loan_alone(rt: HostRuntime) {
     let loan = lend(&rt, &mut domain);
     let key = loan.key();
     loan.disown();
-    let elsewhere = Key {
-        service_id: 8,
-        ..FIRST
-    };
     let live = [
         domain.holds_loan(FIRST),
-        domain.holds_loan(elsewhere),
+        domain.holds_loan(elsewhere(FIRST)),
         domain.holds_loan(Key { port: 2, ..FIRST }),
         domain.holds_loan(Key {
             message: 2,

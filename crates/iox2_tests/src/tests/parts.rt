@@ -21,13 +21,7 @@ fn elsewhere(rt: &impl Abort, alloc: Global) -> Weather {
 
 // Whether a publisher with the numbers stands in the domain.
 fn has_publisher(domain: &Weather, parts: &PublisherParts) -> bool {
-    match domain.publisher_of(parts) {
-        Some(publisher) => {
-            publisher.disown();
-            true
-        }
-        None => false,
-    }
+    domain.publisher_of(parts).map(|it| it.disown()).is_some()
 }
 
 // Closes the publisher with the numbers.
@@ -63,13 +57,7 @@ fn a_publisher_is_had_again_until_it_is_closed(rt: HostRuntime) {
 
 // Whether a subscriber with the numbers stands in the domain.
 fn has_subscriber(domain: &Weather, parts: &SubscriberParts) -> bool {
-    match domain.subscriber_of(parts) {
-        Some(subscriber) => {
-            subscriber.disown();
-            true
-        }
-        None => false,
-    }
+    domain.subscriber_of(parts).map(|it| it.disown()).is_some()
 }
 
 #[test]
@@ -98,20 +86,8 @@ fn a_subscriber_is_had_again_until_it_is_closed(rt: HostRuntime) {
 
 // Whether a loan with the numbers is out, and whether it is written.
 fn marks_of(domain: &Weather, parts: &LoanParts) -> [bool; 2] {
-    let is_unwritten = match domain.unwritten_of(parts) {
-        Some(loan) => {
-            loan.disown();
-            true
-        }
-        None => false,
-    };
-    let is_written = match domain.written_of(parts) {
-        Some(loan) => {
-            loan.disown();
-            true
-        }
-        None => false,
-    };
+    let is_unwritten = domain.unwritten_of(parts).map(|it| it.disown()).is_some();
+    let is_written = domain.written_of(parts).map(|it| it.disown()).is_some();
     [is_unwritten, is_written]
 }
 
@@ -159,13 +135,7 @@ fn a_loan_is_had_again_by_its_mark_until_it_is_given_back(rt: HostRuntime) {
 
 // Whether the sample with the numbers is borrowed.
 fn has_sample(domain: &Weather, parts: &SampleParts) -> bool {
-    match domain.sample_of(parts) {
-        Some(sample) => {
-            sample.disown();
-            true
-        }
-        None => false,
-    }
+    domain.sample_of(parts).map(|it| it.disown()).is_some()
 }
 
 // Whether the sample with the numbers lies there, and was borrowed last.

@@ -1,5 +1,5 @@
 use crate::tests::fixtures::{domain, publisher_of, subscriber_of};
-use iox2_fixtures::Weather;
+use iox2_fixtures::{Weather, elsewhere};
 use iox2_store::{Key, SubscriberCreateError};
 
 const FIRST: Key = Key {
@@ -41,17 +41,13 @@ fn a_domain_holds_its_subscriber_alone(rt: HostRuntime) {
     let subscriber = subscriber_of(&rt, &mut domain);
     let is_in = subscriber.is_in(&domain);
     subscriber.disown();
-    let elsewhere = Key {
-        service_id: 8,
-        ..FIRST
-    };
     let message = Key {
         message: 1,
         ..FIRST
     };
     let live = [
         domain.holds_subscriber(FIRST),
-        domain.holds_subscriber(elsewhere),
+        domain.holds_subscriber(elsewhere(FIRST)),
         domain.holds_subscriber(Key { port: 2, ..FIRST }),
         domain.holds_subscriber(message),
     ];
