@@ -1,5 +1,5 @@
 -- What contracts see of the contents of a publisher's slots.
-use Rattle.std.specs.Prelude.{◌≡◌, ℕ, Bool, true, false, List, [], ◌++◌, length, map, replicate, slice_get, slice_set, is_some, IsSomeAnd}
+use Rattle.std.specs.Prelude.{◌≡◌, ℕ, Bool, true, false, ◌&&◌, cond, List, [], ◌++◌, length, map, nat_lt, replicate, slice_get, slice_set, sum_by, is_some, IsSomeAnd}
 use Rattle.std.specs.Bool.{MatchBool}
 use Rattle.std.specs.List.{All, list_all, refill}
 use Rattle.std.specs.declared.option.Option.{Option}
@@ -33,6 +33,20 @@ module _ {T U : Type 0} where
   -- The content of a loan that is written: these values, and no cells.
   abbrev pub written_content : (values : List T) → ContentState T U → ContentState T U
   written_content values content = record content { cells = []; values = values }
+
+  -- The content of a loan that is out no more: no cells.
+  abbrev pub ended_content : ContentState T U → ContentState T U
+  ended_content content = record content { cells = [] }
+
+  -- ---- which slots may need a list of cells
+
+  -- The slot has cells, which can be handed out as a list.
+  abbrev pub is_open : ContentState T U → Bool
+  is_open content = content.lists_cells && nat_lt 0 (length content.cells)
+
+  -- How many slots have such cells.
+  abbrev pub open_count : List (ContentState T U) → ℕ
+  open_count contents = sum_by (λ content. cond (is_open content) 1 0) contents
 
   -- ---- what a reference into a content leaves
 
@@ -78,24 +92,26 @@ module _ {T U : Type 0} where
   abbrev pub first_value_at : List (ContentState T U) → (slot : ℕ) → Option T
   first_value_at contents slot = option_and_then (λ content. slice_get content.values 0) (slice_get contents slot)
 
-  -- So many slots more stand behind the old ones, each with room for so many elements, which lie in lists where they are to,
-  -- and whose cells can be handed out where they are to be.
+  -- So many slots more stand behind the old ones, each without cells and with room for so many elements, which lie in lists
+  -- where they are to, and whose cells can be handed out where they are to be.
   pub record AddsSlots (old new : List (ContentState T U)) (more room : ℕ) (in_lists lists_cells : Bool) : Type 0 where
     pub added : List (ContentState T U)
     pub count : length added ≡ more
     pub rooms : All (λ content. content.room ≡ room) added
     pub forms : in_lists ≡ true → All (λ content. content.is_in_place ≡ false) added
-    pub cells : in_lists ≡ true → lists_cells ≡ true → All (λ content. content.lists_cells ≡ true) added
+    pub lists_are : in_lists ≡ true → lists_cells ≡ true → All (λ content. content.lists_cells ≡ true) added
+    pub cells : All (λ content. content.cells ≡ []) added
     pub grown : new ≡ old ++ added
 
-  -- The content of a slot became another one, which lies in place or in lists as it did, and lists its cells where it did.
-  -- Nothing else changes.
+  -- The content of a slot became another one without cells, which lies in place or in lists as it did, and lists its cells
+  -- where it did. Nothing else changes.
   pub record ClearsSlot (old new : List (ContentState T U)) (slot : ℕ) : Type 0 where
     pub content : ContentState T U
     pub had : ContentState T U
     pub there : slice_get old slot ≡ Some had
     pub form : content.is_in_place ≡ had.is_in_place
-    pub cells : had.lists_cells ≡ true → content.lists_cells ≡ true
+    pub lists : had.lists_cells ≡ true → content.lists_cells ≡ true
+    pub cells : content.cells ≡ []
     pub cleared : new ≡ slice_set old slot content
 
   -- In the slot starts a loan of that length, with a default user header. Nothing else changes.

@@ -21,6 +21,10 @@ module _ {T : Type 0} where
   abbrev pub written_elements : (values : List T) → ElementLists T → ElementLists T
   written_elements values elements = record elements { cells = []; values = values }
 
+  -- No cells.
+  abbrev pub ended_elements : ElementLists T → ElementLists T
+  ended_elements elements = record elements { cells = [] }
+
   -- The first cell changed.
   abbrev pub with_first_cell : (cell : Option T) → ElementLists T → ElementLists T
   with_first_cell cell elements = record elements { cells = slice_set elements.cells 0 cell }

@@ -3,7 +3,7 @@ ghost use Rattle.std.specs.Prelude.{◌≡◌, ◌≤◌, [], ◌∷◌, length,
 ghost use Rattle.std.specs.Borrow.{sem};
 ghost use Rattle.std.specs.List.{list_all};
 ghost use Rattle.iox2_contents.specs.SlotCalls.{AnswersInOrder};
-ghost use Rattle.iox2_contents.specs.SlotContents.{unwritten_content, written_content};
+ghost use Rattle.iox2_contents.specs.SlotContents.{unwritten_content, written_content, ended_content};
 
 use crate::payload::Payload;
 use std::alloc::{AllocError, Global};
@@ -79,10 +79,18 @@ impl<T: Drop, U: Default + Drop> Content<T, U> {
         ensures in_place { self.new.is_in_place ≡ self.old.is_in_place }
         ensures lists_cells { self.old.lists_cells ≡ true → self.new.lists_cells ≡ true }
         ensures empty { self.new.lists_cells ≡ true → self.new.room ≡ 0 }
+        ensures cells { self.new.cells ≡ [] }
         ensures room { self.new.room ≤ self.old.room }
     {
         self.user_header = U::default();
         self.payload.clear(alloc);
+    }
+
+    /// Drops the cells, as no loan has them any more.
+    pub(crate) fn end(&mut self)
+        ensures { self.new ≡ ended_content self.old }
+    {
+        self.payload.end();
     }
 
     /// Writes the value of a loan of one element.

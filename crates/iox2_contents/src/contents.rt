@@ -3,7 +3,7 @@ ghost use Rattle.std.specs.Prelude.{◌≡◌, ◌<◌, ◌≤◌, List, [], ◌
 ghost use Rattle.std.specs.Borrow.{sem};
 ghost use Rattle.std.specs.List.{All};
 ghost use Rattle.iox2_contents.specs.SlotCalls.{AnswersInOrder};
-ghost use Rattle.iox2_contents.specs.SlotContents.{SomeAt, AddsSlots, ClearsSlot, WritesValues, AssumesWritten, StartsLoan, with_changed, written_content, user_header_at, cells_at, values_at, first_cell_at, first_value_at};
+ghost use Rattle.iox2_contents.specs.SlotContents.{SomeAt, AddsSlots, ClearsSlot, WritesValues, AssumesWritten, StartsLoan, with_changed, written_content, ended_content, user_header_at, cells_at, values_at, first_cell_at, first_value_at};
 
 use crate::cells::push_unwritten;
 use crate::content::Content;
@@ -15,7 +15,8 @@ use std::mem;
 /// and the payload.
 ///
 /// A payload that lies in its slot is dropped when the next loan starts there, one in lists when
-/// another is written there, and either when the slot is cleared or the contents go.
+/// another is written there, and either when the slot is cleared or the contents go. Cells go when
+/// their loan ends unwritten, too.
 #[derive(Drop)]
 pub struct Contents<T, U> {
     slots: Vec<Content<T, U>>,
@@ -110,6 +111,14 @@ impl<T: Drop, U: Default + Drop> Contents<T, U> {
         ensures { StartsLoan U.is_default self.old self.new slot len }
     {
         self.slots[slot].start(len);
+    }
+
+    /// Drops the cells of the slot's loan, which is out no more.
+    pub fn end(&mut self, slot: usize)
+        requires { slot < length self.old }
+        ensures { self.new ≡ with_changed self.old slot ended_content }
+    {
+        self.slots[slot].end();
     }
 
     /// Writes the value of a loan of one element, which then counts as written.

@@ -3,7 +3,7 @@ ghost use Rattle.std.specs.Prelude.{◌≡◌, ◌<◌, ◌≤◌, [], ◌∷◌
 ghost use Rattle.std.specs.Borrow.{sem};
 ghost use Rattle.std.specs.List.{list_all};
 ghost use Rattle.iox2_contents.specs.SlotCalls.{AnswersInOrder};
-ghost use Rattle.iox2_contents.specs.SlotElements.{unwritten_elements, written_elements};
+ghost use Rattle.iox2_contents.specs.SlotElements.{unwritten_elements, written_elements, ended_elements};
 
 use crate::cells::Cells;
 use crate::values::Values;
@@ -67,9 +67,17 @@ impl<T: Drop> Elements<T> {
     pub(crate) fn give_up(&mut self, alloc: Global)
         ensures room { self.new.room ≡ 0 }
         ensures lists_cells { self.new.lists_cells ≡ true }
+        ensures cells { self.new.cells ≡ [] }
     {
         self.cells.give_up(alloc);
         self.values.give_up(alloc);
+    }
+
+    /// Drops the cells, as no loan has them any more.
+    pub(crate) fn end(&mut self)
+        ensures { self.new ≡ ended_elements self.old }
+    {
+        self.cells.clear();
     }
 
     /// Writes the value of a single cell.

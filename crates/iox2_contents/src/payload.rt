@@ -69,11 +69,27 @@ impl<T: Drop> Payload<T> {
         ensures in_place { is_in_place self.new ≡ is_in_place self.old }
         ensures lists_cells { lists_cells self.old ≡ true → lists_cells self.new ≡ true }
         ensures empty { lists_cells self.new ≡ true → room_of self.new ≡ 0 }
+        ensures cells { cells_of self.new ≡ [] }
         ensures room { room_of self.new ≤ room_of self.old }
     {
         match self {
             Payload::Elements(elements) => elements.give_up(alloc),
             _ => *self = Payload::Empty,
+        }
+    }
+
+    /// Drops the cells, as no loan has them any more.
+    pub(crate) fn end(&mut self)
+        ensures cells { cells_of self.new ≡ [] }
+        ensures values { values_of self.new ≡ values_of self.old }
+        ensures room { room_of self.new ≡ room_of self.old }
+        ensures in_place { is_in_place self.new ≡ is_in_place self.old }
+        ensures lists_cells { lists_cells self.new ≡ lists_cells self.old }
+    {
+        match self {
+            Payload::Elements(elements) => elements.end(),
+            Payload::Unwritten(_) => *self = Payload::Empty,
+            Payload::Empty | Payload::Written(_) => {}
         }
     }
 

@@ -1,13 +1,14 @@
 -- The slots of a book that nobody holds are cleared, and more slots stand behind them.
-use Rattle.std.proofs.Common.{◌≡◌, ℕ, ◌+◌, ◌-◌, ◌<◌, List, length, Bool, true, false, get_or, ap, sym, subst, ◌∙◌, inl, inr, arith}
-use Rattle.std.proofs.lemmas.Bool.{cases_eq}
+use Rattle.std.proofs.Common.{◌≡◌, ℕ, ◌+◌, ◌-◌, ◌<◌, List, [], ◌++◌, length, Bool, true, false, get_or, ap, sym, subst, ◌∙◌, inl, inr, arith}
+use Rattle.std.proofs.lemmas.Bool.{cases_eq, cases_lt}
 use Rattle.std.proofs.lemmas.List.{length-append, length-set}
 use Rattle.std.proofs.lemmas.List.Elements.{All-append, All-set}
 use Rattle.std.proofs.lemmas.Option.{get_or_from_slice_get, slice_get_within}
 use Rattle.std.specs.Prelude.{slice_get}
+use Rattle.std.specs.declared.option.Option.{Option}
 use Rattle.std.specs.declared.option.Option.TheVariants.{Some}
 use Rattle.std.specs.List.{All}
-use Rattle.circular_buffer.proofs.Places.{slice_get-append_left, slice_get-append_right, slice_get-set_other}
+use Rattle.circular_buffer.proofs.Places.{slice_get-append_left, slice_get-append_right, slice_get-set_same, slice_get-set_other}
 use Rattle.iox2_slots.specs.SlotBook.{Book, holders_at}
 use Rattle.iox2_contents.specs.SlotContents.{ContentState, AddsSlots, ClearsSlot}
 use Rattle.iox2_domain.specs.Growth.{ClearsUnused, GrowsContents}
@@ -32,13 +33,26 @@ module _ {T U : Type 0} (b : Book) (end : ℕ) where
         let had : (clears.had).is_in_place ≡ false = ap (λ (c : ContentState T U). c.is_in_place) (sym (get_or_from_slice_get mid slot clears.had clears.had clears.there)) ∙ was in
         subst (All (λ content. content.is_in_place ≡ false)) (sym clears.cleared)
         (All-set (λ (content : ContentState T U). content.is_in_place ≡ false) mid slot clears.content (clears.form ∙ had) mids);
-    cells = λ all.
-        let mids : All (λ content. content.lists_cells ≡ true) mid = before.cells all in
+    lists = λ all.
+        let mids : All (λ content. content.lists_cells ≡ true) mid = before.lists all in
         let within : slot < length mid = slice_get_within mid slot clears.had clears.there in
         let was : (get_or mid slot clears.had).lists_cells ≡ true = mids slot clears.had within in
         let had : (clears.had).lists_cells ≡ true = ap (λ (c : ContentState T U). c.lists_cells) (sym (get_or_from_slice_get mid slot clears.had clears.had clears.there)) ∙ was in
         subst (All (λ content. content.lists_cells ≡ true)) (sym clears.cleared)
-        (All-set (λ (content : ContentState T U). content.lists_cells ≡ true) mid slot clears.content (clears.cells had) mids);
+        (All-set (λ (content : ContentState T U). content.lists_cells ≡ true) mid slot clears.content (clears.lists had) mids);
+    cells = record {
+      at = λ k content there some. elim (cases_eq k slot) [
+        | inl here ↦
+            let now : slice_get new k ≡ Some clears.content =
+            ap (slice_get new) here ∙ ap (λ (cs : List (ContentState T U)). slice_get cs slot) clears.cleared
+            ∙ slice_get-set_same mid slot clears.content (slice_get_within mid slot clears.had clears.there) in
+            let both : Some clears.content ≡ Some content = sym now ∙ there in
+            let is : clears.content ≡ content = cc in
+            absurd (let none : length content.cells ≡ 0 = ap (λ (c : ContentState T U). length c.cells) (sym is) ∙ ap (length {A = Option T}) clears.cells in omega arith)
+        | inr away ↦
+            before.cells.at k content (sym (ap (λ (cs : List (ContentState T U)). slice_get cs k) clears.cleared ∙ slice_get-set_other mid slot k clears.content away) ∙ there) some
+      ];
+    };
   }
 
 module _ {T U : Type 0} (b : Book) (old mid new : List (ContentState T U)) (more units : ℕ) (in_lists lists_cells : Bool) (shaped : length old ≡ length b.holders)
@@ -67,7 +81,20 @@ module _ {T U : Type 0} (b : Book) (old mid new : List (ContentState T U)) (more
     forms = λ lists all. clears.forms
         (subst (All (λ content. content.is_in_place ≡ false)) (sym adds.grown)
         (All-append (λ (content : ContentState T U). content.is_in_place ≡ false) old adds.added all (adds.forms lists)));
-    cells = λ lists listed all. clears.cells
+    lists = λ lists listed all. clears.lists
         (subst (All (λ content. content.lists_cells ≡ true)) (sym adds.grown)
-        (All-append (λ (content : ContentState T U). content.lists_cells ≡ true) old adds.added all (adds.cells lists listed)));
+        (All-append (λ (content : ContentState T U). content.lists_cells ≡ true) old adds.added all (adds.lists_are lists listed)));
+    cells = record {
+      at = λ slot content there some.
+          let had : slice_get (old ++ adds.added) slot ≡ Some content = sym (ap (λ (cs : List (ContentState T U)). slice_get cs slot) adds.grown) ∙ clears.cells.at slot content there some in
+          elim (cases_lt slot (length old)) [
+            | inl low ↦ sym (slice_get-append_left old adds.added slot low) ∙ had
+            | inr late ↦
+                let k : ℕ = slot - length old in
+                let at_k : slot ≡ length old + k = omega (arith, late) in
+                let found : slice_get adds.added k ≡ Some content = sym (slice_get-append_right old adds.added slot k at_k) ∙ had in
+                let none : (get_or adds.added k content).cells ≡ [] = adds.cells k content (slice_get_within adds.added k content found) in
+                absurd (let count : length content.cells ≡ 0 = ap (λ (c : ContentState T U). length c.cells) (sym (get_or_from_slice_get adds.added k content content found)) ∙ ap (length {A = Option T}) none in omega arith)
+          ];
+    };
   }

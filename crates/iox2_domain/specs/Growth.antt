@@ -17,22 +17,29 @@ use Rattle.iox2_domain.specs.Ports.{PublisherFields, slot_length}
 abbrev pub with_segment : (start length : ℕ) → PublisherFields → PublisherFields
 with_segment start length x = record x { segment_start = start; segment_length = length }
 
+-- Each slot with cells is one that had them, with the same content.
+pub record KeepsOpen {T U : Type 0} (old new : List (ContentState T U)) : Type 0 where
+  pub at : (slot : ℕ) (content : ContentState T U) → slice_get new slot ≡ Some content → 0 < length content.cells → slice_get old slot ≡ Some content
+
 module _ {T U : Type 0} where
-  -- In the slots before this one that nobody holds lies nothing of use any more. What lies elsewhere stays.
+  -- In the slots before this one that nobody holds lies nothing of use any more, and no cells. What lies elsewhere stays.
   pub record ClearsUnused (book : Book) (end : ℕ) (old new : List (ContentState T U)) : Type 0 where
     pub count : length new ≡ length old
     pub kept : (slot : ℕ) → (0 < holders_at book slot) ⊎ (end ≤ slot) → slice_get new slot ≡ slice_get old slot
     pub forms : All (λ content. content.is_in_place ≡ false) old → All (λ content. content.is_in_place ≡ false) new
-    pub cells : All (λ content. content.lists_cells ≡ true) old → All (λ content. content.lists_cells ≡ true) new
+    pub lists : All (λ content. content.lists_cells ≡ true) old → All (λ content. content.lists_cells ≡ true) new
+    pub cells : KeepsOpen old new
 
   -- Behind the slots of this book are so many more, each with room for so many units, which lie in lists where they are to,
-  -- and whose cells can be handed out where they are to be. What lies in slots in use stays.
+  -- and whose cells can be handed out where they are to be. What lies in slots in use stays, and no other has cells that had
+  -- none.
   pub record GrowsContents (book : Book) (more units : ℕ) (in_lists lists_cells : Bool) (old new : List (ContentState T U)) : Type 0 where
     pub count : length new ≡ length old + more
     pub kept : (slot : ℕ) → 0 < holders_at book slot → slice_get new slot ≡ slice_get old slot
     pub room : HasRoomFrom (length old) units new
     pub forms : in_lists ≡ true → All (λ content. content.is_in_place ≡ false) old → All (λ content. content.is_in_place ≡ false) new
-    pub cells : in_lists ≡ true → lists_cells ≡ true → All (λ content. content.lists_cells ≡ true) old → All (λ content. content.lists_cells ≡ true) new
+    pub lists : in_lists ≡ true → lists_cells ≡ true → All (λ content. content.lists_cells ≡ true) old → All (λ content. content.lists_cells ≡ true) new
+    pub cells : KeepsOpen old new
 
   -- The publisher at the place has a current segment of that length, which lies behind the slots that it had. Nothing else
   -- changes.

@@ -3,7 +3,7 @@ use Rattle.std.specs.Prelude.{◌≡◌, ◌≢◌, ◌⊎◌, ℕ, Bool, true, 
 use Rattle.std.specs.List.{All}
 use Rattle.std.specs.declared.option.Option.{Option}
 use Rattle.std.specs.declared.option.Option.TheVariants.{None, Some}
-use Rattle.std.specs.Option.{option_map, option_map_or}
+use Rattle.std.specs.Option.{option_map, option_map_or, option_and_then}
 use Rattle.slab.specs.Slab.{Slab, get}
 use Rattle.iox2_store.specs.machine.Limits.{channel_count, warning_limit, segment_fits}
 use Rattle.iox2_slots.specs.Link.{Link}
@@ -253,6 +253,23 @@ pub record HasForms {T U : Type 0} (c : ServiceConfig) (contents : List (Option 
   pub at : is_single_valued c ≡ false → (key : ℕ) (cs : List (ContentState T U)) → slice_index_or contents key None ≡ Some cs → All (λ content. content.is_in_place ≡ false) cs
   pub cells : is_single_valued c ≡ false → c.lists_cells ≡ true → (key : ℕ) (cs : List (ContentState T U)) → slice_index_or contents key None ≡ Some cs → All (λ content. content.lists_cells ≡ true) cs
 
+-- How many cells the slot of the book at the key has.
+abbrev pub cell_count : {T U : Type 0} → List (Option (List (ContentState T U))) → (key slot : ℕ) → ℕ
+cell_count contents key slot = option_map_or (λ content. length content.cells) (slice_get (contents_at contents key) slot) 0
+
+-- The mark of the slot of the book at the key.
+abbrev pub mark_at : Slab Book → (key slot : ℕ) → Option SlotMark
+mark_at books key slot = option_and_then (λ (b : Book). slice_get b.marks slot) (get books key)
+
+-- The slot is a loan of the publisher that is out and isn't written.
+pub record IsUnwrittenLoan (books : Slab Book) (x : PublisherFields) (slot : ℕ) : Type 0 where
+  pub out : 0 < times slot x.loans
+  pub unwritten : mark_at books x.book slot ≡ Some Unwritten
+
+-- Each slot with cells of a publisher that stands is a loan of its that is out and isn't written.
+pub record HasOpenLoans {T U : Type 0} (publishers : List (Option PublisherFields)) (books : Slab Book) (contents : List (Option (List (ContentState T U)))) : Type 0 where
+  pub at : (i slot : ℕ) (x : PublisherFields) → slice_index_or publishers i None ≡ Some x → 0 < cell_count contents x.book slot → IsUnwrittenLoan books x slot
+
 -- ---- a publisher's segments, and its blocked delivery
 
 -- The slot of a publisher's blocked delivery is a loan of its that is out.
@@ -289,6 +306,7 @@ pub record HasParts {T U : Type 0} (f : Fields T U) : Type 0 where
   pub warning_room : (f.warnings).capacity ≡ warning_limit
   pub shapes : HasShapes f
   pub forms : HasForms f.config f.contents
+  pub open_loans : HasOpenLoans f.publishers f.books f.contents
   pub plain : (i : ℕ) (x : PublisherFields) → slice_index_or f.publishers i None ≡ Some x → IsPlain x
 
 -- The fields agree with one another, and what they keep is a well-formed state with an entry for each message that

@@ -84,8 +84,8 @@ abbrev pub subscriber_due : SubscriberFields → SubscriberFields
 subscriber_due y = record y { is_due = true }
 
 -- A book of so many slots of the publisher, which names its node. None of the slots is in use, and their contents,
--- each with room for so many elements, lie in lists where they are to, and their cells can be handed out where they are
--- to be.
+-- each without cells and with room for so many elements, lie in lists where they are to, and their cells can be handed out
+-- where they are to be.
 pub record IsNewSegment {T U : Type 0} (book : Book) (contents : List (ContentState T U)) (node publisher slots room : ℕ) (in_lists lists_cells : Bool) : Type 0 where
   pub is_its : book.publisher ≡ publisher
   pub names_node : book.node ≡ node
@@ -94,10 +94,11 @@ pub record IsNewSegment {T U : Type 0} (book : Book) (contents : List (ContentSt
   pub contents_length : length contents ≡ slots
   pub contents_room : All (λ content. content.room ≡ room) contents
   pub contents_form : in_lists ≡ true → All (λ content. content.is_in_place ≡ false) contents
+  pub contents_closed : All (λ content. content.cells ≡ []) contents
   pub contents_cells : in_lists ≡ true → lists_cells ≡ true → All (λ content. content.lists_cells ≡ true) contents
 
 -- A book of the publisher, none of whose slots is in use, is among the books now, at a key that had none. At that key are
--- contents for its slots, each with room for so many elements. Nothing else changes.
+-- contents for its slots, each without cells and with room for so many elements. Nothing else changes.
 pub record BookEnters {T U : Type 0} (node publisher slots room key : ℕ) (old_books : Slab Book) (old_contents : List (Option (List (ContentState T U))))
     (books : Slab Book) (contents : List (Option (List (ContentState T U)))) : Type 0 where
   pub book : Book
@@ -112,3 +113,4 @@ pub record BookEnters {T U : Type 0} (node publisher slots room key : ℕ) (old_
   pub contents_others : (k : ℕ) → k ≢ key → slice_index_or contents k None ≡ slice_index_or old_contents k None
   pub contents_length : length slot_contents ≡ slots
   pub has_room : All (λ content. room ≤ content.room) slot_contents
+  pub closed : All (λ content. content.cells ≡ []) slot_contents

@@ -42,6 +42,7 @@ fn a_message_goes_there_and_back(rt: HostRuntime) -> Result<(), Fail> {
     let delivery = Delivery {
         publisher: 1,
         slot,
+        channel: 0,
         strategy: config.backpressure_strategy,
         start: Progress::begun(),
         elapsed: Duration::ZERO,

@@ -6,7 +6,7 @@ use crate::tests::fixtures::{
 };
 use iox2_fixtures::settings;
 use iox2_pubsub::Domain;
-use iox2_pubsub::slice::{Publisher, Sample, SampleMut, Subscriber};
+use iox2_pubsub::slice::{Publisher, Sample, SampleMut, SampleMutUninit, Subscriber};
 use iox2_store::{ServiceConfig, TypeVariant};
 use std::alloc::Global;
 use std::process::Abort;
@@ -126,4 +126,31 @@ fn slices_of_a_closed_publisher_go_with_its_last_message(rt: HostRuntime) {
     subscriber.disown();
     drop(domain);
     assert!(rt; left == [4, 1]);
+}
+
+// How many shares there are when two are put into cells of a loan, and when the loan is given back.
+fn left_by_discard(
+    rt: &impl Abort,
+    domain: &mut Shares,
+    publisher: &Publisher,
+    value: &Rc<u8>,
+) -> [usize; 2] {
+    let mut loan = lend_slice(rt, domain, publisher, 2);
+    for cell in SampleMutUninit::payload_mut(domain, &mut loan).iter_mut() {
+        *cell = Some(value.clone().expect(rt, "a share"));
+    }
+    let put = Rc::strong_count(value);
+    loan.discard(domain);
+    [put, Rc::strong_count(value)]
+}
+
+#[test]
+fn what_was_put_into_cells_goes_with_their_loan(rt: HostRuntime) {
+    let value = value(&rt, rt.alloc());
+    let mut domain = domain(&rt, rt.alloc());
+    let publisher = publisher(&rt, &mut domain);
+    let left = left_by_discard(&rt, &mut domain, &publisher, &value);
+    publisher.disown();
+    drop(domain);
+    assert!(rt; left == [3, 1]);
 }

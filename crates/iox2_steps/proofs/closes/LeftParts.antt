@@ -30,6 +30,7 @@ use Rattle.iox2_domain.proofs.lemmas.fields.NamedBooks.{names-books}
 use Rattle.iox2_domain.proofs.lemmas.fields.Standing.{some_is, one-publisher}
 use Rattle.iox2_domain.proofs.lemmas.slots.BookChanges.{with_book, book-after, KeepsSlots, book-here, book-others, book-was, holders-here, other-book, books-changed}
 use Rattle.iox2_domain.proofs.lemmas.slots.LoneLoans.{lone-counters}
+use Rattle.iox2_domain.proofs.lemmas.slots.OpenLoans.{open-published, open-rebooked}
 use Rattle.iox2_domain.proofs.lemmas.slots.Messages.{message_in-parts, message_in-from, lies_at, message_at-book, message_at-slot}
 use Rattle.iox2_domain.specs.Closes.{LeavesConnections, LeavesSlots, left_subscriber, left_fields, is_awaited}
 use Rattle.iox2_steps.proofs.closes.LeftConnections.{only-fewer, left-was, left-before, left-others, left-apart, left-sums, left-count}
@@ -456,6 +457,8 @@ module _ {T U : Type 0} (f : Fields T U) (sound : IsDomain f) (i : ℕ) (x : Pub
     warning_room = sound.parts.warning_room;
     shapes = shapes;
     forms = sound.parts.forms;
+    open_loans = open-rebooked after.publishers f.books f.contents x.book b counted_book at refl
+        (open-published f.publishers after.publishers f.books f.contents (record { at = λ k y at_y. (k, y, (publisher-was k y at_y).1, refl, λ slot out. out) }) sound.parts.open_loans);
     plain = plain;
   }
 

@@ -4,7 +4,7 @@ use Rattle.std.proofs.lemmas.Bool.{cases_eq, eqb-true}
 use Rattle.std.specs.List.{sum_by}
 use Rattle.std.proofs.Math.Nat.{le-min, le-max_left}
 use Rattle.std.proofs.lemmas.Option.{get_or_from_slice_get, slice_get_within}
-use Rattle.std.specs.Prelude.{IsSomeAnd, min, max}
+use Rattle.std.specs.Prelude.{IsSomeAnd, min, max, slice_get}
 use Rattle.std.specs.declared.option.Option.{Option}
 use Rattle.std.specs.declared.option.Option.TheVariants.{None, Some}
 use Rattle.std.specs.Option.{option_map_or, option_and_then}
@@ -26,13 +26,14 @@ use Rattle.iox2_ends.specs.Homes.{IsSenderLinked}
 use Rattle.iox2_domain.specs.Ports.{PublisherFields, slot_length}
 use Rattle.iox2_domain.specs.Kept.{state_of, entries_of, entry_in, KeptMessage}
 use Rattle.iox2_domain.specs.Fields.{Fields, kept_of, is_book_of, message_in, contents_at}
-use Rattle.iox2_domain.specs.Invariant.{IsDomain, IsBook, IsLinked, HasBook, HasBooks, KeepsBooks, HasShape, IsCounted, SenderHas, ReceiverHas, HasPublisherRoom, HasRoomFrom, is_publisher, is_loan_in, holders_of, own_holders}
+use Rattle.iox2_domain.specs.Invariant.{IsDomain, IsBook, IsLinked, HasBook, HasBooks, KeepsBooks, HasShape, IsCounted, SenderHas, ReceiverHas, HasPublisherRoom, HasRoomFrom, is_publisher, is_loan_in, holders_of, own_holders, HasOpenLoans, cell_count}
 use Rattle.iox2_domain.specs.Placed.{placed}
 use Rattle.iox2_store.specs.Stored.{IsHeldMessage, In_history, In_mailbox, In_blocked_send}
 use Rattle.iox2_domain.proofs.lemmas.fields.KeptBooks.{StoodOrEnters, kept-publishers}
 use Rattle.iox2_domain.proofs.lemmas.fields.NamedBooks.{names-books}
 use Rattle.iox2_domain.proofs.lemmas.containers.Placed.{placed-here}
 use Rattle.iox2_domain.proofs.lemmas.slots.NewBook.{sender_before, no_book, books-apart, book-found, unheld, was_book, away_from, still_book, nothing_in, contents-same, messages-same, numbered-still, lone-still}
+use Rattle.iox2_domain.proofs.lemmas.slots.SlotCells.{cells_if, cells_in, cells-read}
 use Rattle.iox2_steps.proofs.creations.PublisherEntered.{PublisherEnters, newcomer, with_entered_publisher, ids_apart, stood, still, publisher-found, entered-is}
 use Rattle.iox2_steps.proofs.creations.SubscriberEnteredAgrees.{nothing_at}
 
@@ -258,6 +259,31 @@ module _ {T U : Type 0} (f : Fields T U) (place : ℕ) (given : PublisherSetting
   pub entries_same : (n : ℕ) → entries_of (kept_of after) n ≡ entries_of (kept_of f) n
   entries_same n = ap (option_and_then entry_in) (messages-same f enters.sound slots needed key books contents enters.book n)
 
+  -- the new publisher's slots have no cells
+  no-cells : (slot : ℕ) → cell_count contents key slot ≡ 0
+  no-cells slot = by (slice_get enters.book.slot_contents slot) refl where
+    read : cell_count contents key slot ≡ cells_if (slice_get enters.book.slot_contents slot)
+    read = cells-read contents key slot (Some enters.book.slot_contents) enters.book.contents_here
+
+    by : (o : Option (ContentState T U)) → slice_get enters.book.slot_contents slot ≡ o → cell_count contents key slot ≡ 0
+    by None none = read ∙ ap cells_if none
+    by (Some content) there =
+        let closed : (get_or enters.book.slot_contents slot content).cells ≡ [] = enters.book.closed slot content (slice_get_within enters.book.slot_contents slot content there) in
+        let is : get_or enters.book.slot_contents slot content ≡ content = get_or_from_slice_get enters.book.slot_contents slot content content there in
+        read ∙ ap cells_if there ∙ ap (λ (c : ContentState T U). length c.cells) (sym is) ∙ ap (length {A = Option T}) closed
+
+  open_loans : HasOpenLoans (placed f.publishers place new) books contents
+  open_loans = record {
+    at = λ i slot x at some. elim (was i x at) [
+      | inl e ↦ absurd (let none : cell_count contents x.book slot ≡ 0 = ap (λ (z : PublisherFields). cell_count contents z.book slot) e.1 ∙ no-cells slot in omega arith)
+      | inr old ↦
+          let has = enters.sound.parts.books.publishers i x old in
+          let away = away_from f enters.sound slots needed key books contents enters.book x.book has.book has.stands in
+          let loan = enters.sound.parts.open_loans.at i slot x old (subst (λ (o : Option (List (ContentState T U))). 0 < cells_in o slot) (enters.book.contents_others x.book away) some) in
+          record { out = loan.out; unwritten = ap (option_and_then (λ (b : Book). slice_get b.marks slot)) (enters.book.updates.others x.book away) ∙ loan.unwritten }
+    ];
+  }
+
   -- the invariant is kept
   pub entered-agrees : HasPublisherRoom f.config new → place ≤ length f.publishers → IsWellFormed (state_of (kept_of after)) → IsDomain after
   entered-agrees rooms low well = record {
@@ -276,6 +302,7 @@ module _ {T U : Type 0} (f : Fields T U) (place : ℕ) (given : PublisherSetting
       warning_room = enters.sound.parts.warning_room;
       shapes = record { at = shaped };
       forms = enters.forms;
+      open_loans = open_loans;
       plain = λ i x at. elim (was i x at) [ inl e ↦ rw e.1 (record { lent = λ b e. absurd cc; segment = record { static = λ _. (refl, refl); first = le_refl given.initial_max_slice_len; longest = λ _. omega arith; some = some-slot f.config given } }) | inr old ↦ enters.sound.parts.plain i x old ];
     };
     kept_books = kept_books;

@@ -25,6 +25,7 @@ use Rattle.iox2_domain.specs.Reaches.{Reaches}
 use Rattle.iox2_domain.proofs.lemmas.fields.NamedBooks.{names-books}
 use Rattle.iox2_domain.proofs.lemmas.containers.FreePlaces.{lowest_empty-low, lowest_empty-free}
 use Rattle.iox2_domain.proofs.lemmas.containers.Placed.{placed-here, placed-others}
+use Rattle.iox2_domain.proofs.lemmas.slots.OpenLoans.{open-kept}
 use Rattle.iox2_steps.proofs.creations.PublisherAdmitted.{with_admitted, admitted-reaches}
 
 -- the tests of a place that a publisher has, in their order
@@ -67,6 +68,7 @@ module _ {T U : Type 0} (f : Fields T U) where
       warning_room = sound.parts.warning_room;
       shapes = record { at = sound.parts.shapes.at };
       forms = sound.parts.forms;
+      open_loans = open-kept f.publishers f.books _ f.contents f.contents (λ k slot some. some) (λ k slot some. refl) sound.parts.open_loans;
       plain = sound.parts.plain;
     };
     kept_books = record { at = sound.kept_books.at };
@@ -128,6 +130,7 @@ module _ {T U : Type 0} (f : Fields T U) where
     pub aligned : IsAligned book
     pub contents_length : length slot_contents ≡ slots
     pub contents_room : All (λ content. slot_length given.initial_max_slice_len * (before.config).units_per_element ≤ content.room) slot_contents
+    pub contents_closed : All (λ content. content.cells ≡ []) slot_contents
     pub contents_form : is_single_valued before.config ≡ false → All (λ content. content.is_in_place ≡ false) slot_contents
     pub contents_cells : is_single_valued before.config ≡ false → (before.config).lists_cells ≡ true → All (λ content. content.lists_cells ≡ true) slot_contents
     pub vacant : get before.books (before.books).vacant_key ≡ None
@@ -162,6 +165,7 @@ module _ {T U : Type 0} (f : Fields T U) where
         contents_others = λ k away. placed-others slot_contents f.contents key k away;
         contents_length = e.contents_length ∙ count;
         has_room = e.contents_room;
+        closed = e.contents_closed;
       } in
       let is : x ≡ entering_publisher f.next_port place key given (slots_for f.config given) x.loan_room (buffer [] (f.config).history_size) x.key_room =
       e.publisher ∙ ap (λ n. entering_publisher f.next_port place key given n x.loan_room (buffer [] (f.config).history_size) x.key_room) count in

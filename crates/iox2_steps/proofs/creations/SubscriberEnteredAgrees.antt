@@ -130,6 +130,7 @@ module _ {T U : Type 0} (f : Fields T U) (sound : IsDomain f) (warnings : Warnin
       warning_room = room;
       shapes = record { at = sound.parts.shapes.at };
       forms = sound.parts.forms;
+      open_loans = sound.parts.open_loans;
       plain = sound.parts.plain;
     };
     kept_books = kept-publishers f.next_port (f.next_port + 1) f.publishers f.publishers (omega arith)

@@ -1,5 +1,5 @@
 -- A loan is discarded: it is returned.
-use Rattle.std.proofs.Common.{◌≡◌, ℕ, ◌≤◌, get_or, ap, sym, subst, ◌∙◌, arith}
+use Rattle.std.proofs.Common.{◌≡◌, ℕ, ◌<◌, ◌≤◌, List, length, get_or, ap, sym, subst, ◌∙◌, arith}
 use Rattle.std.proofs.lemmas.Bool.{eq-eqb}
 use Rattle.std.specs.declared.option.Option.{Option}
 use Rattle.std.specs.declared.option.Option.TheVariants.{None, Some}
@@ -8,6 +8,7 @@ use Rattle.iox2_store.specs.machine.Loans.{loan_discarded}
 use Rattle.iox2_store.specs.machine.Records.{Loan}
 use Rattle.iox2_store.specs.machine.SingleCalls.{HoldsLoan}
 use Rattle.iox2_slots.specs.SlotBook.{Book, IsInUse, holders_at}
+use Rattle.iox2_contents.specs.SlotContents.{ContentState}
 use Rattle.iox2_ends.specs.Counters.{times}
 use Rattle.iox2_domain.specs.Invariant.{IsDomain}
 use Rattle.iox2_domain.specs.Discards.{with_loan_returned, DiscardsLoan}
@@ -16,6 +17,7 @@ use Rattle.iox2_domain.specs.Kept.{KeptMessage, Lent_message, state_of}
 use Rattle.iox2_domain.specs.LoanSlots.{LiesInSlot}
 use Rattle.iox2_domain.specs.Ports.{PublisherFields}
 use Rattle.iox2_domain.specs.Reaches.{Reaches}
+use Rattle.iox2_domain.proofs.lemmas.loans.LendingSteps.{contents-of}
 use Rattle.iox2_steps.proofs.discards.Returned.{returned-reaches}
 use Rattle.iox2_steps.proofs.sends.LoanAlone.{loan-once, loan-alone}
 use Rattle.iox2_domain.proofs.lemmas.slots.Messages.{lies_at, message_at-slot}
@@ -52,6 +54,14 @@ module _ {T U : Type 0} (f : Fields T U) (sound : IsDomain f) (p n place : ℕ) 
       let once : times slot x.loans ≡ 1 =
       ap (λ (y : PublisherFields). times slot y.loans) (sym is) ∙ loan-once f sound place found.0 found.1 slot n holds.0 lies in
       omega (arith, once)
+
+  -- the publisher's book has contents, and the slot is one of theirs
+  pub has-content : (x : PublisherFields) → get_or f.publishers place None ≡ Some x → (cs : List (ContentState T U)) × (get_or f.contents x.book None ≡ Some cs) × (slot < length cs)
+  has-content x there =
+      let both : Some found.0 ≡ Some x = sym found.1 ∙ there in
+      let is : found.0 ≡ x = cc in
+      let cs = contents-of f sound place x there at.book (subst (λ (y : PublisherFields). get f.books y.book ≡ Some at.book) is stands) in
+      (cs.0, cs.1, omega (arith, cs.2, at.loan_slot.in_bounds))
 
   -- the whole discard
   pub discards-loan : (h : Fields T U)

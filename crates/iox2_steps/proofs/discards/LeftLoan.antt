@@ -38,6 +38,7 @@ use Rattle.iox2_domain.proofs.lemmas.slots.HeldMessages.{held-message-slot}
 use Rattle.iox2_domain.proofs.lemmas.slots.HolderGone.{given, left, keeps_slots, free, others-held, given-aligned, left-numbered, unnumbered, others-same, left-entries, left-loans, left-shapes, left-lone}
 use Rattle.iox2_domain.proofs.lemmas.slots.LeftConnections.{unknown, stands-nowhere}
 use Rattle.iox2_domain.proofs.lemmas.slots.LoneLoans.{is-loan}
+use Rattle.iox2_domain.proofs.lemmas.slots.OpenLoans.{open-rebooked}
 use Rattle.iox2_domain.proofs.lemmas.slots.SettledBooks.{settles}
 use Rattle.iox2_domain.proofs.lemmas.slots.Messages.{lies_at, message_in-parts, message_at-slot}
 use Rattle.iox2_domain.proofs.lemmas.slots.RecountedLoans.{loan-publisher}
@@ -136,6 +137,7 @@ module _ {T U : Type 0} (f : Fields T U) (sound : IsDomain f) (p n key slot : â„
     warning_room = sound.parts.warning_room;
     shapes = left-shapes f parts key at.book at.stands slot n at.loan lies alone;
     forms = sound.parts.forms;
+    open_loans = open-rebooked f.publishers f.books f.contents key at.book now at.stands refl sound.parts.open_loans;
     plain = sound.parts.plain;
   }
 

@@ -4,9 +4,11 @@ use Rattle.std.proofs.lemmas.Bool.{cases_eq}
 use Rattle.std.specs.declared.option.Option.{Option}
 use Rattle.std.specs.declared.option.Option.TheVariants.{None, Some}
 use Rattle.std.specs.Option.{option_map, option_and_then}
-use Rattle.slab.specs.Slab.{get}
+use Rattle.std.specs.Prelude.{List, ◌<◌, slice_set}
+use Rattle.slab.specs.Slab.{get, with_value}
 use Rattle.iox2_store.specs.machine.Loans.{loan_discarded}
 use Rattle.iox2_slots.specs.SlotBook.{Book, holders_at}
+use Rattle.iox2_contents.specs.SlotContents.{ContentState, ended_content}
 use Rattle.iox2_store.specs.machine.Numbers.{put_at, without}
 use Rattle.iox2_store.specs.machine.Records.{Loan, Publisher}
 use Rattle.iox2_store.specs.machine.State.{State}
@@ -19,9 +21,9 @@ use Rattle.iox2_laws.proofs.Puts.{found_put}
 use Rattle.iox2_domain.specs.Discards.{with_holder_gone, with_loan_returned}
 use Rattle.iox2_domain.specs.Deliveries.{with_loan_out}
 use Rattle.iox2_domain.specs.Ports.{PublisherFields}
-use Rattle.iox2_domain.specs.Kept.{Lent_message, state_of, entry_in}
-use Rattle.iox2_domain.specs.Fields.{Fields, kept_of, publisher_of, numbers_of}
-use Rattle.iox2_domain.specs.Invariant.{IsDomain, IsOwned, KeepsBooks, HasNumber, HasParts, LendsBlocked}
+use Rattle.iox2_domain.specs.Kept.{Kept, Lent_message, state_of, entries_of, entry_in}
+use Rattle.iox2_domain.specs.Fields.{Fields, kept_of, publisher_of, numbers_of, contents_at, contents_in}
+use Rattle.iox2_domain.specs.Invariant.{IsDomain, IsOwned, KeepsBooks, HasBooks, HasForms, HasOpenLoans, HasShapes, HasNumber, HasParts, LendsBlocked, cell_count}
 use Rattle.iox2_domain.specs.Reaches.{Reaches}
 use Rattle.iox2_domain.specs.Shows.{KeepsEntries}
 use Rattle.iox2_domain.proofs.lemmas.fields.ConnectionEnds.{publisher-stands}
@@ -29,11 +31,17 @@ use Rattle.iox2_domain.proofs.lemmas.fields.KeptBooks.{kept-own}
 use Rattle.iox2_domain.proofs.lemmas.fields.Parts.{whole_of}
 use Rattle.iox2_domain.proofs.lemmas.fields.Views.{KeepsHeld, held-before}
 use Rattle.iox2_domain.proofs.lemmas.loans.PublisherChanges.{KeepsSettings, other_slots, changed-kept_books}
-use Rattle.iox2_domain.proofs.lemmas.slots.OwnSlots.{own-is, own-parts}
+use Rattle.iox2_domain.proofs.lemmas.slots.BookContents.{contents-there}
+use Rattle.iox2_domain.proofs.lemmas.slots.FreeContents.{rewritten-kept, rewritten-lies}
+use Rattle.iox2_domain.proofs.lemmas.slots.OpenLoans.{mark-here, open-own}
+use Rattle.iox2_domain.proofs.lemmas.slots.OwnSlots.{own-is, own-books, own-parts_with}
+use Rattle.iox2_domain.proofs.lemmas.slots.RewrittenContents.{rewritten-books, rewritten-others}
+use Rattle.iox2_domain.proofs.lemmas.slots.SlotCells.{cells-here, cells-elsewhere}
+use Rattle.iox2_domain.proofs.lemmas.slots.SlotChanges.{forms-changed}
 use Rattle.iox2_steps.proofs.sends.LoanAlone.{loan-number, loan-is, loan-of, loan-slot, loan-once, blocked-other}
 use Rattle.iox2_steps.proofs.sends.SentSlots.{times-without-one, map-without}
-use Rattle.iox2_domain.proofs.lemmas.slots.HolderGone.{keeps_slots, fewer-holders, given-aligned, left-numbered, unnumbered, others-same, left-entries, left-loans, left-shapes, left-lone}
-use Rattle.iox2_domain.proofs.lemmas.slots.BookChanges.{KeepsSlots}
+use Rattle.iox2_domain.proofs.lemmas.slots.HolderGone.{keeps_slots, free, fewer-holders, given-aligned, left-numbered, unnumbered, others-same, left-entries, left-loans, left-shapes, left-lone}
+use Rattle.iox2_domain.proofs.lemmas.slots.BookChanges.{KeepsSlots, book-here}
 use Rattle.iox2_domain.proofs.lemmas.slots.HeldMessages.{held-message-slot}
 use Rattle.iox2_domain.proofs.lemmas.slots.Messages.{lies_at}
 use Rattle.iox2_domain.proofs.lemmas.slots.PublisherBooks.{book-own, book-owned}
@@ -44,6 +52,10 @@ module _ {T U : Type 0} (f : Fields T U) (sound : IsDomain f) (i : ℕ) (x : Pub
   -- the book afterwards
   abbrev given : Book
   given = with_holder_gone slot b
+
+  -- the fields with the slot's cells still
+  abbrev mid : Fields T U
+  mid = record f { publishers = slice_set f.publishers i (Some (with_loan_out slot x)); books = with_value f.books x.book given }
 
   -- the fields afterwards
   abbrev pub returned : Fields T U
@@ -66,14 +78,30 @@ module _ {T U : Type 0} (f : Fields T U) (sound : IsDomain f) (i : ℕ) (x : Pub
   same-slots : KeepsSlots b given
   same-slots = keeps_slots f parts x.book b at slot n l lies alone
 
+  abbrev cs : List (ContentState T U)
+  cs = contents_at f.contents x.book
+
+  has : get_or f.contents x.book None ≡ Some cs
+  has = let there = contents-there f parts x.book b at in there.1 ∙ ap Some (sym (ap contents_in there.1))
+
+  given-here : get mid.books x.book ≡ Some given
+  given-here = book-here f x.book b given at same-slots
+
+  slot-free : holders_at given slot ≡ 0
+  slot-free = free f parts x.book b at slot n l lies alone
+
+  -- the cells of a slot that nobody holds aren't kept
+  same-kept : kept_of returned ≡ kept_of mid
+  same-kept = rewritten-kept mid x.book cs has slot ended_content given given-here slot-free
+
   -- ---- the state
 
   abbrev without_loan : Publisher → Publisher
   without_loan y = record y { loans = without n y.loans }
 
   -- the machine's step
-  returned-is : state_of (kept_of returned) ≡ loan_discarded was n l
-  returned-is =
+  mid-is : state_of (kept_of mid) ≡ loan_discarded was n l
+  mid-is =
       own-is f parts i x here b at mine (with_loan_out slot x) keeps given same-slots (put_at was.loans n None) (left-loans f parts x.book b at slot n l lies alone)
       ∙ ap (λ (o : Option Publisher). record was { publishers = put_at was.publishers x.id o; loans = put_at was.loans n None }) port
       ∙ ap (λ (p : ℕ). record was { publishers = put_at was.publishers p (option_map without_loan (was.publishers p)); loans = put_at was.loans n None })
@@ -85,6 +113,9 @@ module _ {T U : Type 0} (f : Fields T U) (sound : IsDomain f) (i : ℕ) (x : Pub
           (map-without (numbers_of f.books x.id) slot n (loan-number f sound i x here slot n l lies) x.loans (loan-slot f sound i x here slot n l lies))
           ∙ sym (ap (option_map without_loan) (publisher-stands f sound.parts i x here))
 
+  returned-is : state_of (kept_of returned) ≡ loan_discarded was n l
+  returned-is = ap (state_of {T = T} {U = U}) same-kept ∙ mid-is
+
   -- ---- the parts
 
   fewer-loans : (s : ℕ) → times s (without slot x.loans) + one_if s slot ≡ times s x.loans
@@ -93,10 +124,33 @@ module _ {T U : Type 0} (f : Fields T U) (sound : IsDomain f) (i : ℕ) (x : Pub
   -- the fields agree with one another
   returned-parts : HasParts returned
   returned-parts =
-      own-parts f parts i x here b at mine (with_loan_out slot x) keeps given same-slots (λ s. omega (arith, fewer-holders f parts x.book b at slot n l lies alone s, fewer-loans s)) refl lends
-      (given-aligned f parts x.book b at slot n l lies alone) (left-numbered f parts x.book b at slot n l lies alone)
-      (record { at = (left-shapes f parts x.book b at slot n l lies alone).at })
+      own-parts_with f parts i x here b at mine (with_loan_out slot x) keeps given same-slots (λ s. omega (arith, fewer-holders f parts x.book b at slot n l lies alone s, fewer-loans s))
+      returned.contents refl lends (left-numbered f parts x.book b at slot n l lies alone)
+      (rewritten-books mid x.book cs has slot ended_content given given-here (λ c. refl) mid-books) shapes forms open_loans
     where
+      mid-books : HasBooks mid
+      mid-books = own-books f parts i x here b at mine (with_loan_out slot x) keeps given same-slots (λ s. omega (arith, fewer-holders f parts x.book b at slot n l lies alone s, fewer-loans s))
+          (given-aligned f parts x.book b at slot n l lies alone)
+
+      shapes : HasShapes returned
+      shapes = record {
+        at = λ k s c m stands lying.
+            (left-shapes f parts x.book b at slot n l lies alone).at k s c m stands (sym (rewritten-lies mid x.book cs has slot ended_content given given-here slot-free k s c stands) ∙ lying);
+      }
+
+      forms : HasForms f.config returned.contents
+      forms = forms-changed f.config f.contents x.book slot cs has ended_content (λ c. refl) (λ c. refl) parts.forms
+
+      -- the slot has no cells, and the others are as they were
+      open_loans : HasOpenLoans returned.publishers returned.books returned.contents
+      open_loans = open-own f parts i x here (with_loan_out slot x) b given at returned.contents (rewritten-others f x.book cs has slot ended_content) refl (λ s some. elim (cases_eq s slot) [
+        | inl same ↦ absurd (let none = cells-here f.contents x.book cs has slot ended_content (subst (λ (j : ℕ). 0 < cell_count returned.contents x.book j) same some) in let no : 0 < 0 = none.2 in omega arith)
+        | inr away ↦
+            let before : cell_count returned.contents x.book s ≡ cell_count f.contents x.book s = cells-elsewhere f.contents x.book cs has slot ended_content x.book s (λ both. away both.1) in
+            let loan = parts.open_loans.at i s x here (subst (λ (k : ℕ). 0 < k) before some) in
+            (omega (arith, loan.out, fewer-loans s, one_if_other s slot away), sym (mark-here f.books x.book b at s) ∙ loan.unwritten)
+      ])
+
       -- the slot of a blocked delivery is another
       lends : LendsBlocked x → LendsBlocked (with_loan_out slot x)
       lends has d e = omega (arith, has d e, fewer-loans d.slot, one_if_other d.slot slot (blocked-other f sound i x here slot n l lies d e))
@@ -111,7 +165,7 @@ module _ {T U : Type 0} (f : Fields T U) (sound : IsDomain f) (i : ℕ) (x : Pub
         absurd (unnumbered f parts x.book b at slot n l lies alone there.0 there.1 (subst (HasNumber returned.books there.0 there.1) same there.2))
     | inr away ↦
         let old = sound.entries q m (held-before was (loan_discarded was n l) q m (λ r. refl) standing (subst (λ (s : State T U). IsHeldMessage s q m) returned-is is)) in
-        (old.0, ap (option_and_then entry_in) (others-same f parts x.book b at slot n l lies alone m away) ∙ old.1, old.2)
+        (old.0, ap (λ (k : Kept T U ⊥ ⊥). entries_of k m) same-kept ∙ ap (option_and_then entry_in) (others-same f parts x.book b at slot n l lies alone m away) ∙ old.1, old.2)
   ]
     where
       standing : (y : Publisher) → (loan_discarded was n l).publishers q ≡ Some y → (z : Publisher) × (was.publishers q ≡ Some z) × KeepsHeld z y
@@ -134,5 +188,5 @@ module _ {T U : Type 0} (f : Fields T U) (sound : IsDomain f) (i : ℕ) (x : Pub
   returned-reaches = record {
     agrees = whole_of returned returned-parts (left-lone f parts x.book b at slot n l lies alone sound.lone) kept (subst IsWellFormed (sym returned-is) (loan_discarded_keeps was sound.well_formed n l (loan-is f sound i x here slot n l lies))) keeps_entries;
     state = returned-is;
-    entries = left-entries f parts x.book b at slot n l lies alone;
+    entries = λ m entry kept. left-entries f parts x.book b at slot n l lies alone m entry (sym (ap (λ (k : Kept T U ⊥ ⊥). entries_of k m) same-kept) ∙ kept);
   }

@@ -208,6 +208,7 @@ module _ {T U : Type 0} (f : Fields T U) (sound : IsDomain f) (j : ℕ) (y : Sub
       warning_room = room;
       shapes = record { at = sound.parts.shapes.at };
       forms = sound.parts.forms;
+      open_loans = sound.parts.open_loans;
       plain = sound.parts.plain;
     };
     lone = sound.lone;

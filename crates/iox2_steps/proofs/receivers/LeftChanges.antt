@@ -46,6 +46,7 @@ parts-warned f warnings parts room = record {
   warning_room = room;
   shapes = record { at = parts.shapes.at };
   forms = parts.forms;
+  open_loans = parts.open_loans;
   plain = parts.plain;
 }
 

@@ -2,23 +2,26 @@
 use Rattle.std.proofs.Common.{◌≡◌, ◌≢◌, ℕ, ◌+◌, ◌<◌, Bool, true, false, cond, eqb, suc, List, [], ◌∷◌, ◌++◌, length, map, get_or, refl, ap, sym, subst, ◌∙◌, inl, inr, ◌⊎◌, arith}
 use Rattle.std.proofs.lemmas.Bool.{cases_eq, eq-eqb}
 use Rattle.std.proofs.lemmas.List.{length-set, map-append}
-use Rattle.std.specs.Prelude.{slice_index, slice_set}
+use Rattle.std.specs.Prelude.{slice_get, slice_index, slice_set}
 use Rattle.std.specs.declared.option.Option.{Option}
 use Rattle.std.specs.declared.option.Option.TheVariants.{None, Some}
+use Rattle.circular_buffer.proofs.Places.{slice_get-set_other}
 use Rattle.slab.specs.Slab.{get, with_value}
 use Rattle.iox2_store.specs.machine.Loans.{entry_of}
 use Rattle.iox2_slots.specs.SlotBook.{Book, IsAligned, IsInUse, holders_at}
+use Rattle.iox2_slots.specs.declared.slots.mark.SlotMark.TheVariants.{Unwritten, Written, Sent}
 use Rattle.iox2_store.specs.machine.Numbers.{put_at, without}
 use Rattle.iox2_store.specs.machine.Records.{Entry, Loan}
 use Rattle.iox2_ends.specs.Counters.{times}
-use Rattle.iox2_ends.proofs.Counts.{times_push}
+use Rattle.iox2_ends.proofs.Counts.{times_push, one_if_other}
 use Rattle.iox2_domain.specs.Ports.{PublisherFields}
 use Rattle.iox2_domain.specs.Kept.{KeptMessage, Lent_message, Sent_message, state_of, entries_of, is_numbered, message_numbered, loan_in, entry_in}
 use Rattle.iox2_domain.specs.Fields.{Fields, kept_of, publisher_of, numbers_of, message_in, contents_at}
-use Rattle.iox2_domain.specs.Invariant.{IsNumbered, HasNumber, HasShape, HasShapes, HasParts}
+use Rattle.iox2_domain.specs.Invariant.{IsNumbered, HasNumber, HasShape, HasShapes, HasParts, cell_count}
 use Rattle.iox2_domain.specs.Deliveries.{with_remembered, with_sent}
-use Rattle.iox2_domain.proofs.lemmas.slots.Messages.{lies_at, message_at-book, message_at-slot, has_number, loan-there, entry-there, ChangesSlot, message_numbered-others}
+use Rattle.iox2_domain.proofs.lemmas.slots.Messages.{lies_at, message_in-parts, message_at-book, message_at-slot, has_number, loan-there, entry-there, ChangesSlot, message_numbered-others}
 use Rattle.iox2_domain.proofs.lemmas.slots.BookChanges.{book-here, book-others, book-was}
+use Rattle.iox2_domain.proofs.lemmas.loans.ChangedLoan.{written-mark}
 use Rattle.iox2_domain.proofs.lemmas.loans.PublisherChanges.{KeepsSettings, other_slots}
 use Rattle.iox2_domain.proofs.lemmas.slots.OwnSlots.{own-is, own-parts}
 use Rattle.iox2_steps.proofs.sends.SentSlots.{times-without-one, map-without, sent-keeps, sent-others, LiesWritten, written-loan, sent-lies, sent-is, values-of}
@@ -59,6 +62,12 @@ module _ {T U : Type 0} (f : Fields T U) (parts : HasParts f) (i : ℕ) (x : Pub
 
   written : LiesWritten b slot (contents_at f.contents x.book) n l
   written = written-loan b slot (contents_at f.contents x.book) n l is_written lay
+
+  -- it was written
+  pub marked-written : slice_get b.marks slot ≡ Some Written
+  marked-written =
+      let parts = message_in-parts b (contents_at f.contents x.book) slot (Lent_message n l) lay in
+      parts.marks ∙ ap Some (written-mark b (contents_at f.contents x.book) slot n l parts is_written)
 
   low : slot < length b.marks
   low = omega (arith, in_use.in_bounds, (parts.books.books x.book b at).aligned.marks)
@@ -130,7 +139,7 @@ module _ {T U : Type 0} (f : Fields T U) (parts : HasParts f) (i : ℕ) (x : Pub
   -- ---- the state
 
   -- the loan is out no more
-  ended-loans : (state_of (kept_of ended)).loans ≡ put_at (state_of (kept_of f)).loans n None
+  pub ended-loans : (state_of (kept_of ended)).loans ≡ put_at (state_of (kept_of f)).loans n None
   ended-loans = fun_ext (λ m. by m (eqb m n) refl) where
     found_loan : Option (KeptMessage T U) → Option (Loan T U)
     found_loan None = None
@@ -170,7 +179,7 @@ module _ {T U : Type 0} (f : Fields T U) (parts : HasParts f) (i : ℕ) (x : Pub
 
   -- ---- the parts
 
-  ended-shapes : HasShapes ended
+  pub ended-shapes : HasShapes ended
   ended-shapes = record { at = λ k s c m stands e. shape k s m (message_at-slot f.contents ended.books k s c stands ∙ e) } where
     old : (k s : ℕ) (m : KeptMessage T U) → lies_at f k s ≡ Some m → HasShape f.config m
     old k s m e = let there = message_at-book f.contents f.books k s m e in parts.shapes.at k s there.0 m there.1 there.2
@@ -206,10 +215,18 @@ module _ {T U : Type 0} (f : Fields T U) (parts : HasParts f) (i : ℕ) (x : Pub
   pub ended-parts : HasParts ended
   ended-parts =
       own-parts f parts i x here b at mine (with_remembered slot x) keeps (with_sent slot b) (sent-keeps b slot) counts refl
-      (λ has d e. absurd (let no : None ≡ Some d = sym free ∙ e in cc)) aligned ended-numbered ended-shapes
+      (λ has d e. absurd (let no : None ≡ Some d = sym free ∙ e in cc)) unwritten aligned ended-numbered ended-shapes
     where
       counts : (s : ℕ) → times s (without slot x.loans) + times s ((x.history).items ++ slot ∷ []) + holders_at b s ≡ times s x.loans + times s (x.history).items + holders_at b s
       counts s = omega (arith, times_push s (x.history).items slot, times-without-one s slot x.loans once)
+
+      -- the slot itself was written
+      unwritten : (s : ℕ) → 0 < cell_count f.contents x.book s → slice_get b.marks s ≡ Some Unwritten → 0 < times s x.loans
+          → (0 < times s (without slot x.loans)) × (slice_get (with_sent slot b).marks s ≡ Some Unwritten)
+      unwritten s some marked out = elim (cases_eq s slot) [
+        | inl same ↦ absurd (let no : Some Unwritten ≡ Some Written = sym marked ∙ ap (slice_get b.marks) same ∙ marked-written in cc)
+        | inr away ↦ (omega (arith, out, times-without-one s slot x.loans once, one_if_other s slot away), slice_get-set_other b.marks slot s Sent away ∙ marked)
+      ]
 
       aligned : IsAligned (with_sent slot b)
       aligned =

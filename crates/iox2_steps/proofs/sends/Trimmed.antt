@@ -129,6 +129,7 @@ module _ {T U : Type 0} (e : Fields T U) (parts : HasParts e) (i : ℕ) (z : Pub
       settings = other_slots z z.loans rest z.blocked;
       keys = refl;
       lends = λ has. has;
+      unwritten = λ s marked out. out;
       slots = length-set b.holders oldest _;
       used = λ s some. omega (arith, some, less s);
       counts = λ s. omega (arith, counts s, less s);

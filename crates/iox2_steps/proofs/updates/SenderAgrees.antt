@@ -28,6 +28,7 @@ use Rattle.iox2_domain.proofs.lemmas.containers.ChangedRecords.{changed-here, ch
 use Rattle.iox2_domain.proofs.lemmas.containers.Extensions.{sender_linked, receiver_linked}
 use Rattle.iox2_domain.proofs.lemmas.fields.Standing.{one-publisher, one-subscriber}
 use Rattle.iox2_domain.proofs.lemmas.loans.PublisherChanges.{changed-kept_books}
+use Rattle.iox2_domain.proofs.lemmas.slots.OpenLoans.{open-published}
 use Rattle.iox2_steps.proofs.updates.SenderChanges.{FitsSender, IsNewOfSender, with_keys, with_sender, port_after, sender-is}
 use Rattle.std.proofs.lemmas.Bool.{true≢false}
 use Rattle.iox2_steps.proofs.receivers.MoreConnections.{mailboxes-same}
@@ -237,6 +238,12 @@ module _ {T U : Type 0} (f : Fields T U) (sound : IsDomain f) (i : ℕ) (x : Pub
       warning_room = room;
       shapes = record { at = sound.parts.shapes.at };
       forms = sound.parts.forms;
+      open_loans = open-published f.publishers publishers f.books f.contents (record {
+        at = λ k z at_z. elim (stood k z at_z) [
+          | inl here ↦ rw here.1 (i, x, at, refl, λ slot out. out)
+          | inr old ↦ (k, z, old, refl, λ slot out. out)
+        ];
+      }) sound.parts.open_loans;
       plain = λ k z at_z. elim (stood k z at_z) [
         | inl here ↦ rw here.1 (let has = sound.parts.plain i x at in record { lent = has.lent; segment = record { static = has.segment.static; first = has.segment.first; longest = has.segment.longest; some = has.segment.some } })
         | inr old ↦ sound.parts.plain k z old

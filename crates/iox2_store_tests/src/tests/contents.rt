@@ -212,3 +212,33 @@ fn what_lay_in_a_cleared_slot_is_dropped(rt: HostRuntime) {
     drop(contents);
     assert!(rt; held == 2 && left == 1);
 }
+
+#[test]
+fn what_was_put_into_a_cell_goes_with_its_loan(rt: HostRuntime) {
+    let shared = Rc::new(rt.alloc(), 21_u8).expect(&rt, "a value");
+    let mut contents: Contents<Rc<u8>, Station> = Contents::new(
+        rt.alloc(),
+        1,
+        1,
+        false,
+        true,
+    ).expect(&rt, "room");
+    contents.start(0, 1);
+    *contents.cell_mut(0) = Some(shared.clone().expect(&rt, "a share"));
+    let held = Rc::strong_count(&shared);
+    contents.end(0);
+    let left = Rc::strong_count(&shared);
+    drop(contents);
+    assert!(rt; held == 2 && left == 1);
+}
+
+#[test]
+fn a_loan_that_has_ended_has_no_cells(rt: HostRuntime) {
+    let mut contents = listed(&rt, rt.alloc(), 2);
+    write_cell(&mut contents, 1, 21);
+    let is_written = is_written_at(&contents, 1);
+    contents.end(0);
+    let cells = contents.cells(0).len();
+    drop(contents);
+    assert!(rt; is_written == Some(true) && cells == 0);
+}

@@ -1,4 +1,4 @@
-use Rattle.iox2_steps.proofs.discards.DiscardSteps.{can-return, once-lent, discards-loan}
+use Rattle.iox2_steps.proofs.discards.DiscardSteps.{can-return, once-lent, has-content, discards-loan}
 use Rattle.iox2_steps.proofs.discards.LeftLoan.{can-let-go, left-discarded}
 use Rattle.iox2_deliveries.proofs.discards.discard_loan.Goals as goal
 
@@ -7,6 +7,8 @@ return_loan-requires g c = record {
   stands = can-return c.args.state.now c.requires.agrees c.args.loan.publisher c.args.loan.number c.in-Some.place c.requires.live c.in-Some.ensures
       c.find_live_loan-at.result.book c.find_live_loan-at.result.slot c.find_live_loan-at.ensures;
   once = once-lent c.args.state.now c.requires.agrees c.args.loan.publisher c.args.loan.number c.in-Some.place c.requires.live c.in-Some.ensures
+      c.find_live_loan-at.result.book c.find_live_loan-at.result.slot c.find_live_loan-at.ensures;
+  contents = has-content c.args.state.now c.requires.agrees c.args.loan.publisher c.args.loan.number c.in-Some.place c.requires.live c.in-Some.ensures
       c.find_live_loan-at.result.book c.find_live_loan-at.result.slot c.find_live_loan-at.ensures;
 }
 

@@ -161,6 +161,7 @@ module _ {T U : Type 0} (f : Fields T U) (sound : IsDomain f) (key : ℕ) (c : L
     warning_room = sound.parts.warning_room;
     shapes = record { at = sound.parts.shapes.at };
     forms = sound.parts.forms;
+    open_loans = sound.parts.open_loans;
     plain = sound.parts.plain;
   }
 

@@ -19,6 +19,7 @@ use Rattle.iox2_domain.proofs.lemmas.containers.LookUps.{map-at, viewed}
 use Rattle.iox2_domain.proofs.lemmas.fields.LostConnections.{IsEmptyLink, LosesEmpty, lost-apart, lost-sums, lost-counts}
 use Rattle.iox2_domain.proofs.lemmas.fields.OwnKeys.{listed-at, listed-has}
 use Rattle.iox2_domain.proofs.lemmas.fields.Standing.{some_is}
+use Rattle.iox2_domain.proofs.lemmas.slots.OpenLoans.{open-published}
 
 -- the publisher has no keys but those that it had, at their places
 pub record ForgetsSenderKeys (x x' : PublisherFields) : Type 0 where
@@ -270,6 +271,10 @@ module _ {T U : Type 0} (f : Fields T U) (parts : HasParts f) (publishers : List
     warning_room = parts.warning_room;
     shapes = record { at = parts.shapes.at };
     forms = parts.forms;
+    open_loans = open-published f.publishers publishers f.books f.contents (record {
+      at = λ i x at. let was = g.senders i x at in
+          (i, was.0, was.1, ap (λ (z : PublisherFields). z.book) was.2.fields, λ slot. subst (λ (z : PublisherFields). 0 < times slot (was.0).loans → 0 < times slot z.loans) (sym was.2.fields) (λ out. out));
+    }) parts.open_loans;
     plain = λ i x at. let was = g.senders i x at in let has = parts.plain i was.0 was.1 in
         subst IsPlain (sym was.2.fields)
         (record { lent = has.lent; segment = record { static = has.segment.static; first = has.segment.first; longest = has.segment.longest; some = has.segment.some } });

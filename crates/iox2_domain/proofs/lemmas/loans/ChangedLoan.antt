@@ -1,7 +1,7 @@
 -- What lies in the slot of a loan that is out is changed.
 use Rattle.std.proofs.Common.{◌≡◌, ◌≢◌, ℕ, ◌*◌, List, map, length, Bool, true, false, cond, get_or, refl, ap, sym, subst, ◌∙◌, inl, inr}
 use Rattle.std.proofs.lemmas.Bool.{cases_eq, eq-eqb, ne_eqb, true≢false, false_from_ne_true}
-use Rattle.std.specs.Prelude.{slice_index}
+use Rattle.std.specs.Prelude.{◌<◌, slice_get, slice_index}
 use Rattle.std.specs.declared.option.Option.{Option}
 use Rattle.std.specs.declared.option.Option.TheVariants.{None, Some}
 use Rattle.std.specs.Option.{option_map, option_and_then}
@@ -27,7 +27,7 @@ use Rattle.iox2_domain.proofs.lemmas.fields.KeptBooks.{kept-used}
 use Rattle.iox2_domain.proofs.lemmas.fields.NamedBooks.{names-books}
 use Rattle.iox2_domain.proofs.lemmas.slots.BookChanges.{book-after}
 use Rattle.iox2_domain.proofs.lemmas.slots.Messages.{LiesIn, lies_at, message_in-parts, message_at-slot, message_at-book, message_numbered-found, has_number}
-use Rattle.iox2_domain.proofs.lemmas.slots.SlotChanges.{slot-forms, with_slot, marked, marked-keeps, renewed, slot-books, slot-numbered, slot-counted, slot-state, others-lie, slot-lies, others-found, slot-found}
+use Rattle.iox2_domain.proofs.lemmas.slots.SlotChanges.{slot-forms, slot-open, with_slot, marked, marked-keeps, renewed, slot-books, slot-numbered, slot-counted, slot-state, others-lie, slot-lies, others-found, slot-found}
 use Rattle.iox2_domain.proofs.lemmas.fields.Views.{held-before}
 use Rattle.iox2_domain.proofs.lemmas.slots.LoneLoans.{lone-marked}
 use Rattle.iox2_domain.proofs.lemmas.fields.SameLinks.{linked-same}
@@ -108,12 +108,14 @@ pub record IsChangeOf {T U : Type 0} (l changed : Loan T U) : Type 0 where
   pub cells : length changed.cells ≡ length l.cells
   pub complete : changed.is_written ≡ true → is_initialized changed ≡ true
 
--- With this mark, what g makes of the content is the changed loan.
-pub record ChangesTo {T U : Type 0} (publisher n : ℕ) (header : Header) (content : ContentState T U) (l : Loan T U) (mark : SlotMark)
+-- With this mark, what g makes of the content is the changed loan. It has cells only where the content had some, under the
+-- mark that it had.
+pub record ChangesTo {T U : Type 0} (publisher n : ℕ) (header : Header) (content : ContentState T U) (had : SlotMark) (l : Loan T U) (mark : SlotMark)
     (g : ContentState T U → ContentState T U) (changed : Loan T U) : Type 0 where
   pub room : (c : ContentState T U) → (g c).room ≡ c.room
   pub form : (c : ContentState T U) → (g c).is_in_place ≡ c.is_in_place
   pub listed : (c : ContentState T U) → (g c).lists_cells ≡ c.lists_cells
+  pub cells : 0 < length (g content).cells → (0 < length content.cells) × (mark ≡ had)
   pub loan : IsChangeOf l changed
   pub is : message_of publisher n header (g content) mark ≡ Lent_message n changed
 
@@ -132,7 +134,7 @@ module _ {T U : Type 0} (f : Fields T U) (sound : IsDomain f) (p n key slot : �
     loan-parts = message_in-parts at.book cs slot (Lent_message n at.loan) (sym (ap (λ o. message_in at.book (contents_in o) slot) at_c) ∙ at.lies)
 
     module _ (mark : SlotMark) (g : ContentState T U → ContentState T U) (changed : Loan T U)
-        (change : ChangesTo (at.book).publisher n loan-parts.header loan-parts.content at.loan mark g changed) where
+        (change : ChangesTo (at.book).publisher n loan-parts.header loan-parts.content loan-parts.mark at.loan mark g changed) where
       abbrev state : State T U
       state = state_of (kept_of f)
 
@@ -241,6 +243,7 @@ module _ {T U : Type 0} (f : Fields T U) (sound : IsDomain f) (p n key slot : �
           warning_room = sound.parts.warning_room;
           shapes = change-shapes;
           forms = slot-forms f sound key slot at.book at.stands cs at_c mark g change.form change.listed sound.parts.forms;
+          open_loans = slot-open f sound key slot at.book at.stands cs at_c mark g keeps-cells sound.parts.open_loans;
           plain = sound.parts.plain;
         };
         kept_books = kept-used f.next_port f.publishers f.books key at.book (marked f sound key slot at.book at.stands cs at_c mark g) at.stands refl refl sound.kept_books;
@@ -248,6 +251,14 @@ module _ {T U : Type 0} (f : Fields T U) (sound : IsDomain f) (p n key slot : �
         well_formed = rw change-is (with_loan_keeps state sound.well_formed n at.loan at.is_out changed (change.loan).publisher (change.loan).header (change.loan).cells (change.loan).complete);
         entries = change-keeps_entries;
       } where
+        -- the slot has cells only where it had some, under the mark that it had
+        keeps-cells : (content : ContentState T U) → slice_get cs slot ≡ Some content → 0 < length (g content).cells → (0 < length content.cells) × (slice_get (at.book).marks slot ≡ Some mark)
+        keeps-cells content there some =
+            let both : Some loan-parts.content ≡ Some content = sym loan-parts.contains ∙ there in
+            let is : loan-parts.content ≡ content = cc in
+            let old = change.cells (subst (λ (c : ContentState T U). 0 < length (g c).cells) (sym is) some) in
+            (subst (λ (c : ContentState T U). 0 < length c.cells) is old.0, loan-parts.marks ∙ ap Some (sym old.1))
+
         -- a slot whose message is a loan is lent
         lent : (mark : SlotMark) → message_of (at.book).publisher n loan-parts.header (g loan-parts.content) mark ≡ Lent_message n changed → is_lent mark ≡ true
         lent Unwritten is = refl

@@ -6,13 +6,15 @@ use Rattle.std.proofs.lemmas.List.{length-set, length-replicate}
 use Rattle.std.specs.declared.option.Option.{Option}
 use Rattle.std.specs.declared.option.Option.TheVariants.{None, Some}
 use Rattle.std.specs.Option.{option_map_or}
-use Rattle.std.specs.Prelude.{IsSomeAnd}
+use Rattle.std.specs.Prelude.{◌<◌, slice_get, IsSomeAnd}
 use Rattle.std.specs.List.{sum_by}
+use Rattle.circular_buffer.proofs.Places.{slice_get-set_same, slice_get-set_other}
 use Rattle.slab.specs.Slab.{get}
 use Rattle.iox2_store.specs.machine.Records.{Publisher, Environment}
 use Rattle.iox2_store.specs.machine.Numbers.{put_at}
 use Rattle.iox2_store.specs.machine.State.{State}
 use Rattle.iox2_slots.specs.SlotBook.{Book, holders_at}
+use Rattle.iox2_slots.specs.declared.slots.mark.SlotMark.TheVariants.{Unwritten}
 use Rattle.iox2_contents.specs.SlotContents.{ContentState, unwritten_content}
 use Rattle.iox2_store.specs.machine.Loans.{is_static, loan_granted, GrantLoan}
 use Rattle.iox2_store.specs.machine.WellFormed.{IsWellFormed}
@@ -25,7 +27,7 @@ use Rattle.iox2_store.specs.declared.service_config.TypeVariant.TheVariants.{Fix
 use Rattle.iox2_domain.specs.Ports.{PublisherFields, slot_length}
 use Rattle.iox2_domain.specs.Kept.{KeptMessage, Lent_message, state_of}
 use Rattle.iox2_domain.specs.Fields.{Fields, kept_of, publisher_of, is_book_of}
-use Rattle.iox2_domain.specs.Invariant.{IsDomain, IsOwned, IsBook, HasBook, HasBooks, IsCounted, HasRoomFrom, HasShape, HasShapes, is_publisher, own_holders, holders_of, is_loan_in}
+use Rattle.iox2_domain.specs.Invariant.{IsDomain, IsOwned, IsBook, HasBook, HasBooks, IsCounted, HasRoomFrom, HasShape, HasShapes, is_publisher, own_holders, holders_of, is_loan_in, cell_count}
 use Rattle.iox2_domain.specs.Reaches.{Reaches}
 use Rattle.iox2_domain.specs.Shows.{KeepsEntries}
 use Rattle.iox2_domain.proofs.lemmas.fields.NamedBooks.{names-books}
@@ -35,6 +37,8 @@ use Rattle.iox2_domain.proofs.lemmas.slots.SlotsInUse.{its_book, slot-counted}
 use Rattle.iox2_domain.proofs.lemmas.slots.Messages.{lies_at, message_at-book, message_at-slot}
 use Rattle.iox2_domain.proofs.lemmas.loans.PublisherChanges.{KeepsSettings, changed-ids_apart, look_up-publisher, changed-linked_same, changed-books, changed-room, changed-plain, changed-kept_books, changed-entries}
 use Rattle.iox2_domain.proofs.lemmas.slots.SlotChanges.{forms-changed}
+use Rattle.iox2_domain.proofs.lemmas.slots.OpenLoans.{mark-here, open-own}
+use Rattle.iox2_domain.proofs.lemmas.slots.SlotCells.{cells-elsewhere}
 use Rattle.iox2_domain.proofs.lemmas.loans.Taken.{taken-after, CanTakeSlot, with_taken, taken_book, taken_books, begun, begun_contents, lent, next_header, taken-stands, others-stand, begun-has, others-have, taken-one_each, taken-found, taken-holders, taken-numbered, taken-entries, lent-lies, others-lie, length-with_changed, room-with_changed, taken-lone}
 use Rattle.iox2_domain.proofs.lemmas.loans.Granted.{lender, with_granted, granted-is, taken-is}
 use Rattle.iox2_domain.proofs.lemmas.fields.Views.{held-before}
@@ -231,6 +235,22 @@ module _ {T U : Type 0} (f : Fields T U) (sound : IsDomain f) (i : ℕ) (x : Pub
         let was = message_at-book f.contents f.books key k m (sym (others-lie f sound x slot can user_header len key k away) ∙ found) in
         sound.parts.shapes.at key k was.0 m was.1 was.2
 
+  -- the slot is a loan that isn't written, and the other loans are as they were
+  lends-open : (k : ℕ) → 0 < cell_count granted.contents x.book k → (0 < times k new_lender.loans) × (slice_get new_book.marks k ≡ Some Unwritten)
+  lends-open k some = elim (cases_eq k slot) [
+    | inl here ↦ (
+      omega (arith, times_push k x.loans slot, ap (λ (j : ℕ). one_if j slot) here, one_if_same slot),
+      ap (slice_get new_book.marks) here ∙ slice_get-set_same (can.book).marks slot Unwritten (omega (arith, can.within, can.aligned.marks)),
+    )
+    | inr away ↦
+        let before : cell_count granted.contents x.book k ≡ cell_count f.contents x.book k =
+        cells-elsewhere f.contents x.book can.contents can.has slot (unwritten_content user_header (len * (f.config).units_per_element)) x.book k (λ both. away both.1) in
+        let loan = sound.parts.open_loans.at i k x at (subst (λ (n : ℕ). 0 < n) before some) in (
+          omega (arith, times_push k x.loans slot, loan.out),
+          slice_get-set_other (can.book).marks slot k Unwritten away ∙ sym (mark-here f.books x.book can.book can.stands k) ∙ loan.unwritten,
+        )
+  ]
+
   taken-keeps_entries : KeepsEntries (kept_of mid)
   taken-keeps_entries p n there =
       let held_then : IsHeldMessage state p n =
@@ -263,6 +283,7 @@ module _ {T U : Type 0} (f : Fields T U) (sound : IsDomain f) (i : ℕ) (x : Pub
         warning_room = sound.parts.warning_room;
         shapes = granted-shapes;
         forms = forms-changed f.config f.contents x.book slot can.contents can.has (unwritten_content user_header (len * (f.config).units_per_element)) (λ c. refl) (λ c. refl) sound.parts.forms;
+        open_loans = open-own f sound.parts i x at new_lender can.book new_book can.stands granted.contents (others-have f sound x slot can user_header len) refl lends-open;
         plain = changed-plain mid i x new_lender at refl sound.parts.plain keeps (λ has b e. omega (arith, has b e, times_push b.slot x.loans slot));
       };
       kept_books = changed-kept_books mid i x new_lender at refl (taken_books f sound x slot can user_header len) refl

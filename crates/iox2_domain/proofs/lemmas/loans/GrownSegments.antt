@@ -1,13 +1,16 @@
 -- A publisher gets a further segment: the fields agree, and keep what they kept.
 use Rattle.std.proofs.Common.{◌≡◌, ◌≢◌, ℕ, le_refl, ◌+◌, ◌*◌, List, length, Bool, true, false, cond, eqb, get_or, refl, ap, sym, subst, ◌∙◌, inl, inr, arith}
 use Rattle.std.proofs.lemmas.Bool.{cases_eq, eq-eqb}
-use Rattle.std.specs.Prelude.{IsSomeAnd, not}
+use Rattle.std.proofs.lemmas.Option.{slice_get_within}
+use Rattle.std.specs.Prelude.{◌<◌, slice_get, IsSomeAnd, not}
 use Rattle.std.specs.declared.option.Option.{Option}
 use Rattle.std.specs.declared.option.Option.TheVariants.{None, Some}
 use Rattle.std.specs.Option.{option_map_or}
 use Rattle.std.specs.List.{All, sum_by}
+use Rattle.circular_buffer.proofs.Places.{slice_get-append_left}
 use Rattle.slab.specs.Slab.{Slab, get}
 use Rattle.iox2_slots.specs.SlotBook.{Book, with_more_slots}
+use Rattle.iox2_slots.specs.declared.slots.mark.SlotMark.TheVariants.{Unwritten}
 use Rattle.iox2_contents.specs.SlotContents.{ContentState}
 use Rattle.iox2_store.specs.machine.Loans.{is_static}
 use Rattle.iox2_store.specs.machine.Records.{Loan}
@@ -19,7 +22,7 @@ use Rattle.iox2_ends.proofs.LookUps.{look_up-found}
 use Rattle.iox2_ends.specs.Counters.{times, stands}
 use Rattle.iox2_domain.specs.Fields.{Fields, kept_of, publisher_of, is_book_of}
 use Rattle.iox2_domain.specs.Growth.{Grows, with_segment}
-use Rattle.iox2_domain.specs.Invariant.{IsDomain, IsOwned, IsBook, HasBook, HasBooks, HasForms, HasPublisherRoom, HasRoomFrom, HasShapes, HasParts, IsCounted, IsPlain, is_publisher, is_loan_in, own_holders}
+use Rattle.iox2_domain.specs.Invariant.{IsDomain, IsOwned, IsBook, HasBook, HasBooks, HasForms, HasPublisherRoom, HasRoomFrom, HasShapes, HasParts, IsCounted, IsPlain, is_publisher, is_loan_in, own_holders, cell_count}
 use Rattle.iox2_domain.specs.Kept.{Kept, state_of, entries_of}
 use Rattle.iox2_domain.specs.Ports.{PublisherFields, slot_length}
 use Rattle.iox2_domain.specs.Reaches.{Reaches}
@@ -30,6 +33,8 @@ use Rattle.iox2_domain.proofs.lemmas.loans.LendingSteps.{contents-of}
 use Rattle.iox2_domain.proofs.lemmas.loans.PublisherChanges.{with_publisher, map-set, changed-here, changed-was, changed-ids_apart, look_up-publisher, changed-linked_same, changed-kept_books}
 use Rattle.iox2_domain.proofs.lemmas.slots.GrownBooks.{more_slots, grown_books, with_grown_book, grown-length, grown-aligned, grown-here, grown-others, contents-here, contents-others, grown-one_each, grown-after, numbers-same, holders-same, loans-same, grown-lone, lies-same, grown-numbered, grown-loans, grown-entries}
 use Rattle.iox2_domain.proofs.lemmas.slots.Messages.{message_at-book, message_at-slot}
+use Rattle.iox2_domain.proofs.lemmas.slots.OpenLoans.{mark-here, open-own}
+use Rattle.iox2_domain.proofs.lemmas.slots.SlotCells.{cells_if, cells-some, cells-read}
 use Rattle.iox2_domain.proofs.lemmas.slots.PublisherBooks.{book-own, book-owned}
 use Rattle.iox2_domain.proofs.lemmas.slots.Renumbered.{with_books-is}
 use mathlib.Core.Path.{fun_ext}
@@ -211,10 +216,20 @@ module _ {T U : Type 0} (f : Fields T U) (sound : IsDomain f) (i : ℕ) (x : Pub
       | inl same ↦
           let found : Some g.grown ≡ Some zs = sym has-here ∙ sym (ap (λ (j : ℕ). get_or mid.contents j None) same) ∙ there in
           let is : g.grown ≡ zs = cc in
-          subst (All (λ content. content.lists_cells ≡ true)) is ((g.grows).cells (ap not several) lists (sound.parts.forms.cells several lists x.book g.contents g.had))
+          subst (All (λ content. content.lists_cells ≡ true)) is ((g.grows).lists (ap not several) lists (sound.parts.forms.cells several lists x.book g.contents g.had))
       | inr away ↦ sound.parts.forms.cells several lists k zs (sym (others-have k away) ∙ there)
     ];
   }
+
+  -- each slot with cells had them, and has its mark
+  lends-open : (slot : ℕ) → 0 < cell_count mid.contents x.book slot → (0 < times slot grower.loans) × (slice_get new_book.marks slot ≡ Some Unwritten)
+  lends-open slot some =
+      let is = cells-some (slice_get g.grown slot) (subst (λ (n : ℕ). 0 < n) (cells-read mid.contents x.book slot (Some g.grown) has-here) some) in
+      let had : slice_get g.contents slot ≡ Some is.0 = (g.grows).cells.at slot is.0 is.1 is.2 in
+      let count : cell_count f.contents x.book slot ≡ length (is.0).cells = cells-read f.contents x.book slot (Some g.contents) g.had ∙ ap cells_if had in
+      let loan = sound.parts.open_loans.at i slot x at (omega (arith, count, is.2)) in
+      let mark : slice_get (g.book).marks slot ≡ Some Unwritten = sym (mark-here f.books x.book g.book g.stood slot) ∙ loan.unwritten in
+      (loan.out, slice_get-append_left (g.book).marks _ slot (slice_get_within (g.book).marks slot Unwritten mark) ∙ mark)
 
   -- ---- the whole
 
@@ -252,6 +267,7 @@ module _ {T U : Type 0} (f : Fields T U) (sound : IsDomain f) (i : ℕ) (x : Pub
     warning_room = sound.parts.warning_room;
     shapes = shapes;
     forms = forms;
+    open_loans = open-own f sound.parts i x at grower g.book new_book g.stood mid.contents others-have refl lends-open;
     plain = λ k z there. elim (changed-was mid i x grower at refl k z there) [
       | inl is ↦ subst IsPlain (sym is.1) plain
       | inr away ↦ sound.parts.plain k z away.1

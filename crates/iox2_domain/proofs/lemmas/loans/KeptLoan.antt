@@ -49,7 +49,7 @@ same-books books key slot b mark at marks =
 module _ {T U : Type 0} (f : Fields T U) (sound : IsDomain f) (p n key slot : ℕ) (at : LiesInSlot f p n key slot)
     (cs : List (ContentState T U)) (at_c : get_or f.contents key None ≡ Some cs) where
   module _ (mark : SlotMark) (marks : slice_get (at.book).marks slot ≡ Some mark) (g : ContentState T U → ContentState T U) (changed : Loan T U)
-      (change : ChangesTo (at.book).publisher n (loan-parts f sound p n key slot at cs at_c).header (loan-parts f sound p n key slot at cs at_c).content at.loan mark g changed) where
+      (change : ChangesTo (at.book).publisher n (loan-parts f sound p n key slot at cs at_c).header (loan-parts f sound p n key slot at cs at_c).content (loan-parts f sound p n key slot at cs at_c).mark at.loan mark g changed) where
     abbrev after : Fields T U
     after = with_change f sound p n key slot at cs at_c mark g changed change
 

@@ -62,7 +62,7 @@ module _ {T U : Type 0} (f : Fields T U) (sound : IsDomain f) (p n key slot : �
   parts = loan-parts f sound p n key slot at cs at_c
 
   lent : (mark : SlotMark) → slice_get (at.book).marks slot ≡ Some mark → (g : ContentState T U → ContentState T U) (h : Loan T U → Loan T U)
-      → ChangesTo (at.book).publisher n parts.header parts.content at.loan mark g (h at.loan) → IsLent f (with_content f key slot g) n at.loan h
+      → ChangesTo (at.book).publisher n parts.header parts.content parts.mark at.loan mark g (h at.loan) → IsLent f (with_content f key slot g) n at.loan h
   lent mark marks g h change = record {
     agrees = content-agrees f sound p n key slot at cs at_c mark marks g (h at.loan) change;
     reaches = content-reaches f sound p n key slot at cs at_c mark marks g (h at.loan) change;

@@ -1,6 +1,6 @@
 -- The ways in which a loan that is out is changed: its cells are written, changed, or taken as written, and its user header
 -- is changed.
-use Rattle.std.proofs.Common.{◌≡◌, ℕ, List, [], ◌∷◌, map, length, true, false, is_some, refl, ap, sym, ◌∙◌}
+use Rattle.std.proofs.Common.{◌≡◌, ℕ, List, [], ◌∷◌, map, length, true, false, is_some, refl, ap, sym, ◌∙◌, arith}
 use Rattle.std.proofs.lemmas.Bool.{true≢false}
 use Rattle.std.proofs.lemmas.List.{length-map}
 use Rattle.std.specs.List.{list_all}
@@ -16,7 +16,7 @@ use Rattle.iox2_slots.specs.declared.slots.mark.SlotMark.TheVariants.{Unwritten,
 use Rattle.iox2_domain.specs.Kept.{Lent_message}
 use Rattle.iox2_domain.specs.Fields.{message_of}
 use Rattle.iox2_domain.proofs.lemmas.slots.Messages.{LiesIn}
-use Rattle.iox2_domain.proofs.lemmas.loans.ChangedLoan.{ChangesTo, unwritten-parts, written-parts}
+use Rattle.iox2_domain.proofs.lemmas.loans.ChangedLoan.{ChangesTo, unwritten-parts, written-parts, unwritten-mark, written-mark}
 
 -- cells that are all written
 all-written : {A : Type 0} (values : List A) → list_all is_some (map Some values) ≡ true
@@ -25,7 +25,7 @@ all-written (value ∷ values) = all-written values
 
 module _ {T U : Type 0} (b : Book) (cs : List (ContentState T U)) (slot n : ℕ) (l : Loan T U) (lies : LiesIn b cs slot (Lent_message n l)) where
   abbrev Changes : SlotMark → (ContentState T U → ContentState T U) → Loan T U → Type 0
-  Changes mark g changed = ChangesTo b.publisher n lies.header lies.content l mark g changed
+  Changes mark g changed = ChangesTo b.publisher n lies.header lies.content lies.mark l mark g changed
 
   -- every cell is written, and the loan with them
   pub values-written : l.is_written ≡ false → (values : List T) → length values ≡ length l.cells
@@ -34,6 +34,7 @@ module _ {T U : Type 0} (b : Book) (cs : List (ContentState T U)) (slot n : ℕ)
     room = λ c. refl;
     form = λ c. refl;
     listed = λ c. refl;
+    cells = λ some. absurd (omega arith);
     loan = record { publisher = refl; header = refl; cells = length-map values Some ∙ long; complete = λ _. all-written values };
     is = ap (λ (k : Loan T U). Lent_message n (record k { cells = map Some values; is_written = true })) (sym (unwritten-parts b cs slot n l lies unwritten));
   }
@@ -45,6 +46,7 @@ module _ {T U : Type 0} (b : Book) (cs : List (ContentState T U)) (slot n : ℕ)
     room = λ c. refl;
     form = λ c. refl;
     listed = λ c. refl;
+    cells = λ some. (omega (arith, some, as_many (lies.content).cells), sym (unwritten-mark b cs slot n l lies unwritten));
     loan = record { publisher = refl; header = refl; cells = as_many l.cells; complete = λ written. absurd (true≢false (sym written ∙ unwritten)) };
     is = ap (λ (k : Loan T U). Lent_message n (record k { cells = change k.cells })) (sym (unwritten-parts b cs slot n l lies unwritten));
   }
@@ -57,6 +59,7 @@ module _ {T U : Type 0} (b : Book) (cs : List (ContentState T U)) (slot n : ℕ)
     room = λ c. refl;
     form = λ c. refl;
     listed = λ c. refl;
+    cells = λ some. (some, sym (written-mark b cs slot n l lies written));
     loan = record {
       publisher = refl;
       header = refl;
@@ -83,6 +86,7 @@ module _ {T U : Type 0} (b : Book) (cs : List (ContentState T U)) (slot n : ℕ)
     room = λ c. refl;
     form = λ c. refl;
     listed = λ c. refl;
+    cells = λ some. (some, refl);
     loan = record { publisher = refl; header = refl; cells = refl; complete = complete };
     is = by lies.mark lies.is;
   } where

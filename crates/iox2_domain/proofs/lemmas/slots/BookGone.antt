@@ -2,6 +2,7 @@
 use Rattle.std.proofs.Common.{◌≡◌, ◌≢◌, ◌⊎◌, ℕ, ◌+◌, List, [], map, cond, eqb, get_or, refl, ap, sym, subst, ◌∙◌, inl, inr, arith}
 use Rattle.std.proofs.lemmas.Bool.{cases_eq, eq-eqb, ne_eqb}
 use Rattle.std.proofs.lemmas.List.{get_or-set_same, get_or-set_other}
+use Rattle.std.specs.Prelude.{◌<◌, slice_get}
 use Rattle.std.specs.declared.option.Option.{Option}
 use Rattle.std.specs.declared.option.Option.TheVariants.{None, Some}
 use Rattle.std.specs.Option.{option_map, option_map_or, option_and_then}
@@ -12,18 +13,20 @@ use Rattle.iox2_slots.specs.SlotBook.{Book, holders_at}
 use Rattle.iox2_contents.specs.SlotContents.{ContentState}
 use Rattle.iox2_ends.specs.LookUp.{look_up}
 use Rattle.iox2_ends.specs.Counters.{times, stands}
-use Rattle.iox2_ends.specs.Mailboxes.{sender_ends}
+use Rattle.iox2_ends.specs.Mailboxes.{sender_ends, mailbox_of}
 use Rattle.iox2_ends.proofs.LookUps.{look_up-found, look_up-nothing}
 use Rattle.iox2_ends.proofs.MailboxChanges.{within_if_some}
 use Rattle.iox2_domain.specs.Ports.{PublisherFields}
 use Rattle.iox2_domain.specs.Kept.{state_of, entries_of, entry_in, loan_in, message_numbered, port_named, ids, stands_between, box_if_any, channels_if_between}
 use Rattle.iox2_domain.specs.Fields.{Fields, kept_of, kept_book, map_from, is_book_of, numbers_of, message_in, messages_in, contents_at, publisher_of, between_of, blocked_send}
-use Rattle.iox2_domain.specs.Invariant.{HasLoneLoans, HasNumber, HasBook, HasBooks, IsBook, NamesBooks, IsNumbered, IsCounted, HasShapes, HasForms, IsOwned, IsLeft, KeepsBooks, holders_of, own_holders, is_publisher, is_loan_in, HasParts}
+use Rattle.iox2_domain.specs.Invariant.{HasLoneLoans, HasNumber, HasBook, HasBooks, IsBook, NamesBooks, IsNumbered, IsCounted, HasShapes, HasForms, IsOwned, IsLeft, KeepsBooks, holders_of, own_holders, is_publisher, is_loan_in, cell_count, mark_at, HasParts}
 use Rattle.iox2_domain.specs.LeftBooks.{with_book_gone}
 use Rattle.iox2_domain.proofs.lemmas.containers.LookUps.{look_up-removed, IsOnly-removed}
 use Rattle.iox2_domain.proofs.lemmas.slots.BookContents.{contents-there}
 use Rattle.iox2_domain.proofs.lemmas.slots.MessageLists.{look_up-nothing_there, found_in, numbered-same}
 use Rattle.iox2_domain.proofs.lemmas.slots.Messages.{map_from_zero-at}
+use Rattle.iox2_domain.proofs.lemmas.slots.OpenLoans.{open-kept}
+use Rattle.iox2_domain.proofs.lemmas.slots.SlotCells.{cells_in, cells-read}
 use Rattle.iox2_domain.proofs.lemmas.slots.Renumbered.{map-alike}
 use Rattle.iox2_domain.proofs.lemmas.fields.SameLinks.{linked-same}
 use mathlib.Core.Path.{fun_ext}
@@ -122,7 +125,7 @@ module _ {T U : Type 0} (f : Fields T U) (parts : HasParts f) (key : ℕ) (b : B
 
   connections-shown : map (option_map (between_of after.books f.connections)) f.connections.slots ≡ map (option_map (between_of f.books f.connections)) f.connections.slots
   connections-shown = map-alike (between_of after.books f.connections) (between_of f.books f.connections) f.connections.slots (λ k c there.
-      ap (λ (number : ℕ → ℕ). record (between_of f.books f.connections c) { box = record { waiting = map number c.waiting; borrowed = map number c.borrowed; others = [] } })
+      ap (λ (number : ℕ → ℕ). record (between_of f.books f.connections c) { box = mailbox_of number c })
       (numbers-same c.home.publisher (unnamed k c there)))
 
   -- the machine sees nothing of it
@@ -224,6 +227,16 @@ module _ {T U : Type 0} (f : Fields T U) (parts : HasParts f) (key : ℕ) (b : B
     ];
   }
 
+  -- what has cells is of another book
+  another-key : (k slot : ℕ) → 0 < cell_count after.contents k slot → k ≢ key
+  another-key k slot some same = absurd (let none : cell_count after.contents k slot ≡ 0 = ap (λ (j : ℕ). cell_count after.contents j slot) same ∙ cells-read after.contents key slot None contents-here in omega arith)
+
+  had-cells : (k slot : ℕ) → 0 < cell_count after.contents k slot → 0 < cell_count f.contents k slot
+  had-cells k slot some = subst (λ (o : Option (List (ContentState T U))). 0 < cells_in o slot) (contents-others k (another-key k slot some)) some
+
+  same-marks : (k slot : ℕ) → 0 < cell_count after.contents k slot → mark_at after.books k slot ≡ mark_at f.books k slot
+  same-marks k slot some = ap (option_and_then (λ (c : Book). slice_get c.marks slot)) (others k (another-key k slot some))
+
   -- the fields agree with one another
   pub gone-parts : HasParts after
   gone-parts = record {
@@ -240,6 +253,7 @@ module _ {T U : Type 0} (f : Fields T U) (parts : HasParts f) (key : ℕ) (b : B
     warning_room = parts.warning_room;
     shapes = shapes;
     forms = forms;
+    open_loans = open-kept f.publishers f.books after.books f.contents after.contents had-cells same-marks parts.open_loans;
     plain = parts.plain;
   }
 

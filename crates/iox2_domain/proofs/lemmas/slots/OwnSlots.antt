@@ -1,13 +1,15 @@
 -- A publisher's own slots change, and its book with them: the state then, and what holds still.
 use Rattle.std.proofs.Common.{◌≡◌, ◌≢◌, ℕ, ◌+◌, cond, map, get_or, refl, ap, sym, ◌∙◌, inl, inr, arith}
 use Rattle.std.proofs.lemmas.Bool.{cases_eq, ne_eqb, eq-eqb}
-use Rattle.std.specs.Prelude.{slice_set}
+use Rattle.std.specs.Prelude.{◌<◌, List, slice_get, slice_set}
 use Rattle.std.specs.declared.option.Option.{Option}
 use Rattle.std.specs.declared.option.Option.TheVariants.{None, Some}
 use Rattle.std.specs.Option.{option_map, option_map_or}
 use Rattle.std.specs.List.{sum_by}
 use Rattle.slab.specs.Slab.{get, with_value}
 use Rattle.iox2_slots.specs.SlotBook.{Book, IsAligned, holders_at}
+use Rattle.iox2_slots.specs.declared.slots.mark.SlotMark.TheVariants.{Unwritten}
+use Rattle.iox2_contents.specs.SlotContents.{ContentState}
 use Rattle.iox2_store.specs.machine.Numbers.{put_at}
 use Rattle.iox2_store.specs.machine.Records.{Loan}
 use Rattle.iox2_store.specs.machine.State.{State}
@@ -17,15 +19,21 @@ use Rattle.iox2_ends.specs.Mailboxes.{sender_ends}
 use Rattle.iox2_domain.specs.Ports.{PublisherFields}
 use Rattle.iox2_domain.specs.Kept.{state_of}
 use Rattle.iox2_domain.specs.Fields.{Fields, kept_of, publisher_of, is_book_of, blocked_send}
-use Rattle.iox2_domain.specs.Invariant.{HasParts, IsCounted, IsNumbered, HasShapes, LendsBlocked, is_publisher, own_holders, holders_of, is_loan_in}
+use Rattle.iox2_domain.specs.Invariant.{HasParts, HasBooks, HasForms, HasOpenLoans, IsCounted, IsNumbered, HasShapes, LendsBlocked, is_publisher, own_holders, holders_of, is_loan_in, cell_count}
 use Rattle.iox2_domain.proofs.lemmas.fields.NamedBooks.{names-books}
+use Rattle.iox2_domain.proofs.lemmas.fields.SameLinks.{linked-same}
 use Rattle.iox2_domain.proofs.lemmas.slots.Holders.{book-holders, own-slots}
+use Rattle.iox2_domain.proofs.lemmas.slots.OpenLoans.{mark-here, open-own}
 use Rattle.iox2_domain.proofs.lemmas.slots.BookChanges.{KeepsSlots, with_book, book-after, holders-here, other-book, numbers-same, book-state, books-changed, linked-book}
 use Rattle.iox2_domain.proofs.lemmas.loans.PublisherChanges.{KeepsSettings, changed-ids_apart, changed-is, changed-linked_same, changed-books, changed-room, changed-plain, changed-own}
 
 module _ {T U : Type 0} (f : Fields T U) (parts : HasParts f) (i : ℕ) (x : PublisherFields) (here : get_or f.publishers i None ≡ Some x)
     (b : Book) (at : get f.books x.book ≡ Some b) (mine : b.publisher ≡ x.id)
     (y : PublisherFields) (settings : KeepsSettings x y) (d : Book) (keeps : KeepsSlots b d) where
+  -- the fields with these contents of slots
+  abbrev pub with_contents : List (Option (List (ContentState T U))) → Fields T U → Fields T U
+  with_contents contents g = record g { contents = contents }
+
   -- the fields afterwards
   abbrev pub with_own : Fields T U
   with_own = record f { publishers = slice_set f.publishers i (Some y); books = with_value f.books x.book d }
@@ -83,21 +91,41 @@ module _ {T U : Type 0} (f : Fields T U) (parts : HasParts f) (i : ℕ) (x : Pub
           let same : own_holders between p s ≡ own_holders f p s = ap (own s (look_up (is_publisher p) f.publishers)) book in
           omega (arith, now, has_now, same, parts.counted.at p s)
 
-    -- the fields agree with one another
-    pub own-parts : y.keys ≡ x.keys → (LendsBlocked x → LendsBlocked y) → IsAligned d → IsNumbered f.next_message with_own.books → HasShapes with_own → HasParts with_own
-    own-parts same_keys lends aligned numbered shapes = record {
+    -- the fields agree with one another, with these contents of slots
+    pub own-parts_with : (contents : List (Option (List (ContentState T U)))) → y.keys ≡ x.keys → (LendsBlocked x → LendsBlocked y) → IsNumbered f.next_message with_own.books
+        → HasBooks (with_contents contents with_own) → HasShapes (with_contents contents with_own) → HasForms f.config contents
+        → HasOpenLoans with_own.publishers with_own.books contents → HasParts (with_contents contents with_own)
+    own-parts_with contents same_keys lends numbered books shapes forms open_loans = record {
       publisher_ids = changed-ids_apart f i x y here settings.id parts.publisher_ids;
       subscriber_ids = parts.subscriber_ids;
       apart = parts.apart;
-      linked = changed-linked_same between i x y here settings.id (linked-book f x.book b d at keeps parts.linked) settings.key_room same_keys;
+      linked = linked-same with_own f.next_message f.warnings with_own.books contents
+          (changed-linked_same between i x y here settings.id (linked-book f x.book b d at keeps parts.linked) settings.key_room same_keys);
       expired_room = parts.expired_room;
-      books = changed-books between i x y here settings.id (books-changed f x.book b d at keeps parts.books aligned) settings;
+      books = books;
       names = names-books f.books _ f.connections (book-after f x.book b d at keeps) parts.names;
-      counted = own-counted;
+      counted = record { at = own-counted.at };
       numbered = numbered;
       publisher_room = changed-room f i x y here settings.id parts.publisher_room settings;
       warning_room = parts.warning_room;
       shapes = shapes;
-      forms = parts.forms;
+      forms = forms;
+      open_loans = open_loans;
       plain = changed-plain f i x y here settings.id parts.plain settings lends;
     }
+
+    -- the publisher has its book
+    pub own-books : IsAligned d → HasBooks with_own
+    own-books aligned = changed-books between i x y here settings.id (books-changed f x.book b d at keeps parts.books aligned) settings
+
+    -- each loan that isn't written is still one
+    abbrev pub KeepsUnwritten : Type 0
+    KeepsUnwritten = (s : ℕ) → 0 < cell_count f.contents x.book s → slice_get b.marks s ≡ Some Unwritten → 0 < times s x.loans → (0 < times s y.loans) × (slice_get d.marks s ≡ Some Unwritten)
+
+    -- the same with the contents that there were
+    pub own-parts : y.keys ≡ x.keys → (LendsBlocked x → LendsBlocked y) → KeepsUnwritten → IsAligned d → IsNumbered f.next_message with_own.books → HasShapes with_own → HasParts with_own
+    own-parts same_keys lends unwritten aligned numbered shapes =
+        own-parts_with f.contents same_keys lends numbered (own-books aligned) shapes parts.forms (open-own f parts i x here y b d at f.contents (λ k away. refl) settings.book still)
+      where
+        still : (s : ℕ) → 0 < cell_count f.contents x.book s → (0 < times s y.loans) × (slice_get d.marks s ≡ Some Unwritten)
+        still s some = let loan = parts.open_loans.at i s x here some in unwritten s some (sym (mark-here f.books x.book b at s) ∙ loan.unwritten) loan.out

@@ -1,11 +1,12 @@
 -- A publisher's own slots change, and with them their counters; no slot comes into use, and none with a loan goes out of use.
 use Rattle.std.proofs.Common.{◌≡◌, ◌⊎◌, ℕ, zero, suc, length, ◌+◌, ◌<◌, List, get_or, refl, ap, sym, subst, ◌∙◌, inl, inr, arith}
 use Rattle.std.proofs.lemmas.Bool.{cases_eq, eq-eqb}
-use Rattle.std.specs.Prelude.{slice_set}
+use Rattle.std.specs.Prelude.{slice_get, slice_set}
 use Rattle.std.specs.declared.option.Option.{Option}
 use Rattle.std.specs.declared.option.Option.TheVariants.{None, Some}
 use Rattle.slab.specs.Slab.{get, with_value}
 use Rattle.iox2_slots.specs.SlotBook.{Book, IsAligned, holders_at}
+use Rattle.iox2_slots.specs.declared.slots.mark.SlotMark.TheVariants.{Unwritten}
 use Rattle.iox2_store.specs.machine.Numbers.{put_at}
 use Rattle.iox2_store.specs.machine.Records.{Entry, Loan}
 use Rattle.iox2_store.specs.Stored.{IsHeldMessage}
@@ -32,6 +33,7 @@ pub record CanRebook {T U : Type 0} (f : Fields T U) (x y : PublisherFields) (b 
   pub settings : KeepsSettings x y
   pub keys : y.keys ≡ x.keys
   pub lends : LendsBlocked x → LendsBlocked y
+  pub unwritten : (s : ℕ) → slice_get b.marks s ≡ Some Unwritten → 0 < times s x.loans → 0 < times s y.loans
   pub slots : length holders ≡ length b.holders
   pub used : (s : ℕ) → 0 < get_or holders s 0 → 0 < holders_at b s
   pub counts : (s : ℕ) → times s y.loans + times s (y.history).items + holders_at b s ≡ times s x.loans + times s (x.history).items + get_or holders s 0
@@ -170,7 +172,7 @@ module _ {T U : Type 0} (f : Fields T U) (parts : HasParts f) (i : ℕ) (x y : P
 
   -- the fields agree with one another
   pub rebooked-parts : HasParts after
-  rebooked-parts = own-parts f parts i x here b at mine y can.settings new_book keeps can.counts can.keys can.lends aligned rebooked-numbered shapes where
+  rebooked-parts = own-parts f parts i x here b at mine y can.settings new_book keeps can.counts can.keys can.lends (λ s some marked out. (can.unwritten s marked out, marked)) aligned rebooked-numbered shapes where
     aligned : IsAligned new_book
     aligned =
         let old : IsAligned b = (parts.books.books x.book b at).aligned in

@@ -25,6 +25,7 @@ use Rattle.iox2_domain.proofs.lemmas.fields.ExpiredRoom.{room-still}
 use Rattle.iox2_domain.proofs.lemmas.fields.NamedBooks.{names-books, names-still}
 use Rattle.iox2_domain.proofs.lemmas.slots.Messages.{message_in-parts, message_in-from, lies_at, message_at-book, message_at-slot}
 use Rattle.iox2_domain.proofs.lemmas.slots.BookChanges.{book-after, KeepsSlots, book-here, book-others, book-was, holders-here, other-book, books-changed, linked-book}
+use Rattle.iox2_domain.proofs.lemmas.slots.OpenLoans.{open-rebooked}
 use Rattle.iox2_domain.proofs.lemmas.fields.SameEnds.{with_connections, sender-same, linked-still}
 
 -- two sums are the same where each index counts alike
@@ -245,5 +246,6 @@ module _ {T U : Type 0} (f : Fields T U) (parts : HasParts f) (p key : ℕ) (b :
     warning_room = parts.warning_room;
     shapes = shapes;
     forms = parts.forms;
+    open_loans = open-rebooked f.publishers f.books f.contents key b counted_book at refl parts.open_loans;
     plain = parts.plain;
   }

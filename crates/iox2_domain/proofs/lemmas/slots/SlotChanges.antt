@@ -1,9 +1,9 @@
 -- What lies in one slot changes: its mark and its content.
-use Rattle.std.proofs.Common.{◌≡◌, ◌≢◌, ℕ, ◌+◌, ◌*◌, ◌<◌, ◌&&◌, List, length, Bool, true, false, cond, eqb, get_or, slice_set, refl, ap, sym, subst, ◌∙◌, inl, inr}
+use Rattle.std.proofs.Common.{◌≡◌, ◌≢◌, ℕ, ◌+◌, ◌<◌, ◌&&◌, List, length, Bool, true, false, cond, eqb, get_or, slice_set, refl, ap, sym, subst, ◌∙◌, inl, inr}
 use Rattle.std.proofs.lemmas.Bool.{cases_eq, eq-eqb, eqb-true}
 use Rattle.std.proofs.lemmas.List.{get_or-set_same, get_or-set_other, length-set}
 use Rattle.std.proofs.lemmas.Option.{slice_get_within, get_or_from_slice_get}
-use Rattle.std.specs.Prelude.{nat_lt, slice_get, slice_index, IsSomeAnd}
+use Rattle.std.specs.Prelude.{nat_lt, slice_get, slice_index}
 use Rattle.std.specs.declared.option.Option.{Option}
 use Rattle.std.specs.declared.option.Option.TheVariants.{None, Some}
 use Rattle.std.specs.Option.{option_map, option_map_or, option_and_then}
@@ -17,13 +17,16 @@ use Rattle.iox2_slots.specs.declared.slots.mark.SlotMark.{SlotMark}
 use Rattle.iox2_ends.specs.LookUp.{look_up}
 use Rattle.iox2_ends.specs.Counters.{times, stands}
 use Rattle.iox2_ends.proofs.LookUps.{look_up-found}
-use Rattle.iox2_domain.specs.Ports.{PublisherFields, slot_length}
+use Rattle.iox2_domain.specs.Ports.{PublisherFields}
 use Rattle.iox2_domain.specs.Kept.{KeptMessage, state_of, message_numbered}
 use Rattle.iox2_domain.specs.Fields.{Fields, kept_of, is_book_of, message_of, message_in, contents_at, contents_in}
-use Rattle.iox2_domain.specs.Invariant.{IsDomain, IsBook, HasBooks, HasForms, HasRoomFrom, HasNumber, IsNumbered, IsCounted, is_publisher, holders_of, own_holders, is_lent, is_loan_in}
+use Rattle.iox2_domain.specs.Invariant.{IsDomain, IsBook, HasBooks, HasForms, HasOpenLoans, HasNumber, IsNumbered, IsCounted, is_publisher, holders_of, own_holders, is_lent, is_loan_in, cell_count, mark_at}
 use Rattle.iox2_domain.proofs.lemmas.containers.SetRecords.{set-here, set-others}
-use Rattle.iox2_domain.proofs.lemmas.loans.Taken.{room-with_changed, with_changed-here, with_changed-others, length-with_changed}
+use Rattle.iox2_domain.proofs.lemmas.loans.Taken.{with_changed-here, with_changed-others}
 use Rattle.iox2_domain.proofs.lemmas.slots.BookChanges.{KeepsSlots, with_book, book-here, book-others, book-was, books-apart, other-book, book-state, books-changed, holders-here}
+use Rattle.iox2_domain.proofs.lemmas.slots.OpenLoans.{mark-here, open-kept}
+use Rattle.iox2_domain.proofs.lemmas.slots.RewrittenContents.{rewritten-here, rewritten-others, rewritten-books}
+use Rattle.iox2_domain.proofs.lemmas.slots.SlotCells.{cells-elsewhere, cells-here, cells-read, cells_if}
 use Rattle.iox2_domain.proofs.lemmas.slots.Messages.{LiesIn, ChangesSlot, lies_at, message_at-slot, message_in-parts, message_in-from, is_numbered-slot, message_numbered-others, message_numbered-found}
 
 -- what holds of each element holds still
@@ -87,44 +90,15 @@ module _ {T U : Type 0} (f : Fields T U) (sound : IsDomain f) (key slot : ℕ) (
 
   -- ---- books and contents
 
-  rewritten-here : get_or (slice_set f.contents key (Some rewritten_contents)) key None ≡ Some rewritten_contents
-  rewritten-here = set-here f.contents key cs rewritten_contents at_c
+  here-now : get_or (slice_set f.contents key (Some rewritten_contents)) key None ≡ Some rewritten_contents
+  here-now = rewritten-here f key cs at_c slot g
 
-  rewritten-others : (k : ℕ) → k ≢ key → get_or (slice_set f.contents key (Some rewritten_contents)) k None ≡ get_or f.contents k None
-  rewritten-others k away = set-others f.contents key cs rewritten_contents at_c k away
-
-  -- what holds of the contents holds still
-  still : (P : List (ContentState T U) → Type 0) → (P cs → P rewritten_contents) → (k : ℕ) → IsSomeAnd (get_or f.contents k None) P
-      → IsSomeAnd (get_or (slice_set f.contents key (Some rewritten_contents)) k None) P
-  still P keeps k has = elim (cases_eq k key) [
-    | inl here ↦
-        let old : P cs = subst (λ o. IsSomeAnd o P) (ap (λ (j : ℕ). get_or f.contents j None) here ∙ at_c) has in
-        subst (λ o. IsSomeAnd o P) (sym (ap (λ (j : ℕ). get_or (slice_set f.contents key (Some rewritten_contents)) j None) here ∙ rewritten-here)) (keeps old)
-    | inr away ↦ subst (λ o. IsSomeAnd o P) (sym (rewritten-others k away)) has
-  ]
+  elsewhere : (k : ℕ) → k ≢ key → get_or (slice_set f.contents key (Some rewritten_contents)) k None ≡ get_or f.contents k None
+  elsewhere k away = rewritten-others f key cs at_c slot g k away
 
   -- each publisher has its book, where no slot loses room
   pub slot-books : ((c : ContentState T U) → (g c).room ≡ c.room) → HasBooks with_slot
-  slot-books roomy = record {
-    one_each = base.one_each;
-    books = λ k e there. let is = base.books k e there in record {
-      aligned = is.aligned;
-      shaped = still (λ zs. length zs ≡ length e.holders) (λ long. length-with_changed cs slot g ∙ long) k is.shaped;
-    };
-    publishers = λ i x here. let has = base.publishers i x here in record {
-      book = has.book;
-      stands = has.stands;
-      is_its = has.is_its;
-      node = has.node;
-      slots = has.slots;
-      room = still (HasRoomFrom x.segment_start (slot_length x.segment_length * (f.config).units_per_element))
-          (room-with_changed g roomy cs slot x.segment_start (slot_length x.segment_length * (f.config).units_per_element)) x.book has.room;
-    };
-    no_others = λ k none. elim (cases_eq k key) [
-      | inl here ↦ absurd (let no : None ≡ Some marked = sym none ∙ ap (get (with_value f.books key marked)) here ∙ book-here f key b marked at_b marked-keeps in cc)
-      | inr away ↦ rewritten-others k away ∙ base.no_others k none
-    ];
-  } where
+  slot-books roomy = rewritten-books (with_book f key marked) key cs at_c slot g marked (book-here f key b marked at_b marked-keeps) roomy base where
     old : IsBook b (get_or f.contents key None)
     old = sound.parts.books.books key b at_b
 
@@ -139,6 +113,48 @@ module _ {T U : Type 0} (f : Fields T U) (sound : IsDomain f) (key slot : ℕ) (
   pub slot-forms : ((c : ContentState T U) → (g c).is_in_place ≡ c.is_in_place) → ((c : ContentState T U) → (g c).lists_cells ≡ c.lists_cells) → HasForms f.config f.contents
       → HasForms f.config with_slot.contents
   slot-forms placed listed forms = forms-changed f.config f.contents key slot cs at_c g placed listed forms
+
+  -- each slot with cells is a loan still, where this one has cells only if it had some, with the mark that it had
+  pub slot-open : ((content : ContentState T U) → slice_get cs slot ≡ Some content → 0 < length (g content).cells → (0 < length content.cells) × (slice_get b.marks slot ≡ Some mark))
+      → HasOpenLoans f.publishers f.books f.contents → HasOpenLoans f.publishers with_slot.books with_slot.contents
+  slot-open keeps = open-kept f.publishers f.books with_slot.books f.contents with_slot.contents had same-mark where
+    here : 0 < cell_count with_slot.contents key slot → (0 < cell_count f.contents key slot) × (slice_get b.marks slot ≡ Some mark)
+    here some =
+        let is = cells-here f.contents key cs at_c slot g some in
+        let old = keeps is.0 is.1 is.2 in
+        (subst (λ (n : ℕ). 0 < n) (sym (cells-read f.contents key slot (Some cs) at_c ∙ ap cells_if is.1)) old.0, old.1)
+
+    there : (k s : ℕ) → (k ≡ key) × (s ≡ slot) → 0 < cell_count with_slot.contents k s → 0 < cell_count with_slot.contents key slot
+    there k s at some = subst (λ (j : ℕ). 0 < cell_count with_slot.contents j slot) at.0 (subst (λ (r : ℕ). 0 < cell_count with_slot.contents k r) at.1 some)
+
+    had : (k s : ℕ) → 0 < cell_count with_slot.contents k s → 0 < cell_count f.contents k s
+    had k s some = elim (cases_eq k key) [
+      | inl key_is ↦ elim (cases_eq s slot) [
+        | inl slot_is ↦
+            subst (λ (j : ℕ). 0 < cell_count f.contents j s) (sym key_is) (subst (λ (r : ℕ). 0 < cell_count f.contents key r) (sym slot_is) (here (there k s (key_is, slot_is) some)).0)
+        | inr away ↦ subst (λ (n : ℕ). 0 < n) (cells-elsewhere f.contents key cs at_c slot g k s (λ both. away both.1)) some
+      ]
+      | inr away ↦ subst (λ (n : ℕ). 0 < n) (cells-elsewhere f.contents key cs at_c slot g k s (λ both. away both.0)) some
+    ]
+
+    marks-here : (s : ℕ) → mark_at with_slot.books key s ≡ slice_get (slice_set b.marks slot mark) s
+    marks-here s = mark-here with_slot.books key marked (book-here f key b marked at_b marked-keeps) s
+
+    same-mark : (k s : ℕ) → 0 < cell_count with_slot.contents k s → mark_at with_slot.books k s ≡ mark_at f.books k s
+    same-mark k s some = elim (cases_eq k key) [
+      | inl key_is ↦
+          ap (λ (j : ℕ). mark_at with_slot.books j s) key_is ∙ marks-here s ∙ in_book key_is
+          ∙ sym (mark-here f.books key b at_b s) ∙ sym (ap (λ (j : ℕ). mark_at f.books j s) key_is)
+      | inr away ↦ ap (option_and_then (λ (e : Book). slice_get e.marks s)) (book-others f key b marked at_b marked-keeps k away)
+    ] where
+      in_book : k ≡ key → slice_get (slice_set b.marks slot mark) s ≡ slice_get b.marks s
+      in_book key_is = elim (cases_eq s slot) [
+        | inl slot_is ↦
+            let old = (here (there k s (key_is, slot_is) some)).1 in
+            ap (slice_get (slice_set b.marks slot mark)) slot_is ∙ slice_get-set_same b.marks slot mark (slice_get_within b.marks slot mark old)
+            ∙ sym old ∙ sym (ap (slice_get b.marks) slot_is)
+        | inr away ↦ slice_get-set_other b.marks slot s mark away
+      ]
 
   -- ---- numbers and counters
 
@@ -217,7 +233,7 @@ module _ {T U : Type 0} (f : Fields T U) (sound : IsDomain f) (key slot : ℕ) (
       | inl same ↦ absurd (away (here, same))
       | inr other ↦ ap (λ (j : ℕ). lies_at with_slot j s) here ∙ in_book other ∙ sym (ap (λ (j : ℕ). lies_at f j s) here)
     ]
-    | inr other ↦ λ t. option_and_then (λ e. message_in e (contents_in (rewritten-others k other t)) s) (book-others f key b marked at_b marked-keeps k other t)
+    | inr other ↦ λ t. option_and_then (λ e. message_in e (contents_in (elsewhere k other t)) s) (book-others f key b marked at_b marked-keeps k other t)
   ]
     where
       in_slot : s ≢ slot → message_in marked rewritten_contents s ≡ message_in b cs s
@@ -228,7 +244,7 @@ module _ {T U : Type 0} (f : Fields T U) (sound : IsDomain f) (key slot : ℕ) (
       in_book : s ≢ slot → lies_at with_slot key s ≡ lies_at f key s
       in_book other =
           ap (λ o. option_and_then (λ e. message_in e (contents_at (slice_set f.contents key (Some rewritten_contents)) key) s) o) (book-here f key b marked at_b marked-keeps)
-          ∙ ap (λ o. message_in marked (contents_in o) s) rewritten-here
+          ∙ ap (λ o. message_in marked (contents_in o) s) here-now
           ∙ in_slot other
           ∙ sym (ap (λ o. message_in b (contents_in o) s) at_c)
           ∙ sym (ap (λ o. option_and_then (λ e. message_in e (contents_at f.contents key) s) o) at_b)
@@ -239,7 +255,7 @@ module _ {T U : Type 0} (f : Fields T U) (sound : IsDomain f) (key slot : ℕ) (
 
   -- what lies in it now, part by part
   slot-parts : (m : KeptMessage T U) → lies_at with_slot key slot ≡ Some m → LiesIn marked rewritten_contents slot m
-  slot-parts m lies = message_in-parts marked rewritten_contents slot m (sym (ap (λ o. message_in marked (contents_in o) slot) rewritten-here)
+  slot-parts m lies = message_in-parts marked rewritten_contents slot m (sym (ap (λ o. message_in marked (contents_in o) slot) here-now)
       ∙ sym (message_at-slot (slice_set f.contents key (Some rewritten_contents)) (with_value f.books key marked) key slot marked (book-here f key b marked at_b marked-keeps)) ∙ lies)
 
   -- the message with the new mark and content
@@ -250,7 +266,7 @@ module _ {T U : Type 0} (f : Fields T U) (sound : IsDomain f) (key slot : ℕ) (
   pub slot-lies : (m : KeptMessage T U) (lies : LiesIn b cs slot m) → lies_at with_slot key slot ≡ Some (renewed m lies)
   slot-lies m lies =
       message_at-slot (slice_set f.contents key (Some rewritten_contents)) (with_value f.books key marked) key slot marked (book-here f key b marked at_b marked-keeps)
-      ∙ ap (λ o. message_in marked (contents_in o) slot) rewritten-here
+      ∙ ap (λ o. message_in marked (contents_in o) slot) here-now
       ∙ message_in-from marked rewritten_contents slot (renewed m lies) (record {
         header = lies.header;
         content = g lies.content;

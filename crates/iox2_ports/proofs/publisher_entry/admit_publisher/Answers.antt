@@ -74,6 +74,7 @@ returns-clause-step g c =
           let count = c.in-Ok.ensures.contents_length in
           let needed = c.room_for-room.ensures (omega (arith, lt, count)) in
           omega (arith, is, needed);
+      contents_closed = c.in-Ok.ensures.contents_closed;
       contents_form = λ several. c.in-Ok.ensures.contents_form (let single = c.is_single_valued-in_lists.ensures ∙ several in search rules);
       contents_cells = λ several lists. c.in-Ok.ensures.contents_cells (let single = c.is_single_valued-in_lists.ensures ∙ several in search rules) lists;
       vacant = c.in-Ok-add_segment.ensures.vacant;

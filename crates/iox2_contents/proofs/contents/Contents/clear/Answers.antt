@@ -8,6 +8,7 @@ returns g c = record {
   had = c.index_mut.result.now;
   there = rw (← c.self.view_is) (slice_get_read c.self.inside.slots.items _ c.args.slot c.index_mut.result.now refl (rw (← c.self.view_is) at c.requires) c.index_mut.ensures.value);
   form = c.clear.ensures.in_place;
-  cells = c.clear.ensures.lists_cells;
+  lists = c.clear.ensures.lists_cells;
+  cells = c.clear.ensures.cells;
   cleared = rw (← c.self.view_is) refl;
 }
