@@ -2,6 +2,7 @@ mod blocked_publishers;
 mod blocked_sends;
 mod blocked_slices;
 mod boxes;
+mod connection_sends;
 mod fickle;
 mod handlers;
 mod two_domains;

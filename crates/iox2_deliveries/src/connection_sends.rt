@@ -1,5 +1,6 @@
 //! A loan is sent to one connection of its publisher.
 ghost use Rattle.std.specs.Prelude.{◌≡◌, ◌<◌, false, None, Some, length, slice_index_or};
+ghost use Rattle.std.specs.Option.{is_some};
 ghost use Rattle.slab.specs.Slab.{get};
 ghost use Rattle.iox2_slots.specs.SlotBook.{Book};
 ghost use Rattle.iox2_store.specs.machine.Limits.{channel_count};
@@ -17,11 +18,26 @@ use crate::blocked_sends::go_on;
 use crate::discards::discard_loan;
 use crate::reclaims::reclaim;
 use crate::send_end::SendEnd;
-use iox2_domain::{BlockedDelivery, Boxes, DomainState, LoanAt, key_at};
+use iox2_domain::{BlockedDelivery, Boxes, DomainState, LoanAt, Port};
 use iox2_ends::sender::Progress;
 use iox2_slots::SlotMark;
 use iox2_store::{BackpressureFn, DegradationFn};
 use std::time::Duration;
+
+// Whether the publisher at a place has a connection at that place of its own.
+fn has_connection<T: Drop, U: Default + Drop>(
+    state: &DomainState<T, U>,
+    place: usize,
+    connection: usize,
+) -> bool
+    requires { (x : PublisherFields) × (slice_index_or state.now.publishers place None ≡ Some x) }
+    ensures { (x : PublisherFields) → slice_index_or state.now.publishers place None ≡ Some x → result ≡ is_some (slice_index_or x.keys connection None) }
+{
+    let Some(publisher) = &state.publishers[place] else {
+        unreachable!();
+    };
+    publisher.key(connection).is_some()
+}
 
 // The receiver of the connection wasn't asked yet.
 fn begun_at(connection: usize) -> Progress
@@ -85,18 +101,12 @@ pub fn send_to_connection<T: Drop, U: Default + Drop, F: BackpressureFn, G: Degr
         discard_loan(state, loan);
         return SendEnd::Lost;
     };
-    if key_at(&state.publishers, place, connection).is_none() {
+    if !has_connection(state, place, connection) {
         discard_loan(state, loan);
         return SendEnd::Delivered(0);
     }
     let at = state.find_live_loan(&loan);
     begin(state, place, at.slot, channel, connection);
     reclaim(state, place);
-    SendEnd::of(go_on(
-        state,
-        boxes,
-        place,
-        begun_at(connection),
-        Duration::ZERO,
-    ))
+    SendEnd::of(go_on(state, boxes, place, begun_at(connection), Duration::ZERO))
 }

@@ -1,5 +1,6 @@
 mod channels;
 mod closes;
+mod connection_sends;
 mod copies;
 mod degradation_boxes;
 mod degradations;

@@ -17,6 +17,7 @@ use Rattle.iox2_domain.proofs.lemmas.slots.PublisherBooks.{read-there, book-ther
 use Rattle.iox2_steps.proofs.sends.DeliverySteps.{Asked, asks-boxes, ready-to-go-on, delivers-own, goes-alike, goes-slot}
 use Rattle.iox2_steps.proofs.sends.Reach.{reach-short}
 use Rattle.iox2_steps.proofs.sends.BlockedSteps.{waits-within, waits-own, waits-once, waits-few, waits-in_use}
+use Rattle.iox2_deliveries.proofs.WaitingChannels.{have-blocked-channel}
 use Rattle.iox2_deliveries.proofs.blocked_sends.go_on.Goals as goal
 
 -- what goes on is this delivery
@@ -43,8 +44,9 @@ pub deliver-outcome-requires-clause-start : goal.deliver-outcome-requires-clause
 deliver-outcome-requires-clause-start g c =
     rw (c.keys_within.ensures, c.deref.ensures.value) (c.requires.can _ c.in-Some-blocked.blocked (sym (ap (λ (f : Fields g.row.T.Denot g.row.U.Denot). slice_index_or f.publishers c.args.place None) c.state.view_is) ∙ (read-there _ c.args.place _ _ (ap (λ (f : Fields g.row.T.Denot g.row.U.Denot). slice_index_or f.publishers c.args.place None) c.state.view_is ∙ c.requires.waits.stands) c.index_mut.ensures.value ∙ c.in-Some.is ∙ ap Some (sym c.publisher.view_is))) c.in-Some-blocked.is).within
 
-pub deliver-outcome-requires-clause-zero : goal.deliver-outcome-requires-clause-zero
-deliver-outcome-requires-clause-zero g c = ?
+pub deliver-outcome-requires-clause-known : goal.deliver-outcome-requires-clause-known
+deliver-outcome-requires-clause-known g c =
+    (have-blocked-channel _ (subst (IsDomain {T = g.row.T.Denot} {U = g.row.U.Denot}) (sym c.state.view_is) c.requires.agrees) c.args.place _ (read-there _ c.args.place _ _ (ap (λ (f : Fields g.row.T.Denot g.row.U.Denot). slice_index_or f.publishers c.args.place None) c.state.view_is ∙ c.requires.waits.stands) c.index_mut.ensures.value ∙ c.in-Some.is ∙ ap Some (sym c.publisher.view_is)) c.in-Some-blocked.blocked c.in-Some-blocked.is)
 
 pub deliver-outcome-requires-clause-counted : goal.deliver-outcome-requires-clause-counted
 deliver-outcome-requires-clause-counted g c = (c.requires.can _ c.in-Some-blocked.blocked (sym (ap (λ (f : Fields g.row.T.Denot g.row.U.Denot). slice_index_or f.publishers c.args.place None) c.state.view_is) ∙ (read-there _ c.args.place _ _ (ap (λ (f : Fields g.row.T.Denot g.row.U.Denot). slice_index_or f.publishers c.args.place None) c.state.view_is ∙ c.requires.waits.stands) c.index_mut.ensures.value ∙ c.in-Some.is ∙ ap Some (sym c.publisher.view_is))) c.in-Some-blocked.is).counted

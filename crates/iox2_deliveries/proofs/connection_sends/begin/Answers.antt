@@ -52,7 +52,7 @@ returns g c = λ x b at has.
     let marked : c.set_mark.new.self ≡ with_sent c.args.slot b = c.set_mark.ensures ∙ ap (with_sent c.args.slot) book in
     let view : the_view c.publisher.inside ≡ x = c.publisher.view_is ∙ publisher in
     let waiting : (λ (p : PublisherFields) (at : Progress). record p { blocked = Some (record { slot = c.args.slot; channel = c.args.channel; is_alone = true; progress = at }) }) (the_view c.publisher.inside) c.begun_at.result
-        ≡ record x { blocked = Some (begun_delivery c.args.slot c.args.channel c.args.connection) } =
+    ≡ record x { blocked = Some (begun_delivery c.args.slot c.args.channel c.args.connection) } =
     λ i. record (view i) { blocked = Some (record { slot = c.args.slot; channel = c.args.channel; is_alone = true; progress = c.begun_at.ensures i }) } in
     (λ i. record {
       config = c.state.inside.config;
