@@ -2,7 +2,7 @@
 ghost use Rattle.std.specs.Prelude.{◌≡◌, ◌≤◌, [], length, false};
 ghost use Rattle.iox2_contents.specs.SlotContents.{SomeAt};
 
-use crate::starts::start;
+use crate::tests::starts::start;
 use iox2_contents::Contents;
 
 // A loan of so many elements whose cells are listed, and which is written then. Returns its second cell.
