@@ -1,7 +1,7 @@
 ghost use Rattle.std.specs.Prelude.{◌≡◌, ◌<◌, [], length, true, false};
 ghost use Rattle.iox2_contents.specs.SlotContents.{SomeAt};
 
-use crate::starts::start;
+use crate::tests::starts::start;
 use iox2_contents::Contents;
 use std::alloc::Global;
 use std::process::Abort;

@@ -2,7 +2,7 @@
 ghost use Rattle.std.specs.Prelude.{◌≡◌, ◌≤◌, [], length, true, false};
 ghost use Rattle.iox2_contents.specs.SlotContents.{SomeAt};
 
-use crate::starts::start;
+use crate::tests::starts::start;
 use iox2_contents::Contents;
 use std::alloc::Global;
 use std::process::Abort;
@@ -22,7 +22,7 @@ fn has(contents: &mut Contents<u64, u64>, len: usize, values: &[u64]) -> bool
     requires slots { length contents.old ≡ 2 }
     requires length { len ≤ 5 }
     ensures slots { length contents.new ≡ 2 }
-    ensures { SomeAt contents.new 0 (λ content. (content.cells ≡ []) × (content.is_in_place ≡ false) × (content.lists ≡ 3) × (content.room ≡ 5)) }
+    ensures room { SomeAt contents.new 0 (λ content. (content.cells ≡ []) × (content.is_in_place ≡ false) × (content.lists ≡ 3) × (content.room ≡ 5)) }
 {
     start(contents, 0, len);
     contents.write_unspecified(0);

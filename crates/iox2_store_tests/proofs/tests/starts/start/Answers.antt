@@ -1,7 +1,7 @@
 use Rattle.std.proofs.Common.{◌≡◌, ◌<◌, ◌≤◌, ◌∙◌, [], length, ap, arith}
 use Rattle.iox2_contents.specs.SlotContents.{open_count}
 use Rattle.iox2_store_tests.proofs.Starts.{changed-long, open-within, some-weaker}
-use Rattle.iox2_store_tests.proofs.starts.start.Goals as goal
+use Rattle.iox2_store_tests.proofs.tests.starts.start.Goals as goal
 
 pub start-requires-clause-few : goal.start-requires-clause-few
 start-requires-clause-few g c =
