@@ -6,6 +6,7 @@
  * where it was, so that many calls are made by numbers that name nothing, which has to be answered by IOX2PS_NOT_LIVE.
  * Memory is never refused here. Each message has eight bytes, which are a number that no other message has. */
 #include "iox2_pubsub.h"
+#include "random_numbers.h"
 #include <inttypes.h>
 #include <stdio.h>
 #include <stdlib.h>
@@ -15,22 +16,6 @@ static _Noreturn void fail(const char *words) {
   fprintf(stderr, "%s\n", words);
   exit(1);
 }
-
-/* ---- random numbers */
-
-static uint64_t random_state;
-
-static uint64_t next(void) {
-  random_state += UINT64_C(0x9e3779b97f4a7c15);
-  uint64_t x = random_state;
-  x = (x ^ (x >> 30)) * UINT64_C(0xbf58476d1ce4e5b9);
-  x = (x ^ (x >> 27)) * UINT64_C(0x94d049bb133111eb);
-  return x ^ (x >> 31);
-}
-
-static size_t below(size_t limit) { return (size_t)(next() % limit); }
-
-static int one_in(size_t count) { return below(count) == 0; }
 
 /* ---- the model: ports by their places, and what two ports share */
 
