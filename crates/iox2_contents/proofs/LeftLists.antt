@@ -1,40 +1,26 @@
 -- What is left behind a reference to a list with room, of which the last elements may be hidden.
-use Rattle.std.proofs.Common.{◌≡◌, ◌<◌, ◌≤◌, ◌+◌, ◌-◌, ◌∙◌, ℕ, Some, min, zero, suc, List, [], ◌∷◌, ◌++◌, length, take, drop, replicate, slice_set, refl, ap, sym, arith}
-use Rattle.std.proofs.lemmas.List.{append_assoc, append-nil, replicate-append-replicate, length-append, length-drop, length-take-le, take-append-le, take-take}
-use Rattle.std.proofs.lemmas.Option.{none-some}
-use Rattle.std.specs.Prelude.{slice_get}
-use Rattle.iox2_contents.specs.RoomLists.{RoomList, with_each, with_first}
+use Rattle.std.proofs.Common.{◌≡◌, ◌≤◌, ◌∙◌, ℕ, Option, zero, suc, List, [], ◌∷◌, ◌++◌, length, take, drop, refl, ap, sym, arith}
+use Rattle.std.proofs.lemmas.List.{length-append, length-drop, length-take-le, take-append-le, take-take}
+use Rattle.iox2_contents.specs.CellLists.{CellList}
+use Rattle.iox2_contents.specs.RoomLists.{RoomList, with_each}
 
 -- these items, with that room
 abbrev pub room-list : {A : Type 0} → List A → ℕ → RoomList A
 room-list items room = record { items = items; room = room }
 
--- more of the cells that are alike are listed
-pub listed-more : {A : Type 0} (xs : List A) (n m : ℕ) (x : A) → m ≤ n → (xs ++ replicate m x) ++ replicate (n - m) x ≡ xs ++ replicate n x
-listed-more xs n m x within =
-    append_assoc xs (replicate m x) (replicate (n - m) x) ∙ ap (λ ys. xs ++ ys) (replicate-append-replicate m (n - m) x ∙ ap (λ k. replicate k x) (omega (arith, within)))
+-- no items
+pub no-items : {A : Type 0} (xs : List A) → length xs ≡ 0 → xs ≡ []
+no-items [] none = refl
+no-items (x ∷ xs) none = absurd (omega (arith, none))
 
--- the first item of a list, of which others stand behind those that are listed
-pub listed-first : {A : Type 0} (cap : ℕ) (xs ys : List A) (w : A) (list : RoomList A) → 0 < length xs → xs ++ ys ≡ list.items → cap ≡ list.room → room-list (slice_set xs 0 w ++ ys) cap ≡ with_first w list
-listed-first cap [] ys w list some same room = absurd (omega (arith, some))
-listed-first cap (x ∷ xs) ys w list some same room = λ t. record { items = slice_set (same t) 0 w; room = room t }
+-- these cells, with that room, of so many lists
+abbrev pub cell-list : {T : Type 0} → List (Option T) → (room lists : ℕ) → CellList T
+cell-list items room lists = record { items = items; room = room; lists = lists }
 
--- where there is room, some cell is listed
-pub some-listed : (listed unlisted free count : ℕ) → 0 < listed + unlisted → 0 < listed + free → count ≡ min unlisted free → 0 < listed + count
-some-listed (suc listed) unlisted free count some room is = omega arith
-some-listed zero zero free count some room is = omega (arith, some)
-some-listed zero (suc unlisted) zero count some room is = omega (arith, room)
-some-listed zero (suc unlisted) (suc free) count some room is = omega (arith, is)
-
--- the first of a list is that of a longer one
-pub first-read : {A : Type 0} (xs ys : List A) (x : A) → slice_get xs 0 ≡ Some x → slice_get (xs ++ ys) 0 ≡ Some x
-first-read [] ys x at = absurd (none-some x at)
-first-read (y ∷ xs) ys x at = at
-
--- all items of a list with nothing behind it
-pub listed-each : {A : Type 0} (n cap : ℕ) (xs ws : List A) (x : A) (list : RoomList A) → n ≡ length xs → xs ≡ list.items → cap ≡ list.room
-    → room-list (take n (ws ++ drop (length ws) xs) ++ replicate 0 x) cap ≡ with_each ws list
-listed-each n cap xs ws x list long same room = rw (append-nil, long, same, room) refl
+-- all cells of a list with none behind them
+pub cells-each : {T : Type 0} (n room lists : ℕ) (xs zs ws : List (Option T)) → n ≡ length xs → zs ≡ xs
+    → cell-list (take n (ws ++ drop (length ws) xs)) room lists ≡ cell-list (take (length zs) (ws ++ drop (length ws) zs)) room lists
+cells-each n room lists xs zs ws long same = rw (same, long) refl
 
 -- taking twice is taking once
 take-same : {A : Type 0} (n : ℕ) (xs : List A) → take n xs ≡ take n (take n xs)

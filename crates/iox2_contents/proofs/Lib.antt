@@ -1,3 +1,7 @@
 pub mod CallLists
 pub mod LeftLists
+pub mod NewSlots
+pub mod OpenSlots
+pub mod SlotLists
 pub mod SlotReads
+pub mod SlotSums

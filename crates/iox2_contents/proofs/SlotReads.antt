@@ -1,17 +1,25 @@
 -- What is read at a slot of the contents.
-use Rattle.std.proofs.Common.{◌≡◌, ℕ, zero, suc, ◌<◌, List, [], ◌∷◌, length, Some, arith, get_or, slice_set, Bool, true, false, refl, ap, subst, sym}
+use Rattle.std.proofs.Common.{◌≡◌, ℕ, zero, suc, ◌<◌, List, [], ◌∷◌, length, Some, arith, get_or, slice_set, Bool, true, false, refl, ap, subst, sym, ◌∙◌}
+use Rattle.std.proofs.lemmas.List.{length-map}
 use Rattle.std.proofs.lemmas.Option.{slice_get_read}
 use Rattle.std.specs.Prelude.{slice_get}
 use Rattle.std.specs.Bool.{MatchBool}
 use Rattle.std.specs.List.{All}
 use Rattle.std.proofs.lemmas.List.Elements.{All-get_or}
-use Rattle.iox2_contents.specs.SlotContents.{SomeAt}
+use Rattle.iox2_contents.specs.SlotContents.{ContentState, SomeAt}
+use Rattle.iox2_contents.specs.SlotStates.{SlotState, contents_of}
 
 -- There is a slot of which something holds.
 pub some_within : {A : Type 0} (contents : List A) (slot : ℕ) (P : A → Type 0) → SomeAt contents slot P → slot < length contents
 some_within [] slot P h = absurd h
 some_within (x ∷ xs) zero P h = omega arith
 some_within (x ∷ xs) (suc slot) P h = let rest = some_within xs slot P h in omega arith
+
+-- What stands there, of which it holds.
+pub found : {A : Type 0} (contents : List A) (slot : ℕ) (P : A → Type 0) → SomeAt contents slot P → (x : A) × (slice_get contents slot ≡ Some x) × P x
+found [] slot P h = absurd h
+found (x ∷ xs) zero P h = (x, refl, h)
+found (x ∷ xs) (suc slot) P h = found xs slot P h
 
 -- It holds of the content that indexing gives there.
 pub some_read : {A : Type 0} (contents : List A) (slot : ℕ) (P : A → Type 0) (x : A) → SomeAt contents slot P → x ≡ get_or contents slot x → (slice_get contents slot ≡ Some x) × P x
@@ -33,3 +41,20 @@ set_same (y ∷ ys) (suc slot) x at = ap (λ zs. y ∷ zs) (set_same ys slot x a
 pub by_result : {A B : Type 0} (b : Bool) → (b ≡ true → A) → (b ≡ false → B) → MatchBool b A B
 by_result true whole partial = whole refl
 by_result false whole partial = partial refl
+
+-- It holds of the content in the slot that indexing gives there.
+pub content_read : {T U : Type 0} (slots : List (SlotState T U)) (contents : List (ContentState T U)) (slot : ℕ) (P : ContentState T U → Type 0) (x : SlotState T U) → contents_of slots ≡ contents → SomeAt contents slot P
+    → x ≡ get_or slots slot x → (slice_get slots slot ≡ Some x) × P x.content
+content_read {T = T} {U = U} slots contents slot P x are h e = some_read slots slot (λ s. P s.content) x (of_contents slots slot (subst (λ ys. SomeAt ys slot P) (sym are) h)) e
+  where
+    of_contents : (ys : List (SlotState T U)) (k : ℕ) → SomeAt (contents_of ys) k P → SomeAt ys k (λ s. P s.content)
+    of_contents [] k h = absurd h
+    of_contents (y ∷ ys) zero h = h
+    of_contents (y ∷ ys) (suc k) h = of_contents ys k h
+
+-- What stands in a slot that there is.
+pub slot_read : {T U : Type 0} (slots : List (SlotState T U)) (contents : List (ContentState T U)) (slot : ℕ) (x : SlotState T U) → contents_of slots ≡ contents → slot < length contents
+    → x ≡ get_or slots slot x → slice_get slots slot ≡ Some x
+slot_read slots contents slot x are within e =
+    let count : length contents ≡ length slots = sym (ap length are) ∙ length-map slots (λ s. s.content) in
+    slice_get_read slots _ slot x refl (omega (arith, within, count)) e

@@ -1,4 +1,5 @@
 pub mod SlotCalls
+pub mod CellLists
 pub mod RoomLists
 pub mod RoomLends
 pub mod SlotElements
@@ -6,6 +7,7 @@ pub mod ElementLends
 pub mod SlotPayload
 pub mod PayloadLends
 pub mod SlotContents
+pub mod SlotStates
 pub mod SlotRooms
 pub mod ContentLends
 pub mod ContentsLends

@@ -2,7 +2,7 @@
 use Rattle.std.specs.Prelude.{ℕ, List, length, slice_set}
 use Rattle.std.specs.List.{refill}
 
--- The cells of an unwritten loan, or the values of a payload, and for how many there is room.
+-- The values of a payload, and for how many there is room.
 pub record RoomList (A : Type 0) : Type 0 where
   pub items : List A
   pub room : ℕ

@@ -7,15 +7,15 @@ use Rattle.std.specs.declared.option.Option.TheVariants.{None, Some}
 use Rattle.std.specs.Option.{option_map, option_map_or, option_and_then}
 
 -- What lies in a slot: a user header, the cells of an unwritten loan, the values of a written loan or a sent message, for
--- how many elements there is room, whether a single element lies in the slot itself, so that it is no list, and whether
--- cells can be handed out as a list.
+-- how many elements there is room, whether a single element lies in the slot itself, so that it is no list, and for how many
+-- loans at a time the slots of the same publisher can hand out cells as a list.
 pub record ContentState (T U : Type 0) : Type 0 where
   pub user_header : U
   pub cells : List (Option T)
   pub values : List T
   pub room : ℕ
   pub is_in_place : Bool
-  pub lists_cells : Bool
+  pub lists : ℕ
 
 -- The list with f of the element at index i in its place.
 abbrev pub with_changed : {A : Type 0} → List A → (i : ℕ) → (A → A) → List A
@@ -24,6 +24,10 @@ with_changed xs i f = option_map_or (λ x. slice_set xs i (f x)) (slice_get xs i
 -- There is such a slot, and P holds of its content.
 abbrev pub SomeAt : {A : Type 0} → List A → (slot : ℕ) → (A → Type 0) → Type 0
 SomeAt contents slot P = IsSomeAnd (slice_get contents slot) P
+
+-- How many lists of cells there are for slots whose elements lie in lists, or don't.
+abbrev pub lists_for : (in_lists : Bool) → (lists : ℕ) → ℕ
+lists_for in_lists lists = cond in_lists lists 0
 
 module _ {T U : Type 0} where
   -- The content of a loan that starts: so many unwritten cells, no values, and this user header.
@@ -42,7 +46,7 @@ module _ {T U : Type 0} where
 
   -- The slot has cells, which can be handed out as a list.
   abbrev pub is_open : ContentState T U → Bool
-  is_open content = content.lists_cells && nat_lt 0 (length content.cells)
+  is_open content = nat_lt 0 content.lists && nat_lt 0 (length content.cells)
 
   -- How many slots have such cells.
   abbrev pub open_count : List (ContentState T U) → ℕ
@@ -93,24 +97,23 @@ module _ {T U : Type 0} where
   first_value_at contents slot = option_and_then (λ content. slice_get content.values 0) (slice_get contents slot)
 
   -- So many slots more stand behind the old ones, each without cells and with room for so many elements, which lie in lists
-  -- where they are to, and whose cells can be handed out where they are to be.
-  pub record AddsSlots (old new : List (ContentState T U)) (more room : ℕ) (in_lists lists_cells : Bool) : Type 0 where
+  -- where they are to, and whose cells can then be handed out for so many loans at a time.
+  pub record AddsSlots (old new : List (ContentState T U)) (more room : ℕ) (in_lists : Bool) (lists : ℕ) : Type 0 where
     pub added : List (ContentState T U)
     pub count : length added ≡ more
     pub rooms : All (λ content. content.room ≡ room) added
     pub forms : in_lists ≡ true → All (λ content. content.is_in_place ≡ false) added
-    pub lists_are : in_lists ≡ true → lists_cells ≡ true → All (λ content. content.lists_cells ≡ true) added
+    pub lists_are : All (λ content. content.lists ≡ lists_for in_lists lists) added
     pub cells : All (λ content. content.cells ≡ []) added
     pub grown : new ≡ old ++ added
 
-  -- The content of a slot became another one without cells, which lies in place or in lists as it did, and lists its cells
-  -- where it did. Nothing else changes.
+  -- The content of a slot became another one without cells, which lies in place or in lists as it did. Nothing else changes.
   pub record ClearsSlot (old new : List (ContentState T U)) (slot : ℕ) : Type 0 where
     pub content : ContentState T U
     pub had : ContentState T U
     pub there : slice_get old slot ≡ Some had
     pub form : content.is_in_place ≡ had.is_in_place
-    pub lists : had.lists_cells ≡ true → content.lists_cells ≡ true
+    pub lists : content.lists ≡ had.lists
     pub cells : content.cells ≡ []
     pub cleared : new ≡ slice_set old slot content
 

@@ -1,16 +1,17 @@
 -- The elements of a payload that isn't a single value, which no public contract shows.
-use Rattle.std.specs.Prelude.{ℕ, Bool, List, [], length, replicate, slice_set}
+use Rattle.std.specs.Prelude.{ℕ, Bool, ◌&&◌, ◌==◌, List, [], length, nat_lt, replicate, slice_set}
 use Rattle.std.specs.List.{refill}
 use Rattle.std.specs.declared.option.Option.{Option}
 use Rattle.std.specs.declared.option.Option.TheVariants.{None}
 
--- The cells of an unwritten loan, the values of a written loan or a sent message, for how many elements there is room,
--- and whether there is room to list the cells of them all.
+-- The cells of an unwritten loan, the values of a written loan or a sent message, for how many elements there is room, how
+-- many lists of cells the publisher keeps, and for how many cells there is room in a list that these have.
 pub record ElementLists (T : Type 0) : Type 0 where
   pub cells : List (Option T)
   pub values : List T
   pub room : ℕ
-  pub lists_cells : Bool
+  pub lists : ℕ
+  pub cell_room : ℕ
 
 module _ {T : Type 0} where
   -- So many unwritten cells, and no values.
@@ -21,7 +22,7 @@ module _ {T : Type 0} where
   abbrev pub written_elements : (values : List T) → ElementLists T → ElementLists T
   written_elements values elements = record elements { cells = []; values = values }
 
-  -- No cells.
+  -- No cells any more.
   abbrev pub ended_elements : ElementLists T → ElementLists T
   ended_elements elements = record elements { cells = [] }
 
@@ -40,3 +41,11 @@ module _ {T : Type 0} where
   -- The values changed.
   abbrev pub with_values : (values : List T) → ElementLists T → ElementLists T
   with_values values elements = record elements { values = refill (length elements.values) elements.values values }
+
+  -- The cells have one of their publisher's lists.
+  abbrev pub has_list : ElementLists T → Bool
+  has_list elements = nat_lt 0 elements.lists && nat_lt 0 elements.cell_room
+
+  -- There are cells that need one of their publisher's lists before they can be written.
+  abbrev pub waits : ElementLists T → Bool
+  waits elements = nat_lt 0 elements.lists && (elements.cell_room == 0 && nat_lt 0 (length elements.cells))

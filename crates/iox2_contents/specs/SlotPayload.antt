@@ -1,9 +1,13 @@
 -- What a slot's payload has, which no public contract shows.
-use Rattle.std.specs.Prelude.{ℕ, Bool, true, false, List, [], ◌∷◌}
+use Rattle.std.specs.Prelude.{ℕ, Bool, true, false, ◌&&◌, ◌==◌, List, [], ◌∷◌, length, nat_lt, not}
 use Rattle.std.specs.declared.option.Option.{Option}
 use Rattle.iox2_contents.specs.SlotElements.{with_first_cell as with_cell_in, with_cells as with_cells_in, with_first_value as with_value_in, with_values as with_values_in}
 use Rattle.iox2_contents.specs.declared.payload.Payload.{Payload}
 use Rattle.iox2_contents.specs.declared.payload.Payload.TheVariants.{Empty, Unwritten, Written, Elements}
+
+-- A payload with room for so many elements lies in its slot, and not in lists.
+abbrev pub lies_in_place : (room : ℕ) → (in_lists : Bool) → Bool
+lies_in_place room in_lists = room == 1 && not in_lists
 
 module _ {T : Type 0} where
   -- The cells of a payload.
@@ -34,12 +38,27 @@ module _ {T : Type 0} where
   is_in_place (Written value) = true
   is_in_place (Elements elements) = false
 
-  -- The cells of a payload can be listed, however many it has.
-  abbrev pub lists_cells : Payload T → Bool
-  lists_cells Empty = false
-  lists_cells (Unwritten cell) = false
-  lists_cells (Written value) = false
-  lists_cells (Elements elements) = elements.value.lists_cells
+  -- How many lists of cells a payload's publisher keeps, where the payload isn't a single value in its slot.
+  abbrev pub lists_of : Payload T → ℕ
+  lists_of Empty = 0
+  lists_of (Unwritten cell) = 0
+  lists_of (Written value) = 0
+  lists_of (Elements elements) = elements.value.lists
+
+  -- For how many cells there is room in a list that a payload has.
+  abbrev pub cell_room_of : Payload T → ℕ
+  cell_room_of Empty = 0
+  cell_room_of (Unwritten cell) = 0
+  cell_room_of (Written value) = 0
+  cell_room_of (Elements elements) = elements.value.cell_room
+
+  -- The cells of a payload have one of their publisher's lists.
+  abbrev pub has_list : Payload T → Bool
+  has_list payload = nat_lt 0 (lists_of payload) && nat_lt 0 (cell_room_of payload)
+
+  -- There are cells that need one of their publisher's lists before they can be written.
+  abbrev pub waits : Payload T → Bool
+  waits payload = nat_lt 0 (lists_of payload) && (cell_room_of payload == 0 && nat_lt 0 (length (cells_of payload)))
 
   -- The payload with its first cell changed.
   abbrev pub with_first_cell : (cell : Option T) → Payload T → Payload T

@@ -1,7 +1,46 @@
--- Which unwritten cells a slot may have to show, which no public contract shows.
-use Rattle.std.specs.Prelude.{◌≡◌, ◌≤◌, ℕ, true}
-use Rattle.iox2_contents.specs.SlotContents.{ContentState}
+-- Which unwritten cells a slot may have to show, and which lists its cells may have to have, which no public contract shows.
+use Rattle.std.specs.Prelude.{◌≡◌, ◌≢◌, ◌<◌, ◌≤◌, ◌+◌, ℕ, true, false, ◌&&◌, cond, List, [], length, nat_le, nat_lt, slice_get, sum_by, IsSomeAnd}
+use Rattle.std.specs.List.{All}
+use Rattle.std.specs.declared.option.Option.TheVariants.{Some}
+use Rattle.iox2_contents.specs.SlotContents.{open_count}
+use Rattle.iox2_contents.specs.SlotStates.{SlotState, contents_of, has_list}
 
--- So many cells are enough to be shown as those of a slot whose cells can be handed out.
-abbrev pub RoomIsAtMost : {T U : Type 0} → (most : ℕ) → ContentState T U → Type 0
-RoomIsAtMost most content = content.lists_cells ≡ true → content.room ≤ most
+module _ {T U : Type 0} where
+  -- So many unwritten cells are enough to be shown as those of a slot.
+  abbrev pub ShowsAtMost : (most : ℕ) → SlotState T U → Type 0
+  ShowsAtMost most slot = (0 < slot.content.lists → (slot.content.room ≤ most) × (0 < most)) × (slot.content.is_in_place ≡ false → 0 < most)
+
+  -- Only cells have a list.
+  abbrev pub ListsCells : SlotState T U → Type 0
+  ListsCells slot = has_list slot ≡ true → 0 < length slot.content.cells
+
+  -- One where the slot has a list that is long enough for each slot.
+  abbrev pub one_if_long : (most : ℕ) → SlotState T U → ℕ
+  one_if_long most slot = cond (nat_lt 0 slot.content.lists && nat_le most slot.cell_room) 1 0
+
+  -- How many slots have such a list.
+  abbrev pub long_count : (most : ℕ) → List (SlotState T U) → ℕ
+  long_count most slots = sum_by (one_if_long most) slots
+
+  -- Each slot that has cells finds a list for them, with so many lists to spare, which are this long, and room for so many.
+  pub record HasLists (most spare spare_room : ℕ) (slots : List (SlotState T U)) : Type 0 where
+    pub shown : All (ShowsAtMost most) slots
+    pub listed : All ListsCells slots
+    pub lists : ℕ
+    pub alike : All (λ slot. 0 < slot.content.lists → slot.content.lists ≡ lists) slots
+    -- No list is lost that is long enough for each slot, and there is room for all of them.
+    pub kept : lists ≤ spare + long_count most slots
+    pub room : lists ≤ spare_room
+    -- No more slots have cells than there are lists.
+    pub opened : open_count (contents_of slots) ≤ lists
+
+  -- The same but for a slot whose cells are gone, and which may have their list still.
+  pub record HasListsBut (at most spare spare_room : ℕ) (slots : List (SlotState T U)) : Type 0 where
+    pub shown : All (ShowsAtMost most) slots
+    pub listed : (slot : ℕ) (s : SlotState T U) → slice_get slots slot ≡ Some s → slot ≢ at → ListsCells s
+    pub ended : IsSomeAnd (slice_get slots at) (λ slot. slot.content.cells ≡ [])
+    pub lists : ℕ
+    pub alike : All (λ slot. 0 < slot.content.lists → slot.content.lists ≡ lists) slots
+    pub kept : lists ≤ spare + long_count most slots
+    pub room : lists ≤ spare_room
+    pub opened : open_count (contents_of slots) ≤ lists

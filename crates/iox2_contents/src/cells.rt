@@ -1,65 +1,68 @@
 //! The cells of an unwritten loan.
-ghost use Rattle.std.specs.Prelude.{◌≡◌, ◌<◌, ◌≤◌, ◌+◌, [], ◌++◌, length, map, replicate, slice_get, vec_capacity, true, None, Some, IsSome, IfOk, is_some};
+ghost use Rattle.std.specs.Prelude.{◌≡◌, ◌<◌, ◌≤◌, ◌+◌, ◌&&◌, ◌==◌, [], ◌++◌, length, map, nat_lt, replicate, slice_get, vec_capacity, true, false, None, Some, IsSome, IfOk, is_some};
 ghost use Rattle.std.specs.Borrow.{sem};
 ghost use Rattle.std.specs.List.{All, list_all};
-ghost use Rattle.iox2_contents.specs.RoomLists.{with_items};
+ghost use Rattle.iox2_contents.specs.CellLists.{with_items, has_list, waits};
 
 use std::alloc::{AllocError, Global};
 use std::marker::Model;
+use std::mem;
 
 /// The cells of an unwritten loan, and none where there is no such loan.
 ///
 /// They are listed once a reference is handed out by which they may be written. Until then a loan is
-/// but their number, and shows cells that all loans of its publisher share. Where there is room for one
-/// cell alone, that one is listed from the start, and the others never are.
+/// but their number, and shows cells that all loans of its publisher share. The list is one of those
+/// that its publisher keeps for its loans, and goes back there. Where a publisher keeps none, there is
+/// room for one cell, and the others are never listed.
 #[derive(Drop)]
 pub(crate) struct Cells<T> {
     listed: Vec<Option<T>>,
     // So many cells aren't listed, and none of them is written.
     unlisted: usize,
+    // How many lists the publisher keeps for its loans.
+    lists: usize,
 }
 
 impl<T> Model for Cells<T> {
-    ghost use Rattle.std.specs.Prelude.{◌≡◌, ◌<◌, ◌≤◌, ◌+◌, ◌^◌, [], ◌++◌, Option, None, length, replicate, vec_capacity};
-    ghost use Rattle.iox2_contents.specs.RoomLists.{RoomList};
+    ghost use Rattle.std.specs.Prelude.{◌≡◌, ◌<◌, ◌≤◌, ◌+◌, ◌^◌, ◌++◌, Option, None, length, replicate, vec_capacity};
+    ghost use Rattle.iox2_contents.specs.CellLists.{CellList};
 
-    ghost Value = { RoomList (Option T) };
+    ghost Value = { CellList T };
 
     ghost view = { λ cells. record {
       items = cells.listed.items ++ replicate cells.unlisted None;
       room = vec_capacity cells.listed;
+      lists = cells.lists;
     } };
 
-    // Where there is room to list the cells, all of them are listed or none is. None is only where there
-    // is room for more than one.
+    // With a list of its publisher's all cells are listed.
     ghost invariant = { λ cells. (length cells.listed.items + cells.unlisted < 2 ^ 64)
-        × (length cells.listed.items + cells.unlisted ≤ vec_capacity cells.listed → 0 < cells.unlisted → cells.listed.items ≡ [])
-        × (0 < cells.unlisted → cells.listed.items ≡ [] → 1 < vec_capacity cells.listed) };
+        × (0 < cells.lists → 0 < vec_capacity cells.listed → cells.unlisted ≡ 0) };
 }
 
 impl<T: Drop> Cells<T> {
-    /// No cells, with room for so many.
-    pub(crate) fn new(alloc: Global, room: usize) -> Result<Self, AllocError>
+    /// No cells, of a publisher that keeps so many lists; with room for one, where it keeps none.
+    pub(crate) fn new(alloc: Global, lists: usize) -> Result<Self, AllocError>
         ensures items { IfOk result (λ cells. cells.items ≡ []) }
-        ensures room { IfOk result (λ cells. cells.room ≡ room) }
+        ensures lists { IfOk result (λ cells. cells.lists ≡ lists) }
+        ensures own { IfOk result (λ cells. lists ≡ 0 → 0 < cells.room) }
+        ensures none { IfOk result (λ cells. 0 < lists → cells.room ≡ 0) }
     {
+        let room = if lists == 0 { 1 } else { 0 };
         Ok(Cells {
             listed: Vec::with_capacity(alloc, room)?,
             unlisted: 0,
+            lists,
         })
     }
 
     /// So many unwritten cells, in place of those that were there.
     pub(crate) fn start(&mut self, len: usize)
-        requires { 0 < len → 0 < self.old.room }
+        requires { 0 < self.old.lists → self.old.room ≡ 0 }
         ensures { self.new ≡ with_items (replicate len None) self.old }
     {
         self.unlisted = len;
         self.listed.clear();
-        if len > 0 && self.listed.capacity() == 1 {
-            self.listed.push_reserved(None);
-            self.unlisted = len - 1;
-        }
     }
 
     /// Drops the cells. Returns how many there were.
@@ -77,8 +80,38 @@ impl<T: Drop> Cells<T> {
     pub(crate) fn give_up(&mut self, alloc: Global)
         ensures items { self.new.items ≡ [] }
         ensures room { self.new.room ≡ 0 }
+        ensures lists { self.new.lists ≡ self.old.lists }
     {
         self.listed = Vec::new(alloc);
+        self.unlisted = 0;
+    }
+
+    /// Drops the cells, and takes their list out, which is its publisher's.
+    pub(crate) fn take_list(&mut self) -> Vec<Option<T>>
+        ensures empty { result.items ≡ [] }
+        ensures room { vec_capacity result ≡ self.old.room }
+        ensures items { self.new.items ≡ [] }
+        ensures none { self.new.room ≡ 0 }
+        ensures lists { self.new.lists ≡ self.old.lists }
+    {
+        let alloc = *self.listed.allocator();
+        let mut list = mem::replace(&mut self.listed, Vec::new(alloc));
+        self.unlisted = 0;
+        list.clear();
+        list
+    }
+
+    /// Lists the cells, which wait for it, in one of their publisher's lists.
+    pub(crate) fn put_list(&mut self, list: Vec<Option<T>>)
+        requires waits { waits self.old ≡ true }
+        requires empty { list.items ≡ [] }
+        requires room { length self.old.items ≤ vec_capacity list }
+        ensures items { self.new.items ≡ self.old.items }
+        ensures room { self.new.room ≡ vec_capacity list }
+        ensures lists { self.new.lists ≡ self.old.lists }
+    {
+        self.listed = list;
+        push_unwritten(&mut self.listed, self.unlisted);
         self.unlisted = 0;
     }
 
@@ -107,11 +140,25 @@ impl<T> Cells<T> {
         self.unlisted == 0 && self.listed.iter().all(|cell| cell.is_some())
     }
 
+    /// Whether they have one of their publisher's lists.
+    pub(crate) fn has_list(&self) -> bool
+        ensures { result ≡ has_list self.now }
+    {
+        self.lists > 0 && self.listed.capacity() > 0
+    }
+
+    /// Whether they need one of their publisher's lists before they can be written.
+    pub(crate) fn waits(&self) -> bool
+        ensures { result ≡ waits self.now }
+    {
+        self.lists > 0 && self.listed.capacity() == 0 && self.unlisted > 0
+    }
+
     /// The first cell. Where it isn't listed it is one of the unwritten ones.
     pub(crate) fn cell<'a>(&'a self, unwritten: &'a [Option<T>]) -> &'a Option<T>
         requires first { 0 < length self.now.items }
         requires unwritten { unwritten.now ≡ replicate (length unwritten.now) None }
-        requires enough { 1 < self.now.room → 0 < length unwritten.now }
+        requires enough { 0 < length unwritten.now }
         ensures { slice_get self.now.items 0 ≡ Some result.now }
     {
         if self.listed.is_empty() {
@@ -120,10 +167,10 @@ impl<T> Cells<T> {
         &self.listed[0]
     }
 
-    /// The cells, which there is room to list. Where they aren't listed they are as many of the
+    /// The cells, of a publisher that keeps lists. Where they aren't listed they are as many of the
     /// unwritten ones.
     pub(crate) fn cells<'a>(&'a self, unwritten: &'a [Option<T>]) -> &'a [Option<T>]
-        requires fit { length self.now.items ≤ self.now.room }
+        requires lists { 0 < self.now.lists }
         requires unwritten { unwritten.now ≡ replicate (length unwritten.now) None }
         requires enough { length self.now.items ≤ length unwritten.now }
         ensures { result.now ≡ self.now.items }
@@ -134,28 +181,27 @@ impl<T> Cells<T> {
         &unwritten[..self.unlisted]
     }
 
-    /// The first cell, to be changed. As many are listed as there is room for.
+    /// The first cell, to be changed, which is listed, or which there is room to list.
     pub(crate) fn cell_mut(&mut self) -> &mut Option<T>
         requires first { 0 < length self.old.items }
         requires room { 0 < self.old.room }
         ensures* writes_back { sem 𝓛 (LendsCell T.row self.entry result) }
         ensures value { slice_get self.old.items 0 ≡ Some result.now }
     {
-        let free = self.listed.capacity() - self.listed.len();
-        let count = self.unlisted.min(free);
-        push_unwritten(&mut self.listed, count);
-        self.unlisted -= count;
+        if self.listed.is_empty() {
+            push_unwritten(&mut self.listed, 1);
+            self.unlisted -= 1;
+        }
         &mut self.listed[0]
     }
 
-    /// The cells, to be changed, which there is room to list.
+    /// The cells, to be changed, which are listed where there are any.
     pub(crate) fn cells_mut(&mut self) -> &mut [Option<T>]
-        requires { length self.old.items ≤ self.old.room }
+        requires lists { 0 < self.old.lists }
+        requires ready { waits self.old ≡ false }
         ensures* writes_back { sem 𝓛 (LendsCells T.row self.entry result) }
         ensures value { result.now ≡ self.old.items }
     {
-        push_unwritten(&mut self.listed, self.unlisted);
-        self.unlisted = 0;
         self.listed.as_mut_slice()
     }
 }

@@ -3,50 +3,56 @@ ghost use Rattle.std.specs.Prelude.{◌≡◌, ◌<◌, ◌≤◌, List, [], ◌
 ghost use Rattle.std.specs.Borrow.{sem};
 ghost use Rattle.std.specs.List.{All};
 ghost use Rattle.iox2_contents.specs.SlotCalls.{AnswersInOrder};
-ghost use Rattle.iox2_contents.specs.SlotContents.{SomeAt, AddsSlots, ClearsSlot, WritesValues, AssumesWritten, StartsLoan, with_changed, written_content, ended_content, user_header_at, cells_at, values_at, first_cell_at, first_value_at};
+ghost use Rattle.iox2_contents.specs.SlotPayload.{lies_in_place};
+ghost use Rattle.iox2_contents.specs.SlotStates.{IsNew};
+ghost use Rattle.iox2_contents.specs.SlotContents.{SomeAt, AddsSlots, ClearsSlot, WritesValues, AssumesWritten, StartsLoan, with_changed, written_content, ended_content, lists_for, open_count, user_header_at, cells_at, values_at, first_cell_at, first_value_at};
 
 use crate::cells::push_unwritten;
 use crate::content::Content;
+use crate::lists::{cell_lists, ready, settle};
 use std::alloc::{AllocError, Global};
 use std::marker::Model;
-use std::mem;
 
 /// What a publisher's users write and its subscribers' users read: for each slot the user header
 /// and the payload.
 ///
 /// A payload that lies in its slot is dropped when the next loan starts there, one in lists when
-/// another is written there, and either when the slot is cleared or the contents go. Cells go when
-/// their loan ends unwritten, too.
+/// another is written there, and either when the slot is cleared or the contents go.
 #[derive(Drop)]
 pub struct Contents<T, U> {
     slots: Vec<Content<T, U>>,
     // Unwritten cells for each loan to show that hasn't listed its own.
     unwritten: Vec<Option<T>>,
+    // Lists for the cells of loans that have to be listed: as many as loans may be out, but for those
+    // that loans have.
+    spare: Vec<Vec<Option<T>>>,
 }
 
 impl<T, U> Model for Contents<T, U> {
-    ghost use Rattle.std.specs.Prelude.{◌≡◌, List, None, length, replicate};
+    ghost use Rattle.std.specs.Prelude.{◌≡◌, ◌≤◌, List, [], None, length, replicate, vec_capacity};
     ghost use Rattle.std.specs.List.{All};
     ghost use Rattle.iox2_contents.specs.SlotContents.{ContentState};
-    ghost use Rattle.iox2_contents.specs.SlotRooms.{RoomIsAtMost};
+    ghost use Rattle.iox2_contents.specs.SlotStates.{contents_of};
+    ghost use Rattle.iox2_contents.specs.SlotRooms.{HasLists};
 
     ghost Value = { List (ContentState T U) };
 
-    ghost view = { λ contents. contents.slots.items };
+    ghost view = { λ contents. contents_of contents.slots.items };
 
-    // The longest loan whose cells can be handed out may show unwritten cells.
+    // The longest loan may show unwritten cells, and each loan that may be out finds a list for its own.
     ghost invariant = { λ contents. (contents.unwritten.items ≡ replicate (length contents.unwritten.items) None)
-        × All (RoomIsAtMost (length contents.unwritten.items)) contents.slots.items };
+        × All (λ list. (list.items ≡ []) × (length contents.unwritten.items ≤ vec_capacity list)) contents.spare.items
+        × HasLists (length contents.unwritten.items) (length contents.spare.items) (vec_capacity contents.spare) contents.slots.items };
 }
 
 impl<T: Drop, U: Default + Drop> Contents<T, U> {
     /// The contents of so many slots, each with room for so many elements. Each has a default user
-    /// header, no cells and no values. With room for one element a slot has it in place, and else in
-    /// lists of its own.
+    /// header, no cells and no values. With room for one element a slot has it in place, unless it is to
+    /// lie in a list (`in_lists`), and else in lists of its own.
     ///
-    /// Where lists of cells are to be handed out (`lists_cells`) there is room to list them too, of an
-    /// `Option` for each element and slot, and as many for all loans of a slot that haven't listed
-    /// theirs. Else there is room for one cell in each slot.
+    /// Where elements lie in lists, there are so many lists of cells (`lists`), of an `Option` for each
+    /// element, and one more for all loans that haven't listed theirs. So cells can be handed out for so
+    /// many loans at a time. Without such lists there is room for one cell in each slot.
     ///
     /// Fails where memory runs out; but for `grow` no other call on contents takes memory.
     pub fn new(
@@ -54,45 +60,52 @@ impl<T: Drop, U: Default + Drop> Contents<T, U> {
         slots: usize,
         room: usize,
         in_lists: bool,
-        lists_cells: bool,
+        lists: usize,
     ) -> Result<Self, AllocError>
         ensures len { IfOk result (λ contents. length contents ≡ slots) }
         ensures default { IfOk result (All (λ content. U.is_default content.user_header)) }
         ensures empty { IfOk result (All (λ content. (content.cells ≡ []) × (content.values ≡ []))) }
         ensures room { IfOk result (All (λ content. content.room ≡ room)) }
         ensures in_lists { IfOk result (All (λ content. in_lists ≡ true → content.is_in_place ≡ false)) }
-        ensures lists_cells { IfOk result (All (λ content. in_lists ≡ true → lists_cells ≡ true → content.lists_cells ≡ true)) }
+        ensures lists { IfOk result (All (λ content. content.lists ≡ lists_for in_lists lists)) }
     {
-        let cell_room = room_for_cells(room, lists_cells);
-        let unwritten = unwritten_cells(alloc, room, in_lists, cell_room)?;
-        let mut contents = Vec::with_capacity(alloc, slots)?;
-        for _ in 0..slots {
-            contents.push_reserved(Content::new(alloc, room, in_lists, cell_room)?);
-        }
+        let lists = lists_for(in_lists, lists);
+        let longest = shown_cells(room, in_lists, lists);
         Ok(Contents {
-            slots: contents,
-            unwritten,
+            slots: new_slots(alloc, slots, room, in_lists, lists)?,
+            unwritten: unwritten_cells(alloc, longest)?,
+            spare: cell_lists(alloc, lists, longest)?,
         })
     }
 
     /// So many slots more, each with room for so many elements, behind those that are there, as `new`
-    /// makes them. Fails where memory is refused; the contents then stay as they are.
+    /// makes them. Where they are longer, there are new lists of cells too, and a list that a loan has
+    /// goes with its cells. Fails where memory is refused; the contents then stay as they are.
     pub fn grow(
         &mut self,
         alloc: Global,
         more: usize,
         room: usize,
         in_lists: bool,
-        lists_cells: bool,
+        lists: usize,
     ) -> Result<(), AllocError>
-        ensures grown { OnOk result (AddsSlots self.old self.new more room in_lists lists_cells) }
+        requires some { 0 < length self.old }
+        requires lists { All (λ content. content.lists ≡ lists_for in_lists lists) self.old }
+        ensures grown { OnOk result (AddsSlots self.old self.new more room in_lists lists) }
         ensures refused { OnErr result (self.new ≡ self.old) }
     {
-        let mut added = Contents::new(alloc, more, room, in_lists, lists_cells)?;
-        self.slots.append(&mut added.slots)?;
-        if self.unwritten.len() < added.unwritten.len() {
-            mem::swap(&mut self.unwritten, &mut added.unwritten);
+        let lists = lists_for(in_lists, lists);
+        let longest = shown_cells(room, in_lists, lists);
+        let mut added = new_slots(alloc, more, room, in_lists, lists)?;
+        if longest <= self.unwritten.len() {
+            self.slots.append(&mut added)?;
+            return Ok(());
         }
+        let unwritten = unwritten_cells(alloc, longest)?;
+        let spare = cell_lists(alloc, lists, longest)?;
+        self.slots.append(&mut added)?;
+        self.unwritten = unwritten;
+        self.spare = spare;
         Ok(())
     }
 
@@ -101,24 +114,30 @@ impl<T: Drop, U: Default + Drop> Contents<T, U> {
         requires { slot < length self.old }
         ensures { ClearsSlot self.old self.new slot }
     {
+        self.end(slot);
         self.slots[slot].clear(alloc);
     }
 
     /// Makes the slot an unwritten loan of this length, which must fit the slot's room. It costs the
-    /// same for any length, but for cells or a value that have to be dropped.
+    /// same for any length, but for a value that has to be dropped. Fewer loans have cells than there
+    /// are lists for, and the slot's last one has none any more.
     pub fn start(&mut self, slot: usize, len: usize)
-        requires { SomeAt self.old slot (λ content. len ≤ content.room) }
+        requires fit { SomeAt self.old slot (λ content. len ≤ content.room) }
+        requires ended { SomeAt self.old slot (λ content. 0 < content.lists → content.cells ≡ []) }
+        requires few { SomeAt self.old slot (λ content. 0 < content.lists → open_count self.old < content.lists) }
         ensures { StartsLoan U.is_default self.old self.new slot len }
     {
         self.slots[slot].start(len);
     }
 
-    /// Drops the cells of the slot's loan, which is out no more.
+    /// Drops the cells of the slot's loan, which is out no more. Their list is one that another loan may
+    /// have then.
     pub fn end(&mut self, slot: usize)
         requires { slot < length self.old }
         ensures { self.new ≡ with_changed self.old slot ended_content }
     {
         self.slots[slot].end();
+        settle(&mut self.slots, &mut self.spare, &self.unwritten, slot);
     }
 
     /// Writes the value of a loan of one element, which then counts as written.
@@ -127,6 +146,7 @@ impl<T: Drop, U: Default + Drop> Contents<T, U> {
         ensures { self.new ≡ with_changed self.old slot (written_content (value ∷ [])) }
     {
         self.slots[slot].write_payload(value);
+        settle(&mut self.slots, &mut self.spare, &self.unwritten, slot);
     }
 
     /// Writes into each cell of the slot's loan what the function returns for its index. It is
@@ -137,6 +157,7 @@ impl<T: Drop, U: Default + Drop> Contents<T, U> {
         ensures { (answers : List T) × AnswersInOrder F.step f answers × WritesValues self.old self.new slot answers }
     {
         self.slots[slot].write_from_fn(f);
+        settle(&mut self.slots, &mut self.spare, &self.unwritten, slot);
     }
 
     /// Takes the cells of the slot's loan as its values, where each is written. Returns whether it
@@ -145,7 +166,11 @@ impl<T: Drop, U: Default + Drop> Contents<T, U> {
         requires { SomeAt self.old slot (λ content. content.is_in_place ≡ true → length content.cells ≡ 1) }
         ensures { AssumesWritten self.old self.new slot result }
     {
-        self.slots[slot].assume_init()
+        if !self.slots[slot].assume_init() {
+            return false;
+        }
+        settle(&mut self.slots, &mut self.spare, &self.unwritten, slot);
+        true
     }
 }
 
@@ -157,6 +182,7 @@ impl<T: Copy + Drop, U: Default + Drop> Contents<T, U> {
         ensures { WritesValues self.old self.new slot values.now }
     {
         self.slots[slot].write_from_slice(values);
+        settle(&mut self.slots, &mut self.spare, &self.unwritten, slot);
     }
 }
 
@@ -169,39 +195,60 @@ impl<T: Copy + Default + Drop, U: Default + Drop> Contents<T, U> {
         ensures { (values : List T) × WritesValues self.old self.new slot values }
     {
         self.slots[slot].write_unspecified();
+        settle(&mut self.slots, &mut self.spare, &self.unwritten, slot);
     }
 }
 
-// For how many cells a slot has room in a list.
-fn room_for_cells(room: usize, lists_cells: bool) -> usize
-    ensures all { lists_cells ≡ true → room ≤ result }
-    ensures first { 0 < room → 0 < result }
-    ensures whole { 1 < result → room ≤ result }
+// How many lists of cells there are for slots whose elements lie in lists, or don't.
+fn lists_for(in_lists: bool, lists: usize) -> usize
+    ensures { result ≡ lists_for in_lists lists }
 {
-    if lists_cells { room } else { 1 }
+    if in_lists { lists } else { 0 }
 }
 
-// As many unwritten cells as a loan may have to show: none where it can't hand them out, or has one in
-// its slot.
-fn unwritten_cells<T: Drop>(
+// How many unwritten cells a slot may have to show: all of a loan where its publisher keeps lists, and
+// else the first, unless that lies in the slot.
+fn shown_cells(room: usize, in_lists: bool, lists: usize) -> usize
+    requires { in_lists ≡ false → lists ≡ 0 }
+    ensures all { 0 < lists → room ≤ result }
+    ensures first { lies_in_place room in_lists ≡ false → 0 < result }
+{
+    if room == 1 && !in_lists {
+        return 0;
+    }
+    if lists == 0 { 1 } else { room.max(1) }
+}
+
+// The contents of so many slots that have no message yet.
+fn new_slots<T: Drop, U: Default + Drop>(
     alloc: Global,
+    slots: usize,
     room: usize,
     in_lists: bool,
-    cell_room: usize,
-) -> Result<Vec<Option<T>>, AllocError>
-    ensures unwritten { IfOk result (λ cells. cells.items ≡ replicate (length cells.items) None) }
-    ensures enough { IfOk result (λ cells. room ≤ cell_room → (room ≡ 1 → in_lists ≡ true) → length cells.items ≡ room) }
+    lists: usize,
+) -> Result<Vec<Content<T, U>>, AllocError>
+    requires { in_lists ≡ false → lists ≡ 0 }
+    ensures count { IfOk result (λ contents. length contents.items ≡ slots) }
+    ensures new { IfOk result (λ contents. All (IsNew U.is_default room in_lists lists) contents.items) }
 {
-    if cell_room < room || room == 1 && !in_lists {
-        return Ok(Vec::new(alloc));
+    let mut contents = Vec::with_capacity(alloc, slots)?;
+    for _ in 0..slots {
+        contents.push_reserved(Content::new(alloc, room, in_lists, lists)?);
     }
-    let mut cells = Vec::with_capacity(alloc, room)?;
-    push_unwritten(&mut cells, room);
+    Ok(contents)
+}
+
+// So many unwritten cells.
+fn unwritten_cells<T: Drop>(alloc: Global, count: usize) -> Result<Vec<Option<T>>, AllocError>
+    ensures unwritten { IfOk result (λ cells. cells.items ≡ replicate count None) }
+{
+    let mut cells = Vec::with_capacity(alloc, count)?;
+    push_unwritten(&mut cells, count);
     Ok(cells)
 }
 
 impl<T, U> Contents<T, U> {
-    ghost use Rattle.iox2_contents.specs.ContentsLends.{LendsCell, LendsCells, LendsValue, LendsValues, LendsUserHeader};
+    ghost use Rattle.iox2_contents.specs.ContentsLends.{LendsValue, LendsValues, LendsUserHeader};
 
     /// The user header of the slot's loan or message.
     pub fn user_header(&self, slot: usize) -> &U
@@ -219,10 +266,10 @@ impl<T, U> Contents<T, U> {
         self.slots[slot].cell(self.unwritten.as_slice())
     }
 
-    /// The cells of the slot's loan, and none once it is written, in contents that list cells. The
+    /// The cells of the slot's loan, and none once it is written, in contents with lists of cells. The
     /// first cell is read by `cell` in any.
     pub fn cells(&self, slot: usize) -> &[Option<T>]
-        requires { SomeAt self.now slot (λ content. content.lists_cells ≡ true) }
+        requires { SomeAt self.now slot (λ content. 0 < content.lists) }
         ensures { cells_at self.now slot ≡ Some result.now }
     {
         self.slots[slot].cells(self.unwritten.as_slice())
@@ -254,25 +301,6 @@ impl<T, U> Contents<T, U> {
         self.slots[slot].user_header_mut()
     }
 
-    /// The first cell of the slot's loan, which isn't written, to be changed.
-    pub fn cell_mut(&mut self, slot: usize) -> &mut Option<T>
-        requires { SomeAt self.old slot (λ content. 0 < length content.cells) }
-        ensures* writes_back { sem 𝓛 (LendsCell T.row U.row self.entry slot result) }
-        ensures value { first_cell_at self.old slot ≡ Some result.now }
-    {
-        self.slots[slot].cell_mut()
-    }
-
-    /// The cells of the slot's loan, to be changed, and none once it is written, in contents that list
-    /// cells.
-    pub fn cells_mut(&mut self, slot: usize) -> &mut [Option<T>]
-        requires { SomeAt self.old slot (λ content. content.lists_cells ≡ true) }
-        ensures* writes_back { sem 𝓛 (LendsCells T.row U.row self.entry slot result) }
-        ensures value { cells_at self.old slot ≡ Some result.now }
-    {
-        self.slots[slot].cells_mut()
-    }
-
     /// The first value of the slot's loan, which is written, to be changed.
     pub fn value_mut(&mut self, slot: usize) -> &mut T
         requires { SomeAt self.old slot (λ content. 0 < length content.values) }
@@ -289,5 +317,30 @@ impl<T, U> Contents<T, U> {
         ensures value { values_at self.old slot ≡ Some result.now }
     {
         self.slots[slot].values_mut()
+    }
+}
+
+impl<T: Drop, U> Contents<T, U> {
+    ghost use Rattle.iox2_contents.specs.ContentsLends.{LendsCell, LendsCells};
+
+    /// The first cell of the slot's loan, which isn't written, to be changed.
+    pub fn cell_mut(&mut self, slot: usize) -> &mut Option<T>
+        requires { SomeAt self.old slot (λ content. 0 < length content.cells) }
+        ensures* writes_back { sem 𝓛 (LendsCell T.row U.row self.entry slot result) }
+        ensures value { first_cell_at self.old slot ≡ Some result.now }
+    {
+        ready(&mut self.slots, &mut self.spare, &self.unwritten, slot);
+        self.slots[slot].cell_mut()
+    }
+
+    /// The cells of the slot's loan, to be changed, and none once it is written, in contents with lists of
+    /// cells. They are listed in one of these, which they then have until the loan is written or ends.
+    pub fn cells_mut(&mut self, slot: usize) -> &mut [Option<T>]
+        requires { SomeAt self.old slot (λ content. 0 < content.lists) }
+        ensures* writes_back { sem 𝓛 (LendsCells T.row U.row self.entry slot result) }
+        ensures value { cells_at self.old slot ≡ Some result.now }
+    {
+        ready(&mut self.slots, &mut self.spare, &self.unwritten, slot);
+        self.slots[slot].cells_mut()
     }
 }

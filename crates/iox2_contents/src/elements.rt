@@ -1,9 +1,9 @@
 //! The elements of a payload that isn't a single value.
-ghost use Rattle.std.specs.Prelude.{◌≡◌, ◌<◌, ◌≤◌, [], ◌∷◌, length, map, replicate, slice_get, true, false, None, Some, IfOk, is_some, nat_le};
+ghost use Rattle.std.specs.Prelude.{◌≡◌, ◌<◌, ◌≤◌, ◌&&◌, ◌==◌, [], ◌∷◌, length, map, nat_lt, replicate, slice_get, vec_capacity, true, false, None, Some, IfOk, is_some};
 ghost use Rattle.std.specs.Borrow.{sem};
 ghost use Rattle.std.specs.List.{list_all};
 ghost use Rattle.iox2_contents.specs.SlotCalls.{AnswersInOrder};
-ghost use Rattle.iox2_contents.specs.SlotElements.{unwritten_elements, written_elements, ended_elements};
+ghost use Rattle.iox2_contents.specs.SlotElements.{unwritten_elements, written_elements, ended_elements, has_list, waits};
 
 use crate::cells::Cells;
 use crate::values::Values;
@@ -19,7 +19,7 @@ pub(crate) struct Elements<T> {
 }
 
 impl<T> Model for Elements<T> {
-    ghost use Rattle.std.specs.Prelude.{◌≤◌, ◌<◌, length, nat_le};
+    ghost use Rattle.std.specs.Prelude.{◌≡◌, ◌≤◌, ◌<◌, length};
     ghost use Rattle.iox2_contents.specs.SlotElements.{ElementLists};
 
     ghost Value = { ElementLists T };
@@ -28,27 +28,26 @@ impl<T> Model for Elements<T> {
       cells = elements.cells.items;
       values = elements.values.items;
       room = elements.values.room;
-      lists_cells = nat_le elements.values.room elements.cells.room;
+      lists = elements.cells.lists;
+      cell_room = elements.cells.room;
     } };
 
-    // There is room for the values of a loan once it is written, for its first cell, and for all its
-    // cells where there is for more than one.
+    // There is room for the values of a loan once it is written, and for its first cell where its
+    // publisher keeps no lists.
     ghost invariant = { λ elements. (length elements.cells.items ≤ elements.values.room)
-        × (0 < elements.values.room → 0 < elements.cells.room)
-        × (1 < elements.cells.room → elements.values.room ≤ elements.cells.room) };
+        × (elements.cells.lists ≡ 0 → 0 < elements.values.room → 0 < elements.cells.room) };
 }
 
 impl<T: Drop> Elements<T> {
-    /// No elements, with room for so many, and for so many listed cells.
-    pub(crate) fn new(alloc: Global, room: usize, cell_room: usize) -> Result<Self, AllocError>
-        requires first { 0 < room → 0 < cell_room }
-        requires all { 1 < cell_room → room ≤ cell_room }
+    /// No elements, with room for so many, of a publisher that keeps so many lists of cells.
+    pub(crate) fn new(alloc: Global, room: usize, lists: usize) -> Result<Self, AllocError>
         ensures cells { IfOk result (λ elements. elements.cells ≡ []) }
         ensures values { IfOk result (λ elements. elements.values ≡ []) }
         ensures room { IfOk result (λ elements. elements.room ≡ room) }
-        ensures lists_cells { IfOk result (λ elements. elements.lists_cells ≡ nat_le room cell_room) }
+        ensures lists { IfOk result (λ elements. elements.lists ≡ lists) }
+        ensures none { IfOk result (λ elements. 0 < lists → elements.cell_room ≡ 0) }
     {
-        let cells = Cells::new(alloc, cell_room)?;
+        let cells = Cells::new(alloc, lists)?;
         let values = Values::new(alloc, room)?;
         Ok(Elements { cells, values })
     }
@@ -56,7 +55,8 @@ impl<T: Drop> Elements<T> {
     /// Makes it so many unwritten cells. The values that were there are dropped when others are
     /// written.
     pub(crate) fn start(&mut self, len: usize)
-        requires { len ≤ self.old.room }
+        requires fit { len ≤ self.old.room }
+        requires none { 0 < self.old.lists → self.old.cell_room ≡ 0 }
         ensures { self.new ≡ unwritten_elements len self.old }
     {
         self.cells.start(len);
@@ -65,15 +65,16 @@ impl<T: Drop> Elements<T> {
 
     /// Drops what was there, with its memory.
     pub(crate) fn give_up(&mut self, alloc: Global)
-        ensures room { self.new.room ≡ 0 }
-        ensures lists_cells { self.new.lists_cells ≡ true }
         ensures cells { self.new.cells ≡ [] }
+        ensures room { self.new.room ≡ 0 }
+        ensures lists { self.new.lists ≡ self.old.lists }
+        ensures none { self.new.cell_room ≡ 0 }
     {
         self.cells.give_up(alloc);
         self.values.give_up(alloc);
     }
 
-    /// Drops the cells, as no loan has them any more.
+    /// Drops the cells.
     pub(crate) fn end(&mut self)
         ensures { self.new ≡ ended_elements self.old }
     {
@@ -115,6 +116,26 @@ impl<T: Drop> Elements<T> {
         self.values.put(self.cells.move_to(values));
         true
     }
+
+    /// Lists the cells, which wait for it, in one of their publisher's lists.
+    pub(crate) fn put_list(&mut self, list: Vec<Option<T>>)
+        requires waits { waits self.old ≡ true }
+        requires empty { list.items ≡ [] }
+        requires room { self.old.room ≤ vec_capacity list }
+        ensures { self.new ≡ record self.old { cell_room = vec_capacity list } }
+    {
+        self.cells.put_list(list);
+    }
+
+    /// Drops the cells, and takes their list out.
+    pub(crate) fn take_list(&mut self) -> Vec<Option<T>>
+        requires { 0 < self.old.lists }
+        ensures empty { result.items ≡ [] }
+        ensures list { vec_capacity result ≡ self.old.cell_room }
+        ensures taken { self.new ≡ record self.old { cells = []; cell_room = 0 } }
+    {
+        self.cells.take_list()
+    }
 }
 
 impl<T: Copy + Drop> Elements<T> {
@@ -142,19 +163,33 @@ impl<T: Copy + Default + Drop> Elements<T> {
 impl<T> Elements<T> {
     ghost use Rattle.iox2_contents.specs.ElementLends.{LendsCell, LendsCells, LendsValue, LendsValues};
 
-    /// The first cell, given as many unwritten ones as there is room for where the cells can be listed.
+    /// Whether the cells have one of their publisher's lists.
+    pub(crate) fn has_list(&self) -> bool
+        ensures { result ≡ has_list self.now }
+    {
+        self.cells.has_list()
+    }
+
+    /// Whether there are cells that need one of their publisher's lists before they can be written.
+    pub(crate) fn waits(&self) -> bool
+        ensures { result ≡ waits self.now }
+    {
+        self.cells.waits()
+    }
+
+    /// The first cell, given some unwritten ones.
     pub(crate) fn cell<'a>(&'a self, unwritten: &'a [Option<T>]) -> &'a Option<T>
         requires first { 0 < length self.now.cells }
         requires unwritten { unwritten.now ≡ replicate (length unwritten.now) None }
-        requires enough { self.now.lists_cells ≡ true → self.now.room ≤ length unwritten.now }
+        requires enough { 0 < length unwritten.now }
         ensures { slice_get self.now.cells 0 ≡ Some result.now }
     {
         self.cells.cell(unwritten)
     }
 
-    /// The cells, which can be listed, given as many unwritten ones as there is room for.
+    /// The cells, given as many unwritten ones as there is room for, of a publisher that keeps lists.
     pub(crate) fn cells<'a>(&'a self, unwritten: &'a [Option<T>]) -> &'a [Option<T>]
-        requires listed { self.now.lists_cells ≡ true }
+        requires lists { 0 < self.now.lists }
         requires unwritten { unwritten.now ≡ replicate (length unwritten.now) None }
         requires enough { self.now.room ≤ length unwritten.now }
         ensures { result.now ≡ self.now.cells }
@@ -169,18 +204,20 @@ impl<T> Elements<T> {
         self.values.values()
     }
 
-    /// The first cell, to be changed.
+    /// The first cell, to be changed, which doesn't wait for a list.
     pub(crate) fn cell_mut(&mut self) -> &mut Option<T>
-        requires { 0 < length self.old.cells }
+        requires first { 0 < length self.old.cells }
+        requires ready { waits self.old ≡ false }
         ensures* writes_back { sem 𝓛 (LendsCell T.row self.entry result) }
         ensures value { slice_get self.old.cells 0 ≡ Some result.now }
     {
         self.cells.cell_mut()
     }
 
-    /// The cells, which can be listed, to be changed.
+    /// The cells, to be changed, which don't wait for a list, of a publisher that keeps some.
     pub(crate) fn cells_mut(&mut self) -> &mut [Option<T>]
-        requires { self.old.lists_cells ≡ true }
+        requires lists { 0 < self.old.lists }
+        requires ready { waits self.old ≡ false }
         ensures* writes_back { sem 𝓛 (LendsCells T.row self.entry result) }
         ensures value { result.now ≡ self.old.cells }
     {

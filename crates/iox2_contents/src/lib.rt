@@ -7,6 +7,7 @@ mod cells;
 mod content;
 mod contents;
 mod elements;
+mod lists;
 mod payload;
 mod values;
 

@@ -1,9 +1,9 @@
 //! The payload of one slot.
-ghost use Rattle.std.specs.Prelude.{◌≡◌, ◌<◌, ◌≤◌, [], ◌∷◌, length, map, replicate, slice_get, true, false, Some, None, IfOk, is_some, nat_le};
+ghost use Rattle.std.specs.Prelude.{◌≡◌, ◌<◌, ◌≤◌, [], ◌∷◌, length, map, replicate, slice_get, vec_capacity, true, false, Some, None, IfOk, is_some};
 ghost use Rattle.std.specs.Borrow.{sem};
 ghost use Rattle.std.specs.List.{list_all};
 ghost use Rattle.iox2_contents.specs.SlotCalls.{AnswersInOrder};
-ghost use Rattle.iox2_contents.specs.SlotPayload.{cells_of, values_of, room_of, is_in_place, lists_cells};
+ghost use Rattle.iox2_contents.specs.SlotPayload.{cells_of, values_of, room_of, is_in_place, lists_of, cell_room_of, lies_in_place, has_list, waits};
 
 use crate::elements::Elements;
 use std::alloc::{AllocError, Global};
@@ -22,40 +22,40 @@ pub(crate) enum Payload<T> {
 }
 
 impl<T: Drop> Payload<T> {
-    /// No elements, with room for so many, and for so many listed cells. A single one lies in place,
-    /// for which no memory is taken, but where it is to be in a list.
+    /// No elements, with room for so many, of a publisher that keeps so many lists of cells. A single
+    /// one lies in place, for which no memory is taken, but where it is to be in a list.
     pub(crate) fn new(
         alloc: Global,
         room: usize,
         in_lists: bool,
-        cell_room: usize,
+        lists: usize,
     ) -> Result<Self, AllocError>
-        requires first { 0 < room → 0 < cell_room }
-        requires all { 1 < cell_room → room ≤ cell_room }
+        requires { in_lists ≡ false → lists ≡ 0 }
         ensures cells { IfOk result (λ payload. cells_of payload ≡ []) }
         ensures values { IfOk result (λ payload. values_of payload ≡ []) }
         ensures room { IfOk result (λ payload. room_of payload ≡ room) }
-        ensures in_lists { IfOk result (λ payload. in_lists ≡ true → is_in_place payload ≡ false) }
-        ensures in_place { IfOk result (λ payload. is_in_place payload ≡ false → room ≡ 1 → in_lists ≡ true) }
-        ensures lists_cells { IfOk result (λ payload. lists_cells payload ≡ true → (is_in_place payload ≡ false) × (room ≤ cell_room)) }
-        ensures all_cells { IfOk result (λ payload. is_in_place payload ≡ false → room ≤ cell_room → lists_cells payload ≡ true) }
+        ensures in_place { IfOk result (λ payload. is_in_place payload ≡ lies_in_place room in_lists) }
+        ensures lists { IfOk result (λ payload. lists_of payload ≡ lists) }
+        ensures none { IfOk result (λ payload. has_list payload ≡ false) }
     {
         if room == 1 && !in_lists {
             return Ok(Payload::Empty);
         }
-        let elements = Elements::new(alloc, room, cell_room)?;
+        let elements = Elements::new(alloc, room, lists)?;
         Ok(Payload::Elements(Box::new(alloc, elements)?))
     }
 
     /// Makes it so many unwritten cells. What lay in place is dropped, and what lay in lists once
     /// others are written.
     pub(crate) fn start(&mut self, len: usize)
-        requires { len ≤ room_of self.old }
+        requires fit { len ≤ room_of self.old }
+        requires none { has_list self.old ≡ false }
         ensures cells { cells_of self.new ≡ replicate len None }
         ensures values { values_of self.new ≡ [] }
         ensures room { room_of self.new ≡ room_of self.old }
         ensures in_place { is_in_place self.new ≡ is_in_place self.old }
-        ensures lists_cells { lists_cells self.new ≡ lists_cells self.old }
+        ensures lists { lists_of self.new ≡ lists_of self.old }
+        ensures cell_room { cell_room_of self.new ≡ cell_room_of self.old }
     {
         match self {
             Payload::Elements(elements) => elements.start(len),
@@ -67,8 +67,8 @@ impl<T: Drop> Payload<T> {
     /// Drops what was there, and gives up the room of lists.
     pub(crate) fn clear(&mut self, alloc: Global)
         ensures in_place { is_in_place self.new ≡ is_in_place self.old }
-        ensures lists_cells { lists_cells self.old ≡ true → lists_cells self.new ≡ true }
-        ensures empty { lists_cells self.new ≡ true → room_of self.new ≡ 0 }
+        ensures lists { lists_of self.new ≡ lists_of self.old }
+        ensures none { has_list self.new ≡ false }
         ensures cells { cells_of self.new ≡ [] }
         ensures room { room_of self.new ≤ room_of self.old }
     {
@@ -81,15 +81,52 @@ impl<T: Drop> Payload<T> {
     /// Drops the cells, as no loan has them any more.
     pub(crate) fn end(&mut self)
         ensures cells { cells_of self.new ≡ [] }
-        ensures values { values_of self.new ≡ values_of self.old }
         ensures room { room_of self.new ≡ room_of self.old }
         ensures in_place { is_in_place self.new ≡ is_in_place self.old }
-        ensures lists_cells { lists_cells self.new ≡ lists_cells self.old }
+        ensures lists { lists_of self.new ≡ lists_of self.old }
+        ensures cell_room { cell_room_of self.new ≡ cell_room_of self.old }
+        ensures values { values_of self.new ≡ values_of self.old }
     {
         match self {
             Payload::Elements(elements) => elements.end(),
             Payload::Unwritten(_) => *self = Payload::Empty,
             Payload::Empty | Payload::Written(_) => {}
+        }
+    }
+
+    /// Lists the cells, which wait for it, in one of their publisher's lists.
+    pub(crate) fn put_list(&mut self, list: Vec<Option<T>>)
+        requires waits { waits self.old ≡ true }
+        requires empty { list.items ≡ [] }
+        requires room { room_of self.old ≤ vec_capacity list }
+        ensures list { cell_room_of self.new ≡ vec_capacity list }
+        ensures cells { cells_of self.new ≡ cells_of self.old }
+        ensures values { values_of self.new ≡ values_of self.old }
+        ensures room { room_of self.new ≡ room_of self.old }
+        ensures in_place { is_in_place self.new ≡ is_in_place self.old }
+        ensures lists { lists_of self.new ≡ lists_of self.old }
+    {
+        match self {
+            Payload::Elements(elements) => elements.put_list(list),
+            _ => unreachable!(),
+        }
+    }
+
+    /// Drops the cells, and takes their list out.
+    pub(crate) fn take_list(&mut self) -> Vec<Option<T>>
+        requires { has_list self.old ≡ true }
+        ensures empty { result.items ≡ [] }
+        ensures list { vec_capacity result ≡ cell_room_of self.old }
+        ensures cells { cells_of self.new ≡ [] }
+        ensures none { cell_room_of self.new ≡ 0 }
+        ensures values { values_of self.new ≡ values_of self.old }
+        ensures room { room_of self.new ≡ room_of self.old }
+        ensures in_place { is_in_place self.new ≡ is_in_place self.old }
+        ensures lists { lists_of self.new ≡ lists_of self.old }
+    {
+        match self {
+            Payload::Elements(elements) => elements.take_list(),
+            _ => unreachable!(),
         }
     }
 
@@ -100,7 +137,8 @@ impl<T: Drop> Payload<T> {
         ensures values { values_of self.new ≡ value ∷ [] }
         ensures room { room_of self.new ≡ room_of self.old }
         ensures in_place { is_in_place self.new ≡ is_in_place self.old }
-        ensures lists_cells { lists_cells self.new ≡ lists_cells self.old }
+        ensures lists { lists_of self.new ≡ lists_of self.old }
+        ensures cell_room { cell_room_of self.new ≡ cell_room_of self.old }
     {
         match self {
             Payload::Elements(elements) => elements.write(value),
@@ -118,7 +156,8 @@ impl<T: Drop> Payload<T> {
         ensures cells { cells_of self.new ≡ [] }
         ensures room { room_of self.new ≡ room_of self.old }
         ensures in_place { is_in_place self.new ≡ is_in_place self.old }
-        ensures lists_cells { lists_cells self.new ≡ lists_cells self.old }
+        ensures lists { lists_of self.new ≡ lists_of self.old }
+        ensures cell_room { cell_room_of self.new ≡ cell_room_of self.old }
     {
         match self {
             Payload::Elements(elements) => elements.write_from_fn(f),
@@ -135,7 +174,8 @@ impl<T: Drop> Payload<T> {
         ensures cells { result ≡ true → cells_of self.new ≡ [] }
         ensures room { room_of self.new ≡ room_of self.old }
         ensures in_place { is_in_place self.new ≡ is_in_place self.old }
-        ensures lists_cells { lists_cells self.new ≡ lists_cells self.old }
+        ensures lists { lists_of self.new ≡ lists_of self.old }
+        ensures cell_room { cell_room_of self.new ≡ cell_room_of self.old }
     {
         match self {
             Payload::Elements(elements) => elements.assume_init(),
@@ -160,7 +200,8 @@ impl<T: Copy + Drop> Payload<T> {
         ensures values { values_of self.new ≡ values.now }
         ensures room { room_of self.new ≡ room_of self.old }
         ensures in_place { is_in_place self.new ≡ is_in_place self.old }
-        ensures lists_cells { lists_cells self.new ≡ lists_cells self.old }
+        ensures lists { lists_of self.new ≡ lists_of self.old }
+        ensures cell_room { cell_room_of self.new ≡ cell_room_of self.old }
     {
         match self {
             Payload::Elements(elements) => elements.write_from_slice(values),
@@ -177,7 +218,8 @@ impl<T: Copy + Default + Drop> Payload<T> {
         ensures cells { cells_of self.new ≡ [] }
         ensures room { room_of self.new ≡ room_of self.old }
         ensures in_place { is_in_place self.new ≡ is_in_place self.old }
-        ensures lists_cells { lists_cells self.new ≡ lists_cells self.old }
+        ensures lists { lists_of self.new ≡ lists_of self.old }
+        ensures cell_room { cell_room_of self.new ≡ cell_room_of self.old }
     {
         match self {
             Payload::Elements(elements) => elements.write_unspecified(),
@@ -196,11 +238,31 @@ impl<T> Payload<T> {
         !matches!(self, Payload::Elements(_))
     }
 
-    /// The first cell, given as many unwritten ones as there is room for where the cells can be listed.
+    /// Whether the cells have one of their publisher's lists.
+    pub(crate) fn has_list(&self) -> bool
+        ensures { result ≡ has_list self.now }
+    {
+        match self {
+            Payload::Elements(elements) => elements.has_list(),
+            _ => false,
+        }
+    }
+
+    /// Whether there are cells that need one of their publisher's lists before they can be written.
+    pub(crate) fn waits(&self) -> bool
+        ensures { result ≡ waits self.now }
+    {
+        match self {
+            Payload::Elements(elements) => elements.waits(),
+            _ => false,
+        }
+    }
+
+    /// The first cell, given some unwritten ones where it lies in a list.
     pub(crate) fn cell<'a>(&'a self, unwritten: &'a [Option<T>]) -> &'a Option<T>
         requires first { 0 < length (cells_of self.now) }
         requires unwritten { unwritten.now ≡ replicate (length unwritten.now) None }
-        requires enough { lists_cells self.now ≡ true → room_of self.now ≤ length unwritten.now }
+        requires enough { is_in_place self.now ≡ false → 0 < length unwritten.now }
         ensures { slice_get (cells_of self.now) 0 ≡ Some result.now }
     {
         match self {
@@ -210,10 +272,10 @@ impl<T> Payload<T> {
         }
     }
 
-    /// The cells, which can be listed, and none once they are written, given as many unwritten ones as
-    /// there is room for.
+    /// The cells, and none once they are written, given as many unwritten ones as there is room for, of
+    /// a publisher that keeps lists.
     pub(crate) fn cells<'a>(&'a self, unwritten: &'a [Option<T>]) -> &'a [Option<T>]
-        requires listed { lists_cells self.now ≡ true }
+        requires lists { 0 < lists_of self.now }
         requires unwritten { unwritten.now ≡ replicate (length unwritten.now) None }
         requires enough { room_of self.now ≤ length unwritten.now }
         ensures { result.now ≡ cells_of self.now }
@@ -261,9 +323,10 @@ impl<T> Payload<T> {
         }
     }
 
-    /// The first cell, to be changed.
+    /// The first cell, to be changed, which doesn't wait for a list.
     pub(crate) fn cell_mut(&mut self) -> &mut Option<T>
-        requires { 0 < length (cells_of self.old) }
+        requires first { 0 < length (cells_of self.old) }
+        requires ready { waits self.old ≡ false }
         ensures* writes_back { sem 𝓛 (LendsCell T.row self.entry result) }
         ensures value { slice_get (cells_of self.old) 0 ≡ Some result.now }
     {
@@ -290,6 +353,7 @@ impl<T> Payload<T> {
     fn listed_cell_mut(&mut self) -> &mut Option<T>
         requires first { 0 < length (cells_of self.old) }
         requires in_lists { is_in_place self.old ≡ false }
+        requires ready { waits self.old ≡ false }
         ensures* writes_back { sem 𝓛 (LendsCell T.row self.entry result) }
         ensures value { slice_get (cells_of self.old) 0 ≡ Some result.now }
     {
@@ -299,9 +363,10 @@ impl<T> Payload<T> {
         }
     }
 
-    /// The cells, which can be listed, to be changed.
+    /// The cells, to be changed, which don't wait for a list, of a publisher that keeps some.
     pub(crate) fn cells_mut(&mut self) -> &mut [Option<T>]
-        requires { lists_cells self.old ≡ true }
+        requires lists { 0 < lists_of self.old }
+        requires ready { waits self.old ≡ false }
         ensures* writes_back { sem 𝓛 (LendsCells T.row self.entry result) }
         ensures value { result.now ≡ cells_of self.old }
     {

@@ -10,7 +10,7 @@ use Rattle.std.specs.declared.option.Option.TheVariants.{Some}
 use Rattle.std.specs.List.{All}
 use Rattle.circular_buffer.proofs.Places.{slice_get-append_left, slice_get-append_right, slice_get-set_same, slice_get-set_other}
 use Rattle.iox2_slots.specs.SlotBook.{Book, holders_at}
-use Rattle.iox2_contents.specs.SlotContents.{ContentState, AddsSlots, ClearsSlot}
+use Rattle.iox2_contents.specs.SlotContents.{ContentState, AddsSlots, ClearsSlot, lists_for}
 use Rattle.iox2_domain.specs.Growth.{ClearsUnused, GrowsContents}
 use Rattle.iox2_domain.proofs.lemmas.slots.Messages.{in_use_within}
 
@@ -33,13 +33,13 @@ module _ {T U : Type 0} (b : Book) (end : ℕ) where
         let had : (clears.had).is_in_place ≡ false = ap (λ (c : ContentState T U). c.is_in_place) (sym (get_or_from_slice_get mid slot clears.had clears.had clears.there)) ∙ was in
         subst (All (λ content. content.is_in_place ≡ false)) (sym clears.cleared)
         (All-set (λ (content : ContentState T U). content.is_in_place ≡ false) mid slot clears.content (clears.form ∙ had) mids);
-    lists = λ all.
-        let mids : All (λ content. content.lists_cells ≡ true) mid = before.lists all in
+    lists = λ n all.
+        let mids : All (λ content. content.lists ≡ n) mid = before.lists n all in
         let within : slot < length mid = slice_get_within mid slot clears.had clears.there in
-        let was : (get_or mid slot clears.had).lists_cells ≡ true = mids slot clears.had within in
-        let had : (clears.had).lists_cells ≡ true = ap (λ (c : ContentState T U). c.lists_cells) (sym (get_or_from_slice_get mid slot clears.had clears.had clears.there)) ∙ was in
-        subst (All (λ content. content.lists_cells ≡ true)) (sym clears.cleared)
-        (All-set (λ (content : ContentState T U). content.lists_cells ≡ true) mid slot clears.content (clears.lists had) mids);
+        let was : (get_or mid slot clears.had).lists ≡ n = mids slot clears.had within in
+        let had : (clears.had).lists ≡ n = ap (λ (c : ContentState T U). c.lists) (sym (get_or_from_slice_get mid slot clears.had clears.had clears.there)) ∙ was in
+        subst (All (λ content. content.lists ≡ n)) (sym clears.cleared)
+        (All-set (λ (content : ContentState T U). content.lists ≡ n) mid slot clears.content (clears.lists ∙ had) mids);
     cells = record {
       at = λ k content there some. elim (cases_eq k slot) [
         | inl here ↦
@@ -55,13 +55,13 @@ module _ {T U : Type 0} (b : Book) (end : ℕ) where
     };
   }
 
-module _ {T U : Type 0} (b : Book) (old mid new : List (ContentState T U)) (more units : ℕ) (in_lists lists_cells : Bool) (shaped : length old ≡ length b.holders)
-    (adds : AddsSlots old mid more units in_lists lists_cells) (clears : ClearsUnused b (length b.holders) mid new) where
+module _ {T U : Type 0} (b : Book) (old mid new : List (ContentState T U)) (more units : ℕ) (in_lists : Bool) (lists : ℕ) (shaped : length old ≡ length b.holders)
+    (listed : All (λ content. content.lists ≡ lists_for in_lists lists) old) (adds : AddsSlots old mid more units in_lists lists) (clears : ClearsUnused b (length b.holders) mid new) where
   long : length mid ≡ length old + more
   long = ap length adds.grown ∙ length-append old adds.added ∙ ap (λ n. length old + n) adds.count
 
   -- the contents have more slots
-  pub grows-contents : GrowsContents b more units in_lists lists_cells old new
+  pub grows-contents : GrowsContents b more units in_lists lists old new
   grows-contents = record {
     count = clears.count ∙ long;
     kept = λ slot held.
@@ -81,9 +81,9 @@ module _ {T U : Type 0} (b : Book) (old mid new : List (ContentState T U)) (more
     forms = λ lists all. clears.forms
         (subst (All (λ content. content.is_in_place ≡ false)) (sym adds.grown)
         (All-append (λ (content : ContentState T U). content.is_in_place ≡ false) old adds.added all (adds.forms lists)));
-    lists = λ lists listed all. clears.lists
-        (subst (All (λ content. content.lists_cells ≡ true)) (sym adds.grown)
-        (All-append (λ (content : ContentState T U). content.lists_cells ≡ true) old adds.added all (adds.lists_are lists listed)));
+    lists_are = clears.lists (lists_for in_lists lists)
+        (subst (All (λ content. content.lists ≡ lists_for in_lists lists)) (sym adds.grown)
+        (All-append (λ (content : ContentState T U). content.lists ≡ lists_for in_lists lists) old adds.added listed adds.lists_are));
     cells = record {
       at = λ slot content there some.
           let had : slice_get (old ++ adds.added) slot ≡ Some content = sym (ap (λ (cs : List (ContentState T U)). slice_get cs slot) adds.grown) ∙ clears.cells.at slot content there some in

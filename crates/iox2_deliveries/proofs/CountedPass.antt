@@ -5,9 +5,9 @@ use Rattle.std.specs.declared.option.Option.{Option}
 use Rattle.std.specs.Option.{option_map}
 use Rattle.std.specs.Prelude.{IsSomeAnd}
 use Rattle.slab.specs.Slab.{Slab, ContainsKey, get, with_value}
-use Rattle.iox2_contents.specs.SlotContents.{ContentState, SomeAt}
+use Rattle.iox2_contents.specs.SlotContents.{ContentState}
 use Rattle.iox2_slots.specs.Link.{Link}
-use Rattle.iox2_slots.specs.SlotBook.{Book, TakesFreeSlot, header_in}
+use Rattle.iox2_slots.specs.SlotBook.{Book, TakesFreeSlot, header_in, holders_at}
 use Rattle.iox2_ends.specs.Counters.{IsCovered, with_counters}
 use Rattle.iox2_ends.specs.Homes.{IsApart, IsSenderLinked}
 use Rattle.iox2_ends.specs.Reclaims.{Reclaims}
@@ -15,11 +15,11 @@ use Rattle.iox2_ends.proofs.MailboxChanges.{within_if_some}
 use Rattle.iox2_domain.specs.Fields.{Fields, kept_of}
 use Rattle.iox2_domain.specs.Invariant.{IsDomain}
 use Rattle.iox2_domain.specs.Kept.{state_of}
-use Rattle.iox2_domain.specs.Lending.{Lends, Starts, lending}
+use Rattle.iox2_domain.specs.Lending.{Lends, MayStart, Starts, lending}
 use Rattle.iox2_domain.specs.Ports.{PublisherFields, slot_length}
 use Rattle.iox2_domain.specs.Reaches.{Reaches}
 use Rattle.iox2_domain.proofs.lemmas.fields.ReachesShows.{reaches-then}
-use Rattle.iox2_domain.proofs.lemmas.loans.LendingSteps.{contents-within, lends-from, lent-fits, length-fits}
+use Rattle.iox2_domain.proofs.lemmas.loans.LendingSteps.{contents-within, lends-from, lent-fits, may-start}
 use Rattle.iox2_domain.proofs.lemmas.slots.PublisherBooks.{read-there, book-there, sender-linked, book-covers}
 use Rattle.iox2_domain.proofs.lemmas.slots.ReclaimSteps.{publisher-reclaims}
 use Rattle.iox2_deliveries.specs.ReadySlots.{with_segments}
@@ -89,13 +89,13 @@ module _ {T U : Type 0} (before f : Fields T U) (i : ℕ) (y : PublisherFields) 
       counted-units = seen (λ h z. length z.loans < z.max_loaned_samples → len ≤ slot_length z.segment_length → 1 < len → len * (h.config).units_per_element < 2 ^ 64)
           (lent-fits g sound i y c.stands len)
 
-      pub counted-length : len ≤ slot_length x.segment_length → (b : Book) → get f.books x.book ≡ Some b → (slot : ℕ) → slot < length b.holders → x.segment_start ≤ slot
-          → (o : Option (List (ContentState T U))) → o ≡ get_or f.contents x.book o
-          → IsSomeAnd o (λ cs. SomeAt cs slot (λ content. len * (f.config).units_per_element ≤ content.room))
-      counted-length = seen (λ h z. len ≤ slot_length z.segment_length → (b : Book) → get h.books z.book ≡ Some b → (slot : ℕ) → slot < length b.holders → z.segment_start ≤ slot
-          → (o : Option (List (ContentState T U))) → o ≡ get_or h.contents z.book o
-          → IsSomeAnd o (λ cs. SomeAt cs slot (λ content. len * (h.config).units_per_element ≤ content.room)))
-          (length-fits g sound i y c.stands len)
+      pub counted-start : len ≤ slot_length x.segment_length → length x.loans < x.max_loaned_samples → (b : Book) → get f.books x.book ≡ Some b → (slot : ℕ) → slot < length b.holders → x.segment_start ≤ slot
+          → holders_at b slot ≡ 0 → (o : Option (List (ContentState T U))) → o ≡ get_or f.contents x.book o
+          → IsSomeAnd o (λ cs. MayStart cs slot (len * (f.config).units_per_element))
+      counted-start = seen (λ h z. len ≤ slot_length z.segment_length → length z.loans < z.max_loaned_samples → (b : Book) → get h.books z.book ≡ Some b → (slot : ℕ) → slot < length b.holders → z.segment_start ≤ slot
+          → holders_at b slot ≡ 0 → (o : Option (List (ContentState T U))) → o ≡ get_or h.contents z.book o
+          → IsSomeAnd o (λ cs. MayStart cs slot (len * (h.config).units_per_element)))
+          (may-start g sound i y c.stands len)
 
       -- ---- the steps together are a loan, of the segments that are counted
 

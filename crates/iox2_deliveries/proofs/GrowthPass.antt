@@ -1,16 +1,17 @@
 -- A publisher makes a further segment.
-use Rattle.std.proofs.Common.{◌≡◌, Bool, true, ◌<◌, ◌≤◌, ℕ, ◌*◌, ◌^◌, List, None, Some, length, get_or, slice_set, ap, sym, subst, ◌∙◌, arith}
+use Rattle.std.proofs.Common.{◌≡◌, Bool, true, ◌<◌, ◌≤◌, ℕ, ◌+◌, ◌*◌, ◌^◌, List, None, Some, length, get_or, slice_set, ap, sym, subst, ◌∙◌, arith}
 use Rattle.std.proofs.lemmas.List.{set-get_or}
 use Rattle.std.specs.declared.option.Option.{Option}
 use Rattle.std.specs.Prelude.{max, not}
+use Rattle.std.specs.List.{All}
 use Rattle.slab.specs.Slab.{get, with_value}
-use Rattle.iox2_contents.specs.SlotContents.{ContentState}
+use Rattle.iox2_contents.specs.SlotContents.{ContentState, lists_for}
 use Rattle.iox2_slots.specs.SlotBook.{Book, with_more_slots}
 use Rattle.iox2_store.specs.SingleValues.{is_single_valued}
 use Rattle.iox2_store.specs.machine.Limits.{segment_fits, segment_limit}
 use Rattle.iox2_domain.specs.Fields.{Fields, publisher_of}
 use Rattle.iox2_domain.specs.Growth.{Grows, GrowsContents, with_segment}
-use Rattle.iox2_domain.specs.Invariant.{IsDomain}
+use Rattle.iox2_domain.specs.Invariant.{IsDomain, lists_wanted}
 use Rattle.iox2_domain.specs.Ports.{PublisherFields, slot_length}
 use Rattle.iox2_domain.proofs.lemmas.fields.ConnectionEnds.{publisher-stands}
 use Rattle.iox2_domain.proofs.lemmas.loans.LendingSteps.{contents-of, contents-within}
@@ -59,6 +60,27 @@ module _ {T U : Type 0} (before f : Fields T U) (same : f ≡ before) (agrees : 
         let is : found.0 ≡ cs = cc in
         ap (length {A = ContentState T U}) (sym is) ∙ found.2
 
+    -- of which there are some, with as many lists of cells as the publisher's loans need
+    module _ (o : Option (List (ContentState T U))) (read : o ≡ get_or f.contents x.book o) (cs : List (ContentState T U)) (there : o ≡ Some cs) where
+      pub growth-any : ((y : PublisherFields) × (get_or before.publishers i None ≡ Some y) × (0 < y.slots)) → 0 < length cs
+      growth-any given =
+          let its_is : given.0 ≡ x = sym (is-given given.0 given.1) in
+          let some : 0 < x.slots = subst (λ (y : PublisherFields). 0 < y.slots) its_is given.2 in
+          let has = sound.parts.books.publishers i x at in
+          let found : Some has.book ≡ Some book = sym has.stands ∙ its in
+          let is : has.book ≡ book = cc in
+          let count : length book.holders ≡ x.segment_start + x.slots = ap (λ (b : Book). length b.holders) (sym is) ∙ has.slots in
+          omega (arith, some, count, growth-shaped o read cs there)
+
+      pub growth-lists : (in_lists : Bool) (lists : ℕ) → in_lists ≡ not (is_single_valued f.config) → lists ≡ lists_wanted f.config z.max_loaned_samples → All (λ content. content.lists ≡ lists_for in_lists lists) cs
+      growth-lists in_lists lists listed wanted =
+          let found = contents-of f sound i x at book its in
+          let same_cs : Some found.0 ≡ Some cs = sym found.1 ∙ read-there f.contents x.book found.0 o found.1 read ∙ there in
+          let stood : get_or f.contents x.book None ≡ Some cs = found.1 ∙ same_cs in
+          let wants : lists ≡ lists_wanted f.config x.max_loaned_samples = wanted ∙ ap (λ (y : PublisherFields). lists_wanted f.config y.max_loaned_samples) (sym view) in
+          subst (λ (n : ℕ). All (λ content. content.lists ≡ n) cs) (ap (λ (b : Bool). lists_for b (lists_wanted f.config x.max_loaned_samples)) (sym listed) ∙ ap (lists_for in_lists) (sym wants))
+          (sound.parts.open_loans.lists i x cs at stood)
+
   -- so many elements fit a machine word
   pub growth-fits : (longest most : ℕ) → segment_fits f.config z.slots longest ≡ true → ((y : PublisherFields) × (get_or before.publishers i None ≡ Some y) × (0 < y.slots)) → most ≡ max 1 longest
       → 1 < most → most * (f.config).units_per_element < 2 ^ 64
@@ -79,12 +101,12 @@ module _ {T U : Type 0} (before f : Fields T U) (same : f ≡ before) (agrees : 
 
   -- ---- the publisher has a further segment
 
-  pub grew : (x0 : PublisherFields) → get_or before.publishers i None ≡ Some x0 → (start longest : ℕ) (book book' : Book) (cs cs' : List (ContentState T U)) (units : ℕ) (in_lists lists_cells : Bool)
+  pub grew : (x0 : PublisherFields) → get_or before.publishers i None ≡ Some x0 → (start longest : ℕ) (book book' : Book) (cs cs' : List (ContentState T U)) (units : ℕ) (in_lists : Bool) (lists : ℕ)
       → get f.books x.book ≡ Some book → book' ≡ with_more_slots x.slots book → (o : Option (List (ContentState T U))) → o ≡ get_or f.contents x.book o → o ≡ Some cs
-      → GrowsContents book x.slots units in_lists lists_cells cs cs' → units ≡ max 1 longest * (f.config).units_per_element → in_lists ≡ not (is_single_valued f.config) → lists_cells ≡ (f.config).lists_cells
+      → GrowsContents book x.slots units in_lists lists cs cs' → units ≡ max 1 longest * (f.config).units_per_element → in_lists ≡ not (is_single_valued f.config) → lists ≡ lists_wanted f.config z.max_loaned_samples
       → start ≡ length book.holders → segment_fits f.config z.slots longest ≡ true → z.segment_length ≤ longest
       → Grows before i x0 longest (record f { books = with_value f.books x.book book'; contents = slice_set f.contents x.book (Some cs'); publishers = slice_set f.publishers i (Some (with_segment start longest x)) })
-  grew x0 at0 start longest book book' cs cs' units in_lists lists_cells its is o read there grows units-are lists listed first fits longer =
+  grew x0 at0 start longest book book' cs cs' units in_lists lists its is o read there grows units-are listed wanted first fits longer =
       subst (λ (y : PublisherFields). Grows before i y longest new) (is-given x0 at0) (subst (λ (h : Fields T U). Grows h i x longest new) same here)
     where
       new : Fields T U
@@ -102,9 +124,10 @@ module _ {T U : Type 0} (before f : Fields T U) (same : f ≡ before) (agrees : 
         contents = cs;
         had = stood;
         grown = cs';
-        grows = subst (λ (b : Bool). GrowsContents book x.slots (slot_length longest * (f.config).units_per_element) b (f.config).lists_cells cs cs') lists
-            (subst (λ (b : Bool). GrowsContents book x.slots (slot_length longest * (f.config).units_per_element) in_lists b cs cs') listed
-            (subst (λ (n : ℕ). GrowsContents book x.slots n in_lists lists_cells cs cs') units-are grows));
+        grows = subst (λ (b : Bool). GrowsContents book x.slots (slot_length longest * (f.config).units_per_element) b (lists_wanted f.config x.max_loaned_samples) cs cs') listed
+            (subst (λ (n : ℕ). GrowsContents book x.slots (slot_length longest * (f.config).units_per_element) in_lists n cs cs')
+            (wanted ∙ ap (λ (y : PublisherFields). lists_wanted f.config y.max_loaned_samples) (sym view))
+            (subst (λ (n : ℕ). GrowsContents book x.slots n in_lists lists cs cs') units-are grows));
         fits = subst (λ (y : PublisherFields). segment_fits f.config y.slots longest ≡ true) (sym view) fits;
         longer = subst (λ (y : PublisherFields). y.segment_length ≤ longest) (sym view) longer;
         is = λ t. record f {

@@ -13,9 +13,9 @@ use Rattle.iox2_store.specs.declared.service_config.TypeVariant.TheVariants.{Fix
 use Rattle.iox2_store.specs.machine.Limits.{last_number}
 use Rattle.iox2_store.specs.machine.Loans.{is_static}
 use Rattle.iox2_store.specs.machine.State.{State}
-use Rattle.iox2_contents.specs.SlotContents.{ContentState, SomeAt}
+use Rattle.iox2_contents.specs.SlotContents.{ContentState}
 use Rattle.iox2_slots.specs.Link.{Link}
-use Rattle.iox2_slots.specs.SlotBook.{Book, TakesFreeSlot, header_in}
+use Rattle.iox2_slots.specs.SlotBook.{Book, TakesFreeSlot, header_in, holders_at}
 use Rattle.iox2_ends.specs.Counters.{IsCovered, with_counters}
 use Rattle.iox2_ends.specs.Homes.{IsApart, IsSenderLinked}
 use Rattle.iox2_ends.specs.Receivers.{HasReclaimed}
@@ -23,7 +23,7 @@ use Rattle.iox2_ends.specs.Reclaims.{Reclaims}
 use Rattle.iox2_ends.proofs.MailboxChanges.{within_if_some}
 use Rattle.iox2_domain.specs.Fields.{Fields}
 use Rattle.iox2_domain.specs.Invariant.{IsDomain}
-use Rattle.iox2_domain.specs.Lending.{IsNamed, Lends, LoanReaches, Starts, lending}
+use Rattle.iox2_domain.specs.Lending.{IsNamed, Lends, LoanReaches, MayStart, Starts, lending}
 use Rattle.iox2_domain.specs.LoanSlots.{LiesInSlot}
 use Rattle.iox2_domain.specs.Ports.{PublisherFields, slot_length}
 use Rattle.iox2_domain.specs.declared.loan_slots.LoanAt.{LoanAt}
@@ -31,7 +31,7 @@ use Rattle.iox2_domain.proofs.lemmas.containers.SetRecords.{set-here}
 use Rattle.iox2_domain.proofs.lemmas.fields.ReachesShows.{reaches-same}
 use Rattle.iox2_domain.proofs.lemmas.slots.PublisherBooks.{read-there}
 use Rattle.iox2_deliveries.specs.ReadySlots.{IsReady, RefusesLoan}
-use Rattle.iox2_deliveries.proofs.CountedPass.{Counted, segments-same, counted-there, counted-is, seen, counted-book, counted-linked, counted-apart, counted-covers, counted-within, counted-room, counted-units, counted-length, counted-lends, counted-reclaims}
+use Rattle.iox2_deliveries.proofs.CountedPass.{Counted, segments-same, counted-there, counted-is, seen, counted-book, counted-linked, counted-apart, counted-covers, counted-within, counted-room, counted-units, counted-start, counted-lends, counted-reclaims}
 use Rattle.iox2_deliveries.proofs.ReadyPass.{ready-lent, ready-lies}
 use Rattle.iox2_deliveries.proofs.StaticPass.{refused-long, refused-limited, refused-full, refused-last, granted, granted-lies}
 
@@ -244,9 +244,9 @@ module _ {T U : Type 0} (before : Fields T U) (agrees : IsDomain before) (i : �
                 pub loan-room : length z.loans < z.loan_room
                 loan-room = subst (λ (p : PublisherFields). length p.loans < p.loan_room) view (counted-room before f i (lender_of ready) (segments_of ready) c x at few)
 
-                pub loan-length : (slot : ℕ) → slot < length book.holders → x.segment_start ≤ slot → (o : Option (List (ContentState T U))) → o ≡ get_or f.contents x.book o
-                    → IsSomeAnd o (λ cs. SomeAt cs slot (λ content. len * (f.config).units_per_element ≤ content.room))
-                loan-length slot below from cs read_cs = counted-length before reclaimed i (lender_of ready) (segments_of ready) d x at len low book its-book slot below from cs read_cs
+                pub loan-start : (slot : ℕ) → slot < length book.holders → x.segment_start ≤ slot → holders_at book slot ≡ 0 → (o : Option (List (ContentState T U))) → o ≡ get_or f.contents x.book o
+                    → IsSomeAnd o (λ cs. MayStart cs slot (len * (f.config).units_per_element))
+                loan-start slot below from free cs read_cs = counted-start before reclaimed i (lender_of ready) (segments_of ready) d x at len low few book its-book slot below from free cs read_cs
 
                 module _ (taken : Book) (slot : ℕ) (takes : TakesFreeSlot book taken slot f.next_message (header_in book len)) (cs started : Option (List (ContentState T U))) (read_cs : cs ≡ get_or f.contents x.book cs)
                     (starts : Starts is_default cs started slot (len * (f.config).units_per_element)) (y y' : Option PublisherFields) (read_y : y ≡ get_or f.publishers i y)

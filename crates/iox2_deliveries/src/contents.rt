@@ -79,7 +79,7 @@ pub fn cells_at_mut<T: Drop, U: Default + Drop>(
     state: &mut DomainState<T, U>,
     at: MessageSlot,
 ) -> &mut [Option<T>]
-    requires { HasContentIn state.old at.book at.slot (λ content. content.lists_cells ≡ true) }
+    requires { HasContentIn state.old at.book at.slot (λ content. 0 < content.lists) }
     ensures* writes_back { sem 𝓛 (LendsCells T.row U.row state.entry at.book at.slot result) }
     ensures value { cells_at (contents_at state.old.contents at.book) at.slot ≡ Some result.now }
 {

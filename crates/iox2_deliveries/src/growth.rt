@@ -1,13 +1,15 @@
 //! A publisher makes a further segment, which becomes its current one.
 ghost use Rattle.std.specs.Prelude.{◌≡◌, ◌*◌, ◌<◌, ◌≤◌, ◌==◌, true, false, length, max, slice_index_or, None, Some, IfSome, IfOk, OnOk, OnErr};
+ghost use Rattle.std.specs.List.{All};
 ghost use Rattle.iox2_store.specs.machine.Limits.{segment_fits};
+ghost use Rattle.iox2_contents.specs.SlotContents.{lists_for};
 ghost use Rattle.iox2_slots.specs.SlotBook.{with_more_slots};
 ghost use Rattle.iox2_domain.specs.Growth.{ClearsUnused, GrowsContents, MayGrow};
 ghost use Rattle.iox2_domain.specs.Invariant.{IsDomain};
 ghost use Rattle.iox2_domain.specs.Ports.{PublisherFields, slot_length};
 
 use iox2_contents::Contents;
-use iox2_domain::{DomainState, PublisherState, segment_size, units_of};
+use iox2_domain::{DomainState, PublisherState, lists_wanted, segment_size, units_of};
 use iox2_slots::SlotBook;
 use iox2_store::{AllocationStrategy, LoanError, ServiceConfig};
 use std::alloc::{AllocError, Global};
@@ -47,7 +49,7 @@ pub(crate) fn grow<T: Drop, U: Default + Drop>(
     };
     let room = units_of(longest.max(1), state.config.units_per_element);
     let in_lists = !state.config.is_single_valued();
-    let lists_cells = state.config.lists_cells;
+    let lists = lists_wanted(&state.config, publisher.max_loaned_samples);
     let book = &mut state.books[key];
     let Ok(start) = add_slots(
         state.alloc,
@@ -56,7 +58,7 @@ pub(crate) fn grow<T: Drop, U: Default + Drop>(
         slots,
         room,
         in_lists,
-        lists_cells,
+        lists,
     ) else {
         return Err(LoanError::InternalFailure);
     };
@@ -81,8 +83,8 @@ fn next_length(publisher: &PublisherState, config: &ServiceConfig, len: usize) -
     Some(longest)
 }
 
-// So many slots more stand behind those of a book, each with room for so many units. Returns the
-// first of them. Where memory is refused both stay as they are.
+// So many slots more stand behind those of a book, each with room for so many units, and with as many
+// lists of cells. Returns the first of them. Where memory is refused both stay as they are.
 fn add_slots<T: Drop, U: Default + Drop>(
     alloc: Global,
     book: &mut SlotBook,
@@ -90,17 +92,19 @@ fn add_slots<T: Drop, U: Default + Drop>(
     more: usize,
     room: usize,
     in_lists: bool,
-    lists_cells: bool,
+    lists: usize,
 ) -> Result<usize, AllocError>
-    requires { length contents.old ≡ length book.old.holders }
+    requires shaped { length contents.old ≡ length book.old.holders }
+    requires some { 0 < length contents.old }
+    requires lists { All (λ content. content.lists ≡ lists_for in_lists lists) contents.old }
     ensures start { IfOk result (λ start. start ≡ length book.old.holders) }
     ensures book { OnOk result (book.new ≡ with_more_slots more book.old) }
-    ensures contents { OnOk result (GrowsContents book.old more room in_lists lists_cells contents.old contents.new) }
+    ensures contents { OnOk result (GrowsContents book.old more room in_lists lists contents.old contents.new) }
     ensures same_book { OnErr result (book.new ≡ book.old) }
     ensures same_contents { OnErr result (contents.new ≡ contents.old) }
 {
     let grown = book.grown(alloc, more)?;
-    contents.grow(alloc, more, room, in_lists, lists_cells)?;
+    contents.grow(alloc, more, room, in_lists, lists)?;
     let start = book.len();
     clear_unused(alloc, book, contents);
     *book = grown;

@@ -2,8 +2,7 @@
 ghost use Rattle.std.specs.Prelude.{◌≡◌, ◌≤◌, ◌&&◌, nat_lt, false, slice_index_or, None, Some, IfOk, IsSomeAnd};
 ghost use Rattle.iox2_store.specs.machine.Loans.{is_static};
 ghost use Rattle.iox2_store.specs.declared.service_config.TypeVariant.TheVariants.{FixedSize};
-ghost use Rattle.iox2_contents.specs.SlotContents.{SomeAt};
-ghost use Rattle.iox2_domain.specs.Lending.{Starts, IsNamed, LoanReaches};
+ghost use Rattle.iox2_domain.specs.Lending.{MayStart, Starts, IsNamed, LoanReaches};
 ghost use Rattle.iox2_domain.specs.LoanSlots.{LiesInSlot};
 ghost use Rattle.iox2_domain.specs.Ports.{PublisherFields};
 ghost use Rattle.iox2_domain.specs.Invariant.{IsDomain};
@@ -15,13 +14,13 @@ use iox2_contents::Contents;
 use iox2_domain::{DomainState, LoanAt, PublisherState, units_of};
 use iox2_store::{AllocationStrategy, LoanError};
 
-// In the slot starts a loan of that length.
+// In the slot, which nobody holds, starts a loan of that length.
 pub(crate) fn start<T: Drop, U: Default + Drop>(
     contents: &mut Option<Contents<T, U>>,
     slot: usize,
     len: usize,
 )
-    requires { IsSomeAnd contents.old (λ cs. SomeAt cs slot (λ content. len ≤ content.room)) }
+    requires { IsSomeAnd contents.old (λ cs. MayStart cs slot len) }
     ensures { Starts U.is_default contents.old contents.new slot len }
 {
     let Some(contents) = contents else {

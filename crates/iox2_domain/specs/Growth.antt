@@ -8,9 +8,9 @@ use Rattle.iox2_store.specs.machine.Limits.{segment_fits, segment_limit}
 use Rattle.iox2_store.specs.declared.errors.LoanError.{LoanError}
 use Rattle.iox2_store.specs.declared.errors.LoanError.TheVariants.{OutOfMemory, InternalFailure}
 use Rattle.iox2_slots.specs.SlotBook.{Book, holders_at, with_more_slots}
-use Rattle.iox2_contents.specs.SlotContents.{ContentState}
+use Rattle.iox2_contents.specs.SlotContents.{ContentState, lists_for}
 use Rattle.iox2_domain.specs.Fields.{Fields}
-use Rattle.iox2_domain.specs.Invariant.{HasRoomFrom}
+use Rattle.iox2_domain.specs.Invariant.{HasRoomFrom, lists_wanted}
 use Rattle.iox2_domain.specs.Ports.{PublisherFields, slot_length}
 
 -- The publisher with a current segment of that length, from that slot on.
@@ -27,18 +27,18 @@ module _ {T U : Type 0} where
     pub count : length new ≡ length old
     pub kept : (slot : ℕ) → (0 < holders_at book slot) ⊎ (end ≤ slot) → slice_get new slot ≡ slice_get old slot
     pub forms : All (λ content. content.is_in_place ≡ false) old → All (λ content. content.is_in_place ≡ false) new
-    pub lists : All (λ content. content.lists_cells ≡ true) old → All (λ content. content.lists_cells ≡ true) new
+    pub lists : (n : ℕ) → All (λ content. content.lists ≡ n) old → All (λ content. content.lists ≡ n) new
     pub cells : KeepsOpen old new
 
   -- Behind the slots of this book are so many more, each with room for so many units, which lie in lists where they are to,
-  -- and whose cells can be handed out where they are to be. What lies in slots in use stays, and no other has cells that had
-  -- none.
-  pub record GrowsContents (book : Book) (more units : ℕ) (in_lists lists_cells : Bool) (old new : List (ContentState T U)) : Type 0 where
+  -- and whose cells can be handed out for so many loans at a time. What lies in slots in use stays, and no other has cells
+  -- that had none.
+  pub record GrowsContents (book : Book) (more units : ℕ) (in_lists : Bool) (lists : ℕ) (old new : List (ContentState T U)) : Type 0 where
     pub count : length new ≡ length old + more
     pub kept : (slot : ℕ) → 0 < holders_at book slot → slice_get new slot ≡ slice_get old slot
     pub room : HasRoomFrom (length old) units new
     pub forms : in_lists ≡ true → All (λ content. content.is_in_place ≡ false) old → All (λ content. content.is_in_place ≡ false) new
-    pub lists : in_lists ≡ true → lists_cells ≡ true → All (λ content. content.lists_cells ≡ true) old → All (λ content. content.lists_cells ≡ true) new
+    pub lists_are : All (λ content. content.lists ≡ lists_for in_lists lists) new
     pub cells : KeepsOpen old new
 
   -- The publisher at the place has a current segment of that length, which lies behind the slots that it had. Nothing else
@@ -49,7 +49,7 @@ module _ {T U : Type 0} where
     pub contents : List (ContentState T U)
     pub had : slice_index_or f.contents x.book None ≡ Some contents
     pub grown : List (ContentState T U)
-    pub grows : GrowsContents book x.slots (slot_length len * (f.config).units_per_element) (not (is_single_valued f.config)) (f.config).lists_cells contents grown
+    pub grows : GrowsContents book x.slots (slot_length len * (f.config).units_per_element) (not (is_single_valued f.config)) (lists_wanted f.config x.max_loaned_samples) contents grown
     pub fits : segment_fits f.config x.slots len ≡ true
     pub longer : x.segment_length ≤ len
     pub is : f' ≡ record f {

@@ -1,5 +1,5 @@
 -- What always holds of the fields of a domain.
-use Rattle.std.specs.Prelude.{◌≡◌, ◌≢◌, ◌⊎◌, ℕ, Bool, true, false, ◌+◌, ◌*◌, ◌<◌, ◌≤◌, ◌==◌, ◌&&◌, cond, List, [], length, map, nat_lt, sum_by, slice_get, slice_index, slice_index_or, Contains, IsSomeAnd}
+use Rattle.std.specs.Prelude.{◌≡◌, ◌≢◌, ◌⊎◌, ℕ, Bool, true, false, ◌+◌, ◌*◌, ◌<◌, ◌≤◌, ◌==◌, ◌&&◌, cond, List, [], length, map, max, nat_lt, not, sum_by, slice_get, slice_index, slice_index_or, Contains, IsSomeAnd}
 use Rattle.std.specs.List.{All}
 use Rattle.std.specs.declared.option.Option.{Option}
 use Rattle.std.specs.declared.option.Option.TheVariants.{None, Some}
@@ -9,7 +9,7 @@ use Rattle.iox2_store.specs.machine.Limits.{channel_count, warning_limit, segmen
 use Rattle.iox2_slots.specs.Link.{Link}
 use Rattle.iox2_store.specs.SingleValues.{is_single_valued}
 use Rattle.iox2_slots.specs.SlotBook.{Book, IsAligned, holders_at}
-use Rattle.iox2_contents.specs.SlotContents.{ContentState}
+use Rattle.iox2_contents.specs.SlotContents.{ContentState, lists_for}
 use Rattle.iox2_store.specs.machine.Loans.{is_static}
 use Rattle.iox2_store.specs.machine.WellFormed.{IsWellFormed}
 use Rattle.iox2_store.specs.declared.service_config.ServiceConfig.{ServiceConfig}
@@ -247,11 +247,19 @@ pub record HasShapes {T U : Type 0} (f : Fields T U) : Type 0 where
   pub at : (key slot : ℕ) (b : Book) (m : KeptMessage T U) → get f.books key ≡ Some b
       → message_in b (contents_at f.contents key) slot ≡ Some m → HasShape f.config m
 
--- What lies in slots lies in lists, so that it can be handed out as a slice, but in a domain of single values. There is room
--- to list the cells too where the settings ask for it.
+-- How many lists of cells the settings ask for, of a publisher that may have so many loans out.
+abbrev pub lists_wanted : ServiceConfig → (max_loaned_samples : ℕ) → ℕ
+lists_wanted c max_loaned_samples = cond c.lists_cells (max 1 max_loaned_samples) 0
+
+-- How many such a publisher has: none in a domain of single values.
+abbrev pub cell_lists : ServiceConfig → (max_loaned_samples : ℕ) → ℕ
+cell_lists c max_loaned_samples = lists_for (not (is_single_valued c)) (lists_wanted c max_loaned_samples)
+
+-- What lies in slots lies in lists, so that it can be handed out as a slice, but in a domain of single values. Cells can be
+-- handed out as lists too where the settings ask for it.
 pub record HasForms {T U : Type 0} (c : ServiceConfig) (contents : List (Option (List (ContentState T U)))) : Type 0 where
   pub at : is_single_valued c ≡ false → (key : ℕ) (cs : List (ContentState T U)) → slice_index_or contents key None ≡ Some cs → All (λ content. content.is_in_place ≡ false) cs
-  pub cells : is_single_valued c ≡ false → c.lists_cells ≡ true → (key : ℕ) (cs : List (ContentState T U)) → slice_index_or contents key None ≡ Some cs → All (λ content. content.lists_cells ≡ true) cs
+  pub cells : is_single_valued c ≡ false → c.lists_cells ≡ true → (key : ℕ) (cs : List (ContentState T U)) → slice_index_or contents key None ≡ Some cs → All (λ content. 0 < content.lists) cs
 
 -- How many cells the slot of the book at the key has.
 abbrev pub cell_count : {T U : Type 0} → List (Option (List (ContentState T U))) → (key slot : ℕ) → ℕ
@@ -266,9 +274,12 @@ pub record IsUnwrittenLoan (books : Slab Book) (x : PublisherFields) (slot : ℕ
   pub out : 0 < times slot x.loans
   pub unwritten : mark_at books x.book slot ≡ Some Unwritten
 
--- Each slot with cells of a publisher that stands is a loan of its that is out and isn't written.
-pub record HasOpenLoans {T U : Type 0} (publishers : List (Option PublisherFields)) (books : Slab Book) (contents : List (Option (List (ContentState T U)))) : Type 0 where
+-- Each slot with cells of a publisher that stands is a loan of its that is out and isn't written. So as many lists of cells
+-- as it may have loans out are enough, and so many its slots have.
+pub record HasOpenLoans {T U : Type 0} (c : ServiceConfig) (publishers : List (Option PublisherFields)) (books : Slab Book) (contents : List (Option (List (ContentState T U)))) : Type 0 where
   pub at : (i slot : ℕ) (x : PublisherFields) → slice_index_or publishers i None ≡ Some x → 0 < cell_count contents x.book slot → IsUnwrittenLoan books x slot
+  pub lists : (i : ℕ) (x : PublisherFields) (cs : List (ContentState T U)) → slice_index_or publishers i None ≡ Some x → slice_index_or contents x.book None ≡ Some cs
+      → All (λ content. content.lists ≡ cell_lists c x.max_loaned_samples) cs
 
 -- ---- a publisher's segments, and its blocked delivery
 
@@ -306,7 +317,7 @@ pub record HasParts {T U : Type 0} (f : Fields T U) : Type 0 where
   pub warning_room : (f.warnings).capacity ≡ warning_limit
   pub shapes : HasShapes f
   pub forms : HasForms f.config f.contents
-  pub open_loans : HasOpenLoans f.publishers f.books f.contents
+  pub open_loans : HasOpenLoans f.config f.publishers f.books f.contents
   pub plain : (i : ℕ) (x : PublisherFields) → slice_index_or f.publishers i None ≡ Some x → IsPlain x
 
 -- The fields agree with one another, and what they keep is a well-formed state with an entry for each message that

@@ -1,5 +1,5 @@
 -- A publisher lends a free slot of its book.
-use Rattle.std.specs.Prelude.{◌≡◌, ℕ, Bool, true, false, ◌&&◌, ◌*◌, nat_lt, ◌+◌, ◌<◌, max, List, [], ◌∷◌, ◌++◌, length, slice_index_or, slice_set, Result, MatchResult, MatchOption, IsSomeAnd}
+use Rattle.std.specs.Prelude.{◌≡◌, ℕ, Bool, true, false, ◌&&◌, ◌*◌, nat_lt, ◌+◌, ◌<◌, ◌≤◌, max, List, [], ◌∷◌, ◌++◌, length, slice_index_or, slice_set, Result, MatchResult, MatchOption, IsSomeAnd}
 use Rattle.std.specs.declared.option.Option.{Option}
 use Rattle.std.specs.declared.option.Option.TheVariants.{None, Some}
 use Rattle.std.specs.List.{All}
@@ -7,7 +7,7 @@ use Rattle.slab.specs.Slab.{get, with_value}
 use Rattle.iox2_store.specs.machine.Limits.{last_number}
 use Rattle.iox2_store.specs.machine.Loans.{is_static, GrantLoan, loan_granted}
 use Rattle.iox2_slots.specs.SlotBook.{Book, holders_at}
-use Rattle.iox2_contents.specs.SlotContents.{ContentState, with_changed, unwritten_content}
+use Rattle.iox2_contents.specs.SlotContents.{ContentState, SomeAt, open_count, with_changed, unwritten_content}
 use Rattle.iox2_store.specs.machine.State.{State}
 use Rattle.iox2_store.specs.declared.errors.LoanError.{LoanError}
 use Rattle.iox2_store.specs.declared.header.Header.{Header}
@@ -69,6 +69,13 @@ module _ {T U : Type 0} where
   abbrev pub LoanDecided : Fields T U → (checks : Bool) → (len place : ℕ) → Option LoanError → Type 0
   LoanDecided f checks len place decision = IsSomeAnd (slice_index_or f.publishers place None) (λ x. MatchOption decision (CanGrant f checks len place)
       (λ e. (user_header : U) → GrantLoan (memory_for x.allocation) user_header checks len (state_of (kept_of f)) x.id (state_of (kept_of f)) (Some e)))
+
+  -- In the slot of these contents a loan of that length may start: there is room for it, and where cells can be handed out
+  -- as lists, the slot has no cells, and fewer slots have some than there are lists.
+  pub record MayStart (contents : List (ContentState T U)) (slot len : ℕ) : Type 0 where
+    pub fit : SomeAt contents slot (λ content. len ≤ content.room)
+    pub ended : SomeAt contents slot (λ content. 0 < content.lists → content.cells ≡ [])
+    pub few : SomeAt contents slot (λ content. 0 < content.lists → open_count contents < content.lists)
 
   -- In the slot of these contents starts a loan of that length, with a default user header.
   pub record Starts (is_default : U → Type 0) (old new : Option (List (ContentState T U))) (slot len : ℕ) : Type 0 where

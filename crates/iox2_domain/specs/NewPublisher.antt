@@ -10,7 +10,7 @@ use Rattle.circular_buffer.specs.Buffer.{Buffer}
 use Rattle.iox2_store.specs.machine.Limits.{last_number}
 use Rattle.iox2_store.specs.machine.Records.{PublisherSettings, Handler}
 use Rattle.iox2_slots.specs.SlotBook.{Book, IsAligned}
-use Rattle.iox2_contents.specs.SlotContents.{ContentState}
+use Rattle.iox2_contents.specs.SlotContents.{ContentState, lists_for}
 use Rattle.iox2_store.specs.declared.allocation.AllocationStrategy.{AllocationStrategy}
 use Rattle.iox2_store.specs.declared.allocation.AllocationStrategy.TheVariants.{Static}
 use Rattle.iox2_store.specs.declared.backpressure.BackpressureAction.{BackpressureAction}
@@ -84,9 +84,9 @@ abbrev pub subscriber_due : SubscriberFields → SubscriberFields
 subscriber_due y = record y { is_due = true }
 
 -- A book of so many slots of the publisher, which names its node. None of the slots is in use, and their contents,
--- each without cells and with room for so many elements, lie in lists where they are to, and their cells can be handed out
--- where they are to be.
-pub record IsNewSegment {T U : Type 0} (book : Book) (contents : List (ContentState T U)) (node publisher slots room : ℕ) (in_lists lists_cells : Bool) : Type 0 where
+-- each without cells and with room for so many elements, lie in lists where they are to, and their cells can then be handed
+-- out for so many loans at a time.
+pub record IsNewSegment {T U : Type 0} (book : Book) (contents : List (ContentState T U)) (node publisher slots room : ℕ) (in_lists : Bool) (lists : ℕ) : Type 0 where
   pub is_its : book.publisher ≡ publisher
   pub names_node : book.node ≡ node
   pub unused : book.holders ≡ replicate slots 0
@@ -95,7 +95,7 @@ pub record IsNewSegment {T U : Type 0} (book : Book) (contents : List (ContentSt
   pub contents_room : All (λ content. content.room ≡ room) contents
   pub contents_form : in_lists ≡ true → All (λ content. content.is_in_place ≡ false) contents
   pub contents_closed : All (λ content. content.cells ≡ []) contents
-  pub contents_cells : in_lists ≡ true → lists_cells ≡ true → All (λ content. content.lists_cells ≡ true) contents
+  pub contents_lists : All (λ content. content.lists ≡ lists_for in_lists lists) contents
 
 -- A book of the publisher, none of whose slots is in use, is among the books now, at a key that had none. At that key are
 -- contents for its slots, each without cells and with room for so many elements. Nothing else changes.

@@ -41,5 +41,5 @@ pub use state::DomainState;
 pub use subscriber_state::{
     SubscriberState, expire_at, forget_at, is_open_at, replace_expired_at, reserve_connection_at,
 };
-pub use units::{segment_size, units_of};
+pub use units::{lists_wanted, segment_size, units_of};
 pub use warnings::Warnings;

@@ -1,6 +1,9 @@
 //! The units of elements.
 ghost use Rattle.std.specs.Prelude.{◌≡◌, ◌*◌, ◌^◌, ◌<◌, IsTrue, SomeIff};
 ghost use Rattle.iox2_store.specs.machine.Limits.{fits};
+ghost use Rattle.iox2_domain.specs.Invariant.{lists_wanted};
+
+use iox2_store::ServiceConfig;
 
 /// How many units so many elements have.
 #[inline(always)]
@@ -19,4 +22,11 @@ pub fn segment_size(slots: usize, len: usize, units: usize) -> Option<usize>
         return Some(0);
     }
     slots.checked_mul(len)?.checked_mul(units)
+}
+
+/// How many lists of cells the settings ask for, of a publisher that may have so many loans out.
+pub fn lists_wanted(config: &ServiceConfig, max_loaned_samples: usize) -> usize
+    ensures { result ≡ lists_wanted config.now max_loaned_samples }
+{
+    if config.lists_cells { max_loaned_samples.max(1) } else { 0 }
 }

@@ -1,13 +1,8 @@
 //! A send that waits for a subscriber.
-ghost use Rattle.std.specs.Prelude.{◌≡◌};
-ghost use Rattle.iox2_pubsub.specs.Live.{blocked_key};
 
 mod retry;
 
-use crate::domain::Domain;
-use iox2_deliveries::has_blocked_send;
 use iox2_domain::LoanAt;
-use iox2_store::{BackpressureFn, DegradationFn, Key, UniquePublisherId};
 
 /// A send that waits for a subscriber whose buffer is full. It is a value to be spent: until then
 /// the domain keeps the send, and its publisher lends, sends and updates nothing and can't be closed.
@@ -25,43 +20,4 @@ use iox2_store::{BackpressureFn, DegradationFn, Key, UniquePublisherId};
 pub struct BlockedSend {
     pub(crate) service_id: u128,
     pub(crate) loan: LoanAt,
-}
-
-impl BlockedSend {
-    /// Names the blocked send without being its handle: it has the key of the loan that was sent.
-    pub fn key(&self) -> Key
-        ensures { result ≡ blocked_key self.now }
-    {
-        Key {
-            service_id: self.service_id,
-            port: self.loan.publisher.value(),
-            message: self.loan.number,
-        }
-    }
-
-    /// Spends the handle of a blocked send whose domain is gone. A domain that is still there isn't
-    /// told, and keeps the send.
-    pub fn disown(self) {
-        let BlockedSend {
-            service_id: _,
-            loan: _,
-        } = self;
-    }
-}
-
-impl<T: Drop, U: Default + Drop, F: BackpressureFn, G: DegradationFn> Domain<T, U, F, G> {
-    ghost use Rattle.std.specs.Prelude.{IsTrue, ◌↔◌};
-    ghost use Rattle.iox2_pubsub.specs.Live.{IsBlockedKey};
-
-    /// Whether the key is that of a send of this domain that is blocked, so that it may be tried again
-    /// or given up. This library's own.
-    #[tactic(auto, unfolding(crate::specs::Live::IsBlockedKey))]
-    pub fn holds_blocked(&self, key: Key) -> bool
-        ensures { IsTrue result ↔ IsBlockedKey self.now key }
-    {
-        if key.service_id != self.state.config().service_id {
-            return false;
-        }
-        has_blocked_send(&self.state, UniquePublisherId::new(key.port), key.message)
-    }
 }

@@ -4,6 +4,8 @@
 mod blocked_send;
 mod custom_markers;
 mod domain;
+mod handles;
+mod headers;
 mod parts;
 mod port_factory;
 mod publisher;

@@ -12,7 +12,7 @@ mod update_connections;
 use crate::domain::Domain;
 use crate::parts::hints::find_open_publisher;
 use iox2_deliveries::is_waiting;
-use iox2_store::{BackpressureFn, BackpressureStrategy, DegradationFn, Key, UniquePublisherId};
+use iox2_store::{BackpressureFn, BackpressureStrategy, DegradationFn, UniquePublisherId};
 
 /// Sends messages to every subscriber of its domain. It is a value to be spent: the domain keeps
 /// the publisher until that is closed.
@@ -57,29 +57,6 @@ impl Publisher {
     {
         self.strategy
     }
-
-    /// Names the publisher without being its handle. This library's own.
-    pub fn key(&self) -> Key
-        ensures { result ≡ publisher_key self.now }
-    {
-        Key {
-            service_id: self.service_id,
-            port: self.id.value(),
-            message: 0,
-        }
-    }
-
-    /// Spends the handle of a publisher whose domain is gone. A domain that is still there isn't
-    /// told, and keeps the publisher. This library's own.
-    pub fn disown(self) {
-        let Publisher {
-            service_id: _,
-            id: _,
-            place: _,
-            strategy: _,
-            initial_max_slice_len: _,
-        } = self;
-    }
 }
 
 impl Publisher {
@@ -112,22 +89,5 @@ impl Publisher {
         ensures { (result ≡ false) ↔ IsUnblocked domain.now (publisher_key self.now) }
     {
         is_waiting(&domain.state, self.id, self.place)
-    }
-}
-
-impl<T: Drop, U: Default + Drop, F: BackpressureFn, G: DegradationFn> Domain<T, U, F, G> {
-    ghost use Rattle.std.specs.Prelude.{IsTrue, ◌↔◌};
-    ghost use Rattle.iox2_pubsub.specs.Live.{IsPublisherKey};
-
-    /// Whether the key is that of a publisher of this domain that wasn't closed. This library's
-    /// own.
-    #[tactic(auto, unfolding(crate::specs::Live::IsPublisherKey))]
-    pub fn holds_publisher(&self, key: Key) -> bool
-        ensures { IsTrue result ↔ IsPublisherKey self.now key }
-    {
-        if key.service_id != self.state.config().service_id || key.message != 0 {
-            return false;
-        }
-        self.state.has_publisher(UniquePublisherId::new(key.port))
     }
 }

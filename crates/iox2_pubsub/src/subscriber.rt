@@ -1,6 +1,5 @@
 //! A subscriber.
 ghost use Rattle.std.specs.Prelude.{◌≡◌};
-ghost use Rattle.iox2_pubsub.specs.Live.{subscriber_key};
 
 mod channels;
 mod close;
@@ -10,7 +9,7 @@ mod update_connections;
 
 use crate::domain::Domain;
 use crate::parts::hints::find_open_subscriber;
-use iox2_store::{BackpressureFn, DegradationFn, Key, UniqueSubscriberId};
+use iox2_store::{BackpressureFn, DegradationFn, UniqueSubscriberId};
 
 /// Receives the messages of every publisher of its domain. It is a value to be spent: the domain
 /// keeps the subscriber until that is closed.
@@ -54,28 +53,6 @@ impl Subscriber {
     {
         self.buffer_size
     }
-
-    /// Names the subscriber without being its handle. This library's own.
-    pub fn key(&self) -> Key
-        ensures { result ≡ subscriber_key self.now }
-    {
-        Key {
-            service_id: self.service_id,
-            port: self.id.value(),
-            message: 0,
-        }
-    }
-
-    /// Spends the handle of a subscriber whose domain is gone. A domain that is still there isn't
-    /// told, and keeps the subscriber. This library's own.
-    pub fn disown(self) {
-        let Subscriber {
-            service_id: _,
-            id: _,
-            place: _,
-            buffer_size: _,
-        } = self;
-    }
 }
 
 impl Subscriber {
@@ -96,23 +73,5 @@ impl Subscriber {
             Some(place) => place == self.place,
             None => false,
         }
-    }
-}
-
-impl<T: Drop, U: Default + Drop, F: BackpressureFn, G: DegradationFn> Domain<T, U, F, G> {
-    ghost use Rattle.std.specs.Prelude.{IsTrue, ◌↔◌};
-    ghost use Rattle.iox2_pubsub.specs.Live.{IsSubscriberKey};
-
-    /// Whether the key is that of a subscriber of this domain that wasn't closed. This library's
-    /// own.
-    #[tactic(auto, unfolding(crate::specs::Live::IsSubscriberKey))]
-    pub fn holds_subscriber(&self, key: Key) -> bool
-        ensures { IsTrue result ↔ IsSubscriberKey self.now key }
-    {
-        if key.service_id != self.state.config().service_id || key.message != 0 {
-            return false;
-        }
-        self.state
-            .has_open_subscriber(UniqueSubscriberId::new(key.port))
     }
 }

@@ -3,7 +3,7 @@ use Rattle.std.proofs.Math.Nat.{max_comm}
 use Rattle.iox2_domain.specs.Fields.{Fields}
 use Rattle.iox2_domain.specs.Invariant.{IsDomain}
 use Rattle.iox2_domain.proofs.lemmas.slots.PublisherBooks.{read-there, book-there}
-use Rattle.iox2_deliveries.proofs.GrowthPass.{all-made, some-left, unchanged, growth-within, growth-some, growth-fits, growth-shaped, grew}
+use Rattle.iox2_deliveries.proofs.GrowthPass.{all-made, some-left, unchanged, growth-within, growth-some, growth-fits, growth-shaped, growth-any, growth-lists, grew}
 use Rattle.iox2_deliveries.proofs.growth.grow.Goals as goal
 
 pub returns-then-publisher-ge-SEGMENT_LIMIT : goal.returns-then-publisher-ge-SEGMENT_LIMIT
@@ -26,8 +26,14 @@ units_of-room-requires g c = growth-fits {T = g.row.T.Denot} {U = g.row.U.Denot}
 pub index_mut-book-requires : goal.index_mut-book-requires
 index_mut-book-requires g c = book-there _ (subst (IsDomain {T = g.row.T.Denot} {U = g.row.U.Denot}) (sym c.state.view_is) c.requires.agrees).parts c.args.place _ (read-there _ c.args.place _ _ (ap (λ (f : Fields g.row.T.Denot g.row.U.Denot). slice_index_or f.publishers c.args.place None) c.state.view_is ∙ c.requires.stands.1) c.index_mut.ensures.value ∙ c.in-Some.is ∙ ap Some (sym c.publisher.view_is))
 
-pub add_slots-requires : goal.add_slots-requires
-add_slots-requires g c = growth-shaped {T = g.row.T.Denot} {U = g.row.U.Denot} _ _ c.state.view_is c.requires.agrees c.args.place _ (read-there _ c.args.place _ _ (ap (λ (f : Fields g.row.T.Denot g.row.U.Denot). slice_index_or f.publishers c.args.place None) c.state.view_is ∙ c.requires.stands.1) c.index_mut.ensures.value ∙ c.in-Some.is ∙ ap Some (sym c.publisher.view_is)) _ refl _ c.index_mut-book.ensures.value _ c.index_mut-2.ensures.value _ c.in-Some-index_mut.is
+pub add_slots-requires-clause-shaped : goal.add_slots-requires-clause-shaped
+add_slots-requires-clause-shaped g c = growth-shaped {T = g.row.T.Denot} {U = g.row.U.Denot} _ _ c.state.view_is c.requires.agrees c.args.place _ (read-there _ c.args.place _ _ (ap (λ (f : Fields g.row.T.Denot g.row.U.Denot). slice_index_or f.publishers c.args.place None) c.state.view_is ∙ c.requires.stands.1) c.index_mut.ensures.value ∙ c.in-Some.is ∙ ap Some (sym c.publisher.view_is)) _ refl _ c.index_mut-book.ensures.value _ c.index_mut-2.ensures.value _ c.in-Some-index_mut.is
+
+pub add_slots-requires-clause-some : goal.add_slots-requires-clause-some
+add_slots-requires-clause-some g c = growth-any {T = g.row.T.Denot} {U = g.row.U.Denot} _ _ c.state.view_is c.requires.agrees c.args.place _ (read-there _ c.args.place _ _ (ap (λ (f : Fields g.row.T.Denot g.row.U.Denot). slice_index_or f.publishers c.args.place None) c.state.view_is ∙ c.requires.stands.1) c.index_mut.ensures.value ∙ c.in-Some.is ∙ ap Some (sym c.publisher.view_is)) _ refl _ c.index_mut-book.ensures.value _ c.index_mut-2.ensures.value _ c.in-Some-index_mut.is c.requires.stands
+
+pub add_slots-requires-clause-lists : goal.add_slots-requires-clause-lists
+add_slots-requires-clause-lists g c = growth-lists {T = g.row.T.Denot} {U = g.row.U.Denot} _ _ c.state.view_is c.requires.agrees c.args.place _ (read-there _ c.args.place _ _ (ap (λ (f : Fields g.row.T.Denot g.row.U.Denot). slice_index_or f.publishers c.args.place None) c.state.view_is ∙ c.requires.stands.1) c.index_mut.ensures.value ∙ c.in-Some.is ∙ ap Some (sym c.publisher.view_is)) _ c.publisher.view_is _ c.index_mut-book.ensures.value _ c.index_mut-2.ensures.value _ c.in-Some-index_mut.is _ _ (ap not c.is_single_valued-in_lists.ensures) c.lists_wanted-lists.ensures
 
 pub returns : goal.returns
 returns g c = λ x at. (
@@ -38,5 +44,5 @@ returns g c = λ x at. (
       c.in-Ok.start c.in-Some-next_length.longest c.index_mut-book.result.now c.add_slots.new.book c.in-Some-index_mut.contents c.add_slots.new.contents c.units_of-room.result _ _
       c.index_mut-book.ensures.value c.in-Ok.ensures.book _ c.index_mut-2.ensures.value c.in-Some-index_mut.is c.in-Ok.ensures.contents
       (c.units_of-room.ensures ∙ ap (λ (n : ℕ). n * c.state.inside.config.units_per_element) (c.max.ensures ∙ max_comm _ _))
-      (ap not c.is_single_valued-in_lists.ensures) refl c.in-Ok.ensures.start c.in-Some-next_length.ensures.fits c.in-Some-next_length.ensures.longer,
+      (ap not c.is_single_valued-in_lists.ensures) c.lists_wanted-lists.ensures c.in-Ok.ensures.start c.in-Some-next_length.ensures.fits c.in-Some-next_length.ensures.longer,
 )

@@ -3,7 +3,7 @@ use Rattle.std.proofs.lemmas.Result.{err_from_is_err_and}
 use Rattle.std.specs.Option.{option_map}
 use Rattle.iox2_domain.specs.Lending.{lending}
 use Rattle.iox2_domain.specs.Ports.{PublisherFields}
-use Rattle.iox2_deliveries.proofs.LoanPass.{refused-before, place-within, place-taken, loan-book, loan-linked, loan-apart, loan-covers, loan-within, loan-named, loan-long, loan-limited, loan-full, loan-free, loan-last, loan-units, loan-room, loan-length, loan-granted, loan-lies}
+use Rattle.iox2_deliveries.proofs.LoanPass.{refused-before, place-within, place-taken, loan-book, loan-linked, loan-apart, loan-covers, loan-within, loan-named, loan-long, loan-limited, loan-full, loan-free, loan-last, loan-units, loan-room, loan-start, loan-granted, loan-lies}
 use Rattle.iox2_deliveries.proofs.StaticPass.{reclaims-nothing}
 use Rattle.iox2_deliveries.proofs.loans.loan.Goals as goal
 
@@ -90,9 +90,9 @@ units_of-requires g c =
 pub start-requires : goal.start-requires
 start-requires g c =
     let long : vec_len c.publisher.inside.loans ≡ length c.publisher.inside.loans.items = search rules in
-    rw c.units_of.ensures (loan-length {T = g.row.T.Denot} {U = g.row.U.Denot} _ c.requires.agrees c.args.place c.requires.stands c.args.len _ (c.in_ok-prepare_if_growing.ensures c.requires.stands.0 c.requires.stands.1) _ c.state.view_is _ c.index_mut.ensures.value
+    rw c.units_of.ensures (loan-start {T = g.row.T.Denot} {U = g.row.U.Denot} _ c.requires.agrees c.args.place c.requires.stands c.args.len _ (c.in_ok-prepare_if_growing.ensures c.requires.stands.0 c.requires.stands.1) _ c.state.view_is _ c.index_mut.ensures.value
     _ (c.in-Some.is ∙ ap Some (sym c.publisher.view_is)) _ _ c.index_mut-book.ensures.value _ c.reclaim_if_full.ensures.book _ c.publisher.view_is c.reclaim_if_full.ensures.reclaims c.args.checks_length g.U.Default.is_default
-    (sym c.if-is_too_long.ensures) (omega (arith, c.if-len-publisher.false, c.len.ensures, long)) c.reclaim_if_full.ensures.kept (λ all. let no : false ≡ true = c.if-is_full.ensures.1 all in absurd cc) (let bound = c.state.invariant in omega arith) c.requires.unchecked c.requires.single c.in-Some-take_from.slot c.in-Some-take_from.ensures.taken.in_bounds c.in-Some-take_from.ensures.from _ c.index_mut-2.ensures.value)
+    (sym c.if-is_too_long.ensures) (omega (arith, c.if-len-publisher.false, c.len.ensures, long)) c.reclaim_if_full.ensures.kept (λ all. let no : false ≡ true = c.if-is_full.ensures.1 all in absurd cc) (let bound = c.state.invariant in omega arith) c.requires.unchecked c.requires.single c.in-Some-take_from.slot c.in-Some-take_from.ensures.taken.in_bounds c.in-Some-take_from.ensures.from c.in-Some-take_from.ensures.taken.was_unused _ c.index_mut-2.ensures.value)
 
 pub lend-requires : goal.lend-requires
 lend-requires g c =

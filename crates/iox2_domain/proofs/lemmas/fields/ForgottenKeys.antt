@@ -273,7 +273,7 @@ module _ {T U : Type 0} (f : Fields T U) (parts : HasParts f) (publishers : List
     forms = parts.forms;
     open_loans = open-published f.publishers publishers f.books f.contents (record {
       at = λ i x at. let was = g.senders i x at in
-          (i, was.0, was.1, ap (λ (z : PublisherFields). z.book) was.2.fields, λ slot. subst (λ (z : PublisherFields). 0 < times slot (was.0).loans → 0 < times slot z.loans) (sym was.2.fields) (λ out. out));
+          (i, was.0, was.1, ap (λ (z : PublisherFields). z.book) was.2.fields, λ slot. subst (λ (z : PublisherFields). 0 < times slot (was.0).loans → 0 < times slot z.loans) (sym was.2.fields) (λ out. out), ap (λ (z : PublisherFields). z.max_loaned_samples) was.2.fields);
     }) parts.open_loans;
     plain = λ i x at. let was = g.senders i x at in let has = parts.plain i was.0 was.1 in
         subst IsPlain (sym was.2.fields)

@@ -114,7 +114,7 @@ pub record ChangesTo {T U : Type 0} (publisher n : ℕ) (header : Header) (conte
     (g : ContentState T U → ContentState T U) (changed : Loan T U) : Type 0 where
   pub room : (c : ContentState T U) → (g c).room ≡ c.room
   pub form : (c : ContentState T U) → (g c).is_in_place ≡ c.is_in_place
-  pub listed : (c : ContentState T U) → (g c).lists_cells ≡ c.lists_cells
+  pub listed : (c : ContentState T U) → (g c).lists ≡ c.lists
   pub cells : 0 < length (g content).cells → (0 < length content.cells) × (mark ≡ had)
   pub loan : IsChangeOf l changed
   pub is : message_of publisher n header (g content) mark ≡ Lent_message n changed
@@ -243,7 +243,7 @@ module _ {T U : Type 0} (f : Fields T U) (sound : IsDomain f) (p n key slot : �
           warning_room = sound.parts.warning_room;
           shapes = change-shapes;
           forms = slot-forms f sound key slot at.book at.stands cs at_c mark g change.form change.listed sound.parts.forms;
-          open_loans = slot-open f sound key slot at.book at.stands cs at_c mark g keeps-cells sound.parts.open_loans;
+          open_loans = slot-open f sound key slot at.book at.stands cs at_c mark g change.listed keeps-cells sound.parts.open_loans;
           plain = sound.parts.plain;
         };
         kept_books = kept-used f.next_port f.publishers f.books key at.book (marked f sound key slot at.book at.stands cs at_c mark g) at.stands refl refl sound.kept_books;

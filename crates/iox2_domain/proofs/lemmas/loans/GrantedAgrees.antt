@@ -36,8 +36,8 @@ use Rattle.iox2_domain.proofs.lemmas.fields.KeptBooks.{kept-own}
 use Rattle.iox2_domain.proofs.lemmas.slots.SlotsInUse.{its_book, slot-counted}
 use Rattle.iox2_domain.proofs.lemmas.slots.Messages.{lies_at, message_at-book, message_at-slot}
 use Rattle.iox2_domain.proofs.lemmas.loans.PublisherChanges.{KeepsSettings, changed-ids_apart, look_up-publisher, changed-linked_same, changed-books, changed-room, changed-plain, changed-kept_books, changed-entries}
-use Rattle.iox2_domain.proofs.lemmas.slots.SlotChanges.{forms-changed}
-use Rattle.iox2_domain.proofs.lemmas.slots.OpenLoans.{mark-here, open-own}
+use Rattle.iox2_domain.proofs.lemmas.slots.SlotChanges.{forms-changed, lists-changed}
+use Rattle.iox2_domain.proofs.lemmas.slots.OpenLoans.{HasItsLists, kept-lists, mark-here, open-own}
 use Rattle.iox2_domain.proofs.lemmas.slots.SlotCells.{cells-elsewhere}
 use Rattle.iox2_domain.proofs.lemmas.loans.Taken.{taken-after, CanTakeSlot, with_taken, taken_book, taken_books, begun, begun_contents, lent, next_header, taken-stands, others-stand, begun-has, others-have, taken-one_each, taken-found, taken-holders, taken-numbered, taken-entries, lent-lies, others-lie, length-with_changed, room-with_changed, taken-lone}
 use Rattle.iox2_domain.proofs.lemmas.loans.Granted.{lender, with_granted, granted-is, taken-is}
@@ -251,6 +251,11 @@ module _ {T U : Type 0} (f : Fields T U) (sound : IsDomain f) (i : ℕ) (x : Pub
         )
   ]
 
+  its-lists : HasItsLists f sound.parts i x at new_lender can.book new_book can.stands granted.contents (others-have f sound x slot can user_header len)
+  its-lists =
+      kept-lists f sound.parts i x at new_lender can.book new_book can.stands granted.contents (others-have f sound x slot can user_header len)
+      (lists-changed f.contents x.book slot can.contents can.has (unwritten_content user_header (len * (f.config).units_per_element)) (λ c. refl))
+
   taken-keeps_entries : KeepsEntries (kept_of mid)
   taken-keeps_entries p n there =
       let held_then : IsHeldMessage state p n =
@@ -283,7 +288,7 @@ module _ {T U : Type 0} (f : Fields T U) (sound : IsDomain f) (i : ℕ) (x : Pub
         warning_room = sound.parts.warning_room;
         shapes = granted-shapes;
         forms = forms-changed f.config f.contents x.book slot can.contents can.has (unwritten_content user_header (len * (f.config).units_per_element)) (λ c. refl) (λ c. refl) sound.parts.forms;
-        open_loans = open-own f sound.parts i x at new_lender can.book new_book can.stands granted.contents (others-have f sound x slot can user_header len) refl lends-open;
+        open_loans = open-own f sound.parts i x at new_lender can.book new_book can.stands granted.contents (others-have f sound x slot can user_header len) refl refl lends-open its-lists;
         plain = changed-plain mid i x new_lender at refl sound.parts.plain keeps (λ has b e. omega (arith, has b e, times_push b.slot x.loans slot));
       };
       kept_books = changed-kept_books mid i x new_lender at refl (taken_books f sound x slot can user_header len) refl

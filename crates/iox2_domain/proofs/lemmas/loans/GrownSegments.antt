@@ -1,6 +1,7 @@
 -- A publisher gets a further segment: the fields agree, and keep what they kept.
 use Rattle.std.proofs.Common.{◌≡◌, ◌≢◌, ℕ, le_refl, ◌+◌, ◌*◌, List, length, Bool, true, false, cond, eqb, get_or, refl, ap, sym, subst, ◌∙◌, inl, inr, arith}
 use Rattle.std.proofs.lemmas.Bool.{cases_eq, eq-eqb}
+use Rattle.std.proofs.lemmas.List.Elements.{All-weaker}
 use Rattle.std.proofs.lemmas.Option.{slice_get_within}
 use Rattle.std.specs.Prelude.{◌<◌, slice_get, IsSomeAnd, not}
 use Rattle.std.specs.declared.option.Option.{Option}
@@ -22,7 +23,7 @@ use Rattle.iox2_ends.proofs.LookUps.{look_up-found}
 use Rattle.iox2_ends.specs.Counters.{times, stands}
 use Rattle.iox2_domain.specs.Fields.{Fields, kept_of, publisher_of, is_book_of}
 use Rattle.iox2_domain.specs.Growth.{Grows, with_segment}
-use Rattle.iox2_domain.specs.Invariant.{IsDomain, IsOwned, IsBook, HasBook, HasBooks, HasForms, HasPublisherRoom, HasRoomFrom, HasShapes, HasParts, IsCounted, IsPlain, is_publisher, is_loan_in, own_holders, cell_count}
+use Rattle.iox2_domain.specs.Invariant.{IsDomain, IsOwned, IsBook, HasBook, HasBooks, HasForms, HasPublisherRoom, HasRoomFrom, HasShapes, HasParts, IsCounted, IsPlain, is_publisher, is_loan_in, own_holders, cell_count, cell_lists}
 use Rattle.iox2_domain.specs.Kept.{Kept, state_of, entries_of}
 use Rattle.iox2_domain.specs.Ports.{PublisherFields, slot_length}
 use Rattle.iox2_domain.specs.Reaches.{Reaches}
@@ -33,7 +34,7 @@ use Rattle.iox2_domain.proofs.lemmas.loans.LendingSteps.{contents-of}
 use Rattle.iox2_domain.proofs.lemmas.loans.PublisherChanges.{with_publisher, map-set, changed-here, changed-was, changed-ids_apart, look_up-publisher, changed-linked_same, changed-kept_books}
 use Rattle.iox2_domain.proofs.lemmas.slots.GrownBooks.{more_slots, grown_books, with_grown_book, grown-length, grown-aligned, grown-here, grown-others, contents-here, contents-others, grown-one_each, grown-after, numbers-same, holders-same, loans-same, grown-lone, lies-same, grown-numbered, grown-loans, grown-entries}
 use Rattle.iox2_domain.proofs.lemmas.slots.Messages.{message_at-book, message_at-slot}
-use Rattle.iox2_domain.proofs.lemmas.slots.OpenLoans.{mark-here, open-own}
+use Rattle.iox2_domain.proofs.lemmas.slots.OpenLoans.{lists-some, mark-here, open-own}
 use Rattle.iox2_domain.proofs.lemmas.slots.SlotCells.{cells_if, cells-some, cells-read}
 use Rattle.iox2_domain.proofs.lemmas.slots.PublisherBooks.{book-own, book-owned}
 use Rattle.iox2_domain.proofs.lemmas.slots.Renumbered.{with_books-is}
@@ -216,7 +217,9 @@ module _ {T U : Type 0} (f : Fields T U) (sound : IsDomain f) (i : ℕ) (x : Pub
       | inl same ↦
           let found : Some g.grown ≡ Some zs = sym has-here ∙ sym (ap (λ (j : ℕ). get_or mid.contents j None) same) ∙ there in
           let is : g.grown ≡ zs = cc in
-          subst (All (λ content. content.lists_cells ≡ true)) is ((g.grows).lists (ap not several) lists (sound.parts.forms.cells several lists x.book g.contents g.had))
+          subst (All (λ content. 0 < content.lists)) is
+          (All-weaker (λ content. content.lists ≡ cell_lists f.config x.max_loaned_samples) (λ content. 0 < content.lists)
+          (λ content are. subst (λ n. 0 < n) (sym are) (lists-some f.config x.max_loaned_samples several lists)) g.grown (g.grows).lists_are)
       | inr away ↦ sound.parts.forms.cells several lists k zs (sym (others-have k away) ∙ there)
     ];
   }
@@ -230,6 +233,12 @@ module _ {T U : Type 0} (f : Fields T U) (sound : IsDomain f) (i : ℕ) (x : Pub
       let loan = sound.parts.open_loans.at i slot x at (omega (arith, count, is.2)) in
       let mark : slice_get (g.book).marks slot ≡ Some Unwritten = sym (mark-here f.books x.book g.book g.stood slot) ∙ loan.unwritten in
       (loan.out, slice_get-append_left (g.book).marks _ slot (slice_get_within (g.book).marks slot Unwritten mark) ∙ mark)
+
+  its-lists : (cs : List (ContentState T U)) → get_or mid.contents x.book None ≡ Some cs → All (λ content. content.lists ≡ cell_lists f.config x.max_loaned_samples) cs
+  its-lists cs there =
+      let found : Some g.grown ≡ Some cs = sym has-here ∙ there in
+      let is : g.grown ≡ cs = cc in
+      subst (All (λ content. content.lists ≡ cell_lists f.config x.max_loaned_samples)) is (g.grows).lists_are
 
   -- ---- the whole
 
@@ -267,7 +276,7 @@ module _ {T U : Type 0} (f : Fields T U) (sound : IsDomain f) (i : ℕ) (x : Pub
     warning_room = sound.parts.warning_room;
     shapes = shapes;
     forms = forms;
-    open_loans = open-own f sound.parts i x at grower g.book new_book g.stood mid.contents others-have refl lends-open;
+    open_loans = open-own f sound.parts i x at grower g.book new_book g.stood mid.contents others-have refl refl lends-open its-lists;
     plain = λ k z there. elim (changed-was mid i x grower at refl k z there) [
       | inl is ↦ subst IsPlain (sym is.1) plain
       | inr away ↦ sound.parts.plain k z away.1

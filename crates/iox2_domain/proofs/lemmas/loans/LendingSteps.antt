@@ -1,19 +1,22 @@
 -- What the steps of a loan need and come to.
-use Rattle.std.proofs.Common.{◌≡◌, ℕ, ◌+◌, ◌*◌, ◌^◌, ◌<◌, ◌≤◌, List, length, get_or, slice_set, refl, ap, sym, subst, ◌∙◌, arith}
+use Rattle.std.proofs.Common.{◌≡◌, ℕ, ◌+◌, ◌*◌, ◌^◌, ◌<◌, ◌≤◌, List, [], length, get_or, slice_set, refl, ap, sym, subst, ◌∙◌, arith}
 use Rattle.std.proofs.Math.Nat.{mul-le-mul_right}
+use Rattle.std.proofs.lemmas.Option.{get_or_from_slice_get}
 use Rattle.std.specs.declared.option.Option.{Option}
 use Rattle.std.specs.declared.option.Option.TheVariants.{None, Some}
 use Rattle.std.specs.Option.{option_map}
 use Rattle.std.specs.Prelude.{IsSomeAnd}
 use Rattle.circular_buffer.proofs.Places.{slice_get-some}
 use Rattle.slab.specs.Slab.{get, with_value}
-use Rattle.iox2_slots.specs.SlotBook.{Book, TakesFreeSlot, header_in}
-use Rattle.iox2_contents.specs.SlotContents.{ContentState, SomeAt}
+use Rattle.iox2_slots.specs.SlotBook.{Book, TakesFreeSlot, header_in, holders_at}
+use Rattle.iox2_contents.specs.SlotContents.{ContentState, open_count}
 use Rattle.iox2_ends.proofs.MailboxChanges.{within_if_some}
 use Rattle.iox2_domain.specs.Ports.{PublisherFields, slot_length}
 use Rattle.iox2_domain.specs.Fields.{Fields}
-use Rattle.iox2_domain.specs.Invariant.{IsDomain, IsBook, HasBook, HasRoomFrom}
-use Rattle.iox2_domain.specs.Lending.{header_for, with_taken_slot, lending, Starts, Lends}
+use Rattle.iox2_domain.specs.Invariant.{IsDomain, IsBook, HasBook, HasRoomFrom, cell_lists}
+use Rattle.iox2_domain.specs.Lending.{header_for, with_taken_slot, lending, MayStart, Starts, Lends}
+use Rattle.iox2_domain.proofs.lemmas.slots.OpenCounts.{free-closed, open-few}
+use Rattle.iox2_domain.proofs.lemmas.slots.OpenLoans.{lists-enough}
 use Rattle.iox2_domain.proofs.lemmas.slots.PublisherBooks.{read-there}
 use Rattle.iox2_domain.proofs.lemmas.slots.SlotRoom.{several-fit}
 
@@ -32,11 +35,11 @@ module _ {T U : Type 0} (f : Fields T U) (sound : IsDomain f) (i : ℕ) (x : Pub
       let found = contents-of has.book has.stands in
       within_if_some f.contents x.book found.0 found.1
 
-  -- a message that is no longer than the current segment fits each slot of it
-  pub length-fits : (len : ℕ) → len ≤ slot_length x.segment_length → (b : Book) → get f.books x.book ≡ Some b → (slot : ℕ) → slot < length b.holders → x.segment_start ≤ slot
-      → (o : Option (List (ContentState T U))) → o ≡ get_or f.contents x.book o
-      → IsSomeAnd o (λ cs. SomeAt cs slot (λ content. len * (f.config).units_per_element ≤ content.room))
-  length-fits len short b stands slot low from o read =
+  -- a loan that is no longer than the current segment may start in each slot of it that nobody holds
+  pub may-start : (len : ℕ) → len ≤ slot_length x.segment_length → length x.loans < x.max_loaned_samples → (b : Book) → get f.books x.book ≡ Some b → (slot : ℕ) → slot < length b.holders → x.segment_start ≤ slot
+      → holders_at b slot ≡ 0 → (o : Option (List (ContentState T U))) → o ≡ get_or f.contents x.book o
+      → IsSomeAnd o (λ cs. MayStart cs slot (len * (f.config).units_per_element))
+  may-start len short few b stands slot low from free o read =
       let found = contents-of b stands in
       let is : get_or f.contents x.book None ≡ o = read-there f.contents x.book found.0 o found.1 read in
       let has : HasBook f x = sound.parts.books.publishers i x at in
@@ -46,8 +49,18 @@ module _ {T U : Type 0} (f : Fields T U) (sound : IsDomain f) (i : ℕ) (x : Pub
       let enough : slot_length x.segment_length * (f.config).units_per_element ≤ (some.0).room = room.at slot some.0 from some.1 in
       let less : len * (f.config).units_per_element ≤ slot_length x.segment_length * (f.config).units_per_element = mul-le-mul_right (f.config).units_per_element short in
       let fits : len * (f.config).units_per_element ≤ (some.0).room = omega (arith, enough, less) in
-      subst (λ (o : Option (List (ContentState T U))). IsSomeAnd o (λ cs. SomeAt cs slot (λ content. len * (f.config).units_per_element ≤ content.room))) (sym found.1 ∙ is)
-      (subst (λ (o : Option (ContentState T U)). IsSomeAnd o (λ content. len * (f.config).units_per_element ≤ content.room)) (sym some.1) fits)
+      let closed : (some.0).cells ≡ [] = free-closed f sound.parts i x at found.0 found.1 b stands slot some.0 free some.1 in
+      let listed : (some.0).lists ≡ cell_lists f.config x.max_loaned_samples =
+      subst (λ (content : ContentState T U). content.lists ≡ cell_lists f.config x.max_loaned_samples) (get_or_from_slice_get found.0 slot some.0 some.0 some.1)
+      (sound.parts.open_loans.lists i x found.0 at found.1 slot some.0 (let e = found.2 in omega (arith, low, e))) in
+      let opened : open_count found.0 ≤ length x.loans = open-few f sound.parts i x at found.0 found.1 in
+      subst (λ (o : Option (List (ContentState T U))). IsSomeAnd o (λ cs. MayStart cs slot (len * (f.config).units_per_element))) (sym found.1 ∙ is)
+      (record {
+        fit = subst (λ (o : Option (ContentState T U)). IsSomeAnd o (λ content. len * (f.config).units_per_element ≤ content.room)) (sym some.1) fits;
+        ended = subst (λ (o : Option (ContentState T U)). IsSomeAnd o (λ content. 0 < content.lists → content.cells ≡ [])) (sym some.1) (λ _. closed);
+        few = subst (λ (o : Option (ContentState T U)). IsSomeAnd o (λ content. 0 < content.lists → open_count found.0 < content.lists)) (sym some.1)
+            (λ lists. let enough = lists-enough f.config x.max_loaned_samples (subst (λ n. 0 < n) listed lists) in omega (arith, opened, few, enough, listed));
+      })
 
   -- several elements that fit a slot fit a machine word
   pub lent-fits : (len : ℕ) → length x.loans < x.max_loaned_samples → len ≤ slot_length x.segment_length → 1 < len → len * (f.config).units_per_element < 2 ^ 64

@@ -85,9 +85,9 @@ module _ {T U : Type 0} (f : Fields T U) (sound : IsDomain f) (p n key slot : �
         (sound.parts.forms.at several key cs at_c slot parts.content (slice_get_within cs slot parts.content parts.contains))
 
     -- and there its cells can be handed out where the settings ask for it
-    pub cells-listed : is_single_valued f.config ≡ false → (f.config).lists_cells ≡ true → (parts.content).lists_cells ≡ true
+    pub cells-listed : is_single_valued f.config ≡ false → (f.config).lists_cells ≡ true → 0 < (parts.content).lists
     cells-listed several lists =
-        subst (λ (c : ContentState T U). c.lists_cells ≡ true) (get_or_from_slice_get cs slot parts.content parts.content parts.contains)
+        subst (λ (c : ContentState T U). 0 < c.lists) (get_or_from_slice_get cs slot parts.content parts.content parts.contains)
         (sound.parts.forms.cells several lists key cs at_c slot parts.content (slice_get_within cs slot parts.content parts.contains))
 
     module _ (unwritten : (at.loan).is_written ≡ false) where

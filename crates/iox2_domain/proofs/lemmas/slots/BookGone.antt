@@ -2,6 +2,7 @@
 use Rattle.std.proofs.Common.{◌≡◌, ◌≢◌, ◌⊎◌, ℕ, ◌+◌, List, [], map, cond, eqb, get_or, refl, ap, sym, subst, ◌∙◌, inl, inr, arith}
 use Rattle.std.proofs.lemmas.Bool.{cases_eq, eq-eqb, ne_eqb}
 use Rattle.std.proofs.lemmas.List.{get_or-set_same, get_or-set_other}
+use Rattle.std.proofs.lemmas.Option.{none-some}
 use Rattle.std.specs.Prelude.{◌<◌, slice_get}
 use Rattle.std.specs.declared.option.Option.{Option}
 use Rattle.std.specs.declared.option.Option.TheVariants.{None, Some}
@@ -25,7 +26,7 @@ use Rattle.iox2_domain.proofs.lemmas.containers.LookUps.{look_up-removed, IsOnly
 use Rattle.iox2_domain.proofs.lemmas.slots.BookContents.{contents-there}
 use Rattle.iox2_domain.proofs.lemmas.slots.MessageLists.{look_up-nothing_there, found_in, numbered-same}
 use Rattle.iox2_domain.proofs.lemmas.slots.Messages.{map_from_zero-at}
-use Rattle.iox2_domain.proofs.lemmas.slots.OpenLoans.{open-kept}
+use Rattle.iox2_domain.proofs.lemmas.slots.OpenLoans.{KeepsLists, open-kept}
 use Rattle.iox2_domain.proofs.lemmas.slots.SlotCells.{cells_in, cells-read}
 use Rattle.iox2_domain.proofs.lemmas.slots.Renumbered.{map-alike}
 use Rattle.iox2_domain.proofs.lemmas.fields.SameLinks.{linked-same}
@@ -237,6 +238,13 @@ module _ {T U : Type 0} (f : Fields T U) (parts : HasParts f) (key : ℕ) (b : B
   same-marks : (k slot : ℕ) → 0 < cell_count after.contents k slot → mark_at after.books k slot ≡ mark_at f.books k slot
   same-marks k slot some = ap (option_and_then (λ (c : Book). slice_get c.marks slot)) (others k (another-key k slot some))
 
+  keeps-lists : KeepsLists f.contents after.contents
+  keeps-lists = record {
+    at = λ k cs there.
+        let away : k ≢ key = λ same. absurd (none-some cs (sym contents-here ∙ sym (ap (λ (j : ℕ). get_or after.contents j None) same) ∙ there)) in
+        (cs, sym (contents-others k away) ∙ there, λ n all. all);
+  }
+
   -- the fields agree with one another
   pub gone-parts : HasParts after
   gone-parts = record {
@@ -253,7 +261,7 @@ module _ {T U : Type 0} (f : Fields T U) (parts : HasParts f) (key : ℕ) (b : B
     warning_room = parts.warning_room;
     shapes = shapes;
     forms = forms;
-    open_loans = open-kept f.publishers f.books after.books f.contents after.contents had-cells same-marks parts.open_loans;
+    open_loans = open-kept f.publishers f.books after.books f.contents after.contents had-cells same-marks keeps-lists parts.open_loans;
     plain = parts.plain;
   }
 

@@ -72,4 +72,4 @@ module _ {T U : Type 0} (f : Fields T U) (parts : HasParts f) (i : ℕ) (x : Pub
 
   -- so no more slots have cells than the publisher has loans out
   pub open-few : open_count cs ≤ length x.loans
-  open-few = passing-listed is_open cs x.loans (λ slot content at opens. open-lent slot content at (ltb-true 0 (length content.cells) (both-true content.lists_cells (nat_lt 0 (length content.cells)) opens).1))
+  open-few = passing-listed is_open cs x.loans (λ slot content at opens. open-lent slot content at (ltb-true 0 (length content.cells) (both-true (nat_lt 0 content.lists) (nat_lt 0 (length content.cells)) opens).1))

@@ -1,18 +1,21 @@
 -- Each slot with cells is a loan that is out and isn't written, still.
-use Rattle.std.proofs.Common.{◌≡◌, ◌≢◌, ℕ, ◌<◌, List, length, get_or, slice_set, refl, ap, sym, subst, ◌∙◌, inl, inr}
-use Rattle.std.proofs.lemmas.Bool.{cases_eq, eq-eqb}
+use Rattle.std.proofs.Common.{◌≡◌, ◌≢◌, ℕ, Bool, true, false, cond, max, not, ◌<◌, ◌≤◌, List, length, get_or, slice_set, refl, ap, sym, subst, ◌∙◌, inl, inr, arith}
+use Rattle.std.proofs.lemmas.Bool.{cases_eq, eq-eqb, false≢true}
 use Rattle.std.specs.Prelude.{slice_get}
+use Rattle.std.specs.List.{All}
 use Rattle.std.specs.declared.option.Option.{Option}
 use Rattle.std.specs.declared.option.Option.TheVariants.{None, Some}
 use Rattle.std.specs.Option.{option_map_or, option_and_then}
 use Rattle.slab.specs.Slab.{Slab, get, with_value}
+use Rattle.iox2_store.specs.SingleValues.{is_single_valued}
+use Rattle.iox2_store.specs.declared.service_config.ServiceConfig.{ServiceConfig}
 use Rattle.iox2_slots.specs.SlotBook.{Book}
 use Rattle.iox2_slots.specs.declared.slots.mark.SlotMark.TheVariants.{Unwritten}
-use Rattle.iox2_contents.specs.SlotContents.{ContentState}
+use Rattle.iox2_contents.specs.SlotContents.{ContentState, lists_for}
 use Rattle.iox2_ends.specs.Counters.{times}
 use Rattle.iox2_domain.specs.Ports.{PublisherFields}
 use Rattle.iox2_domain.specs.Fields.{Fields, contents_in}
-use Rattle.iox2_domain.specs.Invariant.{HasParts, HasOpenLoans, IsUnwrittenLoan, cell_count, mark_at}
+use Rattle.iox2_domain.specs.Invariant.{HasParts, HasOpenLoans, IsUnwrittenLoan, cell_count, cell_lists, mark_at}
 use Rattle.iox2_domain.proofs.lemmas.containers.SetRecords.{set-here, set-others}
 
 -- ---- marks
@@ -35,39 +38,70 @@ marks-same books key b d at same k slot = elim (cases_eq k key) [
 
 -- ---- what holds still
 
--- Each of these publishers was there, with the same book, and has each loan that it had.
+-- Each of these publishers was there, with the same book, has each loan that it had, and may have as many.
 pub record LendsStill (old new : List (Option PublisherFields)) : Type 0 where
   pub at : (i : ℕ) (y : PublisherFields) → get_or new i None ≡ Some y
-      → (j : ℕ) × (x : PublisherFields) × (get_or old j None ≡ Some x) × (y.book ≡ x.book) × ((slot : ℕ) → 0 < times slot x.loans → 0 < times slot y.loans)
+      → (j : ℕ) × (x : PublisherFields) × (get_or old j None ≡ Some x) × (y.book ≡ x.book) × ((slot : ℕ) → 0 < times slot x.loans → 0 < times slot y.loans) × (y.max_loaned_samples ≡ x.max_loaned_samples)
 
-module _ {T U : Type 0} where
+-- For each key with contents there were some, and where all of these have so many lists of cells, these have.
+pub record KeepsLists {T U : Type 0} (old new : List (Option (List (ContentState T U)))) : Type 0 where
+  pub at : (key : ℕ) (cs : List (ContentState T U)) → get_or new key None ≡ Some cs
+      → (was : List (ContentState T U)) × (get_or old key None ≡ Some was) × ((n : ℕ) → All (λ content. content.lists ≡ n) was → All (λ content. content.lists ≡ n) cs)
+
+-- lists are asked for where cells can be handed out
+pub lists-some : (c : ServiceConfig) (n : ℕ) → is_single_valued c ≡ false → c.lists_cells ≡ true → 0 < cell_lists c n
+lists-some c n several lists = by (is_single_valued c) c.lists_cells several lists where
+  by : (single listed : Bool) → single ≡ false → listed ≡ true → 0 < lists_for (not single) (cond listed (max 1 n) 0)
+  by false true is are = omega arith
+  by false false is are = absurd (false≢true are)
+  by true listed is are = absurd (false≢true (sym is))
+
+-- the same contents
+pub same-lists : {T U : Type 0} (contents : List (Option (List (ContentState T U)))) → KeepsLists contents contents
+same-lists contents = record { at = λ key cs there. (cs, there, λ n all. all) }
+
+-- and then they are enough for all loans
+pub lists-enough : (c : ServiceConfig) (n : ℕ) → 0 < cell_lists c n → n ≤ cell_lists c n
+lists-enough c n = by (is_single_valued c) c.lists_cells where
+  by : (single listed : Bool) → 0 < lists_for (not single) (cond listed (max 1 n) 0) → n ≤ lists_for (not single) (cond listed (max 1 n) 0)
+  by false true some = omega arith
+  by false false some = absurd (omega (arith, some))
+  by true listed some = absurd (omega (arith, some))
+
+module _ {T U : Type 0} {c : ServiceConfig} where
   -- the publishers change
   pub open-published : (old new : List (Option PublisherFields)) (books : Slab Book) (contents : List (Option (List (ContentState T U)))) → LendsStill old new
-      → HasOpenLoans old books contents → HasOpenLoans new books contents
+      → HasOpenLoans c old books contents → HasOpenLoans c new books contents
   open-published old new books contents still loans = record {
     at = λ i slot y there some.
         let was = still.at i y there in
         let same : y.book ≡ (was.1).book = was.3 in
         let loan = loans.at was.0 slot was.1 was.2 (subst (λ key. 0 < cell_count contents key slot) same some) in
         record { out = was.4 slot loan.out; unwritten = ap (λ key. mark_at books key slot) same ∙ loan.unwritten };
+    lists = λ i y cs there has.
+        let was = still.at i y there in
+        let same : y.book ≡ (was.1).book = was.3 in
+        subst (λ n. All (λ content. content.lists ≡ cell_lists c n) cs) (sym was.5)
+        (loans.lists was.0 was.1 cs was.2 (sym (ap (λ key. get_or contents key None) same) ∙ has));
   }
 
   -- a slot has cells only where it had some, and its mark then
   pub open-kept : (publishers : List (Option PublisherFields)) (books books' : Slab Book) (contents contents' : List (Option (List (ContentState T U))))
       → ((key slot : ℕ) → 0 < cell_count contents' key slot → 0 < cell_count contents key slot)
       → ((key slot : ℕ) → 0 < cell_count contents' key slot → mark_at books' key slot ≡ mark_at books key slot)
-      → HasOpenLoans publishers books contents → HasOpenLoans publishers books' contents'
-  open-kept publishers books books' contents contents' had marks loans = record {
+      → KeepsLists contents contents' → HasOpenLoans c publishers books contents → HasOpenLoans c publishers books' contents'
+  open-kept publishers books books' contents contents' had marks lists loans = record {
     at = λ i slot x there some.
         let loan = loans.at i slot x there (had x.book slot some) in
         record { out = loan.out; unwritten = marks x.book slot some ∙ loan.unwritten };
+    lists = λ i x cs there has. let was = lists.at x.book cs has in was.2 (cell_lists c x.max_loaned_samples) (loans.lists i x was.0 there was.1);
   }
 
   -- a book with the same marks takes the place of another
   pub open-rebooked : (publishers : List (Option PublisherFields)) (books : Slab Book) (contents : List (Option (List (ContentState T U)))) (key : ℕ) (b d : Book)
-      → get books key ≡ Some b → d.marks ≡ b.marks → HasOpenLoans publishers books contents → HasOpenLoans publishers (with_value books key d) contents
+      → get books key ≡ Some b → d.marks ≡ b.marks → HasOpenLoans c publishers books contents → HasOpenLoans c publishers (with_value books key d) contents
   open-rebooked publishers books contents key b d at same loans =
-      open-kept publishers books (with_value books key d) contents contents (λ k slot some. some) (λ k slot some. marks-same books key b d at same k slot) loans
+      open-kept publishers books (with_value books key d) contents contents (λ k slot some. some) (λ k slot some. marks-same books key b d at same k slot) (same-lists contents) loans
 
 -- ---- a publisher changes, with its book and what lies in its slots
 
@@ -88,8 +122,15 @@ module _ {T U : Type 0} (f : Fields T U) (parts : HasParts f) (i : ℕ) (x : Pub
     abbrev pub LendsOpen : Type 0
     LendsOpen = (slot : ℕ) → 0 < cell_count contents x.book slot → (0 < times slot y.loans) × (slice_get d.marks slot ≡ Some Unwritten)
 
-    pub open-own : y.book ≡ x.book → LendsOpen → HasOpenLoans (slice_set f.publishers i (Some y)) (with_value f.books x.book d) contents
-    open-own same lends = record {
+    -- and its slots have so many lists of cells
+    abbrev pub HasItsLists : Type 0
+    HasItsLists = (cs : List (ContentState T U)) → get_or contents x.book None ≡ Some cs → All (λ content. content.lists ≡ cell_lists f.config x.max_loaned_samples) cs
+
+    pub kept-lists : KeepsLists f.contents contents → HasItsLists
+    kept-lists keeps cs there = let was = keeps.at x.book cs there in was.2 (cell_lists f.config x.max_loaned_samples) (parts.open_loans.lists i x was.0 here was.1)
+
+    pub open-own : y.book ≡ x.book → y.max_loaned_samples ≡ x.max_loaned_samples → LendsOpen → HasItsLists → HasOpenLoans f.config (slice_set f.publishers i (Some y)) (with_value f.books x.book d) contents
+    open-own same max lends listed = record {
       at = λ k slot z there some. elim (cases_eq k i) [
         | inl is ↦
             let found : Some y ≡ Some z = sym (set-here f.publishers i x y here) ∙ sym (ap (λ (j : ℕ). get_or (slice_set f.publishers i (Some y)) j None) is) ∙ there in
@@ -103,6 +144,17 @@ module _ {T U : Type 0} (f : Fields T U) (parts : HasParts f) (i : ℕ) (x : Pub
               out = loan.out;
               unwritten = ap (option_and_then (λ (c : Book). slice_get c.marks slot)) (set-others f.books.slots x.book b d at z.book apart) ∙ loan.unwritten;
             }
+      ];
+      lists = λ k z cs there has. elim (cases_eq k i) [
+        | inl is ↦
+            let found : Some y ≡ Some z = sym (set-here f.publishers i x y here) ∙ sym (ap (λ (j : ℕ). get_or (slice_set f.publishers i (Some y)) j None) is) ∙ there in
+            let one : z ≡ y = cc in
+            let number : z.max_loaned_samples ≡ x.max_loaned_samples = ap (λ (w : PublisherFields). w.max_loaned_samples) one ∙ max in
+            let key : x.book ≡ z.book = sym (ap (λ (w : PublisherFields). w.book) one ∙ same) in
+            subst (λ n. All (λ content. content.lists ≡ cell_lists f.config n) cs) (sym number) (listed cs (ap (λ (j : ℕ). get_or contents j None) key ∙ has))
+        | inr away ↦
+            let stood : get_or f.publishers k None ≡ Some z = sym (set-others f.publishers i x y here k away) ∙ there in
+            parts.open_loans.lists k z cs stood (sym (others z.book (books-apart k z away stood)) ∙ has)
       ];
     } where
       cells_in : Option (List (ContentState T U)) → ℕ → ℕ

@@ -23,7 +23,7 @@ use Rattle.iox2_domain.specs.Invariant.{HasParts, HasBooks, HasForms, HasOpenLoa
 use Rattle.iox2_domain.proofs.lemmas.fields.NamedBooks.{names-books}
 use Rattle.iox2_domain.proofs.lemmas.fields.SameLinks.{linked-same}
 use Rattle.iox2_domain.proofs.lemmas.slots.Holders.{book-holders, own-slots}
-use Rattle.iox2_domain.proofs.lemmas.slots.OpenLoans.{mark-here, open-own}
+use Rattle.iox2_domain.proofs.lemmas.slots.OpenLoans.{kept-lists, mark-here, open-own, same-lists}
 use Rattle.iox2_domain.proofs.lemmas.slots.BookChanges.{KeepsSlots, with_book, book-after, holders-here, other-book, numbers-same, book-state, books-changed, linked-book}
 use Rattle.iox2_domain.proofs.lemmas.loans.PublisherChanges.{KeepsSettings, changed-ids_apart, changed-is, changed-linked_same, changed-books, changed-room, changed-plain, changed-own}
 
@@ -94,7 +94,7 @@ module _ {T U : Type 0} (f : Fields T U) (parts : HasParts f) (i : ℕ) (x : Pub
     -- the fields agree with one another, with these contents of slots
     pub own-parts_with : (contents : List (Option (List (ContentState T U)))) → y.keys ≡ x.keys → (LendsBlocked x → LendsBlocked y) → IsNumbered f.next_message with_own.books
         → HasBooks (with_contents contents with_own) → HasShapes (with_contents contents with_own) → HasForms f.config contents
-        → HasOpenLoans with_own.publishers with_own.books contents → HasParts (with_contents contents with_own)
+        → HasOpenLoans f.config with_own.publishers with_own.books contents → HasParts (with_contents contents with_own)
     own-parts_with contents same_keys lends numbered books shapes forms open_loans = record {
       publisher_ids = changed-ids_apart f i x y here settings.id parts.publisher_ids;
       subscriber_ids = parts.subscriber_ids;
@@ -125,7 +125,7 @@ module _ {T U : Type 0} (f : Fields T U) (parts : HasParts f) (i : ℕ) (x : Pub
     -- the same with the contents that there were
     pub own-parts : y.keys ≡ x.keys → (LendsBlocked x → LendsBlocked y) → KeepsUnwritten → IsAligned d → IsNumbered f.next_message with_own.books → HasShapes with_own → HasParts with_own
     own-parts same_keys lends unwritten aligned numbered shapes =
-        own-parts_with f.contents same_keys lends numbered (own-books aligned) shapes parts.forms (open-own f parts i x here y b d at f.contents (λ k away. refl) settings.book still)
+        own-parts_with f.contents same_keys lends numbered (own-books aligned) shapes parts.forms (open-own f parts i x here y b d at f.contents (λ k away. refl) settings.book settings.max_loaned_samples still (kept-lists f parts i x here y b d at f.contents (λ k away. refl) (same-lists f.contents)))
       where
         still : (s : ℕ) → 0 < cell_count f.contents x.book s → (0 < times s y.loans) × (slice_get d.marks s ≡ Some Unwritten)
         still s some = let loan = parts.open_loans.at i s x here some in unwritten s some (sym (mark-here f.books x.book b at s) ∙ loan.unwritten) loan.out

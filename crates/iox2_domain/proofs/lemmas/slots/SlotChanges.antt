@@ -24,7 +24,7 @@ use Rattle.iox2_domain.specs.Invariant.{IsDomain, IsBook, HasBooks, HasForms, Ha
 use Rattle.iox2_domain.proofs.lemmas.containers.SetRecords.{set-here, set-others}
 use Rattle.iox2_domain.proofs.lemmas.loans.Taken.{with_changed-here, with_changed-others}
 use Rattle.iox2_domain.proofs.lemmas.slots.BookChanges.{KeepsSlots, with_book, book-here, book-others, book-was, books-apart, other-book, book-state, books-changed, holders-here}
-use Rattle.iox2_domain.proofs.lemmas.slots.OpenLoans.{mark-here, open-kept}
+use Rattle.iox2_domain.proofs.lemmas.slots.OpenLoans.{KeepsLists, mark-here, open-kept}
 use Rattle.iox2_domain.proofs.lemmas.slots.RewrittenContents.{rewritten-here, rewritten-others, rewritten-books}
 use Rattle.iox2_domain.proofs.lemmas.slots.SlotCells.{cells-elsewhere, cells-here, cells-read, cells_if}
 use Rattle.iox2_domain.proofs.lemmas.slots.Messages.{LiesIn, ChangesSlot, lies_at, message_at-slot, message_in-parts, message_in-from, is_numbered-slot, message_numbered-others, message_numbered-found}
@@ -48,7 +48,7 @@ all-changed {A} P g keeps xs slot all = by (slice_get xs slot) refl where
 -- what lies in lists does so where the slot keeps its form
 pub forms-changed : {T U : Type 0} (c : ServiceConfig) (contents : List (Option (List (ContentState T U)))) (key slot : ℕ) (cs : List (ContentState T U)) → get_or contents key None ≡ Some cs
     → (g : ContentState T U → ContentState T U) → ((content : ContentState T U) → (g content).is_in_place ≡ content.is_in_place)
-    → ((content : ContentState T U) → (g content).lists_cells ≡ content.lists_cells) → HasForms c contents
+    → ((content : ContentState T U) → (g content).lists ≡ content.lists) → HasForms c contents
     → HasForms c (slice_set contents key (Some (with_changed cs slot g)))
 forms-changed {T} {U} c contents key slot cs at_c g placed listed forms = record {
   at = λ several k zs there. elim (cases_eq k key) [
@@ -65,9 +65,26 @@ forms-changed {T} {U} c contents key slot cs at_c g placed listed forms = record
         let found : Some (with_changed cs slot g) ≡ Some zs =
         sym (set-here contents key cs (with_changed cs slot g) at_c) ∙ sym (ap (λ (j : ℕ). get_or (slice_set contents key (Some (with_changed cs slot g))) j None) here) ∙ there in
         let is : with_changed cs slot g ≡ zs = cc in
-        subst (All (λ (content : ContentState T U). content.lists_cells ≡ true)) is
-        (all-changed (λ (content : ContentState T U). content.lists_cells ≡ true) g (λ content had. listed content ∙ had) cs slot (forms.cells several lists key cs at_c))
+        subst (All (λ (content : ContentState T U). 0 < content.lists)) is
+        (all-changed (λ (content : ContentState T U). 0 < content.lists) g (λ content had. subst (λ n. 0 < n) (sym (listed content)) had) cs slot (forms.cells several lists key cs at_c))
     | inr away ↦ forms.cells several lists k zs (sym (set-others contents key cs (with_changed cs slot g) at_c k away) ∙ there)
+  ];
+}
+
+-- and it has as many lists of cells
+pub lists-changed : {T U : Type 0} (contents : List (Option (List (ContentState T U)))) (key slot : ℕ) (cs : List (ContentState T U)) → get_or contents key None ≡ Some cs
+    → (g : ContentState T U → ContentState T U) → ((content : ContentState T U) → (g content).lists ≡ content.lists)
+    → KeepsLists contents (slice_set contents key (Some (with_changed cs slot g)))
+lists-changed {T} {U} contents key slot cs at_c g listed = record {
+  at = λ k zs there. elim (cases_eq k key) [
+    | inl here ↦
+        let found : Some (with_changed cs slot g) ≡ Some zs =
+        sym (set-here contents key cs (with_changed cs slot g) at_c) ∙ sym (ap (λ (j : ℕ). get_or (slice_set contents key (Some (with_changed cs slot g))) j None) here) ∙ there in
+        let is : with_changed cs slot g ≡ zs = cc in
+        (cs, ap (λ (j : ℕ). get_or contents j None) here ∙ at_c, λ n all.
+            subst (All (λ (content : ContentState T U). content.lists ≡ n)) is
+            (all-changed (λ (content : ContentState T U). content.lists ≡ n) g (λ content had. listed content ∙ had) cs slot all))
+    | inr away ↦ (zs, sym (set-others contents key cs (with_changed cs slot g) at_c k away) ∙ there, λ n all. all)
   ];
 }
 
@@ -110,14 +127,15 @@ module _ {T U : Type 0} (f : Fields T U) (sound : IsDomain f) (key slot : ℕ) (
     })
 
   -- what lies in lists does so still
-  pub slot-forms : ((c : ContentState T U) → (g c).is_in_place ≡ c.is_in_place) → ((c : ContentState T U) → (g c).lists_cells ≡ c.lists_cells) → HasForms f.config f.contents
+  pub slot-forms : ((c : ContentState T U) → (g c).is_in_place ≡ c.is_in_place) → ((c : ContentState T U) → (g c).lists ≡ c.lists) → HasForms f.config f.contents
       → HasForms f.config with_slot.contents
   slot-forms placed listed forms = forms-changed f.config f.contents key slot cs at_c g placed listed forms
 
   -- each slot with cells is a loan still, where this one has cells only if it had some, with the mark that it had
-  pub slot-open : ((content : ContentState T U) → slice_get cs slot ≡ Some content → 0 < length (g content).cells → (0 < length content.cells) × (slice_get b.marks slot ≡ Some mark))
-      → HasOpenLoans f.publishers f.books f.contents → HasOpenLoans f.publishers with_slot.books with_slot.contents
-  slot-open keeps = open-kept f.publishers f.books with_slot.books f.contents with_slot.contents had same-mark where
+  pub slot-open : ((c : ContentState T U) → (g c).lists ≡ c.lists)
+      → ((content : ContentState T U) → slice_get cs slot ≡ Some content → 0 < length (g content).cells → (0 < length content.cells) × (slice_get b.marks slot ≡ Some mark))
+      → HasOpenLoans f.config f.publishers f.books f.contents → HasOpenLoans f.config f.publishers with_slot.books with_slot.contents
+  slot-open listed keeps = open-kept f.publishers f.books with_slot.books f.contents with_slot.contents had same-mark (lists-changed f.contents key slot cs at_c g listed) where
     here : 0 < cell_count with_slot.contents key slot → (0 < cell_count f.contents key slot) × (slice_get b.marks slot ≡ Some mark)
     here some =
         let is = cells-here f.contents key cs at_c slot g some in

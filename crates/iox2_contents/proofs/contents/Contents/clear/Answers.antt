@@ -1,14 +1,23 @@
-use Rattle.std.proofs.Common.{refl}
-use Rattle.std.proofs.lemmas.Option.{slice_get_read}
+use Rattle.std.proofs.Common.{◌<◌, ◌∙◌, ap, length, slice_set}
+use Rattle.std.proofs.lemmas.List.{map-set}
+use Rattle.iox2_contents.proofs.SlotReads.{slot_read}
+use Rattle.iox2_contents.proofs.SlotLists.{cleared-lists, clears, content-at, ended-there}
+use Rattle.iox2_contents.proofs.SlotSums.{changed-long}
 use Rattle.iox2_contents.proofs.contents.Contents.clear.Goals as goal
 
+pub invariant_of-self : goal.invariant_of-self
+invariant_of-self g c =
+    let within : c.args.slot < length c.end.new.self = rw (c.end.ensures, changed-long) c.requires in
+    let read = slot_read c.self.inside.slots.items _ c.args.slot _ c.self.view_is within c.index_mut.ensures.value in
+    let was = ended-there c.args.self.now c.end.new.self c.args.slot _ c.requires c.end.ensures (content-at 0 0 0 _ c.args.slot _ read _ c.self.view_is) in (
+      c.self.invariant.0,
+      c.self.invariant.1,
+      cleared-lists _ _ _ _ c.args.slot _ read c.self.invariant.2 c.clear.new.self (ap (λ content. content.cells) was) c.clear.ensures.cells c.clear.ensures.lists c.clear.ensures.in_place c.clear.ensures.room c.clear.ensures.none,
+    )
+
 pub returns : goal.returns
-returns g c = record {
-  content = c.clear.new.self;
-  had = c.index_mut.result.now;
-  there = rw (← c.self.view_is) (slice_get_read c.self.inside.slots.items _ c.args.slot c.index_mut.result.now refl (rw (← c.self.view_is) at c.requires) c.index_mut.ensures.value);
-  form = c.clear.ensures.in_place;
-  lists = c.clear.ensures.lists_cells;
-  cells = c.clear.ensures.cells;
-  cleared = rw (← c.self.view_is) refl;
-}
+returns g c =
+    let within : c.args.slot < length c.end.new.self = rw (c.end.ensures, changed-long) c.requires in
+    let read = slot_read c.self.inside.slots.items _ c.args.slot _ c.self.view_is within c.index_mut.ensures.value in
+    clears c.args.self.now c.end.new.self c.args.slot _ c.requires c.end.ensures (content-at 0 0 0 _ c.args.slot _ read _ c.self.view_is) _ c.clear.new.self.content
+    c.clear.ensures.in_place c.clear.ensures.lists c.clear.ensures.cells (map-set (λ s. s.content) c.self.inside.slots.items c.args.slot c.clear.new.self ∙ ap (λ contents. slice_set contents c.args.slot c.clear.new.self.content) c.self.view_is)

@@ -1,8 +1,14 @@
-use Rattle.std.proofs.Common.{refl}
-use Rattle.std.proofs.lemmas.Option.{slice_get_read}
-use Rattle.iox2_contents.proofs.contents.Contents.«end».Goals as goal
+use Rattle.std.proofs.Common.{◌∙◌}
+use Rattle.iox2_contents.proofs.SlotReads.{slot_read}
+use Rattle.iox2_contents.proofs.SlotLists.{changed-contents, ended-lists}
+use Rattle.iox2_contents.proofs.contents.Contents.end.Goals as goal
+
+pub settle-requires-clause-lists : goal.settle-requires-clause-lists
+settle-requires-clause-lists g c =
+    let read = slot_read c.self.inside.slots.items _ c.args.slot _ c.self.view_is c.requires c.index_mut.ensures.value in
+    ended-lists _ _ _ _ c.args.slot _ read c.self.invariant.2 _ c.end.ensures
 
 pub returns : goal.returns
 returns g c =
-    let read = slice_get_read c.self.inside.slots.items _ c.args.slot c.index_mut.result.now refl (rw (← c.self.view_is) at c.requires) c.index_mut.ensures.value in
-    rw (← c.self.view_is, read) cc
+    let read = slot_read c.self.inside.slots.items _ c.args.slot _ c.self.view_is c.requires c.index_mut.ensures.value in
+    c.settle.ensures.same ∙ changed-contents 0 0 0 _ c.args.slot _ read _ _ _ c.self.view_is c.end.ensures

@@ -1,22 +1,29 @@
-use Rattle.std.proofs.Common.{◌≡◌, ◌∙◌, [], true, false, refl, arith}
-use Rattle.std.proofs.lemmas.List.{length_push}
-use Rattle.std.proofs.lemmas.List.Elements.{All-push}
-use Rattle.iox2_contents.specs.SlotRooms.{RoomIsAtMost}
+use Rattle.std.proofs.Common.{◌≡◌, ◌∙◌, [], arith}
+use Rattle.iox2_contents.specs.SlotContents.{lists_for}
+use Rattle.iox2_contents.proofs.NewSlots.{new-contents, new-forms, new-lists, without}
+use Rattle.iox2_contents.proofs.SlotSums.{replicated}
 use Rattle.iox2_contents.proofs.contents.Contents.new.Goals as goal
 
-pub loop-preserved : goal.loop-preserved
-loop-preserved g c = record {
-  default = rw c.push_reserved.ensures.items (All-push (λ content. g.U.Default.is_default content.user_header) _ _ c.loop.invariant.default c.in_ok-new.ensures.default);
-  empty = rw c.push_reserved.ensures.items (All-push (λ content. (content.cells ≡ []) × (content.values ≡ [])) _ _ c.loop.invariant.empty (c.in_ok-new.ensures.cells, c.in_ok-new.ensures.values));
-  rooms = rw c.push_reserved.ensures.items (All-push (λ content. content.room ≡ c.args.room) _ _ c.loop.invariant.rooms c.in_ok-new.ensures.room);
-  in_lists = rw c.push_reserved.ensures.items (All-push (λ content. c.args.in_lists ≡ true → content.is_in_place ≡ false) _ _ c.loop.invariant.in_lists c.in_ok-new.ensures.in_lists);
-  lists_cells = rw c.push_reserved.ensures.items (All-push (λ content. c.args.in_lists ≡ true → c.args.lists_cells ≡ true → content.lists_cells ≡ true) _ _ c.loop.invariant.lists_cells
-      (λ listed lists. c.in_ok-new.ensures.all_cells (c.in_ok-new.ensures.in_lists listed) (c.room_for_cells-cell_room.ensures.all lists)));
-  enough = c.loop.invariant.enough;
-  fit = rw c.push_reserved.ensures.items (All-push (RoomIsAtMost _) _ _ c.loop.invariant.fit (λ lists.
-      let fits = c.in_ok-new.ensures.lists_cells lists in
-      rw (c.in_ok-new.ensures.room, c.loop.invariant.enough fits.1 (c.in_ok-new.ensures.in_place fits.0)) (omega arith)));
-  count = rw (c.push_reserved.ensures.items, length_push, c.loop.invariant.count) refl;
-  len = omega arith;
-  capacity = c.push_reserved.ensures.capacity ∙ c.loop.invariant.capacity;
-}
+pub invariant_of-result : goal.invariant_of-result
+invariant_of-result g c =
+    let unwritten = replicated c.in_ok-unwritten_cells.field-0.items _ _ c.in_ok-unwritten_cells.ensures.unwritten in (
+      unwritten.1,
+      rw unwritten.0 c.in_ok-cell_lists.ensures.empty,
+      rw unwritten.0 (new-lists g.U.Default.is_default c.args.room c.args.in_lists c.lists_for-lists.result (without c.args.in_lists c.args.lists _ c.lists_for-lists.ensures) _ c.shown_cells-longest.ensures.all c.shown_cells-longest.ensures.first
+          _ _ _ c.in_ok-new_slots.ensures.new (omega (arith, c.in_ok-cell_lists.ensures.count)) (omega (arith, c.in_ok-cell_lists.ensures.capacity))),
+    )
+
+pub returns-clause-default : goal.returns-clause-default
+returns-clause-default g c = new-contents _ _ _ _ _ c.in_ok-new_slots.ensures.new (λ content. g.U.Default.is_default content.user_header) (λ s is. is.default)
+
+pub returns-clause-empty : goal.returns-clause-empty
+returns-clause-empty g c = new-contents _ _ _ _ _ c.in_ok-new_slots.ensures.new (λ content. (content.cells ≡ []) × (content.values ≡ [])) (λ s is. (is.cells, is.values))
+
+pub returns-clause-room : goal.returns-clause-room
+returns-clause-room g c = new-contents _ _ _ _ _ c.in_ok-new_slots.ensures.new (λ content. content.room ≡ c.args.room) (λ s is. is.rooms)
+
+pub returns-clause-in_lists : goal.returns-clause-in_lists
+returns-clause-in_lists g c = new-forms _ _ _ _ _ c.in_ok-new_slots.ensures.new
+
+pub returns-clause-lists : goal.returns-clause-lists
+returns-clause-lists g c = new-contents _ _ _ _ _ c.in_ok-new_slots.ensures.new (λ content. content.lists ≡ lists_for c.args.in_lists c.args.lists) (λ s is. is.lists_are ∙ c.lists_for-lists.ensures)

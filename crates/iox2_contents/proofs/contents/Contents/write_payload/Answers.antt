@@ -1,16 +1,14 @@
-use Rattle.std.proofs.Common.{rules, ◌≡◌, length, vec_len}
-use Rattle.iox2_contents.proofs.SlotReads.{some_read, some_within}
+use Rattle.std.proofs.Common.{◌≡◌, ◌∙◌, length}
+use Rattle.iox2_contents.proofs.SlotReads.{content_read}
+use Rattle.iox2_contents.proofs.SlotLists.{changed-contents, written-lists}
 use Rattle.iox2_contents.proofs.contents.Contents.write_payload.Goals as goal
+
+pub settle-requires-clause-lists : goal.settle-requires-clause-lists
+settle-requires-clause-lists g c =
+    let read = content_read c.self.inside.slots.items _ c.args.slot (λ content. length content.cells ≡ 1) _ c.self.view_is c.requires c.index_mut.ensures.value in
+    written-lists _ _ _ _ c.args.slot _ read.0 c.self.invariant.2 _ _ c.write_payload.ensures
 
 pub returns : goal.returns
 returns g c =
-    let read = some_read c.self.inside.slots.items _ _ _ (rw (← c.self.view_is) at c.requires) c.index_mut.ensures.value in
-    rw (← c.self.view_is, read.0) cc
-
-pub index_mut-requires : goal.index_mut-requires
-index_mut-requires g c =
-    let long : vec_len c.self.inside.slots ≡ length c.self.inside.slots.items = search rules in
-    rw long (some_within c.self.inside.slots.items c.args.slot _ (rw (← c.self.view_is) at c.requires))
-
-pub write_payload-requires : goal.write_payload-requires
-write_payload-requires g c = (some_read c.self.inside.slots.items c.args.slot _ _ (rw (← c.self.view_is) at c.requires) c.index_mut.ensures.value).1
+    let read = content_read c.self.inside.slots.items _ c.args.slot (λ content. length content.cells ≡ 1) _ c.self.view_is c.requires c.index_mut.ensures.value in
+    c.settle.ensures.same ∙ changed-contents 0 0 0 _ c.args.slot _ read.0 _ _ _ c.self.view_is c.write_payload.ensures

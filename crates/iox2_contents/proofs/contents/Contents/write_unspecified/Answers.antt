@@ -1,15 +1,21 @@
-use Rattle.std.proofs.Common.{ap, slice_set}
-use Rattle.iox2_contents.proofs.SlotReads.{some_read}
+use Rattle.std.proofs.Common.{◌≡◌, ◌∙◌, false}
+use Rattle.iox2_contents.proofs.SlotReads.{content_read}
+use Rattle.iox2_contents.proofs.SlotLists.{changed-contents, content-at, written-lists}
 use Rattle.iox2_contents.proofs.contents.Contents.write_unspecified.Goals as goal
+
+pub settle-requires-clause-lists : goal.settle-requires-clause-lists
+settle-requires-clause-lists g c =
+    let read = content_read c.self.inside.slots.items _ c.args.slot (λ content. content.is_in_place ≡ false) _ c.self.view_is c.requires c.index_mut.ensures.value in
+    written-lists _ _ _ _ c.args.slot _ read.0 c.self.invariant.2 _ _ c.write_unspecified.ensures.written
 
 pub returns : goal.returns
 returns g c =
-    let read = some_read c.self.inside.slots.items _ _ _ (rw (← c.self.view_is) at c.requires) c.index_mut.ensures.value in (
-      c.write_unspecified.new.self.values,
+    let read = content_read c.self.inside.slots.items _ c.args.slot (λ content. content.is_in_place ≡ false) _ c.self.view_is c.requires c.index_mut.ensures.value in (
+      c.write_unspecified.new.self.content.values,
       record {
-        content = c.index_mut.result.now;
-        had = rw (← c.self.view_is) read.0;
+        content = c.index_mut.result.now.content;
+        had = content-at 0 0 0 _ c.args.slot _ read.0 _ c.self.view_is;
         count = c.write_unspecified.ensures.count;
-        written = rw (← c.self.view_is, read.0) (ap (slice_set c.self.inside.slots.items c.args.slot) c.write_unspecified.ensures.written);
+        written = c.settle.ensures.same ∙ changed-contents 0 0 0 _ c.args.slot _ read.0 _ _ _ c.self.view_is c.write_unspecified.ensures.written;
       },
     )

@@ -1,0 +1,294 @@
+-- Which lists of cells there are, where one slot changes.
+use Rattle.std.proofs.Common.{◌≡◌, ◌≢◌, ◌⊎◌, ◌<◌, ◌≤◌, ◌+◌, ◌∙◌, ◌&&◌, ℕ, zero, suc, Bool, true, false, Some, List, [], length, get_or, slice_set, inl, inr, refl, ap, sym, subst, arith}
+use Rattle.std.proofs.lemmas.Bool.{cases_eq}
+use Rattle.std.proofs.lemmas.List.{map-set, set-set}
+use Rattle.std.proofs.lemmas.List.Elements.{All-set}
+use Rattle.std.specs.Prelude.{slice_get, nat_lt, sum_by, IsSomeAnd}
+use Rattle.std.specs.List.{All}
+use Rattle.iox2_contents.specs.SlotContents.{ClearsSlot, ContentState, ended_content, unwritten_content, written_content, with_changed, open_count}
+use Rattle.iox2_contents.specs.SlotStates.{SlotState, contents_of, has_list, waits, with_content}
+use Rattle.iox2_contents.specs.SlotRooms.{HasLists, HasListsBut, ListsCells, ShowsAtMost, one_if_long, long_count}
+use Rattle.iox2_contents.proofs.SlotSums.{within, reads, there, mapped, sum-changed, sum-less, sum-map, set-here, set-away, set-same}
+use Rattle.iox2_contents.proofs.OpenSlots.{and-false, no-wait, one-if, one_if_open, not-open, never-open, open-once, is-open, has-some, waits-for, long-none, long-open}
+
+module _ {T U : Type 0} where
+  module _ (most spare spare_room : ℕ) (xs : List (SlotState T U)) (i : ℕ) (s : SlotState T U) (at : slice_get xs i ≡ Some s) where
+    -- what holds of all slots holds of this one
+    pub of-all : (P : SlotState T U → Type 0) → All P xs → P s
+    of-all P all = subst P (reads xs i s s at) (all i s (within xs i s at))
+
+    module _ (t : SlotState T U) where
+      -- how many slots have cells, with one changed
+      pub opened-changed : open_count (contents_of (slice_set xs i t)) + one_if_open s.content ≡ open_count (contents_of xs) + one_if_open t.content
+      opened-changed =
+          rw (map-set (λ (z : SlotState T U). z.content) xs i t)
+          (sum-changed one_if_open (contents_of xs) i s.content t.content (mapped (λ (z : SlotState T U). z.content) xs i s at))
+
+      -- how many have a list that is long enough
+      pub long-changed : long_count most (slice_set xs i t) + one_if_long most s ≡ long_count most xs + one_if_long most t
+      long-changed = sum-changed (one_if_long most) xs i s t at
+
+      alike-changed : (lists : ℕ) → t.content.lists ≡ s.content.lists → All (λ z. 0 < z.content.lists → z.content.lists ≡ lists) xs
+          → All (λ z. 0 < z.content.lists → z.content.lists ≡ lists) (slice_set xs i t)
+      alike-changed lists same all =
+          All-set (λ (z : SlotState T U). 0 < z.content.lists → z.content.lists ≡ lists) xs i t
+          (λ some. same ∙ of-all (λ z. 0 < z.content.lists → z.content.lists ≡ lists) all (subst (λ n. 0 < n) same some)) all
+
+      -- a slot changes, and its list may be another one
+      pub changed : (has : HasLists most spare spare_room xs) (spare' : ℕ) → ShowsAtMost most t → ListsCells t → t.content.lists ≡ s.content.lists
+          → spare + one_if_long most s ≤ spare' + one_if_long most t → open_count (contents_of (slice_set xs i t)) ≤ has.lists → HasLists most spare' spare_room (slice_set xs i t)
+      changed has spare' shows lists same kept opened = record {
+        shown = All-set (ShowsAtMost most) xs i t shows has.shown;
+        listed = All-set ListsCells xs i t lists has.listed;
+        lists = has.lists;
+        alike = alike-changed has.lists same has.alike;
+        kept = omega (arith, has.kept, long-changed, kept);
+        room = has.room;
+        opened = opened;
+      }
+
+      -- a slot has no cells any more, but its list still
+      pub ended : (has : HasLists most spare spare_room xs) → ShowsAtMost most t → t.content.lists ≡ s.content.lists → t.cell_room ≡ s.cell_room → t.content.cells ≡ []
+          → HasListsBut i most spare spare_room (slice_set xs i t)
+      ended has shows same room none = record {
+        shown = All-set (ShowsAtMost most) xs i t shows has.shown;
+        listed = λ k z there away. of-others k z (sym (set-away xs i k t away) ∙ there);
+        ended = subst (λ o. IsSomeAnd o (λ z. z.content.cells ≡ [])) (sym (set-here xs i s t at)) none;
+        lists = has.lists;
+        alike = alike-changed has.lists same has.alike;
+        kept =
+            let long : one_if_long most t ≡ one_if_long most s = rw (same, room) refl in
+            omega (arith, has.kept, long-changed, long);
+        room = has.room;
+        opened = omega (arith, has.opened, opened-changed, not-open t.content none);
+      } where
+        of-others : (k : ℕ) (z : SlotState T U) → slice_get xs k ≡ Some z → ListsCells z
+        of-others k z there = subst ListsCells (reads xs k z z there) (has.listed k z (within xs k z there))
+
+      -- what a reference changes leaves the lists
+      pub lent : (has : HasLists most spare spare_room xs) → t.content.lists ≡ s.content.lists → t.content.room ≡ s.content.room → t.content.is_in_place ≡ s.content.is_in_place
+          → t.cell_room ≡ s.cell_room → length t.content.cells ≡ length s.content.cells → HasLists most spare spare_room (slice_set xs i t)
+      lent has lists room place cell_room long =
+          let one : one_if_open t.content ≡ one_if_open s.content = rw (lists, long) refl in
+          changed has spare
+          (rw (lists, room, place) (of-all (ShowsAtMost most) has.shown))
+          (rw (lists, cell_room, long) (of-all ListsCells has.listed))
+          lists
+          (let same : one_if_long most t ≡ one_if_long most s = rw (lists, cell_room) refl in omega (arith, same))
+          (omega (arith, has.opened, opened-changed, one))
+
+      -- a loan starts in a slot without cells
+      pub started : (has : HasLists most spare spare_room xs) → t.content.lists ≡ s.content.lists → t.content.room ≡ s.content.room → t.content.is_in_place ≡ s.content.is_in_place
+          → t.cell_room ≡ s.cell_room → (0 < s.content.lists → s.content.cells ≡ []) → (0 < s.content.lists → open_count (contents_of xs) < s.content.lists)
+          → HasLists most spare spare_room (slice_set xs i t)
+      started has lists room place cell_room none few =
+          changed has spare
+          (rw (lists, room, place) (of-all (ShowsAtMost most) has.shown))
+          (λ listed. absurd (free (rw (lists, cell_room) at listed)))
+          lists
+          (let same : one_if_long most t ≡ one_if_long most s = rw (lists, cell_room) refl in omega (arith, same))
+          (by s.content.lists refl)
+        where
+          free : has_list s ≡ true → ⊥
+          free listed =
+              let some = of-all ListsCells has.listed listed in
+              let gone : length s.content.cells ≡ 0 = ap length (none (has-some s listed).0) in
+              omega (arith, some, gone)
+
+          by : (n : ℕ) → s.content.lists ≡ n → open_count (contents_of (slice_set xs i t)) ≤ has.lists
+          by zero e = omega (arith, has.opened, opened-changed, never-open t.content (lists ∙ e))
+          by (suc n) e =
+              let some : 0 < s.content.lists = omega (arith, e) in
+              let all : s.content.lists ≡ has.lists = of-all (λ z. 0 < z.content.lists → z.content.lists ≡ has.lists) has.alike some in
+              omega (arith, few some, all, opened-changed, open-once t.content)
+
+    -- a slot without cells has no list
+    pub none-listed : HasLists most spare spare_room xs → (0 < s.content.lists → s.content.cells ≡ []) → has_list s ≡ false
+    none-listed has none = by (has_list s) refl where
+      by : (b : Bool) → has_list s ≡ b → has_list s ≡ false
+      by false e = e
+      by true e =
+          let some = of-all ListsCells has.listed e in
+          let gone : length s.content.cells ≡ 0 = ap length (none (has-some s e).0) in
+          absurd (omega (arith, some, gone))
+
+    -- where the slot without cells has no list either, all is well
+    pub settled : HasListsBut i most spare spare_room xs → has_list s ≡ false → HasLists most spare spare_room xs
+    settled but none = record {
+      shown = but.shown;
+      listed = λ k d low. by k d low (cases_eq k i);
+      lists = but.lists;
+      alike = but.alike;
+      kept = but.kept;
+      room = but.room;
+      opened = but.opened;
+    } where
+      by : (k : ℕ) (d : SlotState T U) → k < length xs → (k ≡ i) ⊎ (k ≢ i) → ListsCells (get_or xs k d)
+      by k d low (inl same) = λ listed.
+          absurd (let is : get_or xs k d ≡ s = ap (λ j. get_or xs j d) same ∙ reads xs i s d at in let clash : true ≡ false = sym listed ∙ ap has_list is ∙ none in cc)
+      by k d low (inr away) = but.listed k (get_or xs k d) (there xs k d low) away
+
+    -- its list goes back where it is long enough and there is room
+    pub given-back : (but : HasListsBut i most spare spare_room xs) (spare' : ℕ) → (t : SlotState T U) → t.content ≡ s.content → t.cell_room ≡ 0
+        → (spare + one_if_long most s ≤ spare') ⊎ (spare_room ≤ spare') → HasLists most spare' spare_room (slice_set xs i t)
+    given-back but spare' t same none back = record {
+      shown = All-set (ShowsAtMost most) xs i t (rw same (of-all (ShowsAtMost most) but.shown)) but.shown;
+      listed = λ k d low. by k d low (cases_eq k i);
+      lists = but.lists;
+      alike = alike-changed t but.lists (ap (λ (c : ContentState T U). c.lists) same) but.alike;
+      kept = enough back;
+      room = but.room;
+      opened =
+          let one : one_if_open t.content ≡ one_if_open s.content = ap one_if_open same in
+          omega (arith, but.opened, opened-changed t, one);
+    } where
+      enough : (spare + one_if_long most s ≤ spare') ⊎ (spare_room ≤ spare') → but.lists ≤ spare' + long_count most (slice_set xs i t)
+      enough (inl less) = omega (arith, but.kept, long-changed t, less)
+      enough (inr full) = omega (arith, but.room, full)
+
+      away-listed : (k : ℕ) (d : SlotState T U) → k < length (slice_set xs i t) → k ≢ i → ListsCells (get_or (slice_set xs i t) k d)
+      away-listed k d low away =
+          but.listed k (get_or (slice_set xs i t) k d) (sym (set-away xs i k t away) ∙ there (slice_set xs i t) k d low) away
+
+      by : (k : ℕ) (d : SlotState T U) → k < length (slice_set xs i t) → (k ≡ i) ⊎ (k ≢ i) → ListsCells (get_or (slice_set xs i t) k d)
+      by k d low (inr away) = away-listed k d low away
+      by k d low (inl here) = λ listed.
+          absurd (
+          let is : get_or (slice_set xs i t) k d ≡ t = ap (λ j. get_or (slice_set xs i t) j d) here ∙ reads (slice_set xs i t) i t d (set-here xs i s t at) in
+          let has : has_list t ≡ true = sym (ap has_list is) ∙ listed in
+          let some = (has-some t has).1 in
+          omega (arith, some, none)
+          )
+
+    -- the slot with another list has what it had
+    pub same-contents : (t : SlotState T U) → t.content ≡ s.content → contents_of (slice_set xs i t) ≡ contents_of xs
+    same-contents t same =
+        map-set (λ (z : SlotState T U). z.content) xs i t
+        ∙ set-same (contents_of xs) i s.content t.content (mapped (λ (z : SlotState T U). z.content) xs i s at) same
+
+    -- what a slot is whose list was taken out
+    abbrev pub bare : SlotState T U
+    bare = record s { content = ended_content s.content; cell_room = 0 }
+
+    pub bare-content : IsSomeAnd (slice_get xs i) (λ z. z.content.cells ≡ []) → bare.content ≡ s.content
+    bare-content none = let is : s.content.cells ≡ [] = subst (λ o. IsSomeAnd o (λ z. z.content.cells ≡ [])) at none in ap (λ cells. record s.content { cells = cells }) (sym is)
+
+    pub bare-same : IsSomeAnd (slice_get xs i) (λ z. z.content.cells ≡ []) → contents_of (slice_set xs i bare) ≡ contents_of xs
+    bare-same none = same-contents bare (bare-content none)
+
+    pub bare-lists : (but : HasListsBut i most spare spare_room xs) (spare' : ℕ) → (spare + one_if_long most s ≤ spare') ⊎ (spare_room ≤ spare') → HasLists most spare' spare_room (slice_set xs i bare)
+    bare-lists but spare' back = given-back but spare' bare (bare-content but.ended) refl back
+
+    -- a slot that waits for a list finds one
+    pub spares : HasLists most spare spare_room xs → waits s ≡ true → 0 < spare
+    spares has is =
+        let want = waits-for s is in
+        let one = is-open s.content want.0 want.2 in
+        let none = long-none most s (of-all (ShowsAtMost most) has.shown) (no-list want.1) in
+        let count : long_count most xs + 1 ≤ sum_by (λ (z : SlotState T U). one_if_open z.content) xs =
+        sum-less (one_if_long most) (λ (z : SlotState T U). one_if_open z.content) xs i s at
+        (λ k d low. long-open most (get_or xs k d) (has.shown k d low) (has.listed k d low)) (omega (arith, one, none)) in
+        let map-is : open_count (contents_of xs) ≡ sum_by (λ (z : SlotState T U). one_if_open z.content) xs = sum-map one_if_open (λ (z : SlotState T U). z.content) xs in
+        omega (arith, has.kept, has.opened, count, map-is)
+      where
+        no-list : s.cell_room ≡ 0 → has_list s ≡ false
+        no-list none = ap (λ n. nat_lt 0 s.content.lists && nat_lt 0 n) none ∙ and-false (nat_lt 0 s.content.lists)
+
+    -- it gets one that is to spare
+    pub handed-out : (has : HasLists most spare spare_room xs) → waits s ≡ true → (spare' room : ℕ) → spare' + 1 ≡ spare → most ≤ room
+        → (t : SlotState T U) → t.content ≡ s.content → t.cell_room ≡ room → HasLists most spare' spare_room (slice_set xs i t)
+    handed-out has is spare' room one_less long t same is-room =
+        let want = waits-for s is in
+        changed t has spare'
+        (rw same (of-all (ShowsAtMost most) has.shown))
+        (λ listed. rw same want.2)
+        (ap (λ (c : ContentState T U). c.lists) same)
+        (let none = long-none most s (of-all (ShowsAtMost most) has.shown) (no-list want.1) in
+        let one : one_if_long most t ≡ 1 = one-if t.content.lists t.cell_room most (rw same want.0) (rw is-room long) in
+        omega (arith, one_less, none, one))
+        (let one : one_if_open t.content ≡ one_if_open s.content = ap one_if_open same in omega (arith, has.opened, opened-changed t, one))
+      where
+        no-list : s.cell_room ≡ 0 → has_list s ≡ false
+        no-list none = ap (λ n. nat_lt 0 s.content.lists && nat_lt 0 n) none ∙ and-false (nat_lt 0 s.content.lists)
+
+    -- what a slot is that got a list with this room
+    abbrev pub listed-in : (room : ℕ) → SlotState T U
+    listed-in room = record s { cell_room = room }
+
+    pub listed-same : (room : ℕ) → contents_of (slice_set xs i (listed-in room)) ≡ contents_of xs
+    listed-same room = same-contents (listed-in room) refl
+
+    pub listed-lists : (has : HasLists most spare spare_room xs) → waits s ≡ true → (spare' room : ℕ) → spare' + 1 ≡ spare → most ≤ room → HasLists most spare' spare_room (slice_set xs i (listed-in room))
+    listed-lists has is spare' room less long = handed-out has is spare' room less long (listed-in room) refl refl
+
+    pub listed-ready : HasLists most spare spare_room xs → waits s ≡ true → (room : ℕ) → most ≤ room → IsSomeAnd (slice_get (slice_set xs i (listed-in room)) i) (λ z. waits z ≡ false)
+    listed-ready has is room long =
+        let some = ((of-all (ShowsAtMost most) has.shown).0 (waits-for s is).0).1 in
+        let no = no-wait s.content.lists room (length s.content.cells) (omega (arith, some, long)) in
+        subst (λ o. IsSomeAnd o (λ z. waits z ≡ false)) (sym (set-here xs i s (listed-in room) at)) no
+
+    -- the list is long enough for it
+    pub listed-fits : HasLists most spare spare_room xs → waits s ≡ true → (room : ℕ) → most ≤ room → s.content.room ≤ room
+    listed-fits has is room long = let fits = ((of-all (ShowsAtMost most) has.shown).0 (waits-for s is).0).0 in omega (arith, fits, long)
+
+    -- a write, or the end of a loan, leaves no cells
+    pub written-lists : HasLists most spare spare_room xs → (values : List T) (t : SlotState T U) → t ≡ with_content (written_content values) s → HasListsBut i most spare spare_room (slice_set xs i t)
+    written-lists has values t is = rw is (ended (with_content (written_content values) s) has (of-all (ShowsAtMost most) has.shown) refl refl refl)
+
+    pub ended-lists : HasLists most spare spare_room xs → (t : SlotState T U) → t ≡ with_content ended_content s → HasListsBut i most spare spare_room (slice_set xs i t)
+    ended-lists has t is = rw is (ended (with_content ended_content s) has (of-all (ShowsAtMost most) has.shown) refl refl refl)
+
+    -- a loan starts in a slot whose last one has no cells any more
+    pub started-lists : HasLists most spare spare_room xs → (header : U) (len : ℕ) (t : SlotState T U) → t ≡ with_content (unwritten_content header len) s
+        → (0 < s.content.lists → s.content.cells ≡ []) → (0 < s.content.lists → open_count (contents_of xs) < s.content.lists) → HasLists most spare spare_room (slice_set xs i t)
+    started-lists has header len t is none few = rw is (started (with_content (unwritten_content header len) s) has refl refl refl refl none few)
+
+    -- what the content there is
+    pub content-at : (contents : List (ContentState T U)) → contents_of xs ≡ contents → slice_get contents i ≡ Some s.content
+    content-at contents are = subst (λ ys. slice_get ys i ≡ Some s.content) are (mapped (λ (z : SlotState T U). z.content) xs i s at)
+
+    -- what the contents are where one of them changed
+    pub changed-contents : (contents : List (ContentState T U)) (f : ContentState T U → ContentState T U) (t : SlotState T U) → contents_of xs ≡ contents → t ≡ with_content f s
+        → contents_of (slice_set xs i t) ≡ with_changed contents i f
+    changed-contents contents f t are is = map-set (λ (z : SlotState T U). z.content) xs i t ∙ rw (are, is, content-at contents are) refl
+
+    -- a slot without cells gives up its room
+    pub cleared-lists : HasLists most spare spare_room xs → (t : SlotState T U) → s.content.cells ≡ [] → t.content.cells ≡ [] → t.content.lists ≡ s.content.lists → t.content.is_in_place ≡ s.content.is_in_place
+        → t.content.room ≤ s.content.room → has_list t ≡ false → HasLists most spare spare_room (slice_set xs i t)
+    cleared-lists has t none gone lists place room no-list =
+        let shows = of-all (ShowsAtMost most) has.shown in
+        changed t has spare (
+          λ some. let was = shows.0 (subst (λ n. 0 < n) lists some) in (omega (arith, room, was.0), was.1),
+          λ away. shows.1 (sym place ∙ away),
+        )
+        (λ listed. absurd (let clash : true ≡ false = sym listed ∙ no-list in let not : true ≡ false → ⊥ = λ e. cc in not clash))
+        lists
+        (omega (arith, long-none most s shows (none-listed has (λ some. none))))
+        (omega (arith, has.opened, opened-changed t, not-open t.content gone))
+
+module _ {T U : Type 0} (old mid : List (ContentState T U)) (slot : ℕ) (was : ContentState T U) (low : slot < length old) (is : mid ≡ with_changed old slot ended_content) (at : slice_get mid slot ≡ Some was) where
+  had-at : slice_get old slot ≡ Some (get_or old slot was)
+  had-at = there old slot was low
+
+  mid-is : mid ≡ slice_set old slot (ended_content (get_or old slot was))
+  mid-is = rw had-at at is
+
+  -- where a loan ended there are no cells
+  pub ended-there : was ≡ ended_content (get_or old slot was)
+  ended-there =
+      let read : slice_get mid slot ≡ Some (ended_content (get_or old slot was)) = rw mid-is (set-here old slot (get_or old slot was) (ended_content (get_or old slot was)) had-at) in
+      let same : Some was ≡ Some (ended_content (get_or old slot was)) = sym at ∙ read in
+      cc
+
+  -- and another content takes the place
+  pub clears : (new : List (ContentState T U)) (content : ContentState T U) → content.is_in_place ≡ was.is_in_place → content.lists ≡ was.lists → content.cells ≡ [] → new ≡ slice_set mid slot content
+      → ClearsSlot old new slot
+  clears new content place lists cells cleared = record {
+    content = content;
+    had = get_or old slot was;
+    there = had-at;
+    form = place ∙ ap (λ (c : ContentState T U). c.is_in_place) ended-there;
+    lists = lists ∙ ap (λ (c : ContentState T U). c.lists) ended-there;
+    cells = cells;
+    cleared = cleared ∙ ap (λ m. slice_set m slot content) mid-is ∙ set-set old slot (ended_content (get_or old slot was)) content;
+  }

@@ -1,0 +1,31 @@
+-- The cells of a loan in their list, which no public contract shows.
+use Rattle.std.specs.Prelude.{ℕ, Bool, ◌&&◌, ◌==◌, List, length, nat_lt, slice_set}
+use Rattle.std.specs.List.{refill}
+use Rattle.std.specs.declared.option.Option.{Option}
+
+-- The cells of an unwritten loan, for how many there is room in a list of theirs, and how many lists the publisher keeps.
+pub record CellList (T : Type 0) : Type 0 where
+  pub items : List (Option T)
+  pub room : ℕ
+  pub lists : ℕ
+
+module _ {T : Type 0} where
+  -- These cells, in the same list.
+  abbrev pub with_items : (items : List (Option T)) → CellList T → CellList T
+  with_items items list = record list { items = items }
+
+  -- The first cell changed.
+  abbrev pub with_first : (cell : Option T) → CellList T → CellList T
+  with_first cell list = record list { items = slice_set list.items 0 cell }
+
+  -- The cells changed. They stay as many.
+  abbrev pub with_each : (items : List (Option T)) → CellList T → CellList T
+  with_each items list = record list { items = refill (length list.items) list.items items }
+
+  -- The cells have one of their publisher's lists.
+  abbrev pub has_list : CellList T → Bool
+  has_list list = nat_lt 0 list.lists && nat_lt 0 list.room
+
+  -- There are cells that need one of their publisher's lists before they can be written.
+  abbrev pub waits : CellList T → Bool
+  waits list = nat_lt 0 list.lists && (list.room == 0 && nat_lt 0 (length list.items))

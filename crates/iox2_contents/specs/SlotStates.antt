@@ -1,0 +1,36 @@
+-- What a slot has besides its content, which no public contract shows.
+use Rattle.std.specs.Prelude.{◌≡◌, ℕ, Bool, false, ◌&&◌, ◌==◌, List, [], length, map, nat_lt}
+use Rattle.iox2_contents.specs.SlotContents.{ContentState}
+use Rattle.iox2_contents.specs.SlotPayload.{lies_in_place}
+
+-- The content of a slot, and for how many cells there is room in a list that they have.
+pub record SlotState (T U : Type 0) : Type 0 where
+  pub content : ContentState T U
+  pub cell_room : ℕ
+
+module _ {T U : Type 0} where
+  -- The contents of slots.
+  abbrev pub contents_of : List (SlotState T U) → List (ContentState T U)
+  contents_of slots = map (λ slot. slot.content) slots
+
+  -- The slot with another content.
+  abbrev pub with_content : (ContentState T U → ContentState T U) → SlotState T U → SlotState T U
+  with_content f slot = record slot { content = f slot.content }
+
+  -- The cells have one of their publisher's lists.
+  abbrev pub has_list : SlotState T U → Bool
+  has_list slot = nat_lt 0 slot.content.lists && nat_lt 0 slot.cell_room
+
+  -- There are cells that need one of their publisher's lists before they can be written.
+  abbrev pub waits : SlotState T U → Bool
+  waits slot = nat_lt 0 slot.content.lists && (slot.cell_room == 0 && nat_lt 0 (length slot.content.cells))
+
+  -- The slot has no message yet, room for so many elements, and a publisher that keeps so many lists of cells.
+  pub record IsNew (is_default : U → Type 0) (room : ℕ) (in_lists : Bool) (lists : ℕ) (slot : SlotState T U) : Type 0 where
+    pub default : is_default slot.content.user_header
+    pub cells : slot.content.cells ≡ []
+    pub values : slot.content.values ≡ []
+    pub rooms : slot.content.room ≡ room
+    pub in_place : slot.content.is_in_place ≡ lies_in_place room in_lists
+    pub lists_are : slot.content.lists ≡ lists
+    pub none : has_list slot ≡ false
