@@ -12,6 +12,14 @@ use iox2_pubsub::{Domain, Publisher, SendError, SendOutcome};
 use iox2_store::ServiceConfig;
 use std::process::Abort;
 
+// The settings of a domain whose connections have two channels.
+fn two_channels() -> ServiceConfig {
+    ServiceConfig {
+        number_of_channels: 2,
+        ..settings()
+    }
+}
+
 // Lends and writes a message, and sends it into a channel of a connection.
 fn send_to(
     rt: &impl Abort,
@@ -95,12 +103,7 @@ fn a_send_to_one_connection_is_given_up(rt: HostRuntime) {
 // A message waits for room in channel 1, while channel 0 of the same connection has some.
 #[test]
 fn a_send_waits_for_room_in_its_channel(rt: HostRuntime) {
-    let config = ServiceConfig {
-        history_size: 0,
-        number_of_channels: 2,
-        ..settings()
-    };
-    let mut domain: Weather = Domain::new(rt.alloc(), config).expect(&rt, "a domain");
+    let mut domain: Weather = Domain::new(rt.alloc(), two_channels()).expect(&rt, "a domain");
     let subscriber = subscriber_of(&rt, &mut domain, 1);
     let publisher = waiting_publisher(&rt, &mut domain);
     let first = delivered(&rt, send_to(&rt, &mut domain, &publisher, 20, 1, 0));

@@ -5,10 +5,10 @@ ghost use Rattle.iox2_store.specs.machine.Limits.{channel_count};
 ghost use Rattle.iox2_pubsub.specs.Live.{IsLivePublisher};
 
 use crate::tests::fixtures::{
-    assert_live, assert_ready, assert_single_valued, close_publisher, domain, next_reading,
-    publisher_of, subscriber_of, waits,
+    assert_live, assert_ready, close_publisher, copied, domain, next_reading, publisher_of,
+    subscriber_of, update, waits,
 };
-use iox2_fixtures::{Reading, Weather, receiver_count, settings, smallest};
+use iox2_fixtures::{Weather, settings, smallest};
 use iox2_pubsub::{
     BackpressureAction, BackpressureHandler, Domain, Publisher, Subscriber, UpdateConnections,
 };
@@ -84,23 +84,6 @@ fn domain_for_two(rt: &impl Abort, alloc: Global) -> Weather {
         ..settings()
     };
     Domain::new(alloc, config).expect(rt, "a domain")
-}
-
-// Sends a copy. Returns how many subscribers took it.
-fn copied(rt: &impl Abort, domain: &mut Weather, publisher: &Publisher, celsius: u64) -> usize {
-    assert_single_valued(rt, domain);
-    assert_ready(rt, domain, publisher);
-    let outcome = publisher
-        .send_copy(domain, Reading { celsius })
-        .expect(rt, "an outcome");
-    receiver_count(outcome).expect(rt, "a send that isn't blocked")
-}
-
-// Updates the publisher's connections.
-fn update(rt: &impl Abort, domain: &mut Weather, publisher: &Publisher) {
-    assert_ready(rt, domain, publisher);
-    let updated = publisher.update_connections(domain);
-    assert!(rt; updated.is_ok());
 }
 
 // Whether the channel was closed at each of the subscriber's connections. Where it was, it has the

@@ -4,8 +4,8 @@ ghost use Rattle.iox2_store.specs.machine.Limits.{channel_count};
 ghost use Rattle.iox2_pubsub.specs.Live.{IsWritten};
 
 use crate::tests::fixtures::{
-    assert_live, assert_ready, assert_single_valued, close_publisher, close_subscriber,
-    next_reading, publisher_of, subscriber_of, waits,
+    assert_live, assert_ready, assert_single_valued, close_publisher, close_subscriber, copied,
+    next_reading, publisher_of, subscriber_of, update, waits,
 };
 use iox2_fixtures::{Reading, Weather, receiver_count, settings};
 use iox2_pubsub::{
@@ -75,23 +75,6 @@ fn sent_to(
     let message = message_of(rt, domain, publisher, celsius).expect(rt, "a loan");
     let outcome = send_there(rt, domain, message, channel, connection).expect(rt, "an outcome");
     receiver_count(outcome).expect(rt, "a send that isn't blocked")
-}
-
-// Sends a message to each subscriber. Returns how many took it.
-fn copied(rt: &impl Abort, domain: &mut Weather, publisher: &Publisher, celsius: u64) -> usize {
-    assert_single_valued(rt, domain);
-    assert_ready(rt, domain, publisher);
-    let outcome = publisher
-        .send_copy(domain, Reading { celsius })
-        .expect(rt, "an outcome");
-    receiver_count(outcome).expect(rt, "a send that isn't blocked")
-}
-
-// Updates the publisher's connections.
-fn update(rt: &impl Abort, domain: &mut Weather, publisher: &Publisher) {
-    assert_ready(rt, domain, publisher);
-    let updated = publisher.update_connections(domain);
-    assert!(rt; updated.is_ok());
 }
 
 // Closes the channel of each of the subscriber's connections in which it is open.

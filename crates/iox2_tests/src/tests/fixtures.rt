@@ -6,7 +6,9 @@
 ghost use Rattle.iox2_pubsub.specs.Live.{IsLivePublisher, IsLiveSample, IsLiveSubscriber, IsReadyPublisher, IsSingleValued, IsUnwrittenLoan, IsWritten, Stays};
 
 use iox2_fixtures::{Reading, Weather, factory_for, receiver_count, settings};
-use iox2_pubsub::{Domain, Publisher, Sample, SampleMut, SampleMutUninit, Subscriber};
+use iox2_pubsub::{
+    Domain, Publisher, Sample, SampleMut, SampleMutUninit, Subscriber, UpdateConnections,
+};
 use iox2_store::TypeVariant;
 use std::alloc::Global;
 use std::process::Abort;
@@ -180,6 +182,28 @@ pub(crate) fn next_reading(
     let celsius = celsius_of(rt, domain, &sample);
     release(rt, domain, sample);
     Some(celsius)
+}
+
+/// Sends a copy to each subscriber. Returns how many took it.
+pub(crate) fn copied(
+    rt: &impl Abort,
+    domain: &mut Weather,
+    publisher: &Publisher,
+    celsius: u64,
+) -> usize {
+    assert_single_valued(rt, domain);
+    assert_ready(rt, domain, publisher);
+    let outcome = publisher
+        .send_copy(domain, Reading { celsius })
+        .expect(rt, "an outcome");
+    receiver_count(outcome).expect(rt, "a send that isn't blocked")
+}
+
+/// Updates the publisher's connections.
+pub(crate) fn update(rt: &impl Abort, domain: &mut Weather, publisher: &Publisher) {
+    assert_ready(rt, domain, publisher);
+    let updated = publisher.update_connections(domain);
+    assert!(rt; updated.is_ok());
 }
 
 /// Closes a publisher.
