@@ -1,8 +1,11 @@
 //! A send that waits for a subscriber.
+ghost use Rattle.std.specs.Prelude.{◌≡◌};
+ghost use Rattle.iox2_pubsub.specs.Live.{blocked_key};
 
 mod retry;
 
 use iox2_domain::LoanAt;
+use iox2_store::Key;
 
 /// A send that waits for a subscriber whose buffer is full. It is a value to be spent: until then
 /// the domain keeps the send, and its publisher lends, sends and updates nothing and can't be closed.
@@ -20,4 +23,26 @@ use iox2_domain::LoanAt;
 pub struct BlockedSend {
     pub(crate) service_id: u128,
     pub(crate) loan: LoanAt,
+}
+
+impl BlockedSend {
+    /// Names the blocked send without being its handle: it has the key of the loan that was sent.
+    pub fn key(&self) -> Key
+        ensures { result ≡ blocked_key self.now }
+    {
+        Key {
+            service_id: self.service_id,
+            port: self.loan.publisher.value(),
+            message: self.loan.number,
+        }
+    }
+
+    /// Spends the handle of a blocked send whose domain is gone. A domain that is still there isn't
+    /// told, and keeps the send.
+    pub fn disown(self) {
+        let BlockedSend {
+            service_id: _,
+            loan: _,
+        } = self;
+    }
 }

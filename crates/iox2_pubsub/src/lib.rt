@@ -4,8 +4,6 @@
 mod blocked_send;
 mod custom_markers;
 mod domain;
-mod handles;
-mod headers;
 mod parts;
 mod port_factory;
 mod publisher;

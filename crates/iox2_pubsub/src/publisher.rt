@@ -12,7 +12,7 @@ mod update_connections;
 use crate::domain::Domain;
 use crate::parts::hints::find_open_publisher;
 use iox2_deliveries::is_waiting;
-use iox2_store::{BackpressureFn, BackpressureStrategy, DegradationFn, UniquePublisherId};
+use iox2_store::{BackpressureFn, BackpressureStrategy, DegradationFn, Key, UniquePublisherId};
 
 /// Sends messages to every subscriber of its domain. It is a value to be spent: the domain keeps
 /// the publisher until that is closed.
@@ -56,6 +56,29 @@ impl Publisher {
         ensures { result ≡ strategy_of self.now }
     {
         self.strategy
+    }
+
+    /// Names the publisher without being its handle. This library's own.
+    pub fn key(&self) -> Key
+        ensures { result ≡ publisher_key self.now }
+    {
+        Key {
+            service_id: self.service_id,
+            port: self.id.value(),
+            message: 0,
+        }
+    }
+
+    /// Spends the handle of a publisher whose domain is gone. A domain that is still there isn't
+    /// told, and keeps the publisher. This library's own.
+    pub fn disown(self) {
+        let Publisher {
+            service_id: _,
+            id: _,
+            place: _,
+            strategy: _,
+            initial_max_slice_len: _,
+        } = self;
     }
 }
 

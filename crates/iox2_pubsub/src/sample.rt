@@ -4,9 +4,9 @@ ghost use Rattle.std.specs.Prelude.{◌≡◌};
 mod release;
 
 use crate::domain::Domain;
-use iox2_deliveries::sample_payload;
+use iox2_deliveries::{sample_header, sample_payload, sample_user_header};
 use iox2_domain::SampleAt;
-use iox2_store::{BackpressureFn, DegradationFn, UniquePublisherId};
+use iox2_store::{BackpressureFn, DegradationFn, Header, Key, UniquePublisherId};
 
 /// A message that a subscriber has received and not yet released. It is a value to be spent: until
 /// it is released the message counts among those that the subscriber has borrowed.
@@ -34,9 +34,22 @@ impl Sample {
     ghost use Rattle.std.specs.Prelude.{[], ◌∷◌, Some};
     ghost use Rattle.iox2_store.specs.machine.Records.{Entry};
     ghost use Rattle.iox2_store.specs.machine.State.{State, Messages};
-    ghost use Rattle.iox2_pubsub.specs.Live.{IsLiveSample, IsSingleValued, SampleReads};
+    ghost use Rattle.iox2_pubsub.specs.Live.{IsFromOrigin, IsLiveSample, IsSingleValued, SampleHasHeader, SampleHasUserHeader, SampleReads, sample_key};
     ghost use Rattle.iox2_domain.specs.Shows.{Shows};
     ghost use Rattle.iox2_pubsub.specs.Handles.{origin_of, sample_number};
+
+    /// Names the sample among all that its domain has: by its subscriber and its number.
+    ///
+    /// This library's own.
+    pub fn key(&self) -> Key
+        ensures { result ≡ sample_key self.now }
+    {
+        Key {
+            service_id: self.service_id,
+            port: self.sample.subscriber.value(),
+            message: self.sample.number,
+        }
+    }
 
     /// The publisher that sent the message, as it was when the sample was received.
     ///
@@ -62,5 +75,48 @@ impl Sample {
         ensures same { (value : T) → SampleReads domain.now self.now value → result.now ≡ value }
     {
         sample_payload(&domain.state, &self.sample)
+    }
+
+    /// The message's header.
+    ///
+    /// iceoryx2's `Sample::header` (`src/sample.rs`).
+    pub fn header<'a, T: Drop, U: Default + Drop, F: BackpressureFn, G: DegradationFn>(
+        &self,
+        domain: &'a Domain<T, U, F, G>,
+    ) -> &'a Header
+        requires live { IsLiveSample domain.now self.now }
+        ensures header { (m : Messages T U) (s : State T U) → Shows domain.now m s
+            → (entry : Entry T U) × (m (sample_number self.now) ≡ Some entry) × (entry.header ≡ result.now) }
+        ensures origin { IsFromOrigin domain.now self.now → (result.now).publisher_id ≡ origin_of self.now }
+        ensures reads { SampleHasHeader domain.now (sample_key self.now) result.now }
+        ensures same { (header : Header) → SampleHasHeader domain.now (sample_key self.now) header → result.now ≡ header }
+    {
+        sample_header(&domain.state, &self.sample)
+    }
+
+    /// The message's user header.
+    ///
+    /// iceoryx2's `Sample::user_header` (`src/sample.rs`).
+    pub fn user_header<'a, T: Drop, U: Default + Drop, F: BackpressureFn, G: DegradationFn>(
+        &self,
+        domain: &'a Domain<T, U, F, G>,
+    ) -> &'a U
+        requires live { IsLiveSample domain.now self.now }
+        ensures header { (m : Messages T U) (s : State T U) → Shows domain.now m s
+            → (entry : Entry T U) × (m (sample_number self.now) ≡ Some entry) × (entry.user_header ≡ result.now) }
+        ensures reads { SampleHasUserHeader domain.now (sample_key self.now) result.now }
+        ensures same { (header : U) → SampleHasUserHeader domain.now (sample_key self.now) header → result.now ≡ header }
+    {
+        sample_user_header(&domain.state, &self.sample)
+    }
+
+    /// Spends the handle of a sample whose domain is gone. A domain that is still there isn't told,
+    /// and counts the message as borrowed from then on. This library's own.
+    pub fn disown(self) {
+        let Sample {
+            service_id: _,
+            origin: _,
+            sample: _,
+        } = self;
     }
 }

@@ -5,11 +5,12 @@ mod connection;
 mod discard;
 mod payload_mut;
 pub(crate) mod send;
+mod user_header_mut;
 
 use crate::domain::Domain;
-use iox2_deliveries::{is_waiting, loan_value};
+use iox2_deliveries::{is_waiting, loan_header, loan_user_header, loan_value};
 use iox2_domain::LoanAt;
-use iox2_store::{BackpressureFn, DegradationFn};
+use iox2_store::{BackpressureFn, DegradationFn, Header, Key};
 
 /// A loan whose payload is written. It is a value to be spent: the domain keeps the loan until its
 /// message was sent or it was discarded.
@@ -32,10 +33,10 @@ pub struct SampleMut {
 impl SampleMut {
     ghost use Rattle.std.specs.Prelude.{Some, false, ◌↔◌};
     ghost use Rattle.iox2_store.specs.machine.State.{State, Messages};
-    ghost use Rattle.iox2_pubsub.specs.Live.{IsLoanKey, IsSingleValued, IsUnblocked, IsWritten, LoanReads, written_key};
-    ghost use Rattle.iox2_domain.specs.LoanCalls.{HasCell};
+    ghost use Rattle.iox2_pubsub.specs.Live.{IsLoanKey, IsSingleValued, IsUnblocked, IsWritten, LoanHasHeader, LoanHasUserHeader, LoanReads, written_key};
+    ghost use Rattle.iox2_domain.specs.LoanCalls.{HasCell, HasLoanHeader, HasLoanUserHeader};
     ghost use Rattle.iox2_domain.specs.Shows.{Shows};
-    ghost use Rattle.iox2_pubsub.specs.Handles.{written_number};
+    ghost use Rattle.iox2_pubsub.specs.Handles.{written_lender, written_number};
 
     /// The payload, in a domain of single values.
     ///
@@ -53,6 +54,37 @@ impl SampleMut {
         loan_value(&domain.state, &self.loan)
     }
 
+    /// Where the message comes from, and of how many elements it is.
+    ///
+    /// iceoryx2's `SampleMut::header` (`src/sample_mut.rs`).
+    pub fn header<'a, T: Drop, U: Default + Drop, F: BackpressureFn, G: DegradationFn>(
+        &self,
+        domain: &'a Domain<T, U, F, G>,
+    ) -> &'a Header
+        requires live { IsLoanKey domain.now (written_key self.now) }
+        ensures header { (m : Messages T U) (s : State T U) → Shows domain.now m s → HasLoanHeader s (written_number self.now) result.now }
+        ensures origin { (result.now).publisher_id ≡ written_lender self.now }
+        ensures reads { LoanHasHeader domain.now (written_key self.now) result.now }
+        ensures same { (header : Header) → LoanHasHeader domain.now (written_key self.now) header → result.now ≡ header }
+    {
+        loan_header(&domain.state, &self.loan)
+    }
+
+    /// The user header.
+    ///
+    /// iceoryx2's `SampleMut::user_header` (`src/sample_mut.rs`).
+    pub fn user_header<'a, T: Drop, U: Default + Drop, F: BackpressureFn, G: DegradationFn>(
+        &self,
+        domain: &'a Domain<T, U, F, G>,
+    ) -> &'a U
+        requires live { IsLoanKey domain.now (written_key self.now) }
+        ensures header { (m : Messages T U) (s : State T U) → Shows domain.now m s → HasLoanUserHeader s (written_number self.now) result.now }
+        ensures reads { LoanHasUserHeader domain.now (written_key self.now) result.now }
+        ensures same { (header : U) → LoanHasUserHeader domain.now (written_key self.now) header → result.now ≡ header }
+    {
+        loan_user_header(&domain.state, &self.loan)
+    }
+
     /// Whether a send of its publisher is blocked, as is none of a closed one. Until that has ended,
     /// the loan can't be sent. This library's own.
     pub fn is_blocked<T: Drop, U: Default + Drop, F: BackpressureFn, G: DegradationFn>(
@@ -63,5 +95,25 @@ impl SampleMut {
         ensures { (result ≡ false) ↔ IsUnblocked domain.now (written_key self.now) }
     {
         is_waiting(&domain.state, self.loan.publisher, self.loan.place)
+    }
+
+    /// Names the loan without being its handle. This library's own.
+    pub fn key(&self) -> Key
+        ensures { result ≡ written_key self.now }
+    {
+        Key {
+            service_id: self.service_id,
+            port: self.loan.publisher.value(),
+            message: self.loan.number,
+        }
+    }
+
+    /// Spends the handle of a loan whose domain is gone. A domain that is still there isn't told,
+    /// and keeps the loan. This library's own.
+    pub fn disown(self) {
+        let SampleMut {
+            service_id: _,
+            loan: _,
+        } = self;
     }
 }

@@ -4,12 +4,13 @@ ghost use Rattle.std.specs.Prelude.{◌≡◌};
 mod assume_init;
 mod discard;
 mod payload_mut;
+mod user_header_mut;
 mod write_payload;
 
 use crate::domain::Domain;
-use iox2_deliveries::loan_cell;
+use iox2_deliveries::{loan_cell, loan_header, loan_user_header};
 use iox2_domain::LoanAt;
-use iox2_store::{BackpressureFn, DegradationFn};
+use iox2_store::{BackpressureFn, DegradationFn, Header, Key};
 
 /// A loan whose payload isn't written. It is a value to be spent: the domain keeps the loan until
 /// its message was sent or it was discarded.
@@ -30,10 +31,10 @@ pub struct SampleMutUninit {
 impl SampleMutUninit {
     ghost use Rattle.std.specs.Prelude.{Option};
     ghost use Rattle.iox2_store.specs.machine.State.{State, Messages};
-    ghost use Rattle.iox2_pubsub.specs.Live.{IsSingleValued, IsUnwritten, UnwrittenReads};
-    ghost use Rattle.iox2_domain.specs.LoanCalls.{HasCell};
+    ghost use Rattle.iox2_pubsub.specs.Live.{IsLoanKey, IsSingleValued, IsUnwritten, LoanHasHeader, LoanHasUserHeader, UnwrittenReads, unwritten_key};
+    ghost use Rattle.iox2_domain.specs.LoanCalls.{HasCell, HasLoanHeader, HasLoanUserHeader};
     ghost use Rattle.iox2_domain.specs.Shows.{Shows};
-    ghost use Rattle.iox2_pubsub.specs.Handles.{unwritten_number};
+    ghost use Rattle.iox2_pubsub.specs.Handles.{unwritten_lender, unwritten_number};
 
     /// The payload, in a domain of single values, and `None` where it isn't written.
     ///
@@ -49,5 +50,56 @@ impl SampleMutUninit {
         ensures same { (cell : Option T) → UnwrittenReads domain.now self.now cell → result.now ≡ cell }
     {
         loan_cell(&domain.state, &self.loan)
+    }
+
+    /// Where the message comes from, and of how many elements it is.
+    ///
+    /// iceoryx2's `SampleMutUninit::header` (`src/sample_mut_uninit.rs`).
+    pub fn header<'a, T: Drop, U: Default + Drop, F: BackpressureFn, G: DegradationFn>(
+        &self,
+        domain: &'a Domain<T, U, F, G>,
+    ) -> &'a Header
+        requires live { IsLoanKey domain.now (unwritten_key self.now) }
+        ensures header { (m : Messages T U) (s : State T U) → Shows domain.now m s → HasLoanHeader s (unwritten_number self.now) result.now }
+        ensures origin { (result.now).publisher_id ≡ unwritten_lender self.now }
+        ensures reads { LoanHasHeader domain.now (unwritten_key self.now) result.now }
+        ensures same { (header : Header) → LoanHasHeader domain.now (unwritten_key self.now) header → result.now ≡ header }
+    {
+        loan_header(&domain.state, &self.loan)
+    }
+
+    /// The user header.
+    ///
+    /// iceoryx2's `SampleMutUninit::user_header` (`src/sample_mut_uninit.rs`).
+    pub fn user_header<'a, T: Drop, U: Default + Drop, F: BackpressureFn, G: DegradationFn>(
+        &self,
+        domain: &'a Domain<T, U, F, G>,
+    ) -> &'a U
+        requires live { IsLoanKey domain.now (unwritten_key self.now) }
+        ensures header { (m : Messages T U) (s : State T U) → Shows domain.now m s → HasLoanUserHeader s (unwritten_number self.now) result.now }
+        ensures reads { LoanHasUserHeader domain.now (unwritten_key self.now) result.now }
+        ensures same { (header : U) → LoanHasUserHeader domain.now (unwritten_key self.now) header → result.now ≡ header }
+    {
+        loan_user_header(&domain.state, &self.loan)
+    }
+
+    /// Names the loan without being its handle. This library's own.
+    pub fn key(&self) -> Key
+        ensures { result ≡ unwritten_key self.now }
+    {
+        Key {
+            service_id: self.service_id,
+            port: self.loan.publisher.value(),
+            message: self.loan.number,
+        }
+    }
+
+    /// Spends the handle of a loan whose domain is gone. A domain that is still there isn't told,
+    /// and keeps the loan. This library's own.
+    pub fn disown(self) {
+        let SampleMutUninit {
+            service_id: _,
+            loan: _,
+        } = self;
     }
 }

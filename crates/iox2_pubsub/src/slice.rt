@@ -1,13 +1,11 @@
 //! Messages that are slices: the same ports, loans and samples, with other calls to lend, and another
 //! view of their payload.
-mod headers;
 mod port_factory;
 mod publisher;
 mod sample;
 mod sample_mut;
 mod sample_mut_uninit;
 mod subscriber;
-mod views;
 
 pub use port_factory::publisher::PortFactoryPublisher;
 pub use port_factory::subscriber::PortFactorySubscriber;

@@ -1,5 +1,6 @@
 //! A subscriber.
 ghost use Rattle.std.specs.Prelude.{◌≡◌};
+ghost use Rattle.iox2_pubsub.specs.Live.{subscriber_key};
 
 mod channels;
 mod close;
@@ -9,7 +10,7 @@ mod update_connections;
 
 use crate::domain::Domain;
 use crate::parts::hints::find_open_subscriber;
-use iox2_store::{BackpressureFn, DegradationFn, UniqueSubscriberId};
+use iox2_store::{BackpressureFn, DegradationFn, Key, UniqueSubscriberId};
 
 /// Receives the messages of every publisher of its domain. It is a value to be spent: the domain
 /// keeps the subscriber until that is closed.
@@ -52,6 +53,28 @@ impl Subscriber {
         ensures { result ≡ buffer_size_of self.now }
     {
         self.buffer_size
+    }
+
+    /// Names the subscriber without being its handle. This library's own.
+    pub fn key(&self) -> Key
+        ensures { result ≡ subscriber_key self.now }
+    {
+        Key {
+            service_id: self.service_id,
+            port: self.id.value(),
+            message: 0,
+        }
+    }
+
+    /// Spends the handle of a subscriber whose domain is gone. A domain that is still there isn't
+    /// told, and keeps the subscriber. This library's own.
+    pub fn disown(self) {
+        let Subscriber {
+            service_id: _,
+            id: _,
+            place: _,
+            buffer_size: _,
+        } = self;
     }
 }
 

@@ -8,7 +8,7 @@ mod loans;
 mod update_connections;
 
 use crate::domain::Domain;
-use iox2_store::{BackpressureFn, BackpressureStrategy, DegradationFn, UniquePublisherId};
+use iox2_store::{BackpressureFn, BackpressureStrategy, DegradationFn, Key, UniquePublisherId};
 pub use loan_located::LocatedLoan;
 
 /// Sends slices to every subscriber of its domain. It is a value to be spent, as the publisher of
@@ -32,6 +32,21 @@ impl Publisher {
     ghost use Rattle.std.specs.Prelude.{false, IsTrue, ◌↔◌};
     ghost use Rattle.iox2_pubsub.specs.Live.{IsPlacedPublisher, IsPublisherKey, IsUnblocked, publisher_key};
     ghost use Rattle.iox2_pubsub.specs.Handles.{as_publisher, max_slice_len_of, publisher_id, strategy_of};
+
+    /// The same publisher, as one of slices. This library's own.
+    pub fn new(publisher: crate::Publisher) -> Publisher
+        ensures { as_publisher result ≡ publisher }
+    {
+        Publisher { publisher }
+    }
+
+    /// The same publisher, as one of single values. This library's own.
+    pub fn into_inner(self) -> crate::Publisher
+        ensures { result ≡ as_publisher self }
+    {
+        let Publisher { publisher } = self;
+        publisher
+    }
 
     /// Names the publisher among all ports of its domain.
     ///
@@ -82,5 +97,19 @@ impl Publisher {
         ensures { (result ≡ false) ↔ IsUnblocked domain.now (publisher_key (as_publisher self.now)) }
     {
         self.publisher.is_blocked(domain)
+    }
+
+    /// Names the publisher without being its handle. This library's own.
+    pub fn key(&self) -> Key
+        ensures { result ≡ publisher_key (as_publisher self.now) }
+    {
+        self.publisher.key()
+    }
+
+    /// Spends the handle of a publisher whose domain is gone. A domain that is still there isn't
+    /// told, and keeps the publisher. This library's own.
+    pub fn disown(self) {
+        let Publisher { publisher } = self;
+        publisher.disown();
     }
 }

@@ -7,7 +7,7 @@ mod receives;
 mod update_connections;
 
 use crate::domain::Domain;
-use iox2_store::{BackpressureFn, DegradationFn, UniqueSubscriberId};
+use iox2_store::{BackpressureFn, DegradationFn, Key, UniqueSubscriberId};
 
 /// Receives the slices of every publisher of its domain. It is a value to be spent, as the
 /// subscriber of single values is, and is that subscriber with other samples.
@@ -30,8 +30,23 @@ pub struct Subscriber {
 
 impl Subscriber {
     ghost use Rattle.std.specs.Prelude.{IsTrue, ◌↔◌};
-    ghost use Rattle.iox2_pubsub.specs.Live.{IsLiveSubscriber};
+    ghost use Rattle.iox2_pubsub.specs.Live.{IsLiveSubscriber, subscriber_key};
     ghost use Rattle.iox2_pubsub.specs.Handles.{as_subscriber, buffer_size_of, subscriber_id};
+
+    /// The same subscriber, as one of slices. This library's own.
+    pub fn new(subscriber: crate::Subscriber) -> Subscriber
+        ensures { as_subscriber result ≡ subscriber }
+    {
+        Subscriber { subscriber }
+    }
+
+    /// The same subscriber, as one of single values. This library's own.
+    pub fn into_inner(self) -> crate::Subscriber
+        ensures { result ≡ as_subscriber self }
+    {
+        let Subscriber { subscriber } = self;
+        subscriber
+    }
 
     /// Names the subscriber among all ports of its domain.
     ///
@@ -59,5 +74,19 @@ impl Subscriber {
         ensures { IsTrue result ↔ IsLiveSubscriber domain.now (as_subscriber self.now) }
     {
         self.subscriber.is_in(domain)
+    }
+
+    /// Names the subscriber without being its handle. This library's own.
+    pub fn key(&self) -> Key
+        ensures { result ≡ subscriber_key (as_subscriber self.now) }
+    {
+        self.subscriber.key()
+    }
+
+    /// Spends the handle of a subscriber whose domain is gone. A domain that is still there isn't
+    /// told, and keeps the subscriber. This library's own.
+    pub fn disown(self) {
+        let Subscriber { subscriber } = self;
+        subscriber.disown();
     }
 }

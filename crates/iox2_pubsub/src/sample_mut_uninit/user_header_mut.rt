@@ -1,0 +1,52 @@
+//! The user header of a loan is changed in place.
+ghost use Rattle.std.specs.Prelude.{◌≡◌};
+
+use crate::domain::Domain;
+use crate::sample_mut_uninit::SampleMutUninit;
+use iox2_deliveries::user_header_at_mut;
+use iox2_store::{BackpressureFn, DegradationFn};
+
+impl SampleMutUninit {
+    ghost use Rattle.std.specs.Prelude.{Some, Option, List};
+    ghost use Rattle.std.specs.Borrow.{sem};
+    ghost use Rattle.iox2_store.specs.declared.header.Header.{Header};
+    ghost use Rattle.iox2_store.specs.machine.Records.{Loan};
+    ghost use Rattle.iox2_store.specs.machine.State.{State, Messages, with_loan};
+    ghost use Rattle.iox2_domain.specs.LoanCalls.{user_header_changed};
+    ghost use Rattle.iox2_domain.specs.Shows.{Shows};
+    ghost use Rattle.iox2_pubsub.specs.ChangedLoans.{with_user_header};
+    ghost use Rattle.iox2_pubsub.specs.Live.{IsUnwritten, IsUnwrittenLoan, LoanHasHeader, LoanHasUserHeader, NeverWaits, unwritten_key, unwritten_loan};
+    ghost use Rattle.iox2_pubsub.specs.Leaves.{LeavesBut};
+    ghost use Rattle.iox2_pubsub.specs.LoanLends.{LendsUserHeader};
+    ghost use Rattle.iox2_pubsub.specs.Slices.{HasUnwrittenCells};
+    ghost use Rattle.iox2_pubsub.specs.Handles.{unwritten_number};
+
+    /// The user header, to be changed where it lies. What is left behind the reference is the loan's
+    /// user header from then on, and nothing else of the domain changes.
+    ///
+    /// iceoryx2's `SampleMutUninit::user_header_mut` (`src/sample_mut_uninit.rs`). There the loan knows its memory; here the
+    /// domain is handed in, and is what the reference borrows.
+    pub fn user_header_mut<'a, T: Drop, U: Default + Drop, F: BackpressureFn, G: DegradationFn>(
+        domain: &'a mut Domain<T, U, F, G>,
+        sample: &mut SampleMutUninit,
+    ) -> &'a mut U
+        requires live { IsUnwritten domain.old sample.old }
+        ensures* writes_back { sem 𝓛 (LendsUserHeader T.row U.row F.row G.row domain.entry (unwritten_number sample.old) result) }
+        ensures same { sample.new ≡ sample.old }
+        ensures user_header { LoanHasUserHeader domain.old (unwritten_key sample.old) result.now }
+        ensures changes { (m : Messages T U) (s : State T U) (user_header : U) → Shows domain.old m s
+            → (l : Loan T U) × (s.loans (unwritten_number sample.old) ≡ Some l)
+            × Shows (with_user_header domain.old (unwritten_number sample.old) user_header) m (with_loan s (unwritten_number sample.old) (Some (user_header_changed user_header l))) }
+        ensures out { (user_header : U) → IsUnwritten (with_user_header domain.old (unwritten_number sample.old) user_header) sample.old }
+        ensures live { NeverWaits domain.old (unwritten_key sample.old) → (user_header : U) → IsUnwrittenLoan (with_user_header domain.old (unwritten_number sample.old) user_header) sample.old }
+        ensures is { (user_header : U) → LoanHasUserHeader (with_user_header domain.old (unwritten_number sample.old) user_header) (unwritten_key sample.old) user_header }
+        ensures reads { (user_header : U) (cells : List (Option T)) → HasUnwrittenCells domain.old (unwritten_number sample.old) cells
+            → HasUnwrittenCells (with_user_header domain.old (unwritten_number sample.old) user_header) (unwritten_number sample.old) cells }
+        ensures header { (user_header : U) (header : Header) → LoanHasHeader domain.old (unwritten_key sample.old) header
+            → LoanHasHeader (with_user_header domain.old (unwritten_number sample.old) user_header) (unwritten_key sample.new) header }
+        ensures leaves { (user_header : U) → LeavesBut (unwritten_loan sample.old) domain.old (with_user_header domain.old (unwritten_number sample.old) user_header) }
+    {
+        let at = domain.state.find_live_loan(&sample.loan);
+        user_header_at_mut(&mut domain.state, at)
+    }
+}
