@@ -7,9 +7,10 @@ from .lists import CALLS, calls_of, random_cpp, random_rust
 
 
 def suppressions():
-    """The sanitizer doesn't know the fence of Rust's `Arc` before its last owner frees what it has."""
+    """The sanitizer doesn't know the fence of Rust's `Arc` before its last owner frees what it has. That of a thread's own handle the
+    compiler puts in place."""
     path = WORK / "suppressions"
-    path.write_text("race:drop_slow\n")
+    path.write_text("race:drop_slow\nrace:Arc<std::thread::thread::Inner\n")
     return path
 
 
