@@ -1,7 +1,8 @@
 use Rattle.std.proofs.Common.{rules, ◌≡◌, ◌*◌, ℕ, vec_len, length, slice_index_or, None, Some, not, refl, sym, subst, ap, ◌∙◌, inr}
 use Rattle.std.proofs.Math.Nat.{max_comm}
 use Rattle.iox2_domain.specs.Fields.{Fields}
-use Rattle.iox2_domain.specs.Invariant.{IsDomain}
+use Rattle.iox2_domain.specs.Invariant.{IsDomain, lists_wanted}
+use Rattle.iox2_domain.specs.Ports.{PublisherFields}
 use Rattle.iox2_domain.proofs.lemmas.slots.PublisherBooks.{read-there, book-there}
 use Rattle.iox2_deliveries.proofs.GrowthPass.{all-made, some-left, unchanged, growth-within, growth-some, growth-fits, growth-shaped, growth-any, growth-lists, grew}
 use Rattle.iox2_deliveries.proofs.growth.grow.Goals as goal
@@ -33,7 +34,7 @@ pub add_slots-requires-clause-some : goal.add_slots-requires-clause-some
 add_slots-requires-clause-some g c = growth-any {T = g.row.T.Denot} {U = g.row.U.Denot} _ _ c.state.view_is c.requires.agrees c.args.place _ (read-there _ c.args.place _ _ (ap (λ (f : Fields g.row.T.Denot g.row.U.Denot). slice_index_or f.publishers c.args.place None) c.state.view_is ∙ c.requires.stands.1) c.index_mut.ensures.value ∙ c.in-Some.is ∙ ap Some (sym c.publisher.view_is)) _ refl _ c.index_mut-book.ensures.value _ c.index_mut-2.ensures.value _ c.in-Some-index_mut.is c.requires.stands
 
 pub add_slots-requires-clause-lists : goal.add_slots-requires-clause-lists
-add_slots-requires-clause-lists g c = growth-lists {T = g.row.T.Denot} {U = g.row.U.Denot} _ _ c.state.view_is c.requires.agrees c.args.place _ (read-there _ c.args.place _ _ (ap (λ (f : Fields g.row.T.Denot g.row.U.Denot). slice_index_or f.publishers c.args.place None) c.state.view_is ∙ c.requires.stands.1) c.index_mut.ensures.value ∙ c.in-Some.is ∙ ap Some (sym c.publisher.view_is)) _ c.publisher.view_is _ c.index_mut-book.ensures.value _ c.index_mut-2.ensures.value _ c.in-Some-index_mut.is _ _ (ap not c.is_single_valued-in_lists.ensures) c.lists_wanted-lists.ensures
+add_slots-requires-clause-lists g c = growth-lists {T = g.row.T.Denot} {U = g.row.U.Denot} _ _ c.state.view_is c.requires.agrees c.args.place _ (read-there _ c.args.place _ _ (ap (λ (f : Fields g.row.T.Denot g.row.U.Denot). slice_index_or f.publishers c.args.place None) c.state.view_is ∙ c.requires.stands.1) c.index_mut.ensures.value ∙ c.in-Some.is ∙ ap Some (sym c.publisher.view_is)) _ c.publisher.view_is _ c.index_mut-book.ensures.value _ c.index_mut-2.ensures.value _ c.in-Some-index_mut.is _ _ (ap not c.is_single_valued-in_lists.ensures) (c.lists_wanted-lists.ensures ∙ ap (λ (y : PublisherFields). lists_wanted c.state.inside.config y.max_loaned_samples) c.publisher.view_is)
 
 pub returns : goal.returns
 returns g c = λ x at. (
@@ -44,5 +45,5 @@ returns g c = λ x at. (
       c.in-Ok.start c.in-Some-next_length.longest c.index_mut-book.result.now c.add_slots.new.book c.in-Some-index_mut.contents c.add_slots.new.contents c.units_of-room.result _ _
       c.index_mut-book.ensures.value c.in-Ok.ensures.book _ c.index_mut-2.ensures.value c.in-Some-index_mut.is c.in-Ok.ensures.contents
       (c.units_of-room.ensures ∙ ap (λ (n : ℕ). n * c.state.inside.config.units_per_element) (c.max.ensures ∙ max_comm _ _))
-      (ap not c.is_single_valued-in_lists.ensures) c.lists_wanted-lists.ensures c.in-Ok.ensures.start c.in-Some-next_length.ensures.fits c.in-Some-next_length.ensures.longer,
+      (ap not c.is_single_valued-in_lists.ensures) (c.lists_wanted-lists.ensures ∙ ap (λ (y : PublisherFields). lists_wanted c.state.inside.config y.max_loaned_samples) c.publisher.view_is) c.in-Ok.ensures.start c.in-Some-next_length.ensures.fits c.in-Some-next_length.ensures.longer,
 )
